@@ -1,0 +1,83 @@
+// What every plane of bits can do, however it keeps them.
+ghost use Rattle.std.specs.Prelude.{◌≡◌, ℕ, ◌+◌, ◌*◌, ◌/◌, ◌%◌, ◌<◌, ◌≤◌, ◌↔◌, ◌++◌, List, Bool, length, take, drop, IfOk, IsTrue};
+ghost use Rattle.bit_plane.specs.BitList.{word_bits, word_of, byte_bits, byte_of, bits_of, bytes_of, placed};
+ghost use Rattle.bit_plane.specs.Rows.{Rows, IsGrid, row_at, bit_at, with_row, with_bit, blank, flat, rows_of};
+
+use std::alloc::{AllocError, Global};
+
+/// A plane of bits, `HEIGHT` rows by `WIDTH` columns.
+///
+/// Position p of a plane is column `p % WIDTH` of row `p / WIDTH`.
+pub trait Bits: Sized {
+    ghost WIDTH: { ℕ };
+
+    ghost HEIGHT: { ℕ };
+
+    const WIDTH: usize;
+
+    const HEIGHT: usize;
+
+    /// The rows, row 0 first, each its bits from column 0 on.
+    ghost rows: { Self → Rows };
+
+    /// All bits 0.
+    fn zeroed(alloc: Global) -> Result<Self, AllocError>
+        ensures { IfOk result (λ plane. rows plane ≡ blank WIDTH HEIGHT) };
+
+    /// The bit of column x in row y.
+    fn get(&self, x: usize, y: usize) -> bool
+        requires column { x < WIDTH }
+        requires row { y < HEIGHT }
+        ensures { result ≡ bit_at (rows self.now) x y };
+
+    /// Gives column x in row y that bit.
+    fn set(&mut self, x: usize, y: usize, bit: bool)
+        requires column { x < WIDTH }
+        requires row { y < HEIGHT }
+        ensures { rows self.new ≡ with_bit (rows self.old) x y bit };
+
+    /// `count` bits of row y from column x on, the first as the bit of value 1.
+    fn row_bits(&self, x: usize, y: usize, count: usize) -> u64
+        requires count { count ≤ 64 }
+        requires columns { x + count ≤ WIDTH }
+        requires row { y < HEIGHT }
+        ensures { result ≡ word_of (take count (drop x (row_at (rows self.now) y))) };
+
+    /// Gives `count` bits of row y from column x on the low bits of `bits`, the first the bit of value 1.
+    fn set_row_bits(&mut self, x: usize, y: usize, count: usize, bits: u64)
+        requires count { count ≤ 64 }
+        requires columns { x + count ≤ WIDTH }
+        requires row { y < HEIGHT }
+        ensures { rows self.new ≡ with_row (rows self.old) y
+            (placed x (word_bits count bits) (row_at (rows self.old) y)) };
+
+    /// Gives the eight bits from a position on those of a byte, the most significant first.
+    fn put_byte(&mut self, position: usize, byte: u8)
+        requires { position + 8 ≤ WIDTH * HEIGHT }
+        ensures { rows self.new ≡ rows_of WIDTH HEIGHT
+            (placed position (byte_bits byte) (flat (rows self.old))) };
+
+    /// The byte of the eight bits from a position on, the most significant first.
+    fn take_byte(&self, position: usize) -> u8
+        requires { position + 8 ≤ WIDTH * HEIGHT }
+        ensures { result ≡ byte_of (take 8 (drop position (flat (rows self.now)))) };
+
+    /// Gives whole rows, from row `first` on, the bits of bytes, the most significant bit of each byte first.
+    fn put_bytes(&mut self, first: usize, rows: usize, bytes: &[u8])
+        requires rows { first + rows ≤ HEIGHT }
+        requires bytes { 8 * length bytes.now ≡ rows * WIDTH }
+        ensures { Self.rows self.new ≡ placed first (rows_of WIDTH rows (bits_of bytes.now)) (Self.rows self.old) };
+
+    /// The bytes of whole rows, from row `first` on, the most significant bit of each byte first.
+    fn take_bytes(&self, first: usize, rows: usize, out: &mut [u8])
+        requires rows { first + rows ≤ HEIGHT }
+        requires bytes { 8 * length out.old ≡ rows * WIDTH }
+        ensures { out.new ≡ bytes_of (length out.old) (flat (take rows (drop first (Self.rows self.now)))) };
+
+    /// Whether all bits are equal.
+    fn same(&self, other: &Self) -> bool
+        ensures { IsTrue result ↔ (rows self.now ≡ rows other.now) };
+
+    /// A plane has its rows, each of them whole.
+    ghost is_grid: { (plane : Self) → IsGrid WIDTH HEIGHT (rows plane) };
+}

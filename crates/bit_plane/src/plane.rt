@@ -1,0 +1,1 @@
+// A plane that keeps a byte for each bit.

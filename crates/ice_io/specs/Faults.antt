@@ -1,0 +1,14 @@
+-- How often calls to the outside have failed.
+use Rattle.std.specs.Prelude.{ℕ, ◌+◌, ◌-◌, ◌^◌, ◌≤◌, min, List, Contains}
+
+-- the greatest count, at which a counter stays
+abbrev pub last_count : ℕ
+last_count = 2 ^ 64 - 1
+
+-- one more, up to the last count
+abbrev pub counted : ℕ → ℕ
+counted n = min (n + 1) last_count
+
+-- a count is greater after than before, or stands at the last count
+abbrev pub Rose : ℕ → ℕ → Type 0
+Rose old new = counted old ≤ new

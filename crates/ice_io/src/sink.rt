@@ -1,0 +1,37 @@
+// What bytes are written to.
+ghost use Rattle.std.specs.Prelude.{◌≡◌, ◌+◌, ◌<◌, ◌≤◌, ℕ, List, Option, length, take, IfOk, OnOk, OnErr};
+ghost use Rattle.std.specs.Io.KnownBytes.{Appends, WriteAppends};
+ghost use Rattle.ice_io.specs.Faults.{Rose};
+
+use crate::source::Failed;
+
+/// What bytes are written to, in order.
+pub trait Sink {
+    /// The bytes taken so far, where they are known.
+    ghost held: { Self → Option (List ℕ) };
+
+    /// How many writes have failed. It never falls, and stays at `u64::MAX`.
+    ghost faults: { Self → ℕ };
+
+    /// Takes bytes from the front of a piece, at least one of a piece that isn't empty, and answers how many. After
+    /// `Failed` nothing was taken.
+    fn write(&mut self, piece: &[u8]) -> Result<usize, Failed>
+        ensures count { IfOk result (λ n. n ≤ length piece.now) }
+        ensures progress { IfOk result (λ n. 0 < length piece.now → 0 < n) }
+        ensures bytes { WriteAppends (held self.old) (held self.new) result piece.now }
+        ensures never_falls { faults self.old ≤ faults self.new }
+        ensures failed { OnErr result (Rose (faults self.old) (faults self.new)) };
+}
+
+/// Why bytes could not be put.
+#[derive(Clone, Copy, Debug, PartialEq, Eq)]
+pub enum PutFault {
+    /// A write failed after that many bytes were taken.
+    Failed { written: usize },
+}
+
+/// Writes all the bytes, in as many writes as it takes. It takes no memory.
+pub fn write_whole<K: Sink>(sink: &mut K, bytes: &[u8]) -> Result<(), PutFault>
+    ensures whole { OnOk result (Appends (K.held sink.old) (K.held sink.new) bytes.now) }
+    ensures never_falls { K.faults sink.old ≤ K.faults sink.new };
+    // at Err (Failed written): Appends (held old) (held new) (take written bytes.now), written < length bytes.now, and Rose

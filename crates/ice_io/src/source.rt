@@ -1,0 +1,55 @@
+// What bytes are read from.
+ghost use Rattle.std.specs.Prelude.{◌≡◌, ◌≢◌, ◌+◌, ◌<◌, ◌≤◌, ◌^◌, ℕ, List, Option, length, vec_len, IfOk, OnErr, IsErrOf};
+ghost use Rattle.std.specs.Io.KnownBytes.{ReadConsumes};
+ghost use Rattle.ice_io.specs.Faults.{Rose};
+ghost use Rattle.ice_io.specs.Taken.{TakesCount, TakesAtMost, TakesAll};
+
+use std::alloc::{AllocError, Global};
+
+/// A call to the outside failed.
+#[derive(Clone, Copy, Debug, PartialEq, Eq)]
+pub struct Failed;
+
+/// What bytes are read from, in order.
+pub trait Source {
+    /// The bytes not yet read, where they are known.
+    ghost left: { Self → Option (List ℕ) };
+
+    /// How many reads have failed. It never falls, and stays at `u64::MAX`.
+    ghost faults: { Self → ℕ };
+
+    /// Reads into the front of the buffer, and answers how many bytes. It answers 0 for a buffer that isn't empty only
+    /// at the end of the input. After `Failed` the same bytes are left.
+    fn read(&mut self, into: &mut [u8]) -> Result<usize, Failed>
+        ensures count { IfOk result (λ n. n ≤ length into.new) }
+        ensures bytes { ReadConsumes (left self.old) (left self.new) result into.new }
+        ensures never_falls { faults self.old ≤ faults self.new }
+        ensures failed { OnErr result (Rose (faults self.old) (faults self.new)) };
+}
+
+/// Why bytes could not be taken.
+#[derive(Clone, Copy, Debug, PartialEq, Eq)]
+pub enum TakeFault {
+    /// A read failed.
+    Failed,
+    /// There are more bytes than the limit.
+    TooLong,
+    /// Out of memory.
+    Memory(AllocError),
+}
+
+/// Reads to the end. After `TooLong` one byte more than the limit was taken.
+pub fn read_all<S: Source>(
+    alloc: Global,
+    source: &mut S,
+    limit: usize,
+) -> Result<Vec<u8>, TakeFault>
+    requires { limit < 2 ^ 32 }
+    ensures whole { IfOk result (λ bytes. TakesAll (S.left source.old) (S.left source.new) bytes.items) }
+    ensures within { IfOk result (λ bytes. vec_len bytes ≤ limit) }
+    ensures too_long { IsErrOf result TakeFault.TooLong
+        → TakesCount (S.left source.old) (S.left source.new) (limit + 1) }
+    ensures not_too_long { (IsErrOf result TakeFault.TooLong → ⊥)
+        → TakesAtMost (S.left source.old) (S.left source.new) limit }
+    ensures never_falls { S.faults source.old ≤ S.faults source.new }
+    ensures failed { IsErrOf result TakeFault.Failed → Rose (S.faults source.old) (S.faults source.new) };

@@ -1,0 +1,47 @@
+// The tiles of a device, and places in its planes.
+
+/// What stands at a place of the grid.
+#[derive(Clone, Copy, Debug, PartialEq, Eq)]
+pub enum TileKind {
+    /// Input and output pads; 18 columns.
+    Io,
+    /// Eight logic cells; 54 columns.
+    Logic,
+    /// The lower tile of a RAM; 42 columns.
+    RamB,
+    /// The upper tile of a RAM; 42 columns.
+    RamT,
+}
+
+/// A bit of a tile by its row and column.
+#[derive(Clone, Copy, Debug, PartialEq, Eq)]
+pub struct RowCol {
+    pub row: u8,
+    pub col: u8,
+}
+
+/// A bit of the tile at (x, y).
+#[derive(Clone, Copy, Debug, PartialEq, Eq)]
+pub struct TileBit {
+    pub x: u8,
+    pub y: u8,
+    pub row: u8,
+    pub col: u8,
+}
+
+/// A bit of a word of the RAM whose lower tile is at (x, y), bit 0 being the lowest.
+#[derive(Clone, Copy, Debug, PartialEq, Eq)]
+pub struct WordBit {
+    pub x: u8,
+    pub y: u8,
+    pub word: u8,
+    pub bit: u8,
+}
+
+/// Column `px` of row `py` in the plane of a bank.
+#[derive(Clone, Copy, Debug, PartialEq, Eq)]
+pub struct Place {
+    pub bank: u8,
+    pub px: u16,
+    pub py: u16,
+}

@@ -1,0 +1,101 @@
+-- The one stream that is written for a configuration: a concatenation of commands.
+use Rattle.std.specs.Prelude.{ℕ, ◌+◌, ◌-◌, ◌*◌, ◌/◌, Bool, false, true, List, [], ◌∷◌, ◌++◌, length, get_or, take, drop, flat_map, Option, None, Some}
+use Rattle.std.specs.Int.{w16, to_be_bytes}
+use Rattle.bit_plane.specs.BitList.{bits_of, bytes_of, bit_value}
+use Rattle.bit_plane.specs.Rows.{Rows, flat}
+use Rattle.plane_map.specs.Layout.{cram_width, cram_height, bram_width}
+use Rattle.ice_pack.specs.CheckValue.{check_value}
+use Rattle.ice_pack.specs.Configuration.{Configuration}
+
+-- A command is a byte, its opcode in the high half and how many bytes of payload follow in the low half, and the payload.
+abbrev pub command : ℕ → List ℕ → List ℕ
+command opcode payload = 16 * opcode + length payload ∷ payload
+
+-- a payload of two bytes, the high one first
+abbrev pub word : ℕ → List ℕ
+word n = to_be_bytes w16 n
+
+abbrev pub preamble : List ℕ
+preamble = 0x7E ∷ 0xAA ∷ 0x99 ∷ 0x7E ∷ []
+
+abbrev pub range_command : ℕ → List ℕ
+range_command range = command 5 (range ∷ [])
+
+abbrev pub reset_command : List ℕ
+reset_command = command 0 (5 ∷ [])
+
+-- bit 5 of the mode is the warm boot, bit 0 keeps the flash awake
+abbrev pub mode_command : Bool → Bool → List ℕ
+mode_command warm_boot no_sleep = command 9 (0 ∷ 32 * bit_value warm_boot + bit_value no_sleep ∷ [])
+
+abbrev pub bank_command : ℕ → List ℕ
+bank_command bank = command 1 (bank ∷ [])
+
+-- the width is written less one
+abbrev pub width_command : ℕ → List ℕ
+width_command width = command 6 (word (width - 1))
+
+abbrev pub height_command : ℕ → List ℕ
+height_command height = command 7 (word height)
+
+abbrev pub offset_command : ℕ → List ℕ
+offset_command offset = command 8 (word offset)
+
+-- the opcode of the check; its payload is the check value after this byte
+abbrev pub check_opcode : List ℕ
+check_opcode = 0x22 ∷ []
+
+abbrev pub wake_up_command : List ℕ
+wake_up_command = command 0 (6 ∷ [])
+
+-- rows as bytes, row after row, the first bit of each eight as the highest of a byte
+abbrev pub row_bytes : Rows → List ℕ
+row_bytes rows = bytes_of (length (flat rows) / 8) (flat rows)
+
+-- rows of configuration bits, and two bytes 0 behind them
+abbrev pub cram_data : Rows → List ℕ
+cram_data rows = command 0 (1 ∷ []) ++ row_bytes rows ++ 0 ∷ 0 ∷ []
+
+-- rows of RAM contents, and two bytes 0 behind them
+abbrev pub bram_data : Rows → List ℕ
+bram_data rows = command 0 (3 ∷ []) ++ row_bytes rows ++ 0 ∷ 0 ∷ []
+
+-- the plane of a bank
+abbrev pub bank_rows : List Rows → ℕ → Rows
+bank_rows planes bank = get_or planes bank []
+
+abbrev pub banks : List ℕ
+banks = 0 ∷ 1 ∷ 2 ∷ 3 ∷ []
+
+-- a bank's configuration plane, whole
+abbrev pub cram_bank : List Rows → ℕ → List ℕ
+cram_bank planes bank = bank_command bank ++ cram_data (bank_rows planes bank)
+
+-- a bank's RAM plane, in two halves of 128 rows
+abbrev pub bram_bank : List Rows → ℕ → List ℕ
+bram_bank planes bank =
+    bank_command bank
+    ++ offset_command 0 ++ bram_data (take 128 (bank_rows planes bank))
+    ++ offset_command 128 ++ bram_data (drop 128 (bank_rows planes bank))
+
+-- what the check covers: all from the reset on, the byte of the check's opcode included
+unfoldable pub checked_bytes : Configuration → List ℕ
+checked_bytes c =
+    mode_command c.warm_boot c.no_sleep
+    ++ width_command (cram_width c.device) ++ height_command (cram_height c.device) ++ offset_command 0
+    ++ flat_map (cram_bank c.cram) banks
+    ++ width_command (bram_width c.device) ++ height_command 128
+    ++ flat_map (bram_bank c.bram) banks
+    ++ check_opcode
+
+-- before the preamble a comment stands between FF 00 and 00 FF, each line ended by 00
+abbrev pub comment_bytes : Option (List (List ℕ)) → List ℕ
+comment_bytes None = []
+comment_bytes (Some lines) = 0xFF ∷ 0 ∷ flat_map (λ line. line ++ 0 ∷ []) lines ++ 0 ∷ 0xFF ∷ []
+
+-- the whole stream
+unfoldable pub canonical_bytes : Configuration → List ℕ
+canonical_bytes c =
+    comment_bytes c.comment ++ preamble ++ range_command c.range ++ reset_command
+    ++ checked_bytes c ++ word (check_value (bits_of (checked_bytes c)))
+    ++ wake_up_command ++ 0 ∷ []

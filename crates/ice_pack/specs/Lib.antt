@@ -1,0 +1,4 @@
+pub mod CheckValue
+pub mod Configuration
+pub mod CanonicalBytes
+pub mod TileText

@@ -1,3 +1,4 @@
 pub mod Faults
 pub mod Taken
+pub mod Put
 pub mod InMemory

@@ -2,6 +2,7 @@
 ghost use Rattle.std.specs.Prelude.{◌≡◌, ◌+◌, ◌<◌, ◌≤◌, ℕ, List, Option, length, take, IfOk, OnOk, OnErr};
 ghost use Rattle.std.specs.Io.KnownBytes.{Appends, WriteAppends};
 ghost use Rattle.ice_io.specs.Faults.{Rose};
+ghost use Rattle.ice_io.specs.Put.{ForWritten};
 
 use crate::source::Failed;
 
@@ -33,5 +34,17 @@ pub enum PutFault {
 /// Writes all the bytes, in as many writes as it takes. It takes no memory.
 pub fn write_whole<K: Sink>(sink: &mut K, bytes: &[u8]) -> Result<(), PutFault>
     ensures whole { OnOk result (Appends (K.held sink.old) (K.held sink.new) bytes.now) }
-    ensures never_falls { K.faults sink.old ≤ K.faults sink.new };
-    // at Err (Failed written): Appends (held old) (held new) (take written bytes.now), written < length bytes.now, and Rose
+    ensures part { ForWritten result (λ written. Appends (K.held sink.old) (K.held sink.new) (take written bytes.now)) }
+    ensures short { ForWritten result (λ written. written < length bytes.now) }
+    ensures never_falls { K.faults sink.old ≤ K.faults sink.new }
+    ensures failed { OnErr result (Rose (K.faults sink.old) (K.faults sink.new)) }
+{
+    let mut written = 0;
+    while written < bytes.len() {
+        match sink.write(&bytes[written..]) {
+            Ok(count) => written += count,
+            Err(Failed) => return Err(PutFault::Failed { written }),
+        }
+    }
+    Ok(())
+}

@@ -1,5 +1,5 @@
 // What bytes are read from.
-ghost use Rattle.std.specs.Prelude.{◌≡◌, ◌≢◌, ◌+◌, ◌<◌, ◌≤◌, ◌^◌, ℕ, List, Option, length, vec_len, IfOk, OnErr, IsErrOf};
+ghost use Rattle.std.specs.Prelude.{◌≡◌, ◌≢◌, ◌+◌, ◌<◌, ◌≤◌, ◌^◌, ℕ, List, Option, length, vec_len, take, IfOk, OnErr, IsErrOf};
 ghost use Rattle.std.specs.Io.KnownBytes.{ReadConsumes};
 ghost use Rattle.ice_io.specs.Faults.{Rose};
 ghost use Rattle.ice_io.specs.Taken.{TakesCount, TakesAtMost, TakesAll};
@@ -38,6 +38,29 @@ pub enum TakeFault {
     Memory(AllocError),
 }
 
+impl From<AllocError> for TakeFault {
+    ghost use Rattle.ice_io.specs.declared.source.TakeFault.TheVariants.{Memory};
+
+    ghost from_gives = { λ e fault. fault ≡ Memory e };
+
+    fn from(e: AllocError) -> Self {
+        TakeFault::Memory(e)
+    }
+}
+
+impl From<Failed> for TakeFault {
+    ghost use Rattle.ice_io.specs.declared.source.TakeFault.TheVariants as take_fault;
+
+    ghost from_gives = { λ _ fault. fault ≡ take_fault.Failed };
+
+    fn from(_: Failed) -> Self {
+        TakeFault::Failed
+    }
+}
+
+/// The most bytes that one read of `read_all` asks for.
+const TURN: usize = 65536;
+
 /// Reads to the end. After `TooLong` one byte more than the limit was taken.
 pub fn read_all<S: Source>(
     alloc: Global,
@@ -52,4 +75,20 @@ pub fn read_all<S: Source>(
     ensures not_too_long { (IsErrOf result TakeFault.TooLong → ⊥)
         → TakesAtMost (S.left source.old) (S.left source.new) limit }
     ensures never_falls { S.faults source.old ≤ S.faults source.new }
-    ensures failed { IsErrOf result TakeFault.Failed → Rose (S.faults source.old) (S.faults source.new) };
+    ensures failed { IsErrOf result TakeFault.Failed → Rose (S.faults source.old) (S.faults source.new) }
+{
+    let mut buffer = vec![in alloc; 0u8; TURN.min(limit + 1)]?;
+    let mut bytes = Vec::new(alloc);
+    loop {
+        let room = buffer.len().min(limit + 1 - bytes.len());
+        let turn = &mut buffer[..room];
+        let count = source.read(turn)?;
+        if count == 0 {
+            return Ok(bytes);
+        }
+        if bytes.len() + count > limit {
+            return Err(TakeFault::TooLong);
+        }
+        bytes.extend_from_slice(&turn[..count])?;
+    }
+}

@@ -1,0 +1,56 @@
+-- Bytes that are taken in parts.
+use Rattle.std.proofs.Common.{arith, ◌≡◌, ◌∙◌, ℕ, ◌+◌, ◌-◌, ◌<◌, ◌≤◌, min, List, [], Option, ◌++◌, length, take, drop, subst, sym, ap, length-append, take-append-drop, length-take-le, length-drop}
+use Rattle.std.proofs.lemmas.List.{drop-take, take-take, drop-drop, take_at, take_rest, drop_all}
+use Rattle.std.specs.Io.KnownBytes.{Appends, Consumes}
+use Rattle.std.proofs.KnownBytes.{Appends-trans, Consumes-trans}
+use Rattle.ice_io.specs.Taken.{TakesCount, TakesAtMost}
+
+-- a part and the next one
+pub take_parts : (bytes : List ℕ) (i n : ℕ) → take i bytes ++ take n (drop i bytes) ≡ take (i + n) bytes
+take_parts bytes i n =
+    let rest : drop i (take (i + n) bytes) ≡ take n (drop i bytes) = drop-take i n bytes in
+    let front : take i (take (i + n) bytes) ≡ take i bytes = take-take i (i + n) bytes (omega arith) in
+    let whole : take i (take (i + n) bytes) ++ drop i (take (i + n) bytes) ≡ take (i + n) bytes = take-append-drop i (take (i + n) bytes) in
+    cc
+
+-- the first i bytes were appended, and then the next n, of the slice of what follows
+pub Appends_parts : (a b c : Option (List ℕ)) (bytes : List ℕ) (i n : ℕ) → Appends a b (take i bytes)
+    → Appends b c (take n (take (length bytes - i) (drop i bytes))) → Appends a c (take (i + n) bytes)
+Appends_parts a b c bytes i n p q =
+    let next : Appends b c (take n (drop i bytes)) = subst (λ rest. Appends b c (take n rest)) (take_rest bytes i) q in
+    subst (Appends a c) (take_parts bytes i n) (Appends-trans a b c _ _ p next)
+
+-- bytes that were taken, and then more, as a count
+pub TakesCount_more : (a b c : Option (List ℕ)) (xs ys : List ℕ) (n : ℕ) → Consumes a b xs → Consumes b c ys
+    → length xs + length ys ≡ n → TakesCount a c n
+TakesCount_more a b c xs ys n p q e = (xs ++ ys, Consumes-trans a b c xs ys p q, length-append xs ys ∙ e)
+
+-- bytes that were taken, and then more, within a bound
+pub TakesAtMost_more : (a b c : Option (List ℕ)) (xs ys : List ℕ) (n : ℕ) → Consumes a b xs → Consumes b c ys
+    → length xs + length ys ≤ n → TakesAtMost a c n
+TakesAtMost_more a b c xs ys n p q e = (xs ++ ys, Consumes-trans a b c xs ys p q, omega (arith, length-append xs ys))
+
+-- what is left falls into the k bytes that were copied from its front, and the rest
+pub front_given : (left bytes into old : List ℕ) (at k : ℕ) → left ≡ drop at bytes → k ≤ length left
+    → into ≡ take k left ++ drop k old → left ≡ take k into ++ drop (at + k) bytes
+front_given left bytes into old at k is_left fits is_into =
+    let given : take k into ≡ take k (take k left ++ drop k old) = ap (take k) is_into in
+    let front : take k (take k left ++ drop k old) ≡ take k left = take_at (take k left) (drop k old) k (length-take-le k left fits) in
+    let rest : drop k (drop at bytes) ≡ drop (at + k) bytes = drop-drop k at bytes in
+    let after : drop k left ≡ drop k (drop at bytes) = ap (drop k) is_left in
+    let whole : take k left ++ drop k left ≡ left = take-append-drop k left in
+    cc
+
+-- a read from memory gives the front of what was left, and nothing only where nothing was
+pub front_read : (left bytes into old : List ℕ) (at most k : ℕ) → left ≡ drop at bytes → 1 ≤ most → at ≤ length bytes
+    → k ≡ min most (min (length (take (length bytes - at) (drop at bytes))) (length old))
+    → into ≡ take k (take (length bytes - at) (drop at bytes)) ++ drop k old → length into ≡ length old
+    → (left ≡ take k into ++ drop (at + k) bytes) × (k ≡ 0 → 0 < length into → drop (at + k) bytes ≡ [])
+front_read left bytes into old at most k is_left some within is_k is_into same =
+    let slice : take (length bytes - at) (drop at bytes) ≡ left = take_rest bytes at ∙ sym is_left in
+    let size : k ≡ min most (min (length left) (length old)) = is_k ∙ ap (λ xs. min most (min (length xs) (length old))) slice in
+    let copied : into ≡ take k left ++ drop k old = is_into ∙ ap (λ xs. take k xs ++ drop k old) slice in
+    let long : length left ≡ length bytes - at = ap length is_left ∙ length-drop at bytes in (
+      front_given left bytes into old at k is_left (omega arith) copied,
+      λ none room. drop_all (at + k) bytes (omega arith),
+    )

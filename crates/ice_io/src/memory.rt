@@ -1,0 +1,176 @@
+// Sources and sinks in memory, which tell what they hold, and fail at calls that are chosen beforehand.
+ghost use Rattle.std.specs.Prelude.{◌≡◌, ◌⊎◌, ◌↔◌, ◌+◌, ◌++◌, ◌<◌, ◌≤◌, min, ℕ, [], Some, length, take, drop, IfOk, OnErr, IsErr, IsTrue, Contains};
+ghost use Rattle.std.specs.Io.KnownBytes.{ReadConsumes, WriteAppends};
+ghost use Rattle.ice_io.specs.Faults.{counted, Rose};
+ghost use Rattle.ice_io.specs.InMemory.{ReadFails, read_size, after_read, after_failed_read, WriteFails, room_left, write_size, after_write, after_failed_write};
+
+use crate::sink::Sink;
+use crate::source::{Failed, Source};
+use std::alloc::{AllocError, Global};
+use std::marker::Model;
+
+/// A source of bytes in memory.
+#[derive(Drop)]
+pub struct MemSource {
+    bytes: Vec<u8>,
+    at: usize,
+    most: usize,
+    failing: Vec<u64>,
+    calls: u64,
+    faults: u64,
+}
+
+impl Model for MemSource {
+    ghost use Rattle.std.specs.Prelude.{◌≤◌, drop, vec_len};
+    ghost use Rattle.ice_io.specs.InMemory.{SourceState};
+
+    ghost Value = { SourceState };
+
+    ghost view = { λ s. record { left = drop s.at s.bytes.items; most = s.most; failing = s.failing.items; calls = s.calls; faults = s.faults } };
+
+    ghost invariant = { λ s. (s.at ≤ vec_len s.bytes) × (1 ≤ s.most) };
+}
+
+impl MemSource {
+    /// A source of these bytes, of which a read gives at most `most`. The reads that `failing` lists fail: the first
+    /// read has the number 1.
+    pub fn new(bytes: Vec<u8>, most: usize, failing: Vec<u64>) -> MemSource
+        requires { 1 ≤ most }
+        ensures { result ≡ record { left = bytes.items; most = most; failing = failing.items; calls = 0; faults = 0 } }
+    {
+        MemSource {
+            bytes,
+            at: 0,
+            most,
+            failing,
+            calls: 0,
+            faults: 0,
+        }
+    }
+}
+
+impl Source for MemSource {
+    ghost left = { λ s. Some s.left };
+
+    ghost faults = { λ s. s.faults };
+
+    fn read(&mut self, into: &mut [u8]) -> Result<usize, Failed>
+        ensures count { IfOk result (λ n. n ≤ length into.new) }
+        ensures bytes { ReadConsumes (Some self.old.left) (Some self.new.left) result into.new }
+        ensures never_falls { self.old.faults ≤ self.new.faults }
+        ensures failed { OnErr result (Rose self.old.faults self.new.faults) }
+
+        ensures fails { IsErr result ↔ ReadFails self.old }
+        ensures size { IfOk result (λ n. n ≡ read_size self.old (length into.new)) }
+        ensures front { IfOk result (λ n. take n into.new ≡ take n self.old.left) }
+        ensures after { IfOk result (λ n. self.new ≡ after_read self.old n) }
+        ensures after_failed { OnErr result (self.new ≡ after_failed_read self.old) }
+    {
+        self.calls = self.calls.saturating_add(1);
+        if is_listed(&self.failing, self.calls) {
+            self.faults = self.faults.saturating_add(1);
+            return Err(Failed);
+        }
+        let count = copy_front(&self.bytes[self.at..], self.most, into);
+        self.at += count;
+        Ok(count)
+    }
+}
+
+/// A sink for bytes in memory.
+#[derive(Drop)]
+pub struct MemSink {
+    bytes: Vec<u8>,
+    len: usize,
+    most: usize,
+    failing: Vec<u64>,
+    calls: u64,
+    faults: u64,
+}
+
+impl Model for MemSink {
+    ghost use Rattle.std.specs.Prelude.{◌≤◌, take, vec_len};
+    ghost use Rattle.ice_io.specs.InMemory.{SinkState};
+
+    ghost Value = { SinkState };
+
+    ghost view = { λ s. record { held = take s.len s.bytes.items; room = vec_len s.bytes; most = s.most; failing = s.failing.items; calls = s.calls; faults = s.faults } };
+
+    ghost invariant = { λ s. (s.len ≤ vec_len s.bytes) × (1 ≤ s.most) };
+}
+
+impl MemSink {
+    /// A sink that takes at most `room` bytes in all, and at most `most` in one write. The writes that `failing` lists
+    /// fail: the first write has the number 1. All the room is taken here.
+    pub fn new(
+        alloc: Global,
+        room: usize,
+        most: usize,
+        failing: Vec<u64>,
+    ) -> Result<MemSink, AllocError>
+        requires { 1 ≤ most }
+        ensures { IfOk result (λ sink. sink ≡ record { held = []; room = room; most = most; failing = failing.items; calls = 0; faults = 0 }) }
+    {
+        Ok(MemSink {
+            bytes: vec![in alloc; 0u8; room]?,
+            len: 0,
+            most,
+            failing,
+            calls: 0,
+            faults: 0,
+        })
+    }
+
+    /// The bytes taken so far.
+    pub fn bytes(&self) -> &[u8]
+        ensures { result.now ≡ self.now.held }
+    {
+        &self.bytes[..self.len]
+    }
+}
+
+impl Sink for MemSink {
+    ghost held = { λ s. Some s.held };
+
+    ghost faults = { λ s. s.faults };
+
+    fn write(&mut self, piece: &[u8]) -> Result<usize, Failed>
+        ensures count { IfOk result (λ n. n ≤ length piece.now) }
+        ensures progress { IfOk result (λ n. 0 < length piece.now → 0 < n) }
+        ensures bytes { WriteAppends (Some self.old.held) (Some self.new.held) result piece.now }
+        ensures never_falls { self.old.faults ≤ self.new.faults }
+        ensures failed { OnErr result (Rose self.old.faults self.new.faults) }
+
+        ensures fails { IsErr result ↔ (WriteFails self.old ⊎ ((room_left self.old ≡ 0) × (0 < length piece.now))) }
+        ensures size { IfOk result (λ n. n ≡ write_size self.old (length piece.now)) }
+        ensures after { IfOk result (λ n. self.new ≡ after_write self.old piece.now n) }
+        ensures after_failed { OnErr result (self.new ≡ after_failed_write self.old) }
+    {
+        self.calls = self.calls.saturating_add(1);
+        let is_full = self.len == self.bytes.len();
+        if is_listed(&self.failing, self.calls) || is_full && !piece.is_empty() {
+            self.faults = self.faults.saturating_add(1);
+            return Err(Failed);
+        }
+        let count = copy_front(piece, self.most, &mut self.bytes[self.len..]);
+        self.len += count;
+        Ok(count)
+    }
+}
+
+// Whether a call is one of those that are listed.
+fn is_listed(failing: &[u64], call: u64) -> bool
+    ensures { IsTrue result ↔ Contains failing.now call }
+{
+    failing.contains(&call)
+}
+
+// Copies at most `most` bytes from the front of one slice over the front of another.
+fn copy_front(from: &[u8], most: usize, into: &mut [u8]) -> usize
+    ensures size { result ≡ min most (min (length from.now) (length into.old)) }
+    ensures copied { into.new ≡ take result from.now ++ drop result into.old }
+{
+    let count = most.min(from.len()).min(into.len());
+    into[..count].copy_from_slice(&from[..count]);
+    count
+}

@@ -1,5 +1,5 @@
 -- How often calls to the outside have failed.
-use Rattle.std.specs.Prelude.{ℕ, ◌+◌, ◌-◌, ◌^◌, ◌≤◌, min, List, Contains}
+use Rattle.std.specs.Prelude.{ℕ, ◌+◌, ◌-◌, ◌^◌, ◌≤◌, min}
 
 -- the greatest count, at which a counter stays
 abbrev pub last_count : ℕ

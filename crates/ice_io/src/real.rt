@@ -1,5 +1,6 @@
 // Sources and sinks over the readers and writers of the standard library. They tell nothing of the content.
-ghost use Rattle.std.specs.Prelude.{◌≡◌, ◌<◌, ◌≤◌, ℕ, None, length, IfOk};
+ghost use Rattle.std.specs.Prelude.{◌≡◌, ◌<◌, ◌≤◌, ℕ, None, length, IfOk, OnOk, OnErr};
+ghost use Rattle.ice_io.specs.Faults.{counted};
 
 use crate::sink::Sink;
 use crate::source::{Failed, Source};
@@ -38,7 +39,13 @@ impl<R: Read> Source for StdSource<R> {
 
     ghost faults = { λ faults. faults };
 
-    fn read(&mut self, into: &mut [u8]) -> Result<usize, Failed> {
+    fn read(&mut self, into: &mut [u8]) -> Result<usize, Failed>
+        ensures count { IfOk result (λ n. n ≤ length into.new) }
+        ensures never_falls { self.old ≤ self.new }
+
+        ensures ok { OnOk result (self.new ≡ self.old) }
+        ensures failed { OnErr result (self.new ≡ counted self.old) }
+    {
         let count = read_once(&mut self.inner, into);
         if count.is_err() {
             self.faults = self.faults.saturating_add(1);
@@ -76,7 +83,14 @@ impl<W: Write> Sink for StdSink<W> {
 
     ghost faults = { λ faults. faults };
 
-    fn write(&mut self, piece: &[u8]) -> Result<usize, Failed> {
+    fn write(&mut self, piece: &[u8]) -> Result<usize, Failed>
+        ensures count { IfOk result (λ n. n ≤ length piece.now) }
+        ensures progress { IfOk result (λ n. 0 < length piece.now → 0 < n) }
+        ensures never_falls { self.old ≤ self.new }
+
+        ensures ok { OnOk result (self.new ≡ self.old) }
+        ensures failed { OnErr result (self.new ≡ counted self.old) }
+    {
         let count = write_once(&mut self.inner, piece);
         if count.is_err() {
             self.faults = self.faults.saturating_add(1);

@@ -1,6 +1,6 @@
 -- Bits as lists of Booleans, and the two orders in which numbers hold them: a row's word has its first bit as the
 -- bit of value 1, a byte of the stream has its first bit as the bit of value 128.
-use Rattle.std.specs.Prelude.{ℕ, zero, suc, ◌+◌, ◌*◌, ◌/◌, ◌%◌, Bool, true, false, List, [], ◌∷◌, ◌++◌, length, take, drop, fold, flat_map, ◌==◌, if◌then◌else◌}
+use Rattle.std.specs.Prelude.{ℕ, zero, suc, ◌+◌, ◌*◌, ◌/◌, ◌%◌, Bool, true, false, List, [], ◌∷◌, ◌++◌, length, take, drop, fold, flat_map, ◌==◌}
 
 -- what a bit adds where it has value 1
 abbrev pub bit_value : Bool → ℕ

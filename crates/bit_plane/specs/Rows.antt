@@ -1,5 +1,5 @@
 -- A plane or a tile as its rows of bits, row 0 first, each row its bits from column 0 on.
-use Rattle.std.specs.Prelude.{◌≡◌, ℕ, zero, suc, ◌<◌, Bool, true, false, List, [], ◌∷◌, ◌++◌, length, get_or, set, take, drop, replicate}
+use Rattle.std.specs.Prelude.{◌≡◌, ℕ, zero, suc, ◌<◌, Bool, false, List, [], ◌∷◌, ◌++◌, length, get_or, set, take, drop, replicate}
 
 abbrev pub Rows : Type 0
 Rows = List (List Bool)

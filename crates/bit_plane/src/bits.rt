@@ -62,17 +62,17 @@ pub trait Bits: Sized {
         requires { position + 8 ≤ WIDTH * HEIGHT }
         ensures { result ≡ byte_of (take 8 (drop position (flat (rows self.now)))) };
 
-    /// Gives whole rows, from row `first` on, the bits of bytes, the most significant bit of each byte first.
-    fn put_bytes(&mut self, first: usize, rows: usize, bytes: &[u8])
-        requires rows { first + rows ≤ HEIGHT }
-        requires bytes { 8 * length bytes.now ≡ rows * WIDTH }
-        ensures { Self.rows self.new ≡ placed first (rows_of WIDTH rows (bits_of bytes.now)) (Self.rows self.old) };
+    /// Gives `count` whole rows, from row `first` on, the bits of bytes, the most significant bit of each byte first.
+    fn put_bytes(&mut self, first: usize, count: usize, bytes: &[u8])
+        requires rows { first + count ≤ HEIGHT }
+        requires bytes { 8 * length bytes.now ≡ count * WIDTH }
+        ensures { rows self.new ≡ placed first (rows_of WIDTH count (bits_of bytes.now)) (rows self.old) };
 
-    /// The bytes of whole rows, from row `first` on, the most significant bit of each byte first.
-    fn take_bytes(&self, first: usize, rows: usize, out: &mut [u8])
-        requires rows { first + rows ≤ HEIGHT }
-        requires bytes { 8 * length out.old ≡ rows * WIDTH }
-        ensures { out.new ≡ bytes_of (length out.old) (flat (take rows (drop first (Self.rows self.now)))) };
+    /// The bytes of `count` whole rows, from row `first` on, the most significant bit of each byte first.
+    fn take_bytes(&self, first: usize, count: usize, out: &mut [u8])
+        requires rows { first + count ≤ HEIGHT }
+        requires bytes { 8 * length out.old ≡ count * WIDTH }
+        ensures { out.new ≡ bytes_of (length out.old) (flat (take count (drop first (rows self.now)))) };
 
     /// Whether all bits are equal.
     fn same(&self, other: &Self) -> bool

@@ -5,12 +5,8 @@
 #![tactic(auto)]
 
 mod bits;
+mod order;
 mod plane;
-mod tile;
 
 pub use bits::Bits;
 pub use plane::Plane;
-pub use tile::Tile;
-
-#[cfg(test)]
-mod tests;

@@ -1,0 +1,49 @@
+-- What a change or a reading of a plane's flat bits means for its rows.
+use Rattle.std.proofs.Common.{◌≡◌, ℕ, zero, suc, ◌+◌, ◌*◌, ◌<◌, ◌≤◌, Bool, false, List, ◌∷◌, ◌++◌, length, get_or, take, drop, refl, sym, ap, ◌∙◌, arith, ◌-◌, take_at, take-take, drop-drop, length-drop}
+use Rattle.std.proofs.lemmas.Nat.{mul-add-lt, mul-le}
+use Rattle.std.proofs.lemmas.List.{get_or_read, drop-take}
+use Rattle.bit_plane.specs.BitList.{placed, bytes_of}
+use Rattle.bit_plane.specs.Rows.{row_at, bit_at, with_row, flat, rows_of}
+use Rattle.bit_plane.proofs.Bytes.{bytes_of-take, take-placed, drop-placed, take-placed_before, drop-placed_before}
+use Rattle.bit_plane.proofs.Grids.{row_at-rows_of, bit_at-rows_of, flat-run}
+
+-- the bit that the flat bits have at a column and row
+pub bit_read : (width height : ℕ) (bits : List Bool) (x y : ℕ) (bit : Bool) → length bits ≡ width * height → x < width → y < height → bit ≡ get_or bits (y * width + x) bit → bit ≡ bit_at (rows_of width height bits) x y
+bit_read width height bits x y bit exact column row read =
+    get_or_read bits (y * width + x) bit (omega (arith, mul-add-lt y width x height row column)) read false ∙ sym (bit_at-rows_of width height bits x y column row)
+
+-- a vector's items after a write to all of them
+pub written : (len : ℕ) (bits new : List Bool) → len ≡ length bits → length new ≡ length bits → take len (new ++ drop (length new) bits) ≡ new
+written len bits new len_is same = take_at new (drop (length new) bits) len (sym (len_is ∙ sym same))
+
+-- whole rows lie within the flat bits
+pub run_within : (width height first count n len : ℕ) → first + count ≤ height → n ≡ count * width → len ≡ width * height → first * width + n ≤ len
+run_within width height first count n len within whole exact =
+    let room : (first + count) * width ≤ height * width = mul-le (first + count) width height width within (omega arith) in
+    omega (arith, room)
+
+-- the bytes of a run of rows
+pub run_read : (width height first count n : ℕ) (bits : List Bool) → first + count ≤ height → 8 * n ≡ count * width → bytes_of n (drop (first * width) bits) ≡ bytes_of n (flat (take count (drop first (rows_of width height bits))))
+run_read width height first count n bits within whole =
+    sym (ap (bytes_of n) (flat-run width height first count bits within) ∙ bytes_of-take n (count * width) (drop (first * width) bits) (omega arith))
+
+-- bits placed within one row
+pub rows_of-placed_in_row : (width height x y : ℕ) (part bits : List Bool) → x + length part ≤ width → y < height → length bits ≡ width * height → rows_of width height (placed (y * width + x) part bits) ≡ with_row (rows_of width height bits) y (placed x part (row_at (rows_of width height bits) y))
+unfolding rows_of
+rows_of-placed_in_row width zero x y part bits columns row exact = absurd (omega arith)
+rows_of-placed_in_row width (suc height) x zero part bits columns row exact =
+    let e : 0 * width + x ≡ x = omega arith in
+    let long : width ≤ length bits = omega arith in
+    rw (e, take-placed x width part bits columns long, drop-placed x width part bits columns long) refl
+rows_of-placed_in_row width (suc height) x (suc y) part bits columns row exact =
+    let e : suc y * width + x ≡ width + (y * width + x) = omega arith in
+    let room : suc y * width ≤ height * width = mul-le (suc y) width height width (omega arith) (omega arith) in
+    let long : width + (y * width + x) ≤ length bits = omega arith in
+    rw (e, take-placed_before (width + (y * width + x)) width part bits (omega arith) long, drop-placed_before width (y * width + x) part bits long) (ap (λ rest. take width bits ∷ rest) (rows_of-placed_in_row width height x y part (drop width bits) columns (omega arith) (omega (arith, length-drop width bits))))
+
+-- some bits of one row
+pub row_read : (width height x y count : ℕ) (bits : List Bool) → x + count ≤ width → y < height → take count (drop (y * width + x) bits) ≡ take count (drop x (row_at (rows_of width height bits) y))
+row_read width height x y count bits columns row =
+    let parts : width ≡ x + (width - x) = omega arith in
+    let cut : drop x (take width (drop (y * width) bits)) ≡ take (width - x) (drop x (drop (y * width) bits)) = ap (λ n. drop x (take n (drop (y * width) bits))) parts ∙ drop-take x (width - x) (drop (y * width) bits) in
+    sym (ap (λ bits. take count (drop x bits)) (row_at-rows_of width height bits y row) ∙ ap (take count) cut ∙ take-take count (width - x) (drop x (drop (y * width) bits)) (omega arith) ∙ ap (take count) (drop-drop x (y * width) bits))

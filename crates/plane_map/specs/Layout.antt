@@ -135,13 +135,19 @@ unfoldable pub start_of : DeviceName → ℕ → ℕ
 start_of device zero = 0
 start_of device (suc u) = start_of device u + width_of device u
 
--- the column of bits that a column of an io tile takes in the bottom and the top row
-unfoldable pub pad_column : ℕ → ℕ
-pad_column col = slice_index (23 ∷ 25 ∷ 26 ∷ 27 ∷ 16 ∷ 17 ∷ 18 ∷ 19 ∷ 20 ∷ 14 ∷ 32 ∷ 33 ∷ 34 ∷ 35 ∷ 36 ∷ 37 ∷ 4 ∷ 5 ∷ []) col
+-- the column of bits that each column of an io tile takes in the bottom and the top row
+unfoldable pub pad_columns : List ℕ
+pad_columns = 23 ∷ 25 ∷ 26 ∷ 27 ∷ 16 ∷ 17 ∷ 18 ∷ 19 ∷ 20 ∷ 14 ∷ 32 ∷ 33 ∷ 34 ∷ 35 ∷ 36 ∷ 37 ∷ 4 ∷ 5 ∷ []
 
--- the row of bits that a row of an io tile takes in the bottom and the top row, counted from the inner end
-unfoldable pub pad_row : ℕ → ℕ
-pad_row row = slice_index (0 ∷ 1 ∷ 3 ∷ 2 ∷ 4 ∷ 5 ∷ 7 ∷ 6 ∷ 8 ∷ 9 ∷ 11 ∷ 10 ∷ 12 ∷ 13 ∷ 15 ∷ 14 ∷ []) row
+abbrev pub pad_column : ℕ → ℕ
+pad_column col = slice_index pad_columns col
+
+-- the row of bits that each row of an io tile takes in the bottom and the top row, counted from the inner end
+unfoldable pub pad_rows : List ℕ
+pad_rows = 0 ∷ 1 ∷ 3 ∷ 2 ∷ 4 ∷ 5 ∷ 7 ∷ 6 ∷ 8 ∷ 9 ∷ 11 ∷ 10 ∷ 12 ∷ 13 ∷ 15 ∷ 14 ∷ []
+
+abbrev pub pad_row : ℕ → ℕ
+pad_row row = slice_index pad_rows row
 
 -- Columns run from the side edge inwards in an inner tile of the left half, and towards it in the right half and in an
 -- io tile of either side. An io tile of the bottom or the top row has its columns by `pad_column`.

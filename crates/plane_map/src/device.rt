@@ -1,6 +1,7 @@
 // The two devices.
-ghost use Rattle.std.specs.Prelude.{◌≡◌, ℕ};
+ghost use Rattle.std.specs.Prelude.{◌≡◌, ℕ, refl};
 ghost use Rattle.plane_map.specs.declared.device.DeviceName.{DeviceName as Name};
+ghost use Rattle.plane_map.specs.declared.device.DeviceName.TheVariants.{K1, K8};
 ghost use Rattle.plane_map.specs.Layout.{grid_width, grid_height, ram_column, cram_width, cram_height, bram_width, bram_height};
 
 use bit_plane::{Bits, Plane};
@@ -11,6 +12,38 @@ pub enum DeviceName {
     K1,
     /// HX8K, a grid of 34 by 34.
     K8,
+}
+
+impl DeviceName {
+    /// How many columns of tiles there are.
+    pub(crate) fn columns(self) -> u32
+        ensures { result ≡ grid_width self }
+    {
+        match self {
+            DeviceName::K1 => 14,
+            DeviceName::K8 => 34,
+        }
+    }
+
+    /// How many rows of tiles there are.
+    pub(crate) fn rows(self) -> u32
+        ensures { result ≡ grid_height self }
+    {
+        match self {
+            DeviceName::K1 => 18,
+            DeviceName::K8 => 34,
+        }
+    }
+
+    /// The left one of the two columns of RAM.
+    pub(crate) fn left_ram_column(self) -> u32
+        ensures { result ≡ ram_column self }
+    {
+        match self {
+            DeviceName::K1 => 3,
+            DeviceName::K8 => 8,
+        }
+    }
 }
 
 /// A device by its name, its planes and its grid. The name fixes the others.
@@ -38,21 +71,107 @@ pub trait Device {
     /// The left one of the two columns of RAM.
     const RAM_COLUMN: usize;
 
+    /// The device's name.
+    fn device_name() -> DeviceName
+        ensures { result ≡ NAME };
+
     ghost grid_width_is: { GRID_W ≡ grid_width NAME };
 
     ghost grid_height_is: { GRID_H ≡ grid_height NAME };
 
     ghost ram_column_is: { RAM_COLUMN ≡ ram_column NAME };
 
-    ghost cram_width_is: { Cram.WIDTH ≡ cram_width NAME };
+    ghost cram_width_is: { Self.Cram.WIDTH ≡ cram_width NAME };
 
-    ghost cram_height_is: { Cram.HEIGHT ≡ cram_height NAME };
+    ghost cram_height_is: { Self.Cram.HEIGHT ≡ cram_height NAME };
 
-    ghost bram_width_is: { Bram.WIDTH ≡ bram_width NAME };
+    ghost bram_width_is: { Self.Bram.WIDTH ≡ bram_width NAME };
 
-    ghost bram_height_is: { Bram.HEIGHT ≡ bram_height NAME };
+    ghost bram_height_is: { Self.Bram.HEIGHT ≡ bram_height NAME };
 }
 
+/// The device HX1K.
 pub struct Hx1k;
 
+impl Device for Hx1k {
+    type Cram = Plane<332, 144>;
+
+    type Bram = Plane<64, 256>;
+
+    ghost NAME = { K1 };
+
+    ghost GRID_W = { 14 };
+
+    ghost GRID_H = { 18 };
+
+    ghost RAM_COLUMN = { 3 };
+
+    const NAME: DeviceName = DeviceName::K1;
+
+    const GRID_W: usize = 14;
+
+    const GRID_H: usize = 18;
+
+    const RAM_COLUMN: usize = 3;
+
+    fn device_name() -> DeviceName {
+        Self::NAME
+    }
+
+    ghost grid_width_is = { refl };
+
+    ghost grid_height_is = { refl };
+
+    ghost ram_column_is = { refl };
+
+    ghost cram_width_is = { refl };
+
+    ghost cram_height_is = { refl };
+
+    ghost bram_width_is = { refl };
+
+    ghost bram_height_is = { refl };
+}
+
+/// The device HX8K.
 pub struct Hx8k;
+
+impl Device for Hx8k {
+    type Cram = Plane<872, 272>;
+
+    type Bram = Plane<128, 256>;
+
+    ghost NAME = { K8 };
+
+    ghost GRID_W = { 34 };
+
+    ghost GRID_H = { 34 };
+
+    ghost RAM_COLUMN = { 8 };
+
+    const NAME: DeviceName = DeviceName::K8;
+
+    const GRID_W: usize = 34;
+
+    const GRID_H: usize = 34;
+
+    const RAM_COLUMN: usize = 8;
+
+    fn device_name() -> DeviceName {
+        Self::NAME
+    }
+
+    ghost grid_width_is = { refl };
+
+    ghost grid_height_is = { refl };
+
+    ghost ram_column_is = { refl };
+
+    ghost cram_width_is = { refl };
+
+    ghost cram_height_is = { refl };
+
+    ghost bram_width_is = { refl };
+
+    ghost bram_height_is = { refl };
+}

@@ -1,13 +1,13 @@
 //! Where each bit of a tile lies in the planes of its device.
 #![tactic(auto)]
 
+mod columns;
 mod device;
+mod grid;
+mod pads;
 mod place;
 mod tile;
 
 pub use device::{Device, DeviceName, Hx1k, Hx8k};
-pub use place::{bram_place, cram_place, kind_at, owner_of, tile_width};
+pub use place::{kind_at, tile_width};
 pub use tile::{Place, RowCol, TileBit, TileKind, WordBit};
-
-#[cfg(test)]
-mod tests;

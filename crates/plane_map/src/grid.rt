@@ -1,0 +1,91 @@
+// The grid of tiles, its edges and its halves.
+ghost use Rattle.std.specs.Prelude.{◌≡◌, ◌<◌};
+ghost use Rattle.plane_map.specs.Layout.{kind_of, columns_of, is_side, is_end, is_right, is_top, grid_width, grid_height, bank_of, from_side, from_end};
+
+use crate::device::DeviceName;
+use crate::tile::TileKind;
+
+/// The tile of a device at a place of the grid.
+#[tactic(auto, unfolding(crate::specs::Layout::kind_of))]
+pub(crate) fn kind_on(device: DeviceName, x: u32, y: u32) -> Option<TileKind>
+    ensures { result ≡ kind_of device x y }
+{
+    if x >= device.columns() || y >= device.rows() {
+        return None;
+    }
+    let side = on_side(device, x);
+    let end = on_end(device, y);
+    if side && end {
+        None
+    } else if side || end {
+        Some(TileKind::Io)
+    } else if x == device.left_ram_column() || x + device.left_ram_column() == device.columns() - 1 {
+        Some(if y % 2 == 1 { TileKind::RamB } else { TileKind::RamT })
+    } else {
+        Some(TileKind::Logic)
+    }
+}
+
+/// Whether a column of tiles is the left or the right edge.
+pub(crate) fn on_side(device: DeviceName, x: u32) -> bool
+    ensures { result ≡ is_side device x }
+{
+    x == 0 || x == device.columns() - 1
+}
+
+/// Whether a row of tiles is the bottom or the top edge.
+pub(crate) fn on_end(device: DeviceName, y: u32) -> bool
+    ensures { result ≡ is_end device y }
+{
+    y == 0 || y == device.rows() - 1
+}
+
+/// Whether a column of tiles is in the right half.
+pub(crate) fn in_right(device: DeviceName, x: u32) -> bool
+    ensures { result ≡ is_right device x }
+{
+    x >= device.columns() / 2
+}
+
+/// Whether a row of tiles is in the top half.
+pub(crate) fn in_top(device: DeviceName, y: u32) -> bool
+    ensures { result ≡ is_top device y }
+{
+    y >= device.rows() / 2
+}
+
+/// The bank of the quarter of the grid in which a tile is.
+pub(crate) fn bank_at(device: DeviceName, x: u32, y: u32) -> u8
+    ensures { result ≡ bank_of device x y }
+{
+    match (in_right(device, x), in_top(device, y)) {
+        (false, false) => 0,
+        (false, true) => 1,
+        (true, false) => 2,
+        (true, true) => 3,
+    }
+}
+
+/// How many columns of tiles lie between a tile and the nearer side edge.
+pub(crate) fn columns_outside(device: DeviceName, x: u32) -> u32
+    requires { x < grid_width device }
+    ensures { result ≡ from_side device x }
+{
+    if in_right(device, x) {
+        device.columns() - 1 - x
+    } else {
+        x
+    }
+}
+
+/// How many rows of tiles lie between a tile and the nearer end edge.
+pub(crate) fn rows_outside(device: DeviceName, y: u32) -> u32
+    requires { y < grid_height device }
+    ensures { result ≡ from_end device y }
+{
+    if in_top(device, y) {
+        device.rows() - 1 - y
+    } else {
+        y
+    }
+}

@@ -1,5 +1,5 @@
 // The grid of tiles, its edges and its halves.
-ghost use Rattle.std.specs.Prelude.{◌≡◌, ◌<◌};
+ghost use Rattle.std.specs.Prelude.{◌≡◌, ◌<◌, ◌||◌};
 ghost use Rattle.plane_map.specs.Layout.{kind_of, columns_of, is_side, is_end, is_right, is_top, grid_width, grid_height, bank_of, from_side, from_end};
 
 use crate::device::DeviceName;
@@ -45,6 +45,13 @@ pub(crate) fn in_right(device: DeviceName, x: u32) -> bool
     ensures { result ≡ is_right device x }
 {
     x >= device.columns() / 2
+}
+
+/// Whether the columns of a tile that is in no end row run towards the side edge.
+pub(crate) fn is_mirrored(device: DeviceName, x: u32) -> bool
+    ensures { result ≡ (is_side device x || is_right device x) }
+{
+    on_side(device, x) || in_right(device, x)
 }
 
 /// Whether a row of tiles is in the top half.

@@ -6,8 +6,9 @@ mod device;
 mod grid;
 mod pads;
 mod place;
+mod rows;
 mod tile;
 
 pub use device::{Device, DeviceName, Hx1k, Hx8k};
-pub use place::{kind_at, tile_width};
+pub use place::{cram_place, kind_at, tile_width};
 pub use tile::{Place, RowCol, TileBit, TileKind, WordBit};

@@ -1,0 +1,28 @@
+// The rows of bits that the rows of tiles take, from an end edge inwards.
+ghost use Rattle.std.specs.Prelude.{◌≡◌, ◌+◌, ◌-◌, ◌<◌, if◌then◌else◌};
+ghost use Rattle.plane_map.specs.Layout.{pad_row, row_of, cram_height, IsTileBit};
+
+use crate::device::DeviceName;
+use crate::grid::{in_top, on_end, rows_outside};
+use crate::pads::row_of_pad;
+use crate::tile::TileBit;
+
+/// The row of bits that a bit of a tile takes.
+pub(crate) fn row_at(device: DeviceName, bit: TileBit) -> u32
+    requires { IsTileBit device bit }
+    ensures value { result ≡ row_of device bit }
+    ensures in_plane { result < cram_height device }
+{
+    let y = bit.y as u32;
+    16 * rows_outside(device, y) + height_in(on_end(device, y), in_top(device, y), bit.row)
+}
+
+/// How far a row of a tile is from the start of its row of tiles.
+#[tactic(auto, using(crate::proofs::Layouts::pad_row_below))]
+fn height_in(end: bool, top: bool, row: u8) -> u32
+    requires { row < 16 }
+    ensures { result ≡ (if end then 15 - pad_row row else if top then 15 - row else row) }
+{
+    let row = if end { row_of_pad(row) } else { row };
+    if end || top { 15 - row as u32 } else { row as u32 }
+}

@@ -93,6 +93,9 @@ same_row u v a b ha hb e = (omega arith, omega arith)
 pub bank-same : (top right top' right' : Bool) → (if top then 1 else 0) + (if right then 2 else 0) ≡ (if top' then 1 else 0) + (if right' then 2 else 0) → (top ≡ top') × (right ≡ right')
 bank-same top right top' right' e = grind arith
 
+pub bank_of-below : (top right : Bool) → (if top then 1 else 0) + (if right then 2 else 0) < 4
+bank_of-below top right = grind arith
+
 -- a bit of a tile is in the grid and in its column and its row of tiles
 pub record IsPlaced (device : DeviceName) (bit : TileBit) : Type 0 where
   pub x_in : bit.x < grid_width device
@@ -236,19 +239,8 @@ column_of-parts device bit h u s w o end mirrored u_is s_is w_is end_is mirrored
     let whole : s + o ≡ start_of device (from_side device bit.x) + offset_of device bit = λ i. start i + into i in
     whole ∙ sym (column_of-is device bit (tile_bit_is_placed device bit h))
 
--- and its row of bits
-pub row_of-parts : (device : DeviceName) (bit : TileBit) → IsTileBit device bit → (w o : ℕ) (end top : Bool)
-    → w ≡ from_end device bit.y → end ≡ is_end device bit.y → top ≡ is_top device bit.y → o ≡ height end top bit.row → 16 * w + o ≡ row_of device bit
-row_of-parts device bit h w o end top w_is end_is top_is o_is =
-    let into : o ≡ height_of device bit = o_is ∙ (λ i. height (end_is i) (top_is i) bit.row) in
-    let whole : 16 * w + o ≡ 16 * from_end device bit.y + height_of device bit = λ i. 16 * w_is i + into i in
-    whole ∙ sym (row_of-is device bit (tile_bit_is_placed device bit h))
-
 pub tile_bit_column_in : (device : DeviceName) (bit : TileBit) → IsTileBit device bit → (n : ℕ) → n ≡ column_of device bit → n < cram_width device
 tile_bit_column_in device bit h n is = omega (arith, is, column_of-below device bit (tile_bit_is_placed device bit h))
-
-pub tile_bit_row_in : (device : DeviceName) (bit : TileBit) → IsTileBit device bit → (n : ℕ) → n ≡ row_of device bit → n < cram_height device
-tile_bit_row_in device bit h n is = omega (arith, is, row_of-below device bit (tile_bit_is_placed device bit h))
 
 -- a plane is small
 pub cram_width-below : (device : DeviceName) → cram_width device ≤ 872

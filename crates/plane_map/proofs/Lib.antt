@@ -1,3 +1,4 @@
 pub mod Widths
 pub mod Entries
 pub mod Layouts
+pub mod Words

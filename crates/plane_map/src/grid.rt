@@ -1,6 +1,6 @@
 // The grid of tiles, its edges and its halves.
-ghost use Rattle.std.specs.Prelude.{◌≡◌, ◌<◌, ◌||◌};
-ghost use Rattle.plane_map.specs.Layout.{kind_of, columns_of, is_side, is_end, is_right, is_top, grid_width, grid_height, bank_of, from_side, from_end};
+ghost use Rattle.std.specs.Prelude.{◌≡◌, ◌+◌, ◌<◌, ◌≤◌, ◌||◌};
+ghost use Rattle.plane_map.specs.Layout.{kind_of, columns_of, is_side, is_end, is_right, is_top, grid_width, grid_height, bank_of, from_side, from_end, ram_of};
 
 use crate::device::DeviceName;
 use crate::tile::TileKind;
@@ -94,5 +94,18 @@ pub(crate) fn rows_outside(device: DeviceName, y: u32) -> u32
         device.rows() - 1 - y
     } else {
         y
+    }
+}
+
+/// Which RAM of its bank a lower tile of a row is, counted from the end edge inwards.
+pub(crate) fn ram_at(device: DeviceName, y: u32) -> u32
+    requires inner { 1 ≤ y }
+    requires inside { y + 3 ≤ grid_height device }
+    ensures { result ≡ ram_of device y }
+{
+    if in_top(device, y) {
+        (device.rows() - 3 - y) / 2
+    } else {
+        (y - 1) / 2
     }
 }

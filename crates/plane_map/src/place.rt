@@ -4,7 +4,7 @@ ghost use Rattle.plane_map.specs.Layout.{kind_of, columns_of, columns_at, place_
 
 use crate::device::{Device, DeviceName};
 use crate::columns::column_at;
-use crate::grid::{bank_at, kind_on};
+use crate::grid::{bank_at, kind_on, ram_at};
 use crate::rows::row_at;
 use crate::tile::{Place, TileBit, TileKind, WordBit};
 
@@ -39,6 +39,21 @@ pub fn cram_place<D: Device>(x: u8, y: u8, row: u8, col: u8) -> Place
     place_on(D::device_name(), TileBit { x, y, row, col })
 }
 
+/// Where a bit of a word lies in the RAM planes; (x, y) is the RAM's lower tile.
+pub fn bram_place<D: Device>(x: u8, y: u8, word: u8, bit: u8) -> Place
+    requires lower { kind_of D.NAME x y ≡ Some TileKind.RamB }
+    requires bit { bit < 16 }
+    ensures place { result ≡ word_place_of D.NAME (record { x = x; y = y; word = word; bit = bit }) }
+    ensures in_plane { IsInBram D.NAME result }
+    // No other bit of a word lies there.
+    ensures only { (other : WordBit) → IsWordBit D.NAME other → word_place_of D.NAME other ≡ result
+        → other ≡ record { x = x; y = y; word = word; bit = bit } }
+    // Each place of the RAM planes is that of a bit of a word.
+    ensures onto { (at : Place) → IsInBram D.NAME at → (word_bit : WordBit) × IsWordBit D.NAME word_bit × (word_place_of D.NAME word_bit ≡ at) }
+{
+    place_of_word(D::device_name(), WordBit { x, y, word, bit })
+}
+
 /// Where a bit of a tile lies in the configuration planes of a device.
 #[tactic(auto, using(crate::proofs::Layouts::place_is_only), unfolding(crate::specs::Layout::place_of))]
 fn place_on(device: DeviceName, bit: TileBit) -> Place
@@ -51,5 +66,21 @@ fn place_on(device: DeviceName, bit: TileBit) -> Place
         bank: bank_at(device, bit.x as u32, bit.y as u32),
         px: column_at(device, bit) as u16,
         py: row_at(device, bit) as u16,
+    }
+}
+
+/// Where a bit of a word lies in the RAM planes of a device.
+#[tactic(auto, using(crate::proofs::Words::word_place_is_only), unfolding(crate::specs::Layout::word_place_of))]
+fn place_of_word(device: DeviceName, at: WordBit) -> Place
+    requires { IsWordBit device at }
+    ensures place { result ≡ word_place_of device at }
+    ensures in_plane { IsInBram device result }
+    ensures only { (other : WordBit) → IsWordBit device other → word_place_of device other ≡ result → other ≡ at }
+{
+    let y = at.y as u32;
+    Place {
+        bank: bank_at(device, at.x as u32, y),
+        px: (16 * ram_at(device, y) + 15 - at.bit as u32) as u16,
+        py: at.word as u16,
     }
 }

@@ -1,0 +1,115 @@
+-- The words of the RAMs fill the RAM planes, each place once.
+use Rattle.std.proofs.Common.{◌≡◌, ℕ, zero, suc, ◌+◌, ◌-◌, ◌*◌, ◌/◌, ◌%◌, ◌<◌, ◌≤◌, ◌⊎◌, Bool, true, false, if◌then◌else◌, Some, refl, sym, ◌∙◌, ap, arith}
+use Rattle.std.proofs.lemmas.Bool.Decides.{nat_tests}
+use Rattle.plane_map.specs.declared.device.DeviceName.{DeviceName}
+use Rattle.plane_map.specs.declared.device.DeviceName.TheVariants.{K1, K8}
+use Rattle.plane_map.specs.declared.tile.TileKind.TheVariants.{RamB}
+use Rattle.plane_map.specs.declared.tile.WordBit.{WordBit}
+use Rattle.plane_map.specs.declared.tile.Place.{Place}
+use Rattle.plane_map.specs.Layout.{kind_of, is_right, is_top, bank_of, ram_of, ram_column, last_x, last_y, grid_width, grid_height, bram_width, word_place_of, IsWordBit, IsInBram}
+use Rattle.plane_map.proofs.Layouts.{bank-same, bank_of-below}
+
+-- a lower tile of a RAM stands in a column of RAM, in an odd row that is no edge
+pub lower-column : (device : DeviceName) (x y : ℕ) → kind_of device x y ≡ Some RamB → (x ≡ ram_column device) ⊎ (x + ram_column device ≡ last_x device)
+unfolding kind_of
+lower-column device x y h = grind (arith, nat_tests)
+
+pub lower-odd : (device : DeviceName) (x y : ℕ) → kind_of device x y ≡ Some RamB → y % 2 ≡ 1
+unfolding kind_of
+lower-odd device x y h = grind (arith, nat_tests)
+
+pub lower-inner : (device : DeviceName) (x y : ℕ) → kind_of device x y ≡ Some RamB → y < last_y device
+unfolding kind_of
+lower-inner device x y h = grind (arith, nat_tests)
+
+pub lower-third : (device : DeviceName) (x y : ℕ) → kind_of device x y ≡ Some RamB → y + 3 ≤ grid_height device
+lower-third K1 x y h = omega (arith, lower-odd K1 x y h, lower-inner K1 x y h)
+lower-third K8 x y h = omega (arith, lower-odd K8 x y h, lower-inner K8 x y h)
+
+-- a half has one column of RAM
+pub lower-same_x : (device : DeviceName) (x y x' y' : ℕ) → kind_of device x y ≡ Some RamB → kind_of device x' y' ≡ Some RamB → is_right device x ≡ is_right device x' → x ≡ x'
+lower-same_x K1 x y x' y' h h' r = grind (arith, nat_tests, lower-column K1 x y h, lower-column K1 x' y' h')
+lower-same_x K8 x y x' y' h h' r = grind (arith, nat_tests, lower-column K8 x y h, lower-column K8 x' y' h')
+
+-- a RAM of a half by its number
+pub lower-same_y : (device : DeviceName) (x y x' y' : ℕ) → kind_of device x y ≡ Some RamB → kind_of device x' y' ≡ Some RamB → is_top device y ≡ is_top device y' → ram_of device y ≡ ram_of device y' → y ≡ y'
+lower-same_y K1 x y x' y' h h' t e = grind (arith, nat_tests, lower-odd K1 x y h, lower-odd K1 x' y' h', lower-inner K1 x y h, lower-inner K1 x' y' h')
+lower-same_y K8 x y x' y' h h' t e = grind (arith, nat_tests, lower-odd K8 x y h, lower-odd K8 x' y' h', lower-inner K8 x y h, lower-inner K8 x' y' h')
+
+-- the number of a RAM of a bank leaves room for its sixteen columns
+pub ram_of-below : (device : DeviceName) (x y : ℕ) → kind_of device x y ≡ Some RamB → 16 * ram_of device y + 16 ≤ bram_width device
+ram_of-below K1 x y h = grind (arith, nat_tests, lower-odd K1 x y h, lower-inner K1 x y h)
+ram_of-below K8 x y h = grind (arith, nat_tests, lower-odd K8 x y h, lower-inner K8 x y h)
+
+-- two RAMs in which one column of bits lies are one
+same_ram : (k l a b : ℕ) → a < 16 → b < 16 → 16 * k + 15 - a ≡ 16 * l + 15 - b → (k ≡ l) × (a ≡ b)
+same_ram k l a b ha hb e = (omega arith, omega arith)
+
+-- two words' bits with one place are one
+pub word_place_is_only : (device : DeviceName) (a b : WordBit) → IsWordBit device a → IsWordBit device b → word_place_of device b ≡ word_place_of device a → b ≡ a
+unfolding word_place_of
+word_place_is_only device a b ha hb e =
+    let bank : bank_of device b.x b.y ≡ bank_of device a.x a.y = ap (λ (p : Place). p.bank) e in
+    let column : 16 * ram_of device b.y + 15 - b.bit ≡ 16 * ram_of device a.y + 15 - a.bit = ap (λ (p : Place). p.px) e in
+    let word : b.word ≡ a.word = ap (λ (p : Place). p.py) e in
+    let halves = bank-same (is_top device b.y) (is_right device b.x) (is_top device a.y) (is_right device a.x) bank in
+    let parts = same_ram (ram_of device b.y) (ram_of device a.y) b.bit a.bit hb.bit_in ha.bit_in column in
+    let x : b.x ≡ a.x = lower-same_x device b.x b.y a.x a.y hb.lower ha.lower halves.1 in
+    let y : b.y ≡ a.y = lower-same_y device b.x b.y a.x a.y hb.lower ha.lower halves.0 parts.0 in
+    let bit : b.bit ≡ a.bit = parts.1 in
+    λ i. record { x = x i; y = y i; word = word i; bit = bit i }
+
+-- the column of RAM of a half
+abbrev column_in : DeviceName → Bool → ℕ
+column_in device right = if right then last_x device - ram_column device else ram_column device
+
+-- the row of a RAM of a half by its number
+abbrev row_in : DeviceName → Bool → ℕ → ℕ
+row_in device top k = if top then last_y device - 2 - 2 * k else 2 * k + 1
+
+kind_of-in : (device : DeviceName) (right top : Bool) (k : ℕ) → 16 * k < bram_width device → kind_of device (column_in device right) (row_in device top k) ≡ Some RamB
+unfolding kind_of
+kind_of-in K1 right top k h = grind (arith, nat_tests)
+kind_of-in K8 right top k h = grind (arith, nat_tests)
+
+is_right-in : (device : DeviceName) (right : Bool) → is_right device (column_in device right) ≡ right
+is_right-in K1 true = refl
+is_right-in K1 false = refl
+is_right-in K8 true = refl
+is_right-in K8 false = refl
+
+is_top-in : (device : DeviceName) (top : Bool) (k : ℕ) → 16 * k < bram_width device → is_top device (row_in device top k) ≡ top
+is_top-in K1 top k h = grind (arith, nat_tests)
+is_top-in K8 top k h = grind (arith, nat_tests)
+
+ram_of-in : (device : DeviceName) (top : Bool) (k : ℕ) → 16 * k < bram_width device → ram_of device (row_in device top k) ≡ k
+ram_of-in K1 top k h = grind (arith, nat_tests)
+ram_of-in K8 top k h = grind (arith, nat_tests)
+
+-- a bank by its halves
+bank-halves : (bank : ℕ) → bank < 4 → (top : Bool) × (right : Bool) × ((if top then 1 else 0) + (if right then 2 else 0) ≡ bank)
+bank-halves zero h = (false, false, refl)
+bank-halves (suc zero) h = (true, false, refl)
+bank-halves (suc (suc zero)) h = (false, true, refl)
+bank-halves (suc (suc (suc zero))) h = (true, true, refl)
+bank-halves (suc (suc (suc (suc n)))) h = absurd (omega arith)
+
+-- each place of the RAM planes is that of a bit of a word
+pub word_place_is_onto : (device : DeviceName) (at : Place) → IsInBram device at → (bit : WordBit) × IsWordBit device bit × (word_place_of device bit ≡ at)
+unfolding word_place_of
+word_place_is_onto device at h =
+    let halves = bank-halves at.bank h.bank_in in
+    let k = at.px / 16 in
+    let inside : 16 * k < bram_width device = omega (arith, h.px_in) in
+    let x = column_in device halves.1 in
+    let y = row_in device halves.0 k in
+    let bank : bank_of device x y ≡ at.bank =
+        (λ i. (if is_top-in device halves.0 k inside i then 1 else 0) + (if is_right-in device halves.1 i then 2 else 0)) ∙ halves.2
+    in
+    let px : 16 * ram_of device y + 15 - (15 - at.px % 16) ≡ at.px =
+        ap (λ n. 16 * n + 15 - (15 - at.px % 16)) (ram_of-in device halves.0 k inside) ∙ omega arith
+    in
+    let bit : WordBit = record { x = x; y = y; word = at.py; bit = 15 - at.px % 16 } in
+    let is_bit : IsWordBit device bit = record { lower = kind_of-in device halves.1 halves.0 k inside; word_in = h.py_in; bit_in = omega arith } in
+    let place : word_place_of device bit ≡ at = λ i. record { bank = bank i; px = px i; py = at.py } in
+    (bit, is_bit, place)

@@ -8,7 +8,7 @@ use std::alloc::{AllocError, Global};
 /// A plane of bits, `HEIGHT` rows by `WIDTH` columns.
 ///
 /// Position p of a plane is column `p % WIDTH` of row `p / WIDTH`.
-pub trait Bits: Sized {
+pub trait Bits: Sized + Drop {
     ghost WIDTH: { ℕ };
 
     ghost HEIGHT: { ℕ };

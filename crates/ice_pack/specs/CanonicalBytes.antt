@@ -4,12 +4,13 @@ use Rattle.std.specs.Int.{w16, to_be_bytes}
 use Rattle.bit_plane.specs.BitList.{bits_of, bytes_of, bit_value}
 use Rattle.bit_plane.specs.Rows.{Rows, flat}
 use Rattle.plane_map.specs.Layout.{cram_width, cram_height, bram_width}
+use Rattle.plane_map.specs.declared.device.DeviceName.{DeviceName}
 use Rattle.ice_pack.specs.CheckValue.{check_value}
-use Rattle.ice_pack.specs.Configuration.{Configuration}
+use Rattle.ice_pack.specs.Configuration.{Configuration, bank_rows}
 
 -- A command is a byte, its opcode in the high half and how many bytes of payload follow in the low half, and the payload.
 abbrev pub command : ℕ → List ℕ → List ℕ
-command opcode payload = 16 * opcode + length payload ∷ payload
+command opcode payload = (16 * opcode + length payload) ∷ payload
 
 -- a payload of two bytes, the high one first
 abbrev pub word : ℕ → List ℕ
@@ -26,7 +27,7 @@ reset_command = command 0 (5 ∷ [])
 
 -- bit 5 of the mode is the warm boot, bit 0 keeps the flash awake
 abbrev pub mode_command : Bool → Bool → List ℕ
-mode_command warm_boot no_sleep = command 9 (0 ∷ 32 * bit_value warm_boot + bit_value no_sleep ∷ [])
+mode_command warm_boot no_sleep = command 9 (0 ∷ (32 * bit_value warm_boot + bit_value no_sleep) ∷ [])
 
 abbrev pub bank_command : ℕ → List ℕ
 bank_command bank = command 1 (bank ∷ [])
@@ -60,33 +61,37 @@ cram_data rows = command 0 (1 ∷ []) ++ row_bytes rows ++ 0 ∷ 0 ∷ []
 abbrev pub bram_data : Rows → List ℕ
 bram_data rows = command 0 (3 ∷ []) ++ row_bytes rows ++ 0 ∷ 0 ∷ []
 
--- the plane of a bank
-abbrev pub bank_rows : List Rows → ℕ → Rows
-bank_rows planes bank = get_or planes bank []
-
-abbrev pub banks : List ℕ
-banks = 0 ∷ 1 ∷ 2 ∷ 3 ∷ []
+abbrev pub four_banks : List ℕ
+four_banks = 0 ∷ 1 ∷ 2 ∷ 3 ∷ []
 
 -- a bank's configuration plane, whole
 abbrev pub cram_bank : List Rows → ℕ → List ℕ
 cram_bank planes bank = bank_command bank ++ cram_data (bank_rows planes bank)
 
--- a bank's RAM plane, in two halves of 128 rows
+-- 128 rows of a bank's RAM plane, from an offset on
+abbrev pub bram_half : List Rows → ℕ → ℕ → List ℕ
+bram_half planes bank offset = offset_command offset ++ bram_data (take 128 (drop offset (bank_rows planes bank)))
+
+-- a bank's RAM plane, in two halves
 abbrev pub bram_bank : List Rows → ℕ → List ℕ
-bram_bank planes bank =
-    bank_command bank
-    ++ offset_command 0 ++ bram_data (take 128 (bank_rows planes bank))
-    ++ offset_command 128 ++ bram_data (drop 128 (bank_rows planes bank))
+bram_bank planes bank = bank_command bank ++ bram_half planes bank 0 ++ bram_half planes bank 128
+
+-- the configuration planes, with their size
+unfoldable pub cram_bytes : DeviceName → List Rows → List ℕ
+cram_bytes device planes =
+    width_command (cram_width device) ++ height_command (cram_height device) ++ offset_command 0
+    ++ flat_map (cram_bank planes) four_banks
+
+-- the RAM planes, with the size of their halves
+unfoldable pub bram_bytes : DeviceName → List Rows → List ℕ
+bram_bytes device planes =
+    width_command (bram_width device) ++ height_command 128
+    ++ flat_map (bram_bank planes) four_banks
 
 -- what the check covers: all from the reset on, the byte of the check's opcode included
 unfoldable pub checked_bytes : Configuration → List ℕ
 checked_bytes c =
-    mode_command c.warm_boot c.no_sleep
-    ++ width_command (cram_width c.device) ++ height_command (cram_height c.device) ++ offset_command 0
-    ++ flat_map (cram_bank c.cram) banks
-    ++ width_command (bram_width c.device) ++ height_command 128
-    ++ flat_map (bram_bank c.bram) banks
-    ++ check_opcode
+    mode_command c.warm_boot c.no_sleep ++ cram_bytes c.device c.cram ++ bram_bytes c.device c.bram ++ check_opcode
 
 -- before the preamble a comment stands between FF 00 and 00 FF, each line ended by 00
 abbrev pub comment_bytes : Option (List (List ℕ)) → List ℕ

@@ -1,4 +1,6 @@
 pub mod CheckValue
+pub mod Register
 pub mod Configuration
 pub mod CanonicalBytes
-pub mod TileText
+pub mod Opcodes
+-- pub mod TileText

@@ -1,0 +1,48 @@
+// The check value of bytes, a bit at a time in one register.
+ghost use Rattle.std.specs.Prelude.{◌≡◌, ◌<◌, ◌^◌, ◌/◌, ◌%◌, ◌==◌};
+ghost use Rattle.bit_plane.specs.BitList.{bits_of, byte_bits};
+ghost use Rattle.ice_pack.specs.CheckValue.{check_value};
+ghost use Rattle.ice_pack.specs.Register.{entered, entered_all};
+
+const DIVISOR: u16 = 0x1021;
+
+const START: u16 = 0xFFFF;
+
+/// The check value of bytes, the bits of each from the most significant on.
+pub fn check_value(bytes: &[u8]) -> u16
+    ensures { result ≡ check_value (bits_of bytes.now) }
+{
+    let mut value = START;
+    for byte in bytes {
+        value = enter_byte(value, *byte);
+    }
+    value
+}
+
+// The register after a byte has entered.
+fn enter_byte(value: u16, byte: u8) -> u16
+    ensures { result ≡ entered_all value (byte_bits byte) }
+{
+    let mut value = value;
+    for entered in 0..8 {
+        value = enter_bit(value, is_set(byte, 7 - entered));
+    }
+    value
+}
+
+// Whether the bit of value 2^place is 1.
+fn is_set(byte: u8, place: u32) -> bool
+    requires { place < 8 }
+    ensures { result ≡ (byte / 2 ^ place % 2 == 1) }
+{
+    byte >> place & 1 == 1
+}
+
+// The register after a bit has entered.
+fn enter_bit(value: u16, bit: bool) -> u16
+    ensures { result ≡ entered value bit }
+{
+    let top = value >= 0x8000;
+    let shifted = value << 1;
+    if top != bit { shifted ^ DIVISOR } else { shifted }
+}

@@ -1,3 +1,4 @@
 pub mod Bytes
-pub mod Grids
 pub mod Flats
+pub mod Grids
+pub mod Words

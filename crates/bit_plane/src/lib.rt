@@ -7,6 +7,8 @@
 mod bits;
 mod order;
 mod plane;
+mod tile;
 
 pub use bits::Bits;
 pub use plane::Plane;
+pub use tile::Tile;

@@ -1,0 +1,13 @@
+use Rattle.std.proofs.Common.{arith}
+use Rattle.std.proofs.Common.{subst}
+use Rattle.bit_plane.specs.Rows.{IsGrid}
+use Rattle.bit_plane.proofs.Words.{bit_at-words, IsGrid-words}
+use Rattle.bit_plane.proofs.tile.Tile.get.Goals as goal
+
+pub returns-clause-bit : goal.returns-clause-bit
+returns-clause-bit g c =
+    bit_at-words g.row.C c.self.inside.words c.args.self.now c.args.col c.args.row c.self.view_is (omega (arith, c.self.told)) c.requires.col
+
+pub returns-clause-grid : goal.returns-clause-grid
+returns-clause-grid g c =
+    subst (IsGrid g.row.C 16) c.self.view_is (IsGrid-words g.row.C 16 c.self.inside.words c.self.told)

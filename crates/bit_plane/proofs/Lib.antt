@@ -1,4 +1,6 @@
 pub mod Bytes
 pub mod Flats
 pub mod Grids
+pub mod Places
+pub mod TileRows
 pub mod Words

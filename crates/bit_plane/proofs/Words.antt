@@ -1,14 +1,82 @@
--- The words of a tile's rows, bit by bit.
-use Rattle.std.proofs.Common.{◌≡◌, ℕ, zero, suc, ◌+◌, ◌*◌, ◌/◌, ◌%◌, ◌^◌, ◌-◌, ◌<◌, ◌≤◌, ◌≢◌, ◌==◌, Bool, true, false, List, [], ◌∷◌, length, get_or, set, map, replicate, bit_and, bit_or, refl, sym, ap, ap₂, subst, inl, inr, ◌∙◌, arith, pow-suc, length-set, get_or-set_same, get_or-set_other, ext_get_or, w64}
-use Rattle.std.proofs.lemmas.Bool.{cases_eq}
-use Rattle.std.proofs.lemmas.List.{get_or-map, map-set, length-map}
-use Rattle.std.proofs.lemmas.Nat.{or_lt, pow_below, one_shl}
-use Rattle.std.proofs.lemmas.Nat.Bits.{bit_at_lowest, bit_at-suc, shr_and_one, bit_at_set_same, bit_at_set_other, bit_at_clear_same, bit_at_clear_other}
+-- Words and the bits that they are, the lowest first.
+use Rattle.std.proofs.Common.{◌≡◌, ℕ, zero, suc, ◌+◌, ◌-◌, ◌*◌, ◌/◌, ◌%◌, ◌==◌, ◌^◌, ◌<◌, ◌≤◌, Bool, true, false, List, [], ◌∷◌, ◌++◌, length, get_or, take, drop, refl, sym, ap, ◌∙◌, append_assoc, append-nil, arith, take_all, length-set, set, pow-suc, pow_mono, ◌≢◌, replicate, bit_and, bit_or, ap₂, subst, inl, inr, get_or-set_same, get_or-set_other, ext_get_or, w64}
+use mir.Val.{bool_byte}
+use Rattle.std.proofs.lemmas.List.{take_more_set, at_drop_more, at_drop_all}
 use Rattle.bit_plane.specs.BitList.{bit_value, word_bits, word_of}
-use Rattle.bit_plane.specs.Rows.{Rows, IsGrid, row_at, bit_at, with_row, with_bit, blank}
-use Rattle.bit_plane.proofs.Bytes.{length-word_bits}
+use Rattle.std.proofs.lemmas.Bool.{cases_eq}
+use Rattle.std.proofs.lemmas.Nat.{or_lt, pow_below, one_shl}
+use Rattle.std.proofs.lemmas.Nat.Bits.{bit_at_lowest, bit_at-suc, bit_at_set_same, bit_at_set_other, bit_at_clear_same, bit_at_clear_other}
 
--- ---- one word
+-- a bit is worth at most 1
+pub bit_value-le : (bit : Bool) → bit_value bit ≤ 1
+bit_value-le true = omega arith
+bit_value-le false = omega arith
+
+-- a word of so many bits is below that power of 2
+pub word_of-lt : (bits : List Bool) → word_of bits < 2 ^ length bits
+unfolding word_of
+word_of-lt [] = omega arith
+word_of-lt (bit ∷ bits) =
+    omega (arith, pow-suc 2 (length bits), bit_value-le bit, word_of-lt bits)
+
+-- sixty-four bits fit a word
+pub word_of-fits : (bits : List Bool) → length bits ≤ 64 → word_of bits < 2 ^ 64
+word_of-fits bits short =
+    omega (arith, word_of-lt bits, pow_mono {i = length bits} {j = 64} short)
+
+-- the word from a place on: its first bit, and twice the word behind it
+pub word_of-drop : (bits : List Bool) (i : ℕ) → i < length bits → word_of (drop i bits) ≡ bit_value (get_or bits i false) + 2 * word_of (drop (i + 1) bits)
+unfolding word_of
+word_of-drop bits i within = at_drop_more word_of bits i false within
+
+-- one bit before a word
+pub word_step : (bits : List Bool) (i word bit : ℕ) → 0 < i → i ≤ length bits → word ≡ word_of (drop i bits) → bit ≡ bit_value (get_or bits (i - 1) false) → 2 * word + bit ≡ word_of (drop (i - 1) bits)
+word_step bits i word bit some within word_is bit_is =
+    let e : i - 1 + 1 ≡ i = omega arith in
+    let next = word_of-drop bits (i - 1) (omega arith) in
+    let behind : word_of (drop (i - 1 + 1) bits) ≡ word = ap (λ n. word_of (drop n bits)) e ∙ sym word_is in
+    omega (arith, next, behind, bit_is)
+
+-- a bit as a number
+pub bool_byte-is : (bit : Bool) → bool_byte bit ≡ bit_value bit
+bool_byte-is true = refl
+bool_byte-is false = refl
+
+-- no bits are the word 0
+pub word_of-drop_all : (bits : List Bool) → word_of (drop (length bits) bits) ≡ 0
+unfolding word_of
+word_of-drop_all bits = at_drop_all word_of bits (length bits) (omega arith)
+
+-- as many bits as were asked for
+pub length-word_bits : (count n : ℕ) → length (word_bits count n) ≡ count
+unfolding word_bits
+length-word_bits zero n = refl
+length-word_bits (suc count) n = ap suc (length-word_bits count (n / 2))
+
+-- the lowest bit, and those of the half
+pub word_bits-more : (count n : ℕ) → 0 < count → word_bits count n ≡ (n % 2 == 1) ∷ word_bits (count - 1) (n / 2)
+unfolding word_bits
+word_bits-more zero n some = absurd (omega arith)
+word_bits-more (suc count) n some = let e : suc count - 1 ≡ count = omega arith in rw e refl
+
+-- no bits
+pub word_bits-zero : (n : ℕ) → word_bits 0 n ≡ []
+unfolding word_bits
+word_bits-zero n = refl
+
+-- one bit more of a word is written
+pub word_bits_step : (bits : List Bool) (i rest word : ℕ) → i < length bits → take i bits ++ word_bits (length bits - i) rest ≡ word_bits (length bits) word → take (i + 1) (set bits i (rest % 2 == 1)) ++ word_bits (length (set bits i (rest % 2 == 1)) - (i + 1)) (rest / 2) ≡ word_bits (length (set bits i (rest % 2 == 1))) word
+word_bits_step bits i rest word within before =
+    let left : length bits - i - 1 ≡ length bits - (i + 1) = omega arith in
+    let more : word_bits (length bits - i) rest ≡ (rest % 2 == 1) ∷ word_bits (length bits - (i + 1)) (rest / 2) = word_bits-more (length bits - i) rest (omega arith) ∙ ap (λ n. (rest % 2 == 1) ∷ word_bits n (rest / 2)) left in
+    rw (length-set bits i (rest % 2 == 1), take_more_set bits i (rest % 2 == 1) within, append_assoc (take i bits) ((rest % 2 == 1) ∷ []) (word_bits (length bits - (i + 1)) (rest / 2))) (ap (λ back. take i bits ++ back) (sym more) ∙ before)
+
+-- all bits of a word are written
+pub word_bits_end : (bits : List Bool) (i rest word : ℕ) → length bits ≤ i → take i bits ++ word_bits (length bits - i) rest ≡ word_bits (length bits) word → bits ≡ word_bits (length bits) word
+word_bits_end bits i rest word past whole =
+    let none : length bits - i ≡ 0 = omega arith in
+    let front : take i bits ++ word_bits (length bits - i) rest ≡ bits = rw (none, word_bits-zero rest, take_all i bits past) (append-nil bits) in
+    sym front ∙ whole
 
 -- place i of a word's bits is whether it has the bit of value 2 ^ i
 pub get_or-word_bits : (count n i : ℕ) → i < count → get_or (word_bits count n) i false ≡ (n / 2 ^ i % 2 == 1)
@@ -23,6 +91,11 @@ pub bit_value-test : (m : ℕ) → m < 2 → bit_value (m == 1) ≡ m
 bit_value-test zero small = refl
 bit_value-test (suc zero) small = refl
 bit_value-test (suc (suc m)) small = absurd (omega arith)
+
+-- the test of a bit as a number
+pub test-bit_value : (bit : Bool) → (bit_value bit == 1) ≡ bit
+test-bit_value true = refl
+test-bit_value false = refl
 
 -- a number has the word of its bits
 pub word_of-word_bits : (count n : ℕ) → n < 2 ^ count → word_of (word_bits count n) ≡ n
@@ -81,38 +154,3 @@ pub set-lt : (count n col : ℕ) → count ≤ 64 → col < count → n < 2 ^ co
 set-lt count n col short within small =
     let one : 1 * 2 ^ col % 2 ^ 64 ≡ 2 ^ col = one_shl col 64 (omega arith) in
     rw one (or_lt count n (2 ^ col) small (pow_below col count within))
-
--- ---- the words of rows
-
--- as many bits in each row as were asked for
-pub IsGrid-words : (width height : ℕ) (words : List ℕ) → length words ≡ height → IsGrid width height (map (word_bits width) words)
-IsGrid-words width height words tall = record {
-  height_is = length-map words (word_bits width) ∙ tall;
-  width_is = λ y within.
-      ap length (get_or-map (word_bits width) words y 0 [] (omega arith)) ∙ length-word_bits width (get_or words y 0);
-}
-
--- the words 0 are blank
-pub words-zeros : (width height : ℕ) → replicate height (word_bits width 0) ≡ blank width height
-unfolding blank
-words-zeros width height = ap (replicate height) (word_bits-zeros width)
-
--- a bit is that of the row's word
-pub bit_at-words : (width : ℕ) (words : List ℕ) (rows : Rows) (x y : ℕ) → map (word_bits width) words ≡ rows → y < length words → x < width → (bit_and (get_or words y 0 / 2 ^ x) 1 == 1) ≡ bit_at rows x y
-bit_at-words width words rows x y view row column =
-    ap (λ m. m == 1) (shr_and_one (get_or words y 0) x) ∙ sym (get_or-word_bits width (get_or words y 0) x column) ∙ sym (ap (λ bits. get_or bits x false) (get_or-map (word_bits width) words y 0 [] row)) ∙ ap (λ rows. bit_at rows x y) view
-
--- a row's word is that of its bits
-pub row_at-words : (width : ℕ) (words : List ℕ) (rows : Rows) (y : ℕ) → map (word_bits width) words ≡ rows → y < length words → get_or words y 0 < 2 ^ width → get_or words y 0 ≡ word_of (row_at rows y)
-row_at-words width words rows y view row small =
-    sym (word_of-word_bits width (get_or words y 0) small) ∙ sym (ap word_of (get_or-map (word_bits width) words y 0 [] row)) ∙ ap (λ rows. word_of (row_at rows y)) view
-
--- to give a row another word is to give it that word's bits
-pub with_row-words : (width : ℕ) (words : List ℕ) (rows : Rows) (y word : ℕ) → map (word_bits width) words ≡ rows → map (word_bits width) (set words y word) ≡ with_row rows y (word_bits width word)
-with_row-words width words rows y word view =
-    map-set (word_bits width) words y word ∙ ap (λ rows. with_row rows y (word_bits width word)) view
-
--- to give a row a word with another bit is to give it that bit
-pub with_bit-words : (width : ℕ) (words : List ℕ) (rows : Rows) (x y word : ℕ) (bit : Bool) → map (word_bits width) words ≡ rows → y < length words → word_bits width word ≡ set (word_bits width (get_or words y 0)) x bit → map (word_bits width) (set words y word) ≡ with_bit rows x y bit
-with_bit-words width words rows x y word bit view row other =
-    with_row-words width words rows y word view ∙ ap (with_row rows y) (other ∙ ap (λ bits. set bits x bit) (sym (get_or-map (word_bits width) words y 0 [] row) ∙ ap (λ rows. row_at rows y) view))

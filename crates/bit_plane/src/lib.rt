@@ -12,3 +12,6 @@ mod tile;
 pub use bits::Bits;
 pub use plane::Plane;
 pub use tile::Tile;
+
+#[cfg(test)]
+mod tests;

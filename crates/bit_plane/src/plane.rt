@@ -52,11 +52,11 @@ impl<const W: usize, const H: usize> Bits for Plane<W, H> {
         order::take_byte(&self.bits, position)
     }
 
-    fn put_bytes(&mut self, first: usize, count: usize, bytes: &[u8]) {
+    fn put_bytes(&mut self, first: usize, _count: usize, bytes: &[u8]) {
         order::put_bytes(&mut self.bits, first * W, bytes);
     }
 
-    fn take_bytes(&self, first: usize, count: usize, out: &mut [u8]) {
+    fn take_bytes(&self, first: usize, _count: usize, out: &mut [u8]) {
         order::take_bytes(&self.bits, first * W, out);
     }
 

@@ -1,6 +1,6 @@
 use Rattle.std.proofs.Common.{ap, ◌∙◌, arith}
 use Rattle.bit_plane.specs.BitList.{word_bits}
-use Rattle.bit_plane.proofs.Bytes.{word_bits_step, word_bits_end}
+use Rattle.bit_plane.proofs.Words.{word_bits_step, word_bits_end}
 use Rattle.bit_plane.proofs.order.fill_word.Goals as goal
 
 pub loop-bit-preserved : goal.loop-bit-preserved

@@ -1,7 +1,8 @@
 use Rattle.std.proofs.Common.{◌≡◌, ◌+◌, ◌*◌, sym, ap, ◌∙◌, arith}
 use Rattle.std.proofs.Common.{get_or, length, take, length-take-le}
 use Rattle.bit_plane.specs.BitList.{byte_bits, bits_of, placed}
-use Rattle.bit_plane.proofs.Bytes.{length-bits_of, bits_of-take, placed-more}
+use Rattle.bit_plane.proofs.Bytes.{length-bits_of, bits_of-take}
+use Rattle.bit_plane.proofs.Places.{placed-more}
 use Rattle.bit_plane.proofs.order.put_bytes.Goals as goal
 
 pub loop-index-preserved : goal.loop-index-preserved

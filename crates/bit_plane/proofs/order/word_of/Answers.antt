@@ -1,6 +1,6 @@
 use Rattle.std.proofs.Common.{sym, ◌∙◌, arith}
 use Rattle.std.proofs.Common.{◌-◌, drop, refl, length-drop}
-use Rattle.bit_plane.proofs.Bytes.{word_of-drop_all, word_of-fits, word_step, bool_byte-is}
+use Rattle.bit_plane.proofs.Words.{word_of-drop_all, word_of-fits, word_step, bool_byte-is}
 use Rattle.bit_plane.proofs.order.word_of.Goals as goal
 
 pub loop-index-init : goal.loop-index-init

@@ -1,7 +1,7 @@
 use Rattle.std.proofs.Common.{arith}
 use Rattle.std.proofs.Common.{subst}
 use Rattle.bit_plane.specs.Rows.{IsGrid}
-use Rattle.bit_plane.proofs.Words.{bit_at-words, IsGrid-words}
+use Rattle.bit_plane.proofs.TileRows.{bit_at-words, IsGrid-words}
 use Rattle.bit_plane.proofs.tile.Tile.get.Goals as goal
 
 pub returns-clause-bit : goal.returns-clause-bit

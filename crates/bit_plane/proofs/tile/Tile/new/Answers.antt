@@ -1,4 +1,4 @@
-use Rattle.bit_plane.proofs.Words.{words-zeros}
+use Rattle.bit_plane.proofs.TileRows.{words-zeros}
 use Rattle.bit_plane.proofs.tile.Tile.new.Goals as goal
 
 pub returns : goal.returns

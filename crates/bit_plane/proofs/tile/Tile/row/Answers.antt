@@ -1,7 +1,7 @@
 use Rattle.std.proofs.Common.{arith}
 use Rattle.std.proofs.Common.{subst}
 use Rattle.bit_plane.specs.Rows.{IsGrid}
-use Rattle.bit_plane.proofs.Words.{row_at-words, IsGrid-words}
+use Rattle.bit_plane.proofs.TileRows.{row_at-words, IsGrid-words}
 use Rattle.bit_plane.proofs.tile.Tile.row.Goals as goal
 
 pub returns-clause-word : goal.returns-clause-word

@@ -2,7 +2,8 @@ use Rattle.std.proofs.Common.{sym, ap, ◌∙◌, arith}
 use Rattle.std.proofs.Common.{◌<◌, ◌^◌, get_or, set}
 use Rattle.std.proofs.lemmas.List.Elements.{All-set}
 use Rattle.bit_plane.specs.BitList.{word_bits}
-use Rattle.bit_plane.proofs.Words.{with_bit-words, word_bits-set, word_bits-clear, set-lt}
+use Rattle.bit_plane.proofs.TileRows.{with_bit-words}
+use Rattle.bit_plane.proofs.Words.{word_bits-set, word_bits-clear, set-lt}
 use Rattle.bit_plane.proofs.tile.Tile.set.Goals as goal
 
 pub invariant_of-self : goal.invariant_of-self

@@ -1,4 +1,4 @@
-use Rattle.bit_plane.proofs.Words.{with_row-words}
+use Rattle.bit_plane.proofs.TileRows.{with_row-words}
 use Rattle.bit_plane.proofs.tile.Tile.set_row.Goals as goal
 
 pub returns : goal.returns

@@ -38,3 +38,13 @@ flat (row ∷ rows) = row ++ flat rows
 unfoldable pub rows_of : ℕ → ℕ → List Bool → Rows
 rows_of width zero bits = []
 rows_of width (suc height) bits = take width bits ∷ rows_of width height (drop width bits)
+
+-- the bits of a row, from the bit of each column
+unfoldable pub row_from : ℕ → (ℕ → Bool) → List Bool
+row_from zero bit = []
+row_from (suc width) bit = row_from width bit ++ bit width ∷ []
+
+-- the rows, from the bit of each column and row
+unfoldable pub rows_from : ℕ → ℕ → (ℕ → ℕ → Bool) → Rows
+rows_from width zero bit = []
+rows_from width (suc height) bit = rows_from width height bit ++ row_from width (λ x. bit x height) ∷ []

@@ -3,4 +3,4 @@ pub mod Register
 pub mod Configuration
 pub mod CanonicalBytes
 pub mod Opcodes
--- pub mod TileText
+pub mod TileText

@@ -4,3 +4,4 @@
 mod banks;
 mod check_value;
 mod stream;
+mod tile_text;

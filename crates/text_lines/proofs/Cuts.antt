@@ -86,3 +86,17 @@ position_or_len-none test bytes none =
       | inl lt ↦ let chosen : position test bytes ≡ Some (position_or_len test bytes) = rw (lt-ltb (position_or_len test bytes) (length bytes) lt) refl in absurd cc
       | inr le ↦ omega arith
     ]
+
+some_with_byte : (byte : ℕ) (words : List (List ℕ)) → 0 < length (with_byte byte words)
+some_with_byte byte [] = omega arith
+some_with_byte byte (word ∷ words) = omega arith
+
+-- each line has a word, be it empty
+pub some_word : (line : List ℕ) → 0 < length (words_of line)
+unfolding words_of
+some_word [] = omega arith
+some_word (byte ∷ bytes) =
+    elim (byte == 32) as (λ t. 0 < length (cond t ([] ∷ words_of bytes) (with_byte byte (words_of bytes)))) [
+      | true ↦ omega arith
+      | false ↦ some_with_byte byte (words_of bytes)
+    ]

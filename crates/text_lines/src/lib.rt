@@ -5,4 +5,4 @@ mod lines;
 mod words;
 
 pub use lines::first_line;
-pub use words::{split_space, number};
+pub use words::{number, split_space, three_words};

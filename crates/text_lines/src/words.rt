@@ -1,5 +1,5 @@
 // Words of a line, and the numbers that they write.
-ghost use Rattle.std.specs.Prelude.{◌≡◌, ◌∷◌, [], ◌<◌, ◌^◌, length, true, MatchOption};
+ghost use Rattle.std.specs.Prelude.{◌≡◌, ◌∷◌, [], ◌<◌, ◌^◌, ◌≢◌, length, true, MatchOption};
 ghost use Rattle.std.specs.Char.{is_ascii_digit};
 ghost use Rattle.std.specs.List.{list_all};
 ghost use Rattle.text_lines.specs.Words.{words_of, is_number, number_of, digits_value};
@@ -16,6 +16,24 @@ pub fn split_space(line: &[u8]) -> Option<(&[u8], &[u8])>
         Some((&line[..end], &line[end + 1..]))
     } else {
         None
+    }
+}
+
+#[tactic(auto, using(crate::proofs::Cuts::some_word))]
+/// The three words of a line: none where there are fewer or more.
+pub fn three_words(line: &[u8]) -> Option<(&[u8], &[u8], &[u8])>
+    ensures { MatchOption result (length (words_of line.now) ≢ 3)
+        (λ words. words_of line.now ≡ words.0.now ∷ words.1.now ∷ words.2.now ∷ []) }
+{
+    match split_space(line) {
+        None => None,
+        Some((first, rest)) => match split_space(rest) {
+            None => None,
+            Some((second, third)) => match split_space(third) {
+                None => Some((first, second, third)),
+                Some(_) => None,
+            },
+        },
     }
 }
 

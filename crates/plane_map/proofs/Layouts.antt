@@ -7,7 +7,7 @@ use Rattle.plane_map.specs.declared.tile.TileBit.{TileBit}
 use Rattle.plane_map.specs.declared.tile.Place.{Place}
 use Rattle.plane_map.specs.Layout.{kind_of, columns_at, width_of, start_of, pad_column, pad_row, pad_columns, pad_rows, is_side, is_end, is_right, is_top, from_side, from_end, bank_of, column_of, row_of, place_of, last_x, last_y, grid_width, grid_height, cram_width, cram_height, IsTileBit}
 use Rattle.plane_map.proofs.Widths.{AreStarts, start-later, same_column, start-at_most}
-use Rattle.plane_map.proofs.Entries.{get_or-distinct, get_or-below}
+use Rattle.plane_map.proofs.Entries.{get_or-distinct, get_or-below, have_all-get_or}
 
 -- each column of tiles starts where the one before it ends
 pub are_starts : (device : DeviceName) → AreStarts (start_of device) (width_of device)
@@ -41,6 +41,11 @@ pad_row-same a b ha hb e = get_or-distinct pad_rows refl a b ha hb e
 pub pad_row_below : (row : ℕ) → row < 16 → pad_row row < 16
 unfolding pad_rows
 pad_row_below row h = get_or-below 16 pad_rows refl row h
+
+-- every row of bits is one
+pub pad_row-onto : (n : ℕ) → n < 16 → (row : ℕ) × (row < 16) × (pad_row row ≡ n)
+unfolding pad_rows
+pad_row-onto n h = have_all-get_or 16 pad_rows refl n h
 
 -- how far a bit is from the start of its column of tiles
 abbrev pub offset : Bool → Bool → ℕ → ℕ → ℕ

@@ -1,10 +1,10 @@
 // The columns of bits that the columns of tiles take, from a side edge inwards.
-ghost use Rattle.std.specs.Prelude.{◌≡◌, ◌-◌, ◌<◌, true, false, if◌then◌else◌};
-ghost use Rattle.plane_map.specs.Layout.{width_of, start_of, pad_column, column_of, cram_width, IsTileBit};
+ghost use Rattle.std.specs.Prelude.{◌≡◌, ◌≢◌, ℕ, ◌+◌, ◌-◌, ◌/◌, ◌<◌, ◌≤◌, IfNone, IfSome, true, false, if◌then◌else◌};
+ghost use Rattle.plane_map.specs.Layout.{grid_width, width_of, start_of, pad_column, column_of, cram_width, IsTileBit};
 
 use crate::device::DeviceName;
 use crate::grid::{columns_outside, is_mirrored, on_end};
-use crate::pads::column_of_pad;
+use crate::pads::{column_of_pad, pad_at_column};
 use crate::tile::TileBit;
 
 /// How many columns of bits a column of tiles takes.
@@ -58,5 +58,51 @@ fn offset_in(width: u32, end: bool, mirrored: bool, col: u8) -> u32
         width - 1 - col as u32
     } else {
         col as u32
+    }
+}
+
+/// A column of bits by its column of tiles.
+#[derive(Clone, Copy)]
+pub(crate) struct TileColumn {
+    /// How far the column of tiles is from its side edge.
+    pub(crate) outside: u32,
+    /// How far the column of bits is from the start of its column of tiles.
+    pub(crate) offset: u32,
+}
+
+/// The column of tiles that takes a column of bits, if one does.
+#[tactic(auto, unfolding(crate::specs::Layout::start_of))]
+pub(crate) fn column_with(device: DeviceName, px: u32) -> Option<TileColumn>
+    ensures none { IfNone result (start_of device (grid_width device / 2) ≤ px) }
+    ensures in_half { IfSome result (λ column. column.outside < grid_width device / 2) }
+    ensures in_column { IfSome result (λ column. column.offset < width_of device column.outside) }
+    ensures value { IfSome result (λ column. start_of device column.outside + column.offset ≡ px) }
+{
+    let mut offset = px;
+    for outside in 0..device.columns() / 2 {
+        let width = column_width(device, outside);
+        if offset < width {
+            return Some(TileColumn { outside, offset });
+        }
+        offset -= width;
+    }
+    None
+}
+
+/// The column of a tile that is so far from the start of its column of tiles, if there is one.
+pub(crate) fn col_at(width: u32, end: bool, mirrored: bool, offset: u32) -> Option<u8>
+    requires width { width ≤ 54 }
+    requires offset { offset < width }
+    ensures none { IfNone result ((end ≡ true) × ((col : ℕ) → col < 18 → pad_column col ≢ offset)) }
+    ensures end { IfSome result (λ col. end ≡ true → col < 18) }
+    ensures inner { IfSome result (λ col. end ≡ false → col < width) }
+    ensures value { IfSome result (λ col. (if end then pad_column col else if mirrored then width - 1 - col else col) ≡ offset) }
+{
+    if end {
+        pad_at_column(offset)
+    } else if mirrored {
+        Some((width - 1 - offset) as u8)
+    } else {
+        Some(offset as u8)
     }
 }

@@ -1,5 +1,5 @@
 // The grid of tiles, its edges and its halves.
-ghost use Rattle.std.specs.Prelude.{◌≡◌, ◌+◌, ◌<◌, ◌≤◌, ◌||◌};
+ghost use Rattle.std.specs.Prelude.{◌≡◌, ◌+◌, ◌/◌, ◌%◌, ◌<◌, ◌≤◌, ◌||◌, ◌==◌, nat_le};
 ghost use Rattle.plane_map.specs.Layout.{kind_of, columns_of, is_side, is_end, is_right, is_top, grid_width, grid_height, bank_of, from_side, from_end, ram_of};
 
 use crate::device::DeviceName;
@@ -108,4 +108,24 @@ pub(crate) fn ram_at(device: DeviceName, y: u32) -> u32
     } else {
         (y - 1) / 2
     }
+}
+
+/// The column of tiles of a bank that is so far from its side edge.
+pub(crate) fn x_of(device: DeviceName, bank: u8, outside: u32) -> u32
+    requires { outside < grid_width device / 2 }
+    ensures in_grid { result < grid_width device }
+    ensures half { is_right device result ≡ nat_le 2 bank }
+    ensures outside { from_side device result ≡ outside }
+{
+    if bank >= 2 { device.columns() - 1 - outside } else { outside }
+}
+
+/// The row of tiles of a bank that is so far from its end edge.
+pub(crate) fn y_of(device: DeviceName, bank: u8, outside: u32) -> u32
+    requires { outside < grid_height device / 2 }
+    ensures in_grid { result < grid_height device }
+    ensures half { is_top device result ≡ (bank % 2 == 1) }
+    ensures outside { from_end device result ≡ outside }
+{
+    if bank % 2 == 1 { device.rows() - 1 - outside } else { outside }
 }

@@ -10,5 +10,5 @@ mod rows;
 mod tile;
 
 pub use device::{Device, DeviceName, Hx1k, Hx8k};
-pub use place::{bram_place, cram_place, kind_at, tile_width};
+pub use place::{bram_place, cram_place, kind_at, owner_of, tile_width};
 pub use tile::{Place, RowCol, TileBit, TileKind, WordBit};

@@ -1,5 +1,5 @@
 // Where the bits of an io tile of the bottom and the top row lie.
-ghost use Rattle.std.specs.Prelude.{◌≡◌, ◌<◌};
+ghost use Rattle.std.specs.Prelude.{◌≡◌, ◌≢◌, ℕ, ◌<◌, length, slice_index, MatchOption};
 ghost use Rattle.plane_map.specs.Layout.{pad_column, pad_row};
 
 /// The column of bits of each column of an io tile, from the start of its column of tiles.
@@ -22,4 +22,34 @@ pub(crate) fn row_of_pad(row: u8) -> u8
     ensures { result ≡ pad_row row }
 {
     PAD_ROWS[row as usize]
+}
+
+/// The column of an io tile that takes a column of bits, if one does.
+#[tactic(auto, unfolding(crate::specs::Layout::pad_columns))]
+pub(crate) fn pad_at_column(column: u32) -> Option<u8>
+    ensures { MatchOption result ((col : ℕ) → col < 18 → pad_column col ≢ column) (λ col. (col < 18) × (pad_column col ≡ column)) }
+{
+    let col = index_of(&PAD_COLUMNS, column)?;
+    Some(col as u8)
+}
+
+/// The row of an io tile that takes a row of bits, counted from the inner end.
+#[tactic(auto, unfolding(crate::specs::Layout::pad_rows))]
+pub(crate) fn pad_at_row(row: u32) -> u8
+    requires { row < 16 }
+    ensures in_tile { result < 16 }
+    ensures value { pad_row result ≡ row }
+{
+    match index_of(&PAD_ROWS, row) {
+        Some(index) => index as u8,
+        None => unreachable!(),
+    }
+}
+
+/// The first index at which an entry stands.
+fn index_of(entries: &[u8], entry: u32) -> Option<usize>
+    ensures { MatchOption result ((k : ℕ) → k < length entries.now → slice_index entries.now k ≢ entry)
+        (λ index. (index < length entries.now) × (slice_index entries.now index ≡ entry)) }
+{
+    entries.iter().position(|x| u32::from(*x) == entry)
 }

@@ -3,9 +3,9 @@ ghost use Rattle.std.specs.Prelude.{◌≡◌, ◌<◌, Option, Some, MatchOptio
 ghost use Rattle.plane_map.specs.Layout.{kind_of, columns_of, columns_at, place_of, word_place_of, IsTileBit, IsWordBit, IsInCram, IsInBram, IsExtraBit};
 
 use crate::device::{Device, DeviceName};
-use crate::columns::column_at;
-use crate::grid::{bank_at, kind_on, ram_at};
-use crate::rows::row_at;
+use crate::columns::{col_at, column_at, column_width, column_with};
+use crate::grid::{bank_at, in_top, is_mirrored, kind_on, on_end, ram_at, x_of, y_of};
+use crate::rows::{row_at, row_with};
 use crate::tile::{Place, TileBit, TileKind, WordBit};
 
 /// The tile at a place of the grid: none at a corner or outside.
@@ -54,6 +54,14 @@ pub fn bram_place<D: Device>(x: u8, y: u8, word: u8, bit: u8) -> Place
     place_of_word(D::device_name(), WordBit { x, y, word, bit })
 }
 
+/// The one bit of a tile that lies at a place of the configuration planes: none at an extra bit.
+pub fn owner_of<D: Device>(at: Place) -> Option<TileBit>
+    requires { IsInCram D.NAME at }
+    ensures { MatchOption result (IsExtraBit D.NAME at) (λ bit. IsTileBit D.NAME bit × (place_of D.NAME bit ≡ at)) }
+{
+    owner_on(D::device_name(), at)
+}
+
 /// Where a bit of a tile lies in the configuration planes of a device.
 #[tactic(auto, using(crate::proofs::Layouts::place_is_only), unfolding(crate::specs::Layout::place_of))]
 fn place_on(device: DeviceName, bit: TileBit) -> Place
@@ -83,4 +91,20 @@ fn place_of_word(device: DeviceName, at: WordBit) -> Place
         px: (16 * ram_at(device, y) + 15 - at.bit as u32) as u16,
         py: at.word as u16,
     }
+}
+
+/// The one bit of a tile of a device that lies at a place of the configuration planes.
+fn owner_on(device: DeviceName, at: Place) -> Option<TileBit>
+    requires { IsInCram device at }
+    ensures { MatchOption result (IsExtraBit device at) (λ bit. IsTileBit device bit × (place_of device bit ≡ at)) }
+{
+    let column = column_with(device, at.px as u32)?;
+    let x = x_of(device, at.bank, column.outside);
+    let y = y_of(device, at.bank, at.py as u32 / 16);
+    let _kind = kind_on(device, x, y)?;
+    let end = on_end(device, y);
+    let width = column_width(device, column.outside);
+    let col = col_at(width, end, is_mirrored(device, x), column.offset)?;
+    let row = row_with(end, in_top(device, y), at.py as u32 % 16);
+    Some(TileBit { x: x as u8, y: y as u8, row, col })
 }

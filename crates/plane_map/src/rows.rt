@@ -4,7 +4,7 @@ ghost use Rattle.plane_map.specs.Layout.{pad_row, row_of, cram_height, IsTileBit
 
 use crate::device::DeviceName;
 use crate::grid::{in_top, on_end, rows_outside};
-use crate::pads::row_of_pad;
+use crate::pads::{pad_at_row, row_of_pad};
 use crate::tile::TileBit;
 
 /// The row of bits that a bit of a tile takes.
@@ -25,4 +25,14 @@ fn height_in(end: bool, top: bool, row: u8) -> u32
 {
     let row = if end { row_of_pad(row) } else { row };
     if end || top { 15 - row as u32 } else { row as u32 }
+}
+
+/// The row of a tile that is so far from the start of its row of tiles.
+pub(crate) fn row_with(end: bool, top: bool, height: u32) -> u8
+    requires { height < 16 }
+    ensures in_tile { result < 16 }
+    ensures value { (if end then 15 - pad_row result else if top then 15 - result else result) ≡ height }
+{
+    let row = if end || top { 15 - height } else { height };
+    if end { pad_at_row(row) } else { row as u8 }
 }

@@ -61,6 +61,10 @@ offset-below true mirrored width col h = omega (arith, pad_column-below col h.0)
 offset-below false true width col h = omega arith
 offset-below false false width col h = h
 
+pub offset-end : (end mirrored : Bool) (width col : ℕ) → end ≡ true → offset end mirrored width col ≡ pad_column col
+offset-end true mirrored width col e = refl
+offset-end false mirrored width col e = absurd (cc)
+
 pub offset-same : (end mirrored : Bool) (width a b : ℕ) → FitsColumn end width a → FitsColumn end width b → offset end mirrored width a ≡ offset end mirrored width b → a ≡ b
 offset-same true mirrored width a b ha hb e = pad_column-same a b ha.0 hb.0 e
 offset-same false true width a b ha hb e = omega arith
@@ -189,14 +193,19 @@ pub from_end-below : (device : DeviceName) (y : ℕ) → y < grid_height device 
 from_end-below K1 y h = grind (arith, nat_tests)
 from_end-below K8 y h = grind (arith, nat_tests)
 
--- a bit of a tile lies in the planes
-pub column_of-below : (device : DeviceName) (bit : TileBit) → IsPlaced device bit → column_of device bit < cram_width device
-column_of-below device bit h =
+-- a bit of a tile lies before the end of the last column of tiles of its half
+pub column_of-before : (device : DeviceName) (bit : TileBit) → IsPlaced device bit → column_of device bit < start_of device (half_width device)
+column_of-before device bit h =
     let u = from_side device bit.x in
     let inside : offset_of device bit < width_of device u = offset-below _ _ _ bit.col h.fits in
     let before : start_of device u + width_of device u ≤ start_of device (half_width device) =
-        start-later (start_of device) (width_of device) (are_starts device) u (half_width device) (from_side-below device bit.x h.x_in) in
-    omega (arith, column_of-is device bit h, inside, before, start_of-half device)
+        start-later (start_of device) (width_of device) (are_starts device) u (half_width device) (from_side-below device bit.x h.x_in)
+    in
+    omega (arith, column_of-is device bit h, inside, before)
+
+-- a bit of a tile lies in the planes
+pub column_of-below : (device : DeviceName) (bit : TileBit) → IsPlaced device bit → column_of device bit < cram_width device
+column_of-below device bit h = omega (arith, column_of-before device bit h, start_of-half device)
 
 pub row_of-below : (device : DeviceName) (bit : TileBit) → IsPlaced device bit → row_of device bit < cram_height device
 row_of-below device bit h =

@@ -2,3 +2,4 @@ pub mod Widths
 pub mod Entries
 pub mod Layouts
 pub mod Words
+pub mod Owners

@@ -3,3 +3,4 @@ pub mod Entries
 pub mod Layouts
 pub mod Words
 pub mod Owners
+mod Worked

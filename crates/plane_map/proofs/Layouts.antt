@@ -7,7 +7,8 @@ use Rattle.plane_map.specs.declared.tile.TileBit.{TileBit}
 use Rattle.plane_map.specs.declared.tile.Place.{Place}
 use Rattle.plane_map.specs.Layout.{kind_of, columns_at, width_of, start_of, pad_column, pad_row, pad_columns, pad_rows, is_side, is_end, is_right, is_top, from_side, from_end, bank_of, column_of, row_of, place_of, last_x, last_y, grid_width, grid_height, cram_width, cram_height, IsTileBit}
 use Rattle.plane_map.proofs.Widths.{AreStarts, start-later, same_column, start-at_most}
-use Rattle.plane_map.proofs.Entries.{get_or-distinct, get_or-below, have_all-get_or}
+use Rattle.plane_map.proofs.Entries.{have_all-get_or}
+use Rattle.plane_map.proofs.Offsets.{ArePads, pad-below, offset, offset-below, offset-same, offset-is, FitsColumn, fits-end, fits-inner, height, height-below, height-same, height-is, same_row, bank-same, mirror-same}
 
 -- each column of tiles starts where the one before it ends
 pub are_starts : (device : DeviceName) → AreStarts (start_of device) (width_of device)
@@ -22,102 +23,45 @@ width_of_at_most device u = grind (arith, nat_tests)
 pub start_of_at_most : (device : DeviceName) (u : ℕ) → start_of device u ≤ 54 * u
 start_of_at_most device u = start-at_most (start_of device) (width_of device) (are_starts device) 54 (width_of_at_most device) u
 
--- different columns of an io tile of an end row take different columns of bits
-pub pad_column-same : (a b : ℕ) → a < 18 → b < 18 → pad_column a ≡ pad_column b → a ≡ b
+-- the columns of bits of the eighteen columns of an io tile of an end row, which each column of tiles but the edge has
+pub are_pad_columns : ArePads pad_columns 18 42
 unfolding pad_columns
-pad_column-same a b ha hb e = get_or-distinct pad_columns refl a b ha hb e
+are_pad_columns = record { count_is = refl; are_different = refl; are_low = refl }
 
--- an io tile of an end row takes columns of bits that each column of tiles but the edge has
-pub pad_column-below : (col : ℕ) → col < 18 → pad_column col < 42
-unfolding pad_columns
-pad_column-below col h = get_or-below 42 pad_columns refl col h
-
--- different rows of an io tile of an end row take different rows of bits
-pub pad_row-same : (a b : ℕ) → a < 16 → b < 16 → pad_row a ≡ pad_row b → a ≡ b
+-- the rows of bits of its sixteen rows
+pub are_pad_rows : ArePads pad_rows 16 16
 unfolding pad_rows
-pad_row-same a b ha hb e = get_or-distinct pad_rows refl a b ha hb e
+are_pad_rows = record { count_is = refl; are_different = refl; are_low = refl }
 
--- they are the rows of bits of a row of tiles
 pub pad_row_below : (row : ℕ) → row < 16 → pad_row row < 16
-unfolding pad_rows
-pad_row_below row h = get_or-below 16 pad_rows refl row h
+pad_row_below row h = pad-below pad_rows 16 16 are_pad_rows row h
 
--- every row of bits is one
+-- they are all the rows of bits of a row of tiles
 pub pad_row-onto : (n : ℕ) → n < 16 → (row : ℕ) × (row < 16) × (pad_row row ≡ n)
 unfolding pad_rows
 pad_row-onto n h = have_all-get_or 16 pad_rows refl n h
 
 -- how far a bit is from the start of its column of tiles
-abbrev pub offset : Bool → Bool → ℕ → ℕ → ℕ
-offset end mirrored width col = if end then pad_column col else if mirrored then width - 1 - col else col
+abbrev pub offset_in : Bool → Bool → ℕ → ℕ → ℕ
+offset_in end mirrored width col = offset pad_columns end mirrored width col
 
--- a column that a tile has, by whether it is an io tile of an end row
-abbrev pub FitsColumn : Bool → ℕ → ℕ → Type 0
-FitsColumn true width col = (col < 18) × (42 ≤ width)
-FitsColumn false width col = col < width
-
-pub offset-below : (end mirrored : Bool) (width col : ℕ) → FitsColumn end width col → offset end mirrored width col < width
-offset-below true mirrored width col h = omega (arith, pad_column-below col h.0)
-offset-below false true width col h = omega arith
-offset-below false false width col h = h
-
-pub offset-end : (end mirrored : Bool) (width col : ℕ) → end ≡ true → offset end mirrored width col ≡ pad_column col
-offset-end true mirrored width col e = refl
-offset-end false mirrored width col e = absurd (cc)
-
-pub offset-same : (end mirrored : Bool) (width a b : ℕ) → FitsColumn end width a → FitsColumn end width b → offset end mirrored width a ≡ offset end mirrored width b → a ≡ b
-offset-same true mirrored width a b ha hb e = pad_column-same a b ha.0 hb.0 e
-offset-same false true width a b ha hb e = omega arith
-offset-same false false width a b ha hb e = e
-
-pub offset-is : (end mirrored : Bool) (start width col : ℕ) → FitsColumn end width col → (if end then start + pad_column col else if mirrored then start + width - 1 - col else start + col) ≡ start + offset end mirrored width col
-offset-is true mirrored start width col h = refl
-offset-is false true start width col h = omega arith
-offset-is false false start width col h = refl
-
--- how far a bit is from the start of its row of tiles
-abbrev pub height : Bool → Bool → ℕ → ℕ
-height end top row = if end then 15 - pad_row row else if top then 15 - row else row
-
-pub height-below : (end top : Bool) (row : ℕ) → row < 16 → height end top row < 16
-height-below true top row h = omega arith
-height-below false true row h = omega arith
-height-below false false row h = h
-
-pub height-same : (end top : Bool) (a b : ℕ) → a < 16 → b < 16 → height end top a ≡ height end top b → a ≡ b
-height-same true top a b ha hb e = pad_row-same a b ha hb (omega (arith, pad_row_below a ha, pad_row_below b hb))
-height-same false true a b ha hb e = omega arith
-height-same false false a b ha hb e = e
-
-pub height-is : (end top : Bool) (start row : ℕ) → row < 16 → (if end then start + 15 - pad_row row else if top then start + 15 - row else start + row) ≡ start + height end top row
-height-is true top start row h = omega (arith, pad_row_below row h)
-height-is false true start row h = omega arith
-height-is false false start row h = refl
-
--- two rows of tiles in which one row of bits lies are one row
-pub same_row : (u v a b : ℕ) → a < 16 → b < 16 → 16 * u + a ≡ 16 * v + b → (u ≡ v) × (a ≡ b)
-same_row u v a b ha hb e = (omega arith, omega arith)
-
--- a bank tells the halves
-pub bank-same : (top right top' right' : Bool) → (if top then 1 else 0) + (if right then 2 else 0) ≡ (if top' then 1 else 0) + (if right' then 2 else 0) → (top ≡ top') × (right ≡ right')
-bank-same top right top' right' e = grind arith
-
-pub bank_of-below : (top right : Bool) → (if top then 1 else 0) + (if right then 2 else 0) < 4
-bank_of-below top right = grind arith
+-- how far it is from the start of its row of tiles
+abbrev pub height_in : Bool → Bool → ℕ → ℕ
+height_in end top row = height pad_rows end top row
 
 -- a bit of a tile is in the grid and in its column and its row of tiles
 pub record IsPlaced (device : DeviceName) (bit : TileBit) : Type 0 where
   pub x_in : bit.x < grid_width device
   pub y_in : bit.y < grid_height device
   pub row_in : bit.row < 16
-  pub fits : FitsColumn (is_end device bit.y) (width_of device (from_side device bit.x)) bit.col
+  pub fits : FitsColumn 18 42 (is_end device bit.y) (width_of device (from_side device bit.x)) bit.col
 
 -- for each kind of tile, the case of the kind's own columns
 pub columns_at-in : (device : DeviceName) (x y col : ℕ) → col < columns_at device x y → (x < grid_width device) × (y < grid_height device)
 unfolding kind_of
 columns_at-in device x y col h = grind (arith, nat_tests)
 
-pub columns_at-fit : (device : DeviceName) (x y col : ℕ) → col < columns_at device x y → FitsColumn (is_end device y) (width_of device (from_side device x)) col
+pub columns_at-fit : (device : DeviceName) (x y col : ℕ) → col < columns_at device x y → FitsColumn 18 42 (is_end device y) (width_of device (from_side device x)) col
 unfolding kind_of
 columns_at-fit K1 x y col h = grind (arith, nat_tests)
 columns_at-fit K8 x y col h = grind (arith, nat_tests)
@@ -129,36 +73,36 @@ tile_bit_is_placed device bit h =
 
 -- a bit of a tile as its offsets within its column and its row of tiles
 abbrev pub offset_of : DeviceName → TileBit → ℕ
-offset_of device bit = offset (is_end device bit.y) (is_side device bit.x || is_right device bit.x) (width_of device (from_side device bit.x)) bit.col
+offset_of device bit = offset_in (is_end device bit.y) (is_side device bit.x || is_right device bit.x) (width_of device (from_side device bit.x)) bit.col
 
 abbrev pub height_of : DeviceName → TileBit → ℕ
-height_of device bit = height (is_end device bit.y) (is_top device bit.y) bit.row
+height_of device bit = height_in (is_end device bit.y) (is_top device bit.y) bit.row
 
 pub column_of-is : (device : DeviceName) (bit : TileBit) → IsPlaced device bit → column_of device bit ≡ start_of device (from_side device bit.x) + offset_of device bit
-column_of-is device bit h = offset-is (is_end device bit.y) (is_side device bit.x || is_right device bit.x) (start_of device (from_side device bit.x)) (width_of device (from_side device bit.x)) bit.col h.fits
+column_of-is device bit h = offset-is pad_columns 18 42 (is_end device bit.y) (is_side device bit.x || is_right device bit.x) (start_of device (from_side device bit.x)) (width_of device (from_side device bit.x)) bit.col h.fits
 
 pub row_of-is : (device : DeviceName) (bit : TileBit) → IsPlaced device bit → row_of device bit ≡ 16 * from_end device bit.y + height_of device bit
-row_of-is device bit h = height-is (is_end device bit.y) (is_top device bit.y) (16 * from_end device bit.y) bit.row h.row_in
+row_of-is device bit h = height-is pad_rows are_pad_rows (is_end device bit.y) (is_top device bit.y) (16 * from_end device bit.y) bit.row h.row_in
 
 -- a column of tiles by its half and by how far it is from the side edge
 pub from_side-same : (device : DeviceName) (x y : ℕ) → x < grid_width device → y < grid_width device → is_right device x ≡ is_right device y → from_side device x ≡ from_side device y → x ≡ y
-from_side-same device x y hx hy r e = grind (arith, nat_tests)
+from_side-same device x y hx hy r e = mirror-same (last_x device) x y (omega arith) (omega arith) r e
 
 pub from_end-same : (device : DeviceName) (x y : ℕ) → x < grid_height device → y < grid_height device → is_top device x ≡ is_top device y → from_end device x ≡ from_end device y → x ≡ y
-from_end-same device x y hx hy r e = grind (arith, nat_tests)
+from_end-same device x y hx hy r e = mirror-same (last_y device) x y (omega arith) (omega arith) r e
 
 -- bits of one tile in one row of bits are in one row
 row-same : (device : DeviceName) (a b : TileBit) → a.x ≡ b.x → a.y ≡ b.y → IsPlaced device a → IsPlaced device b → height_of device a ≡ height_of device b → a.row ≡ b.row
 row-same device a b x y ha hb e =
-    let P : ℕ → Type 0 = λ at. height (is_end device at) (is_top device at) a.row ≡ height_of device b → a.row ≡ b.row in
-    subst P (sym y) (height-same (is_end device b.y) (is_top device b.y) a.row b.row ha.row_in hb.row_in) e
+    let P : ℕ → Type 0 = λ at. height_in (is_end device at) (is_top device at) a.row ≡ height_of device b → a.row ≡ b.row in
+    subst P (sym y) (height-same pad_rows are_pad_rows (is_end device b.y) (is_top device b.y) a.row b.row ha.row_in hb.row_in) e
 
 -- bits of one tile in one column of bits are in one column
 col-same : (device : DeviceName) (a b : TileBit) → a.x ≡ b.x → a.y ≡ b.y → IsPlaced device a → IsPlaced device b → offset_of device a ≡ offset_of device b → a.col ≡ b.col
 col-same device a b x y ha hb e =
-    let fits : ℕ → ℕ → Type 0 = λ p q. FitsColumn (is_end device q) (width_of device (from_side device p)) a.col in
-    let same : ℕ → ℕ → Type 0 = λ p q. offset (is_end device q) (is_side device p || is_right device p) (width_of device (from_side device p)) a.col ≡ offset_of device b in
-    offset-same (is_end device b.y) (is_side device b.x || is_right device b.x) (width_of device (from_side device b.x)) a.col b.col
+    let fits : ℕ → ℕ → Type 0 = λ p q. FitsColumn 18 42 (is_end device q) (width_of device (from_side device p)) a.col in
+    let same : ℕ → ℕ → Type 0 = λ p q. offset_in (is_end device q) (is_side device p || is_right device p) (width_of device (from_side device p)) a.col ≡ offset_of device b in
+    offset-same pad_columns 18 42 are_pad_columns (is_end device b.y) (is_side device b.x || is_right device b.x) (width_of device (from_side device b.x)) a.col b.col
         (subst (λ p. fits p b.y) x (subst (λ q. fits a.x q) y ha.fits)) hb.fits (subst (λ p. same p b.y) x (subst (λ q. same a.x q) y e))
 
 -- bits of tiles with one place are one bit
@@ -166,9 +110,9 @@ pub place_of-same : (device : DeviceName) (a b : TileBit) → IsPlaced device a 
 place_of-same device a b ha hb bank column row =
     let halves = bank-same (is_top device a.y) (is_right device a.x) (is_top device b.y) (is_right device b.x) bank in
     let columns = same_column (start_of device) (width_of device) (are_starts device) (from_side device a.x) (from_side device b.x) (offset_of device a) (offset_of device b)
-        (offset-below _ _ _ a.col ha.fits) (offset-below _ _ _ b.col hb.fits) (cc (column_of-is device a ha, column_of-is device b hb)) in
+        (offset-below pad_columns 18 42 are_pad_columns _ _ _ a.col ha.fits) (offset-below pad_columns 18 42 are_pad_columns _ _ _ b.col hb.fits) (cc (column_of-is device a ha, column_of-is device b hb)) in
     let rows = same_row (from_end device a.y) (from_end device b.y) (height_of device a) (height_of device b)
-        (height-below _ _ a.row ha.row_in) (height-below _ _ b.row hb.row_in) (cc (row_of-is device a ha, row_of-is device b hb)) in
+        (height-below pad_rows _ _ a.row ha.row_in) (height-below pad_rows _ _ b.row hb.row_in) (cc (row_of-is device a ha, row_of-is device b hb)) in
     let x : a.x ≡ b.x = from_side-same device a.x b.x ha.x_in hb.x_in halves.1 columns.0 in
     let y : a.y ≡ b.y = from_end-same device a.y b.y ha.y_in hb.y_in halves.0 rows.0 in
     let row : a.row ≡ b.row = row-same device a b x y ha hb rows.1 in
@@ -197,7 +141,7 @@ from_end-below K8 y h = grind (arith, nat_tests)
 pub column_of-before : (device : DeviceName) (bit : TileBit) → IsPlaced device bit → column_of device bit < start_of device (half_width device)
 column_of-before device bit h =
     let u = from_side device bit.x in
-    let inside : offset_of device bit < width_of device u = offset-below _ _ _ bit.col h.fits in
+    let inside : offset_of device bit < width_of device u = offset-below pad_columns 18 42 are_pad_columns _ _ _ bit.col h.fits in
     let before : start_of device u + width_of device u ≤ start_of device (half_width device) =
         start-later (start_of device) (width_of device) (are_starts device) u (half_width device) (from_side-below device bit.x h.x_in)
     in
@@ -209,7 +153,7 @@ column_of-below device bit h = omega (arith, column_of-before device bit h, star
 
 pub row_of-below : (device : DeviceName) (bit : TileBit) → IsPlaced device bit → row_of device bit < cram_height device
 row_of-below device bit h =
-    omega (arith, row_of-is device bit h, height-below (is_end device bit.y) (is_top device bit.y) bit.row h.row_in, from_end-below device bit.y h.y_in)
+    omega (arith, row_of-is device bit h, height-below pad_rows (is_end device bit.y) (is_top device bit.y) bit.row h.row_in, from_end-below device bit.y h.y_in)
 
 -- no two bits of tiles lie at one place
 pub place_is_only : (device : DeviceName) (a b : TileBit) → IsTileBit device a → IsTileBit device b → place_of device b ≡ place_of device a → b ≡ a
@@ -224,32 +168,24 @@ tile_bit_x_in device bit h = (tile_bit_is_placed device bit h).x_in
 pub tile_bit_y_in : (device : DeviceName) (bit : TileBit) → IsTileBit device bit → bit.y < grid_height device
 tile_bit_y_in device bit h = (tile_bit_is_placed device bit h).y_in
 
-pub fits-end : (end : Bool) (width col : ℕ) → FitsColumn end width col → end ≡ true → col < 18
-fits-end true width col h e = h.0
-fits-end false width col h e = absurd (cc)
-
-pub fits-inner : (end : Bool) (width col : ℕ) → FitsColumn end width col → end ≡ false → col < width
-fits-inner true width col h e = absurd (cc)
-fits-inner false width col h e = h
-
 pub tile_bit_col_end : (device : DeviceName) (bit : TileBit) → IsTileBit device bit → (end : Bool) → end ≡ is_end device bit.y → end ≡ true → bit.col < 18
-tile_bit_col_end device bit h end is e = fits-end _ _ bit.col (tile_bit_is_placed device bit h).fits (sym is ∙ e)
+tile_bit_col_end device bit h end is e = fits-end 18 42 _ _ bit.col (tile_bit_is_placed device bit h).fits (sym is ∙ e)
 
 pub tile_bit_col_inner : (device : DeviceName) (bit : TileBit) → IsTileBit device bit → (u w : ℕ) (end : Bool) → u ≡ from_side device bit.x → w ≡ width_of device u → end ≡ is_end device bit.y → end ≡ false → bit.col < w
 tile_bit_col_inner device bit h u w end u_is w_is is e =
     let width : w ≡ width_of device (from_side device bit.x) = w_is ∙ ap (width_of device) u_is in
-    let below : bit.col < width_of device (from_side device bit.x) = fits-inner _ _ bit.col (tile_bit_is_placed device bit h).fits (sym is ∙ e) in
+    let below : bit.col < width_of device (from_side device bit.x) = fits-inner 18 42 _ _ bit.col (tile_bit_is_placed device bit h).fits (sym is ∙ e) in
     let P : ℕ → Type 0 = λ n. bit.col < n in
     subst P (sym width) below
 
 -- a bit's column of bits from the parts that the code computes
 pub column_of-parts : (device : DeviceName) (bit : TileBit) → IsTileBit device bit → (u s w o : ℕ) (end mirrored : Bool)
     → u ≡ from_side device bit.x → s ≡ start_of device u → w ≡ width_of device u → end ≡ is_end device bit.y → mirrored ≡ (is_side device bit.x || is_right device bit.x)
-    → o ≡ offset end mirrored w bit.col → s + o ≡ column_of device bit
+    → o ≡ offset_in end mirrored w bit.col → s + o ≡ column_of device bit
 column_of-parts device bit h u s w o end mirrored u_is s_is w_is end_is mirrored_is o_is =
     let start : s ≡ start_of device (from_side device bit.x) = s_is ∙ ap (start_of device) u_is in
     let width : w ≡ width_of device (from_side device bit.x) = w_is ∙ ap (width_of device) u_is in
-    let into : o ≡ offset_of device bit = o_is ∙ (λ i. offset (end_is i) (mirrored_is i) (width i) bit.col) in
+    let into : o ≡ offset_of device bit = o_is ∙ (λ i. offset_in (end_is i) (mirrored_is i) (width i) bit.col) in
     let whole : s + o ≡ start_of device (from_side device bit.x) + offset_of device bit = λ i. start i + into i in
     whole ∙ sym (column_of-is device bit (tile_bit_is_placed device bit h))
 

@@ -1,6 +1,7 @@
-pub mod Widths
 pub mod Entries
 pub mod Layouts
-pub mod Words
+pub mod Offsets
 pub mod Owners
+pub mod Widths
+pub mod Words
 mod Worked

@@ -6,9 +6,10 @@ use Rattle.plane_map.specs.declared.device.DeviceName.TheVariants.{K1, K8}
 use Rattle.plane_map.specs.declared.tile.TileKind.{TileKind}
 use Rattle.plane_map.specs.declared.tile.TileBit.{TileBit}
 use Rattle.plane_map.specs.declared.tile.Place.{Place}
-use Rattle.plane_map.specs.Layout.{kind_of, columns_in, columns_at, width_of, start_of, is_side, is_end, is_right, is_top, from_side, from_end, bank_of, column_of, row_of, place_of, pad_column, grid_width, grid_height, IsTileBit, IsInCram, IsExtraBit}
+use Rattle.plane_map.specs.Layout.{kind_of, columns_in, columns_at, width_of, start_of, is_side, is_end, is_right, is_top, from_side, from_end, bank_of, column_of, row_of, place_of, pad_column, pad_columns, pad_rows, grid_width, grid_height, IsTileBit, IsInCram, IsExtraBit}
 use Rattle.plane_map.proofs.Widths.{same_column}
-use Rattle.plane_map.proofs.Layouts.{are_starts, offset, offset_of, offset-below, offset-end, fits-end, height, height_of, height-below, FitsColumn, IsPlaced, tile_bit_is_placed, column_of-is, row_of-is, column_of-before, half_width, bank-same, same_row, from_side-same, from_end-same}
+use Rattle.plane_map.proofs.Layouts.{are_starts, are_pad_columns, offset_in, offset_of, height_in, height_of, IsPlaced, tile_bit_is_placed, column_of-is, row_of-is, column_of-before, half_width, from_side-same, from_end-same}
+use Rattle.plane_map.proofs.Offsets.{offset-below, offset-end, fits-end, height-below, bank-same}
 
 -- a tile with a place in its column and its row of tiles, and how far into the column of tiles the place is
 pub record Holds (device : DeviceName) (at : Place) (x y into : ℕ) : Type 0 where
@@ -53,10 +54,10 @@ owner-parts device at x y into holds bit h e =
         sym (column_of-is device bit placed) ∙ ap (λ (p : Place). p.px) e ∙ sym holds.column
     in
     let columns = same_column (start_of device) (width_of device) (are_starts device) (from_side device bit.x) (from_side device x) (offset_of device bit) into
-        (offset-below _ _ _ bit.col placed.fits) holds.inside px
+        (offset-below pad_columns 18 42 are_pad_columns _ _ _ bit.col placed.fits) holds.inside px
     in
     let py : row_of device bit ≡ at.py = ap (λ (p : Place). p.py) e in
-    let below : height_of device bit < 16 = height-below (is_end device bit.y) (is_top device bit.y) bit.row placed.row_in in
+    let below : height_of device bit < 16 = height-below pad_rows (is_end device bit.y) (is_top device bit.y) bit.row placed.row_in in
     let row : from_end device bit.y ≡ from_end device y = omega (arith, row_of-is device bit placed, py, below, holds.row) in
     record {
         x_is = from_side-same device bit.x x placed.x_in holds.x_in halves.1 columns.0;
@@ -77,12 +78,12 @@ extra-between device at x y into holds end between bit h e =
     let owner = owner-parts device at x y into holds bit h e in
     let placed = tile_bit_is_placed device bit h in
     let end' : is_end device bit.y ≡ true = ap (is_end device) owner.y_is ∙ end in
-    between bit.col (fits-end _ _ bit.col placed.fits end') (sym (offset-end _ _ _ bit.col end') ∙ owner.into_is)
+    between bit.col (fits-end 18 42 _ _ bit.col placed.fits end') (sym (offset-end pad_columns _ _ _ bit.col end') ∙ owner.into_is)
 
 -- a bit of a tile that is as far into its column and row of tiles lies at the place
 pub owner-place : (device : DeviceName) (at : Place) (x y into row col : ℕ) → Holds device at x y into → IsTileBit device (record { x = x; y = y; row = row; col = col })
-    → offset (is_end device y) (is_side device x || is_right device x) (width_of device (from_side device x)) col ≡ into
-    → height (is_end device y) (is_top device y) row ≡ at.py % 16
+    → offset_in (is_end device y) (is_side device x || is_right device x) (width_of device (from_side device x)) col ≡ into
+    → height_in (is_end device y) (is_top device y) row ≡ at.py % 16
     → place_of device (record { x = x; y = y; row = row; col = col }) ≡ at
 unfolding place_of
 owner-place device at x y into row col holds h col_is row_is =
@@ -111,15 +112,15 @@ holds-parts device at h u into inside column x y x_in right x_is y_in top y_is =
 -- and the bit that the code finds in it lies there
 pub owner-found : (device : DeviceName) (at : Place) (x y into : ℕ) → Holds device at x y into → (kind : TileKind) → kind_of device x y ≡ Some kind
     → (end mirrored top : Bool) (u width col row : ℕ) → end ≡ is_end device y → mirrored ≡ (is_side device x || is_right device x) → top ≡ is_top device y
-    → from_side device x ≡ u → width ≡ width_of device u → (end ≡ true → col < 18) → (end ≡ false → col < width) → offset end mirrored width col ≡ into
-    → row < 16 → height end top row ≡ at.py % 16
+    → from_side device x ≡ u → width ≡ width_of device u → (end ≡ true → col < 18) → (end ≡ false → col < width) → offset_in end mirrored width col ≡ into
+    → row < 16 → height_in end top row ≡ at.py % 16
     → IsTileBit device (record { x = x; y = y; row = row; col = col }) × (place_of device (record { x = x; y = y; row = row; col = col }) ≡ at)
 owner-found device at x y into holds kind is end mirrored top u width col row end_is mirrored_is top_is u_is width_is at_end inner col_is row_in row_is =
     let width' : width ≡ width_of device (from_side device x) = width_is ∙ ap (width_of device) (sym u_is) in
     let col_in : col < columns_at device x y = columns_at-from device x y col kind is (λ e. at_end (end_is ∙ e)) (λ e. subst (λ n. col < n) width' (inner (end_is ∙ e))) in
-    let col_is' : offset (is_end device y) (is_side device x || is_right device x) (width_of device (from_side device x)) col ≡ into =
-        (λ i. offset (sym end_is i) (sym mirrored_is i) (sym width' i) col) ∙ col_is
+    let col_is' : offset_in (is_end device y) (is_side device x || is_right device x) (width_of device (from_side device x)) col ≡ into =
+        (λ i. offset_in (sym end_is i) (sym mirrored_is i) (sym width' i) col) ∙ col_is
     in
-    let row_is' : height (is_end device y) (is_top device y) row ≡ at.py % 16 = (λ i. height (sym end_is i) (sym top_is i) row) ∙ row_is in
+    let row_is' : height_in (is_end device y) (is_top device y) row ≡ at.py % 16 = (λ i. height_in (sym end_is i) (sym top_is i) row) ∙ row_is in
     let is_bit : IsTileBit device (record { x = x; y = y; row = row; col = col }) = record { row_in = row_in; col_in = col_in } in
     (is_bit, owner-place device at x y into row col holds is_bit col_is' row_is')

@@ -7,7 +7,7 @@ use Rattle.plane_map.specs.declared.tile.TileKind.TheVariants.{RamB}
 use Rattle.plane_map.specs.declared.tile.WordBit.{WordBit}
 use Rattle.plane_map.specs.declared.tile.Place.{Place}
 use Rattle.plane_map.specs.Layout.{kind_of, is_right, is_top, bank_of, ram_of, ram_column, last_x, last_y, grid_width, grid_height, bram_width, word_place_of, IsWordBit, IsInBram}
-use Rattle.plane_map.proofs.Layouts.{bank-same, bank_of-below}
+use Rattle.plane_map.proofs.Offsets.{bank-same}
 
 -- a lower tile of a RAM stands in a column of RAM, in an odd row that is no edge
 pub lower-column : (device : DeviceName) (x y : ℕ) → kind_of device x y ≡ Some RamB → (x ≡ ram_column device) ⊎ (x + ram_column device ≡ last_x device)

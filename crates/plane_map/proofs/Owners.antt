@@ -8,7 +8,7 @@ use Rattle.plane_map.specs.declared.tile.TileBit.{TileBit}
 use Rattle.plane_map.specs.declared.tile.Place.{Place}
 use Rattle.plane_map.specs.Layout.{kind_of, columns_in, columns_at, width_of, start_of, is_side, is_end, is_right, is_top, from_side, from_end, bank_of, column_of, row_of, place_of, pad_column, pad_columns, pad_rows, grid_width, grid_height, IsTileBit, IsInCram, IsExtraBit}
 use Rattle.plane_map.proofs.Widths.{same_column}
-use Rattle.plane_map.proofs.Layouts.{are_starts, are_pad_columns, offset_in, offset_of, height_in, height_of, IsPlaced, tile_bit_is_placed, column_of-is, row_of-is, column_of-before, half_width, from_side-same, from_end-same}
+use Rattle.plane_map.proofs.Layouts.{are_starts, are_pad_columns, offset_in, offset_of, height_in, height_of, IsPlaced, tile_bit_is_placed, column_of-is, row_of-is, column_of-before, place_is_only, half_width, from_side-same, from_end-same}
 use Rattle.plane_map.proofs.Offsets.{offset-below, offset-end, fits-end, height-below, bank-same}
 
 -- a tile with a place in its column and its row of tiles, and how far into the column of tiles the place is
@@ -124,3 +124,8 @@ owner-found device at x y into holds kind is end mirrored top u width col row en
     let row_is' : height_in (is_end device y) (is_top device y) row ≡ at.py % 16 = (λ i. height_in (sym end_is i) (sym top_is i) row) ∙ row_is in
     let is_bit : IsTileBit device (record { x = x; y = y; row = row; col = col }) = record { row_in = row_in; col_in = col_in } in
     (is_bit, owner-place device at x y into row col holds is_bit col_is' row_is')
+
+-- and no other bit does
+pub owner-only : (device : DeviceName) (at : Place) (bit : TileBit) → IsTileBit device bit → place_of device bit ≡ at
+    → (other : TileBit) → IsTileBit device other → place_of device other ≡ at → other ≡ bit
+owner-only device at bit h e other h' e' = place_is_only device bit other h h' (e' ∙ sym e)

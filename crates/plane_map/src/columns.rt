@@ -3,17 +3,17 @@ ghost use Rattle.std.specs.Prelude.{◌≡◌, ◌≢◌, ℕ, ◌+◌, ◌-◌,
 ghost use Rattle.plane_map.specs.Layout.{grid_width, width_of, start_of, pad_column, column_of, cram_width, IsTileBit};
 
 use crate::device::DeviceName;
-use crate::grid::{columns_outside, is_mirrored, on_end};
+use crate::grid::{side_distance, is_mirrored, on_end};
 use crate::pads::{column_of_pad, pad_at_column};
 use crate::tile::TileBit;
 
 /// How many columns of bits a column of tiles takes.
-pub(crate) fn column_width(device: DeviceName, outside: u32) -> u32
-    ensures { result ≡ width_of device outside }
+pub(crate) fn column_width(device: DeviceName, distance: u32) -> u32
+    ensures { result ≡ width_of device distance }
 {
-    if outside == 0 {
+    if distance == 0 {
         18
-    } else if outside == device.left_ram_column() {
+    } else if distance == device.left_ram_column() {
         42
     } else {
         54
@@ -22,32 +22,32 @@ pub(crate) fn column_width(device: DeviceName, outside: u32) -> u32
 
 /// How many columns of bits the columns of tiles nearer to the edge take.
 #[tactic(auto, using(crate::proofs::Layouts::start_of_at_most), unfolding(crate::specs::Layout::start_of))]
-pub(crate) fn column_start(device: DeviceName, outside: u32) -> u32
-    requires { outside < 64 }
-    ensures { result ≡ start_of device outside }
+pub(crate) fn column_start(device: DeviceName, distance: u32) -> u32
+    requires { distance < grid_width device / 2 }
+    ensures { result ≡ start_of device distance }
 {
     let mut start = 0;
-    for inner in 0..outside {
+    for inner in 0..distance {
         start += column_width(device, inner);
     }
     start
 }
 
 /// The column of bits that a bit of a tile takes.
-pub(crate) fn column_at(device: DeviceName, bit: TileBit) -> u32
+pub(crate) fn px_of(device: DeviceName, bit: TileBit) -> u32
     requires { IsTileBit device bit }
     ensures value { result ≡ column_of device bit }
     ensures in_plane { result < cram_width device }
 {
     let x = bit.x as u32;
-    let outside = columns_outside(device, x);
-    let start = column_start(device, outside);
-    let width = column_width(device, outside);
-    start + offset_in(width, on_end(device, bit.y as u32), is_mirrored(device, x), bit.col)
+    let distance = side_distance(device, x);
+    let start = column_start(device, distance);
+    let width = column_width(device, distance);
+    start + offset_of_col(width, on_end(device, bit.y as u32), is_mirrored(device, x), bit.col)
 }
 
 /// How far a column of a tile is from the start of its column of tiles.
-fn offset_in(width: u32, end: bool, mirrored: bool, col: u8) -> u32
+fn offset_of_col(width: u32, end: bool, mirrored: bool, col: u8) -> u32
     requires end { end ≡ true → col < 18 }
     requires inner { end ≡ false → col < width }
     ensures { result ≡ (if end then pad_column col else if mirrored then width - 1 - col else col) }
@@ -65,24 +65,24 @@ fn offset_in(width: u32, end: bool, mirrored: bool, col: u8) -> u32
 #[derive(Clone, Copy)]
 pub(crate) struct TileColumn {
     /// How far the column of tiles is from its side edge.
-    pub(crate) outside: u32,
+    pub(crate) distance: u32,
     /// How far the column of bits is from the start of its column of tiles.
     pub(crate) offset: u32,
 }
 
 /// The column of tiles that takes a column of bits, if one does.
 #[tactic(auto, unfolding(crate::specs::Layout::start_of))]
-pub(crate) fn column_with(device: DeviceName, px: u32) -> Option<TileColumn>
+pub(crate) fn column_at(device: DeviceName, px: u32) -> Option<TileColumn>
     ensures none { IfNone result (start_of device (grid_width device / 2) ≤ px) }
-    ensures in_half { IfSome result (λ column. column.outside < grid_width device / 2) }
-    ensures in_column { IfSome result (λ column. column.offset < width_of device column.outside) }
-    ensures value { IfSome result (λ column. start_of device column.outside + column.offset ≡ px) }
+    ensures in_half { IfSome result (λ column. column.distance < grid_width device / 2) }
+    ensures in_column { IfSome result (λ column. column.offset < width_of device column.distance) }
+    ensures value { IfSome result (λ column. start_of device column.distance + column.offset ≡ px) }
 {
     let mut offset = px;
-    for outside in 0..device.columns() / 2 {
-        let width = column_width(device, outside);
+    for distance in 0..device.columns() / 2 {
+        let width = column_width(device, distance);
         if offset < width {
-            return Some(TileColumn { outside, offset });
+            return Some(TileColumn { distance, offset });
         }
         offset -= width;
     }

@@ -74,7 +74,7 @@ pub(crate) fn bank_at(device: DeviceName, x: u32, y: u32) -> u8
 }
 
 /// How many columns of tiles lie between a tile and the nearer side edge.
-pub(crate) fn columns_outside(device: DeviceName, x: u32) -> u32
+pub(crate) fn side_distance(device: DeviceName, x: u32) -> u32
     requires { x < grid_width device }
     ensures { result ≡ from_side device x }
 {
@@ -86,7 +86,7 @@ pub(crate) fn columns_outside(device: DeviceName, x: u32) -> u32
 }
 
 /// How many rows of tiles lie between a tile and the nearer end edge.
-pub(crate) fn rows_outside(device: DeviceName, y: u32) -> u32
+pub(crate) fn end_distance(device: DeviceName, y: u32) -> u32
     requires { y < grid_height device }
     ensures { result ≡ from_end device y }
 {
@@ -111,21 +111,21 @@ pub(crate) fn ram_at(device: DeviceName, y: u32) -> u32
 }
 
 /// The column of tiles of a bank that is so far from its side edge.
-pub(crate) fn x_of(device: DeviceName, bank: u8, outside: u32) -> u32
-    requires { outside < grid_width device / 2 }
+pub(crate) fn x_at(device: DeviceName, bank: u8, distance: u32) -> u32
+    requires { distance < grid_width device / 2 }
     ensures in_grid { result < grid_width device }
     ensures half { is_right device result ≡ nat_le 2 bank }
-    ensures outside { from_side device result ≡ outside }
+    ensures distance { from_side device result ≡ distance }
 {
-    if bank >= 2 { device.columns() - 1 - outside } else { outside }
+    if bank >= 2 { device.columns() - 1 - distance } else { distance }
 }
 
 /// The row of tiles of a bank that is so far from its end edge.
-pub(crate) fn y_of(device: DeviceName, bank: u8, outside: u32) -> u32
-    requires { outside < grid_height device / 2 }
+pub(crate) fn y_at(device: DeviceName, bank: u8, distance: u32) -> u32
+    requires { distance < grid_height device / 2 }
     ensures in_grid { result < grid_height device }
     ensures half { is_top device result ≡ (bank % 2 == 1) }
-    ensures outside { from_end device result ≡ outside }
+    ensures distance { from_end device result ≡ distance }
 {
-    if bank % 2 == 1 { device.rows() - 1 - outside } else { outside }
+    if bank % 2 == 1 { device.rows() - 1 - distance } else { distance }
 }

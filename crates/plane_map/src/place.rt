@@ -1,11 +1,11 @@
 // Where bits lie.
-ghost use Rattle.std.specs.Prelude.{◌≡◌, ◌<◌, Option, Some, MatchOption};
+ghost use Rattle.std.specs.Prelude.{◌≡◌, ◌<◌, Option, Some, IfSome, MatchOption};
 ghost use Rattle.plane_map.specs.Layout.{kind_of, columns_of, columns_at, place_of, word_place_of, IsTileBit, IsWordBit, IsInCram, IsInBram, IsExtraBit};
 
 use crate::device::{Device, DeviceName};
-use crate::columns::{col_at, column_at, column_width, column_with};
-use crate::grid::{bank_at, in_top, is_mirrored, kind_on, on_end, ram_at, x_of, y_of};
-use crate::rows::{row_at, row_with};
+use crate::columns::{col_at, px_of, column_width, column_at};
+use crate::grid::{bank_at, in_top, is_mirrored, kind_on, on_end, ram_at, x_at, y_at};
+use crate::rows::{py_of, row_at};
 use crate::tile::{Place, TileBit, TileKind, WordBit};
 
 /// The tile at a place of the grid: none at a corner or outside.
@@ -57,7 +57,8 @@ pub fn bram_place<D: Device>(x: u8, y: u8, word: u8, bit: u8) -> Place
 /// The one bit of a tile that lies at a place of the configuration planes: none at an extra bit.
 pub fn owner_of<D: Device>(at: Place) -> Option<TileBit>
     requires { IsInCram D.NAME at }
-    ensures { MatchOption result (IsExtraBit D.NAME at) (λ bit. IsTileBit D.NAME bit × (place_of D.NAME bit ≡ at)) }
+    ensures owner { MatchOption result (IsExtraBit D.NAME at) (λ bit. IsTileBit D.NAME bit × (place_of D.NAME bit ≡ at)) }
+    ensures only { IfSome result (λ bit. (other : TileBit) → IsTileBit D.NAME other → place_of D.NAME other ≡ at → other ≡ bit) }
 {
     owner_on(D::device_name(), at)
 }
@@ -72,8 +73,8 @@ fn place_on(device: DeviceName, bit: TileBit) -> Place
 {
     Place {
         bank: bank_at(device, bit.x as u32, bit.y as u32),
-        px: column_at(device, bit) as u16,
-        py: row_at(device, bit) as u16,
+        px: px_of(device, bit) as u16,
+        py: py_of(device, bit) as u16,
     }
 }
 
@@ -96,15 +97,16 @@ fn place_of_word(device: DeviceName, at: WordBit) -> Place
 /// The one bit of a tile of a device that lies at a place of the configuration planes.
 fn owner_on(device: DeviceName, at: Place) -> Option<TileBit>
     requires { IsInCram device at }
-    ensures { MatchOption result (IsExtraBit device at) (λ bit. IsTileBit device bit × (place_of device bit ≡ at)) }
+    ensures owner { MatchOption result (IsExtraBit device at) (λ bit. IsTileBit device bit × (place_of device bit ≡ at)) }
+    ensures only { IfSome result (λ bit. (other : TileBit) → IsTileBit device other → place_of device other ≡ at → other ≡ bit) }
 {
-    let column = column_with(device, at.px as u32)?;
-    let x = x_of(device, at.bank, column.outside);
-    let y = y_of(device, at.bank, at.py as u32 / 16);
-    let _kind = kind_on(device, x, y)?;
+    let column = column_at(device, at.px as u32)?;
+    let x = x_at(device, at.bank, column.distance);
+    let y = y_at(device, at.bank, at.py as u32 / 16);
+    kind_on(device, x, y)?;
     let end = on_end(device, y);
-    let width = column_width(device, column.outside);
+    let width = column_width(device, column.distance);
     let col = col_at(width, end, is_mirrored(device, x), column.offset)?;
-    let row = row_with(end, in_top(device, y), at.py as u32 % 16);
+    let row = row_at(end, in_top(device, y), at.py as u32 % 16);
     Some(TileBit { x: x as u8, y: y as u8, row, col })
 }

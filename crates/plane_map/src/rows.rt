@@ -3,23 +3,23 @@ ghost use Rattle.std.specs.Prelude.{◌≡◌, ◌+◌, ◌-◌, ◌<◌, if◌t
 ghost use Rattle.plane_map.specs.Layout.{pad_row, row_of, cram_height, IsTileBit};
 
 use crate::device::DeviceName;
-use crate::grid::{in_top, on_end, rows_outside};
+use crate::grid::{in_top, on_end, end_distance};
 use crate::pads::{pad_at_row, row_of_pad};
 use crate::tile::TileBit;
 
 /// The row of bits that a bit of a tile takes.
-pub(crate) fn row_at(device: DeviceName, bit: TileBit) -> u32
+pub(crate) fn py_of(device: DeviceName, bit: TileBit) -> u32
     requires { IsTileBit device bit }
     ensures value { result ≡ row_of device bit }
     ensures in_plane { result < cram_height device }
 {
     let y = bit.y as u32;
-    16 * rows_outside(device, y) + height_in(on_end(device, y), in_top(device, y), bit.row)
+    16 * end_distance(device, y) + height_of_row(on_end(device, y), in_top(device, y), bit.row)
 }
 
 /// How far a row of a tile is from the start of its row of tiles.
 #[tactic(auto, using(crate::proofs::Layouts::pad_row_below))]
-fn height_in(end: bool, top: bool, row: u8) -> u32
+fn height_of_row(end: bool, top: bool, row: u8) -> u32
     requires { row < 16 }
     ensures { result ≡ (if end then 15 - pad_row row else if top then 15 - row else row) }
 {
@@ -28,7 +28,7 @@ fn height_in(end: bool, top: bool, row: u8) -> u32
 }
 
 /// The row of a tile that is so far from the start of its row of tiles.
-pub(crate) fn row_with(end: bool, top: bool, height: u32) -> u8
+pub(crate) fn row_at(end: bool, top: bool, height: u32) -> u8
     requires { height < 16 }
     ensures in_tile { result < 16 }
     ensures value { (if end then 15 - pad_row result else if top then 15 - result else result) ≡ height }

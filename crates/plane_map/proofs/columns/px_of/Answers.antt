@@ -1,0 +1,31 @@
+use Rattle.std.proofs.Common.{◌≡◌, ◌+◌, ◌<◌, arith}
+use Rattle.plane_map.specs.Layout.{column_of, cram_width}
+use Rattle.plane_map.proofs.Layouts.{tile_bit_x_in, tile_bit_col_end, tile_bit_col_inner, column_of-parts, tile_bit_column_in, cram_width-below}
+use Rattle.plane_map.proofs.columns.px_of.Goals as goal
+
+pub side_distance-distance-requires : goal.side_distance-distance-requires
+side_distance-distance-requires c = tile_bit_x_in c.args.device c.args.bit c.requires
+
+pub offset_of_col-requires-clause-end : goal.offset_of_col-requires-clause-end
+offset_of_col-requires-clause-end c = tile_bit_col_end c.args.device c.args.bit c.requires c.on_end.result c.on_end.ensures
+
+pub offset_of_col-requires-clause-inner : goal.offset_of_col-requires-clause-inner
+offset_of_col-requires-clause-inner c = tile_bit_col_inner c.args.device c.args.bit c.requires _ _ c.on_end.result c.side_distance-distance.ensures c.column_width-width.ensures c.on_end.ensures
+
+pub returns-clause-value : goal.returns-clause-value
+returns-clause-value c =
+    column_of-parts c.args.device c.args.bit c.requires _ _ _ _ _ _ c.side_distance-distance.ensures c.column_start-start.ensures c.column_width-width.ensures c.on_end.ensures
+        c.is_mirrored.ensures c.offset_of_col.ensures
+
+pub returns-clause-in_plane : goal.returns-clause-in_plane
+returns-clause-in_plane c = tile_bit_column_in c.args.device c.args.bit c.requires _ (returns-clause-value c)
+
+pub overflow_add-result : goal.overflow_add-result
+overflow_add-result c =
+    let sum = c.column_start-start.result + c.offset_of_col.result in
+    let value : sum ≡ column_of c.args.device c.args.bit =
+        column_of-parts c.args.device c.args.bit c.requires _ _ _ _ _ _ c.side_distance-distance.ensures c.column_start-start.ensures c.column_width-width.ensures c.on_end.ensures
+            c.is_mirrored.ensures c.offset_of_col.ensures
+    in
+    let below : sum < cram_width c.args.device = tile_bit_column_in c.args.device c.args.bit c.requires sum value in
+    omega (arith, below, cram_width-below c.args.device)

@@ -12,3 +12,6 @@ mod tile;
 pub use device::{Device, DeviceName, Hx1k, Hx8k};
 pub use place::{bram_place, cram_place, kind_at, owner_of, tile_width};
 pub use tile::{Place, RowCol, TileBit, TileKind, WordBit};
+
+#[cfg(test)]
+mod tests;

@@ -4,3 +4,4 @@ pub mod Configuration
 pub mod CanonicalBytes
 pub mod Opcodes
 pub mod TileText
+pub mod Reading

@@ -1,7 +1,10 @@
 // A text of logic tiles of an HX1K, read line by line.
-ghost use Rattle.std.specs.Prelude.{◌≡◌, ◌+◌, ◌<◌, ◌++◌, ◌∷◌, [], true, Some, IfOk, OnOk, ◌==◌, ◌||◌};
+ghost use Rattle.std.specs.Prelude.{◌≡◌, ◌+◌, ◌<◌, ◌++◌, ◌∷◌, [], true, Some, None, IfOk, OnOk, IsTrue, if◌then◌else◌, ◌==◌, ◌||◌};
 ghost use Rattle.std.specs.List.{list_all};
-ghost use Rattle.ice_pack.specs.TileText.{tile_named, logic_tile_at, is_row};
+ghost use Rattle.ice_pack.specs.TileText.{tile_named, logic_tile_at, is_logic, is_row};
+ghost use Rattle.ice_pack.specs.Reading.{row_set};
+ghost use Rattle.plane_map.specs.Layout.{kind_of};
+ghost use Rattle.plane_map.specs.declared.device.DeviceName.TheVariants.{K1};
 
 use crate::banks::Banks;
 
@@ -26,6 +29,82 @@ enum Expected {
     Statement,
     /// A row of a tile.
     Row { tile: LogicTile, row: u8 },
+}
+
+/// The reader of a text's lines, after the first.
+#[derive(Drop)]
+pub(crate) struct Reader {
+    planes: Banks<Plane<332, 144>>,
+    named: Vec<LogicTile>,
+    expected: Expected,
+}
+
+impl Reader {
+    ghost use Rattle.ice_pack.specs.Reading.{state_of, advanced, advanced_at, after_statement, IsExpectable};
+
+    // Takes the next line, and answers whether it is what was expected. Where it isn't, nothing changes.
+    #[tactic(auto, unfolding(crate::specs::Reading::advanced))]
+    fn accept(&mut self, line: &[u8]) -> Result<bool, AllocError>
+        requires { IsExpectable self.old.expected }
+        ensures expectable { OnOk result (IsExpectable self.new.expected) }
+        ensures advanced { IfOk result (λ fits. advanced (state_of self.old) line.now ≡ (if fits then Some (state_of self.new) else None)) }
+    {
+        match self.expected {
+            Expected::Statement => self.accept_statement(line),
+            Expected::Row { tile, row } => Ok(self.accept_row(tile, row, line)),
+        }
+    }
+
+    // Takes the statement of a tile that isn't named yet.
+    fn accept_statement(&mut self, line: &[u8]) -> Result<bool, AllocError>
+        ensures expectable { OnOk result (IsExpectable self.old.expected → IsExpectable self.new.expected) }
+        ensures advanced { IfOk result (λ fits. after_statement (state_of self.old) (tile_named line.now) ≡ (if fits then Some (state_of self.new) else None)) }
+    {
+        match tile_named(line) {
+            Some(tile) => {
+                if self.named.contains(&tile) {
+                    return Ok(false);
+                }
+                self.named.push(tile)?;
+                self.expected = Expected::Row { tile, row: 0 };
+                Ok(true)
+            }
+            None => Ok(false),
+        }
+    }
+
+    // Takes a row of a tile.
+    fn accept_row(&mut self, tile: LogicTile, row: u8, line: &[u8]) -> bool
+        requires logic { is_logic (kind_of K1 tile.x tile.y) ≡ true }
+        requires row { row < 16 }
+        ensures expectable { IsTrue result → IsExpectable self.new.expected }
+        ensures advanced { advanced_at (state_of self.old) (Expected.Row tile row) line.now ≡ (if result then Some (state_of self.new) else None) }
+    {
+        if !is_row(line) {
+            return false;
+        }
+        put_row(&mut self.planes, tile, row, line);
+        self.expected = if row == 15 {
+            Expected::Statement
+        } else {
+            Expected::Row { tile, row: row + 1 }
+        };
+        true
+    }
+}
+
+// Gives the bits of a row of a tile the value 1 where the line has a 1.
+fn put_row(planes: &mut Banks<Plane<332, 144>>, tile: LogicTile, row: u8, line: &[u8])
+    requires logic { is_logic (kind_of K1 tile.x tile.y) ≡ true }
+    requires row { row < 16 }
+    requires line { is_row line.now ≡ true }
+    ensures { planes.new ≡ row_set planes.old tile row line.now 54 }
+{
+    for col in 0..54 {
+        if line[usize::from(col)] == b'1' {
+            planes.set(cram_place::<Hx1k>(tile.x, tile.y, row, col));
+        }
+    }
 }
 
 // The tile that a line names.

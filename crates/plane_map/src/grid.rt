@@ -1,5 +1,5 @@
 // The grid of tiles, its edges and its halves.
-ghost use Rattle.std.specs.Prelude.{◌≡◌, ◌+◌, ◌/◌, ◌%◌, ◌<◌, ◌≤◌, ◌||◌, ◌==◌, nat_le};
+ghost use Rattle.std.specs.Prelude.{OnSome, ◌≡◌, ◌+◌, ◌/◌, ◌%◌, ◌<◌, ◌≤◌, ◌||◌, ◌==◌, nat_le};
 ghost use Rattle.plane_map.specs.Layout.{kind_of, columns_of, is_side, is_end, is_right, is_top, grid_width, grid_height, bank_of, from_side, from_end, ram_of};
 
 use crate::device::DeviceName;
@@ -8,7 +8,8 @@ use crate::tile::TileKind;
 /// The tile of a device at a place of the grid.
 #[tactic(auto, unfolding(crate::specs::Layout::kind_of))]
 pub(crate) fn kind_on(device: DeviceName, x: u32, y: u32) -> Option<TileKind>
-    ensures { result ≡ kind_of device x y }
+    ensures kind { result ≡ kind_of device x y }
+    ensures in_grid { OnSome result ((x < grid_width device) × (y < grid_height device)) }
 {
     if x >= device.columns() || y >= device.rows() {
         return None;

@@ -1,6 +1,6 @@
 // Where bits lie.
-ghost use Rattle.std.specs.Prelude.{◌≡◌, ◌<◌, Option, Some, IfSome, MatchOption};
-ghost use Rattle.plane_map.specs.Layout.{kind_of, columns_of, columns_at, place_of, word_place_of, IsTileBit, IsWordBit, IsInCram, IsInBram, IsExtraBit};
+ghost use Rattle.std.specs.Prelude.{◌≡◌, ◌<◌, Option, Some, IfSome, OnSome, MatchOption};
+ghost use Rattle.plane_map.specs.Layout.{grid_width, grid_height, kind_of, columns_of, columns_at, place_of, word_place_of, IsTileBit, IsWordBit, IsInCram, IsInBram, IsExtraBit};
 
 use crate::device::{Device, DeviceName};
 use crate::columns::{col_at, px_of, column_width, column_at};
@@ -10,7 +10,8 @@ use crate::tile::{Place, TileBit, TileKind, WordBit};
 
 /// The tile at a place of the grid: none at a corner or outside.
 pub fn kind_at<D: Device>(x: u32, y: u32) -> Option<TileKind>
-    ensures { result ≡ kind_of D.NAME x y }
+    ensures kind { result ≡ kind_of D.NAME x y }
+    ensures in_grid { OnSome result ((x < grid_width D.NAME) × (y < grid_height D.NAME)) }
 {
     kind_on(D::device_name(), x, y)
 }

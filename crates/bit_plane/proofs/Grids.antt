@@ -6,6 +6,7 @@ use Rattle.std.proofs.lemmas.Bool.{cases_eq, cases_lt}
 use Rattle.std.proofs.Math.Seq.{take-set-lt}
 pub use Rattle.bit_plane.specs.Cut.{length-rows_of, row_at-rows_of, IsGrid-rows_of}
 use Rattle.bit_plane.specs.BitList.{placed}
+use Rattle.bit_plane.proofs.Places.{length-placed, part-placed, get_or-placed, get_or-placed_before, get_or-placed_after}
 use Rattle.bit_plane.specs.Rows.{Rows, IsGrid, row_at, bit_at, with_row, with_bit, blank, flat, rows_of}
 
 -- ---- bits cut into rows
@@ -216,3 +217,34 @@ rows_of-zeros width zero count exact = refl
 rows_of-zeros width (suc height) count exact =
     let rest = rows_of-zeros width height (count - width) (omega arith) in
     rw (take-replicate width count false (omega arith), drop-replicate width count false) (ap (λ rows. replicate width false ∷ rows) rest)
+
+-- ---- positions of a grid
+
+-- a bit of the part that was placed at a position
+pub bit_at-put : (width height at : ℕ) (part : List Bool) (rows : Rows) (x y : ℕ) → IsGrid width height rows → at + length part ≤ width * height → x < width → y < height → at ≤ y * width + x → y * width + x < at + length part → bit_at (rows_of width height (placed at part (flat rows))) x y ≡ get_or part (y * width + x - at) false
+bit_at-put width height at part rows x y grid within column row from below =
+    let n : ℕ = y * width + x in
+    let e : n ≡ at + (n - at) = omega arith in
+    bit_at-rows_of width height (placed at part (flat rows)) x y column row ∙ ap (λ k. get_or (placed at part (flat rows)) k false) e ∙ get_or-placed at (n - at) part (flat rows) false (omega arith) (omega (arith, length-flat width height rows grid))
+
+-- each other bit stays
+pub bit_at-put_other : (width height at : ℕ) (part : List Bool) (rows : Rows) (x y : ℕ) → IsGrid width height rows → at + length part ≤ width * height → x < width → y < height → (y * width + x < at) ⊎ (at + length part ≤ y * width + x) → bit_at (rows_of width height (placed at part (flat rows))) x y ≡ bit_at rows x y
+bit_at-put_other width height at part rows x y grid within column row (inl before) =
+    bit_at-rows_of width height (placed at part (flat rows)) x y column row ∙ get_or-placed_before at (y * width + x) part (flat rows) false before (omega (arith, length-flat width height rows grid)) ∙ get_or-flat width height rows x y grid column row
+bit_at-put_other width height at part rows x y grid within column row (inr after) =
+    bit_at-rows_of width height (placed at part (flat rows)) x y column row ∙ get_or-placed_after at (y * width + x) part (flat rows) false after (omega (arith, length-flat width height rows grid)) ∙ get_or-flat width height rows x y grid column row
+
+-- all bits after whole rows were placed
+pub flat-placed : (width height first count : ℕ) (part : List Bool) (rows : Rows) → IsGrid width height rows → first + count ≤ height → length part ≡ count * width → flat (placed first (rows_of width count part) rows) ≡ placed (first * width) part (flat rows)
+flat-placed width height first count part rows grid within whole =
+    let bits : List Bool = flat rows in
+    let exact = length-flat width height rows grid in
+    let room : (first + count) * width ≤ height * width = mul-le (first + count) width height width within (omega arith) in
+    let fits : first * width + length part ≤ length bits = omega arith in
+    sym (ap (λ rows. flat (placed first (rows_of width count part) rows)) (rows_of-flat width height rows grid)) ∙ sym (ap flat (rows_of-placed width height first count part bits within whole exact)) ∙ flat-rows_of width height (placed (first * width) part bits) (length-placed (first * width) part bits fits ∙ exact)
+
+-- the bits of whole rows that were placed
+pub flat-run_placed : (width first count : ℕ) (part : List Bool) (rows : Rows) → first ≤ length rows → length part ≡ count * width → flat (take count (drop first (placed first (rows_of width count part) rows))) ≡ part
+flat-run_placed width first count part rows within whole =
+    let tall = length-rows_of width count part in
+    ap flat (ap (λ n. take n (drop first (placed first (rows_of width count part) rows))) (sym tall) ∙ part-placed first (rows_of width count part) rows within) ∙ flat-rows_of width count part (omega arith)

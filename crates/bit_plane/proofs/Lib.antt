@@ -4,3 +4,4 @@ pub mod Grids
 pub mod Places
 pub mod TileRows
 pub mod Words
+mod Worked

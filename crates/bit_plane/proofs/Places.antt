@@ -1,5 +1,5 @@
 -- A part placed in a whole.
-use Rattle.std.proofs.Common.{◌≡◌, ℕ, ◌+◌, ◌-◌, ◌<◌, ◌≤◌, List, [], ◌++◌, length, get_or, take, drop, sym, ap, ◌∙◌, append_assoc, append-nil, arith, length-append, length-take-le, length-drop, take_at, drop-drop, take-take, take-append-drop, get_or-take, get_or-drop, get_or-append-add}
+use Rattle.std.proofs.Common.{◌≡◌, ℕ, ◌+◌, ◌-◌, ◌<◌, ◌≤◌, List, [], ◌++◌, length, get_or, take, drop, refl, sym, ap, ◌∙◌, append_assoc, append-nil, arith, length-append, length-take-le, length-drop, take_at, drop_at, drop-drop, take-take, take-append-drop, get_or-take, get_or-drop, get_or-append-add}
 use Rattle.std.proofs.Math.Seq.{drop-append-add, take-append-add}
 use Rattle.std.proofs.lemmas.List.{drop-take, take-append-le, drop-append-le, get_or_append_left}
 use Rattle.bit_plane.specs.BitList.{placed}
@@ -84,3 +84,10 @@ get_or-placed_after {A} at i part whole d after long =
     let parts : i ≡ length before + (i - past) = omega arith in
     let e : past + (i - past) ≡ i = omega arith in
     ap (λ n. get_or (before ++ drop past whole) n d) parts ∙ get_or-append-add before (drop past whole) (i - past) d ∙ get_or-drop past whole (i - past) d ∙ ap (λ n. get_or whole n d) e
+
+-- the part, read again
+pub part-placed : {A : Type 0} (at : ℕ) (part whole : List A) → at ≤ length whole → take (length part) (drop at (placed at part whole)) ≡ part
+part-placed {A} at part whole long =
+    let front : length (take at whole) ≡ at = length-take-le at whole long in
+    let back : List A = drop (at + length part) whole in
+    ap (λ xs. take (length part) (drop at xs)) (append_assoc (take at whole) part back) ∙ ap (take (length part)) (drop_at (take at whole) (part ++ back) at front) ∙ take_at part back (length part) refl

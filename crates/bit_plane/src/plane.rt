@@ -5,7 +5,7 @@ use crate::bits::Bits;
 use crate::order;
 use std::alloc::{AllocError, Global};
 
-/// `H` rows of `W` bits.
+/// `H` rows of `W` bits, each bit in a byte of its own.
 #[derive(Drop)]
 pub struct Plane<const W: usize, const H: usize> {
     bits: Vec<bool>,

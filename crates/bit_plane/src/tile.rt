@@ -48,7 +48,8 @@ impl<const C: usize> Tile<C> {
     pub fn set(&mut self, row: usize, col: usize, bit: bool)
         requires row { row < 16 }
         requires col { col < C }
-        ensures { self.new ≡ with_bit self.old col row bit }
+        ensures bits { self.new ≡ with_bit self.old col row bit }
+        ensures grid { IsGrid C 16 self.new }
     {
         if bit {
             self.words[row] |= 1 << col;
@@ -70,7 +71,8 @@ impl<const C: usize> Tile<C> {
     pub fn set_row(&mut self, row: usize, bits: u64)
         requires row { row < 16 }
         requires bits { bits < 2 ^ C }
-        ensures { self.new ≡ with_row self.old row (word_bits C bits) }
+        ensures bits { self.new ≡ with_row self.old row (word_bits C bits) }
+        ensures grid { IsGrid C 16 self.new }
     {
         self.words[row] = bits;
     }

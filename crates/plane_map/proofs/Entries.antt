@@ -1,5 +1,5 @@
 -- Lists whose entries are all different, by a test.
-use Rattle.std.proofs.Common.{◌≡◌, ℕ, zero, suc, ◌+◌, ◌<◌, ◌≤◌, ◌==◌, nat_lt, Bool, true, false, not, ◌&&◌, ◌||◌, List, [], ◌∷◌, length, get_or, refl, sym, ◌∙◌, inl, inr, arith}
+use Rattle.std.proofs.Common.{◌≡◌, ℕ, zero, suc, ◌<◌, ◌==◌, nat_lt, Bool, true, false, not, ◌&&◌, ◌||◌, List, [], ◌∷◌, length, get_or, refl, sym, ◌∙◌, inl, inr, arith}
 use Rattle.std.proofs.lemmas.Bool.Decides.{nat_tests, eqb_tells}
 
 -- whether a number is an entry
@@ -45,15 +45,20 @@ get_or-below n (x ∷ xs) b (suc i) h = grind (arith, nat_tests, get_or-below n 
 -- what occurs stands somewhere
 pub occurs-get_or : (n : ℕ) (xs : List ℕ) → occurs n xs ≡ true → (k : ℕ) × (k < length xs) × (get_or xs k 0 ≡ n)
 occurs-get_or n [] o = absurd (cc)
-occurs-get_or n (x ∷ xs) o = elim (eqb_tells n x) [ inl e ↦ (0, omega arith, sym e.1) | inr e ↦
-    let rest : occurs n xs ≡ true = grind (arith, nat_tests, e) in
-    let found = occurs-get_or n xs rest in
-    (suc found.0, omega arith, found.2) ]
+occurs-get_or n (x ∷ xs) o = elim (eqb_tells n x) [
+  | inl e ↦ (0, omega arith, sym e.1)
+  | inr e ↦
+      let rest : occurs n xs ≡ true = grind (arith, nat_tests, e) in
+      let found = occurs-get_or n xs rest in
+      (suc found.0, omega arith, found.2)
+]
 
 -- each number below the number stands somewhere
 pub have_all-get_or : (m : ℕ) (xs : List ℕ) → have_all m xs ≡ true → (n : ℕ) → n < m → (k : ℕ) × (k < length xs) × (get_or xs k 0 ≡ n)
 have_all-get_or zero xs all n h = absurd (omega arith)
-have_all-get_or (suc m) xs all n h = elim (eqb_tells n m) [ inl e ↦
-        let found = occurs-get_or m xs (grind (arith, nat_tests)) in
-        (found.0, found.1, found.2 ∙ sym e.1)
-    | inr e ↦ have_all-get_or m xs (grind (arith, nat_tests)) n (omega (arith, e.1)) ]
+have_all-get_or (suc m) xs all n h = elim (eqb_tells n m) [
+  | inl e ↦
+      let found = occurs-get_or m xs (grind (arith, nat_tests)) in
+      (found.0, found.1, found.2 ∙ sym e.1)
+  | inr e ↦ have_all-get_or m xs (grind (arith, nat_tests)) n (omega (arith, e.1))
+]

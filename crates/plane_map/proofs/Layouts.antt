@@ -1,11 +1,11 @@
 -- The bits of a tile as offsets within its column and its row of tiles.
-use Rattle.std.proofs.Common.{◌≡◌, ◌≢◌, ℕ, zero, suc, ◌+◌, ◌-◌, ◌*◌, ◌/◌, ◌%◌, ◌<◌, ◌≤◌, Bool, true, false, ◌||◌, if◌then◌else◌, List, length, get_or, refl, sym, ◌∙◌, ap, subst, arith, lit≤}
+use Rattle.std.proofs.Common.{◌≡◌, ℕ, ◌+◌, ◌*◌, ◌/◌, ◌<◌, ◌≤◌, Bool, true, false, ◌||◌, refl, sym, ◌∙◌, ap, subst, arith, lit≤}
 use Rattle.std.proofs.lemmas.Bool.Decides.{nat_tests}
 use Rattle.plane_map.specs.declared.device.DeviceName.{DeviceName}
 use Rattle.plane_map.specs.declared.device.DeviceName.TheVariants.{K1, K8}
 use Rattle.plane_map.specs.declared.tile.TileBit.{TileBit}
 use Rattle.plane_map.specs.declared.tile.Place.{Place}
-use Rattle.plane_map.specs.Layout.{kind_of, columns_at, width_of, start_of, pad_column, pad_row, pad_columns, pad_rows, is_side, is_end, is_right, is_top, from_side, from_end, bank_of, column_of, row_of, place_of, last_x, last_y, grid_width, grid_height, cram_width, cram_height, IsTileBit}
+use Rattle.plane_map.specs.Layout.{kind_of, columns_at, width_of, start_of, pad_row, pad_columns, pad_rows, is_side, is_end, is_right, is_top, from_side, from_end, bank_of, column_of, row_of, place_of, last_x, last_y, grid_width, grid_height, cram_width, cram_height, IsTileBit}
 use Rattle.plane_map.proofs.Widths.{AreStarts, start-later, same_column, start-at_most}
 use Rattle.plane_map.proofs.Entries.{have_all-get_or}
 use Rattle.plane_map.proofs.Offsets.{ArePads, pad-below, offset, offset-below, offset-same, offset-is, FitsColumn, fits-end, fits-inner, height, height-below, height-same, height-is, same_row, bank-same, mirror-same}
@@ -103,16 +103,16 @@ col-same device a b x y ha hb e =
     let fits : ℕ → ℕ → Type 0 = λ p q. FitsColumn 18 42 (is_end device q) (width_of device (from_side device p)) a.col in
     let same : ℕ → ℕ → Type 0 = λ p q. offset_in (is_end device q) (is_side device p || is_right device p) (width_of device (from_side device p)) a.col ≡ offset_of device b in
     offset-same pad_columns 18 42 are_pad_columns (is_end device b.y) (is_side device b.x || is_right device b.x) (width_of device (from_side device b.x)) a.col b.col
-        (subst (λ p. fits p b.y) x (subst (λ q. fits a.x q) y ha.fits)) hb.fits (subst (λ p. same p b.y) x (subst (λ q. same a.x q) y e))
+    (subst (λ p. fits p b.y) x (subst (λ q. fits a.x q) y ha.fits)) hb.fits (subst (λ p. same p b.y) x (subst (λ q. same a.x q) y e))
 
 -- bits of tiles with one place are one bit
 pub place_of-same : (device : DeviceName) (a b : TileBit) → IsPlaced device a → IsPlaced device b → bank_of device a.x a.y ≡ bank_of device b.x b.y → column_of device a ≡ column_of device b → row_of device a ≡ row_of device b → a ≡ b
 place_of-same device a b ha hb bank column row =
     let halves = bank-same (is_top device a.y) (is_right device a.x) (is_top device b.y) (is_right device b.x) bank in
     let columns = same_column (start_of device) (width_of device) (are_starts device) (from_side device a.x) (from_side device b.x) (offset_of device a) (offset_of device b)
-        (offset-below pad_columns 18 42 are_pad_columns _ _ _ a.col ha.fits) (offset-below pad_columns 18 42 are_pad_columns _ _ _ b.col hb.fits) (cc (column_of-is device a ha, column_of-is device b hb)) in
+    (offset-below pad_columns 18 42 are_pad_columns _ _ _ a.col ha.fits) (offset-below pad_columns 18 42 are_pad_columns _ _ _ b.col hb.fits) (cc (column_of-is device a ha, column_of-is device b hb)) in
     let rows = same_row (from_end device a.y) (from_end device b.y) (height_of device a) (height_of device b)
-        (height-below pad_rows _ _ a.row ha.row_in) (height-below pad_rows _ _ b.row hb.row_in) (cc (row_of-is device a ha, row_of-is device b hb)) in
+    (height-below pad_rows _ _ a.row ha.row_in) (height-below pad_rows _ _ b.row hb.row_in) (cc (row_of-is device a ha, row_of-is device b hb)) in
     let x : a.x ≡ b.x = from_side-same device a.x b.x ha.x_in hb.x_in halves.1 columns.0 in
     let y : a.y ≡ b.y = from_end-same device a.y b.y ha.y_in hb.y_in halves.0 rows.0 in
     let row : a.row ≡ b.row = row-same device a b x y ha hb rows.1 in
@@ -143,7 +143,7 @@ column_of-before device bit h =
     let u = from_side device bit.x in
     let inside : offset_of device bit < width_of device u = offset-below pad_columns 18 42 are_pad_columns _ _ _ bit.col h.fits in
     let before : start_of device u + width_of device u ≤ start_of device (half_width device) =
-        start-later (start_of device) (width_of device) (are_starts device) u (half_width device) (from_side-below device bit.x h.x_in)
+    start-later (start_of device) (width_of device) (are_starts device) u (half_width device) (from_side-below device bit.x h.x_in)
     in
     omega (arith, column_of-is device bit h, inside, before)
 

@@ -1,8 +1,8 @@
 -- Bits of a tile as offsets within its column and its row of tiles, over any lists of the pads' columns and rows and any
 -- widths, so long as the tests of the lists pass.
-use Rattle.std.proofs.Common.{◌≡◌, ℕ, suc, ◌+◌, ◌-◌, ◌*◌, ◌<◌, ◌≤◌, nat_lt, Bool, true, false, if◌then◌else◌, List, length, get_or, refl, arith}
+use Rattle.std.proofs.Common.{◌≡◌, ℕ, ◌+◌, ◌-◌, ◌*◌, ◌<◌, ◌≤◌, nat_lt, Bool, true, false, if◌then◌else◌, List, length, get_or, refl, arith}
 use Rattle.std.proofs.lemmas.Bool.Decides.{nat_tests}
-use Rattle.plane_map.proofs.Entries.{are_distinct, are_below, have_all, get_or-distinct, get_or-below, have_all-get_or}
+use Rattle.plane_map.proofs.Entries.{are_distinct, are_below, get_or-distinct, get_or-below}
 
 -- a list of so many different numbers, each below a number
 pub record ArePads (pads : List ℕ) (count bound : ℕ) : Type 0 where

@@ -1,5 +1,5 @@
 -- Which bit of a tile lies at a place of the configuration planes.
-use Rattle.std.proofs.Common.{◌≡◌, ◌≢◌, ℕ, zero, suc, ◌+◌, ◌-◌, ◌*◌, ◌/◌, ◌%◌, ◌<◌, ◌≤◌, Bool, true, false, ◌||◌, ◌==◌, nat_le, if◌then◌else◌, Option, Some, None, refl, sym, ◌∙◌, ap, subst, arith}
+use Rattle.std.proofs.Common.{◌≡◌, ◌≢◌, ℕ, zero, suc, ◌+◌, ◌/◌, ◌%◌, ◌<◌, ◌≤◌, Bool, true, false, ◌||◌, ◌==◌, nat_le, if◌then◌else◌, Some, None, refl, sym, ◌∙◌, ap, subst, arith}
 use Rattle.std.proofs.lemmas.Bool.Decides.{nat_tests}
 use Rattle.plane_map.specs.declared.device.DeviceName.{DeviceName}
 use Rattle.plane_map.specs.declared.device.DeviceName.TheVariants.{K1, K8}
@@ -8,7 +8,7 @@ use Rattle.plane_map.specs.declared.tile.TileBit.{TileBit}
 use Rattle.plane_map.specs.declared.tile.Place.{Place}
 use Rattle.plane_map.specs.Layout.{kind_of, columns_in, columns_at, width_of, start_of, is_side, is_end, is_right, is_top, from_side, from_end, bank_of, column_of, row_of, place_of, pad_column, pad_columns, pad_rows, grid_width, grid_height, IsTileBit, IsInCram, IsExtraBit}
 use Rattle.plane_map.proofs.Widths.{same_column}
-use Rattle.plane_map.proofs.Layouts.{are_starts, are_pad_columns, offset_in, offset_of, height_in, height_of, IsPlaced, tile_bit_is_placed, column_of-is, row_of-is, column_of-before, place_is_only, half_width, from_side-same, from_end-same}
+use Rattle.plane_map.proofs.Layouts.{are_starts, are_pad_columns, offset_in, offset_of, height_in, height_of, tile_bit_is_placed, column_of-is, row_of-is, column_of-before, place_is_only, half_width, from_side-same, from_end-same}
 use Rattle.plane_map.proofs.Offsets.{offset-below, offset-end, fits-end, height-below, bank-same}
 
 -- a tile with a place in its column and its row of tiles, and how far into the column of tiles the place is
@@ -51,18 +51,18 @@ owner-parts device at x y into holds bit h e =
     let bank : bank_of device bit.x bit.y ≡ bank_of device x y = ap (λ (p : Place). p.bank) e ∙ sym holds.bank in
     let halves = bank-same (is_top device bit.y) (is_right device bit.x) (is_top device y) (is_right device x) bank in
     let px : start_of device (from_side device bit.x) + offset_of device bit ≡ start_of device (from_side device x) + into =
-        sym (column_of-is device bit placed) ∙ ap (λ (p : Place). p.px) e ∙ sym holds.column
+    sym (column_of-is device bit placed) ∙ ap (λ (p : Place). p.px) e ∙ sym holds.column
     in
     let columns = same_column (start_of device) (width_of device) (are_starts device) (from_side device bit.x) (from_side device x) (offset_of device bit) into
-        (offset-below pad_columns 18 42 are_pad_columns _ _ _ bit.col placed.fits) holds.inside px
+    (offset-below pad_columns 18 42 are_pad_columns _ _ _ bit.col placed.fits) holds.inside px
     in
     let py : row_of device bit ≡ at.py = ap (λ (p : Place). p.py) e in
     let below : height_of device bit < 16 = height-below pad_rows (is_end device bit.y) (is_top device bit.y) bit.row placed.row_in in
     let row : from_end device bit.y ≡ from_end device y = omega (arith, row_of-is device bit placed, py, below, holds.row) in
     record {
-        x_is = from_side-same device bit.x x placed.x_in holds.x_in halves.1 columns.0;
-        y_is = from_end-same device bit.y y placed.y_in holds.y_in halves.0 row;
-        into_is = columns.1
+      x_is = from_side-same device bit.x x placed.x_in holds.x_in halves.1 columns.0;
+      y_is = from_end-same device bit.y y placed.y_in holds.y_in halves.0 row;
+      into_is = columns.1;
     }
 
 -- a place in a corner is no tile's bit
@@ -119,7 +119,7 @@ owner-found device at x y into holds kind is end mirrored top u width col row en
     let width' : width ≡ width_of device (from_side device x) = width_is ∙ ap (width_of device) (sym u_is) in
     let col_in : col < columns_at device x y = columns_at-from device x y col kind is (λ e. at_end (end_is ∙ e)) (λ e. subst (λ n. col < n) width' (inner (end_is ∙ e))) in
     let col_is' : offset_in (is_end device y) (is_side device x || is_right device x) (width_of device (from_side device x)) col ≡ into =
-        (λ i. offset_in (sym end_is i) (sym mirrored_is i) (sym width' i) col) ∙ col_is
+    (λ i. offset_in (sym end_is i) (sym mirrored_is i) (sym width' i) col) ∙ col_is
     in
     let row_is' : height_in (is_end device y) (is_top device y) row ≡ at.py % 16 = (λ i. height_in (sym end_is i) (sym top_is i) row) ∙ row_is in
     let is_bit : IsTileBit device (record { x = x; y = y; row = row; col = col }) = record { row_in = row_in; col_in = col_in } in

@@ -1,12 +1,12 @@
 -- The words of the RAMs fill the RAM planes, each place once.
-use Rattle.std.proofs.Common.{◌≡◌, ℕ, zero, suc, ◌+◌, ◌-◌, ◌*◌, ◌/◌, ◌%◌, ◌<◌, ◌≤◌, ◌⊎◌, Bool, true, false, if◌then◌else◌, Some, refl, sym, ◌∙◌, ap, arith}
+use Rattle.std.proofs.Common.{◌≡◌, ℕ, zero, suc, ◌+◌, ◌-◌, ◌*◌, ◌/◌, ◌%◌, ◌<◌, ◌≤◌, ◌⊎◌, Bool, true, false, if◌then◌else◌, Some, refl, ◌∙◌, ap, arith}
 use Rattle.std.proofs.lemmas.Bool.Decides.{nat_tests}
 use Rattle.plane_map.specs.declared.device.DeviceName.{DeviceName}
 use Rattle.plane_map.specs.declared.device.DeviceName.TheVariants.{K1, K8}
 use Rattle.plane_map.specs.declared.tile.TileKind.TheVariants.{RamB}
 use Rattle.plane_map.specs.declared.tile.WordBit.{WordBit}
 use Rattle.plane_map.specs.declared.tile.Place.{Place}
-use Rattle.plane_map.specs.Layout.{kind_of, is_right, is_top, bank_of, ram_of, ram_column, last_x, last_y, grid_width, grid_height, bram_width, word_place_of, IsWordBit, IsInBram}
+use Rattle.plane_map.specs.Layout.{kind_of, is_right, is_top, bank_of, ram_of, ram_column, last_x, last_y, grid_height, bram_width, word_place_of, IsWordBit, IsInBram}
 use Rattle.plane_map.proofs.Offsets.{bank-same}
 
 -- a lower tile of a RAM stands in a column of RAM, in an odd row that is no edge
@@ -104,10 +104,10 @@ word_place_is_onto device at h =
     let x = column_in device halves.1 in
     let y = row_in device halves.0 k in
     let bank : bank_of device x y ≡ at.bank =
-        (λ i. (if is_top-in device halves.0 k inside i then 1 else 0) + (if is_right-in device halves.1 i then 2 else 0)) ∙ halves.2
+    (λ i. (if is_top-in device halves.0 k inside i then 1 else 0) + (if is_right-in device halves.1 i then 2 else 0)) ∙ halves.2
     in
     let px : 16 * ram_of device y + 15 - (15 - at.px % 16) ≡ at.px =
-        ap (λ n. 16 * n + 15 - (15 - at.px % 16)) (ram_of-in device halves.0 k inside) ∙ omega arith
+    ap (λ n. 16 * n + 15 - (15 - at.px % 16)) (ram_of-in device halves.0 k inside) ∙ omega arith
     in
     let bit : WordBit = record { x = x; y = y; word = at.py; bit = 15 - at.px % 16 } in
     let is_bit : IsWordBit device bit = record { lower = kind_of-in device halves.1 halves.0 k inside; word_in = h.py_in; bit_in = omega arith } in

@@ -1,7 +1,7 @@
 -- The definitions at places that are known from outside.
-use Rattle.std.proofs.Common.{◌≡◌, refl, Some, None}
-use Rattle.plane_map.specs.declared.device.DeviceName.TheVariants.{K1, K8}
-use Rattle.plane_map.specs.Layout.{place_of, word_place_of, start_of, pad_columns, pad_rows}
+use Rattle.std.proofs.Common.{◌≡◌, refl}
+use Rattle.plane_map.specs.declared.device.DeviceName.TheVariants.{K1}
+use Rattle.plane_map.specs.Layout.{place_of, start_of, pad_columns, pad_rows}
 
 -- the left bottom logic tile
 logic_first : place_of K1 (record { x = 1; y = 1; row = 0; col = 0 }) ≡ record { bank = 0; px = 18; py = 16 }

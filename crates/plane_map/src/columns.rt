@@ -3,7 +3,7 @@ ghost use Rattle.std.specs.Prelude.{◌≡◌, ◌≢◌, ℕ, ◌+◌, ◌-◌,
 ghost use Rattle.plane_map.specs.Layout.{grid_width, width_of, start_of, pad_column, column_of, cram_width, IsTileBit};
 
 use crate::device::DeviceName;
-use crate::grid::{side_distance, is_mirrored, on_end};
+use crate::grid::{is_mirrored, on_end, side_distance};
 use crate::pads::{column_of_pad, pad_at_column};
 use crate::tile::TileBit;
 
@@ -43,7 +43,13 @@ pub(crate) fn px_of(device: DeviceName, bit: TileBit) -> u32
     let distance = side_distance(device, x);
     let start = column_start(device, distance);
     let width = column_width(device, distance);
-    start + offset_of_col(width, on_end(device, bit.y as u32), is_mirrored(device, x), bit.col)
+    start
+        + offset_of_col(
+            width,
+            on_end(device, bit.y as u32),
+            is_mirrored(device, x),
+            bit.col,
+        )
 }
 
 /// How far a column of a tile is from the start of its column of tiles.

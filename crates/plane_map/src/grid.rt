@@ -20,8 +20,14 @@ pub(crate) fn kind_on(device: DeviceName, x: u32, y: u32) -> Option<TileKind>
         None
     } else if side || end {
         Some(TileKind::Io)
-    } else if x == device.left_ram_column() || x + device.left_ram_column() == device.columns() - 1 {
-        Some(if y % 2 == 1 { TileKind::RamB } else { TileKind::RamT })
+    } else if x == device.left_ram_column()
+        || x + device.left_ram_column() == device.columns() - 1
+    {
+        Some(if y % 2 == 1 {
+            TileKind::RamB
+        } else {
+            TileKind::RamT
+        })
     } else {
         Some(TileKind::Logic)
     }
@@ -118,7 +124,11 @@ pub(crate) fn x_at(device: DeviceName, bank: u8, distance: u32) -> u32
     ensures half { is_right device result ≡ nat_le 2 bank }
     ensures distance { from_side device result ≡ distance }
 {
-    if bank >= 2 { device.columns() - 1 - distance } else { distance }
+    if bank >= 2 {
+        device.columns() - 1 - distance
+    } else {
+        distance
+    }
 }
 
 /// The row of tiles of a bank that is so far from its end edge.
@@ -128,5 +138,9 @@ pub(crate) fn y_at(device: DeviceName, bank: u8, distance: u32) -> u32
     ensures half { is_top device result ≡ (bank % 2 == 1) }
     ensures distance { from_end device result ≡ distance }
 {
-    if bank % 2 == 1 { device.rows() - 1 - distance } else { distance }
+    if bank % 2 == 1 {
+        device.rows() - 1 - distance
+    } else {
+        distance
+    }
 }

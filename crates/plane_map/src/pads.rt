@@ -3,7 +3,9 @@ ghost use Rattle.std.specs.Prelude.{◌≡◌, ◌≢◌, ℕ, ◌<◌, length, 
 ghost use Rattle.plane_map.specs.Layout.{pad_column, pad_row};
 
 /// The column of bits of each column of an io tile, from the start of its column of tiles.
-const PAD_COLUMNS: [u8; 18] = [23, 25, 26, 27, 16, 17, 18, 19, 20, 14, 32, 33, 34, 35, 36, 37, 4, 5];
+const PAD_COLUMNS: [u8; 18] = [
+    23, 25, 26, 27, 16, 17, 18, 19, 20, 14, 32, 33, 34, 35, 36, 37, 4, 5,
+];
 
 /// The row of bits of each row of an io tile, counted from the inner end.
 const PAD_ROWS: [u8; 16] = [0, 1, 3, 2, 4, 5, 7, 6, 8, 9, 11, 10, 12, 13, 15, 14];

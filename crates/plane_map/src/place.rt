@@ -2,8 +2,8 @@
 ghost use Rattle.std.specs.Prelude.{◌≡◌, ◌<◌, Option, Some, IfSome, OnSome, MatchOption};
 ghost use Rattle.plane_map.specs.Layout.{grid_width, grid_height, kind_of, columns_of, columns_at, place_of, word_place_of, IsTileBit, IsWordBit, IsInCram, IsInBram, IsExtraBit};
 
+use crate::columns::{col_at, column_at, column_width, px_of};
 use crate::device::{Device, DeviceName};
-use crate::columns::{col_at, px_of, column_width, column_at};
 use crate::grid::{bank_at, in_top, is_mirrored, kind_on, on_end, ram_at, x_at, y_at};
 use crate::rows::{py_of, row_at};
 use crate::tile::{Place, TileBit, TileKind, WordBit};
@@ -109,5 +109,10 @@ fn owner_on(device: DeviceName, at: Place) -> Option<TileBit>
     let width = column_width(device, column.distance);
     let col = col_at(width, end, is_mirrored(device, x), column.offset)?;
     let row = row_at(end, in_top(device, y), at.py as u32 % 16);
-    Some(TileBit { x: x as u8, y: y as u8, row, col })
+    Some(TileBit {
+        x: x as u8,
+        y: y as u8,
+        row,
+        col,
+    })
 }

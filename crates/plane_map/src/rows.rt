@@ -3,7 +3,7 @@ ghost use Rattle.std.specs.Prelude.{◌≡◌, ◌+◌, ◌-◌, ◌<◌, if◌t
 ghost use Rattle.plane_map.specs.Layout.{pad_row, row_of, cram_height, IsTileBit};
 
 use crate::device::DeviceName;
-use crate::grid::{in_top, on_end, end_distance};
+use crate::grid::{end_distance, in_top, on_end};
 use crate::pads::{pad_at_row, row_of_pad};
 use crate::tile::TileBit;
 
@@ -24,7 +24,11 @@ fn height_of_row(end: bool, top: bool, row: u8) -> u32
     ensures { result ≡ (if end then 15 - pad_row row else if top then 15 - row else row) }
 {
     let row = if end { row_of_pad(row) } else { row };
-    if end || top { 15 - row as u32 } else { row as u32 }
+    if end || top {
+        15 - row as u32
+    } else {
+        row as u32
+    }
 }
 
 /// The row of a tile that is so far from the start of its row of tiles.

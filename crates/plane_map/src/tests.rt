@@ -2,8 +2,7 @@
 ghost use Rattle.std.specs.Prelude.{◌≡◌};
 
 use crate::{
-    Hx1k, Hx8k, Place, TileBit, TileKind, bram_place, cram_place, kind_at, owner_of,
-    tile_width,
+    Hx1k, Hx8k, Place, TileBit, TileKind, bram_place, cram_place, kind_at, owner_of, tile_width,
 };
 
 /// A place by its bank, column and row.
@@ -71,12 +70,30 @@ fn places_bits_of_words(rt: HostRuntime) {
 
 #[test]
 fn finds_the_owners_of_places(rt: HostRuntime) {
-    let logic = TileBit { x: 1, y: 1, row: 0, col: 0 };
+    let logic = TileBit {
+        x: 1,
+        y: 1,
+        row: 0,
+        col: 0,
+    };
     assert_eq!(rt; owner_of::<Hx1k>(at(0, 18, 16)), Some(logic));
-    let pad = TileBit { x: 1, y: 17, row: 2, col: 17 };
+    let pad = TileBit {
+        x: 1,
+        y: 17,
+        row: 2,
+        col: 17,
+    };
     assert_eq!(rt; owner_of::<Hx1k>(at(1, 23, 12)), Some(pad));
-    assert_eq!(rt; owner_of::<Hx1k>(at(0, 330, 143)), None, "past the last tile");
+    assert_eq!(rt;
+        owner_of::<Hx1k>(at(0, 330, 143)),
+        None,
+        "past the last tile"
+    );
     assert_eq!(rt; owner_of::<Hx1k>(at(0, 17, 3)), None, "in a corner");
     assert_eq!(rt; owner_of::<Hx1k>(at(0, 18, 3)), None, "between the pads");
-    assert_eq!(rt; owner_of::<Hx8k>(at(0, 870, 271)), None, "past the last tile");
+    assert_eq!(rt;
+        owner_of::<Hx8k>(at(0, 870, 271)),
+        None,
+        "past the last tile"
+    );
 }

@@ -15,7 +15,7 @@ offset_of_col-requires-clause-inner c = tile_bit_col_inner c.args.device c.args.
 pub returns-clause-value : goal.returns-clause-value
 returns-clause-value c =
     column_of-parts c.args.device c.args.bit c.requires _ _ _ _ _ _ c.side_distance-distance.ensures c.column_start-start.ensures c.column_width-width.ensures c.on_end.ensures
-        c.is_mirrored.ensures c.offset_of_col.ensures
+    c.is_mirrored.ensures c.offset_of_col.ensures
 
 pub returns-clause-in_plane : goal.returns-clause-in_plane
 returns-clause-in_plane c = tile_bit_column_in c.args.device c.args.bit c.requires _ (returns-clause-value c)
@@ -24,8 +24,8 @@ pub overflow_add-result : goal.overflow_add-result
 overflow_add-result c =
     let sum = c.column_start-start.result + c.offset_of_col.result in
     let value : sum ≡ column_of c.args.device c.args.bit =
-        column_of-parts c.args.device c.args.bit c.requires _ _ _ _ _ _ c.side_distance-distance.ensures c.column_start-start.ensures c.column_width-width.ensures c.on_end.ensures
-            c.is_mirrored.ensures c.offset_of_col.ensures
+    column_of-parts c.args.device c.args.bit c.requires _ _ _ _ _ _ c.side_distance-distance.ensures c.column_start-start.ensures c.column_width-width.ensures c.on_end.ensures
+    c.is_mirrored.ensures c.offset_of_col.ensures
     in
     let below : sum < cram_width c.args.device = tile_bit_column_in c.args.device c.args.bit c.requires sum value in
     omega (arith, below, cram_width-below c.args.device)

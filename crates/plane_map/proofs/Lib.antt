@@ -2,6 +2,7 @@ pub mod Entries
 pub mod Layouts
 pub mod Offsets
 pub mod Owners
+pub mod Places
 pub mod Widths
 pub mod Words
 mod Worked

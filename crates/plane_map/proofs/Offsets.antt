@@ -96,10 +96,6 @@ pub bank-same : (top right top' right' : Bool) → (if top then 1 else 0) + (if 
     → (top ≡ top') × (right ≡ right')
 bank-same top right top' right' e = grind arith
 
--- there are four banks
-pub bank-below : (top right : Bool) → (if top then 1 else 0) + (if right then 2 else 0) < 4
-bank-below top right = grind arith
-
 -- a line of tiles by its half and by how far it is from the edge
 pub mirror-same : (last x y : ℕ) → x ≤ last → y ≤ last → nat_lt last (2 * x) ≡ nat_lt last (2 * y)
     → (if nat_lt last (2 * x) then last - x else x) ≡ (if nat_lt last (2 * y) then last - y else y) → x ≡ y

@@ -6,10 +6,11 @@ use Rattle.plane_map.specs.declared.device.DeviceName.TheVariants.{K1, K8}
 use Rattle.plane_map.specs.declared.tile.TileKind.{TileKind}
 use Rattle.plane_map.specs.declared.tile.TileBit.{TileBit}
 use Rattle.plane_map.specs.declared.tile.Place.{Place}
-use Rattle.plane_map.specs.Layout.{kind_of, columns_in, columns_at, width_of, start_of, is_side, is_end, is_right, is_top, from_side, from_end, bank_of, column_of, row_of, place_of, pad_column, pad_columns, pad_rows, grid_width, grid_height, IsTileBit, IsInCram, IsExtraBit}
+use Rattle.plane_map.specs.Layout.{kind_of, columns_in, columns_at, width_of, start_of, is_side, is_end, is_right, is_top, from_side, from_end, bank_of, column_of, row_of, place_of, pad_column, pad_columns, grid_width, grid_height, IsTileBit, IsInCram, IsExtraBit}
 use Rattle.plane_map.proofs.Widths.{same_column}
-use Rattle.plane_map.proofs.Layouts.{are_starts, are_pad_columns, offset_in, offset_of, height_in, height_of, tile_bit_is_placed, column_of-is, row_of-is, column_of-before, place_is_only, half_width, from_side-same, from_end-same}
-use Rattle.plane_map.proofs.Offsets.{offset-below, offset-end, fits-end, height-below, bank-same}
+use Rattle.plane_map.proofs.Offsets.{offset-end, fits-end, bank-same}
+use Rattle.plane_map.proofs.Layouts.{are_starts, offset_in, height_in, half_width, from_side-same, from_end-same}
+use Rattle.plane_map.proofs.Places.{offset_of, offset_of-below, height_of, height_of-below, tile_bit_is_placed, column_of-is, row_of-is, column_of-before, place_is_only}
 
 -- a tile with a place in its column and its row of tiles, and how far into the column of tiles the place is
 pub record Holds (device : DeviceName) (at : Place) (x y into : ℕ) : Type 0 where
@@ -28,6 +29,7 @@ bank-parts (suc (suc zero)) h = refl
 bank-parts (suc (suc (suc zero))) h = refl
 bank-parts (suc (suc (suc (suc n)))) h = absurd (omega arith)
 
+-- a tile of those halves is of the bank
 pub bank_of-parts : (device : DeviceName) (x y bank : ℕ) → bank < 4 → is_right device x ≡ nat_le 2 bank → is_top device y ≡ (bank % 2 == 1) → bank_of device x y ≡ bank
 bank_of-parts device x y bank h right top = (λ i. (if top i then 1 else 0) + (if right i then 2 else 0)) ∙ bank-parts bank h
 
@@ -39,12 +41,14 @@ extra-past device at past bit h e =
     omega (arith, px, past, column_of-before device bit (tile_bit_is_placed device bit h))
 
 -- what a bit is that lies at the place
-pub record IsOwner (device : DeviceName) (at : Place) (x y into : ℕ) (bit : TileBit) : Type 0 where
+pub record IsOwner (device : DeviceName) (x y into : ℕ) (bit : TileBit) : Type 0 where
   pub x_is : bit.x ≡ x
   pub y_is : bit.y ≡ y
   pub into_is : offset_of device bit ≡ into
 
-pub owner-parts : (device : DeviceName) (at : Place) (x y into : ℕ) → Holds device at x y into → (bit : TileBit) → IsTileBit device bit → place_of device bit ≡ at → IsOwner device at x y into bit
+-- a bit that lies at the place is one of the tile that holds it
+pub owner-parts : (device : DeviceName) (at : Place) (x y into : ℕ) → Holds device at x y into → (bit : TileBit) → IsTileBit device bit → place_of device bit ≡ at
+    → IsOwner device x y into bit
 unfolding place_of
 owner-parts device at x y into holds bit h e =
     let placed = tile_bit_is_placed device bit h in
@@ -54,10 +58,10 @@ owner-parts device at x y into holds bit h e =
     sym (column_of-is device bit placed) ∙ ap (λ (p : Place). p.px) e ∙ sym holds.column
     in
     let columns = same_column (start_of device) (width_of device) (are_starts device) (from_side device bit.x) (from_side device x) (offset_of device bit) into
-    (offset-below pad_columns 18 42 are_pad_columns _ _ _ bit.col placed.fits) holds.inside px
+    (offset_of-below device bit placed) holds.inside px
     in
     let py : row_of device bit ≡ at.py = ap (λ (p : Place). p.py) e in
-    let below : height_of device bit < 16 = height-below pad_rows (is_end device bit.y) (is_top device bit.y) bit.row placed.row_in in
+    let below : height_of device bit < 16 = height_of-below device bit placed in
     let row : from_end device bit.y ≡ from_end device y = omega (arith, row_of-is device bit placed, py, below, holds.row) in
     record {
       x_is = from_side-same device bit.x x placed.x_in holds.x_in halves.1 columns.0;

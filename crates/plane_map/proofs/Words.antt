@@ -9,19 +9,22 @@ use Rattle.plane_map.specs.declared.tile.Place.{Place}
 use Rattle.plane_map.specs.Layout.{kind_of, is_right, is_top, bank_of, ram_of, ram_column, last_x, last_y, grid_height, bram_width, word_place_of, IsWordBit, IsInBram}
 use Rattle.plane_map.proofs.Offsets.{bank-same}
 
--- a lower tile of a RAM stands in a column of RAM, in an odd row that is no edge
+-- a lower tile of a RAM stands in a column of RAM
 pub lower-column : (device : DeviceName) (x y : ℕ) → kind_of device x y ≡ Some RamB → (x ≡ ram_column device) ⊎ (x + ram_column device ≡ last_x device)
 unfolding kind_of
 lower-column device x y h = grind (arith, nat_tests)
 
+-- in an odd row
 pub lower-odd : (device : DeviceName) (x y : ℕ) → kind_of device x y ≡ Some RamB → y % 2 ≡ 1
 unfolding kind_of
 lower-odd device x y h = grind (arith, nat_tests)
 
+-- below the top row
 pub lower-inner : (device : DeviceName) (x y : ℕ) → kind_of device x y ≡ Some RamB → y < last_y device
 unfolding kind_of
 lower-inner device x y h = grind (arith, nat_tests)
 
+-- and with its upper tile between it and the top row
 pub lower-third : (device : DeviceName) (x y : ℕ) → kind_of device x y ≡ Some RamB → y + 3 ≤ grid_height device
 lower-third K1 x y h = omega (arith, lower-odd K1 x y h, lower-inner K1 x y h)
 lower-third K8 x y h = omega (arith, lower-odd K8 x y h, lower-inner K8 x y h)
@@ -35,11 +38,6 @@ lower-same_x K8 x y x' y' h h' r = grind (arith, nat_tests, lower-column K8 x y 
 pub lower-same_y : (device : DeviceName) (x y x' y' : ℕ) → kind_of device x y ≡ Some RamB → kind_of device x' y' ≡ Some RamB → is_top device y ≡ is_top device y' → ram_of device y ≡ ram_of device y' → y ≡ y'
 lower-same_y K1 x y x' y' h h' t e = grind (arith, nat_tests, lower-odd K1 x y h, lower-odd K1 x' y' h', lower-inner K1 x y h, lower-inner K1 x' y' h')
 lower-same_y K8 x y x' y' h h' t e = grind (arith, nat_tests, lower-odd K8 x y h, lower-odd K8 x' y' h', lower-inner K8 x y h, lower-inner K8 x' y' h')
-
--- the number of a RAM of a bank leaves room for its sixteen columns
-pub ram_of-below : (device : DeviceName) (x y : ℕ) → kind_of device x y ≡ Some RamB → 16 * ram_of device y + 16 ≤ bram_width device
-ram_of-below K1 x y h = grind (arith, nat_tests, lower-odd K1 x y h, lower-inner K1 x y h)
-ram_of-below K8 x y h = grind (arith, nat_tests, lower-odd K8 x y h, lower-inner K8 x y h)
 
 -- two RAMs in which one column of bits lies are one
 same_ram : (k l a b : ℕ) → a < 16 → b < 16 → 16 * k + 15 - a ≡ 16 * l + 15 - b → (k ≡ l) × (a ≡ b)
@@ -67,21 +65,25 @@ column_in device right = if right then last_x device - ram_column device else ra
 abbrev row_in : DeviceName → Bool → ℕ → ℕ
 row_in device top k = if top then last_y device - 2 - 2 * k else 2 * k + 1
 
+-- there stands a lower tile
 kind_of-in : (device : DeviceName) (right top : Bool) (k : ℕ) → 16 * k < bram_width device → kind_of device (column_in device right) (row_in device top k) ≡ Some RamB
 unfolding kind_of
 kind_of-in K1 right top k h = grind (arith, nat_tests)
 kind_of-in K8 right top k h = grind (arith, nat_tests)
 
+-- of that half of the columns
 is_right-in : (device : DeviceName) (right : Bool) → is_right device (column_in device right) ≡ right
 is_right-in K1 true = refl
 is_right-in K1 false = refl
 is_right-in K8 true = refl
 is_right-in K8 false = refl
 
+-- of that half of the rows
 is_top-in : (device : DeviceName) (top : Bool) (k : ℕ) → 16 * k < bram_width device → is_top device (row_in device top k) ≡ top
 is_top-in K1 top k h = grind (arith, nat_tests)
 is_top-in K8 top k h = grind (arith, nat_tests)
 
+-- and of that number
 ram_of-in : (device : DeviceName) (top : Bool) (k : ℕ) → 16 * k < bram_width device → ram_of device (row_in device top k) ≡ k
 ram_of-in K1 top k h = grind (arith, nat_tests)
 ram_of-in K8 top k h = grind (arith, nat_tests)

@@ -18,6 +18,7 @@ io_top_4 : place_of K1 (record { x = 1; y = 17; row = 2; col = 4 }) ≡ record {
 unfolding place_of start_of pad_columns pad_rows
 io_top_4 = refl
 
+-- another column of it
 io_top_17 : place_of K1 (record { x = 1; y = 17; row = 2; col = 17 }) ≡ record { bank = 1; px = 23; py = 12 }
 unfolding place_of start_of pad_columns pad_rows
 io_top_17 = refl

@@ -1,6 +1,6 @@
 // The grid of tiles, its edges and its halves.
-ghost use Rattle.std.specs.Prelude.{OnSome, ◌≡◌, ◌+◌, ◌/◌, ◌%◌, ◌<◌, ◌≤◌, ◌||◌, ◌==◌, nat_le};
-ghost use Rattle.plane_map.specs.Layout.{kind_of, columns_of, is_side, is_end, is_right, is_top, grid_width, grid_height, bank_of, from_side, from_end, ram_of};
+ghost use Rattle.std.specs.Prelude.{OnSome, ◌≡◌, ◌+◌, ◌/◌, ◌%◌, ◌<◌, ◌≤◌, ◌||◌, ◌==◌, nat_le, if◌then◌else◌};
+ghost use Rattle.plane_map.specs.Layout.{kind_of, columns_of, is_side, is_end, is_right, is_top, grid_width, grid_height, bank_of, from_side, from_end, ram_of, ram_column, last_x};
 
 use crate::device::DeviceName;
 use crate::tile::TileKind;
@@ -14,22 +14,25 @@ pub(crate) fn kind_on(device: DeviceName, x: u32, y: u32) -> Option<TileKind>
     if x >= device.columns() || y >= device.rows() {
         return None;
     }
-    let side = on_side(device, x);
-    let end = on_end(device, y);
-    if side && end {
-        None
-    } else if side || end {
-        Some(TileKind::Io)
-    } else if x == device.left_ram_column()
-        || x + device.left_ram_column() == device.columns() - 1
-    {
-        Some(if y % 2 == 1 {
-            TileKind::RamB
-        } else {
-            TileKind::RamT
-        })
+    match (on_side(device, x), on_end(device, y)) {
+        (true, true) => None,
+        (true, false) | (false, true) => Some(TileKind::Io),
+        (false, false) => Some(inner_kind(device, x, y)),
+    }
+}
+
+/// The tile at a place of the grid that is on no edge.
+fn inner_kind(device: DeviceName, x: u32, y: u32) -> TileKind
+    requires { x < grid_width device }
+    ensures { result ≡ (if (x == ram_column device) || (x + ram_column device == last_x device) then (if y % 2 == 1 then TileKind.RamB else TileKind.RamT) else TileKind.Logic) }
+{
+    let ram = device.left_ram_column();
+    if x != ram && x + ram != device.columns() - 1 {
+        TileKind::Logic
+    } else if y % 2 == 1 {
+        TileKind::RamB
     } else {
-        Some(TileKind::Logic)
+        TileKind::RamT
     }
 }
 

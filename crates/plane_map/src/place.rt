@@ -1,5 +1,5 @@
 // Where bits lie.
-ghost use Rattle.std.specs.Prelude.{◌≡◌, ◌<◌, Option, Some, IfSome, OnSome, MatchOption};
+ghost use Rattle.std.specs.Prelude.{OnSome, ◌≡◌, ◌<◌, Option, Some, IfSome, MatchOption};
 ghost use Rattle.plane_map.specs.Layout.{grid_width, grid_height, kind_of, columns_of, columns_at, place_of, word_place_of, IsTileBit, IsWordBit, IsInCram, IsInBram, IsExtraBit};
 
 use crate::columns::{col_at, column_at, column_width, px_of};
@@ -65,7 +65,7 @@ pub fn owner_of<D: Device>(at: Place) -> Option<TileBit>
 }
 
 /// Where a bit of a tile lies in the configuration planes of a device.
-#[tactic(auto, using(crate::proofs::Layouts::place_is_only), unfolding(crate::specs::Layout::place_of))]
+#[tactic(auto, using(crate::proofs::Places::place_is_only), unfolding(crate::specs::Layout::place_of))]
 fn place_on(device: DeviceName, bit: TileBit) -> Place
     requires { IsTileBit device bit }
     ensures place { result ≡ place_of device bit }

@@ -14,7 +14,7 @@ returns-in_err-kind_on c =
     holds-parts c.args.device c.args.at c.requires column.column.distance column.column.offset column.ensures.in_column column.ensures.value
     x.result y.result x.ensures.in_grid x.ensures.half x.ensures.distance y.ensures.in_grid y.ensures.half y.ensures.distance
     in
-    rw c.from_residual-in_err-kind_on.ensures (record { owner = extra-corner c.args.device c.args.at _ _ _ holds (sym c.kind_on.ensures ∙ c.in_err-kind_on.was); only = tt })
+    rw c.from_residual-in_err-kind_on.ensures (record { owner = extra-corner c.args.device c.args.at _ _ _ holds (sym c.kind_on.ensures.kind ∙ c.in_err-kind_on.was); only = tt })
 
 pub returns-in_err-col : goal.returns-in_err-col
 returns-in_err-col c =
@@ -39,7 +39,7 @@ returns c =
     holds-parts c.args.device c.args.at c.requires column.column.distance column.column.offset column.ensures.in_column column.ensures.value
     x.result y.result x.ensures.in_grid x.ensures.half x.ensures.distance y.ensures.in_grid y.ensures.half y.ensures.distance
     in
-    let found = owner-found c.args.device c.args.at x.result y.result column.column.offset holds c.in_ok-kind_on.field-0 (sym c.kind_on.ensures ∙ c.in_ok-kind_on.was)
+    let found = owner-found c.args.device c.args.at x.result y.result column.column.offset holds c.in_ok-kind_on.field-0 (sym c.kind_on.ensures.kind ∙ c.in_ok-kind_on.was)
     c.on_end-end.result c.is_mirrored.result c.in_top.result column.column.distance c.column_width-width.result col.col row.result
     c.on_end-end.ensures c.is_mirrored.ensures c.in_top.ensures x.ensures.distance c.column_width-width.ensures
     col.ensures.end col.ensures.inner col.ensures.value row.ensures.in_tile row.ensures.value

@@ -5,3 +5,4 @@ pub mod Places
 pub mod TileRows
 pub mod Words
 mod Worked
+pub mod Made

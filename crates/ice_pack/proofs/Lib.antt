@@ -1,2 +1,4 @@
 pub mod Powers
 pub mod Runs
+pub mod HasRead
+pub mod Planes

@@ -50,21 +50,21 @@ tile_named line = tile_of (words_of line)
 unfoldable pub is_row : List ℕ → Bool
 is_row line = (length line == 54) && list_all (λ byte. (byte == 48) || (byte == 49)) line
 
--- the place of a line in its block: 0 is the statement, and 1 to 16 are the rows 0 to 15
-abbrev pub block_place : ℕ → ℕ
-block_place index = (index - 1) % 17
+-- which line of its block a line after the first is: 0 is the statement, and 1 to 16 are the rows 0 to 15
+abbrev pub line_in_block : ℕ → ℕ
+line_in_block index = (index - 1) % 17
 
-abbrev pub is_statement_place : ℕ → Bool
-is_statement_place index = nat_lt 0 index && (block_place index == 0)
+abbrev pub is_statement_index : ℕ → Bool
+is_statement_index index = nat_lt 0 index && (line_in_block index == 0)
 
--- whether a line names that tile
+-- whether the tile that a line names, if it names one, is that tile
 abbrev pub names : Option LogicTile → LogicTile → Bool
 names None tile = false
 names (Some other) tile = (other.x == tile.x) && (other.y == tile.y)
 
 -- whether an earlier statement names that tile
 abbrev pub named_before : List (List ℕ) → ℕ → LogicTile → Bool
-named_before lines index tile = any_below index (λ k. is_statement_place k && names (tile_named (line_at lines k)) tile)
+named_before lines index tile = any_below index (λ k. is_statement_index k && names (tile_named (line_at lines k)) tile)
 
 -- whether the tile of a statement is there, and new
 abbrev pub is_new : List (List ℕ) → ℕ → Option LogicTile → Bool
@@ -75,7 +75,7 @@ is_new lines index (Some tile) = not (named_before lines index tile)
 unfoldable pub fits : List (List ℕ) → ℕ → Bool
 fits lines index =
     if index == 0 then bytes_eq (line_at lines index) device_line
-    else if block_place index == 0 then is_new lines index (tile_named (line_at lines index))
+    else if line_in_block index == 0 then is_new lines index (tile_named (line_at lines index))
     else is_row (line_at lines index)
 
 -- the line after the last, where a line is missing there: the device, or rows of a block
@@ -101,17 +101,19 @@ is_same_place a b = (a.bank == b.bank) && (a.px == b.px) && (a.py == b.py)
 abbrev pub bit_of : LogicTile → ℕ → ℕ → TileBit
 bit_of tile row col = record { x = tile.x; y = tile.y; row = row; col = col }
 
--- whether a tile's bit stands at a place
+-- whether a bit of a tile, if there is one, stands at a place
 abbrev pub stands_at : Option LogicTile → ℕ → ℕ → Place → Bool
 stands_at None row col at = false
 stands_at (Some tile) row col at = is_same_place (place_of K1 (bit_of tile row col)) at
 
--- whether the character of a line in a column is a 1 of a row, for the bit at that place
+-- Whether the character at a column of a line is a 1 that stands for the bit at a place; n is the line's number in its
+-- block, 0 for the statement, so that the statement stands n lines before.
+abbrev pub sets_in_block : List (List ℕ) → ℕ → ℕ → ℕ → Place → Bool
+sets_in_block lines index n col at =
+    nat_lt 0 n && (get_or (line_at lines index) col 0 == 49) && stands_at (tile_named (line_at lines (index - n))) (n - 1) col at
+
 abbrev pub sets : List (List ℕ) → ℕ → ℕ → Place → Bool
-sets lines index col at =
-    let place = block_place index in
-    nat_lt 0 place && (get_or (line_at lines index) col 0 == 49)
-    && stands_at (tile_named (line_at lines (index - place))) (place - 1) col at
+sets lines index col at = sets_in_block lines index (line_in_block index) col at
 
 -- A bit of the planes is 1 exactly where some character 1 of a row stands for it.
 unfoldable pub is_set : List (List ℕ) → Place → Bool

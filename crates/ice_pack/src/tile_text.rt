@@ -1,8 +1,8 @@
 // A text of logic tiles of an HX1K, read line by line.
-ghost use Rattle.std.specs.Prelude.{◌≡◌, ◌+◌, ◌<◌, ◌++◌, ◌∷◌, [], true, Some, None, IfOk, OnOk, IsTrue, if◌then◌else◌, ◌==◌, ◌||◌};
+ghost use Rattle.std.specs.Prelude.{◌≡◌, ◌+◌, ◌<◌, ◌++◌, ◌∷◌, [], true, Some, None, IfSome, IfOk, OnOk, MatchBool, ◌==◌, ◌||◌};
 ghost use Rattle.std.specs.List.{list_all};
 ghost use Rattle.ice_pack.specs.TileText.{tile_named, logic_tile_at, is_logic, is_row};
-ghost use Rattle.ice_pack.specs.Reading.{row_set};
+ghost use Rattle.ice_pack.specs.Reading.{is_among, after_row, AreGrids, GainsRow};
 ghost use Rattle.plane_map.specs.Layout.{kind_of};
 ghost use Rattle.plane_map.specs.declared.device.DeviceName.TheVariants.{K1};
 
@@ -40,14 +40,15 @@ pub(crate) struct Reader {
 }
 
 impl Reader {
-    ghost use Rattle.ice_pack.specs.Reading.{state_of, advanced, advanced_at, after_statement, IsExpectable};
+    ghost use Rattle.ice_pack.specs.Reading.{state_of, IsReady, RefusesAt, TakesAt};
 
-    // Takes the next line, and answers whether it is what was expected. Where it isn't, nothing changes.
-    #[tactic(auto, unfolding(crate::specs::Reading::advanced))]
+    // Takes the next line, and answers whether it is what was expected.
     fn accept(&mut self, line: &[u8]) -> Result<bool, AllocError>
-        requires { IsExpectable self.old.expected }
-        ensures expectable { OnOk result (IsExpectable self.new.expected) }
-        ensures advanced { IfOk result (λ fits. advanced (state_of self.old) line.now ≡ (if fits then Some (state_of self.new) else None)) }
+        requires { IsReady (state_of self.old) }
+        ensures ready { OnOk result (IsReady (state_of self.new)) }
+        ensures taken { IfOk result (λ fits. MatchBool fits
+            (TakesAt (state_of self.old) self.old.expected line.now (state_of self.new))
+            (RefusesAt (state_of self.old) self.old.expected line.now)) }
     {
         match self.expected {
             Expected::Statement => self.accept_statement(line),
@@ -57,12 +58,15 @@ impl Reader {
 
     // Takes the statement of a tile that isn't named yet.
     fn accept_statement(&mut self, line: &[u8]) -> Result<bool, AllocError>
-        ensures expectable { OnOk result (IsExpectable self.old.expected → IsExpectable self.new.expected) }
-        ensures advanced { IfOk result (λ fits. after_statement (state_of self.old) (tile_named line.now) ≡ (if fits then Some (state_of self.new) else None)) }
+        requires { IsReady (state_of self.old) }
+        ensures ready { OnOk result (IsReady (state_of self.new)) }
+        ensures taken { IfOk result (λ fits. MatchBool fits
+            (TakesAt (state_of self.old) Expected.Statement line.now (state_of self.new))
+            (RefusesAt (state_of self.old) Expected.Statement line.now)) }
     {
         match tile_named(line) {
             Some(tile) => {
-                if self.named.contains(&tile) {
+                if is_among(&self.named, tile) {
                     return Ok(false);
                 }
                 self.named.push(tile)?;
@@ -75,30 +79,50 @@ impl Reader {
 
     // Takes a row of a tile.
     fn accept_row(&mut self, tile: LogicTile, row: u8, line: &[u8]) -> bool
+        requires ready { IsReady (state_of self.old) }
         requires logic { is_logic (kind_of K1 tile.x tile.y) ≡ true }
         requires row { row < 16 }
-        ensures expectable { IsTrue result → IsExpectable self.new.expected }
-        ensures advanced { advanced_at (state_of self.old) (Expected.Row tile row) line.now ≡ (if result then Some (state_of self.new) else None) }
+        ensures ready { IsReady (state_of self.new) }
+        ensures taken { MatchBool result
+            (TakesAt (state_of self.old) (Expected.Row tile row) line.now (state_of self.new))
+            (RefusesAt (state_of self.old) (Expected.Row tile row) line.now) }
     {
         if !is_row(line) {
             return false;
         }
         put_row(&mut self.planes, tile, row, line);
-        self.expected = if row == 15 {
-            Expected::Statement
-        } else {
-            Expected::Row { tile, row: row + 1 }
-        };
+        self.expected = after_row(tile, row);
         true
     }
 }
 
+// What follows a row.
+fn after_row(tile: LogicTile, row: u8) -> Expected
+    requires { row < 16 }
+    ensures { result ≡ after_row tile row }
+{
+    if row == 15 {
+        Expected::Statement
+    } else {
+        Expected::Row { tile, row: row + 1 }
+    }
+}
+
+// Whether a tile is among those.
+fn is_among(tiles: &[LogicTile], tile: LogicTile) -> bool
+    ensures { result ≡ is_among tiles.now tile }
+{
+    tiles.contains(&tile)
+}
+
+#[tactic(auto, unfolding(crate::specs::TileText::is_row))]
 // Gives the bits of a row of a tile the value 1 where the line has a 1.
 fn put_row(planes: &mut Banks<Plane<332, 144>>, tile: LogicTile, row: u8, line: &[u8])
+    requires grids { AreGrids planes.old }
     requires logic { is_logic (kind_of K1 tile.x tile.y) ≡ true }
     requires row { row < 16 }
     requires line { is_row line.now ≡ true }
-    ensures { planes.new ≡ row_set planes.old tile row line.now 54 }
+    ensures { GainsRow planes.old planes.new tile row line.now 54 }
 {
     for col in 0..54 {
         if line[usize::from(col)] == b'1' {
@@ -110,7 +134,8 @@ fn put_row(planes: &mut Banks<Plane<332, 144>>, tile: LogicTile, row: u8, line: 
 // The tile that a line names.
 #[tactic(auto, unfolding(crate::specs::TileText::tile_named))]
 fn tile_named(line: &[u8]) -> Option<LogicTile>
-    ensures { result ≡ tile_named line.now }
+    ensures named { result ≡ tile_named line.now }
+    ensures logic { IfSome result (λ tile. is_logic (kind_of K1 tile.x tile.y) ≡ true) }
 {
     match three_words(line) {
         Some((keyword, x, y)) => {
@@ -126,7 +151,8 @@ fn tile_named(line: &[u8]) -> Option<LogicTile>
 
 // The logic tile of two numbers.
 fn logic_tile(x: Option<u32>, y: Option<u32>) -> Option<LogicTile>
-    ensures { result ≡ logic_tile_at x y }
+    ensures named { result ≡ logic_tile_at x y }
+    ensures logic { IfSome result (λ tile. is_logic (kind_of K1 tile.x tile.y) ≡ true) }
 {
     match (x, y) {
         (Some(x), Some(y)) => match kind_at::<Hx1k>(x, y) {

@@ -1,9 +1,13 @@
 -- What the reader has read: each step keeps that the lines so far fit their places, and that the planes have the bits
 -- of the 1s so far.
-use Rattle.std.proofs.Common.{◌≡◌, ◌≢◌, ℕ, zero, suc, ◌+◌, ◌-◌, ◌*◌, ◌%◌, ◌<◌, ◌≤◌, Bool, true, false, not, cond, ◌&&◌, ◌||◌, ◌==◌, List, [], ◌∷◌, ◌++◌, length, get_or, set, refl, sym, ap, subst, ◌∙◌, inl, inr, ◌⊎◌, arith, add-one}
-use Rattle.text_lines.specs.Lines.{line_at}
-use Rattle.text_lines.specs.Places.{any_below}
-use Rattle.text_lines.proofs.Places.{any_below-more, any_below-none, any_below-same}
+use Rattle.std.proofs.Common.{drop, ◌≡◌, ◌≢◌, ℕ, zero, suc, ◌+◌, ◌-◌, ◌*◌, ◌%◌, ◌<◌, ◌≤◌, Bool, true, false, not, cond, ◌&&◌, ◌||◌, ◌==◌, List, [], ◌∷◌, ◌++◌, length, get_or, set, refl, sym, ap, subst, ◌∙◌, inl, inr, ◌⊎◌, arith, add-one}
+use Rattle.std.specs.Prelude.{replicate, bytes_eq}
+use Rattle.bit_plane.specs.Rows.{blank, bit_at}
+use Rattle.bit_plane.proofs.Grids.{bit_at-blank, same_grids}
+use Rattle.bit_plane.proofs.Made.{IsGrid-rows_from, bit_at-rows_from}
+use Rattle.text_lines.specs.Lines.{lines_of, line_at}
+use Rattle.text_lines.specs.Places.{any_below, least_below}
+use Rattle.text_lines.proofs.Places.{any_below-more, any_below-none, any_below-same, least_below-none, least_below-first}
 use Rattle.plane_map.specs.declared.tile.Place.{Place}
 use Rattle.plane_map.specs.Layout.{kind_of, IsInCram}
 use Rattle.std.proofs.lemmas.Bool.{eq-eqb, ne_eqb, cases_eq, cases_Bool, lt-ltb}
@@ -15,10 +19,11 @@ use Rattle.ice_pack.specs.declared.tile_text.LogicTile.{LogicTile}
 use Rattle.ice_pack.specs.declared.tile_text.Expected.{Expected}
 use Rattle.ice_pack.specs.declared.tile_text.Expected.TheVariants.{Statement, Row}
 use Rattle.ice_pack.specs.Configuration.{place_bit, with_bank_bit}
-use Rattle.ice_pack.specs.TileText.{tile_named, is_row, is_logic, line_in_block, names, named_before, is_new, is_statement_index, fits, is_same_place, sets, sets_in_block, bit_of}
-use Rattle.ice_pack.specs.Reading.{AreGrids, row_sets, GainsRow, ReaderState, is_among, new_tile, after_row, RefusesAt, TakesAt}
-use Rattle.ice_pack.proofs.Planes.{AreGrids-with, place_bit-with, or-false, or_assoc, and-false}
+use Rattle.ice_pack.specs.TileText.{device_line, unfit_line, missing_line, is_set, plane_of, planes_of, tile_named, is_row, is_logic, line_in_block, names, named_before, is_new, is_statement_index, fits, is_same_place, sets, sets_in_block, bit_of}
+use Rattle.ice_pack.specs.Reading.{IsReady, IsExpectable, AreGrids, row_sets, GainsRow, ReaderState, is_among, new_tile, after_row, RefusesAt, TakesAt}
+use Rattle.ice_pack.proofs.Planes.{AreGrids-blank, AreGrids-with, place_bit-with, or-false, or_assoc, and-false}
 use Rattle.std.proofs.lemmas.List.Folds.{list_any-append}
+use Rattle.std.proofs.lemmas.List.{length-drop}
 
 -- ---- a row, character by character
 
@@ -206,3 +211,157 @@ taken lines k s new (Row tile row) read stands takes =
       named = λ other. ap (λ tiles. is_among tiles other) takes.2 ∙ named-row lines k row s.named other stands.0 (read.named other);
       bits = λ p. bits-row lines k row tile s.planes new.planes p (read.bits p) takes.1 stands.0 stands.1;
     }
+
+-- ---- the first line, and the end
+
+-- four blank planes have no bit
+four_blank : (at : Place) → place_bit (replicate 4 (blank 332 144)) at ≡ false
+four_blank at = blank_at at.bank
+  where
+    blank_at : (bank : ℕ) → bit_at (get_or (replicate 4 (blank 332 144)) bank []) at.px at.py ≡ false
+    blank_at zero = bit_at-blank 332 144 at.px at.py
+    blank_at (suc zero) = bit_at-blank 332 144 at.px at.py
+    blank_at (suc (suc zero)) = bit_at-blank 332 144 at.px at.py
+    blank_at (suc (suc (suc zero))) = bit_at-blank 332 144 at.px at.py
+    blank_at (suc (suc (suc (suc bank)))) = refl
+
+-- the first line names the device
+pub begun : (lines : List (List ℕ)) (s : ReaderState) → fits lines 0 ≡ true → s.planes ≡ replicate 4 (blank 332 144) → s.named ≡ [] → s.expected ≡ Statement → HasRead lines 1 s
+unfolding any_below
+begun lines s first planes named expected =
+    let at : Expected → Type 0 = λ e. IsAt lines 1 e in
+    record {
+      some = omega arith;
+      fit = λ i lt. let none : i ≡ 0 = omega arith in ap (fits lines) none ∙ first;
+      stands = subst at (sym expected) refl;
+      named = λ tile. ap (λ tiles. is_among tiles tile) named;
+      bits = λ p. ap (λ rows. place_bit rows p) planes ∙ four_blank p ∙ sym (any_below-none 54 (λ col. sets lines 0 col p) (λ col lt. refl));
+    }
+
+-- whether the first line fits is whether it names the device
+pub fits-first : (lines : List (List ℕ)) → fits lines 0 ≡ bytes_eq (line_at lines 0) device_line
+unfolding fits
+fits-first lines = refl
+
+-- the line that isn't expected is the least that doesn't fit
+pub unfit-at : (text : List ℕ) (k : ℕ) → k < length (lines_of text) → ((i : ℕ) → i < k → fits (lines_of text) i ≡ true) → fits (lines_of text) k ≡ false → unfit_line text ≡ Some (k + 1)
+unfolding unfit_line
+unfit-at text k lt fit here =
+    let lines = lines_of text in
+    let least : least_below (length lines) (λ index. not (fits lines index)) ≡ Some k = least_below-first (length lines) k (λ index. not (fits lines index)) lt (λ j below. ap not (fit j below)) (ap not here) in
+    rw least refl
+
+-- where all lines fit, only one that is missing doesn't
+all_fit : (text : List ℕ) → ((i : ℕ) → i < length (lines_of text) → fits (lines_of text) i ≡ true) → unfit_line text ≡ missing_line (length (lines_of text))
+unfolding unfit_line
+all_fit text fit =
+    let lines = lines_of text in
+    let none : least_below (length lines) (λ index. not (fits lines index)) ≡ None = least_below-none (length lines) (λ index. not (fits lines index)) (λ j below. ap not (fit j below)) in
+    rw none refl
+
+-- an empty text has no line for the device
+pub unfit-empty : (text : List ℕ) → text ≡ [] → unfit_line text ≡ Some 1
+unfolding unfit_line lines_of least_below
+unfit-empty text empty = ap unfit_line empty
+
+-- a text ends in a block
+pub unfit-end : (text : List ℕ) (s : ReaderState) → HasRead (lines_of text) (length (lines_of text)) s → (s.expected ≢ Statement) → unfit_line text ≡ Some (length (lines_of text) + 1)
+unfit-end text s read expected = all_fit text read.fit ∙ ends s.expected read.stands expected
+  where
+    ends : (e : Expected) → IsAt (lines_of text) (length (lines_of text)) e → (e ≢ Statement) → missing_line (length (lines_of text)) ≡ Some (length (lines_of text) + 1)
+    ends Statement stands other = absurd (other refl)
+    ends (Row tile row) stands other = rw (ne_eqb (length (lines_of text) % 17) 1 (λ one. absurd (omega (arith, read.some, stands.0, one)))) refl
+
+-- a text ends behind a block
+pub fit-end : (text : List ℕ) (s : ReaderState) → HasRead (lines_of text) (length (lines_of text)) s → s.expected ≡ Statement → unfit_line text ≡ None
+fit-end text s read expected =
+    let at : Expected → Type 0 = λ e. IsAt (lines_of text) (length (lines_of text)) e in
+    let stands : line_in_block (length (lines_of text)) ≡ 0 = subst at expected read.stands in
+    all_fit text read.fit ∙ rw (eq-eqb (length (lines_of text) % 17) 1 (omega (arith, read.some, stands))) refl
+
+-- a plane whose bits are those that the text sets is the text's
+same_plane : (lines : List (List ℕ)) (s : ReaderState) (bank : ℕ) → HasRead lines (length lines) s → AreGrids s.planes → bank < 4 → get_or s.planes bank [] ≡ plane_of lines bank
+unfolding is_set
+same_plane lines s bank read grids within =
+    let bit : ℕ → ℕ → Bool = λ px py. is_set lines (record { bank = bank; px = px; py = py }) in
+    same_grids 332 144 (get_or s.planes bank []) (plane_of lines bank) (grids.each bank within) (IsGrid-rows_from 332 144 bit)
+      (λ x y column row. read.bits (record { bank = bank; px = x; py = y }) ∙ sym (bit_at-rows_from 332 144 bit x y column row))
+
+four_planes : (planes : List Rows) → length planes ≡ 4 → planes ≡ get_or planes 0 [] ∷ get_or planes 1 [] ∷ get_or planes 2 [] ∷ get_or planes 3 [] ∷ []
+four_planes [] four = absurd (omega arith)
+four_planes (a ∷ []) four = absurd (omega arith)
+four_planes (a ∷ b ∷ []) four = absurd (omega arith)
+four_planes (a ∷ b ∷ c ∷ []) four = absurd (omega arith)
+four_planes (a ∷ b ∷ c ∷ d ∷ []) four = refl
+four_planes (a ∷ b ∷ c ∷ d ∷ e ∷ planes) four = absurd (omega arith)
+
+-- the planes are the text's
+pub same_planes : (lines : List (List ℕ)) (s : ReaderState) → HasRead lines (length lines) s → AreGrids s.planes → s.planes ≡ planes_of lines
+same_planes lines s read grids =
+    four_planes s.planes grids.four
+    ∙ ap (λ plane. plane ∷ get_or s.planes 1 [] ∷ get_or s.planes 2 [] ∷ get_or s.planes 3 [] ∷ []) (same_plane lines s 0 read grids (omega arith))
+    ∙ ap (λ plane. plane_of lines 0 ∷ plane ∷ get_or s.planes 2 [] ∷ get_or s.planes 3 [] ∷ []) (same_plane lines s 1 read grids (omega arith))
+    ∙ ap (λ plane. plane_of lines 0 ∷ plane_of lines 1 ∷ plane ∷ get_or s.planes 3 [] ∷ []) (same_plane lines s 2 read grids (omega arith))
+    ∙ ap (λ plane. plane_of lines 0 ∷ plane_of lines 1 ∷ plane_of lines 2 ∷ plane ∷ []) (same_plane lines s 3 read grids (omega arith))
+
+-- ---- the lines that are left
+
+-- the first line of those that are left
+pub cut : (lines : List (List ℕ)) (k : ℕ) (line : List ℕ) (more : List (List ℕ)) → drop k lines ≡ line ∷ more → (k < length lines) × (line_at lines k ≡ line) × (more ≡ drop (k + 1) lines)
+cut [] zero line more e = absurd cc
+cut [] (suc k) line more e = absurd cc
+cut (first ∷ lines) zero line more e = (omega arith, cc, cc)
+cut (first ∷ lines) (suc k) line more e =
+    let found = cut lines k line more e in
+    let later : suc k + 1 ≡ suc (k + 1) = omega arith in
+    (omega (arith, found.0), found.1, rw later found.2)
+
+-- no line is left
+pub cut-end : (lines : List (List ℕ)) (k : ℕ) → drop k lines ≡ [] → k ≤ length lines → k ≡ length lines
+cut-end lines k none within = omega (arith, length-drop k lines, ap length none)
+
+-- at the end all lines were read
+pub ended : (text left : List ℕ) (k : ℕ) (s : ReaderState) → HasRead (lines_of text) k s → lines_of left ≡ drop k (lines_of text) → left ≡ [] → k ≤ length (lines_of text)
+  → (k ≡ length (lines_of text)) × HasRead (lines_of text) (length (lines_of text)) s
+unfolding lines_of
+ended text left k s read rest none within =
+    let all : k ≡ length (lines_of text) = cut-end (lines_of text) k (sym rest ∙ ap lines_of none) within in
+    (all, subst (λ (n : ℕ). HasRead (lines_of text) n s) all read)
+
+-- the first line of a text, and whether it fits
+pub first_fits : (lines : List (List ℕ)) (first : List ℕ) (more : List (List ℕ)) → lines ≡ first ∷ more → fits lines 0 ≡ bytes_eq first device_line
+first_fits lines first more e = fits-first lines ∙ ap (λ ls. bytes_eq (line_at ls 0) device_line) e
+
+pub not_true : (b : Bool) → not b ≡ true → b ≡ false
+not_true true e = absurd cc
+not_true false e = refl
+
+pub not_false : (b : Bool) → not b ≡ false → b ≡ true
+not_false true e = refl
+not_false false e = absurd cc
+
+-- a first line that doesn't name the device
+pub unfit-first : (text first : List ℕ) (more : List (List ℕ)) → lines_of text ≡ first ∷ more → bytes_eq first device_line ≡ false → unfit_line text ≡ Some 1
+unfit-first text first more e other =
+    unfit-at text 0 ((cut (lines_of text) 0 first more e).0) (λ i lt. absurd (omega arith)) (first_fits (lines_of text) first more e ∙ other)
+
+-- a line that was refused is the least that doesn't fit
+pub unfit-refused : (text line : List ℕ) (k : ℕ) (more : List (List ℕ)) (s : ReaderState) → HasRead (lines_of text) k s → drop k (lines_of text) ≡ line ∷ more → RefusesAt s s.expected line → unfit_line text ≡ Some (k + 1)
+unfit-refused text line k more s read left refuses =
+    let found = cut (lines_of text) k line more left in
+    let at : List ℕ → Type 0 = λ l. RefusesAt s s.expected l in
+    unfit-at text k found.0 read.fit (refused (lines_of text) k s s.expected read read.stands (subst at (sym found.1) refuses))
+
+-- a line that was taken
+pub taken-line : (text line : List ℕ) (k : ℕ) (more : List (List ℕ)) (s new : ReaderState) → HasRead (lines_of text) k s → drop k (lines_of text) ≡ line ∷ more → TakesAt s s.expected line new → HasRead (lines_of text) (k + 1) new
+taken-line text line k more s new read left takes =
+    let found = cut (lines_of text) k line more left in
+    let at : List ℕ → Type 0 = λ l. TakesAt s s.expected l new in
+    taken (lines_of text) k s new s.expected read read.stands (subst at (sym found.1) takes)
+
+-- the reader begins with blank planes
+pub IsReady-new : (s : ReaderState) → s.planes ≡ replicate 4 (blank 332 144) → s.expected ≡ Statement → IsReady s
+IsReady-new s planes expected =
+    let on_planes : List Rows → Type 0 = λ rows. AreGrids rows in
+    let on_expected : Expected → Type 0 = λ e. IsExpectable e in
+    record { expectable = subst on_expected (sym expected) tt; grids = subst on_planes (sym planes) AreGrids-blank }

@@ -5,3 +5,4 @@ pub mod CanonicalBytes
 pub mod Opcodes
 pub mod TileText
 pub mod Reading
+pub mod Fault

@@ -1,7 +1,7 @@
 -- A text of logic tiles of an HX1K: its first line names the device, and after it each block of seventeen lines is a
 -- tile's statement and the tile's sixteen rows. Each line is asked by its place. Indexes of lines count from 0, the
 -- numbers of lines that are told from 1.
-use Rattle.std.specs.Prelude.{ℕ, ◌+◌, ◌-◌, ◌%◌, Bool, true, false, not, ◌&&◌, ◌||◌, List, [], ◌∷◌, length, get_or, codes, nat_lt, ◌==◌, if◌then◌else◌, Option, Some, None}
+use Rattle.std.specs.Prelude.{ℕ, ◌+◌, ◌-◌, ◌%◌, Bool, true, false, not, ◌&&◌, ◌||◌, List, [], ◌∷◌, length, get_or, replicate, codes, nat_lt, ◌==◌, if◌then◌else◌, Option, Some, None}
 use Rattle.std.specs.List.{list_all}
 use Rattle.std.specs.Prelude.{bytes_eq}
 use Rattle.text_lines.specs.Lines.{lines_of, line_at}
@@ -123,9 +123,10 @@ is_set lines at = any_below (length lines) (λ index. any_below 54 (λ col. sets
 abbrev pub plane_of : List (List ℕ) → ℕ → Rows
 plane_of lines bank = rows_from 332 144 (λ px py. is_set lines (record { bank = bank; px = px; py = py }))
 
+-- the configuration planes of the four banks
+abbrev pub planes_of : List (List ℕ) → List Rows
+planes_of lines = plane_of lines 0 ∷ plane_of lines 1 ∷ plane_of lines 2 ∷ plane_of lines 3 ∷ []
+
 -- what the text configures: RAM contents are 0
 unfoldable pub configuration_of : List ℕ → Bool → Configuration
-configuration_of text no_sleep =
-    let lines = lines_of text in
-    plain K1 no_sleep (plane_of lines 0 ∷ plane_of lines 1 ∷ plane_of lines 2 ∷ plane_of lines 3 ∷ [])
-      (blank 64 256 ∷ blank 64 256 ∷ blank 64 256 ∷ blank 64 256 ∷ [])
+configuration_of text no_sleep = plain K1 no_sleep (planes_of (lines_of text)) (replicate 4 (blank 64 256))

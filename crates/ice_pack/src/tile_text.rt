@@ -1,17 +1,23 @@
 // A text of logic tiles of an HX1K, read line by line.
-ghost use Rattle.std.specs.Prelude.{◌≡◌, ◌+◌, ◌<◌, ◌++◌, ◌∷◌, [], true, Some, None, IfSome, IfOk, OnOk, MatchBool, ◌==◌, ◌||◌};
+ghost use Rattle.std.specs.Prelude.{◌≡◌, ◌+◌, ◌<◌, ◌++◌, ◌∷◌, [], true, Some, None, IfSome, IfOk, IfErr, OnOk, MatchBool, MatchOption, replicate, ◌≢◌, ◌==◌, ◌||◌};
 ghost use Rattle.std.specs.List.{list_all};
-ghost use Rattle.ice_pack.specs.TileText.{tile_named, logic_tile_at, is_logic, is_row};
+ghost use Rattle.ice_pack.specs.TileText.{unfit_line, planes_of, tile_named, logic_tile_at, is_logic, is_row};
 ghost use Rattle.ice_pack.specs.Reading.{is_among, after_row, AreGrids, GainsRow};
+ghost use Rattle.ice_pack.specs.Fault.{Tells};
+ghost use Rattle.text_lines.specs.Lines.{lines_of};
+ghost use Rattle.bit_plane.specs.Rows.{blank};
 ghost use Rattle.plane_map.specs.Layout.{kind_of};
 ghost use Rattle.plane_map.specs.declared.device.DeviceName.TheVariants.{K1};
 
 use crate::banks::Banks;
+use crate::fault::PackFault;
 
 use bit_plane::Plane;
 use plane_map::{Device, Hx1k, TileKind, cram_place, kind_at};
 use std::alloc::{AllocError, Global};
 use text_lines::{first_line, number, three_words};
+
+const DEVICE_LINE: [u8; 10] = *b".device 1k";
 
 const TILE_KEYWORD: [u8; 11] = *b".logic_tile";
 
@@ -31,6 +37,34 @@ enum Expected {
     Row { tile: LogicTile, row: u8 },
 }
 
+/// The configuration planes of a text of logic tiles.
+pub(crate) fn read_planes(alloc: Global, text: &[u8]) -> Result<Banks<Plane<332, 144>>, PackFault>
+    ensures planes { IfOk result (λ planes. planes ≡ planes_of (lines_of text.now)) }
+    ensures fits { OnOk result (unfit_line text.now ≡ None) }
+    ensures not_yet { IfErr result (Tells (unfit_line text.now)) }
+{
+    let Some((first, rest)) = first_line(text) else {
+        return Err(PackFault::NotYet { line: 1 });
+    };
+    if first != DEVICE_LINE.as_slice() {
+        return Err(PackFault::NotYet { line: 1 });
+    }
+    let mut reader = Reader::new(alloc)?;
+    let mut left = rest;
+    let mut count = 1;
+    while let Some((line, rest)) = first_line(left) {
+        if !reader.accept(line)? {
+            return Err(PackFault::NotYet { line: count + 1 });
+        }
+        count += 1;
+        left = rest;
+    }
+    match reader.planes() {
+        Some(planes) => Ok(planes),
+        None => Err(PackFault::NotYet { line: count + 1 }),
+    }
+}
+
 /// The reader of a text's lines, after the first.
 #[derive(Drop)]
 pub(crate) struct Reader {
@@ -41,6 +75,32 @@ pub(crate) struct Reader {
 
 impl Reader {
     ghost use Rattle.ice_pack.specs.Reading.{state_of, IsReady, RefusesAt, TakesAt};
+
+    // Nothing was read but the first line.
+    fn new(alloc: Global) -> Result<Reader, AllocError>
+        ensures { IfOk result (λ reader. state_of reader ≡ record { planes = replicate 4 (blank 332 144); named = []; expected = Expected.Statement }) }
+    {
+        Ok(Reader {
+            planes: Banks::zeroed(alloc)?,
+            named: Vec::new(alloc),
+            expected: Expected::Statement,
+        })
+    }
+
+    // The planes, where no row is missing.
+    fn planes(self) -> Option<Banks<Plane<332, 144>>>
+        ensures { MatchOption result (self.expected ≢ Expected.Statement) (λ planes. (self.expected ≡ Expected.Statement) × (planes ≡ self.planes)) }
+    {
+        let Reader {
+            planes,
+            named: _,
+            expected,
+        } = self;
+        match expected {
+            Expected::Statement => Some(planes),
+            Expected::Row { .. } => None,
+        }
+    }
 
     // Takes the next line, and answers whether it is what was expected.
     fn accept(&mut self, line: &[u8]) -> Result<bool, AllocError>

@@ -12,10 +12,12 @@ use Rattle.plane_map.specs.declared.tile.Place.{Place}
 
 -- ---- the grid
 
+-- how many columns of tiles there are
 abbrev pub grid_width : DeviceName → ℕ
 grid_width K1 = 14
 grid_width K8 = 34
 
+-- how many rows of tiles there are
 abbrev pub grid_height : DeviceName → ℕ
 grid_height K1 = 18
 grid_height K8 = 34
@@ -25,9 +27,11 @@ abbrev pub ram_column : DeviceName → ℕ
 ram_column K1 = 3
 ram_column K8 = 8
 
+-- the right edge
 abbrev pub last_x : DeviceName → ℕ
 last_x device = grid_width device - 1
 
+-- the top edge
 abbrev pub last_y : DeviceName → ℕ
 last_y device = grid_height device - 1
 
@@ -61,6 +65,7 @@ abbrev pub columns_in : Option TileKind → ℕ
 columns_in None = 0
 columns_in (Some kind) = columns_of kind
 
+-- the same by its place
 abbrev pub columns_at : DeviceName → ℕ → ℕ → ℕ
 columns_at device x y = columns_in (kind_of device x y)
 
@@ -77,6 +82,7 @@ pub record IsWordBit (device : DeviceName) (at : WordBit) : Type 0 where
 
 -- ---- the planes
 
+-- how many columns and rows of bits each of the four configuration planes has
 abbrev pub cram_width : DeviceName → ℕ
 cram_width K1 = 332
 cram_width K8 = 872
@@ -85,6 +91,7 @@ abbrev pub cram_height : DeviceName → ℕ
 cram_height K1 = 144
 cram_height K8 = 272
 
+-- how many columns and rows of bits each of the four RAM planes has
 abbrev pub bram_width : DeviceName → ℕ
 bram_width K1 = 64
 bram_width K8 = 128
@@ -139,6 +146,7 @@ start_of device (suc u) = start_of device u + width_of device u
 unfoldable pub pad_columns : List ℕ
 pad_columns = 23 ∷ 25 ∷ 26 ∷ 27 ∷ 16 ∷ 17 ∷ 18 ∷ 19 ∷ 20 ∷ 14 ∷ 32 ∷ 33 ∷ 34 ∷ 35 ∷ 36 ∷ 37 ∷ 4 ∷ 5 ∷ []
 
+-- the column of bits of one of them
 abbrev pub pad_column : ℕ → ℕ
 pad_column col = slice_index pad_columns col
 
@@ -146,6 +154,7 @@ pad_column col = slice_index pad_columns col
 unfoldable pub pad_rows : List ℕ
 pad_rows = 0 ∷ 1 ∷ 3 ∷ 2 ∷ 4 ∷ 5 ∷ 7 ∷ 6 ∷ 8 ∷ 9 ∷ 11 ∷ 10 ∷ 12 ∷ 13 ∷ 15 ∷ 14 ∷ []
 
+-- the row of bits of one of them
 abbrev pub pad_row : ℕ → ℕ
 pad_row row = slice_index pad_rows row
 
@@ -159,8 +168,8 @@ column_of device bit =
     else if is_side device bit.x || is_right device bit.x then start + width - 1 - bit.col
     else start + bit.col
 
--- Rows run upwards in the bottom half and downwards in the top half. An io tile of the bottom or the top row has its
--- rows by `pad_row`.
+-- Rows run from the end edge inwards in the bottom half, and towards it in the top half. An io tile of the bottom or
+-- the top row has its rows by `pad_row`.
 abbrev pub row_of : DeviceName → TileBit → ℕ
 row_of device bit =
     let start = 16 * from_end device bit.y in

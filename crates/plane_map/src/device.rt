@@ -6,6 +6,7 @@ ghost use Rattle.plane_map.specs.Layout.{grid_width, grid_height, ram_column, cr
 
 use bit_plane::{Bits, Plane};
 
+/// A device by its name.
 #[derive(Clone, Copy, Debug, PartialEq, Eq)]
 pub enum DeviceName {
     /// HX1K, a grid of 14 by 18.

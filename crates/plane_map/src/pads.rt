@@ -10,6 +10,7 @@ const PAD_COLUMNS: [u8; 18] = [
 /// The row of bits of each row of an io tile, counted from the inner end.
 const PAD_ROWS: [u8; 16] = [0, 1, 3, 2, 4, 5, 7, 6, 8, 9, 11, 10, 12, 13, 15, 14];
 
+/// The column of bits that a column of an io tile takes.
 #[tactic(auto, unfolding(crate::specs::Layout::pad_columns))]
 pub(crate) fn column_of_pad(col: u8) -> u8
     requires { col < 18 }
@@ -18,6 +19,7 @@ pub(crate) fn column_of_pad(col: u8) -> u8
     PAD_COLUMNS[col as usize]
 }
 
+/// The row of bits that a row of an io tile takes, counted from the inner end.
 #[tactic(auto, unfolding(crate::specs::Layout::pad_rows))]
 pub(crate) fn row_of_pad(row: u8) -> u8
     requires { row < 16 }

@@ -1,5 +1,5 @@
 -- Bytes that are taken in parts.
-use Rattle.std.proofs.Common.{arith, ◌≡◌, ◌∙◌, ℕ, ◌+◌, ◌-◌, ◌<◌, ◌≤◌, min, List, [], Option, ◌++◌, length, take, drop, subst, sym, ap, length-append, take-append-drop, length-take-le, length-drop}
+use Rattle.std.proofs.Common.{arith, ◌≡◌, ◌∙◌, ℕ, ◌+◌, ◌-◌, ◌<◌, ◌≤◌, min, List, [], Option, ◌++◌, length, take, drop, subst, sym, ap, length-append, take-append-drop, length-take-le, length-drop, append_assoc}
 use Rattle.std.proofs.lemmas.List.{drop-take, take-take, drop-drop, take_at, take_rest, drop_all}
 use Rattle.std.specs.Io.KnownBytes.{Appends, Consumes}
 use Rattle.std.proofs.KnownBytes.{Appends-trans, Consumes-trans}
@@ -54,3 +54,15 @@ front_read left bytes into old at most k is_left some within is_k is_into same =
       front_given left bytes into old at k is_left (omega arith) copied,
       λ none room. drop_all (at + k) bytes (omega arith),
     )
+
+-- n bytes more are copied, over what follows the first bytes
+pub copied_more : (from into rest after : List ℕ) (at n : ℕ) → take at into ≡ take at from → at + n ≤ length from → length into ≡ length from
+    → take (at + n) (take at into ++ ((take n (take (length from - at) (drop at from)) ++ rest) ++ after)) ≡ take (at + n) from
+copied_more from into rest after at n done fits same =
+    let piece : List ℕ = take n (take (length from - at) (drop at from)) in
+    let is_piece : take n (take (length from - at) (drop at from)) ≡ take n (drop at from) = ap (take n) (take_rest from at) in
+    let joined : take at into ++ ((piece ++ rest) ++ after) ≡ (take at from ++ take n (drop at from)) ++ (rest ++ after) =
+    rw (done, is_piece) (simp append_assoc) in
+    let long : length (take at from ++ take n (drop at from)) ≡ at + n =
+    ap length (take_parts from at n) ∙ length-take-le (at + n) from fits in
+    ap (take (at + n)) joined ∙ take_at _ (rest ++ after) (at + n) long ∙ take_parts from at n

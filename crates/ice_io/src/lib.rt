@@ -1,15 +1,25 @@
-//! The outside as the tools see it: sources of bytes and sinks for bytes, each with a count of its faults.
+//! The outside as the tools see it: sources of bytes, sinks for bytes and files, each with
+//! counts of its faults.
 //!
-//! The forms in memory tell what they hold. The adapters over real readers and writers tell nothing of it: they are
+//! The forms in memory tell what they hold. The adapters over real readers, writers and files tell nothing of it: they are
 //! the trusted edge.
 #![tactic(auto)]
 
+mod dir_files;
+mod files;
+mod mem_files;
 mod memory;
+mod named_file;
+mod pieces;
 mod real;
 mod sink;
 mod source;
 
+pub use dir_files::DirFiles;
+pub use files::{Files, StoreFault};
+pub use mem_files::MemFiles;
 pub use memory::{MemSink, MemSource};
+pub use named_file::NamedFile;
 pub use real::{StdSink, StdSource};
 pub use sink::{PutFault, Sink, write_whole};
 pub use source::{Failed, Source, TakeFault, read_all};

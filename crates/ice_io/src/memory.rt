@@ -4,6 +4,7 @@ ghost use Rattle.std.specs.Io.KnownBytes.{ReadConsumes, WriteAppends};
 ghost use Rattle.ice_io.specs.Faults.{counted, Rose};
 ghost use Rattle.ice_io.specs.InMemory.{ReadFails, read_size, after_read, after_failed_read, WriteFails, room_left, write_size, after_write, after_failed_write};
 
+use crate::pieces::{copy_front, is_listed};
 use crate::sink::Sink;
 use crate::source::{Failed, Source};
 use std::alloc::{AllocError, Global};
@@ -151,21 +152,4 @@ impl Sink for MemSink {
         self.len += count;
         Ok(count)
     }
-}
-
-// Whether a call is one of those that are listed.
-fn is_listed(failing: &[u64], call: u64) -> bool
-    ensures { IsTrue result ↔ Contains failing.now call }
-{
-    failing.contains(&call)
-}
-
-// Copies at most `most` bytes from the front of one slice over the front of another.
-fn copy_front(from: &[u8], most: usize, into: &mut [u8]) -> usize
-    ensures size { result ≡ min most (min (length from.now) (length into.old)) }
-    ensures copied { into.new ≡ take result from.now ++ drop result into.old }
-{
-    let count = most.min(from.len()).min(into.len());
-    into[..count].copy_from_slice(&from[..count]);
-    count
 }

@@ -1,0 +1,35 @@
+-- Files by their names, where they are known, and what loading and storing do to them.
+use Rattle.std.specs.Prelude.{◌≡◌, ℕ, ◌<◌, List, Option, Some, None, ⊤, length, take, true, false, option_map, IsSomeAnd}
+use Rattle.std.specs.Ordering.{nat_cmp}
+use Rattle.std.specs.Cmp.Lexicographic.{slice_cmp}
+use Rattle.std.specs.FinMap.{FinMap, get, insert}
+use Rattle.ice_io.specs.declared.files.StoreFault.{StoreFault}
+use Rattle.ice_io.specs.declared.files.StoreFault.TheVariants.{Failed}
+
+-- files in memory: each name's bytes, by the bytes of the name
+abbrev pub FileMap : Type 0
+FileMap = FinMap (slice_cmp nat_cmp) (List ℕ)
+
+-- where the files are known, the name has these bytes
+abbrev pub HasFile : Option FileMap → List ℕ → List ℕ → Type 0
+HasFile None name bytes = ⊤
+HasFile (Some files) name bytes = get files name ≡ Some bytes
+
+-- where the files are known, the name has more than that many bytes
+abbrev pub HasMore : Option FileMap → List ℕ → ℕ → Type 0
+HasMore None name limit = ⊤
+HasMore (Some files) name limit = IsSomeAnd (get files name) (λ bytes. limit < length bytes)
+
+-- where the files are known, there is none of that name
+abbrev pub LacksFile : Option FileMap → List ℕ → Type 0
+LacksFile None name = ⊤
+LacksFile (Some files) name = get files name ≡ None
+
+-- the files, with these bytes under the name, where they are known
+abbrev pub with_file : Option FileMap → List ℕ → List ℕ → Option FileMap
+with_file files name bytes = option_map (λ known. insert known name bytes) files
+
+-- what a store that failed leaves: the first bytes where the file was opened, and else all as it was
+abbrev pub LeavesPart : Option FileMap → Option FileMap → List ℕ → List ℕ → StoreFault → Type 0
+LeavesPart old new name bytes (Failed true written) = (new ≡ with_file old name (take written bytes)) × (written < length bytes)
+LeavesPart old new name bytes (Failed false written) = (new ≡ old) × (written ≡ 0)

@@ -1,0 +1,108 @@
+// The real files, of which nothing is told but how often they failed.
+ghost use Rattle.std.specs.Prelude.{◌≡◌, ◌+◌, ◌<◌, ◌≤◌, ◌^◌, ℕ, None, false, length, vec_len, IfOk, IfErr, OnOk, OnErr, IsErrOf};
+ghost use Rattle.ice_io.specs.Faults.{counted};
+ghost use Rattle.ice_io.specs.Files.{LeavesPart};
+
+use crate::files::{Files, StoreFault};
+use crate::real::{StdSink, StdSource};
+use crate::sink::{PutFault, write_whole};
+use crate::source::{TakeFault, read_all};
+use std::alloc::Global;
+use std::fs;
+use std::marker::Model;
+use std::rt;
+
+/// The files of the system that a runtime reaches. They are seen as the counts of the loads and the stores that failed.
+#[derive(Drop)]
+pub struct DirFiles<'a, R: rt::Files> {
+    rt: &'a R,
+    load_faults: u64,
+    store_faults: u64,
+}
+
+impl<'a, R: rt::Files> Model for DirFiles<'a, R> {
+    ghost use Rattle.ice_io.specs.DirFiles.{FileFaults};
+
+    ghost Value = { FileFaults };
+
+    ghost view = { λ s. record { load_faults = s.load_faults; store_faults = s.store_faults } };
+}
+
+impl<'a, R: rt::Files> DirFiles<'a, R> {
+    /// The files that a runtime reaches, none of which has failed yet.
+    pub fn new(rt: &'a R) -> DirFiles<'a, R>
+        ensures { result ≡ record { load_faults = 0; store_faults = 0 } }
+    {
+        DirFiles {
+            rt,
+            load_faults: 0,
+            store_faults: 0,
+        }
+    }
+}
+
+impl<R: rt::Files> Files for DirFiles<'_, R> {
+    ghost contents = { λ _. None };
+
+    ghost steady = { λ _. false };
+
+    ghost load_faults = { λ faults. faults.load_faults };
+
+    ghost store_faults = { λ faults. faults.store_faults };
+
+    fn load(
+        &mut self,
+        alloc: Global,
+        name: &str,
+        limit: usize,
+    ) -> Result<Vec<u8>, TakeFault> {
+        let loaded = load_from(self.rt, alloc, name, limit);
+        if let Err(TakeFault::Failed) = loaded {
+            self.load_faults = self.load_faults.saturating_add(1);
+        }
+        loaded
+    }
+
+    fn store(&mut self, name: &str, bytes: &[u8]) -> Result<(), StoreFault> {
+        let stored = store_to(self.rt, name, bytes);
+        if stored.is_err() {
+            self.store_faults = self.store_faults.saturating_add(1);
+        }
+        stored
+    }
+}
+
+// Reads a file to its end.
+fn load_from<R: rt::Files>(
+    rt: &R,
+    alloc: Global,
+    name: &str,
+    limit: usize,
+) -> Result<Vec<u8>, TakeFault>
+    requires { limit < 2 ^ 32 }
+    ensures { IfOk result (λ bytes. vec_len bytes ≤ limit) }
+{
+    let Ok(file) = fs::open(rt, name) else {
+        return Err(TakeFault::Failed);
+    };
+    read_all(alloc, &mut StdSource::new(file), limit)
+}
+
+// Makes a file, or empties it, and writes the bytes.
+fn store_to<R: rt::Files>(rt: &R, name: &str, bytes: &[u8]) -> Result<(), StoreFault>
+    ensures { IfErr result (LeavesPart None None name.now bytes.now) }
+{
+    let Ok(file) = fs::create(rt, name) else {
+        return Err(StoreFault::Failed {
+            opened: false,
+            written: 0,
+        });
+    };
+    match write_whole(&mut StdSink::new(file), bytes) {
+        Ok(()) => Ok(()),
+        Err(PutFault::Failed { written }) => Err(StoreFault::Failed {
+            opened: true,
+            written,
+        }),
+    }
+}

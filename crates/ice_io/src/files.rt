@@ -1,0 +1,60 @@
+// Files that are loaded and stored as a whole, by their names.
+ghost use Rattle.std.specs.Prelude.{◌≡◌, ◌+◌, ◌<◌, ◌≤◌, ◌^◌, ℕ, Bool, Option, vec_len, IfOk, IfErr, OnOk, OnErr, IsErrOf, IsTrue};
+ghost use Rattle.ice_io.specs.Faults.{Rose};
+ghost use Rattle.ice_io.specs.Files.{FileMap, HasFile, HasMore, LacksFile, with_file, LeavesPart};
+
+use crate::source::TakeFault;
+use std::alloc::Global;
+
+/// Why bytes could not be stored.
+#[derive(Clone, Copy, Debug, PartialEq, Eq)]
+pub enum StoreFault {
+    /// The file could not be opened for writing, or a write failed after that many bytes were taken.
+    Failed { opened: bool, written: usize },
+}
+
+/// Files that are loaded and stored as a whole, by their names.
+pub trait Files {
+    /// The bytes of each name, where they are known.
+    ghost contents: { Self → Option FileMap };
+
+    /// Whether a load of a known name never fails.
+    ghost steady: { Self → Bool };
+
+    /// How many loads have failed. It never falls, and stays at `u64::MAX`.
+    ghost load_faults: { Self → ℕ };
+
+    /// How many stores have failed. It never falls, and stays at `u64::MAX`.
+    ghost store_faults: { Self → ℕ };
+
+    /// The bytes of a name, at most `limit` of them.
+    fn load(
+        &mut self,
+        alloc: Global,
+        name: &str,
+        limit: usize,
+    ) -> Result<Vec<u8>, TakeFault>
+        requires { limit < 2 ^ 32 }
+
+        ensures bytes { IfOk result (λ bytes. HasFile (contents self.old) name.now bytes.items) }
+        ensures within { IfOk result (λ bytes. vec_len bytes ≤ limit) }
+        ensures too_long { IsErrOf result TakeFault.TooLong → HasMore (contents self.old) name.now limit }
+        ensures lacks { IsErrOf result TakeFault.Failed → IsTrue (steady self.old) → LacksFile (contents self.old) name.now }
+        ensures failed { IsErrOf result TakeFault.Failed → Rose (load_faults self.old) (load_faults self.new) }
+
+        ensures same_contents { contents self.new ≡ contents self.old }
+        ensures same_steady { steady self.new ≡ steady self.old }
+        ensures never_falls { load_faults self.old ≤ load_faults self.new }
+        ensures same_store_faults { store_faults self.new ≡ store_faults self.old };
+
+    /// Gives a name these bytes, whether it is there or not. A fault after the file was opened leaves the first bytes,
+    /// and any other leaves all as it was.
+    fn store(&mut self, name: &str, bytes: &[u8]) -> Result<(), StoreFault>
+        ensures whole { OnOk result (contents self.new ≡ with_file (contents self.old) name.now bytes.now) }
+        ensures part { IfErr result (LeavesPart (contents self.old) (contents self.new) name.now bytes.now) }
+        ensures failed { OnErr result (Rose (store_faults self.old) (store_faults self.new)) }
+
+        ensures same_steady { steady self.new ≡ steady self.old }
+        ensures never_falls { store_faults self.old ≤ store_faults self.new }
+        ensures same_load_faults { load_faults self.new ≡ load_faults self.old };
+}

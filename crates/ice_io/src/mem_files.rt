@@ -1,0 +1,190 @@
+// Files in memory, which tell what they hold, and fail at calls that are chosen beforehand.
+ghost use Rattle.std.specs.Prelude.{◌≡◌, ◌⊎◌, ◌↔◌, ◌+◌, ◌<◌, ◌≤◌, ◌^◌, ℕ, Bool, true, false, Option, Some, None, map, nat_eq, length, take, vec_len, IfOk, IfErr, OnOk, OnErr, IfSome, IsSomeAnd, IsErrOf, IsTrue, option_copied};
+ghost use Rattle.std.specs.Ordering.{nat_cmp};
+ghost use Rattle.std.specs.Cmp.Lexicographic.{slice_cmp};
+ghost use Rattle.std.specs.FinMap.{get, find};
+ghost use Rattle.ice_io.specs.MemFiles.{entry_of, files_of, LoadFails, StoreFails, after_load, after_failed_load, after_store, after_part_store, after_failed_store};
+
+use crate::files::{Files, StoreFault};
+use crate::named_file::NamedFile;
+use crate::pieces::{copy_whole, fill_front, is_listed};
+use crate::source::TakeFault;
+use std::alloc::{AllocError, Global};
+use std::marker::Model;
+
+/// Files in memory. Bytes may be stored under one name.
+#[derive(Drop)]
+pub struct MemFiles {
+    files: Vec<NamedFile>,
+    target: String,
+    room: Vec<u8>,
+    stored: Option<usize>,
+    most: usize,
+    failing: Vec<u64>,
+    calls: u64,
+    load_faults: u64,
+    store_faults: u64,
+}
+
+impl Model for MemFiles {
+    ghost use Rattle.std.specs.Prelude.{◌≤◌, vec_len, string_bytes};
+    ghost use Rattle.std.specs.Option.{ForSome};
+    ghost use Rattle.ice_io.specs.MemFiles.{FilesState, files_code, files_of, stored_over};
+
+    ghost Value = { FilesState };
+
+    ghost coded = { files_code };
+
+    ghost view = { λ s. record {
+        files = stored_over (files_of s.files.items) (string_bytes s.target) s.stored s.room.items;
+        target = string_bytes s.target;
+        room = vec_len s.room;
+        failing = s.failing.items;
+        calls = s.calls;
+        load_faults = s.load_faults;
+        store_faults = s.store_faults } };
+
+    ghost invariant = { λ s. (1 ≤ s.most) × ForSome s.stored (λ len. len ≤ vec_len s.room) };
+}
+
+impl MemFiles {
+    /// Files in memory, whose bytes are copied at most `most` at a time. At most `room` bytes may be stored under the
+    /// name `target`, and none under another. The calls that `failing` lists fail, loads and stores being counted
+    /// together from 1. All the room is taken here.
+    pub fn new(
+        alloc: Global,
+        files: Vec<NamedFile>,
+        target: &str,
+        room: usize,
+        most: usize,
+        failing: Vec<u64>,
+    ) -> Result<MemFiles, AllocError>
+        requires { 1 ≤ most }
+        ensures { IfOk result (λ all. all ≡ record { files = files_of files.items; target = target.now; room = room; failing = failing.items; calls = 0; load_faults = 0; store_faults = 0 }) }
+    {
+        Ok(MemFiles {
+            files,
+            target: String::from_str(alloc, target)?,
+            room: vec![in alloc; 0u8; room]?,
+            stored: None,
+            most,
+            failing,
+            calls: 0,
+            load_faults: 0,
+            store_faults: 0,
+        })
+    }
+
+    /// The bytes of a name.
+    pub fn bytes_of(&self, name: &str) -> Option<&[u8]>
+        ensures { option_copied result ≡ get self.now.files name.now }
+    {
+        match self.stored {
+            Some(len) if name == self.target.as_str() => Some(&self.room[..len]),
+            _ => find_file(&self.files, name),
+        }
+    }
+}
+
+impl Files for MemFiles {
+    ghost contents = { λ s. Some s.files };
+
+    ghost steady = { λ s. nat_eq (length s.failing) 0 };
+
+    ghost load_faults = { λ s. s.load_faults };
+
+    ghost store_faults = { λ s. s.store_faults };
+
+    fn load(
+        &mut self,
+        alloc: Global,
+        name: &str,
+        limit: usize,
+    ) -> Result<Vec<u8>, TakeFault>
+        requires { limit < 2 ^ 32 }
+        ensures never_falls { self.old.load_faults ≤ self.new.load_faults }
+
+        ensures fails { IsErrOf result TakeFault.Failed ↔ LoadFails self.old name.now }
+        ensures too_long { IsErrOf result TakeFault.TooLong → IsSomeAnd (get self.old.files name.now) (λ bytes. limit < length bytes) }
+        ensures bytes { IfOk result (λ bytes. get self.old.files name.now ≡ Some bytes.items) }
+        ensures within { IfOk result (λ bytes. vec_len bytes ≤ limit) }
+        ensures after { (IsErrOf result TakeFault.Failed → ⊥) → self.new ≡ after_load self.old }
+        ensures after_failed { IsErrOf result TakeFault.Failed → self.new ≡ after_failed_load self.old }
+    {
+        self.calls = self.calls.saturating_add(1);
+        let loaded = if is_listed(&self.failing, self.calls) {
+            Err(TakeFault::Failed)
+        } else {
+            copied(alloc, self.bytes_of(name), limit, self.most)
+        };
+        if let Err(TakeFault::Failed) = loaded {
+            self.load_faults = self.load_faults.saturating_add(1);
+        }
+        loaded
+    }
+
+    fn store(&mut self, name: &str, bytes: &[u8]) -> Result<(), StoreFault>
+        ensures never_falls { self.old.store_faults ≤ self.new.store_faults }
+
+        ensures fails { IsErrOf result (StoreFault.Failed false 0) ↔ StoreFails self.old name.now }
+        ensures short { IsErrOf result (StoreFault.Failed true self.old.room) → self.old.room < length bytes.now }
+        ensures fits { OnOk result (length bytes.now ≤ self.old.room) }
+        ensures err { IfErr result (λ fault. (fault ≡ StoreFault.Failed false 0) ⊎ (fault ≡ StoreFault.Failed true self.old.room)) }
+        ensures after { OnOk result (self.new ≡ after_store self.old bytes.now) }
+        ensures after_part { IsErrOf result (StoreFault.Failed true self.old.room) → self.new ≡ after_part_store self.old bytes.now }
+        ensures after_failed { IsErrOf result (StoreFault.Failed false 0) → self.new ≡ after_failed_store self.old }
+    {
+        self.calls = self.calls.saturating_add(1);
+        if is_listed(&self.failing, self.calls) || name != self.target.as_str() {
+            self.store_faults = self.store_faults.saturating_add(1);
+            return Err(StoreFault::Failed {
+                opened: false,
+                written: 0,
+            });
+        }
+        let written = fill_front(bytes, self.most, &mut self.room);
+        self.stored = Some(written);
+        if written < bytes.len() {
+            self.store_faults = self.store_faults.saturating_add(1);
+            return Err(StoreFault::Failed {
+                opened: true,
+                written,
+            });
+        }
+        Ok(())
+    }
+}
+
+// The bytes of the first file of that name.
+fn find_file<'a>(files: &'a [NamedFile], name: &str) -> Option<&'a [u8]>
+    ensures { option_copied result ≡ find (slice_cmp nat_cmp) name.now (map entry_of files.now) }
+{
+    for file in files {
+        if name == file.name.as_str() {
+            return Some(&file.bytes);
+        }
+    }
+    None
+}
+
+// A copy of a file that is there and has at most `limit` bytes.
+fn copied(
+    alloc: Global,
+    file: Option<&[u8]>,
+    limit: usize,
+    most: usize,
+) -> Result<Vec<u8>, TakeFault>
+    requires { 1 ≤ most }
+    ensures failed { IsErrOf result TakeFault.Failed ↔ (option_copied file.entry ≡ None) }
+    ensures too_long { IsErrOf result TakeFault.TooLong → IsSomeAnd (option_copied file.entry) (λ bytes. limit < length bytes) }
+    ensures bytes { IfOk result (λ copy. option_copied file.entry ≡ Some copy.items) }
+    ensures within { IfOk result (λ copy. vec_len copy ≤ limit) }
+{
+    let file = file.ok_or(TakeFault::Failed)?;
+    if file.len() > limit {
+        return Err(TakeFault::TooLong);
+    }
+    let mut copy = vec![in alloc; 0u8; file.len()]?;
+    copy_whole(file, most, &mut copy);
+    Ok(copy)
+}

@@ -1,5 +1,5 @@
 -- The files in memory: what their calls do, and which fail.
-use Rattle.std.specs.Prelude.{◌≡◌, ◌≢◌, ◌⊎◌, ℕ, ◌<◌, List, [], ◌∷◌, ◌++◌, Bool, Option, Some, None, map, length, take, nat_eq, Contains, Vec, string_bytes, refl}
+use Rattle.std.specs.Prelude.{◌≡◌, ◌≢◌, ◌⊎◌, ℕ, List, Option, Some, None, map, take, Contains, string_bytes, refl}
 use Rattle.std.specs.FinMap as map_of
 use Rattle.std.specs.FinMap.{get, insert, from_entries}
 use Rattle.std.specs.Coded.{Coded, code_by, coded×, coded_ℕ, coded_list}

@@ -1,6 +1,6 @@
 // The real files, of which nothing is told but how often they failed.
 ghost use Rattle.std.specs.Prelude.{◌≡◌, ◌+◌, ◌<◌, ◌≤◌, ◌^◌, ℕ, None, false, length, vec_len, IfOk, IfErr, OnOk, OnErr, IsErrOf};
-ghost use Rattle.ice_io.specs.Faults.{counted};
+ghost use Rattle.ice_io.specs.DirFiles.{after_load_fault, after_store_fault};
 ghost use Rattle.ice_io.specs.Files.{LeavesPart};
 
 use crate::files::{Files, StoreFault};
@@ -8,9 +8,8 @@ use crate::real::{StdSink, StdSource};
 use crate::sink::{PutFault, write_whole};
 use crate::source::{TakeFault, read_all};
 use std::alloc::Global;
-use std::fs;
 use std::marker::Model;
-use std::rt;
+use std::{fs, rt};
 
 /// The files of the system that a runtime reaches. They are seen as the counts of the loads and the stores that failed.
 #[derive(Drop)]
@@ -50,12 +49,15 @@ impl<R: rt::Files> Files for DirFiles<'_, R> {
 
     ghost store_faults = { λ faults. faults.store_faults };
 
-    fn load(
-        &mut self,
-        alloc: Global,
-        name: &str,
-        limit: usize,
-    ) -> Result<Vec<u8>, TakeFault> {
+    fn load(&mut self, alloc: Global, name: &str, limit: usize) -> Result<Vec<u8>, TakeFault>
+        requires { limit < 2 ^ 32 }
+        ensures within { IfOk result (λ bytes. vec_len bytes ≤ limit) }
+        ensures never_falls { self.old.load_faults ≤ self.new.load_faults }
+        ensures same_store_faults { self.new.store_faults ≡ self.old.store_faults }
+
+        ensures same { (IsErrOf result TakeFault.Failed → ⊥) → self.new ≡ self.old }
+        ensures failed { IsErrOf result TakeFault.Failed → self.new ≡ after_load_fault self.old }
+    {
         let loaded = load_from(self.rt, alloc, name, limit);
         if let Err(TakeFault::Failed) = loaded {
             self.load_faults = self.load_faults.saturating_add(1);
@@ -63,7 +65,14 @@ impl<R: rt::Files> Files for DirFiles<'_, R> {
         loaded
     }
 
-    fn store(&mut self, name: &str, bytes: &[u8]) -> Result<(), StoreFault> {
+    fn store(&mut self, name: &str, bytes: &[u8]) -> Result<(), StoreFault>
+        ensures part { IfErr result (LeavesPart None None name.now bytes.now) }
+        ensures never_falls { self.old.store_faults ≤ self.new.store_faults }
+        ensures same_load_faults { self.new.load_faults ≡ self.old.load_faults }
+
+        ensures same { OnOk result (self.new ≡ self.old) }
+        ensures failed { OnErr result (self.new ≡ after_store_fault self.old) }
+    {
         let stored = store_to(self.rt, name, bytes);
         if stored.is_err() {
             self.store_faults = self.store_faults.saturating_add(1);

@@ -28,12 +28,7 @@ pub trait Files {
     ghost store_faults: { Self → ℕ };
 
     /// The bytes of a name, at most `limit` of them.
-    fn load(
-        &mut self,
-        alloc: Global,
-        name: &str,
-        limit: usize,
-    ) -> Result<Vec<u8>, TakeFault>
+    fn load(&mut self, alloc: Global, name: &str, limit: usize) -> Result<Vec<u8>, TakeFault>
         requires { limit < 2 ^ 32 }
 
         ensures bytes { IfOk result (λ bytes. HasFile (contents self.old) name.now bytes.items) }

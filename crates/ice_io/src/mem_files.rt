@@ -36,13 +36,14 @@ impl Model for MemFiles {
     ghost coded = { files_code };
 
     ghost view = { λ s. record {
-        files = stored_over (files_of s.files.items) (string_bytes s.target) s.stored s.room.items;
-        target = string_bytes s.target;
-        room = vec_len s.room;
-        failing = s.failing.items;
-        calls = s.calls;
-        load_faults = s.load_faults;
-        store_faults = s.store_faults } };
+      files = stored_over (files_of s.files.items) (string_bytes s.target) s.stored s.room.items;
+      target = string_bytes s.target;
+      room = vec_len s.room;
+      failing = s.failing.items;
+      calls = s.calls;
+      load_faults = s.load_faults;
+      store_faults = s.store_faults;
+    } };
 
     ghost invariant = { λ s. (1 ≤ s.most) × ForSome s.stored (λ len. len ≤ vec_len s.room) };
 }
@@ -95,12 +96,7 @@ impl Files for MemFiles {
 
     ghost store_faults = { λ s. s.store_faults };
 
-    fn load(
-        &mut self,
-        alloc: Global,
-        name: &str,
-        limit: usize,
-    ) -> Result<Vec<u8>, TakeFault>
+    fn load(&mut self, alloc: Global, name: &str, limit: usize) -> Result<Vec<u8>, TakeFault>
         requires { limit < 2 ^ 32 }
         ensures never_falls { self.old.load_faults ≤ self.new.load_faults }
 

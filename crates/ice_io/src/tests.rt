@@ -1,4 +1,6 @@
 use super::*;
+use std::alloc::{AllocError, Global};
+use std::fs;
 use std::io::{Error, ErrorKind, Read, Write};
 use std::test::Fail;
 
@@ -133,5 +135,93 @@ fn a_writer_is_a_sink(rt: HostRuntime) -> Result<(), Fail> {
         write_whole(&mut sink, b"abc"),
         Err(PutFault::Failed { written: 2 })
     );
+    Ok(())
+}
+
+fn named(alloc: Global, name: &str, bytes: &[u8]) -> Result<NamedFile, AllocError> {
+    Ok(NamedFile {
+        name: String::from_str(alloc, name)?,
+        bytes: bytes.to_vec(alloc)?,
+    })
+}
+
+fn two_files(alloc: Global) -> Result<Vec<NamedFile>, AllocError> {
+    let mut files = Vec::new(alloc);
+    files.push(named(alloc, "a", b"abc")?)?;
+    files.push(named(alloc, "b", b"defgh")?)?;
+    Ok(files)
+}
+
+#[test]
+fn files_in_memory_are_loaded(rt: HostRuntime) -> Result<(), Fail> {
+    let alloc = rt.alloc();
+    let failing = [4].to_vec(alloc)?;
+    let mut files = MemFiles::new(alloc, two_files(alloc)?, "out", 3, 2, failing)?;
+    for (name, limit, want) in [
+        ("a", 3, Ok(b"abc".as_slice())),
+        ("b", 4, Err(TakeFault::TooLong)),
+        ("c", 9, Err(TakeFault::Failed)),
+        ("b", 9, Err(TakeFault::Failed)),
+        ("b", 5, Ok(b"defgh".as_slice())),
+    ] {
+        let loaded = files.load(alloc, name, limit);
+        assert_eq!(rt;
+            loaded
+                .as_ref()
+                .map(|bytes| bytes.as_slice())
+                .map_err(|fault| *fault),
+            want
+        );
+    }
+    Ok(())
+}
+
+#[test]
+fn one_file_in_memory_is_stored(rt: HostRuntime) -> Result<(), Fail> {
+    let alloc = rt.alloc();
+    let failing = [4].to_vec(alloc)?;
+    let mut files = MemFiles::new(alloc, two_files(alloc)?, "b", 3, 2, failing)?;
+    for (name, bytes, want, now) in [
+        ("b", b"xy".as_slice(), Ok(()), b"xy".as_slice()),
+        ("b", b"12345".as_slice(), Err((true, 3)), b"123".as_slice()),
+        ("a", b"xy".as_slice(), Err((false, 0)), b"abc".as_slice()),
+        ("b", b"xy".as_slice(), Err((false, 0)), b"123".as_slice()),
+        ("b", b"".as_slice(), Ok(()), b"".as_slice()),
+    ] {
+        let want = want.map_err(|(opened, written)| StoreFault::Failed { opened, written });
+        assert_eq!(rt; files.store(name, bytes), want);
+        assert_eq!(rt; files.bytes_of(name), Some(now));
+    }
+    assert_eq!(rt; files.bytes_of("c"), None);
+    Ok(())
+}
+
+#[test]
+fn real_files_are_stored_and_loaded(rt: HostRuntime) -> Result<(), Fail> {
+    let alloc = rt.alloc();
+    let name = "ice_io_stored_and_loaded";
+    let mut files = DirFiles::new(&rt);
+    assert_eq!(rt; files.store(name, b"abcde"), Ok(()));
+    assert_eq!(rt; files.store(name, b"abc"), Ok(()));
+    for (name, limit, want) in [
+        (name, 3, Ok(b"abc".as_slice())),
+        (name, 2, Err(TakeFault::TooLong)),
+        ("ice_io_missing", 3, Err(TakeFault::Failed)),
+    ] {
+        let loaded = files.load(alloc, name, limit);
+        assert_eq!(rt;
+            loaded
+                .as_ref()
+                .map(|bytes| bytes.as_slice())
+                .map_err(|fault| *fault),
+            want
+        );
+    }
+    fs::remove_file(&rt, name)?;
+    let unopened = StoreFault::Failed {
+        opened: false,
+        written: 0,
+    };
+    assert_eq!(rt; files.store("ice_io_missing/file", b"abc"), Err(unopened));
     Ok(())
 }

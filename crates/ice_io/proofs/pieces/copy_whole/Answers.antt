@@ -6,6 +6,6 @@ pub loop-at-preserved : goal.loop-at-preserved
 loop-at-preserved c =
     let within : c.loop-at.at + c.copy_front-at.result ≤ length c.args.from.now = omega (arith, length-take {A = ℕ}, length-drop {A = ℕ}) in
     record {
-  within = within;
-  copied = rw c.copy_front-at.ensures.copied (copied_more _ _ _ _ _ _ c.loop-at.invariant.copied within (omega arith));
-}
+      within = within;
+      copied = rw c.copy_front-at.ensures.copied (copied_more _ _ _ _ _ _ c.loop-at.invariant.copied within (omega arith));
+    }

@@ -19,7 +19,7 @@ returns-in_default c =
     let seen = ap (λ (s : FilesState). get s.files c.args.name.now) c.self.view_is in
     elim c.in_default.branch [
       | in_default-via-in-Some+else-eq w ↦
-        let other = rw w.as_str.ensures.value at (sym w.eq.ensures ∙ w.if-eq.false) in
-        found ∙ sym (get_other _ _ _ _ _ other) ∙ seen
+          let other = rw w.as_str.ensures.value at (sym w.eq.ensures ∙ w.if-eq.false) in
+          found ∙ sym (get_other _ _ _ _ _ other) ∙ seen
       | in_default-via-in_default w ↦ found ∙ sym (get_unstored _ _ _ _ _ w.in_default.is) ∙ seen
     ]

@@ -1,0 +1,42 @@
+use Rattle.std.proofs.Common.{arith, ap, refl, Ok, Err, IfOk, OnOk, OnErr, Result}
+use Rattle.std.specs.Prelude.{⊤}
+use Rattle.ice_io.specs.DirFiles.{FileFaults}
+use Rattle.ice_io.proofs.dir_files.DirFilesFiles.TheImpl.Goals as goal
+
+-- a fact that always holds, where the call succeeded
+always : {T E : Type 0} (r : Result T E) → IfOk r (λ _. ⊤)
+always (Ok x) = tt
+always (Err e) = tt
+
+-- a fact, where the call succeeded
+on_ok : {T E P : Type 0} (r : Result T E) → P → OnOk r P
+on_ok (Ok x) p = p
+on_ok (Err e) p = tt
+
+-- what follows from a fact, where the call failed
+on_err : {T E P Q : Type 0} (r : Result T E) → (P → Q) → OnErr r P → OnErr r Q
+on_err (Ok x) f p = tt
+on_err (Err e) f p = f p
+
+pub load-tells : goal.load-tells
+load-tells g c = record {
+  bytes = always c.result;
+  within = c.ensures.within;
+  too_long = λ _. tt;
+  lacks = λ _ _. tt;
+  failed = λ h. omega (arith, ap (λ (s : FileFaults). s.load_faults) (c.ensures.failed h));
+  same_contents = refl;
+  same_steady = refl;
+  never_falls = c.ensures.never_falls;
+  same_store_faults = c.ensures.same_store_faults;
+}
+
+pub store-tells : goal.store-tells
+store-tells g c = record {
+  whole = on_ok c.result refl;
+  part = c.ensures.part;
+  failed = on_err c.result (λ h. omega (arith, ap (λ (s : FileFaults). s.store_faults) h)) c.ensures.failed;
+  same_steady = refl;
+  never_falls = c.ensures.never_falls;
+  same_load_faults = c.ensures.same_load_faults;
+}

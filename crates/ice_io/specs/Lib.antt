@@ -5,3 +5,4 @@ pub mod InMemory
 pub mod Files
 pub mod MemFiles
 pub mod DirFiles
+pub mod Real

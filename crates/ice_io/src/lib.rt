@@ -1,8 +1,7 @@
-//! The outside as the tools see it: sources of bytes, sinks for bytes and files, each with
-//! counts of its faults.
+//! The outside as the tools see it: sources of bytes, sinks for bytes and files, each with counts of its faults.
 //!
-//! The forms in memory tell what they hold. The adapters over real readers, writers and files tell nothing of it: they are
-//! the trusted edge.
+//! The forms in memory tell what they hold, and fail at the calls that were chosen. The adapters over real readers,
+//! writers and files are the trusted edge: of a file, a terminal or a pipe they tell nothing.
 #![tactic(auto)]
 
 mod dir_files;

@@ -1,50 +1,49 @@
-// Sources and sinks over the readers and writers of the standard library. They tell nothing of the content.
-ghost use Rattle.std.specs.Prelude.{◌≡◌, ◌<◌, ◌≤◌, ℕ, None, length, IfOk, OnOk, OnErr};
+// Sources and sinks over the readers and writers of the standard library. They tell what those tell: of a file, a
+// terminal or a pipe nothing.
+ghost use Rattle.std.specs.Prelude.{◌≡◌, ◌<◌, ◌≤◌, ℕ, length, IfOk, OnOk, OnErr};
+ghost use Rattle.std.specs.Io.KnownBytes.{ReadConsumes, WriteAppends};
 ghost use Rattle.ice_io.specs.Faults.{counted};
 
 use crate::sink::Sink;
 use crate::source::{Failed, Source};
 use std::io::{ErrorKind, Read, Write};
-use std::marker::Model;
 
 /// How often a read or a write that was interrupted is tried.
 const TRIES: u32 = 1000;
 
-/// A source over a reader. It is seen as the count of the reads that failed.
+/// A source over a reader.
 #[derive(Drop)]
 pub struct StdSource<R: Read> {
     inner: R,
     faults: u64,
 }
 
-impl<R: Read> Model for StdSource<R> {
-    ghost use Rattle.std.specs.Prelude.{ℕ};
-
-    ghost Value = { ℕ };
-
-    ghost view = { λ s. s.faults };
-}
-
 impl<R: Read> StdSource<R> {
+    ghost use Rattle.ice_io.specs.Real.{reader_of, read_faults};
+
     /// A source over a reader, which hasn't failed yet.
     pub fn new(inner: R) -> StdSource<R>
-        ensures { result ≡ 0 }
+        ensures reader { reader_of result ≡ inner }
+        ensures faults { read_faults result ≡ 0 }
     {
         StdSource { inner, faults: 0 }
     }
 }
 
 impl<R: Read> Source for StdSource<R> {
-    ghost left = { λ _. None };
+    ghost use Rattle.ice_io.specs.Real.{reader_of, read_faults};
 
-    ghost faults = { λ faults. faults };
+    ghost left = { λ source. R.remaining source.inner };
+
+    ghost faults = { λ source. source.faults };
 
     fn read(&mut self, into: &mut [u8]) -> Result<usize, Failed>
         ensures count { IfOk result (λ n. n ≤ length into.new) }
-        ensures never_falls { self.old ≤ self.new }
+        ensures bytes { ReadConsumes (R.remaining (reader_of self.old)) (R.remaining (reader_of self.new)) result into.new }
+        ensures never_falls { read_faults self.old ≤ read_faults self.new }
 
-        ensures ok { OnOk result (self.new ≡ self.old) }
-        ensures failed { OnErr result (self.new ≡ counted self.old) }
+        ensures ok { OnOk result (read_faults self.new ≡ read_faults self.old) }
+        ensures failed { OnErr result (read_faults self.new ≡ counted (read_faults self.old)) }
     {
         let count = read_once(&mut self.inner, into);
         if count.is_err() {
@@ -54,42 +53,40 @@ impl<R: Read> Source for StdSource<R> {
     }
 }
 
-/// A sink over a writer. It is seen as the count of the writes that failed.
+/// A sink over a writer.
 #[derive(Drop)]
 pub struct StdSink<W: Write> {
     inner: W,
     faults: u64,
 }
 
-impl<W: Write> Model for StdSink<W> {
-    ghost use Rattle.std.specs.Prelude.{ℕ};
-
-    ghost Value = { ℕ };
-
-    ghost view = { λ s. s.faults };
-}
-
 impl<W: Write> StdSink<W> {
+    ghost use Rattle.ice_io.specs.Real.{writer_of, write_faults};
+
     /// A sink over a writer, which hasn't failed yet.
     pub fn new(inner: W) -> StdSink<W>
-        ensures { result ≡ 0 }
+        ensures writer { writer_of result ≡ inner }
+        ensures faults { write_faults result ≡ 0 }
     {
         StdSink { inner, faults: 0 }
     }
 }
 
 impl<W: Write> Sink for StdSink<W> {
-    ghost held = { λ _. None };
+    ghost use Rattle.ice_io.specs.Real.{writer_of, write_faults};
 
-    ghost faults = { λ faults. faults };
+    ghost held = { λ sink. W.contents sink.inner };
+
+    ghost faults = { λ sink. sink.faults };
 
     fn write(&mut self, piece: &[u8]) -> Result<usize, Failed>
         ensures count { IfOk result (λ n. n ≤ length piece.now) }
         ensures progress { IfOk result (λ n. 0 < length piece.now → 0 < n) }
-        ensures never_falls { self.old ≤ self.new }
+        ensures bytes { WriteAppends (W.contents (writer_of self.old)) (W.contents (writer_of self.new)) result piece.now }
+        ensures never_falls { write_faults self.old ≤ write_faults self.new }
 
-        ensures ok { OnOk result (self.new ≡ self.old) }
-        ensures failed { OnErr result (self.new ≡ counted self.old) }
+        ensures ok { OnOk result (write_faults self.new ≡ write_faults self.old) }
+        ensures failed { OnErr result (write_faults self.new ≡ counted (write_faults self.old)) }
     {
         let count = write_once(&mut self.inner, piece);
         if count.is_err() {
@@ -101,7 +98,8 @@ impl<W: Write> Sink for StdSink<W> {
 
 // One read. It is tried again where it was interrupted.
 fn read_once<R: Read>(reader: &mut R, into: &mut [u8]) -> Result<usize, Failed>
-    ensures { IfOk result (λ n. n ≤ length into.new) }
+    ensures count { IfOk result (λ n. n ≤ length into.new) }
+    ensures bytes { ReadConsumes (R.remaining reader.old) (R.remaining reader.new) result into.new }
 {
     for _ in 0..TRIES {
         match reader.read(into) {
@@ -117,6 +115,7 @@ fn read_once<R: Read>(reader: &mut R, into: &mut [u8]) -> Result<usize, Failed>
 fn write_once<W: Write>(writer: &mut W, piece: &[u8]) -> Result<usize, Failed>
     ensures count { IfOk result (λ n. n ≤ length piece.now) }
     ensures progress { IfOk result (λ n. 0 < length piece.now → 0 < n) }
+    ensures bytes { WriteAppends (W.contents writer.old) (W.contents writer.new) result piece.now }
 {
     for _ in 0..TRIES {
         match writer.write(piece) {

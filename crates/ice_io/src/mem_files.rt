@@ -97,7 +97,6 @@ impl Files for MemFiles {
     ghost store_faults = { λ s. s.store_faults };
 
     fn load(&mut self, alloc: Global, name: &str, limit: usize) -> Result<Vec<u8>, TakeFault>
-        requires { limit < 2 ^ 32 }
         ensures never_falls { self.old.load_faults ≤ self.new.load_faults }
 
         ensures fails { IsErrOf result TakeFault.Failed ↔ LoadFails self.old name.now }

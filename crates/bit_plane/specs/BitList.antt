@@ -36,6 +36,6 @@ unfoldable pub bytes_of : ℕ → List Bool → List ℕ
 bytes_of zero bits = []
 bytes_of (suc count) bits = byte_of (take 8 bits) ∷ bytes_of count (drop 8 bits)
 
--- the whole with a part of it, from a place on, put in the place of what was there
+-- the list with `part` written over it from `at` on
 abbrev pub placed : {A : Type 0} → ℕ → List A → List A → List A
 placed at part whole = take at whole ++ part ++ drop (at + length part) whole

@@ -12,9 +12,9 @@ use Rattle.ice_pack.specs.Configuration.{Configuration, bank_rows}
 abbrev pub command : ℕ → List ℕ → List ℕ
 command opcode payload = (16 * opcode + length payload) ∷ payload
 
--- a payload of two bytes, the high one first
-abbrev pub word : ℕ → List ℕ
-word n = to_be_bytes w16 n
+-- a number as two bytes, the high one first
+abbrev pub two_bytes : ℕ → List ℕ
+two_bytes n = to_be_bytes w16 n
 
 abbrev pub preamble : List ℕ
 preamble = 0x7E ∷ 0xAA ∷ 0x99 ∷ 0x7E ∷ []
@@ -34,17 +34,17 @@ bank_command bank = command 1 (bank ∷ [])
 
 -- the width is written less one
 abbrev pub width_command : ℕ → List ℕ
-width_command width = command 6 (word (width - 1))
+width_command width = command 6 (two_bytes (width - 1))
 
 abbrev pub height_command : ℕ → List ℕ
-height_command height = command 7 (word height)
+height_command height = command 7 (two_bytes height)
 
 abbrev pub offset_command : ℕ → List ℕ
-offset_command offset = command 8 (word offset)
+offset_command offset = command 8 (two_bytes offset)
 
--- the opcode of the check; its payload is the check value after this byte
-abbrev pub check_opcode : List ℕ
-check_opcode = 0x22 ∷ []
+-- the first byte of the check: opcode 2 with two bytes of payload, which are the check value after this byte
+abbrev pub check_head : List ℕ
+check_head = (16 * 2 + 2) ∷ []
 
 abbrev pub wake_up_command : List ℕ
 wake_up_command = command 0 (6 ∷ [])
@@ -88,10 +88,10 @@ bram_bytes device planes =
     width_command (bram_width device) ++ height_command 128
     ++ flat_map (bram_bank planes) four_banks
 
--- what the check covers: all from the reset on, the byte of the check's opcode included
+-- what the check covers: all from the reset on, the first byte of the check included
 unfoldable pub checked_bytes : Configuration → List ℕ
 checked_bytes c =
-    mode_command c.warm_boot c.no_sleep ++ cram_bytes c.device c.cram ++ bram_bytes c.device c.bram ++ check_opcode
+    mode_command c.warm_boot c.no_sleep ++ cram_bytes c.device c.cram ++ bram_bytes c.device c.bram ++ check_head
 
 -- before the preamble a comment stands between FF 00 and 00 FF, each line ended by 00
 abbrev pub comment_bytes : Option (List (List ℕ)) → List ℕ
@@ -102,5 +102,5 @@ comment_bytes (Some lines) = 0xFF ∷ 0 ∷ flat_map (λ line. line ++ 0 ∷ [])
 unfoldable pub canonical_bytes : Configuration → List ℕ
 canonical_bytes c =
     comment_bytes c.comment ++ preamble ++ range_command c.range ++ reset_command
-    ++ checked_bytes c ++ word (check_value (bits_of (checked_bytes c)))
+    ++ checked_bytes c ++ two_bytes (check_value (bits_of (checked_bytes c)))
     ++ wake_up_command ++ 0 ∷ []

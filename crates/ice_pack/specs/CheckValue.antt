@@ -1,5 +1,5 @@
 -- The check value of a stream: the remainder of its bits, as a polynomial over two elements, after division by
--- x^16 + x^12 + x^5 + 1, where the first sixteen bits are inverted and sixteen zeros follow the last bit. It is a sum
+-- x^16 + x^12 + x^5 + 1, where sixteen zeros follow the last bit and the first sixteen of all these are inverted. It is a sum
 -- of powers, and the sum is the exclusive or. The bitstream documentation calls it the CRC.
 use Rattle.std.specs.Prelude.{ℕ, zero, suc, ◌+◌, ◌-◌, ◌*◌, Bool, true, false, List, [], ◌∷◌, length, bit_xor, nat_lt, if◌then◌else◌}
 

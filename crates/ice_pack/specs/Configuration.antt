@@ -27,6 +27,6 @@ place_bit planes at = bit_at (bank_rows planes at.bank) at.px at.py
 abbrev pub with_bank_bit : List Rows → Place → List Rows
 with_bank_bit planes at = set planes at.bank (with_bit (bank_rows planes at.bank) at.px at.py true)
 
--- a configuration without a comment, with the settings that a text has when it names none but sleep
+-- a configuration without a comment, with the range low, warm boot enabled, and this setting of sleep
 abbrev pub plain : DeviceName → Bool → List Rows → List Rows → Configuration
 plain device no_sleep cram bram = record { device = device; comment = None; range = 0; warm_boot = true; no_sleep = no_sleep; cram = cram; bram = bram }

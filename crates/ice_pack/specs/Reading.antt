@@ -1,4 +1,5 @@
--- What the reader of a text of logic tiles keeps, and what it does with one line more.
+-- What the reader of a text of logic tiles keeps, and what it does with one line more: steps of private functions. What
+-- a text means stands in `TileText`.
 use Rattle.std.specs.Prelude.{◌≡◌, ℕ, ◌+◌, ◌<◌, Bool, true, false, ◌&&◌, ◌||◌, List, [], ◌∷◌, ◌++◌, length, get_or, ◌==◌, if◌then◌else◌, Option, Some, None}
 use Rattle.std.specs.List.{list_any}
 use Rattle.text_lines.specs.Places.{any_below}

@@ -7,12 +7,13 @@ use Rattle.ice_io.specs.Faults.{counted}
 use Rattle.ice_io.specs.Files.{FileMap}
 use Rattle.ice_io.specs.declared.named_file.NamedFile.{NamedFile}
 
--- the files, the one name that may be stored, how many bytes it may have, the numbers of the calls that fail, counted
--- from 1, how many calls there were, and how many loads and stores have failed
+-- the files, the one name that may be stored, how many bytes it may have, the greatest size of a copy, the numbers of
+-- the calls that fail, counted from 1, how many calls there were, and how many loads and stores have failed
 pub record FilesState : Type 0 where
   pub files : FileMap
   pub target : List ℕ
   pub room : ℕ
+  pub most : ℕ
   pub failing : List ℕ
   pub calls : ℕ
   pub load_faults : ℕ
@@ -21,10 +22,10 @@ pub record FilesState : Type 0 where
 -- it is stored as the tuple of its fields
 abbrev pub files_code : Coded FilesState
 files_code =
-    code_by (FileMap × (List ℕ × (ℕ × (List ℕ × (ℕ × (ℕ × ℕ))))))
-    (coded× (map_of.code (coded_list coded_ℕ) (coded_list coded_ℕ)) (coded× (coded_list coded_ℕ) (coded× coded_ℕ (coded× (coded_list coded_ℕ) (coded× coded_ℕ (coded× coded_ℕ coded_ℕ))))))
-    (λ s. (s.files, (s.target, (s.room, (s.failing, (s.calls, (s.load_faults, s.store_faults)))))))
-    (λ p. record { files = p.0; target = p.1.0; room = p.1.1.0; failing = p.1.1.1.0; calls = p.1.1.1.1.0; load_faults = p.1.1.1.1.1.0; store_faults = p.1.1.1.1.1.1 })
+    code_by (FileMap × (List ℕ × (ℕ × (ℕ × (List ℕ × (ℕ × (ℕ × ℕ)))))))
+    (coded× (map_of.code (coded_list coded_ℕ) (coded_list coded_ℕ)) (coded× (coded_list coded_ℕ) (coded× coded_ℕ (coded× coded_ℕ (coded× (coded_list coded_ℕ) (coded× coded_ℕ (coded× coded_ℕ coded_ℕ)))))))
+    (λ s. (s.files, (s.target, (s.room, (s.most, (s.failing, (s.calls, (s.load_faults, s.store_faults))))))))
+    (λ p. record { files = p.0; target = p.1.0; room = p.1.1.0; most = p.1.1.1.0; failing = p.1.1.1.1.0; calls = p.1.1.1.1.1.0; load_faults = p.1.1.1.1.1.1.0; store_faults = p.1.1.1.1.1.1.1 })
     (λ _. refl)
 
 -- a file's name and its bytes

@@ -39,6 +39,7 @@ impl Model for MemFiles {
       files = stored_over (files_of s.files.items) (string_bytes s.target) s.stored s.room.items;
       target = string_bytes s.target;
       room = vec_len s.room;
+      most = s.most;
       failing = s.failing.items;
       calls = s.calls;
       load_faults = s.load_faults;
@@ -61,7 +62,7 @@ impl MemFiles {
         failing: Vec<u64>,
     ) -> Result<MemFiles, AllocError>
         requires { 1 ≤ most }
-        ensures { IfOk result (λ all. all ≡ record { files = files_of files.items; target = target.now; room = room; failing = failing.items; calls = 0; load_faults = 0; store_faults = 0 }) }
+        ensures { IfOk result (λ all. all ≡ record { files = files_of files.items; target = target.now; room = room; most = most; failing = failing.items; calls = 0; load_faults = 0; store_faults = 0 }) }
     {
         Ok(MemFiles {
             files,

@@ -103,9 +103,12 @@ fn memory_takes_bytes_up_to_its_room(rt: HostRuntime) -> Result<(), Fail> {
 }
 
 #[test]
-fn a_reader_is_a_source(rt: HostRuntime) -> Result<(), Fail> {
+fn a_real_reader_is_a_source(rt: HostRuntime) -> Result<(), Fail> {
     let alloc = rt.alloc();
-    let mut source = StdSource::new(b"abc".as_slice());
+    let name = "ice_io_read_by_a_source";
+    fs::write(&rt, name, "abc")?;
+    let mut source = StdSource::new(fs::open(&rt, name)?);
+    fs::remove_file(&rt, name)?;
     let taken = read_all(alloc, &mut source, 3)
         .ok()
         .ok_or("three bytes are within the limit")?;
@@ -120,10 +123,12 @@ fn a_reader_is_a_source(rt: HostRuntime) -> Result<(), Fail> {
 }
 
 #[test]
-fn a_writer_is_a_sink(rt: HostRuntime) -> Result<(), Fail> {
-    let alloc = rt.alloc();
-    let mut bytes = Vec::new(alloc);
-    assert_eq!(rt; write_whole(&mut StdSink::new(&mut bytes), b"abc"), Ok(()));
+fn a_real_writer_is_a_sink(rt: HostRuntime) -> Result<(), Fail> {
+    let name = "ice_io_written_by_a_sink";
+    let mut sink = StdSink::new(fs::create(&rt, name)?);
+    assert_eq!(rt; write_whole(&mut sink, b"abc"), Ok(()));
+    let bytes = fs::read(&rt, name)?;
+    fs::remove_file(&rt, name)?;
     assert_eq!(rt; bytes.as_slice(), b"abc".as_slice());
     let mut sink = StdSink::new(Unsteady { calls: 0 });
     for want in [Err(PutFault::Failed { written: 1 }), Ok(())] {

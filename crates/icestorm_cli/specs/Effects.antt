@@ -1,0 +1,68 @@
+-- What a run does to the files and the streams, where these tell what they hold.
+use Rattle.std.specs.Prelude.{◌≡◌, ◌⊎◌, ℕ, ◌+◌, ◌^◌, ◌<◌, Bool, true, List, Option, None, Some, IsSome, MatchOption, All, length, take, slice_get}
+use Rattle.icestorm_cli.specs.declared.job.Failure.{Failure}
+use Rattle.icestorm_cli.specs.declared.job.Failure.TheVariants.{Refused, Read, Write, Memory, TooLong}
+use Rattle.std.specs.Io.KnownBytes.{Appends}
+use Rattle.ice_io.specs.Faults.{Rose}
+use Rattle.ice_io.specs.Files.{FileMap, with_file}
+use Rattle.ice_io.specs.declared.source.TakeFault.{TakeFault}
+use Rattle.ice_io.specs.declared.source.TakeFault.TheVariants as take_fault
+use Rattle.icestorm_cli.specs.Jobs.{Need, reads_input, reads_files}
+
+-- the files and the input agree with what is told of them, as far as the needs read them
+pub record Agrees (needs : List Need) (contents : Option FileMap) (left : Option (List ℕ)) (files : FileMap) (input : List ℕ) : Type 0 where
+  pub files_told : reads_files needs ≡ true → contents ≡ Some files
+  pub input_told : reads_input needs ≡ true → left ≡ Some input
+
+-- the bytes were appended to standard output, or stored in the file, and nothing else changed
+abbrev pub Delivers : Option (List ℕ) → List ℕ → Option FileMap → Option FileMap → Option (List ℕ) → Option (List ℕ) → Type 0
+Delivers None bytes files new_files held new_held = (new_files ≡ files) × Appends held new_held bytes
+Delivers (Some name) bytes files new_files held new_held = (new_files ≡ with_file files name bytes) × (new_held ≡ held)
+
+-- some first bytes were delivered, or nothing changed at all
+abbrev pub DeliversPart : Option (List ℕ) → List ℕ → Option FileMap → Option FileMap → Option (List ℕ) → Option (List ℕ) → Type 0
+DeliversPart target bytes files new_files held new_held =
+    ((new_files ≡ files) × (new_held ≡ held)) ⊎ ((n : ℕ) × Delivers target (take n bytes) files new_files held new_held)
+
+-- the line was appended whole, or a part of it, and then a write failed
+abbrev pub Writes : List ℕ → Option (List ℕ) → Option (List ℕ) → ℕ → ℕ → Type 0
+Writes line held new_held faults new_faults =
+    Appends held new_held line ⊎ ((n : ℕ) × Appends held new_held (take n line) × Rose faults new_faults)
+
+-- a need fails to be read only where the count of its own side rose: of the input, or of the loads
+abbrev pub ReadFails : Option Need → ℕ → ℕ → ℕ → ℕ → Type 0
+ReadFails None load_faults new_load_faults input_faults new_input_faults = ⊥
+ReadFails (Some need) load_faults new_load_faults input_faults new_input_faults =
+    MatchOption need.name (Rose input_faults new_input_faults) (λ name. Rose load_faults new_load_faults)
+
+-- a need that is a file
+abbrev pub IsFile : Option Need → Type 0
+IsFile None = ⊥
+IsFile (Some need) = IsSome need.name
+
+-- the failures that loading may answer
+abbrev pub IsLoadFailure : Failure → Type 0
+IsLoadFailure (Refused refusal) = ⊥
+IsLoadFailure (Read load) = Unit {0}
+IsLoadFailure Write = ⊥
+IsLoadFailure Memory = Unit {0}
+IsLoadFailure (TooLong load) = Unit {0}
+
+-- standard input is the last need, if it is one, and each limit is below 2^32
+pub record IsSound (needs : List Need) : Type 0 where
+  pub last : (k : ℕ) → k + 1 < length needs → IsFile (slice_get needs k)
+  pub limits : All (λ need. need.limit < 2 ^ 32) needs
+
+-- the failures that the load of that index may answer
+abbrev pub IsLoadFailureAt : ℕ → Failure → Type 0
+IsLoadFailureAt index (Refused refusal) = ⊥
+IsLoadFailureAt index (Read load) = load ≡ index
+IsLoadFailureAt index Write = ⊥
+IsLoadFailureAt index Memory = Unit {0}
+IsLoadFailureAt index (TooLong load) = load ≡ index
+
+-- a fault of the load of that index
+abbrev pub load_failure : TakeFault → ℕ → Failure
+load_failure take_fault.Failed index = Read index
+load_failure take_fault.TooLong index = TooLong index
+load_failure (take_fault.Memory e) index = Memory

@@ -1,0 +1,79 @@
+-- The command lines that are taken, and what each asks for.
+use Rattle.std.specs.Prelude.{ℕ, Bool, true, false, not, ◌&&◌, List, [], ◌∷◌, map, codes, get_or, bytes_eq, ◌==◌, if◌then◌else◌, Option, None, Some}
+use Rattle.std.specs.Borrow.{Bor}
+use Rattle.std.specs.List.{list_any}
+use Rattle.icestorm_cli.specs.declared.job.Tool.{Tool}
+use Rattle.icestorm_cli.specs.declared.job.Tool.TheVariants.{Icepack}
+use Rattle.icestorm_cli.specs.declared.job.Load.{Load}
+use Rattle.icestorm_cli.specs.declared.job.Job.{Job}
+
+-- bytes that a tool needs: those of a file, or of standard input where there is no name, and at most so many
+pub record Need : Type 0 where
+  pub name : Option (List ℕ)
+  pub limit : ℕ
+
+-- a tool, what it needs in order, and the file that it stores, or none where its bytes go to standard output
+pub record Task : Type 0 where
+  pub tool : Tool
+  pub needs : List Need
+  pub target : Option (List ℕ)
+
+-- the bytes of a text, where there is one
+abbrev pub text_of : Option (Bor (List ℕ)) → Option (List ℕ)
+text_of None = None
+text_of (Some text) = Some text.now
+
+abbrev pub need_of : Load → Need
+need_of load = record { name = text_of load.name; limit = load.limit }
+
+abbrev pub task_of : Job → Task
+task_of job = record { tool = job.tool; needs = map need_of job.loads.items; target = text_of job.target }
+
+-- the tool that a word names
+unfoldable pub tool_named : List ℕ → Option Tool
+tool_named word = if bytes_eq word (codes "icepack") then Some Icepack else None
+
+-- the tool that the words name
+abbrev pub tool_of : List (List ℕ) → Option Tool
+tool_of [] = None
+tool_of (word ∷ words) = tool_named word
+
+-- a word that is no option names a file: it doesn't begin with `-`
+unfoldable pub is_name : List ℕ → Bool
+is_name word = not (get_or word 0 0 == 45)
+
+-- the most bytes of a text of tiles
+abbrev pub text_limit : ℕ
+text_limit = 16777216
+
+abbrev pub pack_task : Option (List ℕ) → Option (List ℕ) → Task
+pack_task source target = record { tool = Icepack; needs = record { name = source; limit = text_limit } ∷ []; target = target }
+
+-- `icepack [INPUT [OUTPUT]]`
+unfoldable pub icepack_task : List (List ℕ) → Option Task
+icepack_task [] = Some (pack_task None None)
+icepack_task (source ∷ []) = if is_name source then Some (pack_task (Some source) None) else None
+icepack_task (source ∷ target ∷ []) = if is_name source && is_name target then Some (pack_task (Some source) (Some target)) else None
+icepack_task (source ∷ target ∷ more ∷ words) = None
+
+-- what a tool's own words ask for
+abbrev pub task_for : Option Tool → List (List ℕ) → Option Task
+task_for None words = None
+task_for (Some Icepack) words = icepack_task words
+
+-- what the words ask for, and nothing where they aren't taken
+unfoldable pub asked : List (List ℕ) → Option Task
+asked [] = None
+asked (word ∷ words) = task_for (tool_named word) words
+
+abbrev pub is_stream : Option (List ℕ) → Bool
+is_stream None = true
+is_stream (Some name) = false
+
+-- whether standard input is among the needs
+abbrev pub reads_input : List Need → Bool
+reads_input needs = list_any (λ need. is_stream need.name) needs
+
+-- whether a file is among the needs
+abbrev pub reads_files : List Need → Bool
+reads_files needs = list_any (λ need. not (is_stream need.name)) needs

@@ -1,0 +1,4 @@
+pub mod Jobs
+pub mod Messages
+pub mod Outcome
+pub mod Effects

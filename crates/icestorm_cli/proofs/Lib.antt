@@ -1,1 +1,3 @@
 pub mod Loads
+pub mod Deliveries
+pub mod Pieces

@@ -1,5 +1,5 @@
 -- What a run does to the files and the streams, where these tell what they hold.
-use Rattle.std.specs.Prelude.{◌≡◌, ◌⊎◌, ℕ, ◌+◌, ◌^◌, ◌<◌, Bool, true, List, Option, None, Some, IsSome, MatchOption, All, length, take, slice_get}
+use Rattle.std.specs.Prelude.{◌≡◌, ◌⊎◌, ℕ, ◌+◌, ◌^◌, ◌<◌, Bool, true, List, Option, None, Some, Result, Err, IsSome, MatchOption, All, length, take, slice_get}
 use Rattle.icestorm_cli.specs.declared.job.Failure.{Failure}
 use Rattle.icestorm_cli.specs.declared.job.Failure.TheVariants.{Refused, Read, Write, Memory, TooLong}
 use Rattle.std.specs.Io.KnownBytes.{Appends}
@@ -66,3 +66,16 @@ abbrev pub load_failure : TakeFault → ℕ → Failure
 load_failure take_fault.Failed index = Read index
 load_failure take_fault.TooLong index = TooLong index
 load_failure (take_fault.Memory e) index = Memory
+
+-- a tool's failure is its refusal, or want of memory
+abbrev pub AnswersFailure : Result (List ℕ) Failure → Failure → Type 0
+AnswersFailure answer (Refused refusal) = answer ≡ Err (Refused refusal)
+AnswersFailure answer (Read load) = ⊥
+AnswersFailure answer Write = ⊥
+AnswersFailure answer Memory = Unit {0}
+AnswersFailure answer (TooLong load) = ⊥
+
+-- the count of the target rose: of the stores, or of standard output
+abbrev pub TargetRose : Option (List ℕ) → ℕ → ℕ → ℕ → ℕ → Type 0
+TargetRose None store_faults new_store_faults output_faults new_output_faults = Rose output_faults new_output_faults
+TargetRose (Some name) store_faults new_store_faults output_faults new_output_faults = Rose store_faults new_store_faults

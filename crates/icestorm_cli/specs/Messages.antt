@@ -19,10 +19,23 @@ usage_of Icepack = codes "icepack [-u] [-s] [INPUT [OUTPUT]]"
 abbrev pub line_of : List ℕ → List ℕ → List ℕ
 line_of name text = name ++ codes ": " ++ text ++ 10 ∷ []
 
+-- what a line begins with: the tool, or the program where no tool is named
+abbrev pub speaker : Option Tool → List ℕ
+speaker None = codes "icestorm"
+speaker (Some tool) = tool_name tool
+
+-- the command line that would be taken
+abbrev pub usage_for : Option Tool → List ℕ
+usage_for None = codes "TOOL ..."
+usage_for (Some tool) = usage_of tool
+
 -- the line where the words aren't taken
-abbrev pub usage_line : Option Tool → List ℕ
-usage_line None = line_of (codes "icestorm") (codes "usage: TOOL ...")
-usage_line (Some tool) = line_of (tool_name tool) (codes "usage: " ++ usage_of tool)
+unfoldable pub usage_line : Option Tool → List ℕ
+usage_line tool = line_of (speaker tool) (codes "usage: " ++ usage_for tool)
+
+-- the line where there is no memory for the words themselves
+unfoldable pub memory_line : Option Tool → List ℕ
+memory_line tool = line_of (speaker tool) (codes "out of memory")
 
 -- a file by its name, and standard input
 abbrev pub source_name : Option (List ℕ) → List ℕ

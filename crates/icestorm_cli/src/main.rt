@@ -1,8 +1,11 @@
 //! Project IceStorm's bitstream tools in one program: the first word is the tool.
 #![tactic(auto)]
 
+mod answers;
+mod delivery;
 mod job;
 mod loading;
+mod report;
 mod words;
 
 fn main(rt: HostRuntime) {}

@@ -7,7 +7,8 @@ use Rattle.ice_io.specs.Faults.{Rose}
 use Rattle.ice_io.specs.Files.{FileMap, with_file}
 use Rattle.ice_io.specs.declared.source.TakeFault.{TakeFault}
 use Rattle.ice_io.specs.declared.source.TakeFault.TheVariants as take_fault
-use Rattle.icestorm_cli.specs.Jobs.{Need, reads_input, reads_files}
+use Rattle.icestorm_cli.specs.Jobs.{Need, Task, reads_input, reads_files}
+use Rattle.icestorm_cli.specs.Outcome.{done}
 
 -- the files and the input agree with what is told of them, as far as the needs read them
 pub record Agrees (needs : List Need) (contents : Option FileMap) (left : Option (List ℕ)) (files : FileMap) (input : List ℕ) : Type 0 where
@@ -79,3 +80,15 @@ AnswersFailure answer (TooLong load) = ⊥
 abbrev pub TargetRose : Option (List ℕ) → ℕ → ℕ → ℕ → ℕ → Type 0
 TargetRose None store_faults new_store_faults output_faults new_output_faults = Rose output_faults new_output_faults
 TargetRose (Some name) store_faults new_store_faults output_faults new_output_faults = Rose store_faults new_store_faults
+
+-- where files and input are told as far as the task reads them, the task gives this
+abbrev pub Gives : Task → Option FileMap → Option (List ℕ) → Result (List ℕ) Failure → Type 0
+Gives task contents left given = (known : FileMap) (text : List ℕ) → Agrees task.needs contents left known text → done known text task ≡ given
+
+-- the failures that the task's own files and input decide, whatever else fails
+abbrev pub IsDecided : Failure → Type 0
+IsDecided (Refused refusal) = Unit {0}
+IsDecided (Read load) = ⊥
+IsDecided Write = ⊥
+IsDecided Memory = ⊥
+IsDecided (TooLong load) = Unit {0}

@@ -2,6 +2,7 @@
 #![tactic(auto)]
 
 mod answers;
+mod carrying;
 mod delivery;
 mod job;
 mod loading;

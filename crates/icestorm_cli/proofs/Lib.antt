@@ -1,3 +1,4 @@
 pub mod Loads
 pub mod Deliveries
 pub mod Pieces
+pub mod Endings

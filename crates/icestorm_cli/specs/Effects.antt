@@ -1,5 +1,5 @@
 -- What a run does to the files and the streams, where these tell what they hold.
-use Rattle.std.specs.Prelude.{◌≡◌, ◌⊎◌, ℕ, ◌+◌, ◌^◌, ◌<◌, Bool, true, List, Option, None, Some, Result, Err, IsSome, MatchOption, All, length, take, slice_get}
+use Rattle.std.specs.Prelude.{◌≡◌, ◌⊎◌, ℕ, ◌+◌, ◌^◌, ◌<◌, Bool, true, List, [], Option, None, Some, Result, Err, IsSome, MatchOption, All, length, take, slice_get}
 use Rattle.icestorm_cli.specs.declared.job.Failure.{Failure}
 use Rattle.icestorm_cli.specs.declared.job.Failure.TheVariants.{Refused, Read, Write, Memory, TooLong}
 use Rattle.std.specs.Io.KnownBytes.{Appends}
@@ -8,7 +8,9 @@ use Rattle.ice_io.specs.Files.{FileMap, with_file}
 use Rattle.ice_io.specs.declared.source.TakeFault.{TakeFault}
 use Rattle.ice_io.specs.declared.source.TakeFault.TheVariants as take_fault
 use Rattle.icestorm_cli.specs.Jobs.{Need, Task, reads_input, reads_files}
-use Rattle.icestorm_cli.specs.Outcome.{done}
+use Rattle.icestorm_cli.specs.Outcome.{Outcome, done, outcome_of}
+use Rattle.icestorm_cli.specs.Messages.{failure_line}
+use Rattle.icestorm_cli.specs.declared.job.Tool.{Tool}
 
 -- the files and the input agree with what is told of them, as far as the needs read them
 pub record Agrees (needs : List Need) (contents : Option FileMap) (left : Option (List ℕ)) (files : FileMap) (input : List ℕ) : Type 0 where
@@ -92,3 +94,34 @@ IsDecided (Read load) = ⊥
 IsDecided Write = ⊥
 IsDecided Memory = ⊥
 IsDecided (TooLong load) = Unit {0}
+
+-- what words need that ask for something
+abbrev pub needs_of : Option Task → List Need
+needs_of None = []
+needs_of (Some task) = task.needs
+
+-- where their bytes go
+abbrev pub target_of : Option Task → Option (List ℕ)
+target_of None = None
+target_of (Some task) = task.target
+
+-- where files and input are told as far as the words read them, the outcome has P
+abbrev pub Told : Option Task → Option Tool → Option FileMap → Option (List ℕ) → (Outcome → Type 0) → Type 0
+Told asked_task tool contents left P =
+    (known : FileMap) (text : List ℕ) → Agrees (needs_of asked_task) contents left known text → P (outcome_of asked_task tool known text)
+
+-- the outcome delivers these bytes
+abbrev pub HasBytes : List ℕ → Outcome → Type 0
+HasBytes bytes o = (o.status ≡ 0) × (o.bytes ≡ bytes)
+
+-- a need failed to be read, and its line is written
+abbrev pub WritesReadLine : Option Task → Option (List ℕ) → Option (List ℕ) → ℕ → ℕ → ℕ → ℕ → ℕ → ℕ → Type 0
+WritesReadLine None held new_held faults new_faults load_faults new_load_faults input_faults new_input_faults = ⊥
+WritesReadLine (Some task) held new_held faults new_faults load_faults new_load_faults input_faults new_input_faults =
+    (k : ℕ) × Writes (failure_line task (Read k)) held new_held faults new_faults
+    × ReadFails (slice_get task.needs k) load_faults new_load_faults input_faults new_input_faults
+
+-- the target failed, and its line is written
+abbrev pub WritesTargetLine : Option Task → Option (List ℕ) → Option (List ℕ) → ℕ → ℕ → Type 0
+WritesTargetLine None held new_held faults new_faults = ⊥
+WritesTargetLine (Some task) held new_held faults new_faults = Writes (failure_line task Write) held new_held faults new_faults

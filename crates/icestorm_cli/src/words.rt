@@ -1,6 +1,7 @@
 // The words of a command line.
-ghost use Rattle.std.specs.Prelude.{◌≡◌, IfOk, map, string_bytes, option_map};
-ghost use Rattle.icestorm_cli.specs.Jobs.{asked, task_of, tool_named, is_name, icepack_task, pack_task, text_of};
+ghost use Rattle.std.specs.Prelude.{◌≡◌, Some, IfOk, IfSome, map, string_bytes, option_map};
+ghost use Rattle.icestorm_cli.specs.Effects.{IsSound};
+ghost use Rattle.icestorm_cli.specs.Jobs.{asked, task_of, tool_of, tool_named, is_name, icepack_task, pack_task, text_of};
 
 use crate::job::{Job, Load, Tool};
 use std::alloc::{AllocError, Global};
@@ -8,10 +9,22 @@ use std::alloc::{AllocError, Global};
 /// The most bytes of a text of tiles.
 const TEXT_LIMIT: usize = 16_777_216;
 
+/// The tool that the words name.
+pub fn tool_of(words: &Vec<String>) -> Option<Tool>
+    ensures { result ≡ tool_of (map string_bytes words.now.items) }
+{
+    match words.as_slice() {
+        [] => None,
+        [word, ..] => tool_named(word.as_str()),
+    }
+}
+
 #[tactic(auto, unfolding(crate::specs::Jobs::asked))]
 /// What the words ask for: none where they aren't taken.
 pub fn job_of(alloc: Global, words: &Vec<String>) -> Result<Option<Job<'_>>, AllocError>
-    ensures { IfOk result (λ job. option_map task_of job ≡ asked (map string_bytes words.now.items)) }
+    ensures asked { IfOk result (λ job. option_map task_of job ≡ asked (map string_bytes words.now.items)) }
+    ensures sound { IfOk result (λ job. IfSome job (λ job. IsSound (task_of job).needs)) }
+    ensures tool { IfOk result (λ job. IfSome job (λ job. tool_of (map string_bytes words.now.items) ≡ Some job.tool)) }
 {
     match words.as_slice() {
         [] => Ok(None),
@@ -37,7 +50,9 @@ fn tool_named(word: &str) -> Option<Tool>
 // What the words of `icepack` ask for.
 #[tactic(auto, unfolding(crate::specs::Jobs::icepack_task))]
 fn icepack_job(alloc: Global, words: &[String]) -> Result<Option<Job<'_>>, AllocError>
-    ensures { IfOk result (λ job. option_map task_of job ≡ icepack_task (map string_bytes words.now)) }
+    ensures asked { IfOk result (λ job. option_map task_of job ≡ icepack_task (map string_bytes words.now)) }
+    ensures sound { IfOk result (λ job. IfSome job (λ job. IsSound (task_of job).needs)) }
+    ensures tool { IfOk result (λ job. IfSome job (λ job. job.tool ≡ Tool.Icepack)) }
 {
     match words {
         [] => Ok(Some(pack_job(alloc, None, None)?)),
@@ -66,7 +81,8 @@ fn pack_job<'a>(
     source: Option<&'a str>,
     target: Option<&'a str>,
 ) -> Result<Job<'a>, AllocError>
-    ensures { IfOk result (λ job. task_of job ≡ pack_task (text_of source.entry) (text_of target.entry)) }
+    ensures asked { IfOk result (λ job. task_of job ≡ pack_task (text_of source.entry) (text_of target.entry)) }
+    ensures sound { IfOk result (λ job. IsSound (task_of job).needs) }
 {
     let load = Load {
         name: source,

@@ -1,3 +1,4 @@
 pub mod Cuts
 pub mod Numbers
 pub mod Places
+mod Worked

@@ -1,8 +1,8 @@
 -- Laws of tests of all places below a bound.
-use Rattle.std.proofs.Common.{◌≡◌, ℕ, zero, suc, ◌+◌, ◌<◌, ◌≤◌, Bool, true, false, ◌||◌, refl, sym, ap, ◌∙◌, inl, inr, arith, add-one}
-use Rattle.std.specs.Prelude.{Option, Some, None}
+use Rattle.std.proofs.Common.{◌≡◌, ℕ, zero, suc, ◌+◌, ◌<◌, Bool, true, false, ◌||◌, refl, sym, ap, ◌∙◌, inl, inr, arith, add-one}
+use Rattle.std.specs.Prelude.{Some, None}
 use Rattle.std.proofs.lemmas.Bool.{cases_eq}
-use Rattle.text_lines.specs.Places.{any_below, least_below, or_here}
+use Rattle.text_lines.specs.Places.{any_below, least_below}
 
 -- one place more
 pub any_below-more : (n : ℕ) (test : ℕ → Bool) → any_below (n + 1) test ≡ (any_below n test || test n)
@@ -34,8 +34,8 @@ least_below-first zero k test lt none here = absurd (omega arith)
 least_below-first (suc n) k test lt none here =
     elim (cases_eq k n) [
       | inl last ↦
-        let earlier : least_below n test ≡ None = least_below-none n test (λ j below. none j (omega arith)) in
-        let passes : test n ≡ true = ap test (sym last) ∙ here in
-        rw (earlier, passes) (ap (λ p. Some p) (sym last))
+          let earlier : least_below n test ≡ None = least_below-none n test (λ j below. none j (omega arith)) in
+          let passes : test n ≡ true = ap test (sym last) ∙ here in
+          rw (earlier, passes) (ap (λ p. Some p) (sym last))
       | inr before ↦ rw (least_below-first n k test (omega arith) none here) refl
     ]

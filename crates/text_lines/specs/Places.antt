@@ -1,5 +1,5 @@
 -- Tests of all places below a bound, as of the lines of a text.
-use Rattle.std.specs.Prelude.{ℕ, zero, suc, Bool, true, false, ◌||◌, Option, Some, None, if◌then◌else◌}
+use Rattle.std.specs.Prelude.{ℕ, zero, suc, Bool, true, false, ◌||◌, Option, Some, None}
 
 -- whether the test passes at some place below the bound
 unfoldable pub any_below : ℕ → (ℕ → Bool) → Bool

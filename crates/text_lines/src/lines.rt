@@ -30,7 +30,7 @@ pub(crate) fn length_before(text: &[u8], separator: u8) -> usize
     }
 }
 
-// Where the first separator stands.
+/// Where the first separator stands.
 fn first_place(text: &[u8], separator: u8) -> Option<usize>
     ensures { result ≡ position (λ byte. byte == separator) text.now }
 {

@@ -19,8 +19,8 @@ pub fn split_space(line: &[u8]) -> Option<(&[u8], &[u8])>
     }
 }
 
+/// The three words of a line: none where there are fewer or more. A word may be empty.
 #[tactic(auto, using(crate::proofs::Cuts::some_word))]
-/// The three words of a line: none where there are fewer or more.
 pub fn three_words(line: &[u8]) -> Option<(&[u8], &[u8], &[u8])>
     ensures { MatchOption result (length (words_of line.now) ≢ 3)
         (λ words. words_of line.now ≡ words.0.now ∷ words.1.now ∷ words.2.now ∷ []) }
@@ -37,7 +37,8 @@ pub fn three_words(line: &[u8]) -> Option<(&[u8], &[u8], &[u8])>
     }
 }
 
-/// The number that a word of one to nine decimal digits writes: none of any other word.
+/// The number that a word of one to nine decimal digits writes, the most significant first: none of any other word.
+/// Leading zeros count as digits.
 #[tactic(auto, unfolding(crate::specs::Words::number_of))]
 pub fn number(word: &[u8]) -> Option<u32>
     ensures { result ≡ number_of word.now }
@@ -49,20 +50,21 @@ pub fn number(word: &[u8]) -> Option<u32>
     }
 }
 
-// Whether a word is one to nine decimal digits.
+/// Whether a word is one to nine decimal digits.
 fn is_number(word: &[u8]) -> bool
     ensures { result ≡ is_number word.now }
 {
     0 < word.len() && word.len() <= 9 && are_digits(word)
 }
 
+/// Whether each byte is a decimal digit.
 fn are_digits(word: &[u8]) -> bool
     ensures { result ≡ list_all is_ascii_digit word.now }
 {
     word.iter().all(|byte| byte.is_ascii_digit())
 }
 
-// The number that decimal digits write.
+/// The number that decimal digits write, the most significant first.
 fn digits_value(digits: &[u8]) -> u32
     requires { is_number digits.now ≡ true }
     ensures { result ≡ digits_value digits.now }

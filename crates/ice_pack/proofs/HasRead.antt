@@ -33,14 +33,14 @@ GainsRow-none planes tile row line grids = record { grids = grids; bits = λ at.
 
 -- a character that is 1 sets the bit at its place
 pub GainsRow-one : (old new : List Rows) (tile : LogicTile) (row : ℕ) (line : List ℕ) (n : ℕ) (at : Place) → GainsRow old new tile row line n → get_or line n 0 ≡ 49 → at ≡ place_of K1 (bit_of tile row n) → IsInCram K1 at
-  → GainsRow old (with_bank_bit new at) tile row line (n + 1)
+    → GainsRow old (with_bank_bit new at) tile row line (n + 1)
 GainsRow-one old new tile row line n at gains one at-is within = record {
   grids = AreGrids-with new at gains.grids within;
   bits = λ other. place_bit-with new at other gains.grids within
       ∙ ap (λ b. b || is_same_place at other) (gains.bits other)
       ∙ or_assoc (place_bit old other) (any_below n (λ col. row_sets tile row line col other)) (is_same_place at other)
       ∙ ap (λ b. place_bit old other || (any_below n (λ col. row_sets tile row line col other) || b))
-          (ap (λ p. is_same_place p other) at-is ∙ rw (eq-eqb (get_or line n 0) 49 one) refl)
+      (ap (λ p. is_same_place p other) at-is ∙ rw (eq-eqb (get_or line n 0) 49 one) refl)
       ∙ ap (λ b. place_bit old other || b) (sym (any_below-more n (λ col. row_sets tile row line col other)));
 }
 
@@ -50,9 +50,9 @@ GainsRow-other old new tile row line n gains other = record {
   grids = gains.grids;
   bits = λ at. gains.bits at
       ∙ ap (λ b. place_bit old at || b)
-          (sym (or-false (any_below n (λ col. row_sets tile row line col at)))
-           ∙ ap (λ b. any_below n (λ col. row_sets tile row line col at) || b) (rw (ne_eqb (get_or line n 0) 49 other) refl)
-           ∙ sym (any_below-more n (λ col. row_sets tile row line col at)));
+      (sym (or-false (any_below n (λ col. row_sets tile row line col at)))
+      ∙ ap (λ b. any_below n (λ col. row_sets tile row line col at) || b) (rw (ne_eqb (get_or line n 0) 49 other) refl)
+      ∙ sym (any_below-more n (λ col. row_sets tile row line col at)));
 }
 
 -- ---- a text, line by line
@@ -86,7 +86,7 @@ fits-row lines k row some place = rw (later-eqb k some, ne_eqb (line_in_block k)
 
 -- whether a tile is new is whether it is among those so far
 new_tile-is_new : (lines : List (List ℕ)) (k : ℕ) (tiles : List LogicTile) → ((tile : LogicTile) → is_among tiles tile ≡ named_before lines k tile) → (named : Option LogicTile)
-  → ((new_tile tiles named ≡ None) × (is_new lines k named ≡ false)) ⊎ ((tile : LogicTile) × (new_tile tiles named ≡ Some tile) × (named ≡ Some tile) × (is_new lines k named ≡ true))
+    → ((new_tile tiles named ≡ None) × (is_new lines k named ≡ false)) ⊎ ((tile : LogicTile) × (new_tile tiles named ≡ Some tile) × (named ≡ Some tile) × (is_new lines k named ≡ true))
 new_tile-is_new lines k tiles same None = inl (refl, refl)
 new_tile-is_new lines k tiles same (Some tile) =
     elim (cases_Bool (is_among tiles tile)) [
@@ -120,7 +120,7 @@ statement_sets lines k at place = any_below-none 54 (λ col. sets lines k col at
 
 -- the bits after a statement
 bits-statement : (lines : List (List ℕ)) (k : ℕ) (planes : List Rows) (at : Place) → place_bit planes at ≡ any_below k (λ index. any_below 54 (λ col. sets lines index col at)) → line_in_block k ≡ 0
-  → place_bit planes at ≡ any_below (k + 1) (λ index. any_below 54 (λ col. sets lines index col at))
+    → place_bit planes at ≡ any_below (k + 1) (λ index. any_below 54 (λ col. sets lines index col at))
 bits-statement lines k planes at bits place =
     bits ∙ sym (or-false (any_below k (λ index. any_below 54 (λ col. sets lines index col at))))
     ∙ ap (λ b. any_below k (λ index. any_below 54 (λ col. sets lines index col at)) || b) (sym (statement_sets lines k at place))
@@ -128,7 +128,7 @@ bits-statement lines k planes at bits place =
 
 -- a row sets the bits of its own 1s
 row-sets : (lines : List (List ℕ)) (k row : ℕ) (tile : LogicTile) (at : Place) → line_in_block k ≡ row + 1 → tile_named (line_at lines (k - (row + 1))) ≡ Some tile
-  → any_below 54 (λ col. row_sets tile row (line_at lines k) col at) ≡ any_below 54 (λ col. sets lines k col at)
+    → any_below 54 (λ col. row_sets tile row (line_at lines k) col at) ≡ any_below 54 (λ col. sets lines k col at)
 row-sets lines k row tile at place named = any_below-same 54 (λ col. row_sets tile row (line_at lines k) col at) (λ col. sets lines k col at) (λ col lt.
     let later : nat_lt 0 (row + 1) ≡ true = lt-ltb 0 (row + 1) (omega arith) in
     let before : row + 1 - 1 ≡ row = omega arith in
@@ -137,8 +137,8 @@ row-sets lines k row tile at place named = any_below-same 54 (λ col. row_sets t
 
 -- the bits after a row
 bits-row : (lines : List (List ℕ)) (k row : ℕ) (tile : LogicTile) (old new : List Rows) (at : Place) → place_bit old at ≡ any_below k (λ index. any_below 54 (λ col. sets lines index col at))
-  → GainsRow old new tile row (line_at lines k) 54 → line_in_block k ≡ row + 1 → tile_named (line_at lines (k - (row + 1))) ≡ Some tile
-  → place_bit new at ≡ any_below (k + 1) (λ index. any_below 54 (λ col. sets lines index col at))
+    → GainsRow old new tile row (line_at lines k) 54 → line_in_block k ≡ row + 1 → tile_named (line_at lines (k - (row + 1))) ≡ Some tile
+    → place_bit new at ≡ any_below (k + 1) (λ index. any_below 54 (λ col. sets lines index col at))
 bits-row lines k row tile old new at bits gains place named =
     gains.bits at
     ∙ ap (λ b. b || any_below 54 (λ col. row_sets tile row (line_at lines k) col at)) bits
@@ -147,7 +147,7 @@ bits-row lines k row tile old new at bits gains place named =
 
 -- the tiles named after a statement
 named-statement : (lines : List (List ℕ)) (k : ℕ) (tiles : List LogicTile) (tile other : LogicTile) → 1 ≤ k → line_in_block k ≡ 0 → tile_named (line_at lines k) ≡ Some tile → is_among tiles other ≡ named_before lines k other
-  → is_among (tiles ++ tile ∷ []) other ≡ named_before lines (k + 1) other
+    → is_among (tiles ++ tile ∷ []) other ≡ named_before lines (k + 1) other
 named-statement lines k tiles tile other some place named same =
     let later : nat_lt 0 k ≡ true = lt-ltb 0 k (omega arith) in
     let here : (is_statement_index k && names (tile_named (line_at lines k)) other) ≡ names (Some tile) other = rw (later, eq-eqb (line_in_block k) 0 place, named) refl in
@@ -184,7 +184,7 @@ stands-row lines k row tile some place named row_in =
 
 -- a statement of a tile that isn't named yet is taken
 taken-statement : (lines : List (List ℕ)) (k : ℕ) (s new : ReaderState) (tile : LogicTile) → HasRead lines k s → line_in_block k ≡ 0 → tile_named (line_at lines k) ≡ Some tile → fits lines k ≡ true
-  → new.planes ≡ s.planes → new.named ≡ s.named ++ tile ∷ [] → new.expected ≡ Row tile 0 → HasRead lines (k + 1) new
+    → new.planes ≡ s.planes → new.named ≡ s.named ++ tile ∷ [] → new.expected ≡ Row tile 0 → HasRead lines (k + 1) new
 taken-statement lines k s new tile read place named here planes tiles expected =
     let at : Expected → Type 0 = λ e. IsAt lines (k + 1) e in
     record {
@@ -285,7 +285,7 @@ unfolding is_set
 same_plane lines s bank read grids within =
     let bit : ℕ → ℕ → Bool = λ px py. is_set lines (record { bank = bank; px = px; py = py }) in
     same_grids 332 144 (get_or s.planes bank []) (plane_of lines bank) (grids.each bank within) (IsGrid-rows_from 332 144 bit)
-      (λ x y column row. read.bits (record { bank = bank; px = x; py = y }) ∙ sym (bit_at-rows_from 332 144 bit x y column row))
+    (λ x y column row. read.bits (record { bank = bank; px = x; py = y }) ∙ sym (bit_at-rows_from 332 144 bit x y column row))
 
 four_planes : (planes : List Rows) → length planes ≡ 4 → planes ≡ get_or planes 0 [] ∷ get_or planes 1 [] ∷ get_or planes 2 [] ∷ get_or planes 3 [] ∷ []
 four_planes [] four = absurd (omega arith)
@@ -322,7 +322,7 @@ cut-end lines k none within = omega (arith, length-drop k lines, ap length none)
 
 -- at the end all lines were read
 pub ended : (text left : List ℕ) (k : ℕ) (s : ReaderState) → HasRead (lines_of text) k s → lines_of left ≡ drop k (lines_of text) → left ≡ [] → k ≤ length (lines_of text)
-  → (k ≡ length (lines_of text)) × HasRead (lines_of text) (length (lines_of text)) s
+    → (k ≡ length (lines_of text)) × HasRead (lines_of text) (length (lines_of text)) s
 unfolding lines_of
 ended text left k s read rest none within =
     let all : k ≡ length (lines_of text) = cut-end (lines_of text) k (sym rest ∙ ap lines_of none) within in

@@ -21,7 +21,7 @@ AreGrids-with planes at grids within = record {
       elim (cases_eq bank at.bank) [
         | inl same ↦ subst (λ (b : ℕ). IsGrid 332 144 (get_or (set planes at.bank plane) b [])) (sym same)
             (subst (λ (rows : Rows). IsGrid 332 144 rows) (sym (get_or-set_same planes at.bank plane [] (omega (arith, within.bank_in, grids.four))))
-              (IsGrid-with_bit 332 144 (bank_rows planes at.bank) at.px at.py true (grids.each at.bank within.bank_in) within.py_in))
+            (IsGrid-with_bit 332 144 (bank_rows planes at.bank) at.px at.py true (grids.each at.bank within.bank_in) within.py_in))
         | inr other ↦ subst (λ (rows : Rows). IsGrid 332 144 rows) (sym (get_or-set_other planes at.bank bank plane [] other)) (grids.each bank lt)
       ];
 }

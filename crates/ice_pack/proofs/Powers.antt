@@ -56,9 +56,9 @@ xor_high_low r b r_low b_low =
     let joined : bit_xor (1 * 2 ^ 15 + r) b ≡ 1 * 2 ^ 15 + bit_xor r b = ap (bit_xor (1 * 2 ^ 15 + r)) b-is ∙ xor_block 15 1 0 r b r_low b_low in
     let low : bit_xor r b < 32768 = xor_lt 15 r b r_low b_low in
     let left : doubled (bit_xor (1 * 2 ^ 15 + r) b) ≡ bit_xor (bit_xor (2 * r) (2 * b)) 4129 =
-        ap doubled joined ∙ doubled_high (bit_xor r b) low ∙ ap (λ n. bit_xor n 4129) (sym (xor_twice r b)) in
+    ap doubled joined ∙ doubled_high (bit_xor r b) low ∙ ap (λ n. bit_xor n 4129) (sym (xor_twice r b)) in
     let swapped : bit_xor (bit_xor (2 * r) (2 * b)) 4129 ≡ bit_xor (bit_xor (2 * r) 4129) (2 * b) =
-        xor_assoc (2 * r) (2 * b) 4129 ∙ ap (bit_xor (2 * r)) (xor_comm (2 * b) 4129) ∙ sym (xor_assoc (2 * r) 4129 (2 * b)) in
+    xor_assoc (2 * r) (2 * b) 4129 ∙ ap (bit_xor (2 * r)) (xor_comm (2 * b) 4129) ∙ sym (xor_assoc (2 * r) 4129 (2 * b)) in
     left ∙ swapped ∙ ap (λ n. bit_xor n (2 * b)) (sym (doubled_high r r_low)) ∙ ap (bit_xor (doubled (1 * 2 ^ 15 + r))) (sym (doubled_low b b_low))
 
 -- x^15 in both
@@ -67,10 +67,10 @@ xor_high_high r s r_low s_low =
     let joined : bit_xor (1 * 2 ^ 15 + r) (1 * 2 ^ 15 + s) ≡ bit_xor r s = xor_block 15 1 1 r s r_low s_low ∙ omega arith in
     let low : bit_xor r s < 32768 = xor_lt 15 r s r_low s_low in
     let left : doubled (bit_xor (1 * 2 ^ 15 + r) (1 * 2 ^ 15 + s)) ≡ bit_xor (2 * r) (2 * s) =
-        ap doubled joined ∙ doubled_low (bit_xor r s) low ∙ sym (xor_twice r s) in
+    ap doubled joined ∙ doubled_low (bit_xor r s) low ∙ sym (xor_twice r s) in
     let cancelled : bit_xor (bit_xor (2 * r) 4129) (bit_xor (2 * s) 4129) ≡ bit_xor (2 * r) (2 * s) =
-        xor_assoc (2 * r) 4129 (bit_xor (2 * s) 4129)
-        ∙ ap (bit_xor (2 * r)) (xor_comm 4129 (bit_xor (2 * s) 4129) ∙ xor_assoc (2 * s) 4129 4129 ∙ ap (bit_xor (2 * s)) (xor_self 4129) ∙ xor_zero_r (2 * s)) in
+    xor_assoc (2 * r) 4129 (bit_xor (2 * s) 4129)
+    ∙ ap (bit_xor (2 * r)) (xor_comm 4129 (bit_xor (2 * s) 4129) ∙ xor_assoc (2 * s) 4129 4129 ∙ ap (bit_xor (2 * s)) (xor_self 4129) ∙ xor_zero_r (2 * s)) in
     left ∙ sym cancelled ∙ ap (λ n. bit_xor n (bit_xor (2 * s) 4129)) (sym (doubled_high r r_low)) ∙ ap (bit_xor (doubled (1 * 2 ^ 15 + r))) (sym (doubled_high s s_low))
 
 xor_low_low : (a b : ℕ) → a < 32768 → b < 32768 → doubled (bit_xor a b) ≡ bit_xor (doubled a) (doubled b)

@@ -27,7 +27,7 @@ impl<P: Bits> Model for Banks<P> {
 }
 
 impl<P: Bits> Banks<P> {
-    // All bits 0.
+    /// All bits 0.
     pub(crate) fn zeroed(alloc: Global) -> Result<Banks<P>, AllocError>
         ensures { IfOk result (λ banks. banks ≡ replicate 4 (blank P.WIDTH P.HEIGHT)) }
     {
@@ -39,7 +39,7 @@ impl<P: Bits> Banks<P> {
         })
     }
 
-    // The plane of a bank.
+    /// The plane of a bank.
     pub(crate) fn plane(&self, bank: u8) -> &P
         requires { bank < 4 }
         ensures { P.rows result.now ≡ get_or self.now bank [] }
@@ -52,7 +52,7 @@ impl<P: Bits> Banks<P> {
         }
     }
 
-    // Gives the bit at a place the value 1.
+    /// Gives the bit at a place the value 1.
     pub(crate) fn set(&mut self, at: Place)
         requires bank { at.bank < 4 }
         requires column { at.px < P.WIDTH }

@@ -19,7 +19,7 @@ pub fn check_value(bytes: &[u8]) -> u16
     value
 }
 
-// The register after a byte has entered.
+/// The register after a byte has entered.
 fn enter_byte(value: u16, byte: u8) -> u16
     ensures { result ≡ entered_all value (byte_bits byte) }
 {
@@ -30,7 +30,7 @@ fn enter_byte(value: u16, byte: u8) -> u16
     value
 }
 
-// Whether the bit of value 2^place is 1.
+/// Whether the bit of value 2^place is 1.
 fn is_set(byte: u8, place: u32) -> bool
     requires { place < 8 }
     ensures { result ≡ (byte / 2 ^ place % 2 == 1) }
@@ -38,11 +38,15 @@ fn is_set(byte: u8, place: u32) -> bool
     byte >> place & 1 == 1
 }
 
-// The register after a bit has entered.
+/// The register after a bit has entered.
 fn enter_bit(value: u16, bit: bool) -> u16
     ensures { result ≡ entered value bit }
 {
     let top = value >= 0x8000;
     let shifted = value << 1;
-    if top != bit { shifted ^ DIVISOR } else { shifted }
+    if top != bit {
+        shifted ^ DIVISOR
+    } else {
+        shifted
+    }
 }

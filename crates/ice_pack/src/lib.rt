@@ -10,3 +10,6 @@ mod tile_text;
 
 pub use fault::PackFault;
 pub use packing::pack;
+
+#[cfg(test)]
+mod tests;

@@ -66,7 +66,7 @@ fn put_word(out: &mut Vec<u8>, opcode: Opcode, word: u16) -> Result<(), AllocErr
     put_command(out, opcode, &word.to_be_bytes())
 }
 
-// The bytes of a plane's rows, from row `first` on.
+/// The bytes of a plane's rows, from row `first` on.
 fn row_bytes<P: Bits>(
     alloc: Global,
     plane: &P,
@@ -83,7 +83,7 @@ fn row_bytes<P: Bits>(
     Ok(bytes)
 }
 
-// Rows of a plane as data of that kind, with two bytes 0 behind them.
+/// Rows of a plane as data of that kind, with two bytes 0 behind them.
 fn put_data<P: Bits>(
     alloc: Global,
     out: &mut Vec<u8>,
@@ -103,7 +103,7 @@ fn put_data<P: Bits>(
     out.extend_from_slice(&[0, 0])
 }
 
-// A bank's configuration plane, whole.
+/// A bank's configuration plane, whole.
 fn put_cram_bank<P: Bits>(
     alloc: Global,
     out: &mut Vec<u8>,
@@ -119,7 +119,7 @@ fn put_cram_bank<P: Bits>(
     put_data(alloc, out, CRAM_DATA, banks.plane(bank), 0, P::HEIGHT)
 }
 
-// A bank's RAM plane, in two halves.
+/// A bank's RAM plane, in two halves.
 fn put_bram_bank<P: Bits>(
     alloc: Global,
     out: &mut Vec<u8>,
@@ -136,7 +136,7 @@ fn put_bram_bank<P: Bits>(
     put_bram_half(alloc, out, banks, bank, HALF)
 }
 
-// 128 rows of a bank's RAM plane, from an offset on.
+/// 128 rows of a bank's RAM plane, from an offset on.
 fn put_bram_half<P: Bits>(
     alloc: Global,
     out: &mut Vec<u8>,
@@ -154,7 +154,7 @@ fn put_bram_half<P: Bits>(
     put_data(alloc, out, BRAM_DATA, banks.plane(bank), offset, HALF)
 }
 
-// All four banks' configuration planes.
+/// All four banks' configuration planes.
 fn put_cram_banks<P: Bits>(
     alloc: Global,
     out: &mut Vec<u8>,
@@ -170,7 +170,7 @@ fn put_cram_banks<P: Bits>(
     put_cram_bank(alloc, out, banks, 3)
 }
 
-// All four banks' RAM planes.
+/// All four banks' RAM planes.
 fn put_bram_banks<P: Bits>(
     alloc: Global,
     out: &mut Vec<u8>,
@@ -186,7 +186,7 @@ fn put_bram_banks<P: Bits>(
     put_bram_bank(alloc, out, banks, 3)
 }
 
-// The configuration planes, with their size.
+/// The configuration planes, with their size.
 #[tactic(auto, unfolding(crate::specs::CanonicalBytes::cram_bytes))]
 fn put_cram<D: Device>(
     alloc: Global,
@@ -201,7 +201,7 @@ fn put_cram<D: Device>(
     put_cram_banks(alloc, out, banks)
 }
 
-// The RAM planes, with the size of their halves.
+/// The RAM planes, with the size of their halves.
 #[tactic(auto, unfolding(crate::specs::CanonicalBytes::bram_bytes))]
 fn put_bram<D: Device>(
     alloc: Global,
@@ -215,7 +215,7 @@ fn put_bram<D: Device>(
     put_bram_banks(alloc, out, banks)
 }
 
-// What the check covers.
+/// What the check covers.
 #[tactic(auto, unfolding(crate::specs::CanonicalBytes::checked_bytes))]
 fn checked_bytes<D: Device>(
     alloc: Global,
@@ -233,8 +233,8 @@ fn checked_bytes<D: Device>(
     Ok(out)
 }
 
-#[tactic(auto, unfolding(crate::specs::CanonicalBytes::canonical_bytes))]
 /// The canonical bytes of a configuration without a comment.
+#[tactic(auto, unfolding(crate::specs::CanonicalBytes::canonical_bytes))]
 pub(crate) fn canonical_bytes<D: Device>(
     alloc: Global,
     cram: &Banks<D::Cram>,

@@ -11,7 +11,6 @@ ghost use Rattle.plane_map.specs.declared.device.DeviceName.TheVariants.{K1};
 
 use crate::banks::Banks;
 use crate::fault::PackFault;
-
 use bit_plane::Plane;
 use plane_map::{Device, Hx1k, TileKind, cram_place, kind_at};
 use std::alloc::{AllocError, Global};
@@ -76,7 +75,7 @@ pub(crate) struct Reader {
 impl Reader {
     ghost use Rattle.ice_pack.specs.Reading.{state_of, IsReady, RefusesAt, TakesAt};
 
-    // Nothing was read but the first line.
+    /// Nothing was read but the first line.
     fn new(alloc: Global) -> Result<Reader, AllocError>
         ensures { IfOk result (λ reader. state_of reader ≡ record { planes = replicate 4 (blank 332 144); named = []; expected = Expected.Statement }) }
     {
@@ -87,7 +86,7 @@ impl Reader {
         })
     }
 
-    // The planes, where no row is missing.
+    /// The planes, where no row is missing.
     fn planes(self) -> Option<Banks<Plane<332, 144>>>
         ensures { MatchOption result (self.expected ≢ Expected.Statement) (λ planes. (self.expected ≡ Expected.Statement) × (planes ≡ self.planes)) }
     {
@@ -102,7 +101,7 @@ impl Reader {
         }
     }
 
-    // Takes the next line, and answers whether it is what was expected.
+    /// Takes the next line, and answers whether it is what was expected.
     fn accept(&mut self, line: &[u8]) -> Result<bool, AllocError>
         requires { IsReady (state_of self.old) }
         ensures ready { OnOk result (IsReady (state_of self.new)) }
@@ -116,7 +115,7 @@ impl Reader {
         }
     }
 
-    // Takes the statement of a tile that isn't named yet.
+    /// Takes the statement of a tile that isn't named yet.
     fn accept_statement(&mut self, line: &[u8]) -> Result<bool, AllocError>
         requires { IsReady (state_of self.old) }
         ensures ready { OnOk result (IsReady (state_of self.new)) }
@@ -137,7 +136,7 @@ impl Reader {
         }
     }
 
-    // Takes a row of a tile.
+    /// Takes a row of a tile.
     fn accept_row(&mut self, tile: LogicTile, row: u8, line: &[u8]) -> bool
         requires ready { IsReady (state_of self.old) }
         requires logic { is_logic (kind_of K1 tile.x tile.y) ≡ true }
@@ -156,7 +155,7 @@ impl Reader {
     }
 }
 
-// What follows a row.
+/// What follows a row.
 fn after_row(tile: LogicTile, row: u8) -> Expected
     requires { row < 16 }
     ensures { result ≡ after_row tile row }
@@ -168,15 +167,15 @@ fn after_row(tile: LogicTile, row: u8) -> Expected
     }
 }
 
-// Whether a tile is among those.
+/// Whether a tile is among those.
 fn is_among(tiles: &[LogicTile], tile: LogicTile) -> bool
     ensures { result ≡ is_among tiles.now tile }
 {
     tiles.contains(&tile)
 }
 
+/// Gives the bits of a row of a tile the value 1 where the line has a 1.
 #[tactic(auto, unfolding(crate::specs::TileText::is_row))]
-// Gives the bits of a row of a tile the value 1 where the line has a 1.
 fn put_row(planes: &mut Banks<Plane<332, 144>>, tile: LogicTile, row: u8, line: &[u8])
     requires grids { AreGrids planes.old }
     requires logic { is_logic (kind_of K1 tile.x tile.y) ≡ true }
@@ -191,7 +190,7 @@ fn put_row(planes: &mut Banks<Plane<332, 144>>, tile: LogicTile, row: u8, line: 
     }
 }
 
-// The tile that a line names.
+/// The tile that a line names.
 #[tactic(auto, unfolding(crate::specs::TileText::tile_named))]
 fn tile_named(line: &[u8]) -> Option<LogicTile>
     ensures named { result ≡ tile_named line.now }
@@ -209,7 +208,7 @@ fn tile_named(line: &[u8]) -> Option<LogicTile>
     }
 }
 
-// The logic tile of two numbers.
+/// The logic tile of two numbers.
 fn logic_tile(x: Option<u32>, y: Option<u32>) -> Option<LogicTile>
     ensures named { result ≡ logic_tile_at x y }
     ensures logic { IfSome result (λ tile. is_logic (kind_of K1 tile.x tile.y) ≡ true) }
@@ -226,7 +225,7 @@ fn logic_tile(x: Option<u32>, y: Option<u32>) -> Option<LogicTile>
     }
 }
 
-// Whether a line is a row of a logic tile.
+/// Whether a line is a row of a logic tile.
 #[tactic(auto, unfolding(crate::specs::TileText::is_row))]
 fn is_row(line: &[u8]) -> bool
     ensures { result ≡ is_row line.now }

@@ -18,10 +18,10 @@ loop-col-preserved c =
     let gained : List Rows → Type 0 = λ planes. GainsRow old planes tile c.args.row line (col + 1) in
     elim c.if-line-from-eq49.branch [
       | then-line-from-eq49 w ↦
-        let one : get_or line col 0 ≡ 49 = ap (λ k. get_or line k 0) (sym c.from.ensures) ∙ w.if-line-from-eq49.true in
-        subst gained (sym w.set.ensures ∙ sym w.planes-is)
+          let one : get_or line col 0 ≡ 49 = ap (λ k. get_or line k 0) (sym c.from.ensures) ∙ w.if-line-from-eq49.true in
+          subst gained (sym w.set.ensures ∙ sym w.planes-is)
           (GainsRow-one old c.loop-col.planes tile c.args.row line col w.cram_place.result c.loop-col.invariant one w.cram_place.ensures.place w.cram_place.ensures.in_plane)
       | else-line-from-eq49 w ↦
-        subst gained (sym w.planes-is)
+          subst gained (sym w.planes-is)
           (GainsRow-other old c.loop-col.planes tile c.args.row line col c.loop-col.invariant (λ one. w.if-line-from-eq49.false (ap (λ k. get_or line k 0) c.from.ensures ∙ one)))
     ]

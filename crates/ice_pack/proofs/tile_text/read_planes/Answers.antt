@@ -13,7 +13,7 @@ returns-in_default-clause-not_yet c = unfit-empty c.args.text.now c.in_default.e
 pub returns-then-ne-clause-not_yet : goal.returns-then-ne-clause-not_yet
 returns-then-ne-clause-not_yet c =
     let other : bytes_eq c.in-Some.first.now device_line ≡ false =
-        ap (bytes_eq c.in-Some.first.now) (sym c.as_slice.ensures) ∙ not_true (bytes_eq c.in-Some.first.now c.as_slice.result.now) (sym c.ne.ensures ∙ c.if-ne.true) in
+    ap (bytes_eq c.in-Some.first.now) (sym c.as_slice.ensures) ∙ not_true (bytes_eq c.in-Some.first.now c.as_slice.result.now) (sym c.ne.ensures ∙ c.if-ne.true) in
     unfit-first c.args.text.now c.in-Some.first.now (lines_of c.in-Some.rest.now) c.in-Some.ensures.lines other
 
 pub loop-line-init : goal.loop-line-init
@@ -22,7 +22,7 @@ loop-line-init c =
     let state = state_of c.in_ok-reader.reader in
     let found = cut lines 0 c.in-Some.first.now (lines_of c.in-Some.rest.now) c.in-Some.ensures.lines in
     let named : bytes_eq c.in-Some.first.now device_line ≡ true =
-        ap (bytes_eq c.in-Some.first.now) (sym c.as_slice.ensures) ∙ not_false (bytes_eq c.in-Some.first.now c.as_slice.result.now) (sym c.ne.ensures ∙ c.if-ne.false) in
+    ap (bytes_eq c.in-Some.first.now) (sym c.as_slice.ensures) ∙ not_false (bytes_eq c.in-Some.first.now c.as_slice.result.now) (sym c.ne.ensures ∙ c.if-ne.false) in
     let planes = ap (λ (s : ReaderState). s.planes) c.in_ok-reader.ensures in
     let tiles = ap (λ (s : ReaderState). s.named) c.in_ok-reader.ensures in
     let expected = ap (λ (s : ReaderState). s.expected) c.in_ok-reader.ensures in
@@ -40,7 +40,7 @@ returns-then-not-branch-clause-not_yet c =
     let line = c.in-Some-first_line.line.now in
     let matched : Bool → Type 0 = λ fits. MatchBool fits (TakesAt s s.expected line (state_of c.accept.new.self)) (RefusesAt s s.expected line) in
     unfit-refused c.args.text.now line c.loop-line.count (lines_of c.in-Some-first_line.rest.now) s c.loop-line.invariant.read
-      (sym c.loop-line.invariant.rest ∙ c.in-Some-first_line.ensures.lines) (subst matched c.if-not-branch.true c.in_ok-accept.ensures.taken)
+    (sym c.loop-line.invariant.rest ∙ c.in-Some-first_line.ensures.lines) (subst matched c.if-not-branch.true c.in_ok-accept.ensures.taken)
 
 pub loop-line-preserved : goal.loop-line-preserved
 loop-line-preserved c =

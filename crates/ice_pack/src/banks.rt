@@ -8,6 +8,8 @@ use plane_map::Place;
 use std::alloc::{AllocError, Global};
 use std::marker::Model;
 
+/// One plane for each bank: 0 is the left bottom quarter of the grid, 1 the left top one, 2 the right bottom one and 3 the
+/// right top one. Contracts see the list of the four planes' rows.
 #[derive(Drop)]
 pub(crate) struct Banks<P: Bits> {
     left_bottom: P,
@@ -27,7 +29,7 @@ impl<P: Bits> Model for Banks<P> {
 }
 
 impl<P: Bits> Banks<P> {
-    /// All bits 0.
+    /// Four planes whose bits are all 0.
     pub(crate) fn zeroed(alloc: Global) -> Result<Banks<P>, AllocError>
         ensures { IfOk result (λ banks. banks ≡ replicate 4 (blank P.WIDTH P.HEIGHT)) }
     {
@@ -52,7 +54,7 @@ impl<P: Bits> Banks<P> {
         }
     }
 
-    /// Gives the bit at a place the value 1.
+    /// Gives the bit at a place the value 1: `px` is its column and `py` its row in the plane of its bank.
     pub(crate) fn set(&mut self, at: Place)
         requires bank { at.bank < 4 }
         requires column { at.px < P.WIDTH }

@@ -4,11 +4,14 @@ ghost use Rattle.bit_plane.specs.BitList.{bits_of, byte_bits};
 ghost use Rattle.ice_pack.specs.CheckValue.{check_value};
 ghost use Rattle.ice_pack.specs.Register.{entered, entered_all};
 
+/// The divisor x^16 + x^12 + x^5 + 1 without its highest power, bit k being that of x^k.
 const DIVISOR: u16 = 0x1021;
 
+/// What the register holds before the first bit.
 const START: u16 = 0xFFFF;
 
-/// The check value of bytes, the bits of each from the most significant on.
+/// The check value of bytes, the bits of each from the most significant on. The bytes of `123456789` have 29B1
+/// (hexadecimal).
 pub fn check_value(bytes: &[u8]) -> u16
     ensures { result ≡ check_value (bits_of bytes.now) }
 {

@@ -9,7 +9,7 @@ use std::alloc::{AllocError, AllocFailed};
 pub enum PackFault {
     /// The least line that isn't of the accepted form, counted from 1, or the line after the last where one is missing.
     NotYet { line: u64 },
-    /// Out of memory.
+    /// Out of memory. It may come in place of any other answer.
     Memory(AllocError),
 }
 

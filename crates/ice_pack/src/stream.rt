@@ -31,13 +31,16 @@ enum Opcode {
     Mode = 9,
 }
 
-/// Payloads of `Opcode::Control`.
+/// The payload of `Opcode::Control` before rows of a configuration plane.
 const CRAM_DATA: u8 = 1;
 
+/// The payload of `Opcode::Control` before rows of a RAM plane.
 const BRAM_DATA: u8 = 3;
 
+/// The payload of `Opcode::Control` at which the check value begins anew.
 const RESET: u8 = 5;
 
+/// The payload of `Opcode::Control` that ends the configuration.
 const WAKE_UP: u8 = 6;
 
 /// The first byte of a check: opcode 2 with two bytes of payload.
@@ -52,6 +55,7 @@ const PREAMBLE: [u8; 4] = [0x7E, 0xAA, 0x99, 0x7E];
 /// The RAM planes are written in two halves of that many rows.
 const HALF: usize = 128;
 
+/// A command: the opcode and the number of bytes of payload in one byte, and the payload.
 fn put_command(out: &mut Vec<u8>, opcode: Opcode, payload: &[u8]) -> Result<(), AllocError>
     requires { length payload.now < 16 }
     ensures { OnOk result (out.new.items ≡ out.old.items ++ command (opcode_number opcode) payload.now) }
@@ -60,6 +64,7 @@ fn put_command(out: &mut Vec<u8>, opcode: Opcode, payload: &[u8]) -> Result<(), 
     out.extend_from_slice(payload)
 }
 
+/// A command whose payload is a number of two bytes, the high one first.
 fn put_word(out: &mut Vec<u8>, opcode: Opcode, word: u16) -> Result<(), AllocError>
     ensures { OnOk result (out.new.items ≡ out.old.items ++ command (opcode_number opcode) (to_be_bytes w16 word)) }
 {
@@ -215,7 +220,7 @@ fn put_bram<D: Device>(
     put_bram_banks(alloc, out, banks)
 }
 
-/// What the check covers.
+/// What the check covers: all from the reset on, the first byte of the check included.
 #[tactic(auto, unfolding(crate::specs::CanonicalBytes::checked_bytes))]
 fn checked_bytes<D: Device>(
     alloc: Global,
@@ -233,7 +238,8 @@ fn checked_bytes<D: Device>(
     Ok(out)
 }
 
-/// The canonical bytes of a configuration without a comment.
+/// The canonical bytes of a configuration without a comment, with the range low and warm boot enabled. The flash stays
+/// awake where `no_sleep` is true.
 #[tactic(auto, unfolding(crate::specs::CanonicalBytes::canonical_bytes))]
 pub(crate) fn canonical_bytes<D: Device>(
     alloc: Global,

@@ -16,11 +16,13 @@ use plane_map::{Device, Hx1k, TileKind, cram_place, kind_at};
 use std::alloc::{AllocError, Global};
 use text_lines::{first_line, number, three_words};
 
+/// The first line of a text.
 const DEVICE_LINE: [u8; 10] = *b".device 1k";
 
+/// The first word of a tile's statement.
 const TILE_KEYWORD: [u8; 11] = *b".logic_tile";
 
-/// Where a logic tile stands.
+/// Where a logic tile stands: its column and its row in the grid, from the left bottom corner.
 #[derive(Clone, Copy, Debug, PartialEq, Eq)]
 pub(crate) struct LogicTile {
     x: u8,
@@ -32,11 +34,11 @@ pub(crate) struct LogicTile {
 enum Expected {
     /// The statement of a tile.
     Statement,
-    /// A row of a tile.
+    /// A row of a tile, of the rows 0 to 15.
     Row { tile: LogicTile, row: u8 },
 }
 
-/// The configuration planes of a text of logic tiles.
+/// The configuration planes of a text of logic tiles: a bit is 1 where a character 1 of a row stands for it.
 pub(crate) fn read_planes(alloc: Global, text: &[u8]) -> Result<Banks<Plane<332, 144>>, PackFault>
     ensures planes { IfOk result (λ planes. planes ≡ planes_of (lines_of text.now)) }
     ensures fits { OnOk result (unfit_line text.now ≡ None) }
@@ -64,7 +66,7 @@ pub(crate) fn read_planes(alloc: Global, text: &[u8]) -> Result<Banks<Plane<332,
     }
 }
 
-/// The reader of a text's lines, after the first.
+/// The reader of a text's lines, after the first: the planes and the tiles so far, and what comes next.
 #[derive(Drop)]
 pub(crate) struct Reader {
     planes: Banks<Plane<332, 144>>,
@@ -208,7 +210,7 @@ fn tile_named(line: &[u8]) -> Option<LogicTile>
     }
 }
 
-/// The logic tile of two numbers.
+/// The logic tile of two numbers: none where one is missing, or another kind of tile or none stands there.
 fn logic_tile(x: Option<u32>, y: Option<u32>) -> Option<LogicTile>
     ensures named { result ≡ logic_tile_at x y }
     ensures logic { IfSome result (λ tile. is_logic (kind_of K1 tile.x tile.y) ≡ true) }
@@ -225,7 +227,7 @@ fn logic_tile(x: Option<u32>, y: Option<u32>) -> Option<LogicTile>
     }
 }
 
-/// Whether a line is a row of a logic tile.
+/// Whether a line is a row of a logic tile: 54 characters 0 and 1.
 #[tactic(auto, unfolding(crate::specs::TileText::is_row))]
 fn is_row(line: &[u8]) -> bool
     ensures { result ≡ is_row line.now }
@@ -233,6 +235,7 @@ fn is_row(line: &[u8]) -> bool
     line.len() == 54 && are_bits(line)
 }
 
+/// Whether each byte is a character 0 or 1.
 fn are_bits(line: &[u8]) -> bool
     ensures { result ≡ list_all (λ byte. (byte == 48) || (byte == 49)) line.now }
 {

@@ -1,6 +1,6 @@
 -- What the reader has read: each step keeps that the lines so far fit their places, and that the planes have the bits
 -- of the 1s so far.
-use Rattle.std.proofs.Common.{drop, ◌≡◌, ◌≢◌, ℕ, zero, suc, ◌+◌, ◌-◌, ◌*◌, ◌%◌, ◌<◌, ◌≤◌, Bool, true, false, not, cond, ◌&&◌, ◌||◌, ◌==◌, List, [], ◌∷◌, ◌++◌, length, get_or, set, refl, sym, ap, subst, ◌∙◌, inl, inr, ◌⊎◌, arith, add-one}
+use Rattle.std.proofs.Common.{drop, ◌≡◌, ◌≢◌, ℕ, zero, suc, ◌+◌, ◌-◌, ◌%◌, ◌<◌, ◌≤◌, Bool, true, false, not, ◌&&◌, ◌||◌, ◌==◌, List, [], ◌∷◌, ◌++◌, length, get_or, refl, sym, ap, subst, ◌∙◌, inl, inr, ◌⊎◌, arith}
 use Rattle.std.specs.Prelude.{replicate, bytes_eq}
 use Rattle.bit_plane.specs.Rows.{blank, bit_at}
 use Rattle.bit_plane.proofs.Grids.{bit_at-blank, same_grids}
@@ -9,9 +9,9 @@ use Rattle.text_lines.specs.Lines.{lines_of, line_at}
 use Rattle.text_lines.specs.Places.{any_below, least_below}
 use Rattle.text_lines.proofs.Places.{any_below-more, any_below-none, any_below-same, least_below-none, least_below-first}
 use Rattle.plane_map.specs.declared.tile.Place.{Place}
-use Rattle.plane_map.specs.Layout.{kind_of, IsInCram}
+use Rattle.plane_map.specs.Layout.{IsInCram}
 use Rattle.std.proofs.lemmas.Bool.{eq-eqb, ne_eqb, cases_eq, cases_Bool, lt-ltb}
-use Rattle.std.specs.Prelude.{Option, Some, None, if◌then◌else◌, nat_lt}
+use Rattle.std.specs.Prelude.{Option, Some, None, nat_lt}
 use Rattle.bit_plane.specs.Rows.{Rows}
 use Rattle.plane_map.specs.declared.device.DeviceName.TheVariants.{K1}
 use Rattle.plane_map.specs.Layout.{place_of}
@@ -19,7 +19,7 @@ use Rattle.ice_pack.specs.declared.tile_text.LogicTile.{LogicTile}
 use Rattle.ice_pack.specs.declared.tile_text.Expected.{Expected}
 use Rattle.ice_pack.specs.declared.tile_text.Expected.TheVariants.{Statement, Row}
 use Rattle.ice_pack.specs.Configuration.{place_bit, with_bank_bit}
-use Rattle.ice_pack.specs.TileText.{device_line, unfit_line, missing_line, is_set, plane_of, planes_of, tile_named, is_row, is_logic, line_in_block, names, named_before, is_new, is_statement_index, fits, is_same_place, sets, sets_in_block, bit_of}
+use Rattle.ice_pack.specs.TileText.{device_line, unfit_line, missing_line, is_set, plane_of, planes_of, tile_named, is_row, line_in_block, names, named_before, is_new, is_statement_index, fits, is_same_place, sets, sets_in_block, bit_of}
 use Rattle.ice_pack.specs.Reading.{IsReady, IsExpectable, AreGrids, row_sets, GainsRow, ReaderState, is_among, new_tile, after_row, RefusesAt, TakesAt}
 use Rattle.ice_pack.proofs.Planes.{AreGrids-blank, AreGrids-with, place_bit-with, or-false, or_assoc, and-false}
 use Rattle.std.proofs.lemmas.List.Folds.{list_any-append}

@@ -1,9 +1,9 @@
 -- The four configuration planes of an HX1K, and one bit of them that becomes 1.
-use Rattle.std.proofs.Common.{◌≡◌, ◌≢◌, ℕ, zero, suc, ◌+◌, ◌<◌, ◌≤◌, Bool, true, false, ◌&&◌, ◌||◌, ◌==◌, List, [], ◌∷◌, length, get_or, set, refl, sym, ap, subst, ◌∙◌, inl, inr, ◌⊎◌, arith}
+use Rattle.std.proofs.Common.{◌≡◌, ◌≢◌, ℕ, zero, suc, ◌<◌, Bool, true, false, ◌&&◌, ◌||◌, ◌==◌, List, [], ◌∷◌, get_or, set, refl, sym, ap, subst, ◌∙◌, inl, inr, ◌⊎◌, arith}
 use Rattle.std.proofs.lemmas.Bool.{cases_eq, eq-eqb, ne_eqb}
 use Rattle.std.proofs.lemmas.List.{get_or-set_same, get_or-set_other, length-set}
 use Rattle.bit_plane.specs.Rows.{Rows, IsGrid, bit_at, with_bit}
-use Rattle.bit_plane.proofs.Grids.{IsGrid-with_bit, IsGrid-blank, bit_at-with_bit_same, bit_at-with_bit_other, bit_at-blank}
+use Rattle.bit_plane.proofs.Grids.{IsGrid-with_bit, IsGrid-blank, bit_at-with_bit_same, bit_at-with_bit_other}
 use Rattle.bit_plane.specs.Rows.{blank}
 use Rattle.plane_map.specs.declared.device.DeviceName.TheVariants.{K1}
 use Rattle.plane_map.specs.declared.tile.Place.{Place}

@@ -1,5 +1,5 @@
 -- The one stream that is written for a configuration: a concatenation of commands.
-use Rattle.std.specs.Prelude.{ℕ, ◌+◌, ◌-◌, ◌*◌, ◌/◌, Bool, false, true, List, [], ◌∷◌, ◌++◌, length, get_or, take, drop, flat_map, Option, None, Some}
+use Rattle.std.specs.Prelude.{ℕ, ◌+◌, ◌-◌, ◌*◌, ◌/◌, Bool, List, [], ◌∷◌, ◌++◌, length, take, drop, flat_map, Option, None, Some}
 use Rattle.std.specs.Int.{w16, to_be_bytes}
 use Rattle.bit_plane.specs.BitList.{bits_of, bytes_of, bit_value}
 use Rattle.bit_plane.specs.Rows.{Rows, flat}

@@ -1,4 +1,4 @@
-use Rattle.std.proofs.Common.{◌≡◌, ◌≤◌, ◌∙◌, ap, take, length, arith}
+use Rattle.std.proofs.Common.{◌≡◌, ◌∙◌, ap, take}
 use Rattle.std.proofs.lemmas.List.{take_all}
 use Rattle.bit_plane.specs.BitList.{bits_of}
 use Rattle.ice_pack.specs.Register.{entered_all}

@@ -1,8 +1,8 @@
-use Rattle.std.proofs.Common.{◌≡◌, ◌+◌, ◌≤◌, ◌∷◌, Bool, true, false, not, List, ℕ, length, drop, sym, ap, subst, ◌∙◌, arith}
+use Rattle.std.proofs.Common.{◌≡◌, ◌+◌, ◌∷◌, Bool, true, false, drop, sym, ap, subst, ◌∙◌, arith}
 use Rattle.std.specs.Prelude.{Some, bytes_eq}
 use Rattle.std.specs.Bool.{MatchBool}
 use Rattle.text_lines.specs.Lines.{lines_of}
-use Rattle.ice_pack.specs.TileText.{device_line, unfit_line}
+use Rattle.ice_pack.specs.TileText.{device_line}
 use Rattle.ice_pack.specs.Reading.{ReaderState, state_of, TakesAt, RefusesAt}
 use Rattle.ice_pack.proofs.HasRead.{begun, cut, ended, first_fits, fit-end, IsReady-new, not_false, not_true, same_planes, taken-line, unfit-empty, unfit-end, unfit-first, unfit-refused}
 use Rattle.ice_pack.proofs.tile_text.read_planes.Goals as goal

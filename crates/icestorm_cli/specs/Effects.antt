@@ -2,13 +2,15 @@
 use Rattle.std.specs.Prelude.{◌≡◌, ◌⊎◌, ℕ, ◌+◌, ◌^◌, ◌<◌, Bool, true, List, [], Option, None, Some, Result, Err, IsSome, MatchOption, All, length, take, slice_get}
 use Rattle.icestorm_cli.specs.declared.job.Failure.{Failure}
 use Rattle.icestorm_cli.specs.declared.job.Failure.TheVariants.{Refused, Read, Write, Memory, TooLong}
+use Rattle.std.specs.Prelude.{Vec, String}
+use Rattle.std.specs.declared.alloc.Global.{Global}
 use Rattle.std.specs.Io.KnownBytes.{Appends}
 use Rattle.ice_io.specs.Faults.{Rose}
 use Rattle.ice_io.specs.Files.{FileMap, with_file}
 use Rattle.ice_io.specs.declared.source.TakeFault.{TakeFault}
 use Rattle.ice_io.specs.declared.source.TakeFault.TheVariants as take_fault
-use Rattle.icestorm_cli.specs.Jobs.{Need, Task, reads_input, reads_files}
-use Rattle.icestorm_cli.specs.Outcome.{Outcome, done, outcome_of}
+use Rattle.icestorm_cli.specs.Jobs.{Need, Task, reads_input, reads_files, texts_of, wanted}
+use Rattle.icestorm_cli.specs.Outcome.{Outcome, done, outcome, outcome_of}
 use Rattle.icestorm_cli.specs.Messages.{failure_line}
 use Rattle.icestorm_cli.specs.declared.job.Tool.{Tool}
 
@@ -105,10 +107,15 @@ abbrev pub target_of : Option Task → Option (List ℕ)
 target_of None = None
 target_of (Some task) = task.target
 
--- where files and input are told as far as the words read them, the outcome has P
+-- where files and input are told as far as what is asked reads them, the outcome has P
 abbrev pub Told : Option Task → Option Tool → Option FileMap → Option (List ℕ) → (Outcome → Type 0) → Type 0
 Told asked_task tool contents left P =
     (known : FileMap) (text : List ℕ) → Agrees (needs_of asked_task) contents left known text → P (outcome_of asked_task tool known text)
+
+-- where files and input are told as far as the words read them, the outcome of the words has P
+abbrev pub Foretells : Vec (String Global) Global → Option FileMap → Option (List ℕ) → (Outcome → Type 0) → Type 0
+Foretells words contents left P =
+    (known : FileMap) (text : List ℕ) → Agrees (needs_of (wanted words)) contents left known text → P (outcome (texts_of words) known text)
 
 -- the outcome delivers these bytes
 abbrev pub HasBytes : List ℕ → Outcome → Type 0

@@ -1,5 +1,6 @@
 -- The command lines that are taken, and what each asks for.
-use Rattle.std.specs.Prelude.{ℕ, Bool, true, false, not, ◌&&◌, List, [], ◌∷◌, map, codes, get_or, bytes_eq, ◌==◌, if◌then◌else◌, Option, None, Some}
+use Rattle.std.specs.Prelude.{ℕ, Bool, true, false, not, ◌&&◌, List, [], ◌∷◌, map, codes, get_or, bytes_eq, ◌==◌, if◌then◌else◌, Option, None, Some, Vec, String, string_bytes}
+use Rattle.std.specs.declared.alloc.Global.{Global}
 use Rattle.std.specs.Borrow.{Bor}
 use Rattle.std.specs.List.{list_any}
 use Rattle.icestorm_cli.specs.declared.job.Tool.{Tool}
@@ -66,6 +67,18 @@ unfoldable pub asked : List (List ℕ) → Option Task
 asked [] = None
 asked (word ∷ words) = task_for (tool_named word) words
 
+-- the words of a command line as bytes
+abbrev pub texts_of : Vec (String Global) Global → List (List ℕ)
+texts_of words = map string_bytes words.items
+
+-- what the words of a command line ask for, and the tool that they name
+abbrev pub wanted : Vec (String Global) Global → Option Task
+wanted words = asked (texts_of words)
+
+abbrev pub tool_wanted : Vec (String Global) Global → Option Tool
+tool_wanted words = tool_of (texts_of words)
+
+-- standard input, and no file
 abbrev pub is_stream : Option (List ℕ) → Bool
 is_stream None = true
 is_stream (Some name) = false

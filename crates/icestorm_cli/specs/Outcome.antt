@@ -69,6 +69,6 @@ abbrev pub outcome_of : Option Task → Option Tool → FileMap → List ℕ →
 outcome_of None tool files input = record { status = 2; reads = false; target = None; bytes = []; message = usage_line tool }
 outcome_of (Some task) tool files input = ending task (done files input task)
 
--- the outcome of the words
-unfoldable pub outcome : List (List ℕ) → FileMap → List ℕ → Outcome
+-- the outcome of the words, on files and an input
+abbrev pub outcome : List (List ℕ) → FileMap → List ℕ → Outcome
 outcome words files input = outcome_of (asked words) (tool_of words) files input

@@ -1,11 +1,10 @@
 // The top call: words, files and streams to a status.
-ghost use Rattle.std.specs.Prelude.{◌≡◌, ◌≢◌, ◌⊎◌, ◌≤◌, ℕ, List, Option, true, false, None, Some, map, string_bytes, IsSome};
+ghost use Rattle.std.specs.Prelude.{◌≡◌, ◌≢◌, ◌⊎◌, ◌≤◌, ℕ, List, Option, true, false, None, Some};
 ghost use Rattle.std.specs.Io.KnownBytes.{IsAtEnd};
 ghost use Rattle.ice_io.specs.Faults.{Rose};
-ghost use Rattle.icestorm_cli.specs.Jobs.{asked, task_of, tool_of, reads_input};
+ghost use Rattle.icestorm_cli.specs.Jobs.{task_of, reads_input, tool_wanted, wanted};
 ghost use Rattle.icestorm_cli.specs.Messages.{usage_line, memory_line};
-ghost use Rattle.icestorm_cli.specs.Outcome.{Outcome};
-ghost use Rattle.icestorm_cli.specs.Effects.{Delivers, DeliversPart, HasBytes, IsSound, TargetRose, Told, Writes, WritesReadLine, WritesTargetLine, needs_of, target_of};
+ghost use Rattle.icestorm_cli.specs.Effects.{Delivers, DeliversPart, HasBytes, IsSound, Foretells, TargetRose, Told, Writes, WritesReadLine, WritesTargetLine, needs_of, target_of};
 
 use crate::carrying::carry;
 use crate::job::{Failure, Job};
@@ -90,48 +89,48 @@ pub fn run<F: Files, I: Source, O: Sink, E: Sink>(
     ensures statuses { result ≤ 6 }
 
     // 2 is for words that aren't taken, and for these nothing is read, and only want of memory takes its place.
-    ensures usage { result ≡ 2 → asked (map string_bytes words.now.items) ≡ None }
-    ensures not_taken { asked (map string_bytes words.now.items) ≡ None → (result ≡ 2) ⊎ (result ≡ 5) }
-    ensures unused { asked (map string_bytes words.now.items) ≡ None → files.new ≡ files.old }
-    ensures usage_line { result ≡ 2 → Writes (usage_line (tool_of (map string_bytes words.now.items))) (E.held errors.old) (E.held errors.new) (E.faults errors.old) (E.faults errors.new) }
+    ensures usage { result ≡ 2 → wanted words.now ≡ None }
+    ensures not_taken { wanted words.now ≡ None → (result ≡ 2) ⊎ (result ≡ 5) }
+    ensures unused { wanted words.now ≡ None → files.new ≡ files.old }
+    ensures usage_line { result ≡ 2 → Writes (usage_line (tool_wanted words.now)) (E.held errors.old) (E.held errors.new) (E.faults errors.old) (E.faults errors.new) }
 
     // With 0 the outcome was delivered whole, and nothing else changed.
     ensures whole { result ≡ 0 → ((bytes : List ℕ)
-        × Delivers (target_of (asked (map string_bytes words.now.items))) bytes (F.contents files.old) (F.contents files.new) (O.held output.old) (O.held output.new)
-        × Told (asked (map string_bytes words.now.items)) (tool_of (map string_bytes words.now.items)) (F.contents files.old) (I.left input.old) (HasBytes bytes)) }
-    ensures end { result ≡ 0 → reads_input (needs_of (asked (map string_bytes words.now.items))) ≡ true → IsAtEnd (I.left input.new) }
+        × Delivers (target_of (wanted words.now)) bytes (F.contents files.old) (F.contents files.new) (O.held output.old) (O.held output.new)
+        × Foretells words.now (F.contents files.old) (I.left input.old) (HasBytes bytes)) }
+    ensures end { result ≡ 0 → reads_input (needs_of (wanted words.now)) ≡ true → IsAtEnd (I.left input.new) }
     ensures silent { result ≡ 0 → errors.new ≡ errors.old }
 
     // 1 and 6 are the outcome's, and so are their lines.
-    ensures refused { result ≡ 1 → Told (asked (map string_bytes words.now.items)) (tool_of (map string_bytes words.now.items)) (F.contents files.old) (I.left input.old) (λ o. (o.status ≡ 1)
+    ensures refused { result ≡ 1 → Foretells words.now (F.contents files.old) (I.left input.old) (λ o. (o.status ≡ 1)
         × Writes o.message (E.held errors.old) (E.held errors.new) (E.faults errors.old) (E.faults errors.new)) }
-    ensures too_long { result ≡ 6 → Told (asked (map string_bytes words.now.items)) (tool_of (map string_bytes words.now.items)) (F.contents files.old) (I.left input.old) (λ o. (o.status ≡ 6)
+    ensures too_long { result ≡ 6 → Foretells words.now (F.contents files.old) (I.left input.old) (λ o. (o.status ≡ 6)
         × Writes o.message (E.held errors.old) (E.held errors.new) (E.faults errors.old) (E.faults errors.new)) }
 
     // 3 comes where the count of the loads rose, or that of an input that is read. Over steady files, where the input
     // isn't read or its count didn't rise, it is the outcome's, and so is its line.
-    ensures read { result ≡ 3 → WritesReadLine (asked (map string_bytes words.now.items)) (E.held errors.old) (E.held errors.new) (E.faults errors.old) (E.faults errors.new)
+    ensures read { result ≡ 3 → WritesReadLine (wanted words.now) (E.held errors.old) (E.held errors.new) (E.faults errors.old) (E.faults errors.new)
         (F.load_faults files.old) (F.load_faults files.new) (I.faults input.old) (I.faults input.new) }
     ensures steady { result ≡ 3 → F.steady files.old ≡ true
-        → (reads_input (needs_of (asked (map string_bytes words.now.items))) ≡ true → Rose (I.faults input.old) (I.faults input.new) → ⊥)
-        → Told (asked (map string_bytes words.now.items)) (tool_of (map string_bytes words.now.items)) (F.contents files.old) (I.left input.old) (λ o. (o.status ≡ 3)
+        → (reads_input (needs_of (wanted words.now)) ≡ true → Rose (I.faults input.old) (I.faults input.new) → ⊥)
+        → Foretells words.now (F.contents files.old) (I.left input.old) (λ o. (o.status ≡ 3)
             × Writes o.message (E.held errors.old) (E.held errors.new) (E.faults errors.old) (E.faults errors.new)) }
 
     // 4 comes where the count of the target rose, and leaves a part of the outcome's bytes.
     ensures part { result ≡ 4 → ((bytes : List ℕ)
-        × DeliversPart (target_of (asked (map string_bytes words.now.items))) bytes (F.contents files.old) (F.contents files.new) (O.held output.old) (O.held output.new)
-        × Told (asked (map string_bytes words.now.items)) (tool_of (map string_bytes words.now.items)) (F.contents files.old) (I.left input.old) (HasBytes bytes)) }
-    ensures rose { result ≡ 4 → TargetRose (target_of (asked (map string_bytes words.now.items)))
+        × DeliversPart (target_of (wanted words.now)) bytes (F.contents files.old) (F.contents files.new) (O.held output.old) (O.held output.new)
+        × Foretells words.now (F.contents files.old) (I.left input.old) (HasBytes bytes)) }
+    ensures rose { result ≡ 4 → TargetRose (target_of (wanted words.now))
         (F.store_faults files.old) (F.store_faults files.new) (O.faults output.old) (O.faults output.new) }
-    ensures target_line { result ≡ 4 → WritesTargetLine (asked (map string_bytes words.now.items)) (E.held errors.old) (E.held errors.new) (E.faults errors.old) (E.faults errors.new) }
+    ensures target_line { result ≡ 4 → WritesTargetLine (wanted words.now) (E.held errors.old) (E.held errors.new) (E.faults errors.old) (E.faults errors.new) }
 
     // 5 is free, and has its line.
-    ensures memory { result ≡ 5 → Writes (memory_line (tool_of (map string_bytes words.now.items))) (E.held errors.old) (E.held errors.new) (E.faults errors.old) (E.faults errors.new) }
+    ensures memory { result ≡ 5 → Writes (memory_line (tool_wanted words.now)) (E.held errors.old) (E.held errors.new) (E.faults errors.old) (E.faults errors.new) }
 
     // With any other status than 0 and 4 nothing was delivered. An input that isn't read stays as it was.
     ensures untouched { result ≢ 0 → result ≢ 4 → output.new ≡ output.old }
     ensures kept { result ≢ 0 → result ≢ 4 → F.contents files.new ≡ F.contents files.old }
-    ensures unread { reads_input (needs_of (asked (map string_bytes words.now.items))) ≡ false → input.new ≡ input.old }
+    ensures unread { reads_input (needs_of (wanted words.now)) ≡ false → input.new ≡ input.old }
 {
     match job_of(alloc, words) {
         Ok(Some(job)) => run_job(alloc, &job, files, input, output, errors),

@@ -1,5 +1,5 @@
 -- Why reading failed, and the lines of failures.
-use Rattle.std.proofs.Common.{◌≡◌, ℕ, true, List, refl}
+use Rattle.std.proofs.Common.{◌≡◌, ℕ, true, List, refl, arith}
 use Rattle.std.specs.Prelude.{Option, None, Some, Result, Ok, Err, IsSome, MatchOption, slice_get}
 use Rattle.ice_io.specs.Faults.{Rose}
 use Rattle.icestorm_cli.specs.declared.job.Failure.{Failure}
@@ -24,3 +24,16 @@ read_cause needs k loads new_loads reads new_reads fails unread = cause (slice_g
 pub memory_line-is : (task : Task) → failure_line task Memory ≡ memory_line (Some task.tool)
 unfolding failure_line memory_line
 memory_line-is task = refl
+
+-- a file that fails to be read raises the count of the loads
+pub file_rose : (one : Option Need) (loads new_loads reads new_reads : ℕ) → IsFile one → ReadFails one loads new_loads reads new_reads → Rose loads new_loads
+file_rose None loads new_loads reads new_reads file fails = absurd file
+file_rose (Some need) loads new_loads reads new_reads file fails = named need.name file fails
+  where
+    named : (name : Option (List ℕ)) → IsSome name → MatchOption name (Rose reads new_reads) (λ n. Rose loads new_loads) → Rose loads new_loads
+    named None some rose = absurd cc
+    named (Some name) some rose = rose
+
+-- an outcome that fails to read isn't one that is done
+pub not_done : (status : ℕ) → status ≡ 3 → status ≡ 0 → ⊥
+not_done status read done_is = omega arith

@@ -132,3 +132,10 @@ WritesReadLine (Some task) held new_held faults new_faults load_faults new_load_
 abbrev pub WritesTargetLine : Option Task → Option (List ℕ) → Option (List ℕ) → ℕ → ℕ → Type 0
 WritesTargetLine None held new_held faults new_faults = ⊥
 WritesTargetLine (Some task) held new_held faults new_faults = Writes (failure_line task Write) held new_held faults new_faults
+
+-- no fault came from outside: the count of the input didn't rise where it is read, nor that of the target, and that of
+-- the loads only over steady files
+pub record IsQuiet (asked_task : Option Task) (steady : Bool) (load_faults new_load_faults input_faults new_input_faults store_faults new_store_faults output_faults new_output_faults : ℕ) : Type 0 where
+  pub loads : Rose load_faults new_load_faults → steady ≡ true
+  pub input : reads_input (needs_of asked_task) ≡ true → Rose input_faults new_input_faults → ⊥
+  pub target : TargetRose (target_of asked_task) store_faults new_store_faults output_faults new_output_faults → ⊥

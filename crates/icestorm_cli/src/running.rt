@@ -4,7 +4,7 @@ ghost use Rattle.std.specs.Io.KnownBytes.{IsAtEnd};
 ghost use Rattle.ice_io.specs.Faults.{Rose};
 ghost use Rattle.icestorm_cli.specs.Jobs.{task_of, reads_input, tool_wanted, wanted};
 ghost use Rattle.icestorm_cli.specs.Messages.{usage_line, memory_line};
-ghost use Rattle.icestorm_cli.specs.Effects.{Delivers, DeliversPart, HasBytes, IsSound, Foretells, TargetRose, Told, Writes, WritesReadLine, WritesTargetLine, needs_of, target_of};
+ghost use Rattle.icestorm_cli.specs.Effects.{Delivers, DeliversPart, HasBytes, IsQuiet, IsSound, Foretells, TargetRose, Told, Writes, WritesReadLine, WritesTargetLine, needs_of, target_of};
 
 use crate::carrying::carry;
 use crate::job::{Failure, Job};
@@ -54,6 +54,10 @@ fn run_job<F: Files, I: Source, O: Sink, E: Sink>(
     ensures target_line { result ≡ 4 → WritesTargetLine (Some (task_of job.now)) (E.held errors.old) (E.held errors.new) (E.faults errors.old) (E.faults errors.new) }
 
     ensures memory { result ≡ 5 → Writes (memory_line (Some (task_of job.now).tool)) (E.held errors.old) (E.held errors.new) (E.faults errors.old) (E.faults errors.new) }
+
+    ensures complete { IsQuiet (Some (task_of job.now)) (F.steady files.old) (F.load_faults files.old) (F.load_faults files.new) (I.faults input.old) (I.faults input.new)
+            (F.store_faults files.old) (F.store_faults files.new) (O.faults output.old) (O.faults output.new)
+        → Told (Some (task_of job.now)) None (F.contents files.old) (I.left input.old) (λ o. o.status ≡ 0 → (result ≡ 0) ⊎ (result ≡ 5)) }
 
     ensures untouched { result ≢ 0 → result ≢ 4 → output.new ≡ output.old }
     ensures kept { result ≢ 0 → result ≢ 4 → F.contents files.new ≡ F.contents files.old }
@@ -126,6 +130,11 @@ pub fn run<F: Files, I: Source, O: Sink, E: Sink>(
 
     // 5 is free, and has its line.
     ensures memory { result ≡ 5 → Writes (memory_line (tool_wanted words.now)) (E.held errors.old) (E.held errors.new) (E.faults errors.old) (E.faults errors.new) }
+
+    // Where no fault came from outside and the outcome's status is 0, the status is 0 or 5.
+    ensures complete { IsQuiet (wanted words.now) (F.steady files.old) (F.load_faults files.old) (F.load_faults files.new) (I.faults input.old) (I.faults input.new)
+            (F.store_faults files.old) (F.store_faults files.new) (O.faults output.old) (O.faults output.new)
+        → Foretells words.now (F.contents files.old) (I.left input.old) (λ o. o.status ≡ 0 → (result ≡ 0) ⊎ (result ≡ 5)) }
 
     // With any other status than 0 and 4 nothing was delivered. An input that isn't read stays as it was.
     ensures untouched { result ≢ 0 → result ≢ 4 → output.new ≡ output.old }

@@ -4,7 +4,7 @@
 //! 1, the tile's rows from row 0 on, column 0 first. The bits lie in four planes, one for each quarter (bank) of the grid:
 //! configuration planes of 332 columns by 144 rows, RAM planes of 64 by 256. The stream is a sequence of commands of one
 //! byte and their payload, numbers with the high byte first. It has the planes row by row, the first bit of each eight as
-//! the highest of a byte, and ends with a check value of 16 bits over all that stands between its reset and itself.
+//! the highest of a byte. Before the wake-up at its end stands a check value of 16 bits over all from its reset up to itself.
 #![tactic(auto)]
 
 mod banks;

@@ -1,0 +1,67 @@
+-- An image as data.
+use Rattle.std.specs.Prelude.{◌≡◌, ℕ, ◌<◌, Bool, true, false, List, [], length, get_or, set, replicate, Option, None}
+use Rattle.bit_plane.specs.Rows.{Rows, IsGrid, bit_at, with_bit, blank}
+use Rattle.plane_map.specs.Layout.{cram_width, cram_height, bram_width, bram_height}
+use Rattle.plane_map.specs.declared.device.DeviceName.{DeviceName}
+use Rattle.plane_map.specs.declared.tile.Place.{Place}
+use Rattle.ice_image.specs.declared.settings.Settings.{Settings}
+use Rattle.ice_image.specs.declared.settings.Range.TheVariants.{Low}
+
+-- A device's configuration: the lines of its comment where it has one, its settings, and the configuration and the RAM
+-- planes of banks 0 to 3.
+pub record Configuration : Type 0 where
+  pub device : DeviceName
+  pub comment : Option (List (List ℕ))
+  pub settings : Settings
+  pub cram : List Rows
+  pub bram : List Rows
+
+-- ---- bits by their places
+
+-- the plane of a bank
+abbrev pub bank_rows : List Rows → ℕ → Rows
+bank_rows planes bank = get_or planes bank []
+
+-- the bit at a place
+abbrev pub place_bit : List Rows → Place → Bool
+place_bit planes at = bit_at (bank_rows planes at.bank) at.px at.py
+
+-- the planes with another plane of a bank
+abbrev pub with_bank : List Rows → ℕ → Rows → List Rows
+with_bank planes bank rows = set planes bank rows
+
+-- the planes with another bit at a place, and no other change
+abbrev pub with_place_bit : List Rows → Place → Bool → List Rows
+with_place_bit planes at bit = with_bank planes at.bank (with_bit (bank_rows planes at.bank) at.px at.py bit)
+
+-- no bit is another than before, but those at places of that kind
+abbrev pub SameBut : (Place → Type 0) → List Rows → List Rows → Type 0
+SameBut IsChanged before after = (at : Place) → ¬ IsChanged at → place_bit after at ≡ place_bit before at
+
+-- ---- the sizes
+
+-- four planes of that size
+pub record AreBanks (width height : ℕ) (planes : List Rows) : Type 0 where
+  pub four : length planes ≡ 4
+  pub grids : (bank : ℕ) → bank < 4 → IsGrid width height (bank_rows planes bank)
+
+-- the planes have the device's sizes
+pub record IsWhole (image : Configuration) : Type 0 where
+  pub cram : AreBanks (cram_width image.device) (cram_height image.device) image.cram
+  pub bram : AreBanks (bram_width image.device) (bram_height image.device) image.bram
+
+-- ---- the first one
+
+-- the settings that hold where nothing sets them
+abbrev pub usual_settings : Settings
+usual_settings = record { range = Low; warm_boot = true; no_sleep = false }
+
+-- no comment, the usual settings, and all bits 0
+abbrev pub blank_image : DeviceName → Configuration
+blank_image device = record {
+  device = device;
+  comment = None;
+  settings = usual_settings;
+  cram = replicate 4 (blank (cram_width device) (cram_height device));
+  bram = replicate 4 (blank (bram_width device) (bram_height device));
+}

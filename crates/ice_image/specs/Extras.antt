@@ -1,0 +1,23 @@
+-- The set bits of a device's configuration planes that are no tile's bits.
+use Rattle.std.specs.Prelude.{◌≡◌, ◌<◌, ◌⊎◌, ◌↔◌, true, List, Contains, AllPairs}
+use Rattle.bit_plane.specs.Rows.{Rows}
+use Rattle.plane_map.specs.Layout.{IsInCram, IsExtraBit}
+use Rattle.plane_map.specs.declared.device.DeviceName.{DeviceName}
+use Rattle.plane_map.specs.declared.tile.Place.{Place}
+use Rattle.ice_image.specs.Configuration.{place_bit}
+
+-- by bank, then by row, then by column
+abbrev pub IsBefore : Place → Place → Type 0
+IsBefore a b =
+    (a.bank < b.bank) ⊎ ((a.bank ≡ b.bank) × ((a.py < b.py) ⊎ ((a.py ≡ b.py) × (a.px < b.px))))
+
+-- a place of the planes that is no tile's bit, and whose bit is set
+pub record IsSetExtra (device : DeviceName) (cram : List Rows) (at : Place) : Type 0 where
+  pub inside : IsInCram device at
+  pub is_set : place_bit cram at ≡ true
+  pub extra : IsExtraBit device at
+
+-- all set extra bits, each once, in order
+pub record AreSetExtras (device : DeviceName) (cram : List Rows) (places : List Place) : Type 0 where
+  pub ordered : AllPairs IsBefore places
+  pub exact : (at : Place) → Contains places at ↔ IsSetExtra device cram at

@@ -1,0 +1,6 @@
+pub mod CommentLines
+pub mod Configuration
+pub mod Contents
+pub mod Either
+pub mod Extras
+pub mod Written

@@ -1,0 +1,44 @@
+-- What holds along the way: bits that are written one after the other, and set extra bits that are found place after
+-- place. Only contracts within this crate cite this.
+use Rattle.std.specs.Prelude.{◌≡◌, ℕ, ◌<◌, ◌⊎◌, ◌↔◌, Bool, false, List, [], ◌∷◌, ◌++◌, get_or, Contains, AllPairs}
+use Rattle.bit_plane.specs.BitList.{word_bits}
+use Rattle.bit_plane.specs.Rows.{Rows, IsGrid, bit_at}
+use Rattle.plane_map.specs.declared.device.DeviceName.{DeviceName}
+use Rattle.plane_map.specs.declared.tile.Place.{Place}
+use Rattle.ice_image.specs.Configuration.{place_bit, SameBut}
+use Rattle.ice_image.specs.Contents.{tile_place}
+use Rattle.ice_image.specs.Extras.{IsBefore, IsSetExtra}
+
+-- one of the low bits of a word
+abbrev pub bit_of_word : ℕ → ℕ → ℕ → Bool
+bit_of_word count word k = get_or (word_bits count word) k false
+
+-- one of the first places of a list that is given by its items
+abbrev pub IsAmong : (ℕ → Place) → ℕ → Place → Type 0
+IsAmong places count at = (k : ℕ) × (k < count) × (places k ≡ at)
+
+-- those places have these bits, and all others are as before
+pub record IsWritten (places : ℕ → Place) (bits : ℕ → Bool) (count : ℕ) (before after : List Rows) : Type 0 where
+  pub written : (k : ℕ) → k < count → place_bit after (places k) ≡ bits k
+  pub others : SameBut (IsAmong places count) before after
+
+-- a place of a bit in one of a tile's first rows
+abbrev pub IsInRows : DeviceName → ℕ → ℕ → ℕ → ℕ → Place → Type 0
+IsInRows device x y width count at =
+    (row : ℕ) × (col : ℕ) × (row < count) × (col < width) × (tile_place device x y row col ≡ at)
+
+-- the first rows of a tile have the bits of another tile's, and all others are as before
+pub record AreRowsWritten (device : DeviceName) (x y width : ℕ) (tile : Rows) (count : ℕ) (before after : List Rows) : Type 0 where
+  pub written : (row col : ℕ) → row < count → col < width → place_bit after (tile_place device x y row col) ≡ bit_at tile col row
+  pub others : SameBut (IsInRows device x y width count) before after
+  pub shape : 0 < count → IsGrid width 16 tile
+
+-- the set extra bits before a place, each once, in order
+pub record HasExtras (device : DeviceName) (cram : List Rows) (limit : Place) (places : List Place) : Type 0 where
+  pub ordered : AllPairs IsBefore places
+  pub exact : (at : Place) → Contains places at ↔ (IsBefore at limit × IsSetExtra device cram at)
+
+-- a place is added where it is a set extra bit
+abbrev pub IsExtraAdded : DeviceName → List Rows → Place → List Place → List Place → Type 0
+IsExtraAdded device cram at before after =
+    (IsSetExtra device cram at × (after ≡ before ++ at ∷ [])) ⊎ ((¬ IsSetExtra device cram at) × (after ≡ before))

@@ -1,0 +1,209 @@
+// Images of either device.
+ghost use Rattle.std.specs.Prelude.{◌≡◌, ◌≤◌, ◌↔◌, Some, IfOk, IsTrue, All, length, option_copied};
+ghost use Rattle.bit_plane.specs.BitList.{word_bits};
+ghost use Rattle.plane_map.specs.Layout.{kind_of, columns_at, place_of, IsTileBit, IsInCram};
+ghost use Rattle.ice_image.specs.Configuration.{place_bit, with_place_bit, SameBut, blank_image, IsWhole};
+ghost use Rattle.ice_image.specs.Contents.{tile_rows, IsPlaceOfTile, word_value, IsPlaceOfWord, IsBitOfTile, listed_bits};
+ghost use Rattle.ice_image.specs.Either.{configuration_of, device_of};
+ghost use Rattle.ice_image.specs.Extras.{AreSetExtras};
+
+use crate::comment::Comment;
+use crate::image::Image;
+use crate::settings::Settings;
+use bit_plane::Tile;
+use plane_map::{DeviceName, Hx1k, Hx8k, Place, RowCol, TileBit, TileKind};
+use std::alloc::{AllocError, Global};
+
+/// An image of one of the devices.
+#[derive(Drop)]
+pub enum AnyImage {
+    K1(Image<Hx1k>),
+    K8(Image<Hx8k>),
+}
+
+impl AnyImage {
+    /// No comment, the low range, warm boot, sleep, and all bits 0.
+    pub fn zeroed(alloc: Global, device: DeviceName) -> Result<AnyImage, AllocError>
+        ensures device { IfOk result (λ image. device_of image ≡ device) }
+        ensures blank { IfOk result (λ image. configuration_of image ≡ blank_image device) }
+    {
+        Ok(match device {
+            DeviceName::K1 => AnyImage::K1(Image::zeroed(alloc)?),
+            DeviceName::K8 => AnyImage::K8(Image::zeroed(alloc)?),
+        })
+    }
+
+    /// The device.
+    pub fn device(&self) -> DeviceName
+        ensures name { result ≡ device_of self.now }
+        ensures device { result ≡ (configuration_of self.now).device }
+        ensures whole { IsWhole (configuration_of self.now) }
+    {
+        match self {
+            AnyImage::K1(image) => image.device(),
+            AnyImage::K8(image) => image.device(),
+        }
+    }
+
+    /// The settings.
+    pub fn settings(&self) -> Settings
+        ensures { result ≡ (configuration_of self.now).settings }
+    {
+        match self {
+            AnyImage::K1(image) => image.settings(),
+            AnyImage::K8(image) => image.settings(),
+        }
+    }
+
+    /// Changes the settings.
+    pub fn set_settings(&mut self, settings: Settings)
+        ensures device { device_of self.new ≡ device_of self.old }
+        ensures changed { configuration_of self.new ≡ record (configuration_of self.old) { settings = settings } }
+    {
+        match self {
+            AnyImage::K1(image) => image.set_settings(settings),
+            AnyImage::K8(image) => image.set_settings(settings),
+        }
+    }
+
+    /// The comment, where there is one.
+    pub fn comment(&self) -> Option<&Comment>
+        ensures { option_copied result ≡ (configuration_of self.now).comment }
+    {
+        match self {
+            AnyImage::K1(image) => image.comment(),
+            AnyImage::K8(image) => image.comment(),
+        }
+    }
+
+    /// Changes the comment.
+    pub fn set_comment(&mut self, comment: Option<Comment>)
+        ensures device { device_of self.new ≡ device_of self.old }
+        ensures changed { configuration_of self.new ≡ record (configuration_of self.old) { comment = comment } }
+    {
+        match self {
+            AnyImage::K1(image) => image.set_comment(comment),
+            AnyImage::K8(image) => image.set_comment(comment),
+        }
+    }
+
+    /// The bit of a tile.
+    pub fn tile_bit(&self, at: TileBit) -> bool
+        requires { IsTileBit (device_of self.now) at }
+        ensures { result ≡ place_bit (configuration_of self.now).cram (place_of (device_of self.now) at) }
+    {
+        match self {
+            AnyImage::K1(image) => image.tile_bit(at),
+            AnyImage::K8(image) => image.tile_bit(at),
+        }
+    }
+
+    /// Gives a tile that bit.
+    pub fn set_tile_bit(&mut self, at: TileBit, bit: bool)
+        requires { IsTileBit (device_of self.old) at }
+        ensures device { device_of self.new ≡ device_of self.old }
+        ensures changed { configuration_of self.new ≡ record (configuration_of self.old) { cram = with_place_bit (configuration_of self.old).cram (place_of (device_of self.old) at) bit } }
+    {
+        match self {
+            AnyImage::K1(image) => image.set_tile_bit(at, bit),
+            AnyImage::K8(image) => image.set_tile_bit(at, bit),
+        }
+    }
+
+    /// The bit at a place of the configuration planes.
+    pub fn cram_bit(&self, at: Place) -> bool
+        requires { IsInCram (device_of self.now) at }
+        ensures { result ≡ place_bit (configuration_of self.now).cram at }
+    {
+        match self {
+            AnyImage::K1(image) => image.cram_bit(at),
+            AnyImage::K8(image) => image.cram_bit(at),
+        }
+    }
+
+    /// Gives a place of the configuration planes that bit.
+    pub fn set_cram_bit(&mut self, at: Place, bit: bool)
+        requires { IsInCram (device_of self.old) at }
+        ensures device { device_of self.new ≡ device_of self.old }
+        ensures changed { configuration_of self.new ≡ record (configuration_of self.old) { cram = with_place_bit (configuration_of self.old).cram at bit } }
+    {
+        match self {
+            AnyImage::K1(image) => image.set_cram_bit(at, bit),
+            AnyImage::K8(image) => image.set_cram_bit(at, bit),
+        }
+    }
+
+    /// The tile at (x, y), which has C columns.
+    pub fn tile<const C: usize>(&self, x: u8, y: u8) -> Tile<C>
+        requires { columns_at (device_of self.now) x y ≡ C }
+        ensures { result ≡ tile_rows (device_of self.now) (configuration_of self.now).cram x y }
+    {
+        match self {
+            AnyImage::K1(image) => image.tile(x, y),
+            AnyImage::K8(image) => image.tile(x, y),
+        }
+    }
+
+    /// Gives the tile at (x, y), which has C columns, the bits of another.
+    pub fn put_tile<const C: usize>(&mut self, x: u8, y: u8, tile: &Tile<C>)
+        requires { columns_at (device_of self.old) x y ≡ C }
+        ensures device { device_of self.new ≡ device_of self.old }
+        ensures tile { tile_rows (device_of self.old) (configuration_of self.new).cram x y ≡ tile.now }
+        ensures others { SameBut (IsPlaceOfTile (device_of self.old) x y) (configuration_of self.old).cram (configuration_of self.new).cram }
+        ensures rest { configuration_of self.new ≡ record (configuration_of self.old) { cram = (configuration_of self.new).cram } }
+        ensures whole { IsWhole (configuration_of self.new) }
+    {
+        match self {
+            AnyImage::K1(image) => image.put_tile(x, y, tile),
+            AnyImage::K8(image) => image.put_tile(x, y, tile),
+        }
+    }
+
+    /// Whether bit k of the list has the value of bit k of `values`, for each k.
+    pub fn tile_equals(&self, x: u8, y: u8, bits: &[RowCol], values: u64) -> bool
+        requires few { length bits.now ≤ 64 }
+        requires in_tile { All (IsBitOfTile (device_of self.now) x y) bits.now }
+        ensures { IsTrue result ↔ (listed_bits (device_of self.now) (configuration_of self.now).cram x y bits.now ≡ word_bits (length bits.now) values) }
+    {
+        match self {
+            AnyImage::K1(image) => image.tile_equals(x, y, bits, values),
+            AnyImage::K8(image) => image.tile_equals(x, y, bits, values),
+        }
+    }
+
+    /// A word of the RAM whose lower tile is at (x, y), bit b having the value 2^b.
+    pub fn ram_word(&self, x: u8, y: u8, word: u8) -> u16
+        requires { kind_of (device_of self.now) x y ≡ Some TileKind.RamB }
+        ensures { result ≡ word_value (device_of self.now) (configuration_of self.now).bram x y word }
+    {
+        match self {
+            AnyImage::K1(image) => image.ram_word(x, y, word),
+            AnyImage::K8(image) => image.ram_word(x, y, word),
+        }
+    }
+
+    /// Gives a word of the RAM whose lower tile is at (x, y) that value.
+    pub fn set_ram_word(&mut self, x: u8, y: u8, word: u8, value: u16)
+        requires { kind_of (device_of self.old) x y ≡ Some TileKind.RamB }
+        ensures device { device_of self.new ≡ device_of self.old }
+        ensures word { word_value (device_of self.old) (configuration_of self.new).bram x y word ≡ value }
+        ensures others { SameBut (IsPlaceOfWord (device_of self.old) x y word) (configuration_of self.old).bram (configuration_of self.new).bram }
+        ensures rest { configuration_of self.new ≡ record (configuration_of self.old) { bram = (configuration_of self.new).bram } }
+        ensures whole { IsWhole (configuration_of self.new) }
+    {
+        match self {
+            AnyImage::K1(image) => image.set_ram_word(x, y, word, value),
+            AnyImage::K8(image) => image.set_ram_word(x, y, word, value),
+        }
+    }
+
+    /// The set bits of the configuration planes that are no tile's bits, by bank, then by row, then by column.
+    pub fn extra_bits(&self, alloc: Global) -> Result<Vec<Place>, AllocError>
+        ensures { IfOk result (λ places. AreSetExtras (device_of self.now) (configuration_of self.now).cram places.items) }
+    {
+        match self {
+            AnyImage::K1(image) => image.extra_bits(alloc),
+            AnyImage::K8(image) => image.extra_bits(alloc),
+        }
+    }
+}

@@ -1,0 +1,227 @@
+// Images of a device.
+ghost use Rattle.std.specs.Prelude.{◌≡◌, ◌<◌, ◌≤◌, ◌↔◌, None, Some, IfOk, IsTrue, All, length, map, option_copied};
+ghost use Rattle.std.specs.Borrow.{Lends, sem};
+ghost use Rattle.bit_plane.specs.BitList.{word_bits};
+ghost use Rattle.plane_map.specs.Layout.{kind_of, columns_at, place_of, IsTileBit, IsInCram};
+ghost use Rattle.ice_image.specs.Configuration.{bank_rows, place_bit, with_bank, with_place_bit, SameBut, blank_image, IsWhole};
+ghost use Rattle.ice_image.specs.Contents.{tile_rows, IsPlaceOfTile, word_value, IsPlaceOfWord, IsBitOfTile, listed_bits};
+ghost use Rattle.ice_image.specs.Extras.{AreSetExtras};
+ghost use Rattle.ice_image.specs.contracts.image.Image.{the_row};
+
+use crate::banks::Banks;
+use crate::comment::Comment;
+use crate::extras::set_extras;
+use crate::settings::{Range, Settings};
+use crate::tiles::{read_tile, write_tile};
+use crate::words::{read_word, write_word};
+use bit_plane::Tile;
+use plane_map::{Device, DeviceName, Place, RowCol, TileBit, TileKind, cram_place};
+use std::alloc::{AllocError, Global};
+use std::marker::Model;
+
+/// What a bitstream configures on a device.
+#[derive(Drop)]
+pub struct Image<D: Device> {
+    comment: Option<Comment>,
+    settings: Settings,
+    cram: Banks<D::Cram>,
+    bram: Banks<D::Bram>,
+}
+
+impl<D: Device> Model for Image<D> {
+    ghost use Rattle.ice_image.specs.Configuration.{Configuration, AreBanks};
+
+    ghost Value = { Configuration };
+
+    ghost view = { λ image. record { device = D.NAME; comment = image.comment; settings = image.settings; cram = image.cram; bram = image.bram } };
+
+    ghost invariant = { λ image. AreBanks D.Cram.WIDTH D.Cram.HEIGHT image.cram × AreBanks D.Bram.WIDTH D.Bram.HEIGHT image.bram };
+}
+
+impl<D: Device> Image<D> {
+    /// No comment, the low range, warm boot, sleep, and all bits 0.
+    pub fn zeroed(alloc: Global) -> Result<Image<D>, AllocError>
+        ensures { IfOk result (λ image. image ≡ blank_image D.NAME) }
+    {
+        Ok(Image {
+            comment: None,
+            settings: Settings {
+                range: Range::Low,
+                warm_boot: true,
+                no_sleep: false,
+            },
+            cram: Banks::zeroed(alloc)?,
+            bram: Banks::zeroed(alloc)?,
+        })
+    }
+
+    /// The device.
+    pub fn device(&self) -> DeviceName
+        ensures name { result ≡ D.NAME }
+        ensures device { result ≡ self.now.device }
+        ensures whole { IsWhole self.now }
+    {
+        let _ = &self.settings;
+        D::device_name()
+    }
+
+    /// The settings.
+    pub fn settings(&self) -> Settings
+        ensures { result ≡ self.now.settings }
+    {
+        self.settings
+    }
+
+    /// Changes the settings.
+    pub fn set_settings(&mut self, settings: Settings)
+        ensures { self.new ≡ record self.old { settings = settings } }
+    {
+        self.settings = settings;
+    }
+
+    /// The comment, where there is one.
+    pub fn comment(&self) -> Option<&Comment>
+        ensures { option_copied result ≡ self.now.comment }
+    {
+        self.comment.as_ref()
+    }
+
+    /// Changes the comment.
+    pub fn set_comment(&mut self, comment: Option<Comment>)
+        ensures { self.new ≡ record self.old { comment = comment } }
+    {
+        self.comment = comment;
+    }
+
+    /// The bit of a tile.
+    pub fn tile_bit(&self, at: TileBit) -> bool
+        requires { IsTileBit D.NAME at }
+        ensures { result ≡ place_bit self.now.cram (place_of D.NAME at) }
+    {
+        self.cram.get(cram_place::<D>(at.x, at.y, at.row, at.col))
+    }
+
+    /// Gives a tile that bit.
+    pub fn set_tile_bit(&mut self, at: TileBit, bit: bool)
+        requires { IsTileBit D.NAME at }
+        ensures { self.new ≡ record self.old { cram = with_place_bit self.old.cram (place_of D.NAME at) bit } }
+    {
+        self.cram
+            .set(cram_place::<D>(at.x, at.y, at.row, at.col), bit);
+    }
+
+    /// The bit at a place of the configuration planes.
+    pub fn cram_bit(&self, at: Place) -> bool
+        requires { IsInCram D.NAME at }
+        ensures { result ≡ place_bit self.now.cram at }
+    {
+        self.cram.get(at)
+    }
+
+    /// Gives a place of the configuration planes that bit.
+    pub fn set_cram_bit(&mut self, at: Place, bit: bool)
+        requires { IsInCram D.NAME at }
+        ensures { self.new ≡ record self.old { cram = with_place_bit self.old.cram at bit } }
+    {
+        self.cram.set(at, bit);
+    }
+
+    /// The configuration plane of a bank.
+    pub fn cram(&self, bank: usize) -> &D::Cram
+        requires { bank < 4 }
+        ensures { D.Cram.rows result.now ≡ bank_rows self.now.cram bank }
+    {
+        self.cram.plane(bank)
+    }
+
+    /// The configuration plane of a bank, to be changed.
+    pub fn cram_mut(&mut self, bank: usize) -> &mut D::Cram
+        requires { bank < 4 }
+        ensures* writes_back { sem 𝓛 (Lends (the_row D.row D.Cram.row D.Bram.row D.Device D.Cram.Bits D.Bram.Bits) D.Cram.row self.entry result (λ plane. record self.old { cram = with_bank self.old.cram bank (D.Cram.rows plane) })) }
+        ensures plane { D.Cram.rows result.now ≡ bank_rows self.old.cram bank }
+    {
+        self.cram.plane_mut(bank)
+    }
+
+    /// The RAM plane of a bank.
+    pub fn bram(&self, bank: usize) -> &D::Bram
+        requires { bank < 4 }
+        ensures { D.Bram.rows result.now ≡ bank_rows self.now.bram bank }
+    {
+        self.bram.plane(bank)
+    }
+
+    /// The RAM plane of a bank, to be changed.
+    pub fn bram_mut(&mut self, bank: usize) -> &mut D::Bram
+        requires { bank < 4 }
+        ensures* writes_back { sem 𝓛 (Lends (the_row D.row D.Cram.row D.Bram.row D.Device D.Cram.Bits D.Bram.Bits) D.Bram.row self.entry result (λ plane. record self.old { bram = with_bank self.old.bram bank (D.Bram.rows plane) })) }
+        ensures plane { D.Bram.rows result.now ≡ bank_rows self.old.bram bank }
+    {
+        self.bram.plane_mut(bank)
+    }
+
+    /// The tile at (x, y), which has C columns.
+    pub fn tile<const C: usize>(&self, x: u8, y: u8) -> Tile<C>
+        requires { columns_at D.NAME x y ≡ C }
+        ensures { result ≡ tile_rows D.NAME self.now.cram x y }
+    {
+        read_tile::<D, C>(&self.cram, x, y)
+    }
+
+    /// Gives the tile at (x, y), which has C columns, the bits of another.
+    pub fn put_tile<const C: usize>(&mut self, x: u8, y: u8, tile: &Tile<C>)
+        requires { columns_at D.NAME x y ≡ C }
+        ensures tile { tile_rows D.NAME self.new.cram x y ≡ tile.now }
+        ensures others { SameBut (IsPlaceOfTile D.NAME x y) self.old.cram self.new.cram }
+        ensures rest { self.new ≡ record self.old { cram = self.new.cram } }
+        ensures whole { IsWhole self.new }
+    {
+        write_tile::<D, C>(&mut self.cram, x, y, tile);
+    }
+
+    /// Whether bit k of the list has the value of bit k of `values`, for each k.
+    pub fn tile_equals(&self, x: u8, y: u8, bits: &[RowCol], values: u64) -> bool
+        requires few { length bits.now ≤ 64 }
+        requires in_tile { All (IsBitOfTile D.NAME x y) bits.now }
+        ensures { IsTrue result ↔ (listed_bits D.NAME self.now.cram x y bits.now ≡ word_bits (length bits.now) values) }
+    {
+        for (index, bit) in bits.iter().enumerate() {
+            let at = TileBit {
+                x,
+                y,
+                row: bit.row,
+                col: bit.col,
+            };
+            if self.tile_bit(at) != (values >> index & 1 == 1) {
+                return false;
+            }
+        }
+        true
+    }
+
+    /// A word of the RAM whose lower tile is at (x, y), bit b having the value 2^b.
+    pub fn ram_word(&self, x: u8, y: u8, word: u8) -> u16
+        requires { kind_of D.NAME x y ≡ Some TileKind.RamB }
+        ensures { result ≡ word_value D.NAME self.now.bram x y word }
+    {
+        read_word::<D>(&self.bram, x, y, word)
+    }
+
+    /// Gives a word of the RAM whose lower tile is at (x, y) that value.
+    pub fn set_ram_word(&mut self, x: u8, y: u8, word: u8, value: u16)
+        requires { kind_of D.NAME x y ≡ Some TileKind.RamB }
+        ensures word { word_value D.NAME self.new.bram x y word ≡ value }
+        ensures others { SameBut (IsPlaceOfWord D.NAME x y word) self.old.bram self.new.bram }
+        ensures rest { self.new ≡ record self.old { bram = self.new.bram } }
+        ensures whole { IsWhole self.new }
+    {
+        write_word::<D>(&mut self.bram, x, y, word, value);
+    }
+
+    /// The set bits of the configuration planes that are no tile's bits, by bank, then by row, then by column.
+    pub fn extra_bits(&self, alloc: Global) -> Result<Vec<Place>, AllocError>
+        ensures { IfOk result (λ places. AreSetExtras D.NAME self.now.cram places.items) }
+    {
+        set_extras::<D>(&self.cram, alloc)
+    }
+}

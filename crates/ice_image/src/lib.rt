@@ -1,0 +1,19 @@
+//! Images: what a bitstream configures, by the bits of its tiles and the words of its RAMs.
+#![tactic(auto)]
+
+mod any;
+mod banks;
+mod comment;
+mod extras;
+mod image;
+mod settings;
+mod tiles;
+mod words;
+
+pub use any::AnyImage;
+pub use comment::{Comment, is_comment_line};
+pub use image::Image;
+pub use settings::{Range, Settings};
+
+#[cfg(test)]
+mod tests;

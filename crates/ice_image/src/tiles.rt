@@ -1,0 +1,68 @@
+// The tiles in the configuration planes.
+ghost use Rattle.std.specs.Prelude.{◌≡◌, ◌<◌};
+ghost use Rattle.bit_plane.specs.BitList.{word_of};
+ghost use Rattle.bit_plane.specs.Rows.{row_from};
+ghost use Rattle.plane_map.specs.Layout.{columns_at};
+ghost use Rattle.ice_image.specs.Configuration.{place_bit, AreBanks, SameBut};
+ghost use Rattle.ice_image.specs.Contents.{tile_place, tile_rows, IsPlaceOfTile};
+ghost use Rattle.ice_image.specs.Written.{IsWritten, bit_of_word};
+
+use crate::banks::Banks;
+use bit_plane::Tile;
+use plane_map::{Device, cram_place};
+
+/// The tile at (x, y).
+pub(crate) fn read_tile<D: Device, const C: usize>(cram: &Banks<D::Cram>, x: u8, y: u8) -> Tile<C>
+    requires { columns_at D.NAME x y ≡ C }
+    ensures { result ≡ tile_rows D.NAME cram.now x y }
+{
+    let mut tile = Tile::new();
+    for row in 0..16 {
+        tile.set_row(usize::from(row), row_word::<D>(cram, x, y, row, C));
+    }
+    tile
+}
+
+/// A row of the tile at (x, y) as a word, column c the bit of value 2^c.
+fn row_word<D: Device>(cram: &Banks<D::Cram>, x: u8, y: u8, row: u8, width: usize) -> u64
+    requires row { row < 16 }
+    requires width { columns_at D.NAME x y ≡ width }
+    ensures { result ≡ word_of (row_from width (λ col. place_bit cram.now (tile_place D.NAME x y row col))) }
+{
+    let mut word = 0;
+    for col in (0..width).rev() {
+        word = 2 * word + u64::from(cram.get(cram_place::<D>(x, y, row, col as u8)));
+    }
+    word
+}
+
+/// Gives the tile at (x, y) the bits of another.
+pub(crate) fn write_tile<D: Device, const C: usize>(
+    cram: &mut Banks<D::Cram>,
+    x: u8,
+    y: u8,
+    tile: &Tile<C>,
+)
+    requires width { columns_at D.NAME x y ≡ C }
+    requires whole { AreBanks D.Cram.WIDTH D.Cram.HEIGHT cram.old }
+    ensures tile { tile_rows D.NAME cram.new x y ≡ tile.now }
+    ensures others { SameBut (IsPlaceOfTile D.NAME x y) cram.old cram.new }
+    ensures whole { AreBanks D.Cram.WIDTH D.Cram.HEIGHT cram.new }
+{
+    for row in 0..16 {
+        write_row::<D>(cram, x, y, row, C, tile.row(usize::from(row)));
+    }
+}
+
+/// Gives a row of the tile at (x, y) the bits of a word, column c the bit of value 2^c.
+fn write_row<D: Device>(cram: &mut Banks<D::Cram>, x: u8, y: u8, row: u8, width: usize, word: u64)
+    requires row { row < 16 }
+    requires width { columns_at D.NAME x y ≡ width }
+    requires whole { AreBanks D.Cram.WIDTH D.Cram.HEIGHT cram.old }
+    ensures written { IsWritten (tile_place D.NAME x y row) (bit_of_word width word) width cram.old cram.new }
+    ensures whole { AreBanks D.Cram.WIDTH D.Cram.HEIGHT cram.new }
+{
+    for col in 0..width {
+        cram.set(cram_place::<D>(x, y, row, col as u8), word >> col & 1 == 1);
+    }
+}

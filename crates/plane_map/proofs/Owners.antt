@@ -6,11 +6,11 @@ use Rattle.plane_map.specs.declared.device.DeviceName.TheVariants.{K1, K8}
 use Rattle.plane_map.specs.declared.tile.TileKind.{TileKind}
 use Rattle.plane_map.specs.declared.tile.TileBit.{TileBit}
 use Rattle.plane_map.specs.declared.tile.Place.{Place}
-use Rattle.plane_map.specs.Layout.{kind_of, columns_in, columns_at, width_of, start_of, is_side, is_end, is_right, is_top, from_side, from_end, bank_of, column_of, row_of, place_of, pad_column, pad_columns, grid_width, grid_height, IsTileBit, IsInCram, IsExtraBit}
+use Rattle.plane_map.specs.Layout.{kind_of, columns_in, columns_at, width_of, start_of, is_side, is_end, is_right, is_top, from_side, from_end, bank_of, px_of, py_of, place_of, pad_column, pad_columns, grid_width, grid_height, IsTileBit, IsInCram, IsExtraBit}
 use Rattle.plane_map.proofs.Widths.{same_column}
 use Rattle.plane_map.proofs.Offsets.{offset-end, fits-end, bank-same}
 use Rattle.plane_map.proofs.Layouts.{are_starts, offset_in, height_in, half_width, from_side-same, from_end-same}
-use Rattle.plane_map.proofs.Places.{offset_of, offset_of-below, height_of, height_of-below, tile_bit_is_placed, column_of-is, row_of-is, column_of-before, place_is_only}
+use Rattle.plane_map.proofs.Places.{offset_of, offset_of-below, height_of, height_of-below, tile_bit_is_placed, px_of-is, py_of-is, px_of-before, place_is_only}
 
 -- a tile with a place in its column and its row of tiles, and how far into the column of tiles the place is
 pub record Holds (device : DeviceName) (at : Place) (x y into : ℕ) : Type 0 where
@@ -37,8 +37,8 @@ bank_of-parts device x y bank h right top = (λ i. (if top i then 1 else 0) + (i
 pub extra-past : (device : DeviceName) (at : Place) → start_of device (half_width device) ≤ at.px → IsExtraBit device at
 unfolding place_of
 extra-past device at past bit h e =
-    let px : column_of device bit ≡ at.px = ap (λ (p : Place). p.px) e in
-    omega (arith, px, past, column_of-before device bit (tile_bit_is_placed device bit h))
+    let px : px_of device bit ≡ at.px = ap (λ (p : Place). p.px) e in
+    omega (arith, px, past, px_of-before device bit (tile_bit_is_placed device bit h))
 
 -- what a bit is that lies at the place
 pub record IsOwner (device : DeviceName) (x y into : ℕ) (bit : TileBit) : Type 0 where
@@ -55,14 +55,14 @@ owner-parts device at x y into holds bit h e =
     let bank : bank_of device bit.x bit.y ≡ bank_of device x y = ap (λ (p : Place). p.bank) e ∙ sym holds.bank in
     let halves = bank-same (is_top device bit.y) (is_right device bit.x) (is_top device y) (is_right device x) bank in
     let px : start_of device (from_side device bit.x) + offset_of device bit ≡ start_of device (from_side device x) + into =
-    sym (column_of-is device bit placed) ∙ ap (λ (p : Place). p.px) e ∙ sym holds.column
+    sym (px_of-is device bit placed) ∙ ap (λ (p : Place). p.px) e ∙ sym holds.column
     in
     let columns = same_column (start_of device) (width_of device) (are_starts device) (from_side device bit.x) (from_side device x) (offset_of device bit) into
     (offset_of-below device bit placed) holds.inside px
     in
-    let py : row_of device bit ≡ at.py = ap (λ (p : Place). p.py) e in
+    let py : py_of device bit ≡ at.py = ap (λ (p : Place). p.py) e in
     let below : height_of device bit < 16 = height_of-below device bit placed in
-    let row : from_end device bit.y ≡ from_end device y = omega (arith, row_of-is device bit placed, py, below, holds.row) in
+    let row : from_end device bit.y ≡ from_end device y = omega (arith, py_of-is device bit placed, py, below, holds.row) in
     record {
       x_is = from_side-same device bit.x x placed.x_in holds.x_in halves.1 columns.0;
       y_is = from_end-same device bit.y y placed.y_in holds.y_in halves.0 row;
@@ -93,8 +93,8 @@ unfolding place_of
 owner-place device at x y into row col holds h col_is row_is =
     let bit : TileBit = record { x = x; y = y; row = row; col = col } in
     let placed = tile_bit_is_placed device bit h in
-    let px : column_of device bit ≡ at.px = column_of-is device bit placed ∙ ap (λ n. start_of device (from_side device x) + n) col_is ∙ holds.column in
-    let py : row_of device bit ≡ at.py = row_of-is device bit placed ∙ omega (arith, row_is, holds.row) in
+    let px : px_of device bit ≡ at.px = px_of-is device bit placed ∙ ap (λ n. start_of device (from_side device x) + n) col_is ∙ holds.column in
+    let py : py_of device bit ≡ at.py = py_of-is device bit placed ∙ omega (arith, row_is, holds.row) in
     let bank = holds.bank in
     λ i. record { bank = bank i; px = px i; py = py i }
 

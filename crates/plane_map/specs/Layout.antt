@@ -160,8 +160,8 @@ pad_row row = slice_index pad_rows row
 
 -- Columns run from the side edge inwards in an inner tile of the left half, and towards it in the right half and in an
 -- io tile of either side. An io tile of the bottom or the top row has its columns by `pad_column`.
-abbrev pub column_of : DeviceName → TileBit → ℕ
-column_of device bit =
+abbrev pub px_of : DeviceName → TileBit → ℕ
+px_of device bit =
     let start = start_of device (from_side device bit.x) in
     let width = width_of device (from_side device bit.x) in
     if is_end device bit.y then start + pad_column bit.col
@@ -170,8 +170,8 @@ column_of device bit =
 
 -- Rows run from the end edge inwards in the bottom half, and towards it in the top half. An io tile of the bottom or
 -- the top row has its rows by `pad_row`.
-abbrev pub row_of : DeviceName → TileBit → ℕ
-row_of device bit =
+abbrev pub py_of : DeviceName → TileBit → ℕ
+py_of device bit =
     let start = 16 * from_end device bit.y in
     if is_end device bit.y then start + 15 - pad_row bit.row
     else if is_top device bit.y then start + 15 - bit.row
@@ -179,7 +179,7 @@ row_of device bit =
 
 -- where a bit of a tile lies
 unfoldable pub place_of : DeviceName → TileBit → Place
-place_of device bit = record { bank = bank_of device bit.x bit.y; px = column_of device bit; py = row_of device bit }
+place_of device bit = record { bank = bank_of device bit.x bit.y; px = px_of device bit; py = py_of device bit }
 
 -- Which RAM of its bank a lower tile is, counted from the bottom in the bottom half and from the top in the top half.
 abbrev pub ram_of : DeviceName → ℕ → ℕ

@@ -1,6 +1,6 @@
 // The columns of bits that the columns of tiles take, from a side edge inwards.
 ghost use Rattle.std.specs.Prelude.{◌≡◌, ◌≢◌, ℕ, ◌+◌, ◌-◌, ◌/◌, ◌<◌, ◌≤◌, IfNone, IfSome, true, false, if◌then◌else◌};
-ghost use Rattle.plane_map.specs.Layout.{grid_width, width_of, start_of, pad_column, column_of, cram_width, IsTileBit};
+ghost use Rattle.plane_map.specs.Layout.{grid_width, width_of, start_of, pad_column, px_of, cram_width, IsTileBit};
 
 use crate::device::DeviceName;
 use crate::grid::{is_mirrored, on_end, side_distance};
@@ -36,7 +36,7 @@ pub(crate) fn column_start(device: DeviceName, distance: u32) -> u32
 /// The column of bits that a bit of a tile takes.
 pub(crate) fn px_of(device: DeviceName, bit: TileBit) -> u32
     requires { IsTileBit device bit }
-    ensures value { result ≡ column_of device bit }
+    ensures value { result ≡ px_of device bit }
     ensures in_plane { result < cram_width device }
 {
     let x = bit.x as u32;

@@ -1,6 +1,6 @@
 // The rows of bits that the rows of tiles take, from an end edge inwards.
 ghost use Rattle.std.specs.Prelude.{◌≡◌, ◌+◌, ◌-◌, ◌<◌, if◌then◌else◌};
-ghost use Rattle.plane_map.specs.Layout.{pad_row, row_of, cram_height, IsTileBit};
+ghost use Rattle.plane_map.specs.Layout.{pad_row, py_of, cram_height, IsTileBit};
 
 use crate::device::DeviceName;
 use crate::grid::{end_distance, in_top, on_end};
@@ -10,7 +10,7 @@ use crate::tile::TileBit;
 /// The row of bits that a bit of a tile takes.
 pub(crate) fn py_of(device: DeviceName, bit: TileBit) -> u32
     requires { IsTileBit device bit }
-    ensures value { result ≡ row_of device bit }
+    ensures value { result ≡ py_of device bit }
     ensures in_plane { result < cram_height device }
 {
     let y = bit.y as u32;

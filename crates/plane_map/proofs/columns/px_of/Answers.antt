@@ -1,7 +1,7 @@
 use Rattle.std.proofs.Common.{◌≡◌, ◌+◌, ◌<◌, arith}
-use Rattle.plane_map.specs.Layout.{column_of, cram_width}
+use Rattle.plane_map.specs.Layout.{px_of, cram_width}
 use Rattle.plane_map.proofs.Layouts.{cram_width-below}
-use Rattle.plane_map.proofs.Places.{tile_bit_x_in, tile_bit_col_end, tile_bit_col_inner, column_of-parts, column_of-in}
+use Rattle.plane_map.proofs.Places.{tile_bit_x_in, tile_bit_col_end, tile_bit_col_inner, px_of-parts, px_of-in}
 use Rattle.plane_map.proofs.columns.px_of.Goals as goal
 
 pub side_distance-distance-requires : goal.side_distance-distance-requires
@@ -15,18 +15,18 @@ offset_of_col-requires-clause-inner c = tile_bit_col_inner c.args.device c.args.
 
 pub returns-clause-value : goal.returns-clause-value
 returns-clause-value c =
-    column_of-parts c.args.device c.args.bit c.requires _ _ _ _ _ _ c.side_distance-distance.ensures c.column_start-start.ensures c.column_width-width.ensures c.on_end.ensures
+    px_of-parts c.args.device c.args.bit c.requires _ _ _ _ _ _ c.side_distance-distance.ensures c.column_start-start.ensures c.column_width-width.ensures c.on_end.ensures
     c.is_mirrored.ensures c.offset_of_col.ensures
 
 pub returns-clause-in_plane : goal.returns-clause-in_plane
-returns-clause-in_plane c = column_of-in c.args.device c.args.bit c.requires _ (returns-clause-value c)
+returns-clause-in_plane c = px_of-in c.args.device c.args.bit c.requires _ (returns-clause-value c)
 
 pub overflow_add-result : goal.overflow_add-result
 overflow_add-result c =
     let sum = c.column_start-start.result + c.offset_of_col.result in
-    let value : sum ≡ column_of c.args.device c.args.bit =
-    column_of-parts c.args.device c.args.bit c.requires _ _ _ _ _ _ c.side_distance-distance.ensures c.column_start-start.ensures c.column_width-width.ensures c.on_end.ensures
+    let value : sum ≡ px_of c.args.device c.args.bit =
+    px_of-parts c.args.device c.args.bit c.requires _ _ _ _ _ _ c.side_distance-distance.ensures c.column_start-start.ensures c.column_width-width.ensures c.on_end.ensures
     c.is_mirrored.ensures c.offset_of_col.ensures
     in
-    let below : sum < cram_width c.args.device = column_of-in c.args.device c.args.bit c.requires sum value in
+    let below : sum < cram_width c.args.device = px_of-in c.args.device c.args.bit c.requires sum value in
     omega (arith, below, cram_width-below c.args.device)

@@ -61,6 +61,7 @@ impl<D: Device> Image<D> {
         ensures device { result ≡ self.now.device }
         ensures whole { IsWhole self.now }
     {
+        // The read shows that the image, and so its planes, are whole.
         let _ = &self.settings;
         D::device_name()
     }

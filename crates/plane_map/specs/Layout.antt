@@ -189,6 +189,6 @@ ram_of device y = if is_top device y then (last_y device - 2 - y) / 2 else (y - 
 unfoldable pub word_place_of : DeviceName → WordBit → Place
 word_place_of device at = record { bank = bank_of device at.x at.y; px = 16 * ram_of device at.y + 15 - at.bit; py = at.word }
 
--- a place of a configuration plane that is no tile's bit
+-- a place that no bit of a tile has
 abbrev pub IsExtraBit : DeviceName → Place → Type 0
 IsExtraBit device at = (bit : TileBit) → IsTileBit device bit → place_of device bit ≢ at

@@ -63,10 +63,13 @@ pub trait Device {
 
     ghost RAM_COLUMN: { ℕ };
 
+    /// Which device it is.
     const NAME: DeviceName;
 
+    /// How many columns of tiles there are.
     const GRID_W: usize;
 
+    /// How many rows of tiles there are.
     const GRID_H: usize;
 
     /// The left one of the two columns of RAM.

@@ -1,4 +1,4 @@
-//! Where each bit of a tile lies in the planes of its device.
+//! Where each bit of a tile, and each bit of a word of a RAM, lies in the planes of its device.
 #![tactic(auto)]
 
 mod columns;

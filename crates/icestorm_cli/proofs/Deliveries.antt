@@ -1,5 +1,5 @@
 -- What a fault of the target leaves.
-use Rattle.std.proofs.Common.{◌≡◌, ℕ, Bool, true, false, List, take, refl, inl, inr}
+use Rattle.std.proofs.Common.{ℕ, true, false, List, take, refl, inl, inr}
 use Rattle.std.specs.Prelude.{Option, None, Some}
 use Rattle.std.specs.Io.KnownBytes.{Appends}
 use Rattle.ice_io.specs.Files.{FileMap, LeavesPart}

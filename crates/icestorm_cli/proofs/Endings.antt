@@ -1,8 +1,7 @@
 -- Why reading failed, and the lines of failures.
 use Rattle.std.proofs.Common.{◌≡◌, ℕ, true, List, refl, arith}
-use Rattle.std.specs.Prelude.{Option, None, Some, Result, Ok, Err, IsSome, MatchOption, slice_get}
+use Rattle.std.specs.Prelude.{Option, None, Some, IsSome, MatchOption, slice_get}
 use Rattle.ice_io.specs.Faults.{Rose}
-use Rattle.icestorm_cli.specs.declared.job.Failure.{Failure}
 use Rattle.icestorm_cli.specs.declared.job.Failure.TheVariants.{Memory}
 use Rattle.icestorm_cli.specs.Jobs.{Need, Task, is_stream, reads_input}
 use Rattle.icestorm_cli.specs.Messages.{failure_line, memory_line}
@@ -16,6 +15,7 @@ read_cause needs k loads new_loads reads new_reads fails unread = cause (slice_g
     named : (name : Option (List ℕ)) → MatchOption name (Rose reads new_reads) (λ n. Rose loads new_loads) → (name ≡ None → reads_input needs ≡ true) → IsSome name
     named None rose stream = absurd (unread (stream refl) rose)
     named (Some name) rose stream = refl
+
     cause : (one : Option Need) → ReadFails one loads new_loads reads new_reads → ((need : Need) → one ≡ Some need → is_stream need.name ≡ true → reads_input needs ≡ true) → IsFile one
     cause None fails stream = absurd fails
     cause (Some need) fails stream = named need.name fails (λ none. stream need refl (rw none refl))

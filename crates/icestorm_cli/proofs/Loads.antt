@@ -2,7 +2,6 @@
 use Rattle.std.proofs.Common.{◌≡◌, ℕ, zero, suc, ◌+◌, ◌^◌, ◌<◌, ◌≤◌, Bool, true, false, not, ◌||◌, List, [], ◌∷◌, ◌++◌, length, drop, refl, sym, ap, subst, ◌∙◌, inl, inr, arith, append_assoc}
 use Rattle.std.specs.Prelude.{Option, None, Some, IsSome, Result, Ok, Err, IsErrOf, MatchOption, map, slice_get, get_or}
 use Rattle.ice_io.specs.Faults.{Rose}
-use Rattle.std.proofs.lemmas.List.{append-nil}
 use Rattle.ice_io.specs.Files.{FileMap}
 use Rattle.std.proofs.lemmas.Bool.{cases_Bool}
 use Rattle.icestorm_cli.specs.declared.job.Load.{Load}
@@ -34,7 +33,7 @@ drop-need (first ∷ needs) (suc k) need e =
 
 -- the need was loaded
 pub goes_on : (known : FileMap) (text : List ℕ) (needs : List Need) (k : ℕ) (need : Need) (front : List (List ℕ)) (bytes : List ℕ) → slice_get needs k ≡ Some need → bytes_from known text need.name need.limit k ≡ Ok bytes
-  → with_front front (loaded known text (drop k needs) k) ≡ with_front (front ++ bytes ∷ []) (loaded known text (drop (k + 1) needs) (k + 1))
+    → with_front front (loaded known text (drop k needs) k) ≡ with_front (front ++ bytes ∷ []) (loaded known text (drop (k + 1) needs) (k + 1))
 goes_on known text needs k need front bytes here gives =
     ap (λ left. with_front front (loaded known text left k)) (drop-need needs k need here)
     ∙ ap (λ first. with_front front (first >>= λ f. loaded known text (drop (k + 1) needs) (k + 1) >>= λ others. Ok (f ∷ others))) gives
@@ -42,7 +41,7 @@ goes_on known text needs k need front bytes here gives =
 
 -- the need could not be loaded
 pub ends : (known : FileMap) (text : List ℕ) (needs : List Need) (k : ℕ) (need : Need) (front : List (List ℕ)) (failure : Failure) → slice_get needs k ≡ Some need → bytes_from known text need.name need.limit k ≡ Err failure
-  → with_front front (loaded known text (drop k needs) k) ≡ Err failure
+    → with_front front (loaded known text (drop k needs) k) ≡ Err failure
 ends known text needs k need front failure here gives =
     ap (λ left. with_front front (loaded known text left k)) (drop-need needs k need here)
     ∙ ap (λ first. with_front front (first >>= λ f. loaded known text (drop (k + 1) needs) (k + 1) >>= λ others. Ok (f ∷ others))) gives
@@ -80,13 +79,14 @@ Agrees-one needs k need here agrees = record {
     only : (b : Bool) → (not b || false) ≡ true → b ≡ false
     only true e = absurd cc
     only false e = refl
+
     one : (b : Bool) → (b || false) ≡ true → b ≡ true
     one true e = refl
     one false e = absurd cc
 
 -- and so does what is told now, where it is what was told before
 pub Agrees-now : (needs : List Need) (k : ℕ) (need : Need) (contents now : Option FileMap) (left left_now : Option (List ℕ)) (known : FileMap) (text : List ℕ) → slice_get needs k ≡ Some need → now ≡ contents → left_now ≡ left
-  → Agrees needs contents left known text → Agrees (need ∷ []) now left_now known text
+    → Agrees needs contents left known text → Agrees (need ∷ []) now left_now known text
 Agrees-now needs k need contents now left left_now known text here same_contents same_left agrees =
     let one = Agrees-one needs k need here agrees in
     record {

@@ -17,7 +17,7 @@ take_front (x ∷ front) back n =
 
 -- the pieces before one, and some of that one
 pub pieces_until : {X : Type 0} (f : X → List ℕ) (xs : List X) (k : ℕ) (d : X) (n : ℕ) → k < length xs → n ≤ length (f (get_or xs k d))
-  → flat_map f (take k xs) ++ take n (f (get_or xs k d)) ≡ take (length (flat_map f (take k xs)) + n) (flat_map f xs)
+    → flat_map f (take k xs) ++ take n (f (get_or xs k d)) ≡ take (length (flat_map f (take k xs)) + n) (flat_map f xs)
 pieces_until f [] k d n lt short = absurd (omega arith)
 pieces_until f (x ∷ xs) zero d n lt short = let none : 0 + n ≡ n = omega arith in rw none (sym (take-append-le n (f x) (flat_map f xs) short))
 pieces_until f (x ∷ xs) (suc k) d n lt short =
@@ -30,7 +30,7 @@ pieces_until f (x ∷ xs) (suc k) d n lt short =
 
 -- a line that was cut at a piece
 pub cut_line : {X : Type 0} (f : X → List ℕ) (xs : List X) (k : ℕ) (d : X) (n : ℕ) (held now new : Option (List ℕ)) (faults faults_now new_faults : ℕ) → k < length xs → n < length (f (get_or xs k d))
-  → Appends held now (flat_map f (take k xs)) → faults ≤ faults_now → Appends now new (take n (f (get_or xs k d))) → Rose faults_now new_faults → Writes (flat_map f xs) held new faults new_faults
+    → Appends held now (flat_map f (take k xs)) → faults ≤ faults_now → Appends now new (take n (f (get_or xs k d))) → Rose faults_now new_faults → Writes (flat_map f xs) held new faults new_faults
 cut_line f xs k d n held now new faults faults_now new_faults lt short before le part rose =
     let appends : List ℕ → Type 0 = λ bytes. Appends held new bytes in
     let whole = Appends-trans held now new (flat_map f (take k xs)) (take n (f (get_or xs k d))) before part in

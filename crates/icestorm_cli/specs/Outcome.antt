@@ -1,5 +1,5 @@
 -- What the words ask for, done on files and on an input that are known, where nothing fails from outside.
-use Rattle.std.specs.Prelude.{◌≡◌, ℕ, ◌+◌, ◌<◌, Bool, true, false, List, [], ◌∷◌, length, get_or, nat_lt, if◌then◌else◌, Option, None, Some, Result, Ok, Err}
+use Rattle.std.specs.Prelude.{ℕ, ◌+◌, Bool, false, List, [], ◌∷◌, length, get_or, nat_lt, if◌then◌else◌, Option, None, Some, Result, Ok, Err}
 use Rattle.std.specs.FinMap.{get}
 use Rattle.ice_io.specs.Files.{FileMap}
 use Rattle.ice_pack.specs.CanonicalBytes.{canonical_bytes}

@@ -10,7 +10,6 @@ use crate::carrying::carry;
 use crate::job::{Failure, Job};
 use crate::report::{report_failure, report_memory, report_usage};
 use crate::words::{job_of, tool_of};
-
 use ice_io::{Files, Sink, Source};
 use std::alloc::{AllocError, Global};
 
@@ -44,7 +43,7 @@ fn run_job<F: Files, I: Source, O: Sink, E: Sink>(
     ensures steady { result ≡ 3 → F.steady files.old ≡ true
         → (reads_input (task_of job.now).needs ≡ true → Rose (I.faults input.old) (I.faults input.new) → ⊥)
         → Told (Some (task_of job.now)) None (F.contents files.old) (I.left input.old) (λ o. (o.status ≡ 3)
-            × Writes o.message (E.held errors.old) (E.held errors.new) (E.faults errors.old) (E.faults errors.new)) }
+        × Writes o.message (E.held errors.old) (E.held errors.new) (E.faults errors.old) (E.faults errors.new)) }
 
     ensures part { result ≡ 4 → ((bytes : List ℕ)
         × DeliversPart (task_of job.now).target bytes (F.contents files.old) (F.contents files.new) (O.held output.old) (O.held output.new)
@@ -56,7 +55,7 @@ fn run_job<F: Files, I: Source, O: Sink, E: Sink>(
     ensures memory { result ≡ 5 → Writes (memory_line (Some (task_of job.now).tool)) (E.held errors.old) (E.held errors.new) (E.faults errors.old) (E.faults errors.new) }
 
     ensures complete { IsQuiet (Some (task_of job.now)) (F.steady files.old) (F.load_faults files.old) (F.load_faults files.new) (I.faults input.old) (I.faults input.new)
-            (F.store_faults files.old) (F.store_faults files.new) (O.faults output.old) (O.faults output.new)
+        (F.store_faults files.old) (F.store_faults files.new) (O.faults output.old) (O.faults output.new)
         → Told (Some (task_of job.now)) None (F.contents files.old) (I.left input.old) (λ o. o.status ≡ 0 → (result ≡ 0) ⊎ (result ≡ 5)) }
 
     ensures untouched { result ≢ 0 → result ≢ 4 → output.new ≡ output.old }
@@ -118,7 +117,7 @@ pub fn run<F: Files, I: Source, O: Sink, E: Sink>(
     ensures steady { result ≡ 3 → F.steady files.old ≡ true
         → (reads_input (needs_of (wanted words.now)) ≡ true → Rose (I.faults input.old) (I.faults input.new) → ⊥)
         → Foretells words.now (F.contents files.old) (I.left input.old) (λ o. (o.status ≡ 3)
-            × Writes o.message (E.held errors.old) (E.held errors.new) (E.faults errors.old) (E.faults errors.new)) }
+        × Writes o.message (E.held errors.old) (E.held errors.new) (E.faults errors.old) (E.faults errors.new)) }
 
     // 4 comes where the count of the target rose, and leaves a part of the outcome's bytes.
     ensures part { result ≡ 4 → ((bytes : List ℕ)
@@ -133,7 +132,7 @@ pub fn run<F: Files, I: Source, O: Sink, E: Sink>(
 
     // Where no fault came from outside and the outcome's status is 0, the status is 0 or 5.
     ensures complete { IsQuiet (wanted words.now) (F.steady files.old) (F.load_faults files.old) (F.load_faults files.new) (I.faults input.old) (I.faults input.new)
-            (F.store_faults files.old) (F.store_faults files.new) (O.faults output.old) (O.faults output.new)
+        (F.store_faults files.old) (F.store_faults files.new) (O.faults output.old) (O.faults output.new)
         → Foretells words.now (F.contents files.old) (I.left input.old) (λ o. o.status ≡ 0 → (result ≡ 0) ⊎ (result ≡ 5)) }
 
     // With any other status than 0 and 4 nothing was delivered. An input that isn't read stays as it was.

@@ -19,8 +19,8 @@ pub fn tool_of(words: &Vec<String>) -> Option<Tool>
     }
 }
 
-#[tactic(auto, unfolding(crate::specs::Jobs::asked))]
 /// What the words ask for: none where they aren't taken.
+#[tactic(auto, unfolding(crate::specs::Jobs::asked))]
 pub fn job_of(alloc: Global, words: &Vec<String>) -> Result<Option<Job<'_>>, AllocError>
     ensures asked { IfOk result (λ job. option_map task_of job ≡ asked (map string_bytes words.now.items)) }
     ensures sound { IfOk result (λ job. IfSome job (λ job. IsSound (task_of job).needs)) }

@@ -1,13 +1,11 @@
-use Rattle.std.proofs.Common.{◌≡◌, ◌+◌, ◌<◌, ◌≤◌, ◌++◌, ◌∷◌, [], ℕ, List, true, false, length, drop, get_or, refl, sym, ap, subst, ◌∙◌, arith, add-one}
-use Rattle.std.specs.Prelude.{Option, None, Some, Ok, Err, Result, map, vec_items, slice_get, IsErrOf}
-use Rattle.ice_io.specs.Files.{FileMap}
+use Rattle.std.proofs.Common.{◌≡◌, ◌+◌, ◌++◌, ◌∷◌, [], drop, get_or, sym, ap, subst, ◌∙◌, arith}
+use Rattle.std.specs.Prelude.{Option, None, Err, map, vec_items, slice_get}
 use Rattle.icestorm_cli.specs.declared.job.Load.{Load}
-use Rattle.icestorm_cli.specs.declared.job.Failure.{Failure}
 use Rattle.icestorm_cli.specs.declared.job.Failure.TheVariants.{Read, TooLong}
-use Rattle.icestorm_cli.specs.Jobs.{Need, need_of, is_stream, reads_input}
-use Rattle.icestorm_cli.specs.Outcome.{bytes_from, loaded}
-use Rattle.icestorm_cli.specs.Effects.{Agrees, ReadFails, IsFile}
-use Rattle.icestorm_cli.proofs.Loads.{Agrees-now, answers, ends, failure-is, file-name, goes_on, last-stream, length-needs, limit-at, need-at, no-stream, read-index, ReadFails-earlier, too_long-index, with_front, with_front-nil}
+use Rattle.icestorm_cli.specs.Jobs.{Need, need_of}
+use Rattle.icestorm_cli.specs.Outcome.{loaded}
+use Rattle.icestorm_cli.specs.Effects.{ReadFails, IsFile}
+use Rattle.icestorm_cli.proofs.Loads.{Agrees-now, answers, ends, failure-is, file-name, goes_on, last-stream, length-needs, limit-at, need-at, no-stream, read-index, ReadFails-earlier, too_long-index, with_front}
 use Rattle.std.proofs.lemmas.List.{map_push}
 use Rattle.icestorm_cli.proofs.loading.load_all.Goals as goal
 
@@ -47,9 +45,9 @@ returns-in-Err-clause-read g c = λ k was.
     let same = read-index index k c.in-Err.failure c.in-Err.ensures.only (failure-is c.in-Err.failure (Read k) was) in
     let fails : Option Need → Type 0 = λ one. ReadFails one (g.F.Files.load_faults c.args.files.now) (g.F.Files.load_faults c.load_one.new.files) (g.I.Source.faults c.args.input.now) (g.I.Source.faults c.load_one.new.input) in
     subst fails (sym here ∙ ap (slice_get needs) (sym same))
-      (ReadFails-earlier need (g.F.Files.load_faults c.loop-index.files) (g.F.Files.load_faults c.args.files.now) (g.F.Files.load_faults c.load_one.new.files)
-        (g.I.Source.faults c.loop-index.input) (g.I.Source.faults c.args.input.now) (g.I.Source.faults c.load_one.new.input) i.load_faults i.input_faults
-        (c.in-Err.ensures.read (answers c.in-Err.failure (Read index) (failure-is c.in-Err.failure (Read k) was ∙ ap (λ n. Read n) same))))
+    (ReadFails-earlier need (g.F.Files.load_faults c.loop-index.files) (g.F.Files.load_faults c.args.files.now) (g.F.Files.load_faults c.load_one.new.files)
+    (g.I.Source.faults c.loop-index.input) (g.I.Source.faults c.args.input.now) (g.I.Source.faults c.load_one.new.input) i.load_faults i.input_faults
+    (c.in-Err.ensures.read (answers c.in-Err.failure (Read index) (failure-is c.in-Err.failure (Read k) was ∙ ap (λ n. Read n) same))))
 
 pub returns-in-Err-clause-steady : goal.returns-in-Err-clause-steady
 unfolding none

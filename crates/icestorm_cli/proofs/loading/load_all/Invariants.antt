@@ -15,7 +15,7 @@ invariant-loop-index g l =
     let needs = map need_of l.loads in
     record {
       so_far : (known : FileMap) (text : List ℕ) → Agrees needs (F.contents l.fn.files) (I.left l.fn.input) known text
-        → with_front (map vec_items l.texts.items) (loaded known text (drop l.index needs) l.index) ≡ loaded known text needs 0;
+          → with_front (map vec_items l.texts.items) (loaded known text (drop l.index needs) l.index) ≡ loaded known text needs 0;
       untouched : l.index < length needs → l.input ≡ l.fn.input;
       unread : reads_input needs ≡ false → l.input ≡ l.fn.input;
       end : length needs ≤ l.index → reads_input needs ≡ true → IsAtEnd (I.left l.input);

@@ -1,7 +1,7 @@
 use Rattle.std.proofs.Common.{◌≡◌, ◌∙◌, ℕ, List, refl, sym, ap, subst}
 use Rattle.std.specs.Prelude.{Result, Err, slice_get}
 use Rattle.icestorm_cli.specs.declared.job.Failure.{Failure}
-use Rattle.icestorm_cli.specs.declared.job.Failure.TheVariants.{Read, Memory}
+use Rattle.icestorm_cli.specs.declared.job.Failure.TheVariants.{Read}
 use Rattle.icestorm_cli.specs.Jobs.{task_of}
 use Rattle.icestorm_cli.specs.Outcome.{done, ending}
 use Rattle.icestorm_cli.specs.Messages.{failure_line}

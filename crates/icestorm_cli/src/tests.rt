@@ -1,0 +1,197 @@
+// Whole runs over files and streams in memory.
+ghost use Rattle.std.specs.Prelude.{◌≤◌};
+
+use crate::running::run;
+use ice_io::{MemFiles, MemSink, MemSource, NamedFile};
+use std::alloc::{AllocError, Global};
+use std::test::Fail;
+
+const DEVICE: &[u8] = b".device 1k\n";
+
+const ICEPACK_USAGE: &str = "icepack: usage: icepack [-u] [-s] [INPUT [OUTPUT]]\n";
+
+const USAGE: &str = "icestorm: usage: TOOL ...\n";
+
+/// Files and streams for a run.
+#[derive(Drop)]
+struct Stage {
+    files: MemFiles,
+    input: MemSource,
+    output: MemSink,
+    errors: MemSink,
+}
+
+impl Stage {
+    /// A stage without files, on which that read of the input fails.
+    fn on_input(alloc: Global, text: &[u8], failing_read: u64) -> Result<Stage, AllocError> {
+        Ok(Stage {
+            files: MemFiles::new(alloc, Vec::new(alloc), "out", 0, 1, Vec::new(alloc))?,
+            input: MemSource::new(text.to_vec(alloc)?, 65_536, [failing_read].to_vec(alloc)?),
+            output: MemSink::new(alloc, 40_000, 40_000, Vec::new(alloc))?,
+            errors: MemSink::new(alloc, 100, 100, Vec::new(alloc))?,
+        })
+    }
+
+    /// A stage with an empty input and one file, whose file `out` has that room.
+    fn on_file(
+        alloc: Global,
+        name: &str,
+        bytes: Vec<u8>,
+        room: usize,
+    ) -> Result<Stage, AllocError> {
+        let mut stage = Stage::on_input(alloc, b"", 0)?;
+        let file = NamedFile {
+            name: String::from_str(alloc, name)?,
+            bytes,
+        };
+        let mut files = Vec::new(alloc);
+        files.push(file)?;
+        stage.files = MemFiles::new(alloc, files, "out", room, 10_000, Vec::new(alloc))?;
+        Ok(stage)
+    }
+
+    /// The status of these words.
+    fn run(&mut self, alloc: Global, words: &[&str]) -> Result<u8, AllocError> {
+        let mut line = Vec::new(alloc);
+        for word in words {
+            line.push(String::from_str(alloc, word)?)?;
+        }
+        Ok(run(
+            alloc,
+            &line,
+            &mut self.files,
+            &mut self.input,
+            &mut self.output,
+            &mut self.errors,
+        ))
+    }
+}
+
+/// The text of a tile whose row 0 has a 1 in column 0, and no other.
+fn text_with_bit(alloc: Global) -> Result<Vec<u8>, AllocError> {
+    let mut text = DEVICE.to_vec(alloc)?;
+    text.extend_from_slice(b".logic_tile 1 1\n")?;
+    for row in 0..16 {
+        text.push(if row == 0 { b'1' } else { b'0' })?;
+        text.extend_from_slice(&[b'0'; 53])?;
+        text.push(b'\n')?;
+    }
+    Ok(text)
+}
+
+#[test]
+fn packs_standard_input(rt: HostRuntime) -> Result<(), Fail> {
+    let alloc = rt.alloc();
+    for (text, byte) in [(DEVICE.to_vec(alloc)?, 0), (text_with_bit(alloc)?, 0x20)] {
+        let mut stage = Stage::on_input(alloc, &text, 0)?;
+        assert_eq!(rt; stage.run(alloc, &["icepack"])?, 0);
+        let stream = stage.output.bytes();
+        assert_eq!(rt; stream.len(), 32_216);
+        assert!(rt; stream.starts_with(&[0x7E, 0xAA, 0x99, 0x7E]));
+        assert_eq!(rt; stream.get(690), Some(&byte));
+        assert_eq!(rt; stage.errors.bytes(), b"".as_slice());
+    }
+    Ok(())
+}
+
+#[test]
+fn tells_why_nothing_is_done(rt: HostRuntime) -> Result<(), Fail> {
+    let alloc = rt.alloc();
+    let unfit = ".device 1k\n.io_tile 1 0\n";
+    for (words, text, status, line) in [
+        (
+            ["icepack"].as_slice(),
+            unfit,
+            1,
+            "icepack: line 2: NotYet\n",
+        ),
+        (
+            ["icepack", "nofile"].as_slice(),
+            "",
+            3,
+            "icepack: read failed: nofile\n",
+        ),
+        (["icepack", "-", "a", "b"].as_slice(), "", 2, ICEPACK_USAGE),
+        (["icepack", "a", "-"].as_slice(), "", 2, ICEPACK_USAGE),
+        (["icepack", "-x"].as_slice(), "", 2, ICEPACK_USAGE),
+        (["icepack", "-s"].as_slice(), "", 2, ICEPACK_USAGE),
+        ([].as_slice(), "", 2, USAGE),
+        (["iceunpack"].as_slice(), "", 2, USAGE),
+    ] {
+        let mut stage = Stage::on_input(alloc, text.as_bytes(), 0)?;
+        assert_eq!(rt; stage.run(alloc, words)?, status, "of {words:?}");
+        assert_eq!(rt; stage.errors.bytes(), line.as_bytes(), "of {words:?}");
+        assert_eq!(rt; stage.output.bytes(), b"".as_slice(), "of {words:?}");
+    }
+    Ok(())
+}
+
+#[test]
+fn writes_nothing_where_a_read_fails(rt: HostRuntime) -> Result<(), Fail> {
+    let alloc = rt.alloc();
+    let mut stage = Stage::on_input(alloc, DEVICE, 2)?;
+    assert_eq!(rt; stage.run(alloc, &["icepack"])?, 3);
+    assert_eq!(rt; stage.output.bytes(), b"".as_slice());
+    let line = b"icepack: read failed: standard input\n";
+    assert_eq!(rt; stage.errors.bytes(), line.as_slice());
+    Ok(())
+}
+
+#[test]
+fn leaves_what_standard_output_took(rt: HostRuntime) -> Result<(), Fail> {
+    let alloc = rt.alloc();
+    let mut whole = Stage::on_input(alloc, DEVICE, 0)?;
+    assert_eq!(rt; whole.run(alloc, &["icepack"])?, 0);
+    let mut stage = Stage::on_input(alloc, DEVICE, 0)?;
+    stage.output = MemSink::new(alloc, 40_000, 10_000, [3].to_vec(alloc)?)?;
+    assert_eq!(rt; stage.run(alloc, &["icepack"])?, 4);
+    assert_eq!(rt;
+        Some(stage.output.bytes()),
+        whole.output.bytes().get(..20_000)
+    );
+    let line = b"icepack: write failed: standard output\n";
+    assert_eq!(rt; stage.errors.bytes(), line.as_slice());
+    Ok(())
+}
+
+#[test]
+fn stores_what_a_file_takes(rt: HostRuntime) -> Result<(), Fail> {
+    let alloc = rt.alloc();
+    let mut whole = Stage::on_input(alloc, DEVICE, 0)?;
+    assert_eq!(rt; whole.run(alloc, &["icepack"])?, 0);
+    let stream = whole.output.bytes();
+    for (room, status, line) in [(5, 4, "icepack: write failed: out\n"), (32_216, 0, "")] {
+        let mut stage = Stage::on_file(alloc, "in", DEVICE.to_vec(alloc)?, room)?;
+        assert_eq!(rt; stage.run(alloc, &["icepack", "in", "out"])?, status);
+        assert_eq!(rt; stage.files.bytes_of("out"), stream.get(..room));
+        assert_eq!(rt; stage.files.bytes_of("in"), Some(DEVICE));
+        assert_eq!(rt; stage.output.bytes(), b"".as_slice());
+        assert_eq!(rt; stage.errors.bytes(), line.as_bytes());
+    }
+    Ok(())
+}
+
+#[test]
+fn refuses_more_than_the_limit(rt: HostRuntime) -> Result<(), Fail> {
+    let alloc = rt.alloc();
+    for (len, status, line) in [
+        (16_777_216, 1, "icepack: line 1: NotYet\n"),
+        (16_777_217, 6, "icepack: too long: in limit 16777216\n"),
+    ] {
+        let mut stage = Stage::on_file(alloc, "in", vec![in alloc; b'0'; len]?, 0)?;
+        assert_eq!(rt; stage.run(alloc, &["icepack", "in"])?, status);
+        assert_eq!(rt; stage.errors.bytes(), line.as_bytes());
+        assert_eq!(rt; stage.output.bytes(), b"".as_slice());
+    }
+    Ok(())
+}
+
+#[test]
+fn keeps_the_status_where_the_line_is_cut(rt: HostRuntime) -> Result<(), Fail> {
+    let alloc = rt.alloc();
+    let mut stage = Stage::on_input(alloc, b"", 0)?;
+    stage.errors = MemSink::new(alloc, 100, 7, [4].to_vec(alloc)?)?;
+    assert_eq!(rt; stage.run(alloc, &["icepack"])?, 1);
+    assert_eq!(rt; stage.errors.bytes(), b"icepack: line ".as_slice());
+    Ok(())
+}

@@ -64,13 +64,7 @@ fn usage_for(tool: Option<Tool>) -> &'static str
 pub fn report_usage<E: Sink>(errors: &mut E, tool: Option<Tool>)
     ensures { Writes (usage_line tool) (E.held errors.old) (E.held errors.new) (E.faults errors.old) (E.faults errors.new) }
 {
-    let pieces = [
-        speaker(tool).as_bytes(),
-        b": usage: ",
-        usage_for(tool).as_bytes(),
-        b"\n",
-    ];
-    write_pieces(errors, &pieces);
+    write_line(errors, speaker(tool), "usage: ", usage_for(tool), "", "");
 }
 
 /// The line where there is no memory for the words themselves.

@@ -1,8 +1,8 @@
 -- Rows that are made from the bit of each column and row.
-use Rattle.std.proofs.Common.{◌≡◌, ℕ, zero, suc, ◌+◌, ◌<◌, ◌≤◌, Bool, false, List, [], ◌∷◌, ◌++◌, length, get_or, refl, sym, ap, ◌∙◌, inl, inr, arith}
+use Rattle.std.proofs.Common.{◌≡◌, ℕ, zero, suc, ◌<◌, Bool, false, [], ◌∷◌, length, get_or, refl, sym, ap, ◌∙◌, inl, inr, arith}
 use Rattle.std.proofs.lemmas.Bool.{cases_eq}
 use Rattle.std.proofs.lemmas.List.{length-append, get_or_append_left, get_or_push}
-use Rattle.bit_plane.specs.Rows.{Rows, IsGrid, row_at, bit_at, row_from, rows_from}
+use Rattle.bit_plane.specs.Rows.{IsGrid, row_at, bit_at, row_from, rows_from}
 
 -- as many bits as were asked for
 pub length-row_from : (width : ℕ) (bit : ℕ → Bool) → length (row_from width bit) ≡ width

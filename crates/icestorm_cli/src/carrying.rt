@@ -1,5 +1,5 @@
 // A task from its loads to its target.
-ghost use Rattle.std.specs.Prelude.{◌≡◌, ◌≢◌, ◌≤◌, ℕ, List, true, false, Ok, Err, slice_get, IfErr, OnOk, IsErrOf};
+ghost use Rattle.std.specs.Prelude.{◌≡◌, ◌≢◌, ◌≤◌, ℕ, List, true, false, None, Ok, Err, slice_get, IfErr, OnOk, IsErrOf};
 ghost use Rattle.std.specs.Io.KnownBytes.{IsAtEnd};
 ghost use Rattle.icestorm_cli.specs.Jobs.{task_of, reads_input};
 ghost use Rattle.icestorm_cli.specs.Effects.{Delivers, DeliversPart, Gives, IsDecided, IsFile, IsSound, ReadFails, TargetRose};
@@ -45,7 +45,8 @@ pub fn carry<F: Files, I: Source, O: Sink>(
     ensures rose { IsErrOf result Failure.Write → TargetRose (task_of job.now).target
         (F.store_faults files.old) (F.store_faults files.new) (O.faults output.old) (O.faults output.new) }
 
-    // After any other failure nothing was delivered.
+    // Standard output changes only where it is the target, and after any other failure nothing was delivered.
+    ensures aside { (task_of job.now).target ≢ None → output.new ≡ output.old }
     ensures untouched { IfErr result (λ failure. failure ≢ Failure.Write → output.new ≡ output.old) }
     ensures kept { IfErr result (λ failure. failure ≢ Failure.Write → F.contents files.new ≡ F.contents files.old) }
 {

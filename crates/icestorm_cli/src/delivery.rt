@@ -1,5 +1,5 @@
 // The bytes of an outcome on their way to the target.
-ghost use Rattle.std.specs.Prelude.{◌≡◌, ◌≤◌, None, OnOk, OnErr};
+ghost use Rattle.std.specs.Prelude.{◌≡◌, ◌≢◌, ◌≤◌, None, OnOk, OnErr};
 ghost use Rattle.icestorm_cli.specs.Jobs.{text_of, is_stream};
 ghost use Rattle.icestorm_cli.specs.Effects.{Delivers, DeliversPart, TargetRose};
 
@@ -19,6 +19,7 @@ pub fn deliver<F: Files, O: Sink>(
     ensures whole { OnOk result (Delivers (text_of target.entry) bytes.now (F.contents files.old) (F.contents files.new) (O.held output.old) (O.held output.new)) }
     ensures part { OnErr result (DeliversPart (text_of target.entry) bytes.now (F.contents files.old) (F.contents files.new) (O.held output.old) (O.held output.new)) }
     ensures failed { OnErr result (TargetRose (text_of target.entry) (F.store_faults files.old) (F.store_faults files.new) (O.faults output.old) (O.faults output.new)) }
+    ensures aside { text_of target.entry ≢ None → output.new ≡ output.old }
     ensures same_load_faults { F.load_faults files.new ≡ F.load_faults files.old }
 {
     match target {

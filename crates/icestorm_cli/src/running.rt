@@ -58,6 +58,7 @@ fn run_job<F: Files, I: Source, O: Sink, E: Sink>(
         (F.store_faults files.old) (F.store_faults files.new) (O.faults output.old) (O.faults output.new)
         → Told (Some (task_of job.now)) None (F.contents files.old) (I.left input.old) (λ o. o.status ≡ 0 → (result ≡ 0) ⊎ (result ≡ 5)) }
 
+    ensures aside { (task_of job.now).target ≢ None → output.new ≡ output.old }
     ensures untouched { result ≢ 0 → result ≢ 4 → output.new ≡ output.old }
     ensures kept { result ≢ 0 → result ≢ 4 → F.contents files.new ≡ F.contents files.old }
     ensures unread { reads_input (task_of job.now).needs ≡ false → input.new ≡ input.old }
@@ -135,8 +136,10 @@ pub fn run<F: Files, I: Source, O: Sink, E: Sink>(
         (F.store_faults files.old) (F.store_faults files.new) (O.faults output.old) (O.faults output.new)
         → Foretells words.now (F.contents files.old) (I.left input.old) (λ o. o.status ≡ 0 → (result ≡ 0) ⊎ (result ≡ 5)) }
 
-    // With any other status than 0 and 4 nothing was delivered. An input that isn't read stays as it was.
+    // With any other status than 0 and 4 nothing was delivered. Standard output that isn't the target, and an input that
+    // isn't read, stay as they were.
     ensures untouched { result ≢ 0 → result ≢ 4 → output.new ≡ output.old }
+    ensures aside { target_of (wanted words.now) ≢ None → output.new ≡ output.old }
     ensures kept { result ≢ 0 → result ≢ 4 → F.contents files.new ≡ F.contents files.old }
     ensures unread { reads_input (needs_of (wanted words.now)) ≡ false → input.new ≡ input.old }
 {

@@ -154,6 +154,14 @@ no-stream needs k need here none =
       | inr file ↦ file
     ]
 
+-- where no file is read, each need is standard input
+pub no-file : (needs : List Need) (k : ℕ) (need : Need) → slice_get needs k ≡ Some need → reads_files needs ≡ false → is_stream need.name ≡ true
+no-file needs k need here none =
+    elim (cases_Bool (is_stream need.name)) [
+      | inl stream ↦ stream
+      | inr file ↦ let both : true ≡ false = sym (file-among needs k need here file) ∙ none in absurd cc
+    ]
+
 -- where standard input is read, it is the last need
 pub last-stream : (needs : List Need) (k : ℕ) (need : Need) → IsSound needs → slice_get needs k ≡ Some need → length needs ≤ k + 1 → reads_input needs ≡ true → is_stream need.name ≡ true
 last-stream needs k need sound here last reads = only-last needs k need (λ j lt. sound.last j lt) here last reads

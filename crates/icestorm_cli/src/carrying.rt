@@ -1,7 +1,7 @@
 // A task from its loads to its target.
 ghost use Rattle.std.specs.Prelude.{◌≡◌, ◌≢◌, ◌≤◌, ℕ, List, true, false, None, Ok, Err, slice_get, IfErr, OnOk, IsErrOf};
 ghost use Rattle.std.specs.Io.KnownBytes.{IsAtEnd};
-ghost use Rattle.icestorm_cli.specs.Jobs.{task_of, reads_input};
+ghost use Rattle.icestorm_cli.specs.Jobs.{task_of, reads_input, reads_files};
 ghost use Rattle.icestorm_cli.specs.Effects.{Delivers, DeliversPart, Gives, IsDecided, IsFile, IsSound, ReadFails, TargetRose};
 
 use crate::answers::answer;
@@ -28,6 +28,7 @@ pub fn carry<F: Files, I: Source, O: Sink>(
         × Gives (task_of job.now) (F.contents files.old) (I.left input.old) (Ok bytes)) }
     ensures end { OnOk result (reads_input (task_of job.now).needs ≡ true → IsAtEnd (I.left input.new)) }
     ensures unread { reads_input (task_of job.now).needs ≡ false → input.new ≡ input.old }
+    ensures unasked { reads_files (task_of job.now).needs ≡ false → (task_of job.now).target ≡ None → files.new ≡ files.old }
 
     // A refusal and a limit are the task's.
     ensures decided { IfErr result (λ failure. IsDecided failure → Gives (task_of job.now) (F.contents files.old) (I.left input.old) (Err failure)) }

@@ -20,6 +20,7 @@ pub fn deliver<F: Files, O: Sink>(
     ensures part { OnErr result (DeliversPart (text_of target.entry) bytes.now (F.contents files.old) (F.contents files.new) (O.held output.old) (O.held output.new)) }
     ensures failed { OnErr result (TargetRose (text_of target.entry) (F.store_faults files.old) (F.store_faults files.new) (O.faults output.old) (O.faults output.new)) }
     ensures aside { text_of target.entry ≢ None → output.new ≡ output.old }
+    ensures same_files { text_of target.entry ≡ None → files.new ≡ files.old }
     ensures same_load_faults { F.load_faults files.new ≡ F.load_faults files.old }
 {
     match target {

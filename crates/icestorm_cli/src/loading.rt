@@ -2,7 +2,7 @@
 ghost use Rattle.std.specs.Prelude.{◌≡◌, ◌+◌, ◌<◌, ◌≤◌, ◌^◌, ℕ, List, true, false, Option, None, Some, Ok, Err, ◌∷◌, [], map, vec_items, slice_get, IfOk, IfErr, OnOk, IsErrOf};
 ghost use Rattle.std.specs.Io.KnownBytes.{IsAtEnd};
 ghost use Rattle.ice_io.specs.Files.{FileMap};
-ghost use Rattle.icestorm_cli.specs.Jobs.{Need, need_of, is_stream, reads_input};
+ghost use Rattle.icestorm_cli.specs.Jobs.{Need, need_of, is_stream, reads_input, reads_files};
 ghost use Rattle.icestorm_cli.specs.Outcome.{bytes_from, loaded};
 ghost use Rattle.icestorm_cli.specs.Effects.{Agrees, ReadFails, IsFile, IsLoadFailure, IsLoadFailureAt, IsSound, load_failure};
 
@@ -38,6 +38,7 @@ fn load_one<F: Files, I: Source>(
     ensures load_faults { F.load_faults files.old ≤ F.load_faults files.new }
     ensures input_faults { I.faults input.old ≤ I.faults input.new }
     ensures unread { is_stream (need_of load.now).name ≡ false → input.new ≡ input.old }
+    ensures unasked { is_stream (need_of load.now).name ≡ true → files.new ≡ files.old }
     ensures end { OnOk result (is_stream (need_of load.now).name ≡ true → IsAtEnd (I.left input.new)) }
 {
     match load.name {
@@ -90,6 +91,7 @@ pub fn load_all<F: Files, I: Source>(
     ensures load_faults { F.load_faults files.old ≤ F.load_faults files.new }
     ensures input_faults { I.faults input.old ≤ I.faults input.new }
     ensures unread { reads_input (map need_of loads.now) ≡ false → input.new ≡ input.old }
+    ensures unasked { reads_files (map need_of loads.now) ≡ false → files.new ≡ files.old }
     ensures end { OnOk result (reads_input (map need_of loads.now) ≡ true → IsAtEnd (I.left input.new)) }
 {
     let mut texts = Vec::new(alloc);

@@ -150,37 +150,19 @@ pub fn report_failure<E: Sink>(errors: &mut E, job: &Job<'_>, failure: Failure)
             write_line(errors, name, "line ", digits.format(line), ": NotYet", "");
         }
         Failure::Read { load } => {
-            write_line(
-                errors,
-                name,
-                "read failed: ",
-                load_name(&job.loads, load),
-                "",
-                "",
-            );
+            let source = load_name(&job.loads, load);
+            write_line(errors, name, "read failed: ", source, "", "");
         }
         Failure::Write => {
-            write_line(
-                errors,
-                name,
-                "write failed: ",
-                target_name(job.target),
-                "",
-                "",
-            );
+            let target = target_name(job.target);
+            write_line(errors, name, "write failed: ", target, "", "");
         }
         Failure::Memory => write_line(errors, name, "out of memory", "", "", ""),
         Failure::TooLong { load } => {
             let mut digits = Buffer::new();
+            let source = load_name(&job.loads, load);
             let limit = digits.format(load_limit(&job.loads, load));
-            write_line(
-                errors,
-                name,
-                "too long: ",
-                load_name(&job.loads, load),
-                " limit ",
-                limit,
-            );
+            write_line(errors, name, "too long: ", source, " limit ", limit);
         }
     }
 }

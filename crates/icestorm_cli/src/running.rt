@@ -2,7 +2,7 @@
 ghost use Rattle.std.specs.Prelude.{◌≡◌, ◌≢◌, ◌⊎◌, ◌≤◌, ℕ, List, Option, true, false, None, Some};
 ghost use Rattle.std.specs.Io.KnownBytes.{IsAtEnd};
 ghost use Rattle.ice_io.specs.Faults.{Rose};
-ghost use Rattle.icestorm_cli.specs.Jobs.{task_of, reads_input, tool_wanted, wanted};
+ghost use Rattle.icestorm_cli.specs.Jobs.{task_of, reads_input, reads_files, tool_wanted, wanted};
 ghost use Rattle.icestorm_cli.specs.Messages.{usage_line, memory_line};
 ghost use Rattle.icestorm_cli.specs.Effects.{Delivers, DeliversPart, HasBytes, IsQuiet, IsSound, Foretells, TargetRose, Told, Writes, WritesReadLine, WritesTargetLine, needs_of, target_of};
 
@@ -62,6 +62,7 @@ fn run_job<F: Files, I: Source, O: Sink, E: Sink>(
     ensures untouched { result ≢ 0 → result ≢ 4 → output.new ≡ output.old }
     ensures kept { result ≢ 0 → result ≢ 4 → F.contents files.new ≡ F.contents files.old }
     ensures unread { reads_input (task_of job.now).needs ≡ false → input.new ≡ input.old }
+    ensures unasked { reads_files (task_of job.now).needs ≡ false → (task_of job.now).target ≡ None → files.new ≡ files.old }
 {
     match carry(alloc, job, files, input, output) {
         Ok(()) => 0,
@@ -136,12 +137,13 @@ pub fn run<F: Files, I: Source, O: Sink, E: Sink>(
         (F.store_faults files.old) (F.store_faults files.new) (O.faults output.old) (O.faults output.new)
         → Foretells words.now (F.contents files.old) (I.left input.old) (λ o. o.status ≡ 0 → (result ≡ 0) ⊎ (result ≡ 5)) }
 
-    // With any other status than 0 and 4 nothing was delivered. Standard output that isn't the target, and an input that
-    // isn't read, stay as they were.
+    // With any other status than 0 and 4 nothing was delivered. What the words don't ask for stays as it was: standard
+    // output that isn't the target, an input that isn't read, and files where none is read or stored.
     ensures untouched { result ≢ 0 → result ≢ 4 → output.new ≡ output.old }
     ensures aside { target_of (wanted words.now) ≢ None → output.new ≡ output.old }
     ensures kept { result ≢ 0 → result ≢ 4 → F.contents files.new ≡ F.contents files.old }
     ensures unread { reads_input (needs_of (wanted words.now)) ≡ false → input.new ≡ input.old }
+    ensures unasked { reads_files (needs_of (wanted words.now)) ≡ false → target_of (wanted words.now) ≡ None → files.new ≡ files.old }
 {
     match job_of(alloc, words) {
         Ok(Some(job)) => run_job(alloc, &job, files, input, output, errors),

@@ -183,6 +183,11 @@ fn refuses_more_than_the_limit(rt: HostRuntime) -> Result<(), Fail> {
         assert_eq!(rt; stage.errors.bytes(), line.as_bytes());
         assert_eq!(rt; stage.output.bytes(), b"".as_slice());
     }
+    let long = vec![in alloc; b'0'; 16_777_217]?;
+    let mut stage = Stage::on_input(alloc, &long, 0)?;
+    assert_eq!(rt; stage.run(alloc, &["icepack"])?, 6);
+    let line = b"icepack: too long: standard input limit 16777216\n";
+    assert_eq!(rt; stage.errors.bytes(), line.as_slice());
     Ok(())
 }
 

@@ -5,7 +5,7 @@ use Rattle.icestorm_cli.specs.declared.job.Failure.TheVariants.{Read, TooLong}
 use Rattle.icestorm_cli.specs.Jobs.{Need, need_of}
 use Rattle.icestorm_cli.specs.Outcome.{loaded}
 use Rattle.icestorm_cli.specs.Effects.{ReadFails, IsFile}
-use Rattle.icestorm_cli.proofs.Loads.{Agrees-now, answers, ends, failure-is, file-name, goes_on, last-stream, length-needs, limit-at, need-at, no-stream, read-index, ReadFails-earlier, too_long-index, with_front}
+use Rattle.icestorm_cli.proofs.Loads.{Agrees-now, answers, ends, failure-is, file-name, goes_on, last-stream, length-needs, limit-at, need-at, no-file, no-stream, read-index, ReadFails-earlier, too_long-index, with_front}
 use Rattle.std.proofs.lemmas.List.{map_push}
 use Rattle.icestorm_cli.proofs.loading.load_all.Goals as goal
 
@@ -83,6 +83,24 @@ returns-in_err-push-in-Ok-clause-unread g c = λ unread.
     let here = need-at c.args.loads.now index none c.loop-index-test.true in
     c.in-Ok.ensures.unread (no-stream needs index need here unread) ∙ c.loop-index.invariant.unread unread
 
+pub returns-in-Err-clause-unasked : goal.returns-in-Err-clause-unasked
+unfolding none
+returns-in-Err-clause-unasked g c = λ unasked.
+    let needs = map need_of c.args.loads.now in
+    let index = c.loop-index.index in
+    let need = need_of (get_or c.args.loads.now index none) in
+    let here = need-at c.args.loads.now index none c.loop-index-test.true in
+    c.in-Err.ensures.unasked (no-file needs index need here unasked) ∙ c.loop-index.invariant.unasked unasked
+
+pub returns-in_err-push-in-Ok-clause-unasked : goal.returns-in_err-push-in-Ok-clause-unasked
+unfolding none
+returns-in_err-push-in-Ok-clause-unasked g c = λ unasked.
+    let needs = map need_of c.args.loads.now in
+    let index = c.loop-index.index in
+    let need = need_of (get_or c.args.loads.now index none) in
+    let here = need-at c.args.loads.now index none c.loop-index-test.true in
+    c.in-Ok.ensures.unasked (no-file needs index need here unasked) ∙ c.loop-index.invariant.unasked unasked
+
 pub loop-index-preserved : goal.loop-index-preserved
 unfolding none
 loop-index-preserved g c =
@@ -103,6 +121,7 @@ loop-index-preserved g c =
           ∙ sym (goes_on known text needs index need (map vec_items c.loop-index.texts.items) c.in-Ok.bytes.items here gives) ∙ i.so_far known text agrees;
       untouched = λ more. e.unread (file-name need (subst (λ (one : Option Need). IsFile one) here (c.requires.last index more))) ∙ i.untouched (omega (arith, long));
       unread = λ unread. e.unread (no-stream needs index need here unread) ∙ i.unread unread;
+      unasked = λ unasked. e.unasked (no-file needs index need here unasked) ∙ i.unasked unasked;
       end = λ last reads. e.end (last-stream needs index need c.requires here last reads);
       same_contents = e.same_contents ∙ i.same_contents;
       same_steady = e.same_steady ∙ i.same_steady;

@@ -2,7 +2,7 @@ use Rattle.std.proofs.Common.{◌≡◌, ◌<◌, ◌≤◌, ℕ, List, true, fa
 use Rattle.std.specs.Prelude.{map, vec_items}
 use Rattle.std.specs.Io.KnownBytes.{IsAtEnd}
 use Rattle.ice_io.specs.Files.{FileMap}
-use Rattle.icestorm_cli.specs.Jobs.{need_of, reads_input}
+use Rattle.icestorm_cli.specs.Jobs.{need_of, reads_input, reads_files}
 use Rattle.icestorm_cli.specs.Outcome.{loaded}
 use Rattle.icestorm_cli.specs.Effects.{Agrees}
 use Rattle.icestorm_cli.proofs.Loads.{with_front}
@@ -18,6 +18,7 @@ invariant-loop-index g l =
           → with_front (map vec_items l.texts.items) (loaded known text (drop l.index needs) l.index) ≡ loaded known text needs 0;
       untouched : l.index < length needs → l.input ≡ l.fn.input;
       unread : reads_input needs ≡ false → l.input ≡ l.fn.input;
+      unasked : reads_files needs ≡ false → l.files ≡ l.fn.files;
       end : length needs ≤ l.index → reads_input needs ≡ true → IsAtEnd (I.left l.input);
       same_contents : F.contents l.files ≡ F.contents l.fn.files;
       same_steady : F.steady l.files ≡ F.steady l.fn.files;

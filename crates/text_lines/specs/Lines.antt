@@ -1,16 +1,39 @@
--- The lines of a text. LF ends a line, the last line perhaps has none.
-use Rattle.std.specs.Prelude.{ℕ, List, [], ◌∷◌, get_or, ◌==◌, if◌then◌else◌}
+-- The lines of a text. LF ends a line, and a CR just before it belongs to the end; the last line perhaps has no LF, and a
+-- CR is then a byte of it.
+use Rattle.std.specs.Prelude.{ℕ, Bool, false, ◌&&◌, ◌||◌, List, [], ◌∷◌, get_or, ◌==◌, if◌then◌else◌}
 
--- the lines with a byte put before the first of them
+-- the pieces with a byte put before the first of them
 abbrev pub with_byte : ℕ → List (List ℕ) → List (List ℕ)
 with_byte byte [] = (byte ∷ []) ∷ []
-with_byte byte (line ∷ lines) = (byte ∷ line) ∷ lines
+with_byte byte (piece ∷ pieces) = (byte ∷ piece) ∷ pieces
 
--- the lines without their LF; a text that ends with LF has no line after it
+-- whether LF comes next
+abbrev pub is_at_lf : List ℕ → Bool
+is_at_lf [] = false
+is_at_lf (byte ∷ bytes) = byte == 10
+
+-- the lines without their ends; a text that ends with LF has no line after it
 unfoldable pub lines_of : List ℕ → List (List ℕ)
 lines_of [] = []
-lines_of (byte ∷ bytes) = if byte == 10 then [] ∷ lines_of bytes else with_byte byte (lines_of bytes)
+lines_of (byte ∷ bytes) =
+    if byte == 10 then [] ∷ lines_of bytes
+    else if (byte == 13) && is_at_lf bytes then lines_of bytes
+    else with_byte byte (lines_of bytes)
 
 -- the line of an index, counted from 0, and an empty one past the last
 abbrev pub line_at : List (List ℕ) → ℕ → List ℕ
 line_at lines index = get_or lines index []
+
+-- space and tab
+abbrev pub is_blank : ℕ → Bool
+is_blank byte = (byte == 32) || (byte == 9)
+
+-- a byte before what is left of those after it; a blank goes too where nothing is left
+abbrev pub before_rest : ℕ → List ℕ → List ℕ
+before_rest byte [] = if is_blank byte then [] else byte ∷ []
+before_rest byte (next ∷ rest) = byte ∷ next ∷ rest
+
+-- a line without the blanks at its end
+unfoldable pub trimmed : List ℕ → List ℕ
+trimmed [] = []
+trimmed (byte ∷ bytes) = before_rest byte (trimmed bytes)

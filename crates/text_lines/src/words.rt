@@ -1,47 +1,99 @@
 // Words of a line, and the numbers that they write.
-ghost use Rattle.std.specs.Prelude.{◌≡◌, ◌∷◌, [], ◌<◌, ◌^◌, ◌≢◌, length, true, MatchOption};
+ghost use Rattle.std.specs.Prelude.{◌≡◌, List, ◌∷◌, [], ℕ, ◌<◌, ◌^◌, ◌≢◌, ◌==◌, not, length, position, true, IfSome, MatchOption};
 ghost use Rattle.std.specs.Char.{is_ascii_digit};
 ghost use Rattle.std.specs.List.{list_all};
-ghost use Rattle.text_lines.specs.Words.{words_of, is_number, number_of, digits_value};
+ghost use Rattle.text_lines.specs.Words.{behind_word, digits_value, first_word, from_word, is_number, number_of, numbers_of, with_number, words_of};
 
 use crate::lines::length_before;
 
-/// The word up to the first space, and what stands after that space: none where there is no space.
-pub fn split_space(line: &[u8]) -> Option<(&[u8], &[u8])>
-    ensures { MatchOption result (words_of line.now ≡ line.now ∷ [])
+/// The first word, and what stands behind it, spaces and all: none where there is no word.
+pub fn split_word(line: &[u8]) -> Option<(&[u8], &[u8])>
+    ensures words { MatchOption result (words_of line.now ≡ [])
         (λ found. words_of line.now ≡ found.0.now ∷ words_of found.1.now) }
+    ensures places { MatchOption result (first_word line.now ≡ [])
+        (λ found. (found.0.now ≡ first_word line.now) × (found.1.now ≡ behind_word line.now)) }
+    ensures shorter { IfSome result (λ found. length found.1.now < length line.now) }
 {
+    let line = from_word(line);
+    if line.is_empty() {
+        return None;
+    }
     let end = length_before(line, b' ');
-    if end < line.len() {
-        Some((&line[..end], &line[end + 1..]))
-    } else {
-        None
+    Some((&line[..end], &line[end..]))
+}
+
+/// The word of a line that has exactly one.
+pub fn one_word(line: &[u8]) -> Option<&[u8]>
+    ensures { MatchOption result (length (words_of line.now) ≢ 1) (λ word. words_of line.now ≡ word.now ∷ []) }
+{
+    let (word, behind) = split_word(line)?;
+    match split_word(behind) {
+        None => Some(word),
+        Some(_) => None,
     }
 }
 
-/// The three words of a line: none where there are fewer or more. A word may be empty.
-#[tactic(auto, using(crate::proofs::Cuts::some_word))]
-pub fn three_words(line: &[u8]) -> Option<(&[u8], &[u8], &[u8])>
-    ensures { MatchOption result (length (words_of line.now) ≢ 3)
-        (λ words. words_of line.now ≡ words.0.now ∷ words.1.now ∷ words.2.now ∷ []) }
+/// The numbers of a line of exactly two words, where each of them writes one.
+pub fn two_numbers(line: &[u8]) -> Option<(u32, u32)>
+    ensures { MatchOption result ((x y : ℕ) → numbers_of (words_of line.now) ≢ Some (x ∷ y ∷ []))
+        (λ found. numbers_of (words_of line.now) ≡ Some (found.0 ∷ found.1 ∷ [])) }
 {
-    match split_space(line) {
-        None => None,
-        Some((first, rest)) => match split_space(rest) {
-            None => None,
-            Some((second, third)) => match split_space(third) {
-                None => Some((first, second, third)),
-                Some(_) => None,
-            },
-        },
+    let (first, behind) = split_number(line)?;
+    let second = one_number(behind)?;
+    Some((first, second))
+}
+
+/// The numbers of a line of exactly three words, where each of them writes one.
+pub fn three_numbers(line: &[u8]) -> Option<(u32, u32, u32)>
+    ensures { MatchOption result ((x y z : ℕ) → numbers_of (words_of line.now) ≢ Some (x ∷ y ∷ z ∷ []))
+        (λ found. numbers_of (words_of line.now) ≡ Some (found.0 ∷ found.1 ∷ found.2 ∷ [])) }
+{
+    let (first, behind) = split_number(line)?;
+    let (second, third) = two_numbers(behind)?;
+    Some((first, second, third))
+}
+
+/// The number of the first word, and what stands behind that word.
+fn split_number(line: &[u8]) -> Option<(u32, &[u8])>
+    ensures { MatchOption result ((x : ℕ) (xs : List ℕ) → numbers_of (words_of line.now) ≢ Some (x ∷ xs))
+        (λ found. numbers_of (words_of line.now) ≡ with_number (Some found.0) (numbers_of (words_of found.1.now))) }
+{
+    let (word, behind) = split_word(line)?;
+    let first = number(word)?;
+    Some((first, behind))
+}
+
+/// The number of a line of exactly one word, where it writes one.
+fn one_number(line: &[u8]) -> Option<u32>
+    ensures { MatchOption result ((x : ℕ) → numbers_of (words_of line.now) ≢ Some (x ∷ []))
+        (λ found. numbers_of (words_of line.now) ≡ Some (found ∷ [])) }
+{
+    number(one_word(line)?)
+}
+
+/// The line from its first word on.
+fn from_word(line: &[u8]) -> &[u8]
+    ensures { result.now ≡ from_word line.now }
+{
+    match first_place_of_word(line) {
+        Some(place) => &line[place..],
+        None => &[],
     }
+}
+
+/// Where the first byte stands that is no space.
+fn first_place_of_word(line: &[u8]) -> Option<usize>
+    ensures { result ≡ position (λ byte. not (byte == 32)) line.now }
+{
+    line.iter().position(|byte| *byte != b' ')
 }
 
 /// The number that a word of one to nine decimal digits writes, the most significant first: none of any other word.
 /// Leading zeros count as digits.
 #[tactic(auto, unfolding(crate::specs::Words::number_of))]
 pub fn number(word: &[u8]) -> Option<u32>
-    ensures { result ≡ number_of word.now }
+    ensures is { result ≡ number_of word.now }
+    ensures small { IfSome result (λ value. value < 1000000000) }
 {
     if is_number(word) {
         Some(digits_value(word))
@@ -67,7 +119,8 @@ fn are_digits(word: &[u8]) -> bool
 /// The number that decimal digits write, the most significant first.
 fn digits_value(digits: &[u8]) -> u32
     requires { is_number digits.now ≡ true }
-    ensures { result ≡ digits_value digits.now }
+    ensures is { result ≡ digits_value digits.now }
+    ensures small { result < 10 ^ length digits.now }
 {
     let mut value = 0;
     for digit in digits {

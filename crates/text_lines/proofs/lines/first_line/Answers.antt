@@ -1,11 +1,14 @@
-use Rattle.text_lines.proofs.Cuts.{first_line-ended, first_line-whole}
-use Rattle.std.proofs.Common.{◌≡◌, ◌∙◌, ◌≤◌, length, sym, false, ◌==◌, arith}
+use Rattle.std.proofs.Common.{◌≡◌, ◌∙◌, ◌≤◌, ◌∷◌, length, take, drop, ◌-◌, ◌+◌, ap, sym, false, ◌==◌, arith}
+use Rattle.text_lines.specs.Lines.{lines_of}
 use Rattle.text_lines.proofs.Cuts.{end_of}
+use Rattle.text_lines.proofs.Written.{chomped-is, first_line-ended, first_line-whole}
 use Rattle.text_lines.proofs.lines.first_line.Goals as goal
 
 pub returns-then-end-text-clause-lines : goal.returns-then-end-text-clause-lines
 returns-then-end-text-clause-lines c =
-    first_line-ended c.args.text.now c.length_before-end.result c.length_before-end.ensures c.if-end-text.true
+    let end = c.length_before-end.result in
+    first_line-ended c.args.text.now end c.length_before-end.ensures c.if-end-text.true
+    ∙ ap (λ line. line ∷ lines_of (take (length c.args.text.now - (end + 1)) (drop (end + 1) c.args.text.now))) (chomped-is (take end c.args.text.now) ∙ sym c.without_cr.ensures)
 
 pub returns-else-end-text-clause-lines : goal.returns-else-end-text-clause-lines
 returns-else-end-text-clause-lines c =

@@ -1,0 +1,698 @@
+-- A text that means an image has each of its bits as a character, a digit or a statement.
+use Rattle.std.proofs.Common.{◌≡◌, ℕ, zero, suc, ◌+◌, ◌-◌, ◌*◌, ◌/◌, ◌%◌, ◌<◌, ◌≤◌, Bool, true, false, not, ◌&&◌, ◌==◌, cond, List, [], length, refl, sym, ap, subst, ◌∙◌, inl, inr, ◌⊎◌, arith, Option, Some, None}
+use Rattle.std.specs.Prelude.{nat_lt, Result, Ok, Err, IfOk}
+use Rattle.std.proofs.lemmas.Bool.{cases_eq, cases_lt, cases_Bool, and_parts, and_from, both_ways, ltb-true, lt-ltb, lt-leb, eqb-true, not-true}
+use Rattle.std.proofs.lemmas.Bool.Decides.{nat_tests}
+use Rattle.std.proofs.lemmas.List.{get_or_past}
+use Rattle.text_lines.specs.Lines.{lines_of, line_at, trimmed}
+use Rattle.text_lines.specs.Places.{any_below, least_below, first_below, or_here, or_else}
+use Rattle.text_lines.proofs.Places.{any_below-at, any_below-place, least_below-first, first_below-sum}
+use Rattle.plane_map.specs.Layout.{kind_of, columns_of, columns_in, place_of, word_place_of, px_of, bank_of, ram_of, from_end, grid_height, cram_width, cram_height, bram_width, bram_height, IsTileBit, IsWordBit, IsExtraBit, IsInCram, IsInBram}
+use Rattle.plane_map.specs.declared.device.DeviceName.{DeviceName}
+use Rattle.plane_map.specs.declared.device.DeviceName.TheVariants.{K1, K8}
+use Rattle.plane_map.specs.declared.tile.TileKind.{TileKind}
+use Rattle.plane_map.specs.declared.tile.TileKind.TheVariants.{Io, Logic, RamB, RamT}
+use Rattle.plane_map.specs.declared.tile.Place.{Place}
+use Rattle.plane_map.specs.declared.tile.TileBit.{TileBit}
+use Rattle.plane_map.specs.declared.tile.WordBit.{WordBit}
+use Rattle.plane_map.proofs.Places.{place_is_only, px_of-in, py_of-is, height_of, height_of-below, tile_bit_is_placed, tile_bit_y_in}
+use Rattle.plane_map.proofs.Words.{word_place_is_only, lower-third}
+use Rattle.ice_image.specs.Configuration.{Configuration}
+use Rattle.ice_image.specs.Either.{configuration_of}
+use Rattle.ice_image.specs.Contents.{tile_place, word_bit_place}
+use Rattle.asc_text.specs.declared.statement.Statement.{Statement}
+use Rattle.asc_text.specs.declared.statement.Statement.TheVariants.{Tile, RamData, ExtraBit}
+use Rattle.asc_text.specs.declared.fault.AscCause.{AscCause}
+use Rattle.asc_text.specs.declared.fault.AscCause.TheVariants.{Kind, Repeated, Hex, ExtraPlace}
+use Rattle.asc_text.specs.declared.fault.TileXy.{TileXy}
+use Rattle.asc_text.specs.declared.fault.AscFault.{AscFault}
+use Rattle.asc_text.specs.declared.file.AscFile.{AscFile}
+use Rattle.asc_text.specs.declared.file.Symbol.{Symbol as NetName}
+use Rattle.asc_text.specs.Statements.{statement_in, begins_with_dot}
+use Rattle.asc_text.specs.Rows.{row_bit, memory_bit, is_memory_line}
+use Rattle.asc_text.specs.Blocks.{has_rows, depth_after, depth_at, statement_over, statement_at, device_in, device_before}
+use Rattle.asc_text.specs.Extras.{is_same_place, is_owned, is_extra}
+use Rattle.asc_text.specs.Faults.{cause_if, is_same_kind, kind_cause, tile_cause, missing_device, unknown_device, extra_cause, setting_cause, stands_before, names_tile, names_ram, statement_cause, cause_at, fault_at, fault_with, asc_fault_of}
+use Rattle.asc_text.specs.Meaning.{sets_place, is_set_before, sets_word_place, is_word_set_before, image_before, image_for, asc_image_of, AscMeans}
+use Rattle.asc_text.specs.Characters.{tile_statement, ram_statement, character_below, character_of, names_extra, is_named_extra, digit_bit_below, digit_bit_of, HasBits}
+use Rattle.asc_text.proofs.Owners.{is_same_place-same, is_same_place-self, is_owned-bit}
+use Rattle.asc_text.proofs.Ends.{place_bit-from}
+
+-- ---- tests and values
+
+-- tests that pass together are one
+same_test : (a b : Bool) → (a ≡ true → b ≡ true) → (b ≡ true → a ≡ true) → a ≡ b
+same_test true b there back = sym (there refl)
+same_test false true there back = back refl
+same_test false false there back = refl
+
+-- no value gives no first part
+or_else-first : {A : Type 0} (a b : Option A) → or_else a b ≡ None → a ≡ None
+or_else-first None b none = refl
+or_else-first (Some value) b none = none
+
+-- nor a second one
+or_else-second : {A : Type 0} (a b : Option A) → or_else a b ≡ None → b ≡ None
+or_else-second None b none = none
+or_else-second (Some value) b none = absurd cc
+
+-- a test that passes nowhere below a bound
+none_below : (n k : ℕ) (test : ℕ → Bool) → any_below n test ≡ false → k < n → test k ≡ false
+none_below n k test none below =
+    elim (cases_Bool (test k)) [
+      | inl here ↦ absurd (both_ways (any_below n test) none (any_below-at n k test below here))
+      | inr other ↦ other
+    ]
+
+-- the least place below one more bound
+least_step : (n k : ℕ) (test : ℕ → Bool) (found : Option ℕ) (passes : Bool) → ((j : ℕ) → found ≡ Some j → (j < n) × (test j ≡ true)) → test n ≡ passes → or_here found passes n ≡ Some k
+    → (k < suc n) × (test k ≡ true)
+least_step n k test (Some earlier) passes before here is =
+    let facts = before k is in
+    (omega (arith, facts.0), facts.1)
+least_step n k test None true before here is =
+    let same : n ≡ k = cc in
+    (omega arith, ap test (sym same) ∙ here)
+least_step n k test None false before here is = absurd cc
+
+-- the least place below a bound is below it, and passes
+least_below-place : (n k : ℕ) (test : ℕ → Bool) → least_below n test ≡ Some k → (k < n) × (test k ≡ true)
+unfolding least_below
+least_below-place zero k test is = absurd cc
+least_below-place (suc n) k test is = least_step n k test (least_below n test) (test n) (λ j found. least_below-place n j test found) refl is
+
+-- a first value stays the first
+first_below-later : {A : Type 0} (n m : ℕ) (given : ℕ → Option A) (value : A) → first_below n given ≡ Some value → n ≤ m → first_below m given ≡ Some value
+first_below-later n m given value is within =
+    let more : n + (m - n) ≡ m = omega arith in
+    ap (λ k. first_below k given) (sym more) ∙ first_below-sum n (m - n) given ∙ ap (λ v. or_else v (first_below (m - n) (λ k. given (n + k)))) is
+
+-- without a first value there is none
+first_below-each : {A : Type 0} (n k : ℕ) (given : ℕ → Option A) → first_below n given ≡ None → k < n → given k ≡ None
+unfolding first_below
+first_below-each zero k given none below = absurd (omega arith)
+first_below-each (suc n) k given none below =
+    elim (cases_eq k n) [
+      | inl last ↦ ap given last ∙ or_else-second (first_below n given) (given n) none
+      | inr before ↦ first_below-each n k given (or_else-first (first_below n given) (given n) none) (omega arith)
+    ]
+
+-- ---- where a line stands
+
+-- a line that is among some: the first of them, or one deeper
+depth_after-some : (depth new : ℕ) (opens : Bool) → depth_after depth opens ≡ new → 0 < new
+    → ((depth ≡ 0) × (opens ≡ true) × (new ≡ 1)) ⊎ ((0 < depth) × (depth ≡ 16 → ⊥) × (new ≡ depth + 1))
+depth_after-some depth new opens is some =
+    elim (cases_eq depth 0) [
+      | inl outside ↦
+          let first : cond opens 1 0 ≡ new = rw outside at is in
+          elim (cases_Bool opens) [
+            | inl open_is ↦ inl (outside, open_is, sym (rw open_is at first))
+            | inr closed ↦ absurd (omega (arith, rw closed at first))
+          ]
+      | inr inside ↦ inr (omega arith, λ last. grind (arith, nat_tests), grind (arith, nat_tests))
+    ]
+
+-- a line among the sixteen of a statement, at that depth
+record Under (lines : List (List ℕ)) (k depth : ℕ) : Type 0 where
+  within : depth ≤ k
+  few : depth ≤ 16
+  top : depth_at lines (k - depth) ≡ 0
+  opens : has_rows (statement_in (line_at lines (k - depth))) ≡ true
+
+-- a line at some depth is one
+under : (lines : List (List ℕ)) (k depth : ℕ) → depth_at lines k ≡ depth → 0 < depth → Under lines k depth
+unfolding depth_at
+under lines zero depth is some = absurd (omega arith)
+under lines (suc k) depth is some =
+    elim (depth_after-some (depth_at lines k) depth (has_rows (statement_in (line_at lines k))) is some) [
+      | inl first ↦
+          let back : suc k - depth ≡ k = omega (arith, first.2) in
+          record { within = omega (arith, first.2); few = omega (arith, first.2); top = ap (depth_at lines) back ∙ first.0; opens = ap (λ h. has_rows (statement_in (line_at lines h))) back ∙ first.1 }
+      | inr deeper ↦
+          let above = under lines k (depth_at lines k) refl deeper.0 in
+          let back : suc k - depth ≡ k - depth_at lines k = omega (arith, deeper.2) in
+          record {
+            within = omega (arith, above.within, deeper.2);
+            few = absurd_or_few (depth_at lines k) depth above.few deeper.1 deeper.2;
+            top = ap (depth_at lines) back ∙ above.top;
+            opens = ap (λ h. has_rows (statement_in (line_at lines h))) back ∙ above.opens;
+          }
+    ]
+  where
+    absurd_or_few : (d depth : ℕ) → d ≤ 16 → (d ≡ 16 → ⊥) → depth ≡ d + 1 → depth ≤ 16
+    absurd_or_few d depth few other next = elim (cases_eq d 16) [
+      | inl last ↦ absurd (other last)
+      | inr before ↦ omega arith
+    ]
+
+-- one line deeper
+depth_after-next : (depth : ℕ) (opens : Bool) → 0 < depth → depth < 16 → depth_after depth opens ≡ depth + 1
+depth_after-next depth opens some below = grind (arith, nat_tests)
+
+-- the sixteen lines below a statement
+below : (lines : List (List ℕ)) (h r : ℕ) → depth_at lines h ≡ 0 → has_rows (statement_in (line_at lines h)) ≡ true → r < 16 → depth_at lines (h + suc r) ≡ suc r
+unfolding depth_at
+below lines h zero top opens within =
+    let next : h + 1 ≡ suc h = omega arith in
+    rw next ((λ i. depth_after (top i) (opens i)))
+below lines h (suc r) top opens within =
+    let next : h + suc (suc r) ≡ suc (h + suc r) = omega arith in
+    let before : depth_at lines (h + suc r) ≡ suc r = below lines h r top opens (omega arith) in
+    rw next (ap (λ depth. depth_after depth (has_rows (statement_in (line_at lines (h + suc r))))) before ∙ depth_after-next (suc r) _ (omega arith) within ∙ omega arith)
+
+-- belong to it
+over : (lines : List (List ℕ)) (h r : ℕ) → depth_at lines h ≡ 0 → has_rows (statement_in (line_at lines h)) ≡ true → r < 16 → statement_over lines (h + suc r) ≡ statement_in (line_at lines h)
+unfolding statement_over
+over lines h r top opens within =
+    let back : h + suc r - suc r ≡ h = omega arith in
+    ap (λ depth. statement_in (line_at lines (h + suc r - depth))) (below lines h r top opens within) ∙ ap (λ k. statement_in (line_at lines k)) back
+
+-- a line that is a statement is among none of another
+at_top : (lines : List (List ℕ)) (h : ℕ) (statement : Statement) → statement_at lines h ≡ Some statement → (depth_at lines h ≡ 0) × (statement_in (line_at lines h) ≡ Some statement)
+unfolding statement_at
+at_top lines h statement is =
+    elim (cases_Bool (depth_at lines h == 0)) [
+      | inl top ↦ (eqb-true _ _ top, rw top at is)
+      | inr inside ↦
+          let none : None ≡ Some statement = rw inside at is in
+          absurd cc
+    ]
+
+-- and the other way round
+top_at : (lines : List (List ℕ)) (h : ℕ) → depth_at lines h ≡ 0 → statement_at lines h ≡ statement_in (line_at lines h)
+unfolding statement_at
+top_at lines h top = rw top refl
+
+-- a line at depth 0 belongs to itself
+top_over : (lines : List (List ℕ)) (h : ℕ) → depth_at lines h ≡ 0 → statement_over lines h ≡ statement_in (line_at lines h)
+unfolding statement_over
+top_over lines h top =
+    let back : h - 0 ≡ h = omega arith in
+    ap (λ depth. statement_in (line_at lines (h - depth))) top ∙ ap (λ k. statement_in (line_at lines k)) back
+
+-- ---- statements without a fault
+
+-- no line is faulty, and the text names the device
+record Accepted (lines : List (List ℕ)) (device : DeviceName) : Type 0 where
+  fit : (k : ℕ) → k ≤ length lines → cause_at lines k ≡ None
+  names : device_before lines (length lines) ≡ Some device
+
+-- a statement begins with a dot
+dotted : (line : List ℕ) (statement : Statement) → statement_in line ≡ Some statement → begins_with_dot line ≡ true
+unfolding statement_in
+dotted line statement is =
+    elim (cases_Bool (begins_with_dot line)) [
+      | inl dot ↦ dot
+      | inr other ↦
+          let none : None ≡ Some statement = rw other at is in
+          absurd cc
+    ]
+
+-- nothing is wrong with it
+unfaulty : (lines : List (List ℕ)) (device : DeviceName) (h : ℕ) (statement : Statement) → Accepted lines device → h < length lines → depth_at lines h ≡ 0 → statement_in (line_at lines h) ≡ Some statement
+    → statement_cause lines h (Some statement) ≡ None
+unfolding cause_at
+unfaulty lines device h statement accepted within top said =
+    let none = accepted.fit h (omega arith) in
+    let dot = dotted (line_at lines h) statement said in
+    let inside = lt-leb (length lines) h within in
+    let none' : statement_cause lines h (statement_in (line_at lines h)) ≡ None = rw (top, inside, dot) at none in
+    ap (statement_cause lines h) (sym said) ∙ none'
+
+-- kinds that pass the test are one
+same_kind : (there kind : TileKind) → is_same_kind there kind ≡ true → there ≡ kind
+same_kind Io Io is = refl
+same_kind Logic Logic is = refl
+same_kind RamB RamB is = refl
+same_kind RamT RamT is = refl
+same_kind Io Logic is = absurd cc
+same_kind Io RamB is = absurd cc
+same_kind Io RamT is = absurd cc
+same_kind Logic Io is = absurd cc
+same_kind Logic RamB is = absurd cc
+same_kind Logic RamT is = absurd cc
+same_kind RamB Io is = absurd cc
+same_kind RamB Logic is = absurd cc
+same_kind RamB RamT is = absurd cc
+same_kind RamT Io is = absurd cc
+same_kind RamT Logic is = absurd cc
+same_kind RamT RamB is = absurd cc
+
+-- a test that gives no cause fails
+no_cause : (test : Bool) (cause : AscCause) → cause_if test cause ≡ None → test ≡ false
+no_cause true cause none = absurd cc
+no_cause false cause none = refl
+
+-- the tile that stands there is of the kind
+no_kind_cause : (there : Option TileKind) (kind : TileKind) → kind_cause there kind ≡ None → there ≡ Some kind
+no_kind_cause None kind none = absurd cc
+no_kind_cause (Some there) kind none =
+    let differs : not (is_same_kind there kind) ≡ false = no_cause (not (is_same_kind there kind)) (Kind there) none in
+    elim (cases_Bool (is_same_kind there kind)) [
+      | inl same ↦ ap (λ k. Some k) (same_kind there kind same)
+      | inr other ↦
+          let both : true ≡ false = rw other at differs in
+          absurd cc
+    ]
+
+-- a device that is known before a line is the text's
+one_device : (lines : List (List ℕ)) (device found : DeviceName) (h : ℕ) → Accepted lines device → h < length lines → device_before lines h ≡ Some found → found ≡ device
+unfolding device_before
+one_device lines device found h accepted within is =
+    let later : first_below (length lines) (λ k. device_in (statement_at lines k)) ≡ Some found = first_below-later h (length lines) (λ k. device_in (statement_at lines k)) found is (omega arith) in
+    let both : Some found ≡ Some device = sym later ∙ accepted.names in
+    cc
+
+-- what a tile's statement needs
+tile_needs : (device : Option DeviceName) (repeated : Bool) (kind : TileKind) (x y : ℕ) (rest : Option AscCause)
+    → or_else (missing_device device (Tile kind x y)) (or_else (unknown_device (Tile kind x y)) (or_else (tile_cause device (Tile kind x y)) (or_else (cause_if repeated Repeated) rest))) ≡ None
+    → (found : DeviceName) × (device ≡ Some found) × (kind_of found x y ≡ Some kind) × (repeated ≡ false)
+tile_needs None repeated kind x y rest none = absurd cc
+tile_needs (Some device) repeated kind x y rest none = (
+  device,
+  refl,
+  no_kind_cause (kind_of device x y) kind (or_else-first (kind_cause (kind_of device x y) kind) _ none),
+  no_cause repeated Repeated (or_else-first (cause_if repeated Repeated) rest (or_else-second (kind_cause (kind_of device x y) kind) (or_else (cause_if repeated Repeated) rest) none)),
+)
+
+-- and one of a RAM's contents
+ram_needs : (device : Option DeviceName) (repeated : Bool) (x y : ℕ) (rest : Option AscCause)
+    → or_else (missing_device device (RamData x y)) (or_else (unknown_device (RamData x y)) (or_else (tile_cause device (RamData x y)) (or_else (cause_if repeated Repeated) rest))) ≡ None
+    → (found : DeviceName) × (device ≡ Some found) × (kind_of found x y ≡ Some RamB) × (repeated ≡ false)
+ram_needs None repeated x y rest none = absurd cc
+ram_needs (Some device) repeated x y rest none = (
+  device,
+  refl,
+  no_kind_cause (kind_of device x y) RamB (or_else-first (kind_cause (kind_of device x y) RamB) _ none),
+  no_cause repeated Repeated (or_else-first (cause_if repeated Repeated) rest (or_else-second (kind_cause (kind_of device x y) RamB) (or_else (cause_if repeated Repeated) rest) none)),
+)
+
+-- and one of an extra bit
+extra_needs : (device : Option DeviceName) (bank x y : ℕ)
+    → or_else (missing_device device (ExtraBit bank x y)) (or_else (unknown_device (ExtraBit bank x y)) (or_else (tile_cause device (ExtraBit bank x y)) (or_else (cause_if false Repeated)
+    (or_else (extra_cause device (ExtraBit bank x y)) (setting_cause (ExtraBit bank x y)))))) ≡ None
+    → (found : DeviceName) × (device ≡ Some found) × (is_extra found (record { bank = bank; px = x; py = y }) ≡ true)
+extra_needs None bank x y none = absurd cc
+extra_needs (Some device) bank x y none =
+    let extra = is_extra device (record { bank = bank; px = x; py = y }) in
+    let differs : not extra ≡ false = no_cause (not extra) ExtraPlace (or_else-first (cause_if (not extra) ExtraPlace) None none) in (
+      device,
+      refl,
+      elim (cases_Bool extra) [
+        | inl is ↦ is
+        | inr other ↦
+            let both : true ≡ false = rw other at differs in
+            absurd cc
+      ],
+    )
+
+-- a tile's statement stands first, and names a tile of its kind
+tile_head : (lines : List (List ℕ)) (device : DeviceName) (h : ℕ) (kind : TileKind) (x y : ℕ) → Accepted lines device → h < length lines → depth_at lines h ≡ 0 → statement_in (line_at lines h) ≡ Some (Tile kind x y)
+    → (kind_of device x y ≡ Some kind) × (tile_statement lines x y ≡ Some h)
+unfolding tile_statement
+tile_head lines device h kind x y accepted within top said =
+    let test : ℕ → Bool = λ k. names_tile x y (statement_at lines k) in
+    let needs = tile_needs (device_before lines h) (stands_before lines h (names_tile x y)) kind x y _ (unfaulty lines device h (Tile kind x y) accepted within top said) in
+    let same : needs.0 ≡ device = one_device lines device needs.0 h accepted within needs.1 in
+    let here : test h ≡ true = ap (names_tile x y) (top_at lines h top ∙ said) ∙ grind (arith, nat_tests) in
+    (ap (λ d. kind_of d x y) (sym same) ∙ needs.2, least_below-first (length lines) h test within (λ j before. none_below h j test needs.3 before) here)
+
+-- and so does one of a RAM's contents
+ram_head : (lines : List (List ℕ)) (device : DeviceName) (h x y : ℕ) → Accepted lines device → h < length lines → depth_at lines h ≡ 0 → statement_in (line_at lines h) ≡ Some (RamData x y)
+    → (kind_of device x y ≡ Some RamB) × (ram_statement lines x y ≡ Some h)
+unfolding ram_statement
+ram_head lines device h x y accepted within top said =
+    let test : ℕ → Bool = λ k. names_ram x y (statement_at lines k) in
+    let needs = ram_needs (device_before lines h) (stands_before lines h (names_ram x y)) x y _ (unfaulty lines device h (RamData x y) accepted within top said) in
+    let same : needs.0 ≡ device = one_device lines device needs.0 h accepted within needs.1 in
+    let here : test h ≡ true = ap (names_ram x y) (top_at lines h top ∙ said) ∙ grind (arith, nat_tests) in
+    (ap (λ d. kind_of d x y) (sym same) ∙ needs.2, least_below-first (length lines) h test within (λ j before. none_below h j test needs.3 before) here)
+
+-- an extra bit is no tile's
+extra_head : (lines : List (List ℕ)) (device : DeviceName) (h bank x y : ℕ) → Accepted lines device → h < length lines → depth_at lines h ≡ 0 → statement_in (line_at lines h) ≡ Some (ExtraBit bank x y)
+    → is_owned device (record { bank = bank; px = x; py = y }) ≡ false
+extra_head lines device h bank x y accepted within top said =
+    let at : Place = record { bank = bank; px = x; py = y } in
+    let needs = extra_needs (device_before lines h) bank x y (unfaulty lines device h (ExtraBit bank x y) accepted within top said) in
+    let same : needs.0 ≡ device = one_device lines device needs.0 h accepted within needs.1 in
+    let extra : is_extra device at ≡ true = ap (λ d. is_extra d at) (sym same) ∙ needs.2 in
+    not-true (is_owned device at) (and_parts (nat_lt at.bank 4 && nat_lt at.px (cram_width device) && nat_lt at.py (cram_height device)) (not (is_owned device at)) extra).1
+
+-- a statement to which no lines belong is at depth 0
+alone_top : (lines : List (List ℕ)) (k : ℕ) (statement : Option Statement) → statement_over lines k ≡ statement → has_rows statement ≡ false → depth_at lines k ≡ 0
+unfolding statement_over
+alone_top lines k statement is alone =
+    elim (cases_eq (depth_at lines k) 0) [
+      | inl top ↦ top
+      | inr inside ↦
+          let above = under lines k (depth_at lines k) refl (omega arith) in
+          absurd (both_ways (has_rows statement) alone (ap has_rows (sym is) ∙ above.opens))
+    ]
+
+-- ---- bits of tiles
+
+-- the line of a row below a statement belongs to it
+row_index : (k depth : ℕ) → 0 < depth → depth ≤ k → k - depth + 1 + (depth - 1) ≡ k
+row_index k depth some within = omega arith
+
+-- a line of a tile that sets a place, by the bit that it sets there
+record SetsTile (lines : List (List ℕ)) (device : DeviceName) (at : Place) : Type 0 where
+  bit : TileBit
+  is : IsTileBit device bit
+  here : place_of device bit ≡ at
+  reads : character_of lines bit ≡ true
+
+tile_sets : (lines : List (List ℕ)) (device : DeviceName) (k : ℕ) (kind : TileKind) (x y : ℕ) (at : Place) → Accepted lines device → k < length lines → statement_over lines k ≡ Some (Tile kind x y)
+    → sets_place device (Some (Tile kind x y)) (depth_at lines k) (trimmed (line_at lines k)) at ≡ true → SetsTile lines device at
+unfolding statement_over
+tile_sets lines device k kind x y at accepted within is sets =
+    let depth = depth_at lines k in
+    let line = trimmed (line_at lines k) in
+    let test : ℕ → Bool = λ col. row_bit line col && is_same_place (tile_place device x y (depth - 1) col) at in
+    let parts = and_parts (nat_lt 0 depth) (any_below (columns_of kind) test) sets in
+    let some : 0 < depth = ltb-true 0 depth parts.0 in
+    let found = any_below-place (columns_of kind) test parts.1 in
+    let col : ℕ = found.0 in
+    let passes = and_parts (row_bit line col) (is_same_place (tile_place device x y (depth - 1) col) at) found.2 in
+    let above = under lines k depth refl some in
+    let head = tile_head lines device (k - depth) kind x y accepted (omega arith) above.top is in
+    let index : k - depth + 1 + (depth - 1) ≡ k = row_index k depth some above.within in
+    record {
+      bit = record { x = x; y = y; row = depth - 1; col = col };
+      is = record { row_in = omega (arith, above.few, some); col_in = omega (arith, found.1, ap columns_in head.0) };
+      here = is_same_place-same (tile_place device x y (depth - 1) col) at passes.1;
+      reads = ap (λ place. character_below lines place (depth - 1) col) head.1 ∙ ap (λ n. row_bit (trimmed (line_at lines n)) col) index ∙ passes.0;
+    }
+
+-- a line that sets the place of a tile's bit has the bit's character
+set_character : (lines : List (List ℕ)) (device : DeviceName) (bit : TileBit) (k : ℕ) (statement : Option Statement) → Accepted lines device → IsTileBit device bit → k < length lines → statement_over lines k ≡ statement
+    → sets_place device statement (depth_at lines k) (trimmed (line_at lines k)) (place_of device bit) ≡ true → character_of lines bit ≡ true
+set_character lines device bit k (Some (Tile kind x y)) accepted is_bit within is sets =
+    let found = tile_sets lines device k kind x y (place_of device bit) accepted within is sets in
+    let same : found.bit ≡ bit = place_is_only device bit found.bit is_bit found.is found.here in
+    ap (character_of lines) (sym same) ∙ found.reads
+set_character lines device bit k (Some (ExtraBit bank x y)) accepted is_bit within is sets =
+    let top : depth_at lines k ≡ 0 = alone_top lines k (Some (ExtraBit bank x y)) is refl in
+    let at : Place = record { bank = bank; px = x; py = y } in
+    let free = extra_head lines device k bank x y accepted within top (sym (top_over lines k top) ∙ is) in
+    let same : at ≡ place_of device bit = is_same_place-same at (place_of device bit) sets in
+    absurd (both_ways (is_owned device at) free (ap (is_owned device) same ∙ is_owned-bit device bit is_bit))
+set_character lines device bit k statement accepted is_bit within is sets = absurd cc
+
+-- a statement that names a tile is one of a kind
+named_tile : (x y : ℕ) (statement : Option Statement) → names_tile x y statement ≡ true → (kind : TileKind) × (statement ≡ Some (Tile kind x y))
+named_tile x y (Some (Tile kind other_x other_y)) is =
+    let parts = and_parts (other_x == x) (other_y == y) is in
+    let same_x : other_x ≡ x = eqb-true _ _ parts.0 in
+    let same_y : other_y ≡ y = eqb-true _ _ parts.1 in
+    (kind, λ i. Some (Tile kind (same_x i) (same_y i)))
+named_tile x y statement is = absurd cc
+
+-- a line past the last has no character
+no_character : (lines : List (List ℕ)) (k col : ℕ) → length lines ≤ k → row_bit (trimmed (line_at lines k)) col ≡ true → ⊥
+unfolding trimmed
+no_character lines k col past is =
+    let none : line_at lines k ≡ [] = get_or_past lines k [] past in
+    let zero_is : row_bit (trimmed []) col ≡ true = ap (λ line. row_bit (trimmed line) col) (sym none) ∙ is in
+    both_ways (row_bit [] col) (no_bit col) zero_is
+  where
+    no_bit : (col : ℕ) → row_bit [] col ≡ false
+    no_bit zero = refl
+    no_bit (suc col) = refl
+
+-- a character 1 sets its bit's place
+character_sets : (lines : List (List ℕ)) (device : DeviceName) (bit : TileBit) (found : Option ℕ) → Accepted lines device → IsTileBit device bit → tile_statement lines bit.x bit.y ≡ found
+    → character_below lines found bit.row bit.col ≡ true → is_set_before device lines (length lines) (place_of device bit) ≡ true
+unfolding tile_statement is_set_before
+character_sets lines device bit None accepted is_bit is reads = absurd cc
+character_sets lines device bit (Some h) accepted is_bit is reads =
+    let n = length lines in
+    let at = place_of device bit in
+    let facts = least_below-place n h (λ k. names_tile bit.x bit.y (statement_at lines k)) is in
+    let named = named_tile bit.x bit.y (statement_at lines h) facts.1 in
+    let kind : TileKind = named.0 in
+    let top = at_top lines h (Tile kind bit.x bit.y) named.1 in
+    let head = tile_head lines device h kind bit.x bit.y accepted facts.0 top.0 top.1 in
+    let opens : has_rows (statement_in (line_at lines h)) ≡ true = ap has_rows top.1 in
+    let k : ℕ = h + suc bit.row in
+    let index : h + 1 + bit.row ≡ k = omega arith in
+    let here : row_bit (trimmed (line_at lines k)) bit.col ≡ true = ap (λ p. row_bit (trimmed (line_at lines p)) bit.col) (sym index) ∙ reads in
+    let deep : depth_at lines k ≡ suc bit.row = below lines h bit.row top.0 opens is_bit.row_in in
+    let said : statement_over lines k ≡ Some (Tile kind bit.x bit.y) = over lines h bit.row top.0 opens is_bit.row_in ∙ top.1 in
+    let line = trimmed (line_at lines k) in
+    let back : suc bit.row - 1 ≡ bit.row = omega arith in
+    let test : ℕ → Bool = λ col. row_bit line col && is_same_place (tile_place device bit.x bit.y (suc bit.row - 1) col) at in
+    let place : is_same_place (tile_place device bit.x bit.y (suc bit.row - 1) bit.col) at ≡ true = ap (λ row. is_same_place (tile_place device bit.x bit.y row bit.col) at) back ∙ is_same_place-self at in
+    let column : bit.col < columns_of kind = omega (arith, is_bit.col_in, ap columns_in head.0) in
+    let sets : sets_place device (Some (Tile kind bit.x bit.y)) (suc bit.row) line at ≡ true =
+    and_from (nat_lt 0 (suc bit.row)) (any_below (columns_of kind) test) (lt-ltb 0 (suc bit.row) (omega arith))
+    (any_below-at (columns_of kind) bit.col test column (and_from (row_bit line bit.col) _ here place))
+    in
+    elim (cases_lt k n) [
+      | inl within ↦ any_below-at n k (λ k. sets_place device (statement_over lines k) (depth_at lines k) (trimmed (line_at lines k)) at) within ((λ i. sets_place device (said i) (deep i) line at) ∙ sets)
+      | inr past ↦ absurd (no_character lines k bit.col past here)
+    ]
+
+-- a bit of a tile is set exactly where its character is 1
+tile_bits : (lines : List (List ℕ)) (device : DeviceName) (bit : TileBit) → Accepted lines device → IsTileBit device bit → is_set_before device lines (length lines) (place_of device bit) ≡ character_of lines bit
+unfolding is_set_before
+tile_bits lines device bit accepted is_bit =
+    same_test (is_set_before device lines (length lines) (place_of device bit)) (character_of lines bit)
+    (λ set.
+    let found = any_below-place (length lines) (λ k. sets_place device (statement_over lines k) (depth_at lines k) (trimmed (line_at lines k)) (place_of device bit)) set in
+    set_character lines device bit found.0 (statement_over lines found.0) accepted is_bit found.1 refl found.2)
+    (λ reads. character_sets lines device bit (tile_statement lines bit.x bit.y) accepted is_bit refl reads)
+
+-- ---- extra bits
+
+-- a line that sets the place of an extra bit is its statement
+set_extra : (lines : List (List ℕ)) (device : DeviceName) (at : Place) (k : ℕ) (statement : Option Statement) → Accepted lines device → IsExtraBit device at → k < length lines → statement_over lines k ≡ statement
+    → sets_place device statement (depth_at lines k) (trimmed (line_at lines k)) at ≡ true → names_extra at (statement_at lines k) ≡ true
+set_extra lines device at k (Some (Tile kind x y)) accepted extra within is sets =
+    let found = tile_sets lines device k kind x y at accepted within is sets in
+    absurd (extra found.bit found.is found.here)
+set_extra lines device at k (Some (ExtraBit bank x y)) accepted extra within is sets =
+    let top : depth_at lines k ≡ 0 = alone_top lines k (Some (ExtraBit bank x y)) is refl in
+    ap (names_extra at) (top_at lines k top ∙ sym (top_over lines k top) ∙ is) ∙ sets
+set_extra lines device at k statement accepted extra within is sets = absurd cc
+
+-- a statement of an extra bit sets its place
+extra_sets : (lines : List (List ℕ)) (device : DeviceName) (at : Place) (k : ℕ) (statement : Option Statement) → statement_at lines k ≡ statement → names_extra at statement ≡ true
+    → sets_place device (statement_over lines k) (depth_at lines k) (trimmed (line_at lines k)) at ≡ true
+extra_sets lines device at k (Some (ExtraBit bank x y)) is names =
+    let top = at_top lines k (ExtraBit bank x y) is in
+    ap (λ statement. sets_place device statement (depth_at lines k) (trimmed (line_at lines k)) at) (top_over lines k top.0 ∙ top.1) ∙ names
+extra_sets lines device at k statement is names = absurd cc
+
+-- an extra bit is set exactly where a statement names it
+extra_bits : (lines : List (List ℕ)) (device : DeviceName) (at : Place) → Accepted lines device → IsExtraBit device at → is_set_before device lines (length lines) at ≡ is_named_extra lines at
+unfolding is_set_before is_named_extra
+extra_bits lines device at accepted extra =
+    let n = length lines in
+    let sets : ℕ → Bool = λ k. sets_place device (statement_over lines k) (depth_at lines k) (trimmed (line_at lines k)) at in
+    let names : ℕ → Bool = λ k. names_extra at (statement_at lines k) in
+    same_test (any_below n sets) (any_below n names)
+    (λ set.
+    let found = any_below-place n sets set in
+    any_below-at n found.0 names found.1 (set_extra lines device at found.0 (statement_over lines found.0) accepted extra found.1 refl found.2))
+    (λ named.
+    let found = any_below-place n names named in
+    any_below-at n found.0 sets found.1 (extra_sets lines device at found.0 (statement_at lines found.0) refl found.2))
+
+-- ---- bits of words
+
+-- a line that sets the place of a word's bit has the bit among its digits
+set_digit : (lines : List (List ℕ)) (device : DeviceName) (at : WordBit) (k : ℕ) (statement : Option Statement) → Accepted lines device → IsWordBit device at → k < length lines → statement_over lines k ≡ statement
+    → sets_word_place device statement (depth_at lines k) (trimmed (line_at lines k)) (word_place_of device at) ≡ true → digit_bit_of lines at ≡ true
+unfolding statement_over
+set_digit lines device at k (Some (RamData x y)) accepted is_bit within is sets =
+    let depth = depth_at lines k in
+    let line = trimmed (line_at lines k) in
+    let place = word_place_of device at in
+    let inner : ℕ → ℕ → Bool = λ index bit. memory_bit line index bit && is_same_place (word_bit_place device x y (16 * (depth - 1) + index) bit) place in
+    let parts = and_parts (nat_lt 0 depth) (any_below 16 (λ index. any_below 16 (inner index))) sets in
+    let some : 0 < depth = ltb-true 0 depth parts.0 in
+    let outer = any_below-place 16 (λ index. any_below 16 (inner index)) parts.1 in
+    let index : ℕ = outer.0 in
+    let found = any_below-place 16 (inner index) outer.2 in
+    let bit : ℕ = found.0 in
+    let passes = and_parts (memory_bit line index bit) (is_same_place (word_bit_place device x y (16 * (depth - 1) + index) bit) place) found.2 in
+    let above = under lines k depth refl some in
+    let head = ram_head lines device (k - depth) x y accepted (omega arith) above.top is in
+    let word : ℕ = 16 * (depth - 1) + index in
+    let row : word / 16 ≡ depth - 1 = omega (arith, outer.1) in
+    let column : word % 16 ≡ index = omega (arith, outer.1) in
+    let line_is : k - depth + 1 + word / 16 ≡ k = omega (arith, row, some, above.within) in
+    let other : WordBit = record { x = x; y = y; word = word; bit = bit } in
+    let is_other : IsWordBit device other = record { lower = head.0; word_in = omega (arith, outer.1, above.few, some); bit_in = found.1 } in
+    let same : other ≡ at = word_place_is_only device at other is_bit is_other (is_same_place-same (word_place_of device other) place passes.1) in
+    ap (digit_bit_of lines) (sym same)
+    ∙ ap (λ p. digit_bit_below lines p word bit) head.1
+    ∙ (λ i. memory_bit (trimmed (line_at lines (line_is i))) (column i) bit)
+    ∙ passes.0
+set_digit lines device at k statement accepted is_bit within is sets = absurd cc
+
+-- a statement that names a RAM
+named_ram : (x y : ℕ) (statement : Option Statement) → names_ram x y statement ≡ true → statement ≡ Some (RamData x y)
+named_ram x y (Some (RamData other_x other_y)) is =
+    let parts = and_parts (other_x == x) (other_y == y) is in
+    let same_x : other_x ≡ x = eqb-true _ _ parts.0 in
+    let same_y : other_y ≡ y = eqb-true _ _ parts.1 in
+    λ i. Some (RamData (same_x i) (same_y i))
+named_ram x y statement is = absurd cc
+
+-- a missing line has no digits
+short_memory : is_memory_line (trimmed []) ≡ false
+unfolding is_memory_line trimmed
+short_memory = refl
+
+-- the lines of the contents of a RAM are there
+ram_within : (lines : List (List ℕ)) (device : DeviceName) (h x y row : ℕ) → Accepted lines device → h < length lines → depth_at lines h ≡ 0 → statement_in (line_at lines h) ≡ Some (RamData x y) → row < 16
+    → h + suc row < length lines
+unfolding cause_at
+ram_within lines device h x y row accepted here top said row_in =
+    elim (cases_lt (h + suc row) (length lines)) [
+      | inl within ↦ within
+      | inr past ↦
+          let n = length lines in
+          let r : ℕ = n - suc h in
+          let last : h + suc r ≡ n = omega arith in
+          let r_in : r < 16 = omega arith in
+          let opens : has_rows (statement_in (line_at lines h)) ≡ true = ap has_rows said in
+          let deep : depth_at lines n ≡ suc r = ap (depth_at lines) (sym last) ∙ below lines h r top opens r_in in
+          let says : statement_over lines n ≡ Some (RamData x y) = ap (statement_over lines) (sym last) ∙ over lines h r top opens r_in ∙ said in
+          let empty : line_at lines n ≡ [] = get_or_past lines n [] (omega arith) in
+          let some : nat_lt 0 (suc r) ≡ true = lt-ltb 0 (suc r) (omega arith) in
+          let none : Some Hex ≡ None = rw (deep, some, says, empty, short_memory) at (accepted.fit n (omega arith)) in
+          absurd cc
+    ]
+
+-- a bit among the digits of a word sets its place
+digit_sets : (lines : List (List ℕ)) (device : DeviceName) (at : WordBit) (found : Option ℕ) → Accepted lines device → IsWordBit device at → ram_statement lines at.x at.y ≡ found
+    → digit_bit_below lines found at.word at.bit ≡ true → is_word_set_before device lines (length lines) (word_place_of device at) ≡ true
+unfolding ram_statement is_word_set_before
+digit_sets lines device at None accepted is_bit is reads = absurd cc
+digit_sets lines device at (Some h) accepted is_bit is reads =
+    let n = length lines in
+    let place = word_place_of device at in
+    let facts = least_below-place n h (λ k. names_ram at.x at.y (statement_at lines k)) is in
+    let named = named_ram at.x at.y (statement_at lines h) facts.1 in
+    let top = at_top lines h (RamData at.x at.y) named in
+    let opens : has_rows (statement_in (line_at lines h)) ≡ true = ap has_rows top.1 in
+    let row : ℕ = at.word / 16 in
+    let index : ℕ = at.word % 16 in
+    let row_in : row < 16 = omega (arith, is_bit.word_in) in
+    let index_in : index < 16 = omega arith in
+    let k : ℕ = h + suc row in
+    let line_is : h + 1 + row ≡ k = omega arith in
+    let line = trimmed (line_at lines k) in
+    let here : memory_bit line index at.bit ≡ true = ap (λ p. memory_bit (trimmed (line_at lines p)) index at.bit) (sym line_is) ∙ reads in
+    let deep : depth_at lines k ≡ suc row = below lines h row top.0 opens row_in in
+    let said : statement_over lines k ≡ Some (RamData at.x at.y) = over lines h row top.0 opens row_in ∙ top.1 in
+    let whole : 16 * (suc row - 1) + index ≡ at.word = omega arith in
+    let inner : ℕ → ℕ → Bool = λ index bit. memory_bit line index bit && is_same_place (word_bit_place device at.x at.y (16 * (suc row - 1) + index) bit) place in
+    let same : is_same_place (word_bit_place device at.x at.y (16 * (suc row - 1) + index) at.bit) place ≡ true =
+    ap (λ word. is_same_place (word_bit_place device at.x at.y word at.bit) place) whole ∙ is_same_place-self place
+    in
+    let sets : sets_word_place device (Some (RamData at.x at.y)) (suc row) line place ≡ true =
+    and_from (nat_lt 0 (suc row)) (any_below 16 (λ index. any_below 16 (inner index))) (lt-ltb 0 (suc row) (omega arith))
+    (any_below-at 16 index (λ index. any_below 16 (inner index)) index_in
+    (any_below-at 16 at.bit (inner index) is_bit.bit_in (and_from (memory_bit line index at.bit) _ here same)))
+    in
+    any_below-at n k (λ k. sets_word_place device (statement_over lines k) (depth_at lines k) (trimmed (line_at lines k)) place) (ram_within lines device h at.x at.y row accepted facts.0 top.0 top.1 row_in)
+    ((λ i. sets_word_place device (said i) (deep i) line place) ∙ sets)
+
+-- a bit of a word is set exactly where it is among the word's digits
+word_bits : (lines : List (List ℕ)) (device : DeviceName) (at : WordBit) → Accepted lines device → IsWordBit device at → is_word_set_before device lines (length lines) (word_place_of device at) ≡ digit_bit_of lines at
+unfolding is_word_set_before
+word_bits lines device at accepted is_bit =
+    same_test (is_word_set_before device lines (length lines) (word_place_of device at)) (digit_bit_of lines at)
+    (λ set.
+    let found = any_below-place (length lines) (λ k. sets_word_place device (statement_over lines k) (depth_at lines k) (trimmed (line_at lines k)) (word_place_of device at)) set in
+    set_digit lines device at found.0 (statement_over lines found.0) accepted is_bit found.1 refl found.2)
+    (λ reads. digit_sets lines device at (ram_statement lines at.x at.y) accepted is_bit refl reads)
+
+-- ---- places
+
+-- there are four banks
+bank_below : (device : DeviceName) (x y : ℕ) → bank_of device x y < 4
+bank_below device x y = grind (arith, nat_tests)
+
+-- a row of tiles lies in the planes
+row_below : (device : DeviceName) (y height : ℕ) → y < grid_height device → height < 16 → 16 * from_end device y + height < cram_height device
+row_below K1 y height inside within = grind (arith, nat_tests)
+row_below K8 y height inside within = grind (arith, nat_tests)
+
+-- a bit of a tile lies in the planes
+tile_in : (device : DeviceName) (bit : TileBit) → IsTileBit device bit → IsInCram device (place_of device bit)
+unfolding place_of
+tile_in device bit is =
+    let placed = tile_bit_is_placed device bit is in
+    record {
+      bank_in = bank_below device bit.x bit.y;
+      px_in = px_of-in device bit is (px_of device bit) refl;
+      py_in = omega (arith, py_of-is device bit placed, row_below device bit.y (height_of device bit) (tile_bit_y_in device bit is) (height_of-below device bit placed));
+    }
+
+-- so does a RAM
+ram_below : (device : DeviceName) (y bit : ℕ) → y + 3 ≤ grid_height device → 16 * ram_of device y + 15 - bit < bram_width device
+ram_below K1 y bit inside = grind (arith, nat_tests)
+ram_below K8 y bit inside = grind (arith, nat_tests)
+
+-- and a bit of a word
+word_in : (device : DeviceName) (at : WordBit) → IsWordBit device at → IsInBram device (word_place_of device at)
+unfolding word_place_of
+word_in device at is = record {
+  bank_in = bank_below device at.x at.y;
+  px_in = ram_below device at.y at.bit (lower-third device at.x at.y is.lower);
+  py_in = omega (arith, is.word_in);
+}
+
+-- ---- the whole
+
+-- what the lines of an accepted text configure has their bits
+accepted_bits : (text : List ℕ) (device : DeviceName) → Accepted (lines_of text) device → HasBits text (image_before device (lines_of text) (length (lines_of text)))
+accepted_bits text device accepted =
+    let lines = lines_of text in
+    let cram = is_set_before device lines (length lines) in
+    let bram = is_word_set_before device lines (length lines) in
+    record {
+      tiles = λ bit is.
+          let at = place_of device bit in
+          let inside = tile_in device bit is in
+          place_bit-from (cram_width device) (cram_height device) cram at.bank at.px at.py inside.bank_in inside.px_in inside.py_in ∙ tile_bits lines device bit accepted is;
+      extras = λ at inside extra.
+          place_bit-from (cram_width device) (cram_height device) cram at.bank at.px at.py inside.bank_in inside.px_in inside.py_in ∙ extra_bits lines device at accepted extra;
+      words = λ bit is.
+          let at = word_place_of device bit in
+          let inside = word_in device bit is in
+          place_bit-from (bram_width device) (bram_height device) bram at.bank at.px at.py inside.bank_in inside.px_in inside.py_in ∙ word_bits lines device bit accepted is;
+    }
+
+-- a line that has no fault has no cause
+no_fault : (cause : Option AscCause) (line : ℕ) (tile : Option TileXy) → fault_with cause line tile ≡ None → cause ≡ None
+no_fault None line tile none = refl
+no_fault (Some cause) line tile none = absurd cc
+
+-- the same for the device that the lines name
+configured_bits : (text : List ℕ) (image : Configuration) (found : Option DeviceName) → device_before (lines_of text) (length (lines_of text)) ≡ found
+    → ((k : ℕ) → k ≤ length (lines_of text) → cause_at (lines_of text) k ≡ None) → image_for found (lines_of text) ≡ Some image → HasBits text image
+configured_bits text image None names fit is = absurd cc
+configured_bits text image (Some device) names fit is =
+    let same : image_before device (lines_of text) (length (lines_of text)) ≡ image = cc in
+    subst (HasBits text) same (accepted_bits text device (record { fit = fit; names = names }))
+
+-- What a text means has each bit that the text says.
+pub bits_of_text : (text : List ℕ) (image : Configuration) (symbols : List NetName) → AscMeans text image symbols → HasBits text image
+unfolding asc_fault_of asc_image_of
+bits_of_text text image symbols means =
+    let lines = lines_of text in
+    configured_bits text image (device_before lines (length lines)) refl
+    (λ k within. no_fault (cause_at lines k) (k + 1) _ (first_below-each (length lines + 1) k (fault_at lines) means.accepted (omega arith)))
+    means.configures
+
+-- the same of what is answered
+pub answered_bits : (text : List ℕ) (r : Result AscFile AscFault) → IfOk r (λ file. AscMeans text (configuration_of file.image) file.symbols.items) → IfOk r (λ file. HasBits text (configuration_of file.image))
+answered_bits text (Ok file) means = bits_of_text text (configuration_of file.image) file.symbols.items means
+answered_bits text (Err fault) means = tt

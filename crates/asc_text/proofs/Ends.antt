@@ -1,0 +1,238 @@
+-- From what is kept to what a text means, and to its first faulty line.
+use Rattle.std.proofs.Common.{drop, ◌≡◌, ℕ, zero, suc, ◌+◌, ◌<◌, ◌≤◌, Bool, true, false, List, [], ◌∷◌, length, refl, sym, ap, subst, ◌∙◌, inl, inr, arith}
+use Rattle.std.specs.Prelude.{Option, Some, None, unwrap_or, Result, Ok, Err, IfOk, IfErr, OnOk}
+use Rattle.std.proofs.lemmas.Bool.{cases_eq, cases_Bool}
+use Rattle.std.proofs.lemmas.List.{length-drop}
+use Rattle.bit_plane.specs.Rows.{Rows, IsGrid}
+use Rattle.bit_plane.proofs.Made.{IsGrid-rows_from, bit_at-rows_from}
+use Rattle.text_lines.specs.Lines.{lines_of, line_at}
+use Rattle.text_lines.proofs.Places.{first_below-none, first_below-first}
+use Rattle.plane_map.specs.Layout.{cram_width, cram_height, bram_width, bram_height}
+use Rattle.plane_map.specs.declared.device.DeviceName.{DeviceName}
+use Rattle.plane_map.specs.declared.tile.Place.{Place}
+use Rattle.ice_image.specs.Configuration.{Configuration, AreBanks, bank_rows, place_bit}
+use Rattle.ice_image.specs.Either.{configuration_of, device_of}
+use Rattle.ice_image.specs.declared.any.AnyImage.{AnyImage}
+use Rattle.ice_image.specs.declared.settings.Settings.{Settings}
+use Rattle.ice_image.specs.declared.settings.Range.{Range}
+use Rattle.ice_image.specs.declared.settings.Range.TheVariants.{Low}
+use Rattle.ice_image.proofs.BankBits.{same_banks}
+use Rattle.asc_text.specs.declared.statement.Statement.{Statement}
+use Rattle.asc_text.specs.declared.fault.AscFault.{AscFault}
+use Rattle.asc_text.specs.declared.fault.AscFault.TheVariants.{At, Memory as OutOfMemory}
+use Rattle.asc_text.specs.declared.file.Symbol.{Symbol as NetName}
+use Rattle.asc_text.specs.declared.file.AscFile.{AscFile}
+use Rattle.asc_text.specs.declared.reading.Expected.{Expected}
+use Rattle.asc_text.specs.declared.reading.Expected.TheVariants.{Statement as AnyStatement, Row, Memory}
+use Rattle.asc_text.specs.Statements.{statement_in, begins_with_dot}
+use Rattle.asc_text.specs.Blocks.{depth_at}
+use Rattle.asc_text.specs.Faults.{cause_at, fault_at, fault_with, tile_named, asc_fault_of, Fault, Tells}
+use Rattle.asc_text.specs.Meaning.{AscMeans, asc_image_of, asc_symbols_of, image_for, image_before, settings_before, set_before, planes_from, is_set_before, is_word_set_before, comment_before, warm_boot_in, range_in}
+use Rattle.asc_text.specs.Reading.{ReaderState, begun, Finishes, Takes, TakesDotted, dotted_refusal, line_refusal, end_refusal, statement_of, settings_in}
+use Rattle.asc_text.proofs.HasRead.{HasRead, HasGiven, HasBits, HasImage, IsAt, device_known}
+use Rattle.asc_text.proofs.Given.{HasGiven-none}
+use Rattle.asc_text.proofs.CommentSteps.{HasComment-none}
+use Rattle.asc_text.proofs.ImageSteps.{SetsNone-none}
+use Rattle.asc_text.proofs.LineSteps.{took-row, took-memory, took-text}
+use Rattle.asc_text.proofs.StatementSteps.{took-statement}
+use Rattle.asc_text.proofs.Refusals.{line_refused, line_fault, end_refused, end_fault, device_is}
+
+-- ---- the beginning
+
+pub HasRead-none : (lines : List (List ℕ)) (s : ReaderState) → s ≡ begun → HasRead lines 0 s
+unfolding depth_at
+HasRead-none lines s is =
+    let P : ReaderState → Type 0 = λ t. HasRead lines 0 t in
+    subst P (sym is) (record {
+      fit = λ k lt. absurd (omega arith);
+      stands = refl;
+      given = HasGiven-none lines;
+      image = SetsNone-none lines;
+      comment = HasComment-none lines;
+    })
+
+-- ---- a line
+
+-- a statement, or a line that is none
+took-dotted : (lines : List (List ℕ)) (n : ℕ) (s new : ReaderState) (given : Option Statement) → HasRead lines n s → s.expected ≡ AnyStatement → depth_at lines n ≡ 0 → cause_at lines n ≡ None
+    → begins_with_dot (line_at lines n) ≡ true → statement_in (line_at lines n) ≡ given → dotted_refusal s given ≡ None → TakesDotted s given (line_at lines n) new → HasRead lines (n + 1) new
+took-dotted lines n s new None read expected depth fits dot said none takes = absurd takes
+took-dotted lines n s new (Some statement) read expected depth fits dot said none takes = took-statement lines n s new statement read expected depth fits dot said none takes
+
+took-any : (lines : List (List ℕ)) (n : ℕ) (s new : ReaderState) → HasRead lines n s → s.expected ≡ AnyStatement → depth_at lines n ≡ 0 → cause_at lines n ≡ None
+    → line_refusal s AnyStatement (line_at lines n) ≡ None → Takes s AnyStatement (line_at lines n) new → HasRead lines (n + 1) new
+took-any lines n s new read expected depth fits none takes =
+    let line = line_at lines n in
+    elim (cases_Bool (begins_with_dot line)) [
+      | inl dot ↦
+          let taken : TakesDotted s (statement_in line) line new = rw dot at takes in
+          let refusal : dotted_refusal s (statement_in line) ≡ None = rw dot at none in
+          took-dotted lines n s new (statement_in line) read expected depth fits dot refl refusal taken
+      | inr other ↦ took-text lines n s new read expected depth fits other (rw other at takes)
+    ]
+
+took : (lines : List (List ℕ)) (n : ℕ) (s new : ReaderState) (expected : Expected) → HasRead lines n s → s.expected ≡ expected → IsAt lines n s expected → cause_at lines n ≡ None
+    → line_refusal s expected (line_at lines n) ≡ None → Takes s expected (line_at lines n) new → HasRead lines (n + 1) new
+took lines n s new AnyStatement read is stands fits none takes = took-any lines n s new read is stands fits none takes
+took lines n s new (Row kind x y row) read is stands fits none takes = took-row lines n x y row kind s new read stands fits none takes
+took lines n s new (Memory x y row) read is stands fits none takes = took-memory lines n x y row s new read stands fits none takes
+
+-- the first line of those that are left
+pub cut : (lines : List (List ℕ)) (k : ℕ) (line : List ℕ) (more : List (List ℕ)) → drop k lines ≡ line ∷ more → (k < length lines) × (line_at lines k ≡ line) × (more ≡ drop (k + 1) lines)
+cut [] zero line more e = absurd cc
+cut [] (suc k) line more e = absurd cc
+cut (first ∷ lines) zero line more e = (omega arith, cc, cc)
+cut (first ∷ lines) (suc k) line more e =
+    let found = cut lines k line more e in
+    let later : suc k + 1 ≡ suc (k + 1) = omega arith in
+    (omega (arith, found.0), found.1, rw later found.2)
+
+-- a line that was taken
+pub HasRead-more : (lines : List (List ℕ)) (n : ℕ) (line : List ℕ) (more : List (List ℕ)) (s new : ReaderState) → HasRead lines n s → drop n lines ≡ line ∷ more
+    → line_refusal s s.expected line ≡ None → Takes s s.expected line new → HasRead lines (n + 1) new
+HasRead-more lines n line more s new read left none takes =
+    let found = cut lines n line more left in
+    let at_none : List ℕ → Type 0 = λ l. line_refusal s s.expected l ≡ None in
+    let at_takes : List ℕ → Type 0 = λ l. Takes s s.expected l new in
+    let refusal = subst at_none (sym found.1) none in
+    took lines n s new s.expected read refl read.stands (line_refused lines n s read found.0 ∙ refusal) refusal (subst at_takes (sym found.1) takes)
+
+-- ---- the first fault
+
+unfaulty : (lines : List (List ℕ)) (k : ℕ) → cause_at lines k ≡ None → fault_at lines k ≡ None
+unfaulty lines k none = rw none refl
+
+-- the fault of a line before which none is faulty
+first_fault : (text : List ℕ) (n : ℕ) (fault : AscFault) → n ≤ length (lines_of text) → ((k : ℕ) → k < n → cause_at (lines_of text) k ≡ None) → Tells (fault_at (lines_of text) n) fault → Tells (asc_fault_of text) fault
+unfolding asc_fault_of
+first_fault text n (At line tile cause) within fit tells =
+    let lines = lines_of text in
+    first_below-first (length lines + 1) n (fault_at lines) (record { line = line; tile = tile; cause = cause }) (omega arith) (λ k below. unfaulty lines k (fit k below)) tells
+first_fault text n (OutOfMemory e) within fit tells = tt
+
+-- a line that is refused
+pub refused : (text line : List ℕ) (n : ℕ) (more : List (List ℕ)) (s : ReaderState) (fault : AscFault) → HasRead (lines_of text) n s → drop n (lines_of text) ≡ line ∷ more
+    → Tells (fault_with (line_refusal s s.expected line) (n + 1) (tile_named (statement_of s.expected line))) fault → Tells (asc_fault_of text) fault
+refused text line n more s fault read left tells =
+    let lines = lines_of text in
+    let found = cut lines n line more left in
+    let at : List ℕ → Type 0 = λ l. Tells (fault_with (line_refusal s s.expected l) (n + 1) (tile_named (statement_of s.expected l))) fault in
+    let told : Option Fault → Type 0 = λ f. Tells f fault in
+    first_fault text n fault (omega (arith, found.0)) read.fit (subst told (sym (line_fault lines n s read found.0)) (subst at (sym found.1) tells))
+
+-- ---- the end
+
+-- no line is left
+cut-end : (lines : List (List ℕ)) (k : ℕ) → drop k lines ≡ [] → k ≤ length lines → k ≡ length lines
+cut-end lines k none within = omega (arith, length-drop k lines, ap length none)
+
+pub ended : (text left : List ℕ) (n : ℕ) (s : ReaderState) → HasRead (lines_of text) n s → lines_of left ≡ drop n (lines_of text) → left ≡ [] → n ≤ length (lines_of text)
+    → (n ≡ length (lines_of text)) × HasRead (lines_of text) (length (lines_of text)) s
+unfolding lines_of
+ended text left n s read rest none within =
+    let all : n ≡ length (lines_of text) = cut-end (lines_of text) n (sym rest ∙ ap lines_of none) within in
+    let P : ℕ → Type 0 = λ k. HasRead (lines_of text) k s in
+    (all, subst P all read)
+
+-- something is missing at the end
+pub end_told : (text : List ℕ) (s : ReaderState) (fault : AscFault) → HasRead (lines_of text) (length (lines_of text)) s
+    → Tells (fault_with (end_refusal s s.expected) (length (lines_of text) + 1) (tile_named (statement_of s.expected []))) fault → Tells (asc_fault_of text) fault
+end_told text s fault read tells =
+    let lines = lines_of text in
+    let told : Option Fault → Type 0 = λ f. Tells f fault in
+    first_fault text (length lines) fault (omega arith) read.fit (subst told (sym (end_fault lines s read)) tells)
+
+-- nothing is missing
+pub end_accepted : (text : List ℕ) (s : ReaderState) → HasRead (lines_of text) (length (lines_of text)) s → end_refusal s s.expected ≡ None → asc_fault_of text ≡ None
+unfolding asc_fault_of
+end_accepted text s read none =
+    let lines = lines_of text in
+    first_below-none (length lines + 1) (fault_at lines) (λ k below. elim (cases_eq k (length lines)) [
+      | inl last ↦ ap (fault_at lines) last ∙ unfaulty lines (length lines) (end_refused lines s read ∙ none)
+      | inr before ↦ unfaulty lines k (read.fit k (omega arith))
+    ])
+
+-- ---- the meaning
+
+AreBanks-from : (width height : ℕ) (bits : Place → Bool) → AreBanks width height (planes_from width height bits)
+AreBanks-from width height bits = record { four = refl; grids = grid }
+  where
+    grid : (bank : ℕ) → bank < 4 → IsGrid width height (bank_rows (planes_from width height bits) bank)
+    grid zero within = IsGrid-rows_from width height (λ px py. bits (record { bank = 0; px = px; py = py }))
+    grid (suc zero) within = IsGrid-rows_from width height (λ px py. bits (record { bank = 1; px = px; py = py }))
+    grid (suc (suc zero)) within = IsGrid-rows_from width height (λ px py. bits (record { bank = 2; px = px; py = py }))
+    grid (suc (suc (suc zero))) within = IsGrid-rows_from width height (λ px py. bits (record { bank = 3; px = px; py = py }))
+    grid (suc (suc (suc (suc bank)))) within = absurd (omega arith)
+
+pub place_bit-from : (width height : ℕ) (bits : Place → Bool) (bank x y : ℕ) → bank < 4 → x < width → y < height → place_bit (planes_from width height bits) (record { bank = bank; px = x; py = y }) ≡ bits (record { bank = bank; px = x; py = y })
+place_bit-from width height bits zero x y within column row = bit_at-rows_from width height (λ px py. bits (record { bank = 0; px = px; py = py })) x y column row
+place_bit-from width height bits (suc zero) x y within column row = bit_at-rows_from width height (λ px py. bits (record { bank = 1; px = px; py = py })) x y column row
+place_bit-from width height bits (suc (suc zero)) x y within column row = bit_at-rows_from width height (λ px py. bits (record { bank = 2; px = px; py = py })) x y column row
+place_bit-from width height bits (suc (suc (suc zero))) x y within column row = bit_at-rows_from width height (λ px py. bits (record { bank = 3; px = px; py = py })) x y column row
+place_bit-from width height bits (suc (suc (suc (suc bank)))) x y within column row = absurd (omega arith)
+
+-- planes are those of their bits
+same_planes : (width height : ℕ) (planes : List Rows) (bits : Place → Bool) → AreBanks width height planes → ((at : Place) → place_bit planes at ≡ bits at) → planes ≡ planes_from width height bits
+same_planes width height planes bits banks same =
+    same_banks width height planes (planes_from width height bits) banks (AreBanks-from width height bits)
+    (λ at bank column row. same at ∙ sym (place_bit-from width height bits at.bank at.px at.py bank column row))
+
+-- the settings are those that the lines set
+same_settings : (lines : List (List ℕ)) (n : ℕ) (s : ReaderState) → HasGiven lines n s → settings_in s ≡ settings_before lines n
+same_settings lines n s has =
+    let of : Range → Bool → Bool → Settings = λ range warm_boot no_sleep. record { range = range; warm_boot = warm_boot; no_sleep = no_sleep } in
+    ap (λ v. of (unwrap_or v Low) (unwrap_or s.warm_boot true) (unwrap_or s.no_sleep false)) (sym has.range.first)
+    ∙ ap (λ v. of (set_before lines n range_in Low) (unwrap_or v true) (unwrap_or s.no_sleep false)) (sym has.warm_boot.first)
+    ∙ ap (λ v. of (set_before lines n range_in Low) (set_before lines n warm_boot_in true) (unwrap_or v false)) (sym has.no_sleep.first)
+
+-- the image is the one that the lines configure
+same_image : (lines : List (List ℕ)) (n : ℕ) (s : ReaderState) (image : AnyImage) → HasRead lines n s → HasBits lines n image
+    → record (configuration_of image) { settings = settings_in s; comment = s.comment } ≡ image_before (device_of image) lines n
+same_image lines n s image read has =
+    let d = device_of image in
+    let of : DeviceName → Option (List (List ℕ)) → Settings → List Rows → List Rows → Configuration = λ device comment settings cram bram. record { device = device; comment = comment; settings = settings; cram = cram; bram = bram } in
+    let c = configuration_of image in
+    let cram_banks : AreBanks (cram_width d) (cram_height d) c.cram = subst (λ (k : DeviceName). AreBanks (cram_width k) (cram_height k) c.cram) has.device has.whole.cram in
+    let bram_banks : AreBanks (bram_width d) (bram_height d) c.bram = subst (λ (k : DeviceName). AreBanks (bram_width k) (bram_height k) c.bram) has.device has.whole.bram in
+    ap (λ k. of k s.comment (settings_in s) c.cram c.bram) has.device
+    ∙ ap (λ k. of d k (settings_in s) c.cram c.bram) (sym read.comment.lines_are)
+    ∙ ap (λ k. of d (comment_before lines n) k c.cram c.bram) (same_settings lines n s read.given)
+    ∙ ap (λ k. of d (comment_before lines n) (settings_before lines n) k c.bram) (same_planes (cram_width d) (cram_height d) c.cram (is_set_before d lines n) cram_banks has.cram)
+    ∙ ap (λ k. of d (comment_before lines n) (settings_before lines n) (planes_from (cram_width d) (cram_height d) (is_set_before d lines n)) k) (same_planes (bram_width d) (bram_height d) c.bram (is_word_set_before d lines n) bram_banks has.bram)
+
+configured : (lines : List (List ℕ)) (s : ReaderState) (image : Option AnyImage) (after : AnyImage) → HasRead lines (length lines) s → s.image ≡ image → HasImage lines (length lines) image → Finishes s image after
+    → image_for (device_known image) lines ≡ Some (configuration_of after)
+configured lines s None after read is has finishes = absurd finishes
+configured lines s (Some image) after read is has finishes = ap (λ c. Some c) (sym (finishes ∙ same_image lines (length lines) s image read has))
+
+pub means : (text : List ℕ) (s : ReaderState) (after : AnyImage) (symbols : List NetName) → HasRead (lines_of text) (length (lines_of text)) s → end_refusal s s.expected ≡ None → Finishes s s.image after → symbols ≡ s.symbols
+    → AscMeans text (configuration_of after) symbols
+unfolding asc_image_of asc_symbols_of
+means text s after symbols read none finishes named =
+    let lines = lines_of text in
+    record {
+      accepted = end_accepted text s read none;
+      configures = ap (λ device. image_for device lines) (device_is lines (length lines) s read.given) ∙ configured lines s s.image after read refl read.image finishes;
+      names = read.given.symbols ∙ sym named;
+    }
+
+-- ---- the answer
+
+-- an image and its names that are answered
+pub answered : (text : List ℕ) (s : ReaderState) (r : Result AscFile AscFault) → HasRead (lines_of text) (length (lines_of text)) s → OnOk r (end_refusal s s.expected ≡ None) → IfOk r (λ file. Finishes s s.image file.image)
+    → IfOk r (λ file. file.symbols.items ≡ s.symbols) → IfOk r (λ file. AscMeans text (configuration_of file.image) file.symbols.items)
+answered text s (Ok file) read none finishes named = means text s file.image file.symbols.items read none finishes named
+answered text s (Err fault) read none finishes named = tt
+
+-- a text that is accepted
+pub accepted : (text : List ℕ) (s : ReaderState) (r : Result AscFile AscFault) → HasRead (lines_of text) (length (lines_of text)) s → OnOk r (end_refusal s s.expected ≡ None) → OnOk r (asc_fault_of text ≡ None)
+accepted text s (Ok file) read none = end_accepted text s read none
+accepted text s (Err fault) read none = tt
+
+-- a fault that is answered
+pub told : (text : List ℕ) (s : ReaderState) (n : ℕ) (r : Result AscFile AscFault) → HasRead (lines_of text) (length (lines_of text)) s → n ≡ length (lines_of text)
+    → IfErr r (Tells (fault_with (end_refusal s s.expected) (n + 1) (tile_named (statement_of s.expected [])))) → IfErr r (Tells (asc_fault_of text))
+told text s n (Ok file) read all tells = tt
+told text s n (Err fault) read all tells =
+    let at : ℕ → Type 0 = λ k. Tells (fault_with (end_refusal s s.expected) (k + 1) (tile_named (statement_of s.expected []))) fault in
+    end_told text s fault read (subst at all tells)

@@ -1,0 +1,157 @@
+-- Texts that are written piece by piece.
+use Rattle.std.proofs.Common.{◌≡◌, ℕ, ◌+◌, ◌-◌, ◌*◌, Bool, ◌<◌, ◌≤◌, List, [], ◌∷◌, ◌++◌, length, get_or, take, map, Some, None, refl, ap, sym, ◌∙◌, subst, add-one, append_assoc, append-nil, arith}
+use Rattle.std.proofs.lemmas.List.{map-append, take_more, take_all}
+use Rattle.std.proofs.lemmas.Grind.{flat_map-append}
+use Rattle.hex.specs.Hex.{encode_with, lower_digits, encode_lower}
+use Rattle.text_lines.specs.Places.{gathered_below}
+use Rattle.text_lines.specs.Written.{text_of}
+use Rattle.text_lines.proofs.Places.{gathered_below-more, gathered_below-none}
+use Rattle.bit_plane.specs.Rows.{Rows, row_from, rows_from}
+use Rattle.plane_map.specs.Layout.{kind_of, columns_of, columns_at, columns_in}
+use Rattle.plane_map.specs.declared.device.DeviceName.{DeviceName}
+use Rattle.plane_map.specs.declared.tile.TileKind.{TileKind}
+use Rattle.plane_map.specs.declared.tile.TileKind.TheVariants.{RamB}
+use Rattle.ice_image.specs.Configuration.{Configuration, place_bit}
+use Rattle.ice_image.specs.Contents.{tile_place}
+use Rattle.asc_text.specs.Statements.{tile_keyword, device_keyword, device_word}
+use Rattle.asc_text.specs.Canonical.{with_word, comment_lines, warm_boot_lines, range_lines, no_sleep_lines, all_tile_lines, all_extra_lines, canonical_lines, asc_text_of, bit_character, row_line, grid_line, tile_lines, ram_lines, lines_of_tile_at}
+
+-- ---- lines
+
+-- the text of two lists of lines
+pub text_of-append : (lines more : List (List ℕ)) → text_of (lines ++ more) ≡ text_of lines ++ text_of more
+unfolding text_of
+text_of-append lines more = flat_map-append (λ line. line ++ 10 ∷ []) lines more
+
+-- the text of one line
+pub text_of-one : (line : List ℕ) → text_of (line ∷ []) ≡ line ++ 10 ∷ []
+unfolding text_of
+text_of-one line = append-nil (line ++ 10 ∷ [])
+
+-- no lines
+pub text_of-none : text_of [] ≡ []
+unfolding text_of
+text_of-none = refl
+
+-- so they add nothing
+pub nothing-written : (text : List ℕ) (lines : List (List ℕ)) → lines ≡ [] → text ≡ text ++ text_of lines
+nothing-written text lines none = sym (append-nil text) ∙ ap (λ more. text ++ more) (sym text_of-none ∙ ap text_of (sym none))
+
+-- lines behind others
+pub lines-joined : (old middle after : List ℕ) (first second : List (List ℕ)) → middle ≡ old ++ text_of first → after ≡ middle ++ text_of second → after ≡ old ++ text_of (first ++ second)
+lines-joined old middle after first second one two =
+    two ∙ ap (λ text. text ++ text_of second) one ∙ append_assoc old (text_of first) (text_of second) ∙ ap (λ text. old ++ text) (sym (text_of-append first second))
+
+-- one line more of a list
+pub lines-more : (old now after : List ℕ) (lines : List (List ℕ)) (line : List ℕ) (n : ℕ) → n < length lines → line ≡ get_or lines n [] → now ≡ old ++ text_of (take n lines) → after ≡ now ++ text_of (line ∷ []) → after ≡ old ++ text_of (take (n + 1) lines)
+lines-more old now after lines line n within line_is so_far next =
+    lines-joined old now after (take n lines) (line ∷ []) so_far next ∙ ap (λ lines. old ++ text_of lines) (ap (λ line. take n lines ++ line ∷ []) line_is ∙ sym (take_more lines n [] within))
+
+-- all lines of a list
+pub lines-all : (old after : List ℕ) (lines : List (List ℕ)) (n : ℕ) → length lines ≤ n → after ≡ old ++ text_of (take n lines) → after ≡ old ++ text_of lines
+lines-all old after lines n past written = written ∙ ap (λ lines. old ++ text_of lines) (take_all n lines past)
+
+-- a line that is written whole and then ended
+pub line-ended : (old middle after line : List ℕ) → middle ≡ old ++ line → after ≡ middle ++ 10 ∷ [] → after ≡ old ++ text_of (line ∷ [])
+line-ended old middle after line written ended =
+    ended ∙ ap (λ text. text ++ 10 ∷ []) written ∙ append_assoc old line (10 ∷ []) ∙ ap (λ text. old ++ text) (sym (text_of-one line))
+
+-- ---- what places give
+
+-- the lines of all places
+pub gathered-all : (old after : List ℕ) (n all : ℕ) (given : ℕ → List (List ℕ)) → n ≡ all → after ≡ old ++ text_of (gathered_below n given) → after ≡ old ++ text_of (gathered_below all given)
+gathered-all old after n all given same written = written ∙ ap (λ n. old ++ text_of (gathered_below n given)) same
+
+-- ---- digits
+
+-- the digits of no bytes
+encode_with-none : (digits : List ℕ) → encode_with digits [] ≡ []
+unfolding encode_with
+encode_with-none digits = refl
+
+-- the digits of bytes and of more bytes
+pub encode_with-append : (digits bytes more : List ℕ) → encode_with digits (bytes ++ more) ≡ encode_with digits bytes ++ encode_with digits more
+unfolding encode_with
+encode_with-append digits [] more = refl
+encode_with-append digits (byte ∷ bytes) more = cc (encode_with-append digits bytes more)
+
+-- no digits yet
+pub digits-none : (text : List ℕ) (given : ℕ → List ℕ) → text ≡ text ++ encode_lower (gathered_below 0 given)
+digits-none text given =
+    sym (append-nil text) ∙ ap (λ digits. text ++ digits) (sym (encode_with-none lower_digits) ∙ ap encode_lower (sym (gathered_below-none 0 given (λ k below. absurd (omega arith)))))
+
+-- the digits of one place more
+pub digits-more : (old now after : List ℕ) (n : ℕ) (given : ℕ → List ℕ) → now ≡ old ++ encode_lower (gathered_below n given) → after ≡ now ++ encode_lower (given n) → after ≡ old ++ encode_lower (gathered_below (n + 1) given)
+digits-more old now after n given so_far next =
+    next ∙ ap (λ text. text ++ encode_lower (given n)) so_far ∙ append_assoc old (encode_lower (gathered_below n given)) (encode_lower (given n)) ∙ ap (λ digits. old ++ digits) (sym (encode_with-append lower_digits (gathered_below n given) (given n)) ∙ ap encode_lower (sym (gathered_below-more n given)))
+
+-- the digits of all places, and the end of the line
+pub digits-all : (old now after : List ℕ) (n all : ℕ) (given : ℕ → List ℕ) → n ≡ all → now ≡ old ++ encode_lower (gathered_below n given) → after ≡ now ++ 10 ∷ [] → after ≡ old ++ text_of (encode_lower (gathered_below all given) ∷ [])
+digits-all old now after n all given same so_far ended =
+    line-ended old now after (encode_lower (gathered_below all given)) (so_far ∙ ap (λ n. old ++ encode_lower (gathered_below n given)) same) ended
+
+-- ---- rows
+
+-- no bit yet
+pub bits-none : (text : List ℕ) (bit : ℕ → Bool) → text ≡ text ++ row_line (row_from 0 bit)
+unfolding row_from
+bits-none text bit = sym (append-nil text)
+
+-- one bit more
+pub bits-more : (old now after : List ℕ) (col : ℕ) (bit : ℕ → Bool) → now ≡ old ++ row_line (row_from col bit) → after ≡ now ++ bit_character (bit col) ∷ [] → after ≡ old ++ row_line (row_from (col + 1) bit)
+unfolding row_from
+bits-more old now after col bit so_far next =
+    rw add-one (next ∙ ap (λ text. text ++ bit_character (bit col) ∷ []) so_far ∙ append_assoc old (row_line (row_from col bit)) (bit_character (bit col) ∷ []) ∙ ap (λ text. old ++ text) (sym (map-append bit_character (row_from col bit) (bit col ∷ []))))
+
+-- all bits, and the end of the line
+pub bits-all : (old now after : List ℕ) (col width : ℕ) (bit : ℕ → Bool) → col ≡ width → now ≡ old ++ row_line (row_from col bit) → after ≡ now ++ 10 ∷ [] → after ≡ old ++ text_of (row_line (row_from width bit) ∷ [])
+bits-all old now after col width bit same so_far ended =
+    line-ended old now after (row_line (row_from width bit)) (so_far ∙ ap (λ n. old ++ row_line (row_from n bit)) same) ended
+
+-- no row yet
+pub rows-none : (text : List ℕ) (width : ℕ) (bit : ℕ → ℕ → Bool) → text ≡ text ++ text_of (map row_line (rows_from width 0 bit))
+unfolding rows_from
+rows-none text width bit = nothing-written text [] refl
+
+-- one row more
+pub rows-more : (old now after : List ℕ) (width row : ℕ) (bit : ℕ → ℕ → Bool) → now ≡ old ++ text_of (map row_line (rows_from width row bit)) → after ≡ now ++ text_of (row_line (row_from width (λ col. bit col row)) ∷ []) → after ≡ old ++ text_of (map row_line (rows_from width (row + 1) bit))
+unfolding rows_from
+rows-more old now after width row bit so_far next =
+    rw add-one (lines-joined old now after (map row_line (rows_from width row bit)) (row_line (row_from width (λ col. bit col row)) ∷ []) so_far next ∙ ap (λ lines. old ++ text_of lines) (sym (map-append row_line (rows_from width row bit) (row_from width (λ col. bit col row) ∷ []))))
+
+-- ---- tiles
+
+module _ (device : DeviceName) (x y : ℕ) where
+  -- a statement and all rows
+  pub tile-written : (cram : List Rows) (kind : TileKind) (old middle after : List ℕ) (width row : ℕ) → kind_of device x y ≡ Some kind → width ≡ columns_of kind → row ≡ 16 → middle ≡ old ++ text_of (grid_line (tile_keyword kind) x y ∷ []) → after ≡ middle ++ text_of (map row_line (rows_from width row (λ col row. place_bit cram (tile_place device x y row col)))) → after ≡ old ++ text_of (tile_lines device cram x y kind)
+  tile-written cram kind old middle after width row there wide last statement rows =
+      let bit : ℕ → ℕ → Bool = λ col row. place_bit cram (tile_place device x y row col) in
+      let wide_there : width ≡ columns_at device x y = wide ∙ ap columns_in (sym there) in
+      lines-joined old middle after (grid_line (tile_keyword kind) x y ∷ []) (map row_line (rows_from (columns_at device x y) 16 bit)) statement (rows ∙ ap (λ n. middle ++ text_of (map row_line (rows_from n row bit))) wide_there ∙ ap (λ n. middle ++ text_of (map row_line (rows_from (columns_at device x y) n bit))) last)
+
+  -- nothing where no tile is
+  pub none-written : (image : Configuration) (text : List ℕ) → image.device ≡ device → kind_of device x y ≡ None → text ≡ text ++ text_of (lines_of_tile_at image x y (kind_of image.device x y))
+  none-written image text same there =
+      nothing-written text (lines_of_tile_at image x y (kind_of image.device x y)) (ap (lines_of_tile_at image x y) (ap (λ device. kind_of device x y) same ∙ there))
+
+  -- a lower tile and its RAM's contents
+  pub ram_tile-written : (image : Configuration) (old middle after : List ℕ) → image.device ≡ device → kind_of device x y ≡ Some RamB → middle ≡ old ++ text_of (tile_lines device image.cram x y RamB) → after ≡ middle ++ text_of (ram_lines device image.bram x y) → after ≡ old ++ text_of (lines_of_tile_at image x y (kind_of image.device x y))
+  ram_tile-written image old middle after same there tile ram =
+      lines-joined old middle after (tile_lines device image.cram x y RamB) (ram_lines device image.bram x y) tile ram ∙ ap (λ device. old ++ text_of (tile_lines device image.cram x y RamB ++ ram_lines device image.bram x y)) (sym same) ∙ ap (λ kind. old ++ text_of (lines_of_tile_at image x y kind)) (sym there ∙ ap (λ device. kind_of device x y) (sym same))
+
+-- ---- the whole
+
+-- the parts of a text, one behind the other, are the text
+pub text-written : (image : Configuration) (start comment device warm_boot range no_sleep tiles extras : List ℕ) → start ≡ [] → comment ≡ start ++ text_of (comment_lines image.comment) → device ≡ comment ++ text_of (with_word device_keyword (device_word image.device) ∷ []) → warm_boot ≡ device ++ text_of (warm_boot_lines image.settings.warm_boot) → range ≡ warm_boot ++ text_of (range_lines image.settings.range) → no_sleep ≡ range ++ text_of (no_sleep_lines image.settings.no_sleep) → tiles ≡ no_sleep ++ text_of (all_tile_lines image) → extras ≡ tiles ++ text_of (all_extra_lines image) → extras ≡ asc_text_of image
+unfolding canonical_lines asc_text_of
+text-written image start comment device warm_boot range no_sleep tiles extras start_is comment_is device_is warm_boot_is range_is no_sleep_is tiles_are extras_are =
+    let one : comment ≡ [] ++ text_of (comment_lines image.comment) = comment_is ∙ ap (λ text. text ++ text_of (comment_lines image.comment)) start_is in
+    let two = lines-joined [] comment device (comment_lines image.comment) (with_word device_keyword (device_word image.device) ∷ []) one device_is in
+    let three = lines-joined [] device warm_boot _ (warm_boot_lines image.settings.warm_boot) two warm_boot_is in
+    let four = lines-joined [] warm_boot range _ (range_lines image.settings.range) three range_is in
+    let five = lines-joined [] range no_sleep _ (no_sleep_lines image.settings.no_sleep) four no_sleep_is in
+    let six = lines-joined [] no_sleep tiles _ (all_tile_lines image) five tiles_are in
+    lines-joined [] tiles extras _ (all_extra_lines image) six extras_are
+
+-- what `grind` is told of them
+pub ruleset joined = (append_assoc, append-nil, text_of-append, text_of-none, gathered_below-more)

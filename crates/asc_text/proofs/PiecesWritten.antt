@@ -1,0 +1,426 @@
+-- The pieces of which the canonical text of an image is, and that each is right behind those before it.
+use Rattle.std.proofs.Common.{◌≡◌, ℕ, zero, suc, ◌+◌, ◌-◌, ◌*◌, ◌<◌, Bool, true, false, not, ◌&&◌, ◌||◌, ◌==◌, List, [], ◌∷◌, ◌++◌, length, map, append_assoc, append-nil, refl, sym, ap, ◌∙◌, arith, inl, inr, Option, Some, None, if◌then◌else◌}
+use Rattle.std.proofs.lemmas.Bool.{lt-ltb, ne_eqb, and_from, and_parts, and_left, and_right, or_from, cases_eq}
+use Rattle.std.proofs.lemmas.List.{length-map, length-append, get_or-map, get_or_push, get_or_append_left}
+use Rattle.std.proofs.lemmas.List.Elements.{All-cons, All-nil, All-append}
+use Rattle.std.specs.Prelude.{All, nat_lt}
+use Rattle.hex.specs.Hex.{IsBytes, encode_lower}
+use Rattle.text_lines.specs.Lines.{line_at, trimmed}
+use Rattle.text_lines.specs.Places.{any_below, gathered_below, or_else}
+use Rattle.text_lines.specs.Written.{IsPlain}
+use Rattle.text_lines.proofs.Places.{any_below-none, any_below-at, any_below-place, gathered_below-same}
+use Rattle.bit_plane.specs.Rows.{Rows, row_from}
+use Rattle.bit_plane.proofs.Made.{length-row_from, length-rows_from, row_at-rows_from}
+use Rattle.plane_map.specs.Layout.{kind_of, columns_of, columns_in, columns_at, grid_width, grid_height, cram_width, cram_height}
+use Rattle.plane_map.specs.declared.device.DeviceName.{DeviceName}
+use Rattle.plane_map.specs.declared.device.DeviceName.TheVariants.{K1, K8}
+use Rattle.plane_map.specs.declared.tile.TileKind.{TileKind}
+use Rattle.plane_map.specs.declared.tile.TileKind.TheVariants.{Io, Logic, RamB, RamT}
+use Rattle.plane_map.specs.declared.tile.Place.{Place}
+use Rattle.ice_image.specs.Configuration.{Configuration, place_bit}
+use Rattle.ice_image.specs.Contents.{tile_place, tile_rows, word_value, word_bit_place}
+use Rattle.asc_text.specs.declared.statement.Statement.{Statement}
+use Rattle.asc_text.specs.declared.statement.Statement.TheVariants.{Tile, RamData, ExtraBit}
+use Rattle.asc_text.specs.declared.fault.AscCause.TheVariants.{Row, Hex, Kind, ExtraPlace}
+use Rattle.asc_text.specs.Statements.{tile_keyword, ram_data_keyword}
+use Rattle.asc_text.specs.Rows.{is_row, is_memory_line}
+use Rattle.asc_text.specs.Blocks.{device_in}
+use Rattle.asc_text.specs.Extras.{is_owned, is_extra}
+use Rattle.asc_text.specs.Faults.{cause_if, is_same_kind, kind_cause, names_tile, names_ram}
+use Rattle.asc_text.specs.Canonical.{grid_line, row_line, tile_lines, memory_line, ram_lines, lines_of_tile_at, all_tile_lines, extra_line, extra_lines_at, all_extra_lines}
+use Rattle.asc_text.proofs.PieceRead.{Piece, IsPiece, piece_lines}
+use Rattle.asc_text.proofs.PiecesRead.{all_lines, some_piece, first_piece, some_statement, first_statement, some_piece-append, some_piece-one, first_piece-append, cause_behind, IsFine, AreFine, AreFine-append}
+use Rattle.asc_text.proofs.RowsRead.{trimmed-row_line, plain-row_line, is_row-row_line, trimmed-encoded, plain-encoded, is_memory_line-encoded, words_bytes, length-words_bytes, IsBytes-words_bytes, word-row_from-lt}
+use Rattle.asc_text.proofs.Spelled.{tile-spelled, ram-spelled, extra-spelled}
+
+-- ---- laws of lists of pieces
+
+-- the lines of pieces behind pieces
+pub all_lines-append : (a b : List Piece) → all_lines (a ++ b) ≡ all_lines a ++ all_lines b
+unfolding all_lines
+all_lines-append [] b = refl
+all_lines-append (piece ∷ a) b = ap (λ lines. piece_lines piece ++ lines) (all_lines-append a b) ∙ sym (append_assoc (piece_lines piece) (all_lines a) (all_lines b))
+
+-- the lines of gathered pieces
+pub all_lines-gathered : (n : ℕ) (given : ℕ → List Piece) → all_lines (gathered_below n given) ≡ gathered_below n (λ k. all_lines (given k))
+unfolding gathered_below all_lines
+all_lines-gathered zero given = refl
+all_lines-gathered (suc n) given = all_lines-append (gathered_below n given) (given n) ∙ ap (λ lines. lines ++ all_lines (given n)) (all_lines-gathered n given)
+
+-- some gathered piece passes where one of some place does
+pub some_piece-gathered : (test : Piece → Bool) (n : ℕ) (given : ℕ → List Piece) → some_piece test (gathered_below n given) ≡ any_below n (λ k. some_piece test (given k))
+unfolding gathered_below any_below some_piece
+some_piece-gathered test zero given = refl
+some_piece-gathered test (suc n) given = some_piece-append test (gathered_below n given) (given n) ∙ ap (λ p. p || some_piece test (given n)) (some_piece-gathered test n given)
+
+-- none of the gathered pieces passes
+pub gathered-none : (test : Piece → Bool) (n : ℕ) (given : ℕ → List Piece) → ((k : ℕ) → k < n → some_piece test (given k) ≡ false) → some_piece test (gathered_below n given) ≡ false
+gathered-none test n given none = some_piece-gathered test n given ∙ any_below-none n (λ k. some_piece test (given k)) none
+
+-- one of the gathered pieces passes
+pub gathered-at : (test : Piece → Bool) (n k : ℕ) (given : ℕ → List Piece) → k < n → some_piece test (given k) ≡ true → some_piece test (gathered_below n given) ≡ true
+gathered-at test n k given within here = some_piece-gathered test n given ∙ any_below-at n k (λ k. some_piece test (given k)) within here
+
+-- and which
+pub gathered-place : (test : Piece → Bool) (n : ℕ) (given : ℕ → List Piece) → some_piece test (gathered_below n given) ≡ true → (k : ℕ) × (k < n) × (some_piece test (given k) ≡ true)
+gathered-place test n given some = any_below-place n (λ k. some_piece test (given k)) (sym (some_piece-gathered test n given) ∙ some)
+
+-- none of either passes
+pub append-none : (test : Piece → Bool) (a b : List Piece) → some_piece test a ≡ false → some_piece test b ≡ false → some_piece test (a ++ b) ≡ false
+append-none test a b first second = some_piece-append test a b ∙ or_from (some_piece test a) (some_piece test b) first second
+
+-- none of the gathered pieces gives anything
+pub first-none : {A : Type 0} (given : Piece → Option A) (n : ℕ) (pieces : ℕ → List Piece) → ((k : ℕ) → k < n → first_piece given (pieces k) ≡ None) → first_piece given (gathered_below n pieces) ≡ None
+unfolding gathered_below first_piece
+first-none given zero pieces none = refl
+first-none given (suc n) pieces none =
+    first_piece-append given (gathered_below n pieces) (pieces n) ∙ (λ i. or_else (first-none given n pieces (λ k within. none k (omega arith)) i) (none n (omega arith) i))
+
+-- gathered pieces are right where those of each place are behind those before them
+pub AreFine-gathered : (past : List Piece) (n : ℕ) (given : ℕ → List Piece) → ((k : ℕ) → k < n → AreFine (past ++ gathered_below k given) (given k)) → AreFine past (gathered_below n given)
+unfolding gathered_below AreFine
+AreFine-gathered past zero given fine = tt
+AreFine-gathered past (suc n) given fine =
+    AreFine-append past (gathered_below n given) (given n) (AreFine-gathered past n given (λ k within. fine k (omega arith))) (fine n (omega arith))
+
+-- no pieces are right
+pub AreFine-none : (past : List Piece) → AreFine past []
+unfolding AreFine
+AreFine-none past = tt
+
+-- one piece that is right
+pub AreFine-one : (past : List Piece) (piece : Piece) → IsFine past piece → AreFine past (piece ∷ [])
+unfolding AreFine
+AreFine-one past piece fine = (fine, tt)
+
+-- the device is known
+abbrev pub Knows : DeviceName → List Piece → Type 0
+Knows device past = first_statement device_in past ≡ Some device
+
+-- and stays known
+pub Knows-more : (device : DeviceName) (past more : List Piece) → Knows device past → Knows device (past ++ more)
+Knows-more device past more knows =
+    first_piece-append (λ piece. device_in (Some piece.statement)) past more ∙ ap (λ first. or_else first (first_statement device_in more)) knows
+
+-- ---- tiles
+
+abbrev pub tile_piece : DeviceName → List Rows → ℕ → ℕ → TileKind → Piece
+tile_piece device cram x y kind = record { statement = Tile kind x y; head = grid_line (tile_keyword kind) x y; rows = map row_line (tile_rows device cram x y) }
+
+abbrev pub ram_piece : DeviceName → List Rows → ℕ → ℕ → Piece
+ram_piece device bram x y = record { statement = RamData x y; head = grid_line ram_data_keyword x y; rows = gathered_below 16 (λ row. memory_line device bram x y row ∷ []) }
+
+abbrev pub kind_pieces : Configuration → ℕ → ℕ → Option TileKind → List Piece
+kind_pieces image x y None = []
+kind_pieces image x y (Some Io) = tile_piece image.device image.cram x y Io ∷ []
+kind_pieces image x y (Some Logic) = tile_piece image.device image.cram x y Logic ∷ []
+kind_pieces image x y (Some RamB) = tile_piece image.device image.cram x y RamB ∷ ram_piece image.device image.bram x y ∷ []
+kind_pieces image x y (Some RamT) = tile_piece image.device image.cram x y RamT ∷ []
+
+-- those of a place of the grid
+abbrev pub grid_pieces : Configuration → ℕ → ℕ → List Piece
+grid_pieces image y x = kind_pieces image x y (kind_of image.device x y)
+
+-- those of a row of the grid
+abbrev pub row_pieces : Configuration → ℕ → List Piece
+row_pieces image y = gathered_below (grid_width image.device) (grid_pieces image y)
+
+abbrev pub all_tile_pieces : Configuration → List Piece
+all_tile_pieces image = gathered_below (grid_height image.device) (row_pieces image)
+
+-- the lines of a place of the grid
+kind-lines : (image : Configuration) (x y : ℕ) (kind : Option TileKind) → all_lines (kind_pieces image x y kind) ≡ lines_of_tile_at image x y kind
+unfolding all_lines
+kind-lines image x y None = refl
+kind-lines image x y (Some Io) = append-nil (tile_lines image.device image.cram x y Io)
+kind-lines image x y (Some Logic) = append-nil (tile_lines image.device image.cram x y Logic)
+kind-lines image x y (Some RamB) = ap (λ lines. tile_lines image.device image.cram x y RamB ++ lines) (append-nil (ram_lines image.device image.bram x y))
+kind-lines image x y (Some RamT) = append-nil (tile_lines image.device image.cram x y RamT)
+
+-- their lines are those of all tiles
+pub tile-lines : (image : Configuration) → all_lines (all_tile_pieces image) ≡ all_tile_lines image
+tile-lines image =
+    all_lines-gathered (grid_height image.device) (row_pieces image)
+    ∙ gathered_below-same (grid_height image.device) (λ y. all_lines (row_pieces image y)) (λ y. gathered_below (grid_width image.device) (λ x. lines_of_tile_at image x y (kind_of image.device x y))) (λ y within.
+    all_lines-gathered (grid_width image.device) (grid_pieces image y)
+    ∙ gathered_below-same (grid_width image.device) (λ x. all_lines (grid_pieces image y x)) (λ x. lines_of_tile_at image x y (kind_of image.device x y)) (λ x inside. kind-lines image x y (kind_of image.device x y)))
+
+-- ---- a tile is right
+
+-- row r of a written tile
+pub tile-row : (device : DeviceName) (cram : List Rows) (x y r : ℕ) → r < 16
+    → line_at (map row_line (tile_rows device cram x y)) r ≡ row_line (row_from (columns_at device x y) (λ col. place_bit cram (tile_place device x y r col)))
+tile-row device cram x y r within =
+    get_or-map row_line (tile_rows device cram x y) r [] [] (omega (arith, length-rows_from (columns_at device x y) 16 (λ col row. place_bit cram (tile_place device x y row col))))
+    ∙ ap row_line (row_at-rows_from (columns_at device x y) 16 (λ col row. place_bit cram (tile_place device x y row col)) r within)
+
+-- a written tile has sixteen rows
+pub tile-count : (device : DeviceName) (cram : List Rows) (x y : ℕ) → length (map row_line (tile_rows device cram x y)) ≡ 16
+tile-count device cram x y = length-map (tile_rows device cram x y) row_line ∙ length-rows_from (columns_at device x y) 16 (λ col row. place_bit cram (tile_place device x y row col))
+
+-- rows have no byte below the space
+plain-rows : (rows : Rows) → All IsPlain (map row_line rows)
+plain-rows [] = All-nil IsPlain
+plain-rows (row ∷ rows) = All-cons IsPlain (row_line row) (map row_line rows) (plain-row_line row) (plain-rows rows)
+
+-- a written tile is a piece
+tile-is : (device : DeviceName) (cram : List Rows) (x y : ℕ) (kind : TileKind) → x < 1000000000 → y < 1000000000 → IsPiece (tile_piece device cram x y kind)
+tile-is device cram x y kind small_x small_y =
+    let spelled = tile-spelled kind x y small_x small_y in
+    record {
+      spells = spelled.spells;
+      dot = spelled.dot;
+      count = tile-count device cram x y;
+      calm = refl;
+      plain = All-cons IsPlain (grid_line (tile_keyword kind) x y) (map row_line (tile_rows device cram x y)) spelled.plain (plain-rows (tile_rows device cram x y));
+    }
+
+-- a kind is the same as itself
+same_kind : (kind : TileKind) → is_same_kind kind kind ≡ true
+same_kind Io = refl
+same_kind Logic = refl
+same_kind RamB = refl
+same_kind RamT = refl
+
+-- a written tile is right where none of its place stands before it
+pub tile-fine : (device : DeviceName) (cram : List Rows) (x y : ℕ) (kind : TileKind) (past : List Piece) → x < 1000000000 → y < 1000000000 → kind_of device x y ≡ Some kind
+    → Knows device past → some_statement (names_tile x y) past ≡ false → IsFine past (tile_piece device cram x y kind)
+tile-fine device cram x y kind past small_x small_y is knows new = record {
+  is = tile-is device cram x y kind small_x small_y;
+  cause =
+      (λ i. cause_behind (knows i) (new i) (Tile kind x y))
+      ∙ ap (λ there. or_else (kind_cause there kind) None) is
+      ∙ ap (λ same. or_else (cause_if (not same) (Kind kind)) None) (same_kind kind);
+  rows = λ r within.
+      let inside : r < 16 = omega (arith, tile-count device cram x y) in
+      let bits = row_from (columns_at device x y) (λ col. place_bit cram (tile_place device x y r col)) in
+      let wide : length bits ≡ columns_of kind = length-row_from (columns_at device x y) (λ col. place_bit cram (tile_place device x y r col)) ∙ ap columns_in is in
+      ap (λ line. cause_if (not (is_row (columns_of kind) line)) Row) (ap trimmed (tile-row device cram x y r inside) ∙ trimmed-row_line bits)
+      ∙ ap (λ good. cause_if (not good) Row) (is_row-row_line bits (columns_of kind) wide);
+}
+
+-- ---- the contents of a RAM are right
+
+-- the word of a line that stands at a place of it
+abbrev pub line_word : DeviceName → List Rows → ℕ → ℕ → ℕ → ℕ → ℕ
+line_word device bram x y row place = word_value device bram x y (16 * row + 15 - place)
+
+-- a word has at most sixteen bits
+pub line_word-small : (device : DeviceName) (bram : List Rows) (x y row place : ℕ) → line_word device bram x y row place < 65536
+line_word-small device bram x y row place = word-row_from-lt (λ bit. place_bit bram (word_bit_place device x y (16 * row + 15 - place) bit))
+
+-- one line each
+pub length-single : (n : ℕ) (given : ℕ → List ℕ) → length (gathered_below n (λ k. given k ∷ [])) ≡ n
+unfolding gathered_below
+length-single zero given = refl
+length-single (suc n) given = omega (arith, length-append (gathered_below n (λ k. given k ∷ [])) (given n ∷ []), length-single n given)
+
+-- the line of a place
+pub line_at-single : (n : ℕ) (given : ℕ → List ℕ) (k : ℕ) → k < n → line_at (gathered_below n (λ k. given k ∷ [])) k ≡ given k
+unfolding gathered_below
+line_at-single zero given k within = absurd (omega arith)
+line_at-single (suc n) given k within =
+    let lines = gathered_below n (λ k. given k ∷ []) in
+    elim (cases_eq k n) [
+      | inl last ↦ get_or_push lines (given n) [] k (length-single n given ∙ sym last) ∙ ap given (sym last)
+      | inr before ↦ get_or_append_left lines (given n ∷ []) [] k (omega (arith, length-single n given)) ∙ line_at-single n given k (omega arith)
+    ]
+
+-- lines without a byte below the space, one each
+plain-single : (n : ℕ) (given : ℕ → List ℕ) → ((k : ℕ) → IsPlain (given k)) → All IsPlain (gathered_below n (λ k. given k ∷ []))
+unfolding gathered_below
+plain-single zero given plain = All-nil IsPlain
+plain-single (suc n) given plain =
+    All-append IsPlain (gathered_below n (λ k. given k ∷ [])) (given n ∷ []) (plain-single n given plain) (All-cons IsPlain (given n) [] (plain n) (All-nil IsPlain))
+
+-- the bytes of a line are bytes
+line-bytes : (device : DeviceName) (bram : List Rows) (x y row : ℕ) → IsBytes (words_bytes 16 (line_word device bram x y row))
+line-bytes device bram x y row = IsBytes-words_bytes 16 (line_word device bram x y row) (λ place within. line_word-small device bram x y row place)
+
+-- the written contents of a RAM are a piece
+ram-is : (device : DeviceName) (bram : List Rows) (x y : ℕ) → x < 1000000000 → y < 1000000000 → IsPiece (ram_piece device bram x y)
+ram-is device bram x y small_x small_y =
+    let spelled = ram-spelled x y small_x small_y in
+    record {
+      spells = spelled.spells;
+      dot = spelled.dot;
+      count = length-single 16 (memory_line device bram x y);
+      calm = refl;
+      plain = All-cons IsPlain (grid_line ram_data_keyword x y) (gathered_below 16 (λ row. memory_line device bram x y row ∷ [])) spelled.plain
+          (plain-single 16 (memory_line device bram x y) (λ row. plain-encoded (words_bytes 16 (line_word device bram x y row)) (line-bytes device bram x y row)));
+    }
+
+-- line r of a written RAM, without blanks at its end
+pub ram-row : (device : DeviceName) (bram : List Rows) (x y r : ℕ) → r < 16
+    → trimmed (line_at (gathered_below 16 (λ row. memory_line device bram x y row ∷ [])) r) ≡ encode_lower (words_bytes 16 (line_word device bram x y r))
+ram-row device bram x y r within =
+    ap trimmed (line_at-single 16 (memory_line device bram x y) r within) ∙ trimmed-encoded (words_bytes 16 (line_word device bram x y r)) (line-bytes device bram x y r)
+
+-- they are right where none of that RAM stand before them
+pub ram-fine : (device : DeviceName) (bram : List Rows) (x y : ℕ) (past : List Piece) → x < 1000000000 → y < 1000000000 → kind_of device x y ≡ Some RamB
+    → Knows device past → some_statement (names_ram x y) past ≡ false → IsFine past (ram_piece device bram x y)
+ram-fine device bram x y past small_x small_y is knows new = record {
+  is = ram-is device bram x y small_x small_y;
+  cause =
+      (λ i. cause_behind (knows i) (new i) (RamData x y))
+      ∙ ap (λ there. or_else (kind_cause there RamB) None) is;
+  rows = λ r within.
+      let inside : r < 16 = omega (arith, length-single 16 (memory_line device bram x y)) in
+      let bytes = words_bytes 16 (line_word device bram x y r) in
+      ap (λ line. cause_if (not (is_memory_line line)) Hex) (ram-row device bram x y r inside)
+      ∙ ap (λ good. cause_if (not good) Hex) (is_memory_line-encoded bytes (line-bytes device bram x y r) (length-words_bytes 16 (line_word device bram x y r)));
+}
+
+-- ---- all tiles are right
+
+-- the grid is small
+grid-small : (device : DeviceName) (x y : ℕ) → x < grid_width device → y < grid_height device → (x < 1000000000) × (y < 1000000000)
+grid-small K1 x y inside within = (omega arith, omega arith)
+grid-small K8 x y inside within = (omega arith, omega arith)
+
+-- the pieces of a place of the grid are right where none of that place stands before them
+pub kind-fine : (image : Configuration) (x y : ℕ) (past : List Piece) → x < 1000000000 → y < 1000000000 → Knows image.device past
+    → some_statement (names_tile x y) past ≡ false → some_statement (names_ram x y) past ≡ false
+    → (kind : Option TileKind) → kind_of image.device x y ≡ kind → AreFine past (kind_pieces image x y kind)
+unfolding AreFine
+kind-fine image x y past small_x small_y knows tile ram None is = tt
+kind-fine image x y past small_x small_y knows tile ram (Some Io) is = (tile-fine image.device image.cram x y Io past small_x small_y is knows tile, tt)
+kind-fine image x y past small_x small_y knows tile ram (Some Logic) is = (tile-fine image.device image.cram x y Logic past small_x small_y is knows tile, tt)
+kind-fine image x y past small_x small_y knows tile ram (Some RamB) is =
+    let first = tile_piece image.device image.cram x y RamB in (
+      tile-fine image.device image.cram x y RamB past small_x small_y is knows tile,
+      (
+        ram-fine image.device image.bram x y (past ++ first ∷ []) small_x small_y is (Knows-more image.device past (first ∷ []) knows)
+            (append-none (λ piece. names_ram x y (Some piece.statement)) past (first ∷ []) ram (some_piece-one (λ piece. names_ram x y (Some piece.statement)) first)),
+        tt,
+      ),
+    )
+kind-fine image x y past small_x small_y knows tile ram (Some RamT) is = (tile-fine image.device image.cram x y RamT past small_x small_y is knows tile, tt)
+
+-- the pieces of a tile name no other tile
+kind-other_tile : (image : Configuration) (x y x' y' : ℕ) (kind : Option TileKind) → ((x' == x) && (y' == y)) ≡ false → some_statement (names_tile x y) (kind_pieces image x' y' kind) ≡ false
+unfolding some_piece
+kind-other_tile image x y x' y' None other = refl
+kind-other_tile image x y x' y' (Some Io) other = rw other refl
+kind-other_tile image x y x' y' (Some Logic) other = rw other refl
+kind-other_tile image x y x' y' (Some RamB) other = rw other refl
+kind-other_tile image x y x' y' (Some RamT) other = rw other refl
+
+-- nor another RAM
+kind-other_ram : (image : Configuration) (x y x' y' : ℕ) (kind : Option TileKind) → ((x' == x) && (y' == y)) ≡ false → some_statement (names_ram x y) (kind_pieces image x' y' kind) ≡ false
+unfolding some_piece
+kind-other_ram image x y x' y' None other = refl
+kind-other_ram image x y x' y' (Some Io) other = refl
+kind-other_ram image x y x' y' (Some Logic) other = refl
+kind-other_ram image x y x' y' (Some RamB) other = rw other refl
+kind-other_ram image x y x' y' (Some RamT) other = refl
+
+-- a test that no tile but that of a place passes is not passed before the place
+before-none : (image : Configuration) (past : List Piece) (x y : ℕ) (test : Option Statement → Bool)
+    → ((x' y' : ℕ) (kind : Option TileKind) → ((x' == x) && (y' == y)) ≡ false → some_statement test (kind_pieces image x' y' kind) ≡ false)
+    → some_statement test past ≡ false
+    → some_statement test ((past ++ gathered_below y (row_pieces image)) ++ gathered_below x (grid_pieces image y)) ≡ false
+before-none image past x y test other none =
+    let passes : Piece → Bool = λ piece. test (Some piece.statement) in
+    append-none passes (past ++ gathered_below y (row_pieces image)) (gathered_below x (grid_pieces image y))
+    (append-none passes past (gathered_below y (row_pieces image)) none
+    (gathered-none passes y (row_pieces image) (λ y' below.
+    gathered-none passes (grid_width image.device) (grid_pieces image y') (λ x' inside.
+    other x' y' (kind_of image.device x' y') (and_right (x' == x) (y' == y) (ne_eqb y' y (λ e. omega arith)))))))
+    (gathered-none passes x (grid_pieces image y) (λ x' below.
+    other x' y (kind_of image.device x' y) (and_left (x' == x) (y == y) (ne_eqb x' x (λ e. omega arith)))))
+
+-- all tiles are right behind pieces that name the device, and no tile
+pub tiles-fine : (image : Configuration) (past : List Piece) → Knows image.device past
+    → ((x y : ℕ) → some_statement (names_tile x y) past ≡ false) → ((x y : ℕ) → some_statement (names_ram x y) past ≡ false)
+    → AreFine past (all_tile_pieces image)
+tiles-fine image past knows tile ram =
+    AreFine-gathered past (grid_height image.device) (row_pieces image) (λ y within.
+    AreFine-gathered (past ++ gathered_below y (row_pieces image)) (grid_width image.device) (grid_pieces image y) (λ x inside.
+    let small = grid-small image.device x y inside within in
+    kind-fine image x y ((past ++ gathered_below y (row_pieces image)) ++ gathered_below x (grid_pieces image y)) small.0 small.1
+    (Knows-more image.device (past ++ gathered_below y (row_pieces image)) (gathered_below x (grid_pieces image y)) (Knows-more image.device past (gathered_below y (row_pieces image)) knows))
+    (before-none image past x y (names_tile x y) (kind-other_tile image x y) (tile x y))
+    (before-none image past x y (names_ram x y) (kind-other_ram image x y) (ram x y))
+    (kind_of image.device x y) refl))
+
+-- ---- extra bits
+
+abbrev pub extra_piece : Place → Piece
+extra_piece at = record { statement = ExtraBit at.bank at.px at.py; head = extra_line at; rows = [] }
+
+abbrev pub extra_pieces_if : Bool → Place → List Piece
+extra_pieces_if is_set at = if is_set then extra_piece at ∷ [] else []
+
+abbrev pub extra_pieces_at : Configuration → Place → List Piece
+extra_pieces_at image at = extra_pieces_if (place_bit image.cram at && not (is_owned image.device at)) at
+
+abbrev pub extra_column : Configuration → ℕ → ℕ → ℕ → List Piece
+extra_column image bank py px = extra_pieces_at image (record { bank = bank; px = px; py = py })
+
+abbrev pub extra_row : Configuration → ℕ → ℕ → List Piece
+extra_row image bank py = gathered_below (cram_width image.device) (extra_column image bank py)
+
+abbrev pub extra_bank : Configuration → ℕ → List Piece
+extra_bank image bank = gathered_below (cram_height image.device) (extra_row image bank)
+
+abbrev pub all_extra_pieces : Configuration → List Piece
+all_extra_pieces image = gathered_below 4 (extra_bank image)
+
+-- the line of an extra bit, where there is one
+extra-lines_if : (is_set : Bool) (at : Place) → all_lines (extra_pieces_if is_set at) ≡ (if is_set then extra_line at ∷ [] else [])
+unfolding all_lines
+extra-lines_if true at = refl
+extra-lines_if false at = refl
+
+-- their lines are those of all extra bits
+pub extra-lines : (image : Configuration) → all_lines (all_extra_pieces image) ≡ all_extra_lines image
+extra-lines image =
+    all_lines-gathered 4 (extra_bank image)
+    ∙ gathered_below-same 4 (λ bank. all_lines (extra_bank image bank))
+    (λ bank. gathered_below (cram_height image.device) (λ py. gathered_below (cram_width image.device) (λ px. extra_lines_at image (record { bank = bank; px = px; py = py })))) (λ bank within.
+    all_lines-gathered (cram_height image.device) (extra_row image bank)
+    ∙ gathered_below-same (cram_height image.device) (λ py. all_lines (extra_row image bank py))
+    (λ py. gathered_below (cram_width image.device) (λ px. extra_lines_at image (record { bank = bank; px = px; py = py }))) (λ py inside.
+    all_lines-gathered (cram_width image.device) (extra_column image bank py)
+    ∙ gathered_below-same (cram_width image.device) (λ px. all_lines (extra_column image bank py px)) (λ px. extra_lines_at image (record { bank = bank; px = px; py = py })) (λ px inside'.
+    extra-lines_if (place_bit image.cram (record { bank = bank; px = px; py = py }) && not (is_owned image.device (record { bank = bank; px = px; py = py }))) (record { bank = bank; px = px; py = py }))))
+
+-- the planes are small
+planes-small : (device : DeviceName) (px py : ℕ) → px < cram_width device → py < cram_height device → (px < 1000000000) × (py < 1000000000)
+planes-small K1 px py inside within = (omega arith, omega arith)
+planes-small K8 px py inside within = (omega arith, omega arith)
+
+-- a written extra bit is right
+extra-fine_if : (device : DeviceName) (at : Place) (past : List Piece) → at.bank < 4 → at.px < cram_width device → at.py < cram_height device → Knows device past
+    → (bit : Bool) → (set : Bool) → (bit && not (is_owned device at)) ≡ set → AreFine past (extra_pieces_if set at)
+extra-fine_if device at past bank column row knows bit false is = AreFine-none past
+extra-fine_if device at past bank column row knows bit true is =
+    let small = planes-small device at.px at.py column row in
+    let spelled = extra-spelled at (omega arith) small.0 small.1 in
+    let free : not (is_owned device at) ≡ true = (and_parts bit (not (is_owned device at)) is).1 in
+    let extra : is_extra device at ≡ true =
+    and_from (nat_lt at.bank 4 && nat_lt at.px (cram_width device) && nat_lt at.py (cram_height device)) (not (is_owned device at))
+    (and_from (nat_lt at.bank 4 && nat_lt at.px (cram_width device)) (nat_lt at.py (cram_height device))
+    (and_from (nat_lt at.bank 4) (nat_lt at.px (cram_width device)) (lt-ltb at.bank 4 bank) (lt-ltb at.px (cram_width device) column)) (lt-ltb at.py (cram_height device) row)) free
+    in
+    AreFine-one past (extra_piece at) (record {
+      is = record { spells = spelled.spells; dot = spelled.dot; count = refl; calm = refl; plain = All-cons IsPlain (extra_line at) [] spelled.plain (All-nil IsPlain) };
+      cause =
+          ap (λ device. cause_behind device false (ExtraBit at.bank at.px at.py)) knows
+          ∙ ap (λ good. or_else (cause_if (not good) ExtraPlace) None) extra;
+      rows = λ r within. absurd (omega arith);
+    })
+
+-- all extra bits are right behind pieces that name the device
+pub extras-fine : (image : Configuration) (past : List Piece) → Knows image.device past → AreFine past (all_extra_pieces image)
+extras-fine image past knows =
+    AreFine-gathered past 4 (extra_bank image) (λ bank within.
+    let past1 = past ++ gathered_below bank (extra_bank image) in
+    AreFine-gathered past1 (cram_height image.device) (extra_row image bank) (λ py row.
+    let past2 = past1 ++ gathered_below py (extra_row image bank) in
+    AreFine-gathered past2 (cram_width image.device) (extra_column image bank py) (λ px column.
+    let at : Place = record { bank = bank; px = px; py = py } in
+    extra-fine_if image.device at (past2 ++ gathered_below px (extra_column image bank py)) within column row
+    (Knows-more image.device past2 (gathered_below px (extra_column image bank py)) (Knows-more image.device past1 (gathered_below py (extra_row image bank)) (Knows-more image.device past (gathered_below bank (extra_bank image)) knows)))
+    (place_bit image.cram at) (place_bit image.cram at && not (is_owned image.device at)) refl)))

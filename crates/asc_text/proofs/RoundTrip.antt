@@ -1,0 +1,357 @@
+-- The canonical text of an image means that image.
+use Rattle.std.proofs.Common.{◌≡◌, ℕ, zero, suc, ◌+◌, ◌<◌, Bool, true, false, ◌||◌, List, [], ◌∷◌, ◌++◌, length, append_assoc, refl, sym, ap, ◌∙◌, subst, arith, inl, inr, Option, Some, None}
+use Rattle.std.proofs.lemmas.Bool.{le-leb, or_cases, or_from, or_left, or_right, cases_lt, cases_Bool, both_ways}
+use Rattle.std.proofs.lemmas.List.{length-append, get_or_at}
+use Rattle.std.proofs.lemmas.List.Elements.{All-nil, All-append}
+use Rattle.std.specs.Prelude.{All, unwrap_or}
+use Rattle.text_lines.specs.Lines.{lines_of, line_at}
+use Rattle.text_lines.specs.Places.{any_below, first_below}
+use Rattle.text_lines.specs.Written.{text_of, IsPlain}
+use Rattle.text_lines.proofs.Places.{any_below-at, first_below-none, gathered_below-none}
+use Rattle.text_lines.proofs.Written.{lines_of-text_of}
+use Rattle.bit_plane.specs.Rows.{Rows, IsGrid, bit_at}
+use Rattle.bit_plane.proofs.Made.{IsGrid-rows_from, bit_at-rows_from}
+use Rattle.plane_map.specs.Layout.{cram_width, cram_height, bram_width, bram_height}
+use Rattle.plane_map.specs.declared.device.DeviceName.{DeviceName}
+use Rattle.plane_map.specs.declared.tile.Place.{Place}
+use Rattle.ice_image.specs.Configuration.{Configuration, bank_rows, place_bit, AreBanks, IsWhole}
+use Rattle.ice_image.proofs.BankBits.{same_banks}
+use Rattle.ice_image.specs.declared.settings.Range.TheVariants.{Low}
+use Rattle.asc_text.specs.declared.statement.Statement.{Statement}
+use Rattle.asc_text.specs.declared.statement.Statement.TheVariants.{Comment, Device, WarmBoot, FrequencyRange, NoSleep, Tile, RamData, ExtraBit, Symbol}
+use Rattle.asc_text.specs.Statements.{device_word, device_keyword, begins_with_dot}
+use Rattle.asc_text.specs.Blocks.{depth_at, statement_over, statement_at, is_comment, device_in, device_before}
+use Rattle.asc_text.specs.Extras.{is_owned}
+use Rattle.asc_text.specs.Faults.{names_tile, names_ram, cause_at, fault_with, tile_named, fault_at, asc_fault_of}
+use Rattle.asc_text.specs.Meaning.{is_set_before, is_word_set_before, comment_before, settings_before, planes_from, image_before, symbol_in, symbols_before, image_for, asc_image_of, asc_symbols_of, AscMeans}
+use Rattle.asc_text.specs.Canonical.{with_word, comment_lines, warm_boot_lines, range_lines, no_sleep_lines, all_tile_lines, all_extra_lines, canonical_lines, asc_text_of}
+use Rattle.asc_text.proofs.PieceRead.{Piece, Stands, piece_lines, piece_sets, piece_sets_word}
+use Rattle.asc_text.proofs.PiecesRead.{all_lines, some_piece, some_piece-append, some_statement, first_statement, Holds, AreFine, AreFine-append, Stands-front, Stands-back, all_more}
+use Rattle.asc_text.proofs.PiecesWritten.{all_lines-append, append-none, Knows-more, all_tile_pieces, tile-lines, tiles-fine, all_extra_pieces, extra-lines, extras-fine}
+use Rattle.asc_text.proofs.HeadRead.{comment_pieces, warm_boot_pieces, range_pieces, no_sleep_pieces, head_pieces, head-lines, FailsHead, head-none, head-knows, head-fine, FailsPlaces, places-none, settings-read}
+use Rattle.asc_text.proofs.BitsRead.{tiles-set, tiles-set_at, extras-set, extras-set_at}
+use Rattle.asc_text.proofs.WordsRead.{tiles-set_word, tiles-set_word_at, extras-set_no_word}
+use Rattle.asc_text.proofs.CommentRead.{HasCommentLines, holds-start, plain-comment, comment-is, comment-none}
+
+-- ---- the lines
+
+-- the pieces behind the comment
+abbrev body_pieces : Configuration → List Piece
+body_pieces image = head_pieces image.device image.settings.warm_boot image.settings.range image.settings.no_sleep ++ (all_tile_pieces image ++ all_extra_pieces image)
+
+-- all pieces, the comment's among them
+abbrev whole_pieces : Configuration → List Piece
+whole_pieces image = comment_pieces image.comment ++ body_pieces image
+
+-- the lines of the comment, and those of the pieces
+abbrev written_lines : Configuration → List (List ℕ)
+written_lines image = comment_lines image.comment ++ all_lines (body_pieces image)
+
+-- lists that are joined from the left, and from the right
+joined : {A : Type 0} (a b c d e f g : List A) → a ++ b ++ c ++ d ++ e ++ f ++ g ≡ a ++ ((b ++ (c ++ (d ++ e))) ++ (f ++ g))
+joined a b c d e f g = simp append_assoc
+
+-- they are the lines of the canonical text
+canonical-written : (image : Configuration) → canonical_lines image ≡ written_lines image
+unfolding canonical_lines
+canonical-written image =
+    let device = image.device in
+    let settings = image.settings in
+    joined (comment_lines image.comment) (with_word device_keyword (device_word device) ∷ []) (warm_boot_lines settings.warm_boot) (range_lines settings.range) (no_sleep_lines settings.no_sleep) (all_tile_lines image) (all_extra_lines image)
+    ∙ ap (λ lines. comment_lines image.comment ++ lines)
+    (sym (all_lines-append (head_pieces device settings.warm_boot settings.range settings.no_sleep) (all_tile_pieces image ++ all_extra_pieces image)
+    ∙ (λ i. head-lines device settings.warm_boot settings.range settings.no_sleep i ++ all_lines-append (all_tile_pieces image) (all_extra_pieces image) i)
+    ∙ (λ i. (with_word device_keyword (device_word device) ∷ (warm_boot_lines settings.warm_boot ++ (range_lines settings.range ++ no_sleep_lines settings.no_sleep))) ++ (tile-lines image i ++ extra-lines image i))))
+
+-- ---- they are read
+
+-- all pieces are right, each behind those before it
+body-fine : (image : Configuration) → AreFine (comment_pieces image.comment) (body_pieces image)
+body-fine image =
+    let device = image.device in
+    let settings = image.settings in
+    let start = comment_pieces image.comment in
+    let head = head_pieces device settings.warm_boot settings.range settings.no_sleep in
+    let knows = head-knows image.comment device settings.warm_boot settings.range settings.no_sleep in
+    AreFine-append start head (all_tile_pieces image ++ all_extra_pieces image)
+    (head-fine image.comment device settings.warm_boot settings.range settings.no_sleep)
+    (AreFine-append (start ++ head) (all_tile_pieces image) (all_extra_pieces image)
+    (tiles-fine image (start ++ head) knows
+    (λ x y. head-none (λ piece. names_tile x y (Some piece.statement)) image.comment device settings.warm_boot settings.range settings.no_sleep
+    (record { at_comment = refl; at_device = refl; at_warm_boot = refl; at_medium = refl; at_high = refl; at_no_sleep = refl }))
+    (λ x y. head-none (λ piece. names_ram x y (Some piece.statement)) image.comment device settings.warm_boot settings.range settings.no_sleep
+    (record { at_comment = refl; at_device = refl; at_warm_boot = refl; at_medium = refl; at_high = refl; at_no_sleep = refl })))
+    (extras-fine image ((start ++ head) ++ all_tile_pieces image) (Knows-more device (start ++ head) (all_tile_pieces image) knows)))
+
+-- none of their lines has a byte below the space
+plain-pieces : (past pieces : List Piece) → AreFine past pieces → All IsPlain (all_lines pieces)
+unfolding AreFine all_lines
+plain-pieces past [] fine = All-nil IsPlain
+plain-pieces past (piece ∷ pieces) fine = All-append IsPlain (piece_lines piece) (all_lines pieces) fine.0.is.plain (plain-pieces (past ++ piece ∷ []) pieces fine.1)
+
+-- all lines stand at the first
+stands-whole : (lines : List (List ℕ)) → Stands lines 0 lines
+stands-whole lines = record {
+  fits = omega arith;
+  same = λ k within. let none : 0 + k ≡ k = omega arith in ap (line_at lines) none;
+}
+
+-- the lines say what the pieces say
+holds-whole : (image : Configuration) → HasCommentLines image.comment → Holds (written_lines image) (length (written_lines image)) (whole_pieces image)
+holds-whole image has =
+    let lines = written_lines image in
+    let front = comment_lines image.comment in
+    let rest = all_lines (body_pieces image) in
+    let stands : Stands lines 0 (front ++ rest) = stands-whole lines in
+    let start : Holds lines (length front) (comment_pieces image.comment) = holds-start lines image.comment has (Stands-front lines 0 front rest stands) in
+    let none : 0 + length front ≡ length front = omega arith in
+    let behind : Stands lines (length front) rest = subst (λ n. Stands lines n rest) none (Stands-back lines 0 front rest stands) in
+    subst (λ n. Holds lines n (whole_pieces image)) (sym (length-append front rest)) (all_more lines (length front) (comment_pieces image.comment) (body_pieces image) start (body-fine image) behind)
+
+-- ---- the planes
+
+-- tests that pass together are the same
+same_tests : (a b : Bool) → (a ≡ true → b ≡ true) → (b ≡ true → a ≡ true) → a ≡ b
+same_tests true b to from = sym (to refl)
+same_tests false true to from = from refl
+same_tests false false to from = refl
+
+-- no piece before the tiles passes a test, so that some tile or some extra bit does where any piece does
+whole-some : (image : Configuration) (test : Piece → Bool) → FailsHead test image.device → some_piece test (whole_pieces image) ≡ (some_piece test (all_tile_pieces image) || some_piece test (all_extra_pieces image))
+whole-some image test fails =
+    let settings = image.settings in
+    let head = head_pieces image.device settings.warm_boot settings.range settings.no_sleep in
+    let places = all_tile_pieces image ++ all_extra_pieces image in
+    ap (some_piece test) (sym (append_assoc (comment_pieces image.comment) head places))
+    ∙ some_piece-append test (comment_pieces image.comment ++ head) places
+    ∙ (λ i. head-none test image.comment image.device settings.warm_boot settings.range settings.no_sleep fails i || some_piece-append test (all_tile_pieces image) (all_extra_pieces image) i)
+
+-- the comment, the device and the settings set no bit of the configuration planes
+bits-fail : (device : DeviceName) (at : Place) → FailsHead (piece_sets device at) device
+unfolding piece_sets any_below
+bits-fail device at = record { at_comment = refl; at_device = refl; at_warm_boot = refl; at_medium = refl; at_high = refl; at_no_sleep = refl }
+
+-- nor one of the RAM planes
+words-fail : (device : DeviceName) (at : Place) → FailsHead (piece_sets_word device at) device
+unfolding piece_sets_word any_below
+words-fail device at = record { at_comment = refl; at_device = refl; at_warm_boot = refl; at_medium = refl; at_high = refl; at_no_sleep = refl }
+
+-- the pieces set the bits of the configuration planes
+bits-whole : (image : Configuration) (at : Place) → at.bank < 4 → at.px < cram_width image.device → at.py < cram_height image.device
+    → some_piece (piece_sets image.device at) (whole_pieces image) ≡ place_bit image.cram at
+bits-whole image at bank column row =
+    let test = piece_sets image.device at in
+    let tiles = some_piece test (all_tile_pieces image) in
+    let extras = some_piece test (all_extra_pieces image) in
+    whole-some image test (bits-fail image.device at)
+    ∙ same_tests (tiles || extras) (place_bit image.cram at)
+    (λ some. elim (or_cases tiles extras some) [
+      | inl tile ↦ tiles-set image at tile
+      | inr extra ↦ extras-set image at extra
+    ])
+    (λ bit. elim (cases_Bool (is_owned image.device at)) [
+      | inl owned ↦ or_left tiles extras (tiles-set_at image at owned bit)
+      | inr free ↦ or_right tiles extras (extras-set_at image at bank column row free bit)
+    ])
+
+-- and those of the RAM planes
+words-whole : (image : Configuration) (at : Place) → at.bank < 4 → at.px < bram_width image.device → at.py < bram_height image.device
+    → some_piece (piece_sets_word image.device at) (whole_pieces image) ≡ place_bit image.bram at
+words-whole image at bank column row =
+    let test = piece_sets_word image.device at in
+    let tiles = some_piece test (all_tile_pieces image) in
+    let extras = some_piece test (all_extra_pieces image) in
+    whole-some image test (words-fail image.device at)
+    ∙ same_tests (tiles || extras) (place_bit image.bram at)
+    (λ some. elim (or_cases tiles extras some) [
+      | inl tile ↦ tiles-set_word image at tile
+      | inr extra ↦ absurd (both_ways extras (extras-set_no_word image at) extra)
+    ])
+    (λ bit. or_left tiles extras (tiles-set_word_at image at (record { bank_in = bank; px_in = column; py_in = row }) bit))
+
+-- planes from the bits of places are planes of that size
+AreBanks-planes_from : (width height : ℕ) (bits : Place → Bool) → AreBanks width height (planes_from width height bits)
+AreBanks-planes_from width height bits = record { four = refl; grids = each }
+  where
+    each : (bank : ℕ) → bank < 4 → IsGrid width height (bank_rows (planes_from width height bits) bank)
+    each zero within = IsGrid-rows_from width height (λ px py. bits (record { bank = 0; px = px; py = py }))
+    each (suc zero) within = IsGrid-rows_from width height (λ px py. bits (record { bank = 1; px = px; py = py }))
+    each (suc (suc zero)) within = IsGrid-rows_from width height (λ px py. bits (record { bank = 2; px = px; py = py }))
+    each (suc (suc (suc zero))) within = IsGrid-rows_from width height (λ px py. bits (record { bank = 3; px = px; py = py }))
+    each (suc (suc (suc (suc bank)))) within = absurd (omega arith)
+
+-- with those bits
+bit_at-planes_from : (width height : ℕ) (bits : Place → Bool) (bank px py : ℕ) → bank < 4 → px < width → py < height
+    → bit_at (bank_rows (planes_from width height bits) bank) px py ≡ bits (record { bank = bank; px = px; py = py })
+bit_at-planes_from width height bits zero px py within column row = bit_at-rows_from width height (λ px py. bits (record { bank = 0; px = px; py = py })) px py column row
+bit_at-planes_from width height bits (suc zero) px py within column row = bit_at-rows_from width height (λ px py. bits (record { bank = 1; px = px; py = py })) px py column row
+bit_at-planes_from width height bits (suc (suc zero)) px py within column row = bit_at-rows_from width height (λ px py. bits (record { bank = 2; px = px; py = py })) px py column row
+bit_at-planes_from width height bits (suc (suc (suc zero))) px py within column row = bit_at-rows_from width height (λ px py. bits (record { bank = 3; px = px; py = py })) px py column row
+bit_at-planes_from width height bits (suc (suc (suc (suc bank)))) px py within column row = absurd (omega arith)
+
+-- planes are those from their own bits
+planes_from-is : (width height : ℕ) (bits : Place → Bool) (planes : List Rows) → AreBanks width height planes
+    → ((at : Place) → at.bank < 4 → at.px < width → at.py < height → bits at ≡ place_bit planes at) → planes_from width height bits ≡ planes
+planes_from-is width height bits planes banks same =
+    same_banks width height (planes_from width height bits) planes (AreBanks-planes_from width height bits) banks (λ at bank column row.
+    bit_at-planes_from width height bits at.bank at.px at.py bank column row ∙ same at bank column row)
+
+-- ---- names
+
+-- whether a statement names a net
+abbrev is_symbol : Option Statement → Bool
+is_symbol (Some (Symbol net)) = true
+is_symbol statement = false
+
+-- another statement gives no name
+no-symbol : (statement : Option Statement) (line : List ℕ) → is_symbol statement ≡ false → symbol_in statement line ≡ []
+no-symbol None line none = refl
+no-symbol (Some Comment) line none = refl
+no-symbol (Some (Device device)) line none = refl
+no-symbol (Some (WarmBoot setting)) line none = refl
+no-symbol (Some (FrequencyRange setting)) line none = refl
+no-symbol (Some (NoSleep setting)) line none = refl
+no-symbol (Some (Tile kind x y)) line none = refl
+no-symbol (Some (RamData x y)) line none = refl
+no-symbol (Some (ExtraBit bank x y)) line none = refl
+no-symbol (Some (Symbol net)) line none = absurd (both_ways true none refl)
+
+-- where no place passes, this one doesn't
+none-at : (n k : ℕ) (test : ℕ → Bool) → k < n → any_below n test ≡ false → test k ≡ false
+none-at n k test within none = elim (cases_Bool (test k)) [
+  | inl here ↦ absurd (both_ways (any_below n test) none (any_below-at n k test within here))
+  | inr not_here ↦ not_here
+]
+
+-- a test that neither the settings nor the places pass
+some-none : (image : Configuration) (test : Option Statement → Bool) → FailsHead (λ piece. test (Some piece.statement)) image.device → FailsPlaces test → some_statement test (whole_pieces image) ≡ false
+some-none image test fails fails' =
+    let settings = image.settings in
+    let passes : Piece → Bool = λ piece. test (Some piece.statement) in
+    let head = head_pieces image.device settings.warm_boot settings.range settings.no_sleep in
+    let places = all_tile_pieces image ++ all_extra_pieces image in
+    ap (some_piece passes) (sym (append_assoc (comment_pieces image.comment) head places))
+    ∙ append-none passes (comment_pieces image.comment ++ head) places (head-none passes image.comment image.device settings.warm_boot settings.range settings.no_sleep fails) (places-none test fails' image)
+
+-- ---- the whole
+
+-- the device is the image's
+device-whole : (image : Configuration) → HasCommentLines image.comment → device_before (written_lines image) (length (written_lines image)) ≡ Some image.device
+device-whole image has =
+    let settings = image.settings in
+    let head = head_pieces image.device settings.warm_boot settings.range settings.no_sleep in
+    let places = all_tile_pieces image ++ all_extra_pieces image in
+    (holds-whole image has).device
+    ∙ ap (λ pieces. first_statement device_in pieces) (sym (append_assoc (comment_pieces image.comment) head places))
+    ∙ Knows-more image.device (comment_pieces image.comment ++ head) places (head-knows image.comment image.device settings.warm_boot settings.range settings.no_sleep)
+
+-- nothing is wrong with the end where the device is known
+cause-end : (lines : List (List ℕ)) (device : DeviceName) → depth_at lines (length lines) ≡ 0 → device_before lines (length lines) ≡ Some device → cause_at lines (length lines) ≡ None
+unfolding cause_at
+cause-end lines device top named = rw (top, le-leb (length lines) (length lines) (omega arith), named) refl
+
+-- no line is faulty
+sound-whole : (image : Configuration) → HasCommentLines image.comment → first_below (length (written_lines image) + 1) (fault_at (written_lines image)) ≡ None
+sound-whole image has =
+    let lines = written_lines image in
+    let holds = holds-whole image has in
+    first_below-none (length lines + 1) (fault_at lines) (λ k within.
+    let sound : cause_at lines k ≡ None = elim (cases_lt k (length lines)) [
+      | inl inside ↦ holds.sound k inside
+      | inr end ↦
+          let here : k ≡ length lines = omega arith in
+          ap (cause_at lines) here ∙ cause-end lines image.device holds.top (device-whole image has)
+    ] in
+    ap (λ cause. fault_with cause (k + 1) (tile_named (statement_over lines k))) sound)
+
+-- no piece begins a comment
+calm-pieces : (past pieces : List Piece) → AreFine past pieces → some_statement is_comment pieces ≡ false
+unfolding AreFine some_piece
+calm-pieces past [] fine = refl
+calm-pieces past (piece ∷ pieces) fine =
+    or_from (is_comment (Some piece.statement)) (some_statement is_comment pieces) fine.0.is.calm (calm-pieces (past ++ piece ∷ []) pieces fine.1)
+
+-- lines that begin with a comment, or with none, say it
+comment-read : (comment : Option (List (List ℕ))) → HasCommentLines comment → (lines : List (List ℕ)) (n : ℕ) (body : List Piece) → Stands lines 0 (comment_lines comment)
+    → length (comment_lines comment) < n → begins_with_dot (line_at lines (length (comment_lines comment))) ≡ true
+    → Holds lines n (comment_pieces comment ++ body) → some_statement is_comment body ≡ false → comment_before lines n ≡ comment
+comment-read None has lines n body stands within dot holds calm =
+    comment-none lines n (λ k below. none-at n k (λ k. is_comment (statement_at lines k)) below (holds.any is_comment refl ∙ calm))
+comment-read (Some cs) has lines n body stands within dot holds calm = comment-is lines cs n has stands within dot holds.calm
+
+-- the line behind the comment is the device's
+line-behind : (image : Configuration) → begins_with_dot (line_at (written_lines image) (length (comment_lines image.comment))) ≡ true
+unfolding all_lines
+line-behind image =
+    let settings = image.settings in
+    let rest = (warm_boot_pieces settings.warm_boot ++ (range_pieces settings.range ++ no_sleep_pieces settings.no_sleep)) ++ (all_tile_pieces image ++ all_extra_pieces image) in
+    ap begins_with_dot (get_or_at (comment_lines image.comment) (with_word device_keyword (device_word image.device)) (all_lines rest) [] (length (comment_lines image.comment)) refl)
+
+-- there is one
+some-behind : (image : Configuration) → length (comment_lines image.comment) < length (written_lines image)
+unfolding all_lines
+some-behind image = omega (arith, length-append (comment_lines image.comment) (all_lines (body_pieces image)))
+
+-- the comment is the image's
+comment-whole : (image : Configuration) → HasCommentLines image.comment → comment_before (written_lines image) (length (written_lines image)) ≡ image.comment
+comment-whole image has =
+    let lines = written_lines image in
+    comment-read image.comment has lines (length lines) (body_pieces image) (Stands-front lines 0 (comment_lines image.comment) (all_lines (body_pieces image)) (stands-whole lines))
+    (some-behind image) (line-behind image) (holds-whole image has) (calm-pieces (comment_pieces image.comment) (body_pieces image) (body-fine image))
+
+-- the settings are the image's
+settings-whole : (image : Configuration) → HasCommentLines image.comment → settings_before (written_lines image) (length (written_lines image)) ≡ image.settings
+settings-whole image has =
+    let settings = image.settings in
+    let holds = holds-whole image has in
+    let read = settings-read image image.comment image.device settings.warm_boot settings.range settings.no_sleep in
+    let warm_boot = ap (λ first. unwrap_or first true) holds.warm_boot ∙ read.warm_boot_is in
+    let range = ap (λ first. unwrap_or first Low) holds.range ∙ read.range_is in
+    let no_sleep = ap (λ first. unwrap_or first false) holds.no_sleep ∙ read.no_sleep_is in
+    λ i. record { range = range i; warm_boot = warm_boot i; no_sleep = no_sleep i }
+
+-- what the lines configure is the image
+image-whole : (image : Configuration) → IsWhole image → HasCommentLines image.comment → image_before image.device (written_lines image) (length (written_lines image)) ≡ image
+image-whole image whole has =
+    let lines = written_lines image in
+    let holds = holds-whole image has in
+    let comment = comment-whole image has in
+    let settings = settings-whole image has in
+    let cram = planes_from-is (cram_width image.device) (cram_height image.device) (is_set_before image.device lines (length lines)) image.cram whole.cram (λ at bank column row.
+    holds.bits image.device at ∙ bits-whole image at bank column row) in
+    let bram = planes_from-is (bram_width image.device) (bram_height image.device) (is_word_set_before image.device lines (length lines)) image.bram whole.bram (λ at bank column row.
+    holds.words image.device at ∙ words-whole image at bank column row) in
+    λ i. record { device = image.device; comment = comment i; settings = settings i; cram = cram i; bram = bram i }
+
+-- they name nothing
+symbols-whole : (image : Configuration) → HasCommentLines image.comment → symbols_before (written_lines image) (length (written_lines image)) ≡ []
+unfolding symbols_before
+symbols-whole image has =
+    let lines = written_lines image in
+    let none : any_below (length lines) (λ k. is_symbol (statement_at lines k)) ≡ false =
+    (holds-whole image has).any is_symbol refl
+    ∙ some-none image is_symbol (record { at_comment = refl; at_device = refl; at_warm_boot = refl; at_medium = refl; at_high = refl; at_no_sleep = refl }) (record { tile = λ kind x y. refl; ram = λ x y. refl; extra = λ bank x y. refl })
+    in
+    gathered_below-none (length lines) (λ k. symbol_in (statement_at lines k) (line_at lines k)) (λ k within.
+    no-symbol (statement_at lines k) (line_at lines k) (none-at (length lines) k (λ k. is_symbol (statement_at lines k)) within none))
+
+-- the lines of the text are those that were written
+lines-whole : (image : Configuration) → HasCommentLines image.comment → lines_of (asc_text_of image) ≡ written_lines image
+unfolding asc_text_of
+lines-whole image has =
+    ap (λ lines. lines_of (text_of lines)) (canonical-written image)
+    ∙ lines_of-text_of (written_lines image) (All-append IsPlain (comment_lines image.comment) (all_lines (body_pieces image)) (plain-comment image.comment has) (plain-pieces (comment_pieces image.comment) (body_pieces image) (body-fine image)))
+
+-- the canonical text of an image means that image, and names nothing
+pub means_of_text : (image : Configuration) → IsWhole image → HasCommentLines image.comment → AscMeans (asc_text_of image) image []
+unfolding asc_fault_of asc_image_of asc_symbols_of
+means_of_text image whole has =
+    let is = lines-whole image has in
+    record {
+      accepted = ap (λ lines. first_below (length lines + 1) (fault_at lines)) is ∙ sound-whole image has;
+      configures =
+          ap (λ lines. image_for (device_before lines (length lines)) lines) is
+          ∙ ap (λ device. image_for device (written_lines image)) (device-whole image has)
+          ∙ ap (λ image. Some image) (image-whole image whole has);
+      names = ap (λ lines. symbols_before lines (length lines)) is ∙ symbols-whole image has;
+    }

@@ -1,0 +1,286 @@
+-- What is kept after a statement is what the lines say with it.
+use Rattle.std.proofs.Common.{◌≡◌, ℕ, ◌+◌, Bool, true, false, not, List, refl, sym, ap, ◌∙◌, subst, arith}
+use Rattle.std.specs.Prelude.{Option, Some, None, is_some}
+use Rattle.text_lines.specs.Lines.{line_at}
+use Rattle.text_lines.specs.Places.{or_else}
+use Rattle.plane_map.specs.Layout.{kind_of}
+use Rattle.plane_map.specs.declared.device.DeviceName.{DeviceName}
+use Rattle.plane_map.specs.declared.tile.TileKind.{TileKind}
+use Rattle.plane_map.specs.declared.tile.TileKind.TheVariants.{Io, Logic, RamB, RamT}
+use Rattle.ice_image.specs.Either.{device_of}
+use Rattle.ice_image.specs.declared.any.AnyImage.{AnyImage}
+use Rattle.ice_image.specs.declared.settings.Range.{Range}
+use Rattle.asc_text.specs.declared.statement.Statement.{Statement}
+use Rattle.asc_text.specs.declared.statement.Statement.TheVariants.{Comment, Device, WarmBoot, FrequencyRange, NoSleep, Tile, RamData, ExtraBit, Symbol}
+use Rattle.asc_text.specs.declared.fault.AscCause.TheVariants.{Repeated, Kind}
+use Rattle.asc_text.specs.declared.reading.Expected.{Expected}
+use Rattle.asc_text.specs.declared.reading.Expected.TheVariants.{Statement as AnyStatement}
+use Rattle.asc_text.specs.Statements.{statement_in, begins_with_dot}
+use Rattle.asc_text.specs.TileSets.{has_tile}
+use Rattle.asc_text.specs.Extras.{is_same_place}
+use Rattle.asc_text.specs.Blocks.{depth_at, statement_over, statement_at, depth_after, has_rows, is_comment}
+use Rattle.asc_text.specs.Faults.{cause_at, cause_if, kind_cause, is_same_kind, unknown_device}
+use Rattle.asc_text.specs.Reading.{ReaderState, HasKind, IsBlank, TakesStatement, statement_refusal, setting_refusal, tile_refusal}
+use Rattle.asc_text.proofs.HasRead.{HasRead, HasComment, HasImage, IsAt, device_known}
+use Rattle.asc_text.proofs.Given.{Follows, HasGiven-more}
+use Rattle.asc_text.proofs.CommentSteps.{comment-begins, comment-ends}
+use Rattle.asc_text.proofs.ImageSteps.{image-stays, image-begins, image-gains_cram}
+use Rattle.asc_text.proofs.LineSteps.{depth-more, at-statement, fit-more, same_device}
+use Rattle.asc_text.proofs.Refusals.{over_is}
+
+-- ---- what isn't refused
+
+-- of two causes neither holds
+neither : {A : Type 0} (a b : Option A) → or_else a b ≡ None → (a ≡ None) × (b ≡ None)
+neither None b none = (refl, none)
+neither (Some a) b none = absurd cc
+
+not_given : {A : Type 0} (value : Option A) → cause_if (is_some value) Repeated ≡ None → value ≡ None
+not_given None none = refl
+not_given (Some value) none = absurd cc
+
+-- a setting that is taken has a value, and none was given before
+setting-taken : {A : Type 0} (old setting : Option A) → setting_refusal (is_some old) (is_some setting) ≡ None → (old ≡ None) × (is_some setting ≡ true)
+setting-taken None None none = absurd cc
+setting-taken None (Some value) none = (refl, refl)
+setting-taken (Some old) setting none = absurd cc
+
+kind-taken : (there kind : TileKind) → cause_if (not (is_same_kind there kind)) (Kind there) ≡ None → there ≡ kind
+kind-taken Io Io none = refl
+kind-taken Io Logic none = absurd cc
+kind-taken Io RamB none = absurd cc
+kind-taken Io RamT none = absurd cc
+kind-taken Logic Io none = absurd cc
+kind-taken Logic Logic none = refl
+kind-taken Logic RamB none = absurd cc
+kind-taken Logic RamT none = absurd cc
+kind-taken RamB Io none = absurd cc
+kind-taken RamB Logic none = absurd cc
+kind-taken RamB RamB none = refl
+kind-taken RamB RamT none = absurd cc
+kind-taken RamT Io none = absurd cc
+kind-taken RamT Logic none = absurd cc
+kind-taken RamT RamB none = absurd cc
+kind-taken RamT RamT none = refl
+
+tile-there : (there : Option TileKind) (kind : TileKind) → kind_cause there kind ≡ None → there ≡ Some kind
+tile-there None kind none = absurd cc
+tile-there (Some there) kind none = ap (λ k. Some k) (kind-taken there kind none)
+
+-- the tile of a statement that is taken is there
+tile-taken : (image : Option AnyImage) (kind : TileKind) (x y : ℕ) → tile_refusal image kind x y ≡ None → HasKind image x y kind
+tile-taken None kind x y none = absurd cc
+tile-taken (Some image) kind x y none = tile-there (kind_of (device_of image) x y) kind none
+
+known-none : (image : Option AnyImage) → image ≡ None → device_known image ≡ None
+known-none image none = ap device_known none
+
+-- ---- what is given
+
+-- the state in which a statement is taken
+abbrev pub calm : ReaderState → ReaderState
+calm s = record s { in_comment = false }
+
+-- a device and its image
+follows-device : (s : ReaderState) (name : Option DeviceName) (image : Option AnyImage) (line : List ℕ) → s.image ≡ None → IsBlank name image → Follows s (Some (Device name)) line (record (calm s) { image = image })
+follows-device s None image line none blank = absurd blank
+follows-device s (Some name) None line none blank = absurd blank
+follows-device s (Some name) (Some image) line none blank = record {
+  warm_boot = refl;
+  warm_boot_known = refl;
+  range = refl;
+  range_known = refl;
+  no_sleep = refl;
+  no_sleep_known = refl;
+  device = (ap device_known none, ap (λ d. Some d) blank.0);
+  device_known = refl;
+  tiles = refl;
+  rams = refl;
+  symbols = refl;
+}
+
+follows-warm_boot : (s : ReaderState) (setting : Option Bool) (line : List ℕ) → (s.warm_boot ≡ None) × (is_some setting ≡ true) → Follows s (Some (WarmBoot setting)) line (record (calm s) { warm_boot = setting })
+follows-warm_boot s None line taken = absurd (cc (taken.1))
+follows-warm_boot s (Some value) line taken = record {
+  warm_boot = (taken.0, refl);
+  warm_boot_known = refl;
+  range = refl;
+  range_known = refl;
+  no_sleep = refl;
+  no_sleep_known = refl;
+  device = refl;
+  device_known = refl;
+  tiles = refl;
+  rams = refl;
+  symbols = refl;
+}
+
+follows-range : (s : ReaderState) (setting : Option Range) (line : List ℕ) → (s.range ≡ None) × (is_some setting ≡ true) → Follows s (Some (FrequencyRange setting)) line (record (calm s) { range = setting })
+follows-range s None line taken = absurd (cc (taken.1))
+follows-range s (Some value) line taken = record {
+  warm_boot = refl;
+  warm_boot_known = refl;
+  range = (taken.0, refl);
+  range_known = refl;
+  no_sleep = refl;
+  no_sleep_known = refl;
+  device = refl;
+  device_known = refl;
+  tiles = refl;
+  rams = refl;
+  symbols = refl;
+}
+
+follows-no_sleep : (s : ReaderState) (setting : Option Bool) (line : List ℕ) → (s.no_sleep ≡ None) × (is_some setting ≡ true) → Follows s (Some (NoSleep setting)) line (record (calm s) { no_sleep = setting })
+follows-no_sleep s None line taken = absurd (cc (taken.1))
+follows-no_sleep s (Some value) line taken = record {
+  warm_boot = refl;
+  warm_boot_known = refl;
+  range = refl;
+  range_known = refl;
+  no_sleep = (taken.0, refl);
+  no_sleep_known = refl;
+  device = refl;
+  device_known = refl;
+  tiles = refl;
+  rams = refl;
+  symbols = refl;
+}
+
+-- what a statement gives
+follows : (s new : ReaderState) (statement : Statement) (line : List ℕ) → statement_refusal s statement ≡ None → TakesStatement (calm s) statement line new → Follows s (Some statement) line new
+follows s new Comment line none takes =
+    let P : ReaderState → Type 0 = λ t. Follows s (Some Comment) line t in
+    subst P (sym takes) (record { warm_boot = refl; warm_boot_known = refl; range = refl; range_known = refl; no_sleep = refl; no_sleep_known = refl; device = refl; device_known = refl; tiles = refl; rams = refl; symbols = refl })
+follows s new (Device name) line none takes =
+    let P : ReaderState → Type 0 = λ t. Follows s (Some (Device name)) line t in
+    subst P (sym takes.0) (follows-device s name new.image line (not_given s.image ((neither (unknown_device (Device name)) (cause_if (is_some s.image) Repeated) none).1)) takes.1)
+follows s new (WarmBoot setting) line none takes =
+    let P : ReaderState → Type 0 = λ t. Follows s (Some (WarmBoot setting)) line t in
+    subst P (sym takes) (follows-warm_boot s setting line (setting-taken s.warm_boot setting none))
+follows s new (FrequencyRange setting) line none takes =
+    let P : ReaderState → Type 0 = λ t. Follows s (Some (FrequencyRange setting)) line t in
+    subst P (sym takes) (follows-range s setting line (setting-taken s.range setting none))
+follows s new (NoSleep setting) line none takes =
+    let P : ReaderState → Type 0 = λ t. Follows s (Some (NoSleep setting)) line t in
+    subst P (sym takes) (follows-no_sleep s setting line (setting-taken s.no_sleep setting none))
+follows s new (Tile kind x y) line none takes =
+    let P : ReaderState → Type 0 = λ t. Follows s (Some (Tile kind x y)) line t in
+    subst P (sym takes.0) (record { warm_boot = refl; warm_boot_known = refl; range = refl; range_known = refl; no_sleep = refl; no_sleep_known = refl; device = refl; device_known = refl; tiles = takes.1; rams = refl; symbols = refl })
+follows s new (RamData x y) line none takes =
+    let P : ReaderState → Type 0 = λ t. Follows s (Some (RamData x y)) line t in
+    subst P (sym takes.0) (record { warm_boot = refl; warm_boot_known = refl; range = refl; range_known = refl; no_sleep = refl; no_sleep_known = refl; device = refl; device_known = refl; tiles = refl; rams = takes.1; symbols = refl })
+follows s new (ExtraBit bank x y) line none takes =
+    let P : ReaderState → Type 0 = λ t. Follows s (Some (ExtraBit bank x y)) line t in
+    let same = same_device s.image new.image (λ device. is_same_place (record { bank = bank; px = x; py = y })) takes.1 in
+    subst P (sym takes.0) (record { warm_boot = refl; warm_boot_known = refl; range = refl; range_known = refl; no_sleep = refl; no_sleep_known = refl; device = same; device_known = refl; tiles = refl; rams = refl; symbols = refl })
+follows s new (Symbol net) line none takes =
+    let P : ReaderState → Type 0 = λ t. Follows s (Some (Symbol net)) line t in
+    subst P (sym takes) (record { warm_boot = refl; warm_boot_known = refl; range = refl; range_known = refl; no_sleep = refl; no_sleep_known = refl; device = refl; device_known = refl; tiles = refl; rams = refl; symbols = refl })
+
+-- ---- the image
+
+-- the image after a statement
+image-after : (lines : List (List ℕ)) (n : ℕ) (s new : ReaderState) (statement : Statement) (line : List ℕ) → HasImage lines n s.image → statement_refusal s statement ≡ None → TakesStatement (calm s) statement line new
+    → depth_at lines n ≡ 0 → statement_over lines n ≡ Some statement → HasImage lines (n + 1) new.image
+image-after lines n s new Comment line has none takes depth over =
+    let P : ReaderState → Type 0 = λ t. HasImage lines (n + 1) t.image in
+    subst P (sym takes) (image-stays lines n s.image has (λ device at. rw over refl) (λ device at. rw over refl))
+image-after lines n s new (Device name) line has none takes depth over =
+    let P : Option AnyImage → Type 0 = λ i. HasImage lines n i in
+    let nothing = not_given s.image ((neither (unknown_device (Device name)) (cause_if (is_some s.image) Repeated) none).1) in
+    image-begins lines n name new.image (subst P nothing has) takes.1 (λ device at. rw over refl) (λ device at. rw over refl)
+image-after lines n s new (WarmBoot setting) line has none takes depth over =
+    let P : ReaderState → Type 0 = λ t. HasImage lines (n + 1) t.image in
+    subst P (sym takes) (image-stays lines n s.image has (λ device at. rw over refl) (λ device at. rw over refl))
+image-after lines n s new (FrequencyRange setting) line has none takes depth over =
+    let P : ReaderState → Type 0 = λ t. HasImage lines (n + 1) t.image in
+    subst P (sym takes) (image-stays lines n s.image has (λ device at. rw over refl) (λ device at. rw over refl))
+image-after lines n s new (NoSleep setting) line has none takes depth over =
+    let P : ReaderState → Type 0 = λ t. HasImage lines (n + 1) t.image in
+    subst P (sym takes) (image-stays lines n s.image has (λ device at. rw over refl) (λ device at. rw over refl))
+image-after lines n s new (Tile kind x y) line has none takes depth over =
+    let P : ReaderState → Type 0 = λ t. HasImage lines (n + 1) t.image in
+    subst P (sym takes.0) (image-stays lines n s.image has (λ device at. rw (over, depth) refl) (λ device at. rw over refl))
+image-after lines n s new (RamData x y) line has none takes depth over =
+    let P : ReaderState → Type 0 = λ t. HasImage lines (n + 1) t.image in
+    subst P (sym takes.0) (image-stays lines n s.image has (λ device at. rw over refl) (λ device at. rw (over, depth) refl))
+image-after lines n s new (ExtraBit bank x y) line has none takes depth over =
+    image-gains_cram lines n s.image new.image (λ device. is_same_place (record { bank = bank; px = x; py = y })) has takes.1 (λ device at. rw over refl) (λ device at. rw over refl)
+image-after lines n s new (Symbol net) line has none takes depth over =
+    let P : ReaderState → Type 0 = λ t. HasImage lines (n + 1) t.image in
+    subst P (sym takes) (image-stays lines n s.image has (λ device at. rw over refl) (λ device at. rw over refl))
+
+-- ---- the comment
+
+ends : (lines : List (List ℕ)) (n : ℕ) (s new : ReaderState) (statement : Statement) → HasComment lines n s.comment s.in_comment → begins_with_dot (line_at lines n) ≡ true
+    → statement_at lines n ≡ Some statement → statement_in (line_at lines n) ≡ Some statement → is_comment (Some statement) ≡ false → new.comment ≡ s.comment → new.in_comment ≡ false → HasComment lines (n + 1) new.comment new.in_comment
+ends lines n s new statement has dot here said other comment inside =
+    let P : Option (List (List ℕ)) → Type 0 = λ c. HasComment lines (n + 1) c new.in_comment in
+    let Q : Bool → Type 0 = λ b. HasComment lines (n + 1) s.comment b in
+    subst P (sym comment) (subst Q (sym inside) (comment-ends lines n s.comment s.in_comment has dot (ap is_comment here ∙ other) (ap is_comment said ∙ other)))
+
+comment-after : (lines : List (List ℕ)) (n : ℕ) (s new : ReaderState) (statement : Statement) (line : List ℕ) → HasComment lines n s.comment s.in_comment → TakesStatement (calm s) statement line new
+    → begins_with_dot (line_at lines n) ≡ true → statement_at lines n ≡ Some statement → statement_in (line_at lines n) ≡ Some statement → HasComment lines (n + 1) new.comment new.in_comment
+comment-after lines n s new Comment line has takes dot here said =
+    let P : ReaderState → Type 0 = λ t. HasComment lines (n + 1) t.comment t.in_comment in
+    subst P (sym takes) (comment-begins lines n dot here said)
+comment-after lines n s new (Device name) line has takes dot here said =
+    ends lines n s new (Device name) has dot here said refl (ap (λ (t : ReaderState). t.comment) takes.0) (ap (λ (t : ReaderState). t.in_comment) takes.0)
+comment-after lines n s new (WarmBoot setting) line has takes dot here said =
+    ends lines n s new (WarmBoot setting) has dot here said refl (ap (λ (t : ReaderState). t.comment) takes) (ap (λ (t : ReaderState). t.in_comment) takes)
+comment-after lines n s new (FrequencyRange setting) line has takes dot here said =
+    ends lines n s new (FrequencyRange setting) has dot here said refl (ap (λ (t : ReaderState). t.comment) takes) (ap (λ (t : ReaderState). t.in_comment) takes)
+comment-after lines n s new (NoSleep setting) line has takes dot here said =
+    ends lines n s new (NoSleep setting) has dot here said refl (ap (λ (t : ReaderState). t.comment) takes) (ap (λ (t : ReaderState). t.in_comment) takes)
+comment-after lines n s new (Tile kind x y) line has takes dot here said =
+    ends lines n s new (Tile kind x y) has dot here said refl (ap (λ (t : ReaderState). t.comment) takes.0) (ap (λ (t : ReaderState). t.in_comment) takes.0)
+comment-after lines n s new (RamData x y) line has takes dot here said =
+    ends lines n s new (RamData x y) has dot here said refl (ap (λ (t : ReaderState). t.comment) takes.0) (ap (λ (t : ReaderState). t.in_comment) takes.0)
+comment-after lines n s new (ExtraBit bank x y) line has takes dot here said =
+    ends lines n s new (ExtraBit bank x y) has dot here said refl (ap (λ (t : ReaderState). t.comment) takes.0) (ap (λ (t : ReaderState). t.in_comment) takes.0)
+comment-after lines n s new (Symbol net) line has takes dot here said =
+    ends lines n s new (Symbol net) has dot here said refl (ap (λ (t : ReaderState). t.comment) takes) (ap (λ (t : ReaderState). t.in_comment) takes)
+
+-- ---- what comes next
+
+-- the line after a statement without rows
+next-statement : (lines : List (List ℕ)) (n : ℕ) (s new : ReaderState) (statement : Statement) → s.expected ≡ AnyStatement → depth_at lines (n + 1) ≡ depth_after 0 (has_rows (Some statement)) → has_rows (Some statement) ≡ false
+    → new.expected ≡ s.expected → IsAt lines (n + 1) new new.expected
+next-statement lines n s new statement expected depth none same =
+    let at : Expected → Type 0 = λ e. IsAt lines (n + 1) new e in
+    subst at (sym (same ∙ expected)) (depth ∙ rw none refl)
+
+stands-after : (lines : List (List ℕ)) (n : ℕ) (s new : ReaderState) (statement : Statement) (line : List ℕ) → s.expected ≡ AnyStatement → statement_refusal s statement ≡ None → TakesStatement (calm s) statement line new
+    → depth_at lines (n + 1) ≡ depth_after 0 (has_rows (Some statement)) → statement_in (line_at lines n) ≡ Some statement → IsAt lines (n + 1) new new.expected
+stands-after lines n s new Comment line expected none takes depth said = next-statement lines n s new Comment expected depth refl (ap (λ (t : ReaderState). t.expected) takes)
+stands-after lines n s new (Device name) line expected none takes depth said = next-statement lines n s new (Device name) expected depth refl (ap (λ (t : ReaderState). t.expected) takes.0)
+stands-after lines n s new (WarmBoot setting) line expected none takes depth said = next-statement lines n s new (WarmBoot setting) expected depth refl (ap (λ (t : ReaderState). t.expected) takes)
+stands-after lines n s new (FrequencyRange setting) line expected none takes depth said = next-statement lines n s new (FrequencyRange setting) expected depth refl (ap (λ (t : ReaderState). t.expected) takes)
+stands-after lines n s new (NoSleep setting) line expected none takes depth said = next-statement lines n s new (NoSleep setting) expected depth refl (ap (λ (t : ReaderState). t.expected) takes)
+stands-after lines n s new (ExtraBit bank x y) line expected none takes depth said = next-statement lines n s new (ExtraBit bank x y) expected depth refl (ap (λ (t : ReaderState). t.expected) takes.0)
+stands-after lines n s new (Symbol net) line expected none takes depth said = next-statement lines n s new (Symbol net) expected depth refl (ap (λ (t : ReaderState). t.expected) takes)
+stands-after lines n s new (Tile kind x y) line expected none takes depth said =
+    let P : ReaderState → Type 0 = λ t. IsAt lines (n + 1) t t.expected in
+    let there = tile-taken s.image kind x y ((neither (tile_refusal s.image kind x y) (cause_if (has_tile s.tiles x y) Repeated) none).0) in
+    subst P (sym takes.0) (depth, ap (λ k. statement_in (line_at lines k)) (omega arith) ∙ said, there, omega arith, refl)
+stands-after lines n s new (RamData x y) line expected none takes depth said =
+    let P : ReaderState → Type 0 = λ t. IsAt lines (n + 1) t t.expected in
+    let there = tile-taken s.image RamB x y ((neither (tile_refusal s.image RamB x y) (cause_if (has_tile s.rams x y) Repeated) none).0) in
+    subst P (sym takes.0) (depth, ap (λ k. statement_in (line_at lines k)) (omega arith) ∙ said, there, omega arith, refl)
+
+-- ---- all of it
+
+pub took-statement : (lines : List (List ℕ)) (n : ℕ) (s new : ReaderState) (statement : Statement) → HasRead lines n s → s.expected ≡ AnyStatement → depth_at lines n ≡ 0 → cause_at lines n ≡ None
+    → begins_with_dot (line_at lines n) ≡ true → statement_in (line_at lines n) ≡ Some statement → statement_refusal s statement ≡ None → TakesStatement (calm s) statement (line_at lines n) new → HasRead lines (n + 1) new
+took-statement lines n s new statement read expected depth fits dot said none takes =
+    let here : statement_at lines n ≡ Some statement = at-statement lines n depth ∙ said in
+    let over : statement_over lines n ≡ Some statement = over_is lines n s AnyStatement depth ∙ said in
+    let next : depth_at lines (n + 1) ≡ depth_after 0 (has_rows (Some statement)) = depth-more lines n ∙ ap (λ d. depth_after d (has_rows (statement_in (line_at lines n)))) depth ∙ ap (λ g. depth_after 0 (has_rows g)) said in
+    record {
+      fit = fit-more lines n read.fit fits;
+      stands = stands-after lines n s new statement (line_at lines n) expected none takes next said;
+      given = HasGiven-more lines n s new (Some statement) read.given here (follows s new statement (line_at lines n) none takes);
+      image = image-after lines n s new statement (line_at lines n) read.image none takes depth over;
+      comment = comment-after lines n s new statement (line_at lines n) read.comment takes dot here said;
+    }

@@ -1,0 +1,66 @@
+-- What a text says of each bit, in the words of the format: the character or the digit that stands for the bit below the
+-- statement that names its tile or its RAM, or the statement of the extra bit.
+use Rattle.std.specs.Prelude.{◌≡◌, ℕ, ◌+◌, ◌/◌, ◌%◌, Bool, false, List, length, Option, Some, None}
+use Rattle.text_lines.specs.Lines.{lines_of, line_at, trimmed}
+use Rattle.text_lines.specs.Places.{any_below, least_below}
+use Rattle.plane_map.specs.Layout.{place_of, word_place_of, IsTileBit, IsWordBit, IsExtraBit, IsInCram}
+use Rattle.plane_map.specs.declared.tile.Place.{Place}
+use Rattle.plane_map.specs.declared.tile.TileBit.{TileBit}
+use Rattle.plane_map.specs.declared.tile.WordBit.{WordBit}
+use Rattle.ice_image.specs.Configuration.{Configuration, place_bit}
+use Rattle.asc_text.specs.declared.statement.Statement.{Statement}
+use Rattle.asc_text.specs.declared.statement.Statement.TheVariants.{ExtraBit}
+use Rattle.asc_text.specs.Rows.{row_bit, memory_bit}
+use Rattle.asc_text.specs.Blocks.{statement_at}
+use Rattle.asc_text.specs.Extras.{is_same_place}
+use Rattle.asc_text.specs.Faults.{names_tile, names_ram}
+
+-- ---- tiles
+
+-- where the statement stands that begins the rows of that tile
+unfoldable pub tile_statement : List (List ℕ) → ℕ → ℕ → Option ℕ
+tile_statement lines x y = least_below (length lines) (λ k. names_tile x y (statement_at lines k))
+
+-- whether the row's line below a statement has the character 1 at the column, and never where there is no statement
+abbrev pub character_below : List (List ℕ) → Option ℕ → ℕ → ℕ → Bool
+character_below lines None row col = false
+character_below lines (Some place) row col = row_bit (trimmed (line_at lines (place + 1 + row))) col
+
+-- whether the character that stands for a bit of a tile is 1
+abbrev pub character_of : List (List ℕ) → TileBit → Bool
+character_of lines bit = character_below lines (tile_statement lines bit.x bit.y) bit.row bit.col
+
+-- ---- extra bits
+
+-- whether a statement is that of the extra bit at a place
+abbrev pub names_extra : Place → Option Statement → Bool
+names_extra at (Some (ExtraBit bank x y)) = is_same_place (record { bank = bank; px = x; py = y }) at
+names_extra at statement = false
+
+-- whether some statement is
+unfoldable pub is_named_extra : List (List ℕ) → Place → Bool
+is_named_extra lines at = any_below (length lines) (λ k. names_extra at (statement_at lines k))
+
+-- ---- words
+
+-- where the statement stands that begins the contents of that RAM
+unfoldable pub ram_statement : List (List ℕ) → ℕ → ℕ → Option ℕ
+ram_statement lines x y = least_below (length lines) (λ k. names_ram x y (statement_at lines k))
+
+-- whether the digits of a word have a bit, sixteen words to a line below a statement, and never where there is no statement
+abbrev pub digit_bit_below : List (List ℕ) → Option ℕ → ℕ → ℕ → Bool
+digit_bit_below lines None word bit = false
+digit_bit_below lines (Some place) word bit = memory_bit (trimmed (line_at lines (place + 1 + word / 16))) (word % 16) bit
+
+-- whether the digits that stand for a word of a RAM have a bit
+abbrev pub digit_bit_of : List (List ℕ) → WordBit → Bool
+digit_bit_of lines at = digit_bit_below lines (ram_statement lines at.x at.y) at.word at.bit
+
+-- ---- the whole
+
+-- Each bit of a tile is its character, each extra bit is 1 exactly where a statement names it, and each bit of a word is
+-- that of its digits.
+pub record HasBits (text : List ℕ) (image : Configuration) : Type 0 where
+  pub tiles : (bit : TileBit) → IsTileBit image.device bit → place_bit image.cram (place_of image.device bit) ≡ character_of (lines_of text) bit
+  pub extras : (at : Place) → IsInCram image.device at → IsExtraBit image.device at → place_bit image.cram at ≡ is_named_extra (lines_of text) at
+  pub words : (at : WordBit) → IsWordBit image.device at → place_bit image.bram (word_place_of image.device at) ≡ digit_bit_of (lines_of text) at

@@ -1,0 +1,12 @@
+pub mod Statements
+pub mod Keywords
+pub mod TileSets
+pub mod Rows
+pub mod Blocks
+pub mod Extras
+pub mod Faults
+pub mod Meaning
+pub mod Characters
+pub mod Canonical
+pub mod Gains
+pub mod Reading

@@ -1,25 +1,37 @@
 // A text as a bitstream.
 ghost use Rattle.std.specs.Prelude.{◌≡◌, None, IfOk, IfErr, OnOk};
-ghost use Rattle.ice_pack.specs.CanonicalBytes.{canonical_bytes};
-ghost use Rattle.ice_pack.specs.TileText.{configuration_of, unfit_line};
-ghost use Rattle.ice_pack.specs.Fault.{Tells};
+ghost use Rattle.ice_image.specs.Either.{configuration_of, device_of};
+ghost use Rattle.asc_text.specs.Faults.{asc_fault_of, Tells};
+ghost use Rattle.ice_pack.specs.Packed.{awake_where, IsPacked};
 
-use crate::banks::Banks;
-use crate::fault::PackFault;
-use crate::stream::canonical_bytes;
-use crate::tile_text::read_planes;
-use plane_map::Hx1k;
+use asc_text::{AscFault, AscFile, read};
+use bin_stream::encode;
+use ice_image::{AnyImage, Settings};
 use std::alloc::Global;
 
-/// The canonical bytes of a text of logic tiles of an HX1K. RAM contents are 0, the flash stays awake where `no_sleep`
-/// is true, and the other settings are those of a text without any: range low, warm boot enabled.
-#[tactic(auto, unfolding(crate::specs::TileText::configuration_of))]
-pub fn pack(alloc: Global, asc: &[u8], no_sleep: bool) -> Result<Vec<u8>, PackFault>
-    ensures packed { IfOk result (λ bytes. bytes.items ≡ canonical_bytes (configuration_of asc.now no_sleep)) }
-    ensures fits { OnOk result (unfit_line asc.now ≡ None) }
-    ensures not_yet { IfErr result (Tells (unfit_line asc.now)) }
+/// The canonical bytes of what a text configures. The flash stays awake where `no_sleep` is true, whatever the text says.
+pub fn pack(alloc: Global, asc: &[u8], no_sleep: bool) -> Result<Vec<u8>, AscFault>
+    ensures packed { IfOk result (λ bytes. IsPacked asc.now no_sleep bytes.items) }
+    ensures accepted { OnOk result (asc_fault_of asc.now ≡ None) }
+    ensures refused { IfErr result (Tells (asc_fault_of asc.now)) }
 {
-    let cram = read_planes(alloc, asc)?;
-    let bram = Banks::zeroed(alloc)?;
-    Ok(canonical_bytes::<Hx1k>(alloc, &cram, &bram, no_sleep)?)
+    let AscFile {
+        mut image,
+        symbols: _,
+    } = read(alloc, asc)?;
+    keep_awake(&mut image, no_sleep);
+    Ok(encode(alloc, &image)?)
+}
+
+/// Lets the flash stay awake after the configuration, where that is asked.
+fn keep_awake(image: &mut AnyImage, no_sleep: bool)
+    ensures { configuration_of image.new ≡ awake_where no_sleep (configuration_of image.old) }
+{
+    if no_sleep {
+        let settings = image.settings();
+        image.set_settings(Settings {
+            no_sleep: true,
+            ..settings
+        });
+    }
 }

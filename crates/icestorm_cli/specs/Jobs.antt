@@ -4,7 +4,7 @@ use Rattle.std.specs.declared.alloc.Global.{Global}
 use Rattle.std.specs.Borrow.{Bor}
 use Rattle.std.specs.List.{list_any}
 use Rattle.icestorm_cli.specs.declared.job.Tool.{Tool}
-use Rattle.icestorm_cli.specs.declared.job.Tool.TheVariants.{Icepack}
+use Rattle.icestorm_cli.specs.declared.job.Tool.TheVariants.{Icepack, Iceunpack}
 use Rattle.icestorm_cli.specs.declared.job.Load.{Load}
 use Rattle.icestorm_cli.specs.declared.job.Job.{Job}
 
@@ -32,7 +32,10 @@ task_of job = record { tool = job.tool; needs = map need_of job.loads.items; tar
 
 -- the tool that a word names
 unfoldable pub tool_named : List ℕ → Option Tool
-tool_named word = if bytes_eq word (codes "icepack") then Some Icepack else None
+tool_named word =
+    if bytes_eq word (codes "icepack") then Some Icepack
+    else if bytes_eq word (codes "iceunpack") then Some Iceunpack
+    else None
 
 -- the tool that the words name
 abbrev pub tool_of : List (List ℕ) → Option Tool
@@ -43,24 +46,26 @@ tool_of (word ∷ words) = tool_named word
 unfoldable pub is_name : List ℕ → Bool
 is_name word = not (get_or word 0 0 == 45)
 
--- the most bytes of a text of tiles
-abbrev pub text_limit : ℕ
-text_limit = 16777216
+-- the most bytes of what a tool takes: a text, or a bitstream
+abbrev pub limit_of : Tool → ℕ
+limit_of Icepack = 16777216
+limit_of Iceunpack = 4194304
 
-abbrev pub pack_task : Option (List ℕ) → Option (List ℕ) → Task
-pack_task source target = record { tool = Icepack; needs = record { name = source; limit = text_limit } ∷ []; target = target }
+-- one input to one output
+abbrev pub task_between : Tool → Option (List ℕ) → Option (List ℕ) → Task
+task_between tool source target = record { tool = tool; needs = record { name = source; limit = limit_of tool } ∷ []; target = target }
 
--- `icepack [INPUT [OUTPUT]]`
-unfoldable pub icepack_task : List (List ℕ) → Option Task
-icepack_task [] = Some (pack_task None None)
-icepack_task (source ∷ []) = if is_name source then Some (pack_task (Some source) None) else None
-icepack_task (source ∷ target ∷ []) = if is_name source && is_name target then Some (pack_task (Some source) (Some target)) else None
-icepack_task (source ∷ target ∷ more ∷ words) = None
+-- `[INPUT [OUTPUT]]`
+unfoldable pub task_of_names : Tool → List (List ℕ) → Option Task
+task_of_names tool [] = Some (task_between tool None None)
+task_of_names tool (source ∷ []) = if is_name source then Some (task_between tool (Some source) None) else None
+task_of_names tool (source ∷ target ∷ []) = if is_name source && is_name target then Some (task_between tool (Some source) (Some target)) else None
+task_of_names tool (source ∷ target ∷ more ∷ words) = None
 
 -- what a tool's own words ask for
 abbrev pub task_for : Option Tool → List (List ℕ) → Option Task
 task_for None words = None
-task_for (Some Icepack) words = icepack_task words
+task_for (Some tool) words = task_of_names tool words
 
 -- what the words ask for, and nothing where they aren't taken
 unfoldable pub asked : List (List ℕ) → Option Task

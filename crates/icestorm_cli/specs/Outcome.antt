@@ -2,11 +2,16 @@
 use Rattle.std.specs.Prelude.{ℕ, ◌+◌, Bool, false, List, [], ◌∷◌, length, get_or, nat_lt, if◌then◌else◌, Option, None, Some, Result, Ok, Err}
 use Rattle.std.specs.FinMap.{get}
 use Rattle.ice_io.specs.Files.{FileMap}
-use Rattle.ice_pack.specs.CanonicalBytes.{canonical_bytes}
-use Rattle.ice_pack.specs.TileText.{configuration_of, unfit_line}
+use Rattle.ice_image.specs.Configuration.{Configuration}
+use Rattle.asc_text.specs.Faults.{Fault, asc_fault_of}
+use Rattle.asc_text.specs.Canonical.{asc_text_of}
+use Rattle.asc_text.specs.Meaning.{asc_image_of}
+use Rattle.bin_stream.specs.CanonicalBytes.{canonical_bytes}
+use Rattle.bin_stream.specs.Refusals.{Fault as StreamFault}
+use Rattle.bin_stream.specs.Spelling.{bin_read_of}
 use Rattle.icestorm_cli.specs.declared.job.Tool.{Tool}
-use Rattle.icestorm_cli.specs.declared.job.Tool.TheVariants.{Icepack}
-use Rattle.icestorm_cli.specs.declared.job.Refusal.TheVariants.{NotYet}
+use Rattle.icestorm_cli.specs.declared.job.Tool.TheVariants.{Icepack, Iceunpack}
+use Rattle.icestorm_cli.specs.declared.job.Refusal.TheVariants.{Text, Stream}
 use Rattle.icestorm_cli.specs.declared.job.Failure.{Failure}
 use Rattle.icestorm_cli.specs.declared.job.Failure.TheVariants.{Refused, Read, TooLong}
 use Rattle.icestorm_cli.specs.Jobs.{Need, Task, asked, tool_of, reads_input}
@@ -39,14 +44,25 @@ loaded files input (need ∷ needs) index = do
   others ← loaded files input needs (index + 1)
   Ok (first ∷ others)
 
--- the bitstream of a text of tiles, or the least line that doesn't fit
-abbrev pub packed_or : List ℕ → Option ℕ → Result (List ℕ) Failure
-packed_or text None = Ok (canonical_bytes (configuration_of text false))
-packed_or text (Some line) = Err (Refused (NotYet line))
+-- the bytes of what a text configures; each text without a fault configures something
+abbrev pub bytes_of : Option Configuration → List ℕ
+bytes_of None = []
+bytes_of (Some image) = canonical_bytes image
+
+-- the bitstream of a text, or its fault
+abbrev pub packed_or : Option Fault → Option Configuration → Result (List ℕ) Failure
+packed_or None image = Ok (bytes_of image)
+packed_or (Some fault) image = Err (Refused (Text fault.line fault.tile fault.cause))
+
+-- the canonical text of what a bitstream spells, or its fault
+abbrev pub unpacked_or : Result Configuration StreamFault → Result (List ℕ) Failure
+unpacked_or (Ok image) = Ok (asc_text_of image)
+unpacked_or (Err fault) = Err (Refused (Stream fault.offset fault.cause))
 
 -- what a tool answers to the bytes of its needs
 unfoldable pub answer_of : Tool → List (List ℕ) → Result (List ℕ) Failure
-answer_of Icepack texts = let text = get_or texts 0 [] in packed_or text (unfit_line text)
+answer_of Icepack texts = let text = get_or texts 0 [] in packed_or (asc_fault_of text) (asc_image_of text)
+answer_of Iceunpack texts = unpacked_or (bin_read_of (get_or texts 0 []))
 
 -- what a task gives: the bytes for its target, or its failure
 abbrev pub done : FileMap → List ℕ → Task → Result (List ℕ) Failure

@@ -2,6 +2,8 @@
 ghost use Rattle.std.specs.Prelude.{◌≡◌};
 ghost use Rattle.icestorm_cli.specs.declared.job.Failure.TheVariants.{Memory};
 
+use asc_text::{AscCause, TileXy};
+use bin_stream::BinCause;
 use std::alloc::{AllocError, AllocFailed};
 
 /// The tools, each by the first word of its command line.
@@ -9,6 +11,8 @@ use std::alloc::{AllocError, AllocFailed};
 pub enum Tool {
     /// Text to bitstream.
     Icepack,
+    /// Bitstream to text.
+    Iceunpack,
 }
 
 /// Bytes that a tool needs: those of a file, or of standard input where there is no name.
@@ -32,8 +36,17 @@ pub struct Job<'a> {
 /// Why a tool refuses what it was given.
 #[derive(Clone, Copy, Debug, PartialEq, Eq)]
 pub enum Refusal {
-    /// The least line of a text that isn't of the accepted form.
-    NotYet { line: u64 },
+    /// The first faulty line of a text, counted from 1, its tile, and what is wrong there.
+    Text {
+        line: u64,
+        tile: Option<TileXy>,
+        cause: AscCause,
+    },
+    /// The offset of the first fault of a bitstream, in bytes from 0, and what is wrong there.
+    Stream {
+        offset: u64,
+        cause: BinCause,
+    },
 }
 
 /// Why a job wasn't done.

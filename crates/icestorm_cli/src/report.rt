@@ -1,13 +1,19 @@
 // The lines for standard error, in pieces that take no memory.
-ghost use Rattle.std.specs.Prelude.{◌≡◌, ◌++◌, ◌≤◌, length, flat_map, take, map, slice_get, OnOk, OnErr, List};
+ghost use Rattle.std.specs.Prelude.{◌≡◌, ◌++◌, ◌≤◌, length, flat_map, take, map, slice_get, OnOk, OnErr, List, Some, codes};
 ghost use Rattle.ice_io.specs.Faults.{Rose};
 ghost use Rattle.icestorm_cli.specs.Effects.{Writes};
 ghost use Rattle.icestorm_cli.specs.Jobs.{need_of, task_of, text_of};
-ghost use Rattle.icestorm_cli.specs.Messages.{tool_name, line_of, usage_of, speaker, usage_for, usage_line, memory_line, source_name, target_name, need_name, need_limit, failure_line};
+ghost use Rattle.icestorm_cli.specs.Messages.{tool_name, line_of, usage_of, speaker, usage_for, usage_line, memory_line, source_name, target_name, need_name, need_limit, failure_line, kind_name, cause_text, refusal_text, stream_cause_name, found_text, four_digits};
 
 use crate::job::{Failure, Job, Load, Refusal, Tool};
+use asc_text::{AscCause, TileXy};
+use bin_stream::BinCause;
 use ice_io::{Sink, write_whole};
 use itoa::Buffer;
+use plane_map::TileKind;
+
+// What ends each line.
+const LINE_END: &[u8] = b"\n";
 
 // Writes pieces one after the other, and stops at the first that can't be written whole.
 fn write_pieces<E: Sink>(errors: &mut E, pieces: &[&[u8]])
@@ -27,6 +33,7 @@ pub fn tool_name(tool: Tool) -> &'static str
 {
     match tool {
         Tool::Icepack => "icepack",
+        Tool::Iceunpack => "iceunpack",
     }
 }
 
@@ -36,6 +43,7 @@ fn usage_of(tool: Tool) -> &'static str
 {
     match tool {
         Tool::Icepack => "icepack [-u] [-s] [INPUT [OUTPUT]]",
+        Tool::Iceunpack => "iceunpack [INPUT [OUTPUT]]",
     }
 }
 
@@ -133,9 +141,166 @@ fn write_line<'a, E: Sink>(
         second.as_bytes(),
         third.as_bytes(),
         fourth.as_bytes(),
-        b"\n",
+        LINE_END,
     ];
     write_pieces(errors, &pieces);
+}
+
+// What is wrong where another kind of tile is expected.
+fn kind_text(expected: TileKind) -> &'static str
+    ensures { result.now ≡ codes "Kind expected " ++ kind_name expected }
+{
+    match expected {
+        TileKind::Io => "Kind expected io",
+        TileKind::Logic => "Kind expected logic",
+        TileKind::RamB => "Kind expected ramb",
+        TileKind::RamT => "Kind expected ramt",
+    }
+}
+
+// What is wrong with a line.
+fn cause_text(cause: AscCause) -> &'static str
+    ensures { result.now ≡ cause_text cause }
+{
+    match cause {
+        AscCause::Statement => "Statement",
+        AscCause::NoDevice => "NoDevice",
+        AscCause::Device => "Device",
+        AscCause::Coordinates => "Coordinates",
+        AscCause::Kind { expected } => kind_text(expected),
+        AscCause::Row => "Row",
+        AscCause::Repeated => "Repeated",
+        AscCause::Hex => "Hex",
+        AscCause::ExtraPlace => "ExtraPlace",
+        AscCause::Setting => "Setting",
+        AscCause::StrayData => "StrayData",
+        AscCause::CommentByte => "CommentByte",
+    }
+}
+
+// Writes the line of a fault at the tile of these numbers.
+fn write_tile_fault<'a, E: Sink>(
+    errors: &mut E,
+    name: &'a [u8],
+    line: &'a [u8],
+    x: &'a [u8],
+    y: &'a [u8],
+    cause: &'a [u8],
+)
+    ensures { Writes (line_of name.now (codes "line " ++ line.now ++ codes ": tile " ++ x.now ++ codes " " ++ y.now ++ codes ": " ++ cause.now)) (E.held errors.old) (E.held errors.new) (E.faults errors.old) (E.faults errors.new) }
+{
+    let pieces = [
+        name, b": line ", line, b": tile ", x, b" ", y, b": ", cause, b"\n",
+    ];
+    write_pieces(errors, &pieces);
+}
+
+// The line of a fault at a tile.
+fn report_tile_fault<E: Sink>(errors: &mut E, name: &str, line: u64, tile: TileXy, cause: AscCause)
+    ensures { Writes (line_of name.now (refusal_text (Refusal.Text line (Some tile) cause))) (E.held errors.old) (E.held errors.new) (E.faults errors.old) (E.faults errors.new) }
+{
+    let mut line_digits = Buffer::new();
+    let mut x_digits = Buffer::new();
+    let mut y_digits = Buffer::new();
+    write_tile_fault(
+        errors,
+        name.as_bytes(),
+        line_digits.format(line).as_bytes(),
+        x_digits.format(tile.x).as_bytes(),
+        y_digits.format(tile.y).as_bytes(),
+        cause_text(cause).as_bytes(),
+    );
+}
+
+// The line of a fault of a text.
+fn report_fault<E: Sink>(
+    errors: &mut E,
+    name: &str,
+    line: u64,
+    tile: Option<TileXy>,
+    cause: AscCause,
+)
+    ensures { Writes (line_of name.now (refusal_text (Refusal.Text line tile cause))) (E.held errors.old) (E.held errors.new) (E.faults errors.old) (E.faults errors.new) }
+{
+    match tile {
+        None => {
+            let mut digits = Buffer::new();
+            let line = digits.format(line);
+            write_line(errors, name, "line ", line, ": ", cause_text(cause));
+        }
+        Some(tile) => report_tile_fault(errors, name, line, tile, cause),
+    }
+}
+
+// What is wrong with a bitstream. The value that a check found is written behind it.
+fn stream_cause_name(cause: BinCause) -> &'static str
+    ensures { result.now ≡ stream_cause_name cause }
+{
+    match cause {
+        BinCause::NoPreamble => "NoPreamble",
+        BinCause::Truncated => "Truncated",
+        BinCause::UnknownCommand => "UnknownCommand",
+        BinCause::LongPayload => "LongPayload",
+        BinCause::BadBank => "BadBank",
+        BinCause::BadWidth => "BadWidth",
+        BinCause::BadHeight => "BadHeight",
+        BinCause::DataEnd => "DataEnd",
+        BinCause::Check { found: _ } => "Check ",
+        BinCause::BadRange => "BadRange",
+        BinCause::BadMode => "BadMode",
+        BinCause::NoDevice => "NoDevice",
+    }
+}
+
+// Writes the line of a fault of a bitstream.
+fn write_stream_fault<'a, E: Sink>(
+    errors: &mut E,
+    name: &'a [u8],
+    offset: &'a [u8],
+    cause: &'a [u8],
+    found: &'a [u8],
+)
+    ensures { Writes (line_of name.now (codes "offset " ++ offset.now ++ codes ": " ++ cause.now ++ found.now)) (E.held errors.old) (E.held errors.new) (E.faults errors.old) (E.faults errors.new) }
+{
+    let pieces = [name, b": offset ", offset, b": ", cause, found, LINE_END];
+    write_pieces(errors, &pieces);
+}
+
+// The check value that was found as four hexadecimal digits, and nothing where another thing is wrong.
+fn format_found<'a>(cause: BinCause, digits: &'a mut [u8; 4]) -> &'a [u8]
+    ensures { result.now ≡ found_text cause }
+{
+    match cause {
+        BinCause::Check { found } => {
+            format_digits(found, digits);
+            digits.as_slice()
+        }
+        _ => &[],
+    }
+}
+
+// Four hexadecimal digits.
+fn format_digits(n: u16, digits: &mut [u8; 4])
+    ensures { digits.new ≡ four_digits n }
+{
+    // Two bytes have four digits.
+    let _ = hex::encode_to_slice(n.to_be_bytes(), digits);
+}
+
+// The line of a fault of a bitstream.
+fn report_stream_fault<E: Sink>(errors: &mut E, name: &str, offset: u64, cause: BinCause)
+    ensures { Writes (line_of name.now (refusal_text (Refusal.Stream offset cause))) (E.held errors.old) (E.held errors.new) (E.faults errors.old) (E.faults errors.new) }
+{
+    let mut digits = Buffer::new();
+    let offset = digits.format(offset);
+    let mut found_digits = [0; 4];
+    write_stream_fault(
+        errors,
+        name.as_bytes(),
+        offset.as_bytes(),
+        stream_cause_name(cause).as_bytes(),
+        format_found(cause, &mut found_digits),
+    );
 }
 
 /// The line of a failure.
@@ -145,9 +310,11 @@ pub fn report_failure<E: Sink>(errors: &mut E, job: &Job<'_>, failure: Failure)
 {
     let name = tool_name(job.tool);
     match failure {
-        Failure::Refused(Refusal::NotYet { line }) => {
-            let mut digits = Buffer::new();
-            write_line(errors, name, "line ", digits.format(line), ": NotYet", "");
+        Failure::Refused(Refusal::Text { line, tile, cause }) => {
+            report_fault(errors, name, line, tile, cause);
+        }
+        Failure::Refused(Refusal::Stream { offset, cause }) => {
+            report_stream_fault(errors, name, offset, cause);
         }
         Failure::Read { load } => {
             let source = load_name(&job.loads, load);

@@ -1,6 +1,9 @@
 // Whole runs over files and streams in memory.
 ghost use Rattle.std.specs.Prelude.{◌≤◌};
 
+mod packing;
+mod unpacking;
+
 use crate::running::run;
 use ice_io::{MemFiles, MemSink, MemSource, NamedFile};
 use std::alloc::{AllocError, Global};
@@ -27,7 +30,7 @@ impl Stage {
         Ok(Stage {
             files: MemFiles::new(alloc, Vec::new(alloc), "out", 0, 1, Vec::new(alloc))?,
             input: MemSource::new(text.to_vec(alloc)?, 65_536, [failing_read].to_vec(alloc)?),
-            output: MemSink::new(alloc, 40_000, 40_000, Vec::new(alloc))?,
+            output: MemSink::new(alloc, 140_000, 140_000, Vec::new(alloc))?,
             errors: MemSink::new(alloc, 100, 100, Vec::new(alloc))?,
         })
     }
@@ -97,13 +100,13 @@ fn packs_standard_input(rt: HostRuntime) -> Result<(), Fail> {
 #[test]
 fn tells_why_nothing_is_done(rt: HostRuntime) -> Result<(), Fail> {
     let alloc = rt.alloc();
-    let unfit = ".device 1k\n.io_tile 1 0\n";
+    let faulty = ".device 1k\n.io_tile 1 0\n";
     for (words, text, status, line) in [
         (
             ["icepack"].as_slice(),
-            unfit,
+            faulty,
             1,
-            "icepack: line 2: NotYet\n",
+            "icepack: line 3: tile 1 0: Row\n",
         ),
         (
             ["icepack", "nofile"].as_slice(),
@@ -116,7 +119,13 @@ fn tells_why_nothing_is_done(rt: HostRuntime) -> Result<(), Fail> {
         (["icepack", "-x"].as_slice(), "", 2, ICEPACK_USAGE),
         (["icepack", "-s"].as_slice(), "", 2, ICEPACK_USAGE),
         ([].as_slice(), "", 2, USAGE),
-        (["iceunpack"].as_slice(), "", 2, USAGE),
+        (["icemulti"].as_slice(), "", 2, USAGE),
+        (
+            ["iceunpack", "-x"].as_slice(),
+            "",
+            2,
+            "iceunpack: usage: iceunpack [INPUT [OUTPUT]]\n",
+        ),
     ] {
         let mut stage = Stage::on_input(alloc, text.as_bytes(), 0)?;
         assert_eq!(rt; stage.run(alloc, words)?, status, "of {words:?}");
@@ -140,9 +149,10 @@ fn writes_nothing_where_a_read_fails(rt: HostRuntime) -> Result<(), Fail> {
 #[test]
 fn leaves_what_standard_output_took(rt: HostRuntime) -> Result<(), Fail> {
     let alloc = rt.alloc();
-    let mut whole = Stage::on_input(alloc, DEVICE, 0)?;
+    let text = b".comment\n.device 1k\n";
+    let mut whole = Stage::on_input(alloc, text, 0)?;
     assert_eq!(rt; whole.run(alloc, &["icepack"])?, 0);
-    let mut stage = Stage::on_input(alloc, DEVICE, 0)?;
+    let mut stage = Stage::on_input(alloc, text, 0)?;
     stage.output = MemSink::new(alloc, 40_000, 10_000, [3].to_vec(alloc)?)?;
     assert_eq!(rt; stage.run(alloc, &["icepack"])?, 4);
     assert_eq!(rt;
@@ -175,7 +185,7 @@ fn stores_what_a_file_takes(rt: HostRuntime) -> Result<(), Fail> {
 fn refuses_more_than_the_limit(rt: HostRuntime) -> Result<(), Fail> {
     let alloc = rt.alloc();
     for (len, status, line) in [
-        (16_777_216, 1, "icepack: line 1: NotYet\n"),
+        (16_777_216, 1, "icepack: line 1: StrayData\n"),
         (16_777_217, 6, "icepack: too long: in limit 16777216\n"),
     ] {
         let mut stage = Stage::on_file(alloc, "in", vec![in alloc; b'0'; len]?, 0)?;

@@ -1,0 +1,217 @@
+-- A command that was entered, or what is wrong with it.
+use Rattle.std.proofs.Common.{◌≡◌, ℕ, suc, ◌+◌, ◌*◌, ◌/◌, ◌%◌, ◌≤◌, Bool, true, false, not, ◌&&◌, List, [], ◌∷◌, ◌++◌, length, take, drop, refl, sym, ap, ap₂, subst, ◌∙◌, arith, inl, inr, append_assoc, length-append, length-take-le, take_at, take-append-drop, drop-drop}
+use Rattle.std.specs.Prelude.{Option, Some, None, nat_lt, ◌==◌}
+use Rattle.std.proofs.lemmas.Bool.{cases_Bool, ltb-false, eqb-true, and_parts}
+use Rattle.text_lines.specs.Places.{or_else}
+use Rattle.ice_image.specs.declared.any.AnyImage.{AnyImage}
+use Rattle.bin_stream.specs.Commands.{Kind, Command, Short, Data, number_of, spelling, is_wake_up, control, wake_up_number}
+use Rattle.bin_stream.specs.State.{size_after}
+use Rattle.bin_stream.specs.Refusals.{Fault, cause_if, fault_at, first_fault, payload_fault, fault_where, body_fault, end_fault, data_cause, data_fault, data_kind}
+use Rattle.bin_stream.specs.Spelling.{first_command, command_of}
+use Rattle.bin_stream.specs.Registers.{Held, held_after, short_cause_by, checked, after_short, data_cause_by, after_data}
+use Rattle.bin_stream.specs.Step.{payload_refusal, device_if, Refuses, IsDrawnOn, Stands, IsEntered}
+use Rattle.bin_stream.specs.declared.fault.BinCause.{BinCause}
+use Rattle.bin_stream.specs.declared.fault.BinFault.{BinFault}
+use Rattle.bin_stream.specs.declared.fault.BinCause.TheVariants.{Truncated, DataEnd, NoDevice}
+use Rattle.bin_stream.proofs.Steps.{head_of, payload_in, behind_payload, with_payload, read_fault, read_command, length-payload, spelled_short, short_cause-is, after_short-is, held_after-short, held_after-data}
+use Rattle.bin_stream.proofs.Drawn.{device_if-is, Holds-short, Holds-data}
+
+-- a fault that was told of an equal value
+pub Refuses-by : (found other : Option Fault) (fault : BinFault) → found ≡ other → Refuses other fault → Refuses found fault
+Refuses-by found other fault same told = subst (λ (found : Option Fault). Refuses found fault) (sym same) told
+
+-- the parts of a value that is missing
+or_else-parts : {A : Type 0} (a b : Option A) → or_else a b ≡ None → (a ≡ None) × (b ≡ None)
+or_else-parts (Some a) b none = absurd cc
+or_else-parts None b none = (refl, none)
+
+-- data have opcode 0
+data_opcode : (opcode n : ℕ) (kind : Kind) → data_kind opcode n ≡ Some kind → opcode ≡ control
+data_opcode opcode n kind is =
+    elim (cases_Bool (opcode == control)) [
+      | inl here ↦ eqb-true opcode control here
+      | inr other ↦
+          let bad : None ≡ Some kind = rw other at is in
+          absurd cc
+    ]
+
+-- two bytes 00 stand behind data that end well
+end_zeros : (place : ℕ) (bytes : List ℕ) → end_fault place bytes ≡ None → bytes ≡ 0 ∷ 0 ∷ drop 2 bytes
+end_zeros place [] is = absurd cc
+end_zeros place (byte ∷ []) is =
+    elim (cases_Bool (byte == 0)) [
+      | inl zero_byte ↦
+          let bad : Some (fault_at (place + 1) Truncated) ≡ None = rw zero_byte at is in
+          absurd cc
+      | inr other ↦
+          let bad : Some (fault_at place DataEnd) ≡ None = rw other at is in
+          absurd cc
+    ]
+end_zeros place (byte ∷ next ∷ rest) is =
+    elim (cases_Bool (byte == 0)) [
+      | inl first ↦ elim (cases_Bool (next == 0)) [
+        | inl second ↦ ap₂ (λ byte next. byte ∷ next ∷ rest) (eqb-true byte 0 first) (eqb-true next 0 second)
+        | inr other ↦
+            let bad : Some (fault_at (place + 1) DataEnd) ≡ None = rw (first, other) at is in
+            absurd cc
+      ]
+      | inr other ↦
+          let bad : Some (fault_at place DataEnd) ≡ None = rw other at is in
+          absurd cc
+    ]
+
+-- data of so many bytes that end well
+body_zeros : (size place : ℕ) (bytes : List ℕ) → body_fault size place bytes ≡ None → (size ≤ length bytes) × (drop size bytes ≡ 0 ∷ 0 ∷ drop 2 (drop size bytes))
+body_zeros size place bytes is =
+    elim (cases_Bool (nat_lt (length bytes) size)) [
+      | inl short ↦
+          let bad : Some (fault_at (place + length bytes) Truncated) ≡ None = rw short at is in
+          absurd cc
+      | inr enough ↦
+          let ends : end_fault (place + size) (drop size bytes) ≡ None = rw enough at is in
+          (ltb-false (length bytes) size enough, end_zeros (place + size) (drop size bytes) ends)
+    ]
+
+-- a wake-up that may stand there has a configuration plane's last row before it
+wake_up_reached : (held : Held) (opcode n : ℕ) → ((opcode == control) && (n == wake_up_number)) ≡ true → None ≡ short_cause_by held opcode n → held.reached ≡ true
+wake_up_reached held opcode n is allowed =
+    let parts = and_parts (opcode == control) (n == wake_up_number) is in
+    let P : ℕ → ℕ → Type 0 = λ opcode n. None ≡ short_cause_by held opcode n in
+    let at_control : P control n = subst (λ (opcode : ℕ). P opcode n) (eqb-true opcode control parts.0) allowed in
+    let here : None ≡ cause_if (not held.reached) NoDevice = subst (P control) (eqb-true n wake_up_number parts.1) at_control in
+    elim (cases_Bool held.reached) [
+      | inl reached ↦ reached
+      | inr not_reached ↦
+          let bad : None ≡ Some NoDevice = rw not_reached at here in
+          absurd cc
+    ]
+
+module _ (commands : List Command) (place n : ℕ) (bytes payload spelled : List ℕ) (held : Held) (image : Option AnyImage) (fine : payload_refusal place bytes ≡ None) (payload_is : payload ≡ payload_in bytes) (n_is : n ≡ number_of payload) (stands : Stands commands held image) where
+  abbrev opcode : ℕ
+  opcode = head_of bytes / 16
+
+  number : n ≡ number_of (payload_in bytes)
+  number = n_is ∙ ap number_of payload_is
+
+  long : length payload ≡ length (payload_in bytes)
+  long = ap length payload_is
+
+  -- ---- commands that aren't data
+
+  abbrev short : Command
+  short = Short opcode (payload_in bytes)
+
+  module _ (no_data : data_kind opcode n ≡ None) (spelled_is : spelled ≡ take (1 + length payload) bytes) where
+    no_kind : data_kind opcode (number_of (payload_in bytes)) ≡ None
+    no_kind = ap (data_kind opcode) (sym number) ∙ no_data
+
+    spelled_whole : spelled ≡ spelling short
+    spelled_whole = spelled_is ∙ ap (λ count. take (1 + count) bytes) long ∙ spelled_short place bytes fine
+
+    short_is : first_command commands bytes ≡ short
+    short_is = read_command commands place bytes fine ∙ ap (λ kind. command_of commands opcode (payload_in bytes) kind (behind_payload bytes)) no_kind
+
+    short_fault : first_fault commands place bytes ≡ fault_where place (short_cause_by (checked held spelled) opcode n)
+    short_fault =
+        read_fault commands place bytes fine
+        ∙ ap (λ kind. payload_fault commands place opcode (payload_in bytes) kind (behind_payload bytes)) no_kind
+        ∙ ap (fault_where place) (short_cause-is commands opcode (payload_in bytes))
+        ∙ ap₂ (λ spelled n. fault_where place (short_cause_by (checked (held_after commands) spelled) opcode n)) (sym spelled_whole) (sym number)
+        ∙ ap (λ held. fault_where place (short_cause_by (checked held spelled) opcode n)) (sym stands.held_is)
+
+    pub short_refused : (cause : BinCause) → Some cause ≡ short_cause_by (checked held spelled) opcode n → first_fault commands place bytes ≡ Some (fault_at place cause)
+    short_refused cause is = short_fault ∙ ap (fault_where place) (sym is)
+
+    pub short_entered : (size : ℕ) (is_last : Bool) (after : Held) → None ≡ short_cause_by (checked held spelled) opcode n → after ≡ after_short (checked held spelled) opcode n → size ≡ 1 + length payload → is_last ≡ ((opcode == control) && (n == wake_up_number)) → IsEntered commands place bytes size is_last after image
+    short_entered size is_last after allowed after_is size_is last_is =
+        let kept : after ≡ held_after (commands ++ short ∷ []) =
+        after_is
+        ∙ ap (λ held. after_short (checked held spelled) opcode n) stands.held_is
+        ∙ ap₂ (λ spelled n. after_short (checked (held_after commands) spelled) opcode n) spelled_whole number
+        ∙ held_after-short commands opcode (payload_in bytes) in
+        let P : Command → Type 0 = λ command. Stands (commands ++ command ∷ []) after image in
+        let now : P short = record { held_is = kept; drawn = Holds-short commands opcode (payload_in bytes) image stands.drawn } in
+        record {
+          fine = short_fault ∙ ap (fault_where place) (sym allowed);
+          size_is =
+              let e : size ≡ suc (length (payload_in bytes)) = omega (arith, long) in
+              e ∙ ap (λ command. length (spelling command)) (sym short_is);
+          last_is = last_is ∙ ap (λ n. (opcode == control) && (n == wake_up_number)) number ∙ ap is_wake_up (sym short_is);
+          reached = λ last. ap (λ held. held.reached) (after_is ∙ after_short-is (checked held spelled) opcode n) ∙ wake_up_reached (checked held spelled) opcode n (sym last_is ∙ last) allowed;
+          stands = subst P (sym short_is) now;
+        }
+
+  -- ---- data
+
+  module _ (kind : Kind) (is_data : data_kind opcode n ≡ Some kind) where
+    with_kind : data_kind opcode (number_of (payload_in bytes)) ≡ Some kind
+    with_kind = ap (data_kind opcode) (sym number) ∙ is_data
+
+    behind : behind_payload bytes ≡ drop (1 + length payload) bytes
+    behind =
+        let count : head_of bytes % 16 ≡ length payload = sym (length-payload place bytes fine) ∙ sym long in
+        ap (λ count. drop count (drop 1 bytes)) count ∙ drop-drop (length payload) 1 bytes ∙ ap (λ n. drop n bytes) (omega arith)
+
+    size_is_after : held.width * held.height / 8 ≡ size_after commands
+    size_is_after = ap (λ held. held.width * held.height / 8) stands.held_is
+
+    abbrev body : List ℕ
+    body = take (size_after commands) (behind_payload bytes)
+
+    abbrev command : Command
+    command = Data kind (payload_in bytes) body
+
+    data_is : first_command commands bytes ≡ command
+    data_is = read_command commands place bytes fine ∙ ap (λ kind. command_of commands opcode (payload_in bytes) kind (behind_payload bytes)) with_kind
+
+    pub data_fault-is : first_fault commands place bytes ≡ or_else (fault_where place (data_cause_by held (device_if image) kind)) (body_fault (held.width * held.height / 8) (place + (1 + length payload)) (drop (1 + length payload) bytes))
+    data_fault-is =
+        let start : place + 1 + length (payload_in bytes) ≡ place + (1 + length payload) = omega (arith, long) in
+        read_fault commands place bytes fine
+        ∙ ap (λ kind. payload_fault commands place opcode (payload_in bytes) kind (behind_payload bytes)) with_kind
+        ∙ ap (λ fixed. or_else (fault_where place (data_cause_by (held_after commands) fixed kind)) (body_fault (size_after commands) (place + 1 + length (payload_in bytes)) (behind_payload bytes))) (sym (device_if-is commands image stands.drawn))
+        ∙ ap₂ (λ start bytes. or_else (fault_where place (data_cause_by (held_after commands) (device_if image) kind)) (body_fault (size_after commands) start bytes)) start behind
+        ∙ ap (λ held. or_else (fault_where place (data_cause_by held (device_if image) kind)) (body_fault (held.width * held.height / 8) (place + (1 + length payload)) (drop (1 + length payload) bytes))) (sym stands.held_is)
+
+    module _ (allowed : first_fault commands place bytes ≡ None) where
+      ended : (size_after commands ≤ length (behind_payload bytes)) × (drop (size_after commands) (behind_payload bytes) ≡ 0 ∷ 0 ∷ drop 2 (drop (size_after commands) (behind_payload bytes)))
+      ended =
+          let none : data_fault commands kind place (place + 1 + length (payload_in bytes)) (behind_payload bytes) ≡ None = ap (λ kind. payload_fault commands place opcode (payload_in bytes) kind (behind_payload bytes)) (sym with_kind) ∙ sym (read_fault commands place bytes fine) ∙ allowed in
+          body_zeros (size_after commands) (place + 1 + length (payload_in bytes)) (behind_payload bytes) (or_else-parts (fault_where place (data_cause commands kind)) (body_fault (size_after commands) (place + 1 + length (payload_in bytes)) (behind_payload bytes)) none).1
+
+      length-spelling : length (spelling command) ≡ 1 + length payload + size_after commands + 2
+      length-spelling =
+          let body_long : length body ≡ size_after commands = length-take-le (size_after commands) (behind_payload bytes) ended.0 in
+          omega (arith, long, length-append (payload_in bytes ++ body) (0 ∷ 0 ∷ []), length-append (payload_in bytes) body)
+
+      whole : bytes ≡ spelling command ++ drop 2 (drop (size_after commands) (behind_payload bytes))
+      whole =
+          let p = payload_in bytes in
+          let more = drop 2 (drop (size_after commands) (behind_payload bytes)) in
+          let no_opcode : head_of bytes / 16 ≡ 0 = data_opcode opcode n kind is_data in
+          let head : head_of bytes ≡ length p = omega (arith, length-payload place bytes fine) in
+          let back : behind_payload bytes ≡ body ++ (0 ∷ 0 ∷ more) = sym (take-append-drop (size_after commands) (behind_payload bytes)) ∙ ap (λ rest. body ++ rest) ended.1 in
+          let rest : drop 1 bytes ≡ p ++ (body ++ (0 ∷ 0 ∷ more)) = sym (take-append-drop (head_of bytes % 16) (drop 1 bytes)) ∙ ap (λ rest. p ++ rest) back in
+          (with_payload place bytes fine).0
+          ∙ ap₂ (λ head rest. head ∷ rest) head (rest ∙ sym (append_assoc p body (0 ∷ 0 ∷ more)) ∙ sym (append_assoc (p ++ body) (0 ∷ 0 ∷ []) more))
+
+      pub data_entered : (size : ℕ) (after : Held) (shown : Option AnyImage) → size ≡ 1 + length payload + held.width * held.height / 8 + 2 → after ≡ after_data held kind (take size bytes) → IsDrawnOn kind held (take (held.width * held.height / 8) (drop (1 + length payload) bytes)) image shown → IsEntered commands place bytes size false after shown
+      data_entered size after shown size_is after_is drawn =
+          let exact : length (spelling command) ≡ size = omega (arith, length-spelling, size_is_after) in
+          let spelled_is : take size bytes ≡ spelling command = ap (take size) whole ∙ take_at (spelling command) (drop 2 (drop (size_after commands) (behind_payload bytes))) size exact in
+          let kept : after ≡ held_after (commands ++ command ∷ []) =
+          after_is
+          ∙ ap₂ (λ held bytes. after_data held kind bytes) stands.held_is spelled_is
+          ∙ held_after-data commands kind (payload_in bytes) body in
+          let body_is : take (held.width * held.height / 8) (drop (1 + length payload) bytes) ≡ body = ap₂ take size_is_after (sym behind) in
+          let D : Held → List ℕ → Type 0 = λ held body. IsDrawnOn kind held body image shown in
+          let drawn_on : IsDrawnOn kind (held_after commands) body image shown = subst (λ (held : Held). D held body) stands.held_is (subst (λ (body : List ℕ). D held body) body_is drawn) in
+          let P : Command → Type 0 = λ command. Stands (commands ++ command ∷ []) after shown in
+          let now : P command = record { held_is = kept; drawn = Holds-data commands kind (payload_in bytes) body image shown stands.drawn drawn_on } in
+          record {
+            fine = allowed;
+            size_is = sym exact ∙ ap (λ command. length (spelling command)) (sym data_is);
+            last_is = ap is_wake_up (sym data_is);
+            reached = λ last. absurd cc;
+            stands = subst P (sym data_is) now;
+          }

@@ -1,0 +1,138 @@
+-- Commands that are read one after the other.
+use Rattle.std.proofs.Common.{◌≡◌, ℕ, suc, ◌+◌, ◌-◌, ◌<◌, ◌≤◌, Bool, true, false, List, [], ◌∷◌, ◌++◌, length, take, drop, refl, sym, ap, ap₂, subst, ◌∙◌, arith, drop-drop}
+use Rattle.std.specs.Prelude.{Option, Some, None, Result, Ok, Err}
+use Rattle.text_lines.specs.Places.{any_below, last_below, first_below}
+use Rattle.bit_plane.specs.Rows.{Rows}
+use Rattle.plane_map.specs.declared.device.DeviceName.{DeviceName}
+use Rattle.ice_image.specs.Configuration.{Configuration}
+use Rattle.ice_image.specs.declared.settings.Settings.{Settings}
+use Rattle.ice_image.specs.Either.{configuration_of, device_of}
+use Rattle.ice_image.specs.declared.any.AnyImage.{AnyImage}
+use Rattle.bin_stream.specs.Commands.{Command, Cram, spelling, is_wake_up}
+use Rattle.bin_stream.specs.State.{device_after}
+use Rattle.bin_stream.specs.Refusals.{Fault, fault_at, first_fault}
+use Rattle.bin_stream.specs.Front.{preamble_place, comment_of}
+use Rattle.bin_stream.specs.Meaning.{meaning, planes_of, plane_bit}
+use Rattle.bin_stream.specs.Spelling.{first_command, commands_from, device_or, image_of, read_behind, bin_read_of, Tells}
+use Rattle.bin_stream.specs.Registers.{Held, held_first, held_after, reached_in, settings_by}
+use Rattle.bin_stream.specs.Step.{Refuses, IsEntered, HasRead, IsFinished, IsDrawn, IsBlank, Holds}
+use Rattle.bin_stream.specs.declared.fault.BinCause.TheVariants.{NoPreamble}
+use Rattle.bin_stream.specs.declared.fault.BinFault.{BinFault}
+use Rattle.bin_stream.specs.declared.fault.BinFault.TheVariants.{At, Memory}
+use Rattle.bin_stream.proofs.Steps.{held_first-is}
+
+-- nothing is read
+pub HasRead-first : (bytes : List ℕ) (start : ℕ) (held : Held) → held ≡ held_first → HasRead bytes start start held None
+unfolding any_below first_below last_below device_after plane_bit
+HasRead-first bytes start held is = record {
+  commands = [];
+  most = length bytes + 1;
+  enough = omega arith;
+  goes_on = refl;
+  stands = record {
+    held_is = is ∙ held_first-is;
+    drawn = record { no_device = refl; not_reached = refl; no_bit = λ kind at. refl };
+  };
+}
+
+-- what there is where the first command is read
+step_from : (most : ℕ) (commands : List Command) (place : ℕ) (bytes : List ℕ) → first_fault commands place bytes ≡ None → is_wake_up (first_command commands bytes) ≡ false → commands_from (suc most) commands place bytes ≡ commands_from most (commands ++ first_command commands bytes ∷ []) (place + length (spelling (first_command commands bytes))) (drop (length (spelling (first_command commands bytes))) bytes)
+unfolding commands_from
+step_from most commands place bytes fine goes = rw (fine, goes) refl
+
+last_from : (most : ℕ) (commands : List Command) (place : ℕ) (bytes : List ℕ) → first_fault commands place bytes ≡ None → is_wake_up (first_command commands bytes) ≡ true → commands_from (suc most) commands place bytes ≡ Ok (commands ++ first_command commands bytes ∷ [])
+unfolding commands_from
+last_from most commands place bytes fine last = rw (fine, last) refl
+
+fault_from : (most : ℕ) (commands : List Command) (place : ℕ) (bytes : List ℕ) (fault : Fault) → first_fault commands place bytes ≡ Some fault → commands_from (suc most) commands place bytes ≡ Err fault
+unfolding commands_from
+fault_from most commands place bytes fault wrong = rw wrong refl
+
+-- an image with the settings that are kept is what the commands configure
+is_meaning : (commands : List Command) (front : List ℕ) (held : Held) (before : AnyImage) (finished : Configuration) → IsDrawn commands before → held ≡ held_after commands → finished ≡ record (configuration_of before) { settings = settings_by held } → meaning (device_of before) front commands ≡ record finished { comment = comment_of front }
+unfolding meaning
+is_meaning commands front held before finished drawn held_is is =
+    let b = configuration_of before in
+    let make : DeviceName → Settings → List Rows → List Rows → Configuration = λ device settings cram bram. record { device = device; comment = comment_of front; settings = settings; cram = cram; bram = bram } in
+    let changed : record finished { comment = comment_of front } ≡ make b.device (settings_by held) b.cram b.bram = ap (λ c. make c.device c.settings c.cram c.bram) is in
+    sym (changed
+    ∙ ap (λ device. make device (settings_by held) b.cram b.bram) drawn.name_is
+    ∙ ap (λ held. make (device_of before) (settings_by held) b.cram b.bram) held_is
+    ∙ ap (λ cram. make (device_of before) (settings_by (held_after commands)) cram b.bram) drawn.cram_is
+    ∙ ap (λ bram. make (device_of before) (settings_by (held_after commands)) (planes_of (device_of before) Cram commands) bram) drawn.bram_is)
+
+module _ (bytes : List ℕ) (start place : ℕ) (held : Held) (image : Option AnyImage) (read : HasRead bytes start place held image) (within : place ≤ length bytes) where
+  -- another command can be read
+  some_more : (m : ℕ) × (read.most ≡ suc m)
+  some_more =
+      let e : read.most ≡ suc (read.most - 1) = omega (arith, read.enough) in
+      (read.most - 1, e)
+
+  goes_on : (m : ℕ) → read.most ≡ suc m → commands_from (length bytes + 1) [] start (drop start bytes) ≡ commands_from (suc m) read.commands place (drop place bytes)
+  goes_on m is = read.goes_on ∙ ap (λ most. commands_from most read.commands place (drop place bytes)) is
+
+  -- one command more
+  pub HasRead-more : (size next : ℕ) (is_last : Bool) (after : Held) (shown : Option AnyImage) → IsEntered read.commands place (drop place bytes) size is_last after shown → is_last ≡ false → 0 < size → next ≡ place + size → HasRead bytes start next after shown
+  HasRead-more size next is_last after shown entered goes some next_is =
+      let more = some_more in
+      let command = first_command read.commands (drop place bytes) in
+      let places : place + length (spelling command) ≡ next = omega (arith, entered.size_is) in
+      let rests : drop (length (spelling command)) (drop place bytes) ≡ drop next bytes = drop-drop (length (spelling command)) place bytes ∙ ap (λ n. drop n bytes) (omega (arith, entered.size_is)) in
+      record {
+        commands = read.commands ++ command ∷ [];
+        most = more.0;
+        enough = omega (arith, read.enough, more.1);
+        goes_on =
+            goes_on more.0 more.1
+            ∙ step_from more.0 read.commands place (drop place bytes) entered.fine (sym entered.last_is ∙ goes)
+            ∙ ap₂ (commands_from more.0 (read.commands ++ command ∷ [])) places rests;
+        stands = entered.stands;
+      }
+
+  -- a fault
+  pub read_refused : (fault : BinFault) → Refuses (first_fault read.commands place (drop place bytes)) fault → (front : List ℕ) → Tells (image_of front (commands_from (length bytes + 1) [] start (drop start bytes))) fault
+  read_refused (At offset cause) wrong front =
+      let more = some_more in
+      ap (image_of front) (goes_on more.0 more.1 ∙ fault_from more.0 read.commands place (drop place bytes) (fault_at offset cause) wrong)
+  read_refused (Memory e) wrong front = tt
+
+  -- the wake-up
+  module _ (size : ℕ) (is_last : Bool) (after : Held) (shown : Option AnyImage) (entered : IsEntered read.commands place (drop place bytes) size is_last after shown) (last : is_last ≡ true) where
+    abbrev all : List Command
+    all = read.commands ++ first_command read.commands (drop place bytes) ∷ []
+
+    commands_are : commands_from (length bytes + 1) [] start (drop start bytes) ≡ Ok all
+    commands_are =
+        let more = some_more in
+        goes_on more.0 more.1 ∙ last_from more.0 read.commands place (drop place bytes) entered.fine (sym entered.last_is ∙ last)
+
+    pub read_image : (finished : AnyImage) → IsFinished after shown finished → (front : List ℕ) → image_of front (commands_from (length bytes + 1) [] start (drop start bytes)) ≡ Ok (record (configuration_of finished) { comment = comment_of front })
+    read_image finished is front =
+        let drawn : IsDrawn all is.before = subst (Holds all) is.drawn_is entered.stands.drawn in
+        ap (image_of front) commands_are
+        ∙ ap (λ device. Ok (meaning (device_or device) front all)) drawn.device_is
+        ∙ ap (λ c. Ok c) (is_meaning all front after is.before (configuration_of finished) drawn entered.stands.held_is is.settings_are)
+
+    -- there is an image
+    pub not_missing : shown ≡ None → (front : List ℕ) (fault : BinFault) → Tells (image_of front (commands_from (length bytes + 1) [] start (drop start bytes))) fault
+    not_missing none front fault =
+        let blank : IsBlank all = subst (Holds all) none entered.stands.drawn in
+        let reached : reached_in all ≡ true = sym (ap (λ held. held.reached) entered.stands.held_is) ∙ entered.reached last in
+        let bad : true ≡ false = sym reached ∙ blank.not_reached in
+        absurd cc
+
+-- ---- the preamble
+
+-- what is read behind a preamble
+pub read_at : (bytes : List ℕ) (place : ℕ) → Some place ≡ preamble_place bytes → bin_read_of bytes ≡ image_of (take place bytes) (commands_from (length bytes + 1) [] (place + 4) (drop (place + 4) bytes))
+unfolding bin_read_of
+read_at bytes place is = ap (read_behind bytes) (sym is)
+
+-- what is read where there is none
+pub read_nowhere : (bytes : List ℕ) → None ≡ preamble_place bytes → bin_read_of bytes ≡ Err (fault_at (length bytes) NoPreamble)
+unfolding bin_read_of
+read_nowhere bytes is = ap (read_behind bytes) (sym is)
+
+-- a fault that was told of an equal reading
+pub Tells-by : (read other : Result Configuration Fault) (fault : BinFault) → read ≡ other → Tells other fault → Tells read fault
+Tells-by read other fault same told = subst (λ (read : Result Configuration Fault). Tells read fault) (sym same) told

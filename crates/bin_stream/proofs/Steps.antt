@@ -1,0 +1,187 @@
+-- A command in bytes, and what registers hold behind it.
+use Rattle.std.proofs.Common.{◌≡◌, ℕ, suc, ◌+◌, ◌*◌, ◌/◌, ◌%◌, Bool, true, false, ◌&&◌, ◌||◌, cond, List, [], ◌∷◌, ◌++◌, length, take, drop, get_or, refl, sym, ap, subst, ◌∙◌, arith, inl, inr, ◌⊎◌, length-take-le}
+use Rattle.std.specs.Prelude.{Option, Some, None, nat_lt, ◌==◌}
+use Rattle.std.proofs.lemmas.Bool.{cases_Bool, ltb-false, eqb-true}
+use Rattle.std.proofs.lemmas.List.Concat.{flat_map-append}
+use Rattle.std.proofs.Math.Bool.{or-false}
+use Rattle.text_lines.specs.Places.{any_below, last_below}
+use Rattle.bit_plane.specs.BitList.{byte_bits, bits_of}
+use Rattle.bin_stream.specs.CheckValue.{check_value, powers_from, power, doubled, sum_of}
+use Rattle.bin_stream.specs.Register.{entered_all}
+use Rattle.bin_stream.specs.Commands.{Kind, Command, Cram, Bram, Short, Data, number_of, spelling, spelled, is_reset, control, bank, check, range, width, height, offset, mode, reset_number}
+use Rattle.bin_stream.specs.State.{last_of, width_after, device_with, covered}
+use Rattle.bin_stream.specs.Refusals.{fault_at, first_fault, payload_fault, short_cause, data_kind, check_found, gives_last_row}
+use Rattle.bin_stream.specs.Spelling.{first_command, command_of}
+use Rattle.bin_stream.specs.Registers.{Held, reached_in, held_after, held_first, short_cause_by, checked, after_short, gives_last_by, after_data}
+use Rattle.bin_stream.specs.Step.{payload_refusal}
+use Rattle.bin_stream.specs.declared.fault.BinCause.TheVariants.{Truncated, LongPayload}
+use Rattle.bin_stream.proofs.Powers.{check_value-nil, check_value-append}
+use Rattle.bin_stream.proofs.OneMore.{last_of-more, width_after-more, covered-more, reached_in-more}
+
+-- ---- the parts of a command in bytes
+
+-- the first byte
+abbrev pub head_of : List ℕ → ℕ
+head_of bytes = get_or bytes 0 0
+
+-- the payload, and the bytes behind it
+abbrev pub payload_in : List ℕ → List ℕ
+payload_in bytes = take (head_of bytes % 16) (drop 1 bytes)
+
+abbrev pub behind_payload : List ℕ → List ℕ
+behind_payload bytes = drop (head_of bytes % 16) (drop 1 bytes)
+
+-- bytes with a payload have a first byte and so many more
+pub with_payload : (place : ℕ) (bytes : List ℕ) → payload_refusal place bytes ≡ None → (bytes ≡ head_of bytes ∷ drop 1 bytes) × (nat_lt 4 (head_of bytes % 16) ≡ false) × (nat_lt (length (drop 1 bytes)) (head_of bytes % 16) ≡ false)
+with_payload place [] none = absurd cc
+with_payload place (head ∷ rest) none =
+    elim (cases_Bool (nat_lt 4 (head % 16))) [
+      | inl long ↦
+          let bad : Some (fault_at place LongPayload) ≡ None = rw long at none in
+          absurd cc
+      | inr fits ↦ elim (cases_Bool (nat_lt (length rest) (head % 16))) [
+        | inl short ↦
+            let bad : Some (fault_at (place + 1 + length rest) Truncated) ≡ None = rw (fits, short) at none in
+            absurd cc
+        | inr enough ↦ (refl, fits, enough)
+      ]
+    ]
+
+-- what is wrong with its command is told behind the payload
+pub read_fault : (commands : List Command) (place : ℕ) (bytes : List ℕ) → payload_refusal place bytes ≡ None → first_fault commands place bytes ≡ payload_fault commands place (head_of bytes / 16) (payload_in bytes) (data_kind (head_of bytes / 16) (number_of (payload_in bytes))) (behind_payload bytes)
+read_fault commands place [] none = absurd cc
+read_fault commands place (head ∷ rest) none =
+    let parts = with_payload place (head ∷ rest) none in
+    rw (parts.1, parts.2) refl
+
+pub read_command : (commands : List Command) (place : ℕ) (bytes : List ℕ) → payload_refusal place bytes ≡ None → first_command commands bytes ≡ command_of commands (head_of bytes / 16) (payload_in bytes) (data_kind (head_of bytes / 16) (number_of (payload_in bytes))) (behind_payload bytes)
+read_command commands place [] none = absurd cc
+read_command commands place (head ∷ rest) none = refl
+
+pub length-payload : (place : ℕ) (bytes : List ℕ) → payload_refusal place bytes ≡ None → length (payload_in bytes) ≡ head_of bytes % 16
+length-payload place bytes none =
+    let parts = with_payload place bytes none in
+    length-take-le (head_of bytes % 16) (drop 1 bytes) (ltb-false (length (drop 1 bytes)) (head_of bytes % 16) parts.2)
+
+-- the bytes up to the end of the payload
+pub spelled_short : (place : ℕ) (bytes : List ℕ) → payload_refusal place bytes ≡ None → take (1 + length (payload_in bytes)) bytes ≡ spelling (Short (head_of bytes / 16) (payload_in bytes))
+spelled_short place bytes none =
+    let parts = with_payload place bytes none in
+    let long = length-payload place bytes none in
+    let head : 16 * (head_of bytes / 16) + length (payload_in bytes) ≡ head_of bytes = omega arith in
+    let e : 1 + length (payload_in bytes) ≡ suc (head_of bytes % 16) = omega arith in
+    ap (take (1 + length (payload_in bytes))) parts.0 ∙ rw (e, head) refl
+
+-- ---- the check value
+
+pub check_entered : (covers more : List ℕ) → check_value (bits_of (covers ++ more)) ≡ entered_all (check_value (bits_of covers)) (bits_of more)
+check_entered covers more = ap check_value (flat_map-append byte_bits covers more) ∙ check_value-append (bits_of covers) (bits_of more)
+
+check_chosen : (covers more : List ℕ) (reset : Bool) → check_value (bits_of (cond reset [] (covers ++ more))) ≡ cond reset 65535 (entered_all (check_value (bits_of covers)) (bits_of more))
+check_chosen covers more true = check_value-nil
+check_chosen covers more false = check_entered covers more
+
+pub check_after-more : (commands : List Command) (command : Command) → check_value (bits_of (covered (commands ++ command ∷ []))) ≡ cond (is_reset (Some command)) 65535 (entered_all (check_value (bits_of (covered commands))) (bits_of (spelling command)))
+check_after-more commands command =
+    ap (λ covers. check_value (bits_of covers)) (covered-more commands command) ∙ check_chosen (covered commands) (spelling command) (is_reset (Some command))
+
+-- ---- commands that aren't data
+
+-- what is wrong with one, told by the registers
+pub short_cause-is : (commands : List Command) (opcode : ℕ) (payload : List ℕ) → short_cause commands opcode payload ≡ short_cause_by (checked (held_after commands) (spelling (Short opcode payload))) opcode (number_of payload)
+short_cause-is commands opcode payload =
+    elim (cases_Bool (opcode == control)) [
+      | inl is ↦ rw is refl
+      | inr not_control ↦ elim (cases_Bool (opcode == bank)) [
+        | inl is ↦ rw (not_control, is) refl
+        | inr not_bank ↦ elim (cases_Bool (opcode == check)) [
+          | inl is ↦
+              let e : opcode ≡ check = eqb-true opcode check is in
+              let found : check_found commands payload ≡ entered_all (check_value (bits_of (covered commands))) (bits_of (spelling (Short opcode payload))) =
+              check_entered (covered commands) (spelling (Short check payload)) ∙ ap (λ o. entered_all (check_value (bits_of (covered commands))) (bits_of (spelling (Short o payload)))) (sym e) in
+              rw (not_control, not_bank, is, found) refl
+          | inr not_check ↦ rw (not_control, not_bank, not_check) refl
+        ]
+      ]
+    ]
+
+-- each number that is kept is the command's where it has that opcode
+abbrev pub fields_after : Held → ℕ → ℕ → Held
+fields_after held opcode n = record {
+  bank = cond (opcode == bank) n held.bank;
+  width = cond (opcode == width) (n + 1) held.width;
+  height = cond (opcode == height) n held.height;
+  offset = cond (opcode == offset) n held.offset;
+  range = cond (opcode == range) n held.range;
+  mode = cond (opcode == mode) n held.mode;
+  check = cond ((opcode == control) && (n == reset_number)) 65535 held.check;
+  reached = held.reached;
+}
+
+fields_control : (held : Held) (n : ℕ) → after_short held control n ≡ fields_after held control n
+fields_control held n =
+    elim (cases_Bool (n == reset_number)) [
+      | inl is ↦ rw is refl
+      | inr is ↦ rw is refl
+    ]
+
+pub after_short-is : (held : Held) (opcode n : ℕ) → after_short held opcode n ≡ fields_after held opcode n
+after_short-is held opcode n =
+    let P : ℕ → Type 0 = λ o. after_short held o n ≡ fields_after held o n in
+    elim (cases_Bool (opcode == control)) [
+      | inl is ↦ subst P (sym (eqb-true opcode control is)) (fields_control held n)
+      | inr not_control ↦ elim (cases_Bool (opcode == bank)) [
+        | inl is ↦ subst P (sym (eqb-true opcode bank is)) refl
+        | inr not_bank ↦ elim (cases_Bool (opcode == range)) [
+          | inl is ↦ subst P (sym (eqb-true opcode range is)) refl
+          | inr not_range ↦ elim (cases_Bool (opcode == width)) [
+            | inl is ↦ subst P (sym (eqb-true opcode width is)) refl
+            | inr not_width ↦ elim (cases_Bool (opcode == height)) [
+              | inl is ↦ subst P (sym (eqb-true opcode height is)) refl
+              | inr not_height ↦ elim (cases_Bool (opcode == offset)) [
+                | inl is ↦ subst P (sym (eqb-true opcode offset is)) refl
+                | inr not_offset ↦ elim (cases_Bool (opcode == mode)) [
+                  | inl is ↦ subst P (sym (eqb-true opcode mode is)) refl
+                  | inr not_mode ↦ rw (not_control, not_bank, not_range, not_width, not_height, not_offset, not_mode) refl
+                ]
+              ]
+            ]
+          ]
+        ]
+      ]
+    ]
+
+-- what is kept behind one
+pub held_after-short : (commands : List Command) (opcode : ℕ) (payload : List ℕ) → after_short (checked (held_after commands) (spelling (Short opcode payload))) opcode (number_of payload) ≡ held_after (commands ++ Short opcode payload ∷ [])
+held_after-short commands opcode payload =
+    let command = Short opcode payload in
+    let reached : reached_in (commands ++ command ∷ []) ≡ reached_in commands = reached_in-more commands command ∙ or-false (reached_in commands) in
+    after_short-is (checked (held_after commands) (spelling command)) opcode (number_of payload)
+    ∙ sym (rw (last_of-more commands command bank 0, width_after-more commands command, last_of-more commands command height 0, last_of-more commands command offset 0, last_of-more commands command range 0, last_of-more commands command mode 32, check_after-more commands command, reached) refl)
+
+-- before the first command
+pub held_first-is : held_first ≡ held_after []
+unfolding any_below last_below last_of width_after covered spelled check_value powers_from power doubled sum_of
+held_first-is = refl
+
+-- ---- data
+
+option_cases : {A : Type 0} (value : Option A) → (value ≡ None) ⊎ ((a : A) × (value ≡ Some a))
+option_cases None = inl refl
+option_cases (Some a) = inr (a, refl)
+
+-- whether data give the last row of a configuration plane, told by the registers
+gives_last-is : (commands : List Command) (kind : Kind) (payload body : List ℕ) → gives_last_row commands (Some (Data kind payload body)) ≡ gives_last_by (held_after commands) kind
+gives_last-is commands Cram payload body =
+    elim (option_cases (device_with Cram (width_after commands))) [
+      | inl none ↦ rw none refl
+      | inr some ↦ rw some.1 refl
+    ]
+gives_last-is commands Bram payload body = refl
+
+-- what is kept behind data
+pub held_after-data : (commands : List Command) (kind : Kind) (payload body : List ℕ) → after_data (held_after commands) kind (spelling (Data kind payload body)) ≡ held_after (commands ++ Data kind payload body ∷ [])
+held_after-data commands kind payload body =
+    let command = Data kind payload body in
+    let reached : reached_in (commands ++ command ∷ []) ≡ (reached_in commands || gives_last_by (held_after commands) kind) = reached_in-more commands command ∙ ap (λ b. reached_in commands || b) (gives_last-is commands kind payload body) in
+    sym (rw (last_of-more commands command bank 0, width_after-more commands command, last_of-more commands command height 0, last_of-more commands command offset 0, last_of-more commands command range 0, last_of-more commands command mode 32, check_after-more commands command, reached) refl)

@@ -1,0 +1,77 @@
+-- Commands, and the bytes that spell them.
+use Rattle.std.specs.Prelude.{ℕ, ◌+◌, ◌*◌, Bool, false, ◌&&◌, List, [], ◌∷◌, ◌++◌, length, fold, flat_map, ◌==◌, Option, Some}
+
+-- data for a configuration plane, or for a RAM plane
+pub data Kind : Type 0 where
+  Cram : Kind
+  Bram : Kind
+
+-- A command of an opcode with its payload, or data with a payload that tells their kind and with the bytes of their rows.
+pub data Command : Type 0 where
+  Short : (opcode : ℕ) (payload : List ℕ) → Command
+  Data : (kind : Kind) (payload body : List ℕ) → Command
+
+-- the number that a payload is, the high byte first; without a byte it is 0
+abbrev pub number_of : List ℕ → ℕ
+number_of payload = fold (λ n byte. 256 * n + byte) 0 payload
+
+-- the payload's number that tells the kind of data
+abbrev pub kind_number : Kind → ℕ
+kind_number Cram = 1
+kind_number Bram = 3
+
+-- The first byte has the opcode in its high half, which is 0 for data, and the number of bytes of payload in its low half.
+-- Two bytes 00 stand behind data.
+abbrev pub spelling : Command → List ℕ
+spelling (Short opcode payload) = (16 * opcode + length payload) ∷ payload
+spelling (Data kind payload body) = length payload ∷ payload ++ body ++ 0 ∷ 0 ∷ []
+
+-- commands, one after the other
+unfoldable pub spelled : List Command → List ℕ
+spelled commands = flat_map spelling commands
+
+-- ---- opcodes
+
+-- data, a reset of the check value or the wake-up, by the payload's number
+abbrev pub control : ℕ
+control = 0
+
+abbrev pub bank : ℕ
+bank = 1
+
+abbrev pub check : ℕ
+check = 2
+
+abbrev pub boot_address : ℕ
+boot_address = 4
+
+abbrev pub range : ℕ
+range = 5
+
+abbrev pub width : ℕ
+width = 6
+
+abbrev pub height : ℕ
+height = 7
+
+abbrev pub offset : ℕ
+offset = 8
+
+abbrev pub mode : ℕ
+mode = 9
+
+-- the payload's number at which the check value begins anew
+abbrev pub reset_number : ℕ
+reset_number = 5
+
+-- the payload's number that ends the configuration
+abbrev pub wake_up_number : ℕ
+wake_up_number = 6
+
+abbrev pub is_reset : Option Command → Bool
+is_reset (Some (Short opcode payload)) = (opcode == control) && (number_of payload == reset_number)
+is_reset command = false
+
+abbrev pub is_wake_up : Command → Bool
+is_wake_up (Short opcode payload) = (opcode == control) && (number_of payload == wake_up_number)
+is_wake_up (Data kind payload body) = false

@@ -1,0 +1,13 @@
+pub mod CheckValue
+pub mod Register
+pub mod Commands
+pub mod State
+pub mod Refusals
+pub mod Front
+pub mod Meaning
+pub mod Spelling
+pub mod CanonicalBytes
+pub mod Registers
+pub mod DataKinds
+pub mod Step
+pub mod Pieces

@@ -1,0 +1,85 @@
+// The parts of a command in bytes.
+ghost use Rattle.std.specs.Prelude.{◌≡◌, ◌+◌, ◌%◌, ◌<◌, ◌≤◌, ◌^◌, None, IfOk, IfErr, length, take, drop, get_or};
+ghost use Rattle.bin_stream.specs.Commands.{number_of};
+ghost use Rattle.bin_stream.specs.Refusals.{body_fault, end_fault};
+ghost use Rattle.bin_stream.specs.Step.{fault_of, payload_refusal, Refuses};
+
+use crate::fault::{BinCause, BinFault};
+
+/// A payload has that many bytes at most.
+const LONGEST_PAYLOAD: usize = 4;
+
+/// A fault at a place.
+pub(crate) fn fault_at(place: usize, cause: BinCause) -> BinFault
+    ensures { result ≡ fault_of place cause }
+{
+    BinFault::At {
+        offset: place as u64,
+        cause,
+    }
+}
+
+/// The payload of the command that begins at a place of the input, with these bytes.
+pub(crate) fn payload_of(place: usize, bytes: &[u8]) -> Result<&[u8], BinFault>
+    requires { place + length bytes.now < 2 ^ 64 }
+    ensures payload { IfOk result (λ payload. payload.now ≡ take (get_or bytes.now 0 0 % 16) (drop 1 bytes.now)) }
+    ensures within { IfOk result (λ payload. length payload.now < length bytes.now) }
+    ensures long { IfOk result (λ payload. length payload.now ≡ get_or bytes.now 0 0 % 16) }
+    ensures allowed { IfOk result (λ payload. payload_refusal place bytes.now ≡ None) }
+    ensures refused { IfErr result (Refuses (payload_refusal place bytes.now)) }
+{
+    if bytes.is_empty() {
+        return Err(fault_at(place, BinCause::Truncated));
+    }
+    let count = usize::from(bytes[0] % 16);
+    if count > LONGEST_PAYLOAD {
+        Err(fault_at(place, BinCause::LongPayload))
+    } else if bytes.len() - 1 < count {
+        Err(fault_at(place + bytes.len(), BinCause::Truncated))
+    } else {
+        Ok(&bytes[1..1 + count])
+    }
+}
+
+/// The number that a payload is, the high byte first.
+pub(crate) fn number_of(payload: &[u8]) -> u32
+    requires { length payload.now < 5 }
+    ensures { result ≡ number_of payload.now }
+{
+    let mut number = 0;
+    for byte in payload {
+        number = 256 * number + u32::from(*byte);
+    }
+    number
+}
+
+/// The bytes of data, that many of those that begin at a place of the input. Two bytes 00 stand behind them.
+pub(crate) fn body_of(size: usize, place: usize, bytes: &[u8]) -> Result<&[u8], BinFault>
+    requires { place + length bytes.now < 2 ^ 64 }
+    ensures body { IfOk result (λ body. body.now ≡ take size bytes.now) }
+    ensures within { IfOk result (λ body. size + 2 ≤ length bytes.now) }
+    ensures allowed { IfOk result (λ body. body_fault size place bytes.now ≡ None) }
+    ensures refused { IfErr result (Refuses (body_fault size place bytes.now)) }
+{
+    if bytes.len() < size {
+        return Err(fault_at(place + bytes.len(), BinCause::Truncated));
+    }
+    test_end(place + size, &bytes[size..])?;
+    Ok(&bytes[..size])
+}
+
+/// Tests that two bytes 00 stand first in the bytes at a place of the input.
+fn test_end(place: usize, bytes: &[u8]) -> Result<(), BinFault>
+    requires { place + length bytes.now < 2 ^ 64 }
+    ensures within { IfOk result (λ _. 2 ≤ length bytes.now) }
+    ensures allowed { IfOk result (λ _. end_fault place bytes.now ≡ None) }
+    ensures refused { IfErr result (Refuses (end_fault place bytes.now)) }
+{
+    match bytes {
+        [] => Err(fault_at(place, BinCause::Truncated)),
+        [0] => Err(fault_at(place + 1, BinCause::Truncated)),
+        [0, 0, ..] => Ok(()),
+        [0, _, ..] => Err(fault_at(place + 1, BinCause::DataEnd)),
+        [_, ..] => Err(fault_at(place, BinCause::DataEnd)),
+    }
+}

@@ -1,0 +1,4 @@
+// Streams and images that are known from outside.
+
+mod decoder;
+mod encoder;

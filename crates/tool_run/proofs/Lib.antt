@@ -1,0 +1,4 @@
+mod Deliveries
+mod Pieces
+mod Loading
+mod Outcomes

@@ -1,0 +1,149 @@
+-- From loading and delivering to what a run does.
+use Rattle.std.proofs.Common.{◌≡◌, ◌⊎◌, ◌≤◌, ℕ, Bool, true, false, not, ◌||◌, List, [], ◌∷◌, ◌++◌, refl, sym, ap, subst, ◌∙◌, inl, inr, arith}
+use Rattle.std.specs.Prelude.{Option, None, Some, Result, Ok, Err, IsOkAnd, MatchOption}
+use Rattle.std.proofs.lemmas.Bool.{cases_Bool}
+use Rattle.ice_io.specs.Faults.{Rose}
+use Rattle.ice_io.specs.Files.{FileMap}
+use Rattle.tool_run.specs.Needs.{Need, is_stream, reads_files, reads_input}
+use Rattle.tool_run.specs.Lines.{line_of, read_failed}
+use Rattle.tool_run.specs.Tasks.{Answer, Done, Refused, NotTaken, LoadFault, Missing, TooLong, Outcome, Task, answered, bytes_of, ended, loaded, outcome_of, reached, reached_after}
+use Rattle.tool_run.specs.Effects.{Foretells, SourceRose, Tells}
+use Rattle.tool_run.specs.Loads.{AreTold, FailsToLoad, NameIsTold, WhereTold}
+use Rattle.tool_run.specs.Jobs.{RefusesWith}
+use Rattle.tool_run.specs.Runs.{HasBytes, IsRefusal, IsStatusFor}
+
+-- ---- what the outcome reads is what is reached
+
+answered-reads_files : (task : Task) (needs : List Need) (answer : Answer) → (answered task needs answer).reads_files ≡ reads_files needs
+answered-reads_files task needs (Done bytes) = refl
+answered-reads_files task needs (Refused text) = refl
+answered-reads_files task needs (NotTaken text) = refl
+
+ended-reads_files : (task : Task) (needs : List Need) (result : Result (List (List ℕ)) LoadFault) → (ended task needs result).reads_files ≡ reads_files needs
+ended-reads_files task needs (Ok texts) = answered-reads_files task needs (task.answer texts)
+ended-reads_files task needs (Err (Missing need)) = refl
+ended-reads_files task needs (Err (TooLong need)) = refl
+
+answered-reads_input : (task : Task) (needs : List Need) (answer : Answer) → (answered task needs answer).reads_input ≡ reads_input needs
+answered-reads_input task needs (Done bytes) = refl
+answered-reads_input task needs (Refused text) = refl
+answered-reads_input task needs (NotTaken text) = refl
+
+ended-reads_input : (task : Task) (needs : List Need) (result : Result (List (List ℕ)) LoadFault) → (ended task needs result).reads_input ≡ reads_input needs
+ended-reads_input task needs (Ok texts) = answered-reads_input task needs (task.answer texts)
+ended-reads_input task needs (Err (Missing need)) = refl
+ended-reads_input task needs (Err (TooLong need)) = refl
+
+or-left : (b c : Bool) → b ≡ true → (b || c) ≡ true
+or-left true c e = refl
+or-left false c e = absurd cc
+
+or-right : (b c : Bool) → c ≡ true → (b || c) ≡ true
+or-right true c e = refl
+or-right false c e = e
+
+-- what is told as far as it is reached is told one need after the other
+told_each : (contents : Option FileMap) (left : Option (List ℕ)) (known : FileMap) (text : List ℕ) (needs : List Need)
+    → (reads_files (reached known text needs) ≡ true → contents ≡ Some known) → (reads_input (reached known text needs) ≡ true → left ≡ Some text) → AreTold contents left known text needs
+told_each contents left known text [] files input = tt
+told_each contents left known text (need ∷ needs) files input = (
+  side need.name (λ file. files (or-left (not (is_stream need.name)) (reads_files rest) (ap not file))) (λ stream. input (or-left (is_stream need.name) (reads_input rest) stream)),
+  λ bytes gives. told_each contents left known text needs
+      (λ reads. files (or-right (not (is_stream need.name)) (reads_files rest) (ap (λ (one : Result (List ℕ) LoadFault). reads_files (reached_after one (reached known text needs))) gives ∙ reads)))
+      (λ reads. input (or-right (is_stream need.name) (reads_input rest) (ap (λ (one : Result (List ℕ) LoadFault). reads_input (reached_after one (reached known text needs))) gives ∙ reads))),
+)
+  where
+    rest : List Need
+    rest = reached_after (bytes_of known text need) (reached known text needs)
+
+    side : (name : Option (List ℕ)) → (is_stream name ≡ false → contents ≡ Some known) → (is_stream name ≡ true → left ≡ Some text) → NameIsTold contents left known text name
+    side None file stream = stream refl
+    side (Some name) file stream = file refl
+
+pub told : (task : Task) (contents : Option FileMap) (left : Option (List ℕ)) (known : FileMap) (text : List ℕ) → Tells (outcome_of task known text) contents left known text → AreTold contents left known text task.needs
+told task contents left known text tells =
+    let needs = reached known text task.needs in
+    let result = loaded known text task.needs in
+    told_each contents left known text task.needs (λ reads. tells.files_told (ended-reads_files task needs result ∙ reads)) (λ reads. tells.input_told (ended-reads_input task needs result ∙ reads))
+
+-- ---- what the outcome is
+
+-- the outcome, where it is known what was loaded
+pub foretold : (task : Task) (contents : Option FileMap) (left : Option (List ℕ)) (result : Result (List (List ℕ)) LoadFault) (P : Outcome → Type 0)
+    → WhereTold contents left task.needs (λ known text. loaded known text task.needs ≡ result) → ((needs : List Need) → P (ended task needs result)) → Foretells task contents left P
+foretold task contents left result P gives holds = λ known text tells.
+    let same = gives known text (told task contents left known text tells) in
+    let needs = reached known text task.needs in
+    let ends : Result (List (List ℕ)) LoadFault → Type 0 = λ r. P (ended task needs r) in
+    subst ends (sym same) (holds needs)
+
+-- what was loaded
+pub loaded-is : (result : Result (List (List ℕ)) LoadFault) (old texts : List (List ℕ)) → old ≡ [] → IsOkAnd result (λ bytes. texts ≡ old ++ bytes) → result ≡ Ok texts
+loaded-is (Ok bytes) old texts empty e = ap (λ (t : List (List ℕ)). Ok t) (sym (e ∙ ap (λ o. o ++ bytes) empty))
+loaded-is (Err fault) old texts empty e = absurd e
+
+-- what holds where standard input is or isn't reached
+pub foretold_reached : {Q : Type 0} (task : Task) (contents : Option FileMap) (left : Option (List ℕ)) (b : Bool)
+    → WhereTold contents left task.needs (λ known text. reads_input (reached known text task.needs) ≡ b → Q) → Foretells task contents left (λ o. o.reads_input ≡ b → Q)
+foretold_reached task contents left b holds = λ known text tells unread.
+    holds known text (told task contents left known text tells) (sym (ended-reads_input task (reached known text task.needs) (loaded known text task.needs)) ∙ unread)
+
+pub foretold_input : (task : Task) (contents : Option FileMap) (left : Option (List ℕ))
+    → WhereTold contents left task.needs (λ known text. reads_input (reached known text task.needs) ≡ true) → Foretells task contents left (λ o. o.reads_input ≡ true)
+foretold_input task contents left holds = λ known text tells.
+    ended-reads_input task (reached known text task.needs) (loaded known text task.needs) ∙ holds known text (told task contents left known text tells)
+
+-- ---- the answer's outcome
+
+pub has_bytes : (task : Task) (needs : List Need) (answer : Answer) (bytes : List ℕ) → answer ≡ Done bytes → HasBytes bytes (answered task needs answer)
+has_bytes task needs answer bytes done =
+    let has : Answer → Type 0 = λ a. HasBytes bytes (answered task needs a) in
+    subst has (sym done) (refl, refl)
+
+pub refuses : (task : Task) (needs : List Need) (answer : Answer) (status : ℕ) (said : List ℕ) (S : List ℕ → Type 0) → RefusesWith answer status said → S (line_of task.speaker said)
+    → ((answered task needs answer).status ≡ status) × S (answered task needs answer).message
+refuses task needs (Done bytes) status said S none says = absurd none
+refuses task needs (Refused text) status said S with says = (sym with.0, subst (λ t. S (line_of task.speaker t)) (sym with.1) says)
+refuses task needs (NotTaken text) status said S with says = (sym with.0, subst (λ t. S (line_of task.speaker t)) (sym with.1) says)
+
+-- the statuses of a conclusion
+abbrev pub IsConcluded : ℕ → Type 0
+IsConcluded status = (status ≡ 0) ⊎ (status ≡ 1) ⊎ (status ≡ 2) ⊎ (status ≡ 4) ⊎ (status ≡ 5)
+
+pub concluded-small : (status : ℕ) → IsConcluded status → status ≤ 6
+concluded-small status concluded = grind arith
+
+pub refused-one : (status : ℕ) → IsConcluded status → IsRefusal status → (status ≡ 1) ⊎ (status ≡ 2)
+refused-one status concluded refusal = grind arith
+
+pub not-read : {P : Type 0} (status : ℕ) → IsConcluded status → status ≡ 3 → P
+not-read status concluded read = absurd (grind arith)
+
+pub exact-answer : (task : Task) (needs : List Need) (answer : Answer) (status : ℕ) → IsConcluded status → ((status ≡ 0) → (bytes : List ℕ) × (answer ≡ Done bytes)) → ((status ≡ 4) → (bytes : List ℕ) × (answer ≡ Done bytes))
+    → ((status ≡ 1) ⊎ (status ≡ 2) → (said : List ℕ) × RefusesWith answer status said) → IsStatusFor status (answered task needs answer)
+exact-answer task needs answer status concluded done part refused = elim concluded [
+  | inl zero_is ↦ let d = done zero_is in inl (zero_is ∙ sym (has_bytes task needs answer d.0 d.1).0)
+  | inr (inl one_is) ↦ let r = refused (inl one_is) in inl (sym (refuses task needs answer status r.0 (λ t. Unit {0}) r.1 tt).0)
+  | inr (inr (inl two_is)) ↦ let r = refused (inr two_is) in inl (sym (refuses task needs answer status r.0 (λ t. Unit {0}) r.1 tt).0)
+  | inr (inr (inr (inl four_is))) ↦ let d = part four_is in inr (inr (inr (four_is, (has_bytes task needs answer d.0 d.1).0)))
+  | inr (inr (inr (inr five_is))) ↦ inr (inl five_is)
+]
+
+-- standard input that failed raised the count of the input
+pub input-rose : (need : Need) (loads new_loads inputs new_inputs : ℕ) → is_stream need.name ≡ true → SourceRose need loads new_loads inputs new_inputs → Rose inputs new_inputs
+input-rose need loads new_loads inputs new_inputs stream rose = by_name need.name stream rose
+  where
+    by_name : (name : Option (List ℕ)) → is_stream name ≡ true → MatchOption name (Rose inputs new_inputs) (λ n. Rose loads new_loads) → Rose inputs new_inputs
+    by_name None stream rose = rose
+    by_name (Some name) stream rose = absurd cc
+
+-- over steady files a failure is the outcome's, unless standard input failed that the outcome reads
+pub foretold_failure : (task : Task) (contents : Option FileMap) (steady : Bool) (left : Option (List ℕ)) (loads new_loads inputs new_inputs : ℕ) (need : Need) (S : List ℕ → Type 0)
+    → FailsToLoad contents steady left task.needs loads new_loads inputs new_inputs need → S (line_of task.speaker (read_failed need)) → steady ≡ true
+    → Foretells task contents left (λ o. (o.reads_input ≡ true → Rose inputs new_inputs → ⊥) → (o.status ≡ 3) × S o.message)
+foretold_failure task contents steady left loads new_loads inputs new_inputs need S fails says is_steady = λ known text tells.
+    let failed : Outcome → Type 0 = λ o. (o.reads_input ≡ true → Rose inputs new_inputs → ⊥) → (o.status ≡ 3) × S o.message in
+    elim (cases_Bool (is_stream need.name)) [
+      | inl stream ↦ λ unread. absurd (unread (foretold_input task contents left (fails.input stream) known text tells) (input-rose need loads new_loads inputs new_inputs stream fails.rose))
+      | inr file ↦ foretold task contents left (Err (Missing need)) failed (fails.missing is_steady file) (λ needs unread. (refl, says)) known text tells
+    ]

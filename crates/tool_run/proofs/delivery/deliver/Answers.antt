@@ -1,0 +1,11 @@
+use Rattle.ice_io.specs.Put.{written_before}
+use Rattle.tool_run.proofs.Deliveries.{stored_part, written_part}
+use Rattle.tool_run.proofs.delivery.deliver.Goals as goal
+
+pub returns-in-Err-clause-part : goal.returns-in-Err-clause-part
+returns-in-Err-clause-part g c =
+    rw c.in-Some.is (stored_part (g.F.Files.contents c.args.files.now) (g.F.Files.contents c.store.new.self) (g.O.Sink.held c.args.output.now) c.in-Some.name.now c.args.bytes.now c.in-Err.field-0 c.in-Err.ensures.part)
+
+pub returns-in-Err-write_whole-clause-part : goal.returns-in-Err-write_whole-clause-part
+returns-in-Err-write_whole-clause-part g c =
+    rw c.in-None.is (written_part (g.F.Files.contents c.args.files.now) (g.O.Sink.held c.args.output.now) (g.O.Sink.held c.write_whole.new.sink) c.args.bytes.now (written_before c.in-Err-write_whole.field-0) c.in-Err-write_whole.ensures.part)

@@ -1,0 +1,109 @@
+-- What a run of a task does, whatever the task is.
+use Rattle.std.specs.Prelude.{◌≡◌, ◌≢◌, ◌⊎◌, ℕ, ◌≤◌, Bool, true, false, List, Option, None, Some, Contains}
+use Rattle.std.specs.Io.KnownBytes.{IsAtEnd}
+use Rattle.ice_io.specs.Faults.{Rose}
+use Rattle.ice_io.specs.Files.{FileMap}
+use Rattle.tool_run.specs.Needs.{Need, is_stream, reads_files, reads_input}
+use Rattle.tool_run.specs.Lines.{line_of, out_of_memory, read_failed, write_failed}
+use Rattle.tool_run.specs.Tasks.{Outcome, Task}
+use Rattle.tool_run.specs.Effects.{Delivers, DeliversPart, Foretells, SourceRose, TargetRose, Writes}
+
+-- how clauses read the files, the input, the output and the errors of a run
+pub record Outside (F I O E : Type 0) : Type 0 where
+  pub contents : F → Option FileMap
+  pub steady : F → Bool
+  pub load_faults : F → ℕ
+  pub store_faults : F → ℕ
+  pub left : I → Option (List ℕ)
+  pub input_faults : I → ℕ
+  pub held : O → Option (List ℕ)
+  pub output_faults : O → ℕ
+  pub said : E → Option (List ℕ)
+  pub error_faults : E → ℕ
+
+abbrev pub outside : {F I O E : Type 0} → (F → Option FileMap) → (F → Bool) → (F → ℕ) → (F → ℕ) → (I → Option (List ℕ)) → (I → ℕ) → (O → Option (List ℕ)) → (O → ℕ) → (E → Option (List ℕ)) → (E → ℕ) → Outside F I O E
+outside contents steady load_faults store_faults left input_faults held output_faults said error_faults = record {
+  contents = contents;
+  steady = steady;
+  load_faults = load_faults;
+  store_faults = store_faults;
+  left = left;
+  input_faults = input_faults;
+  held = held;
+  output_faults = output_faults;
+  said = said;
+  error_faults = error_faults;
+}
+
+-- the files and the streams of a run
+pub record Scene (F I O E : Type 0) : Type 0 where
+  pub files : F
+  pub input : I
+  pub output : O
+  pub errors : E
+
+abbrev pub scene : {F I O E : Type 0} → F → I → O → E → Scene F I O E
+scene files input output errors = record { files = files; input = input; output = output; errors = errors }
+
+-- the statuses of a refusal: by the tool, of the command line, for too many bytes
+abbrev pub IsRefusal : ℕ → Type 0
+IsRefusal status = (status ≡ 1) ⊎ (status ≡ 2) ⊎ (status ≡ 6)
+
+-- the status is the outcome's, or memory ran out, or a read failed, or the target took not all of what was made
+abbrev pub IsStatusFor : ℕ → Outcome → Type 0
+IsStatusFor status o = (status ≡ o.status) ⊎ (status ≡ 5) ⊎ (status ≡ 3) ⊎ ((status ≡ 4) × (o.status ≡ 0))
+
+-- the outcome delivers these bytes
+abbrev pub HasBytes : List ℕ → Outcome → Type 0
+HasBytes bytes o = (o.status ≡ 0) × (o.bytes ≡ bytes)
+
+module _ {F I O E : Type 0} where
+  -- this line was written to standard error, or a part of it
+  abbrev pub Says : Outside F I O E → Scene F I O E → Scene F I O E → List ℕ → Type 0
+  Says by old new line = Writes line (by.said old.errors) (by.said new.errors) (by.error_faults old.errors) (by.error_faults new.errors)
+
+  -- the outcome of the task, as far as it is told before the run, has P
+  abbrev pub Foresees : Outside F I O E → Task → Scene F I O E → (Outcome → Type 0) → Type 0
+  Foresees by task old P = Foretells task (by.contents old.files) (by.left old.input) P
+
+  -- a need of the task failed to be read: the count of its side rose, its line is written, and standard input is among what
+  -- the outcome reads if it is the one
+  pub record FailsToRead (by : Outside F I O E) (task : Task) (old new : Scene F I O E) (need : Need) : Type 0 where
+    pub needed : Contains task.needs need
+    pub rose : SourceRose need (by.load_faults old.files) (by.load_faults new.files) (by.input_faults old.input) (by.input_faults new.input)
+    pub line : Says by old new (line_of task.speaker (read_failed need))
+    pub input : is_stream need.name ≡ true → Foresees by task old (λ o. o.reads_input ≡ true)
+
+  -- the run of a task with this status
+  pub record Does (by : Outside F I O E) (task : Task) (status : ℕ) (old new : Scene F I O E) : Type 0 where
+    pub statuses : status ≤ 6
+    -- 0: the outcome was delivered whole, its input was read to the end, and nothing was said
+    pub whole : status ≡ 0 → (bytes : List ℕ)
+        × Delivers task.target bytes (by.contents old.files) (by.contents new.files) (by.held old.output) (by.held new.output)
+        × Foresees by task old (HasBytes bytes)
+    pub end : status ≡ 0 → reads_input task.needs ≡ true → IsAtEnd (by.left new.input)
+    pub silent : status ≡ 0 → new.errors ≡ old.errors
+    -- 1, 2 and 6: the outcome's status, and its line
+    pub refused : IsRefusal status → Foresees by task old (λ o. (o.status ≡ status) × Says by old new o.message)
+    -- 3: a read failed. Over steady files it is the outcome's, unless standard input failed that the outcome reads
+    pub read : status ≡ 3 → (need : Need) × FailsToRead by task old new need
+    pub steady : status ≡ 3 → by.steady old.files ≡ true → Foresees by task old (λ o.
+        (o.reads_input ≡ true → Rose (by.input_faults old.input) (by.input_faults new.input) → ⊥)
+        → (o.status ≡ 3) × Says by old new o.message)
+    -- 4: the target took a part of what was made, and its count rose
+    pub part : status ≡ 4 → (bytes : List ℕ)
+        × DeliversPart task.target bytes (by.contents old.files) (by.contents new.files) (by.held old.output) (by.held new.output)
+        × Foresees by task old (HasBytes bytes)
+    pub rose : status ≡ 4 → TargetRose task.target (by.store_faults old.files) (by.store_faults new.files) (by.output_faults old.output) (by.output_faults new.output)
+    pub target_line : status ≡ 4 → Says by old new (line_of task.speaker (write_failed task.target))
+    -- 5: out of memory
+    pub memory : status ≡ 5 → Says by old new (line_of task.speaker out_of_memory)
+    -- whatever it is, it is the outcome's status, or 3, 4 or 5 came in its place
+    pub exact : Foresees by task old (IsStatusFor status)
+    -- only 0 and 4 deliver anything, and what isn't asked for stays as it was
+    pub untouched : status ≢ 0 → status ≢ 4 → new.output ≡ old.output
+    pub kept : status ≢ 0 → status ≢ 4 → by.contents new.files ≡ by.contents old.files
+    pub aside : task.target ≢ None → new.output ≡ old.output
+    pub unread : reads_input task.needs ≡ false → new.input ≡ old.input
+    pub unreached : Foresees by task old (λ o. o.reads_input ≡ false → new.input ≡ old.input)
+    pub unasked : reads_files task.needs ≡ false → task.target ≡ None → new.files ≡ old.files

@@ -1,0 +1,109 @@
+-- What a command line asks for, done on files and on an input that are known, where nothing fails from outside.
+use Rattle.std.specs.Prelude.{ℕ, Bool, List, [], ◌∷◌, length, nat_lt, if◌then◌else◌, Option, None, Some, Result, Ok, Err}
+use Rattle.std.specs.FinMap.{get}
+use Rattle.ice_io.specs.Files.{FileMap}
+use Rattle.tool_run.specs.Needs.{Need, reads_files, reads_input}
+use Rattle.tool_run.specs.Lines.{line_of, read_failed, too_long, usage_text}
+
+-- what a tool makes of what it read: the bytes for its target, or why it refuses, or that the command line isn't taken
+pub data Answer : Type 0 where
+  Done : List ℕ → Answer
+  Refused : List ℕ → Answer
+  NotTaken : List ℕ → Answer
+
+-- who speaks, what is read, in order, the file that is stored, or none for standard output, and what is made of what was read
+pub record Task : Type 0 where
+  pub speaker : List ℕ
+  pub needs : List Need
+  pub target : Option (List ℕ)
+  pub answer : List (List ℕ) → Answer
+
+-- a task that reads nothing
+abbrev pub at_once : List ℕ → Option (List ℕ) → Answer → Task
+at_once speaker target answer = record { speaker = speaker; needs = []; target = target; answer = λ texts. answer }
+
+-- a command line that isn't taken: the one that would be is told
+abbrev pub not_taken : List ℕ → List ℕ → Task
+not_taken speaker usage = at_once speaker None (NotTaken (usage_text usage))
+
+-- why a need couldn't be read: there is no such file, or it has more bytes than its limit
+pub data LoadFault : Type 0 where
+  Missing : Need → LoadFault
+  TooLong : Need → LoadFault
+
+-- bytes within the limit of their need
+abbrev pub limited : Need → List ℕ → Result (List ℕ) LoadFault
+limited need bytes = if nat_lt need.limit (length bytes) then Err (TooLong need) else Ok bytes
+
+-- the bytes of a file that may be missing
+abbrev pub found : Need → Option (List ℕ) → Result (List ℕ) LoadFault
+found need None = Err (Missing need)
+found need (Some bytes) = limited need bytes
+
+-- the bytes of standard input, or of a file
+abbrev pub bytes_by : FileMap → List ℕ → Need → Option (List ℕ) → Result (List ℕ) LoadFault
+bytes_by files input need None = limited need input
+bytes_by files input need (Some name) = found need (get files name)
+
+-- the bytes of a need
+abbrev pub bytes_of : FileMap → List ℕ → Need → Result (List ℕ) LoadFault
+bytes_of files input need = bytes_by files input need need.name
+
+-- bytes before others, where each of them could be read
+abbrev pub with_first : List ℕ → Result (List (List ℕ)) LoadFault → Result (List (List ℕ)) LoadFault
+with_first first (Ok others) = Ok (first ∷ others)
+with_first first (Err fault) = Err fault
+
+-- the first of several, and the others where it could be read
+abbrev pub loaded_after : Result (List ℕ) LoadFault → Result (List (List ℕ)) LoadFault → Result (List (List ℕ)) LoadFault
+loaded_after (Ok first) others = with_first first others
+loaded_after (Err fault) others = Err fault
+
+-- the bytes of each need, in order; the first that can't be read decides
+abbrev pub loaded : FileMap → List ℕ → List Need → Result (List (List ℕ)) LoadFault
+loaded files input [] = Ok []
+loaded files input (need ∷ needs) = loaded_after (bytes_of files input need) (loaded files input needs)
+
+-- the others, where the first could be read
+abbrev pub reached_after : Result (List ℕ) LoadFault → List Need → List Need
+reached_after (Ok first) others = others
+reached_after (Err fault) others = []
+
+-- the needs that are read: those up to the first that can't be
+abbrev pub reached : FileMap → List ℕ → List Need → List Need
+reached files input [] = []
+reached files input (need ∷ needs) = need ∷ reached_after (bytes_of files input need) (reached files input needs)
+
+-- the status, whether a file and whether standard input is read, the file that is stored, or none for standard output, the
+-- bytes for it, and the line for standard error
+pub record Outcome : Type 0 where
+  pub status : ℕ
+  pub reads_files : Bool
+  pub reads_input : Bool
+  pub target : Option (List ℕ)
+  pub bytes : List ℕ
+  pub message : List ℕ
+
+abbrev pub ending : Task → List Need → ℕ → List ℕ → List ℕ → Outcome
+ending task needs status bytes message = record {
+  status = status;
+  reads_files = reads_files needs;
+  reads_input = reads_input needs;
+  target = task.target;
+  bytes = bytes;
+  message = message;
+}
+
+abbrev pub answered : Task → List Need → Answer → Outcome
+answered task needs (Done bytes) = ending task needs 0 bytes []
+answered task needs (Refused text) = ending task needs 1 [] (line_of task.speaker text)
+answered task needs (NotTaken text) = ending task needs 2 [] (line_of task.speaker text)
+
+abbrev pub ended : Task → List Need → Result (List (List ℕ)) LoadFault → Outcome
+ended task needs (Ok texts) = answered task needs (task.answer texts)
+ended task needs (Err (Missing need)) = ending task needs 3 [] (line_of task.speaker (read_failed need))
+ended task needs (Err (TooLong need)) = ending task needs 6 [] (line_of task.speaker (too_long need))
+
+-- the outcome of a task, on files and an input
+abbrev pub outcome_of : Task → FileMap → List ℕ → Outcome
+outcome_of task files input = ended task (reached files input task.needs) (loaded files input task.needs)

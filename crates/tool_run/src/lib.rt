@@ -1,0 +1,18 @@
+//! What every tool does in the same way: it loads what it needs, in order and within limits, makes its answer, delivers
+//! that to a file or to standard output, and tells a failure in one line on standard error.
+//!
+//! `Task` (in `specs/Tasks.antt`) says what a command line asks for, and `outcome_of` what comes of it where nothing fails
+//! from outside. `Does` (in `specs/Runs.antt`) says what a run of a task does to files and streams, by its status. Each
+//! function here that answers a status has it as its one clause.
+#![tactic(auto)]
+
+mod delivery;
+mod line;
+mod load;
+mod performing;
+mod tool;
+
+pub use line::{Number, Phrase, Refusal, decimal, text};
+pub use load::Load;
+pub use performing::{Job, give_up, perform};
+pub use tool::{Stop, Tool};

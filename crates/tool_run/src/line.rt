@@ -1,0 +1,161 @@
+// The lines for standard error, in pieces that take no memory.
+ghost use Rattle.std.specs.Prelude.{◌≡◌, ◌++◌, ◌<◌, ◌≤◌, length, take, codes, OnOk, OnErr};
+ghost use Rattle.std.specs.Io.KnownBytes.{Appends};
+ghost use Rattle.ice_io.specs.Faults.{Rose};
+ghost use Rattle.ice_io.specs.Put.{ForWritten};
+ghost use Rattle.tool_run.specs.Effects.{Writes};
+ghost use Rattle.tool_run.specs.Lines.{four_digits, line_of, number_text, numbered, part_text, parts_text, phrase_text, plain, refusal_text};
+
+use ice_io::{PutFault, Sink, write_whole};
+use itoa::Buffer;
+
+/// A number in a line.
+#[derive(Clone, Copy, Debug, PartialEq, Eq)]
+pub enum Number {
+    /// No number, and no byte.
+    Missing,
+    /// In decimal digits.
+    Decimal(u64),
+    /// As four hexadecimal digits in lower case.
+    Hexadecimal(u16),
+}
+
+/// A text of a line, and the number behind it.
+#[derive(Clone, Copy, Debug, PartialEq, Eq)]
+pub struct Phrase {
+    pub text: &'static str,
+    pub number: Number,
+}
+
+/// Why a tool refuses what it was given: the phrases of the line behind the tool's name.
+#[derive(Clone, Copy, Debug, PartialEq, Eq)]
+pub struct Refusal {
+    pub first: Phrase,
+    pub second: Phrase,
+    pub third: Phrase,
+    pub fourth: Phrase,
+}
+
+/// A part of a line: a text or a number.
+#[derive(Clone, Copy)]
+enum Part<'a> {
+    Text(&'a str),
+    Number(Number),
+}
+
+/// A text without a number.
+pub const fn text(text: &'static str) -> Phrase
+    ensures { result ≡ plain text.entry }
+{
+    Phrase {
+        text,
+        number: Number::Missing,
+    }
+}
+
+/// A text and a number in decimal digits.
+pub const fn decimal(text: &'static str, number: u64) -> Phrase
+    ensures { result ≡ numbered text.entry number }
+{
+    Phrase {
+        text,
+        number: Number::Decimal(number),
+    }
+}
+// Four hexadecimal digits.
+fn format_hexadecimal(n: u16, digits: &mut [u8; 4])
+    ensures { digits.new ≡ four_digits n }
+{
+    // Two bytes have four digits.
+    let _ = hex::encode_to_slice(n.to_be_bytes(), digits);
+}
+
+// Writes one number.
+fn write_number<E: Sink>(errors: &mut E, number: Number) -> Result<(), PutFault>
+    ensures whole { OnOk result (Appends (E.held errors.old) (E.held errors.new) (number_text number)) }
+    ensures part { ForWritten result (λ written. Appends (E.held errors.old) (E.held errors.new) (take written (number_text number))) }
+    ensures short { ForWritten result (λ written. written < length (number_text number)) }
+    ensures never_falls { E.faults errors.old ≤ E.faults errors.new }
+    ensures failed { OnErr result (Rose (E.faults errors.old) (E.faults errors.new)) }
+{
+    match number {
+        Number::Missing => write_whole(errors, &[]),
+        Number::Decimal(n) => {
+            let mut digits = Buffer::new();
+            write_whole(errors, digits.format(n).as_bytes())
+        }
+        Number::Hexadecimal(n) => {
+            let mut digits = [0; 4];
+            format_hexadecimal(n, &mut digits);
+            write_whole(errors, &digits)
+        }
+    }
+}
+
+// Writes one part.
+fn write_part<E: Sink>(errors: &mut E, part: Part<'_>) -> Result<(), PutFault>
+    ensures whole { OnOk result (Appends (E.held errors.old) (E.held errors.new) (part_text part.entry)) }
+    ensures part { ForWritten result (λ written. Appends (E.held errors.old) (E.held errors.new) (take written (part_text part.entry))) }
+    ensures short { ForWritten result (λ written. written < length (part_text part.entry)) }
+    ensures never_falls { E.faults errors.old ≤ E.faults errors.new }
+    ensures failed { OnErr result (Rose (E.faults errors.old) (E.faults errors.new)) }
+{
+    match part {
+        Part::Text(text) => write_whole(errors, text.as_bytes()),
+        Part::Number(number) => write_number(errors, number),
+    }
+}
+
+// Writes parts one after the other, and stops at the first that can't be written whole.
+fn write_parts<E: Sink>(errors: &mut E, parts: &[Part<'_>])
+    ensures { Writes (parts_text parts.now) (E.held errors.old) (E.held errors.new) (E.faults errors.old) (E.faults errors.new) }
+{
+    for part in parts {
+        match write_part(errors, *part) {
+            Ok(()) => {}
+            Err(_) => return,
+        }
+    }
+}
+
+/// Writes the line of a speaker who refuses.
+pub(crate) fn write_refusal<E: Sink>(errors: &mut E, speaker: &str, refusal: Refusal)
+    ensures { Writes (line_of speaker.now (refusal_text refusal)) (E.held errors.old) (E.held errors.new) (E.faults errors.old) (E.faults errors.new) }
+{
+    let parts = [
+        Part::Text(speaker),
+        Part::Text(": "),
+        Part::Text(refusal.first.text),
+        Part::Number(refusal.first.number),
+        Part::Text(refusal.second.text),
+        Part::Number(refusal.second.number),
+        Part::Text(refusal.third.text),
+        Part::Number(refusal.third.number),
+        Part::Text(refusal.fourth.text),
+        Part::Number(refusal.fourth.number),
+        Part::Text("\n"),
+    ];
+    write_parts(errors, &parts);
+}
+
+/// Writes the line of a speaker: a text, a name, and a phrase behind it.
+pub(crate) fn write_named<'a, E: Sink>(
+    errors: &mut E,
+    speaker: &'a str,
+    what: &'a str,
+    name: &'a str,
+    behind: Phrase,
+)
+    ensures { Writes (line_of speaker.now (what.now ++ name.now ++ phrase_text behind)) (E.held errors.old) (E.held errors.new) (E.faults errors.old) (E.faults errors.new) }
+{
+    let parts = [
+        Part::Text(speaker),
+        Part::Text(": "),
+        Part::Text(what),
+        Part::Text(name),
+        Part::Text(behind.text),
+        Part::Number(behind.number),
+        Part::Text("\n"),
+    ];
+    write_parts(errors, &parts);
+}

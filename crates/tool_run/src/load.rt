@@ -1,0 +1,120 @@
+// The bytes that a tool needs, loaded in order.
+ghost use Rattle.std.specs.Prelude.{◌≡◌, ◌∷◌, [], ◌++◌, ◌<◌, ◌≤◌, ◌^◌, true, false, Ok, map, vec_items, IfOk, IfErr, OnOk, IsOkAnd};
+ghost use Rattle.std.specs.declared.alloc.AllocError.{AllocError};
+ghost use Rattle.std.specs.Io.KnownBytes.{IsAtEnd};
+ghost use Rattle.tool_run.specs.Needs.{IsSound, is_stream, need_of, reads_files, reads_input};
+ghost use Rattle.tool_run.specs.Tasks.{bytes_of, loaded, reached};
+ghost use Rattle.tool_run.specs.Loads.{StopsLoading, WhereTold};
+
+use ice_io::{Files, Source, TakeFault, read_all};
+use std::alloc::{AllocError, AllocFailed, Global};
+
+/// Bytes that a tool needs: those of a file, or of standard input where there is no name.
+#[derive(Clone, Copy, Debug, PartialEq, Eq)]
+pub struct Load<'a> {
+    pub name: Option<&'a str>,
+    /// More bytes than these are refused.
+    pub limit: usize,
+}
+
+/// Why bytes could not be loaded.
+#[derive(Clone, Copy, Debug, PartialEq, Eq)]
+pub(crate) enum LoadStop<'a> {
+    /// This load failed.
+    Failed(Load<'a>),
+    /// This load has more bytes than its limit.
+    TooLong(Load<'a>),
+    /// Out of memory.
+    Memory,
+}
+
+impl<'a, T: Drop> From<AllocFailed<T>> for LoadStop<'a> {
+    ghost use Rattle.tool_run.specs.declared.load.LoadStop.TheVariants.{Memory};
+
+    ghost from_gives = { λ _ stop. stop ≡ Memory };
+
+    fn from(_: AllocFailed<T>) -> LoadStop<'a> {
+        LoadStop::Memory
+    }
+}
+
+// Why a load stopped at that fault.
+fn stop_of(fault: TakeFault, load: Load<'_>) -> LoadStop<'_>
+    ensures failed { fault ≡ TakeFault.Failed → result ≡ LoadStop.Failed load.entry }
+    ensures too_long { fault ≡ TakeFault.TooLong → result ≡ LoadStop.TooLong load.entry }
+    ensures memory { (e : AllocError) → fault ≡ TakeFault.Memory e → result ≡ LoadStop.Memory }
+{
+    match fault {
+        TakeFault::Failed => LoadStop::Failed(load),
+        TakeFault::TooLong => LoadStop::TooLong(load),
+        TakeFault::Memory(_) => LoadStop::Memory,
+    }
+}
+
+// The bytes of one need.
+fn load_one<'a, F: Files, I: Source>(
+    alloc: Global,
+    load: Load<'a>,
+    files: &mut F,
+    input: &mut I,
+) -> Result<Vec<u8>, LoadStop<'a>>
+    requires { load.limit < 2 ^ 32 }
+    ensures bytes { IfOk result (λ bytes. WhereTold (F.contents files.old) (I.left input.old) (need_of load.entry ∷ [])
+        (λ known text. bytes_of known text (need_of load.entry) ≡ Ok bytes.items)) }
+    ensures stops { IfErr result (StopsLoading (F.contents files.old) (F.steady files.old) (I.left input.old) (need_of load.entry ∷ [])
+        (F.load_faults files.old) (F.load_faults files.new) (I.faults input.old) (I.faults input.new)) }
+    ensures end { OnOk result (is_stream (need_of load.entry).name ≡ true → IsAtEnd (I.left input.new)) }
+
+    ensures same_contents { F.contents files.new ≡ F.contents files.old }
+    ensures same_steady { F.steady files.new ≡ F.steady files.old }
+    ensures same_store_faults { F.store_faults files.new ≡ F.store_faults files.old }
+    ensures load_faults { F.load_faults files.old ≤ F.load_faults files.new }
+    ensures input_faults { I.faults input.old ≤ I.faults input.new }
+    ensures unread { is_stream (need_of load.entry).name ≡ false → input.new ≡ input.old }
+    ensures unasked { is_stream (need_of load.entry).name ≡ true → files.new ≡ files.old }
+{
+    match load.name {
+        Some(name) => match files.load(alloc, name, load.limit) {
+            Ok(bytes) => Ok(bytes),
+            Err(fault) => Err(stop_of(fault, load)),
+        },
+        None => match read_all(alloc, input, load.limit) {
+            Ok(bytes) => Ok(bytes),
+            Err(fault) => Err(stop_of(fault, load)),
+        },
+    }
+}
+
+/// Appends the bytes of each need, in order. The first that fails decides.
+pub(crate) fn load_all<'a, F: Files, I: Source>(
+    alloc: Global,
+    loads: &[Load<'a>],
+    files: &mut F,
+    input: &mut I,
+    texts: &mut Vec<Vec<u8>>,
+) -> Result<(), LoadStop<'a>>
+    requires { IsSound (map need_of loads.now) }
+    ensures bytes { OnOk result (WhereTold (F.contents files.old) (I.left input.old) (map need_of loads.now)
+        (λ known text. IsOkAnd (loaded known text (map need_of loads.now)) (λ bytes. map vec_items texts.new.items ≡ map vec_items texts.old.items ++ bytes))) }
+    ensures stops { IfErr result (StopsLoading (F.contents files.old) (F.steady files.old) (I.left input.old) (map need_of loads.now)
+        (F.load_faults files.old) (F.load_faults files.new) (I.faults input.old) (I.faults input.new)) }
+    ensures end { OnOk result (reads_input (map need_of loads.now) ≡ true → IsAtEnd (I.left input.new)) }
+
+    ensures same_contents { F.contents files.new ≡ F.contents files.old }
+    ensures same_steady { F.steady files.new ≡ F.steady files.old }
+    ensures same_store_faults { F.store_faults files.new ≡ F.store_faults files.old }
+    ensures load_faults { F.load_faults files.old ≤ F.load_faults files.new }
+    ensures input_faults { I.faults input.old ≤ I.faults input.new }
+    ensures unread { reads_input (map need_of loads.now) ≡ false → input.new ≡ input.old }
+    ensures unreached { WhereTold (F.contents files.old) (I.left input.old) (map need_of loads.now)
+        (λ known text. reads_input (reached known text (map need_of loads.now)) ≡ false → input.new ≡ input.old) }
+    ensures unasked { reads_files (map need_of loads.now) ≡ false → files.new ≡ files.old }
+{
+    for load in loads {
+        match load_one(alloc, *load, files, input) {
+            Ok(bytes) => texts.push(bytes)?,
+            Err(stop) => return Err(stop),
+        }
+    }
+    Ok(())
+}

@@ -2,3 +2,4 @@ mod Deliveries
 mod Pieces
 mod Loading
 mod Outcomes
+pub mod Same

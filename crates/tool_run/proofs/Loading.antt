@@ -33,6 +33,7 @@ pub file_fails : (contents : Option FileMap) (steady : Bool) (left : Option (Lis
 file_fails contents steady left need name loads new_loads inputs new_inputs is rose lacks = record {
   needed = (0, omega arith, refl);
   rose = rw is rose;
+  lacks = λ is_steady. rw is (lacks is_steady);
   missing = λ is_steady file known text told.
       let here : contents ≡ Some known = (rw is at (told.0)) in
       let gone : get known name ≡ None = subst (λ (c : Option FileMap). LacksFile c name) here (lacks is_steady) in
@@ -46,6 +47,7 @@ pub input_fails : (contents : Option FileMap) (steady : Bool) (left : Option (Li
 input_fails contents steady left need loads new_loads inputs new_inputs is rose = record {
   needed = (0, omega arith, refl);
   rose = rw is rose;
+  lacks = λ is_steady. rw is tt;
   missing = λ is_steady file known text told. let both : true ≡ false = sym (ap is_stream is) ∙ file in absurd cc;
   input = λ stream known text told. rw is refl;
 }
@@ -119,6 +121,7 @@ pub stops_first : (contents : Option FileMap) (steady : Bool) (left : Option (Li
 stops_first contents steady left need needs loads new_loads inputs new_inputs (Failed load) fails = record {
   needed = one fails.needed;
   rose = fails.rose;
+  lacks = fails.lacks;
   missing = λ is_steady file known text told.
       first_fault (bytes_of known text need) (loaded known text needs) (Missing (need_of load)) (fails.missing is_steady file known text (first_told contents left known text need needs told));
   input = λ stream known text told.
@@ -197,6 +200,7 @@ pub stops_later : (contents now : Option FileMap) (steady steady_now : Bool) (le
 stops_later contents now steady steady_now left left_now need needs bytes loads loads_now new_loads inputs inputs_now new_inputs (Failed load) sound b fails = record {
   needed = (suc fails.needed.0, omega (arith, fails.needed.1), fails.needed.2);
   rose = SourceRose-earlier (need_of load) loads_now loads new_loads inputs_now inputs new_inputs b.load_faults b.input_faults fails.rose;
+  lacks = λ is_steady. subst (λ (files : Option FileMap). MatchOption (need_of load).name (Unit {0}) (λ name. LacksFile files name)) b.same_contents (fails.lacks (b.same_steady ∙ is_steady));
   missing = λ is_steady file known text told.
       let gives = b.gives known text (first_told contents left known text need needs told) in
       rest_fault known text need needs bytes (Missing (need_of load)) gives

@@ -106,6 +106,12 @@ refuses task needs (Done bytes) status said S none says = absurd none
 refuses task needs (Refused text) status said S with says = (sym with.0, subst (λ t. S (line_of task.speaker t)) (sym with.1) says)
 refuses task needs (NotTaken text) status said S with says = (sym with.0, subst (λ t. S (line_of task.speaker t)) (sym with.1) says)
 
+-- a command line that isn't taken
+pub takes-not : (answer : Answer) (status : ℕ) (said : List ℕ) → status ≡ 2 → RefusesWith answer status said → answer ≡ NotTaken said
+takes-not (Done bytes) status said two_is none = absurd none
+takes-not (Refused text) status said two_is with = absurd (omega (arith, with.0))
+takes-not (NotTaken text) status said two_is with = ap NotTaken with.1
+
 -- the statuses of a conclusion
 abbrev pub IsConcluded : ℕ → Type 0
 IsConcluded status = (status ≡ 0) ⊎ (status ≡ 1) ⊎ (status ≡ 2) ⊎ (status ≡ 4) ⊎ (status ≡ 5)

@@ -6,3 +6,4 @@ pub mod Loads
 pub mod Stops
 pub mod Jobs
 pub mod Runs
+pub mod AtOnce

@@ -1,6 +1,6 @@
 -- Loading one need after the other.
-use Rattle.std.specs.Prelude.{◌≡◌, ℕ, Bool, true, false, List, [], ◌∷◌, Option, None, Some, Ok, Err, Contains}
-use Rattle.ice_io.specs.Files.{FileMap}
+use Rattle.std.specs.Prelude.{◌≡◌, ℕ, Bool, true, false, List, [], ◌∷◌, Option, None, Some, Ok, Err, MatchOption, Contains}
+use Rattle.ice_io.specs.Files.{FileMap, LacksFile}
 use Rattle.tool_run.specs.Needs.{Need, is_stream, need_of, reads_input}
 use Rattle.tool_run.specs.Tasks.{LoadFault, Missing, TooLong as MissesLimit, bytes_of, loaded, reached}
 use Rattle.tool_run.specs.Effects.{SourceRose}
@@ -28,6 +28,7 @@ WhereTold contents left needs P = (files : FileMap) (input : List ℕ) → AreTo
 pub record FailsToLoad (contents : Option FileMap) (steady : Bool) (left : Option (List ℕ)) (needs : List Need) (load_faults new_load_faults input_faults new_input_faults : ℕ) (need : Need) : Type 0 where
   pub needed : Contains needs need
   pub rose : SourceRose need load_faults new_load_faults input_faults new_input_faults
+  pub lacks : steady ≡ true → MatchOption need.name (Unit {0}) (λ name. LacksFile contents name)
   pub missing : steady ≡ true → is_stream need.name ≡ false → WhereTold contents left needs (λ files input. loaded files input needs ≡ Err (Missing need))
   pub input : is_stream need.name ≡ true → WhereTold contents left needs (λ files input. reads_input (reached files input needs) ≡ true)
 

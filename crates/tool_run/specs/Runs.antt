@@ -1,11 +1,11 @@
 -- What a run of a task does, whatever the task is.
-use Rattle.std.specs.Prelude.{◌≡◌, ◌≢◌, ◌⊎◌, ℕ, ◌≤◌, Bool, true, false, List, Option, None, Some, Contains}
+use Rattle.std.specs.Prelude.{◌≡◌, ◌≢◌, ◌⊎◌, ℕ, ◌≤◌, Bool, true, false, List, Option, None, Some, MatchOption, Contains}
 use Rattle.std.specs.Io.KnownBytes.{IsAtEnd}
 use Rattle.ice_io.specs.Faults.{Rose}
-use Rattle.ice_io.specs.Files.{FileMap}
+use Rattle.ice_io.specs.Files.{FileMap, LacksFile}
 use Rattle.tool_run.specs.Needs.{Need, is_stream, reads_files, reads_input}
 use Rattle.tool_run.specs.Lines.{line_of, out_of_memory, read_failed, write_failed}
-use Rattle.tool_run.specs.Tasks.{Outcome, Task}
+use Rattle.tool_run.specs.Tasks.{NotTaken, Outcome, Task}
 use Rattle.tool_run.specs.Effects.{Delivers, DeliversPart, Foretells, SourceRose, TargetRose, Writes}
 
 -- how clauses read the files, the input, the output and the errors of a run
@@ -66,11 +66,12 @@ module _ {F I O E : Type 0} where
   abbrev pub Foresees : Outside F I O E → Task → Scene F I O E → (Outcome → Type 0) → Type 0
   Foresees by task old P = Foretells task (by.contents old.files) (by.left old.input) P
 
-  -- a need of the task failed to be read: the count of its side rose, its line is written, and standard input is among what
-  -- the outcome reads if it is the one
+  -- a need of the task failed to be read: the count of its side rose, over steady files there is no such file, its line is
+  -- written, and standard input is among what the outcome reads if it is the one
   pub record FailsToRead (by : Outside F I O E) (task : Task) (old new : Scene F I O E) (need : Need) : Type 0 where
     pub needed : Contains task.needs need
     pub rose : SourceRose need (by.load_faults old.files) (by.load_faults new.files) (by.input_faults old.input) (by.input_faults new.input)
+    pub missing : by.steady old.files ≡ true → MatchOption need.name (Unit {0}) (λ name. LacksFile (by.contents old.files) name)
     pub line : Says by old new (line_of task.speaker (read_failed need))
     pub input : is_stream need.name ≡ true → Foresees by task old (λ o. o.reads_input ≡ true)
 
@@ -83,7 +84,8 @@ module _ {F I O E : Type 0} where
         × Foresees by task old (HasBytes bytes)
     pub end : status ≡ 0 → reads_input task.needs ≡ true → IsAtEnd (by.left new.input)
     pub silent : status ≡ 0 → new.errors ≡ old.errors
-    -- 1, 2 and 6: the outcome's status, and its line
+    -- 1, 2 and 6: the outcome's status, and its line; 2 only where the tool doesn't take the command line
+    pub usage : status ≡ 2 → (texts : List (List ℕ)) × (said : List ℕ) × (task.answer texts ≡ NotTaken said) × Says by old new (line_of task.speaker said)
     pub refused : IsRefusal status → Foresees by task old (λ o. (o.status ≡ status) × Says by old new o.message)
     -- 3: a read failed. Over steady files it is the outcome's, unless standard input failed that the outcome reads
     pub read : status ≡ 3 → (need : Need) × FailsToRead by task old new need

@@ -6,12 +6,14 @@
 //! function here that answers a status has it as its one clause.
 #![tactic(auto)]
 
+mod at_once;
 mod delivery;
 mod line;
 mod load;
 mod performing;
 mod tool;
 
+pub use at_once::{AtOnce, answer_at_once};
 pub use line::{Number, Phrase, Refusal, decimal, text};
 pub use load::Load;
 pub use performing::{Job, give_up, perform};

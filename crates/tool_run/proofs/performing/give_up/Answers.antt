@@ -11,6 +11,7 @@ returns-clause-does g c = λ task speaks.
       whole = λ zero_is. absurd (omega arith);
       end = λ zero_is. absurd (omega arith);
       silent = λ zero_is. absurd (omega arith);
+      usage = λ two_is. absurd (omega arith);
       refused = λ refusal. absurd (grind arith);
       read = λ three_is. absurd (omega arith);
       steady = λ three_is. absurd (omega arith);

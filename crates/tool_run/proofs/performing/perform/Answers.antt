@@ -10,7 +10,7 @@ use Rattle.tool_run.specs.Loads.{StopsLoading, WhereTold}
 use Rattle.tool_run.specs.declared.load.LoadStop.{LoadStop}
 use Rattle.tool_run.specs.Jobs.{RefusesWith, task_of}
 use Rattle.tool_run.specs.Runs.{HasBytes, IsStatusFor}
-use Rattle.tool_run.proofs.Outcomes.{concluded-small, exact-answer, foretold, foretold_failure, foretold_input, foretold_reached, has_bytes, loaded-is, not-read, refused-one, refuses}
+use Rattle.tool_run.proofs.Outcomes.{concluded-small, exact-answer, foretold, foretold_failure, foretold_input, foretold_reached, has_bytes, loaded-is, not-read, refused-one, refuses, takes-not}
 use Rattle.tool_run.proofs.performing.perform.Goals as goal
 
 pub returns-in-Ok : goal.returns-in-Ok
@@ -36,6 +36,7 @@ returns-in-Ok g c =
           (w.0, subst delivers l.same_contents w.1, foretold task contents left (Ok texts) (HasBytes w.0) gives (λ needs. has_bytes task needs answer w.0 w.2));
       end = λ zero_is reads. l.end reads;
       silent = k.silent;
+      usage = λ two_is. let r = k.refused (inr two_is) in (texts, r.0, takes-not answer status r.0 two_is r.1, r.2);
       refused = λ refusal.
           let r = k.refused (refused-one status k.statuses refusal) in
           let refused : Outcome → Type 0 = λ o. (o.status ≡ status) × says o.message in
@@ -80,8 +81,9 @@ returns-in-Err-Failed g c =
       whole = λ zero_is. absurd (omega arith);
       end = λ zero_is. absurd (omega arith);
       silent = λ zero_is. absurd (omega arith);
+      usage = λ two_is. absurd (omega arith);
       refused = λ refusal. absurd (grind arith);
-      read = λ three_is. (need, record { needed = stops.needed; rose = stops.rose; line = line; input = λ stream. foretold_input task contents left (stops.input stream) });
+      read = λ three_is. (need, record { needed = stops.needed; rose = stops.rose; missing = stops.lacks; line = line; input = λ stream. foretold_input task contents left (stops.input stream) });
       steady = λ three_is is_steady. foretold_failure task contents (F.steady c.args.files.now) left (F.load_faults c.args.files.now) (F.load_faults c.load_all.new.files) (I.faults c.args.input.now) (I.faults c.load_all.new.input) need says stops line is_steady;
       part = λ four_is. absurd (omega arith);
       rose = λ four_is. absurd (omega arith);
@@ -120,6 +122,7 @@ returns-in-Err-TooLong g c =
       whole = λ zero_is. absurd (omega arith);
       end = λ zero_is. absurd (omega arith);
       silent = λ zero_is. absurd (omega arith);
+      usage = λ two_is. absurd (omega arith);
       refused = λ refusal. foretold task contents left (Err (TooLong need)) refused stops (λ needs. (refl, line));
       read = λ three_is. absurd (omega arith);
       steady = λ three_is. absurd (omega arith);
@@ -145,6 +148,7 @@ returns g c =
       whole = λ zero_is. absurd (omega arith);
       end = λ zero_is. absurd (omega arith);
       silent = λ zero_is. absurd (omega arith);
+      usage = λ two_is. absurd (omega arith);
       refused = λ refusal. absurd (grind arith);
       read = λ three_is. absurd (omega arith);
       steady = λ three_is. absurd (omega arith);

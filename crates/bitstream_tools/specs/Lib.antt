@@ -1,0 +1,3 @@
+pub mod Faults
+pub mod Pack
+pub mod Unpack

@@ -1,0 +1,71 @@
+-- `icepack`: the bitstream of a text.
+use Rattle.std.specs.Prelude.{ℕ, Bool, true, false, not, ◌&&◌, List, [], ◌∷◌, codes, get_or, if◌then◌else◌, Option, None, Some}
+use Rattle.clap.specs.Words.{App, Row, Text, first_of, matches_of}
+use Rattle.ice_image.specs.Configuration.{Configuration}
+use Rattle.asc_text.specs.Faults.{Fault, asc_fault_of}
+use Rattle.asc_text.specs.Meaning.{asc_image_of}
+use Rattle.bin_stream.specs.CanonicalBytes.{canonical_bytes}
+use Rattle.ice_pack.specs.Packed.{awake_where}
+use Rattle.tool_run.specs.Tasks.{Answer, Done, Refused, Task, not_taken}
+use Rattle.tool_words.specs.Commands.{command, flag, has_flag, is_taken, positional}
+use Rattle.tool_run.specs.Needs.{text_of}
+use Rattle.bitstream_tools.specs.declared.pack.Request.{Request}
+use Rattle.bitstream_tools.specs.declared.pack.Request.TheVariants.{Pack, Unpack}
+use Rattle.bitstream_tools.specs.Faults.{asc_fault_text}
+use Rattle.bitstream_tools.specs.Unpack.{unpack_task}
+
+-- the most bytes of a text
+abbrev pub text_limit : ℕ
+text_limit = 16777216
+
+-- the bytes of what a text configures; each text without a fault configures something
+abbrev pub bytes_of : Bool → Option Configuration → List ℕ
+bytes_of no_sleep None = []
+bytes_of no_sleep (Some image) = canonical_bytes (awake_where no_sleep image)
+
+-- the bitstream of a text, or its fault
+abbrev pub packed : Bool → Option Configuration → Option Fault → Answer
+packed no_sleep image None = Done (bytes_of no_sleep image)
+packed no_sleep image (Some fault) = Refused (asc_fault_text fault.line fault.tile fault.cause)
+
+abbrev pub pack_answer : Bool → List (List ℕ) → Answer
+pack_answer no_sleep texts = let text = get_or texts 0 [] in packed no_sleep (asc_image_of text) (asc_fault_of text)
+
+abbrev pub icepack_name : List ℕ
+icepack_name = codes "icepack"
+
+abbrev pub icepack_usage : List ℕ
+icepack_usage = codes "icepack [-u] [-s] [INPUT [OUTPUT]]"
+
+abbrev pub icepack_command : App
+icepack_command = command icepack_name (flag (codes "unpack") 117 ∷ flag (codes "no_sleep") 115 ∷ positional (codes "input") ∷ positional (codes "output") ∷ [])
+
+-- a text to a bitstream
+abbrev pub pack_task : Bool → Option Text → Option Text → Task
+pack_task no_sleep input output = record {
+  speaker = icepack_name;
+  needs = record { name = input; limit = text_limit } ∷ [];
+  target = output;
+  answer = pack_answer no_sleep;
+}
+
+-- `-u` unpacks, and then nothing may be set
+abbrev pub icepack_task_of : Bool → Bool → Option Text → Option Text → Task
+icepack_task_of false no_sleep input output = pack_task no_sleep input output
+icepack_task_of true false input output = unpack_task icepack_name input output
+icepack_task_of true true input output = not_taken icepack_name icepack_usage
+
+abbrev pub icepack_task_by : List Row → Task
+icepack_task_by rows = icepack_task_of (has_flag (codes "unpack") rows) (has_flag (codes "no_sleep") rows) (first_of (codes "input") rows) (first_of (codes "output") rows)
+
+-- what the words of `icepack` ask for
+unfoldable pub icepack_task : List Text → Task
+icepack_task words =
+    if is_taken icepack_command words then icepack_task_by (matches_of icepack_command words)
+    else not_taken icepack_name icepack_usage
+
+-- the same by the request that was found in the words, where they are taken
+abbrev pub icepack_task_for : Option Request → Task
+icepack_task_for None = not_taken icepack_name icepack_usage
+icepack_task_for (Some (Pack tool names)) = pack_task tool.no_sleep (text_of names.input) (text_of names.output)
+icepack_task_for (Some (Unpack names)) = unpack_task icepack_name (text_of names.input) (text_of names.output)

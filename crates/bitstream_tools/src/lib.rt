@@ -1,0 +1,13 @@
+//! The tools that read and write bitstreams: `icepack` and `iceunpack`.
+//!
+//! Each tool is one module, with its command line, its usage line and what it makes of what it loads. The function that
+//! runs it has one clause: a run does the task that the words ask for.
+#![tactic(auto)]
+
+mod faults;
+mod first;
+mod pack;
+mod unpack;
+
+pub use pack::{ICEPACK_USAGE, run_icepack};
+pub use unpack::{ICEUNPACK_USAGE, run_iceunpack};

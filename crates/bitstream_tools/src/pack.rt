@@ -1,0 +1,161 @@
+// `icepack`: the bitstream of a text.
+ghost use Rattle.std.specs.Prelude.{◌≡◌, map, string_bytes, IfOk, IfErr};
+ghost use Rattle.asc_text.specs.Faults.{asc_fault_of};
+ghost use Rattle.asc_text.specs.Meaning.{asc_image_of};
+ghost use Rattle.clap.specs.Words.{app_of};
+ghost use Rattle.tool_run.specs.Needs.{text_of};
+ghost use Rattle.tool_run.specs.Runs.{Does, outside, scene};
+ghost use Rattle.tool_run.specs.Stops.{StopsWith};
+ghost use Rattle.tool_run.specs.Tasks.{Done};
+ghost use Rattle.bitstream_tools.specs.Pack.{icepack_command, icepack_task, icepack_task_for, icepack_task_of, pack_task, packed};
+
+use crate::faults::asc_refusal;
+use crate::first::first;
+use crate::unpack::{Names, unpack_between};
+use asc_text::AscFault;
+use clap::Command;
+use ice_io::{Files, Sink, Source};
+use ice_pack::pack;
+use std::alloc::{AllocError, Global};
+use tool_run::{AtOnce, Job, Load, Stop, Tool, answer_at_once, give_up, perform};
+use tool_words::{flag, has_flag, parse, positional, value, with};
+
+/// The most bytes of a text.
+pub(crate) const TEXT_LIMIT: usize = 16_777_216;
+
+/// The command line of `icepack`.
+pub const ICEPACK_USAGE: &str = "icepack [-u] [-s] [INPUT [OUTPUT]]";
+
+/// Packs the text that it loads. The flash stays awake where `no_sleep` is true, whatever the text says.
+#[derive(Clone, Copy, Debug, PartialEq, Eq)]
+pub(crate) struct Pack {
+    pub(crate) no_sleep: bool,
+}
+
+impl Tool for Pack {
+    ghost use Rattle.bitstream_tools.specs.Pack.{pack_answer};
+
+    ghost answer_of = { λ tool texts. pack_answer tool.no_sleep texts };
+
+    fn answer(&self, alloc: Global, loaded: &[Vec<u8>]) -> Result<Vec<u8>, Stop> {
+        packed(alloc, first(loaded), self.no_sleep)
+    }
+}
+
+// The bitstream of a text.
+fn packed(alloc: Global, text: &[u8], no_sleep: bool) -> Result<Vec<u8>, Stop>
+    ensures bytes { IfOk result (λ bytes. packed no_sleep (asc_image_of text.now) (asc_fault_of text.now) ≡ Done bytes.items) }
+    ensures stops { IfErr result (StopsWith (packed no_sleep (asc_image_of text.now) (asc_fault_of text.now))) }
+{
+    match pack(alloc, text, no_sleep) {
+        Ok(bytes) => Ok(bytes),
+        Err(AscFault::At { line, tile, cause }) => {
+            Err(Stop::Refused(asc_refusal(line, tile, cause)))
+        }
+        Err(AscFault::Memory(_)) => Err(Stop::Memory),
+    }
+}
+
+// What the words ask for, where they are taken: to pack, or to unpack.
+#[derive(Clone, Copy)]
+pub(crate) enum Request<'a> {
+    Pack(Pack, Names<'a>),
+    Unpack(Names<'a>),
+}
+
+// The command line as `clap` reads it.
+fn command<'a>(alloc: Global) -> Result<Command<'a>, AllocError>
+    ensures { IfOk result (λ command. app_of command ≡ icepack_command) }
+{
+    let command = Command::new(alloc, "icepack");
+    let command = with(command, flag(alloc, "unpack", 'u'))?;
+    let command = with(command, flag(alloc, "no_sleep", 's'))?;
+    let command = with(command, positional(alloc, "input"))?;
+    with(command, positional(alloc, "output"))
+}
+
+// What the words ask for by what was found in them: `-u` unpacks, and then nothing may be set.
+fn wanted<'a>(unpacks: bool, no_sleep: bool, names: Names<'a>) -> Option<Request<'a>>
+    ensures { icepack_task_for result ≡ icepack_task_of unpacks no_sleep (text_of names.entry.input) (text_of names.entry.output) }
+{
+    match (unpacks, no_sleep) {
+        (false, no_sleep) => Some(Request::Pack(Pack { no_sleep }, names)),
+        (true, false) => Some(Request::Unpack(names)),
+        (true, true) => None,
+    }
+}
+
+// What the words ask for, where they are taken.
+#[tactic(auto, unfolding(crate::specs::Pack::icepack_task))]
+fn request_of<'a>(alloc: Global, words: &'a [String]) -> Result<Option<Request<'a>>, AllocError>
+    ensures { IfOk result (λ request. icepack_task (map string_bytes words.entry.now) ≡ icepack_task_for request) }
+{
+    let command = command(alloc)?;
+    match parse(command, words)? {
+        Some(matches) => {
+            let unpacks = has_flag(&matches, "unpack");
+            let no_sleep = has_flag(&matches, "no_sleep");
+            let names = Names {
+                input: value(&matches, "input"),
+                output: value(&matches, "output"),
+            };
+            Ok(wanted(unpacks, no_sleep, names))
+        }
+        None => Ok(None),
+    }
+}
+
+// Packs from a file or standard input to a file or standard output.
+fn pack_between<F: Files, I: Source, O: Sink, E: Sink>(
+    alloc: Global,
+    tool: Pack,
+    names: Names<'_>,
+    files: &mut F,
+    input: &mut I,
+    output: &mut O,
+    errors: &mut E,
+) -> u8
+    ensures { Does (outside F.contents F.steady F.load_faults F.store_faults I.left I.faults O.held O.faults E.held E.faults)
+        (pack_task tool.no_sleep (text_of names.entry.input) (text_of names.entry.output)) result
+        (scene files.old input.old output.old errors.old) (scene files.new input.new output.new errors.new) }
+{
+    let loads = [Load {
+        name: names.input,
+        limit: TEXT_LIMIT,
+    }];
+    let job = Job {
+        speaker: "icepack",
+        loads: &loads,
+        target: names.output,
+    };
+    perform(alloc, &tool, &job, files, input, output, errors)
+}
+
+/// Runs `icepack` with these words, of which the first is its name.
+pub fn run_icepack<F: Files, I: Source, O: Sink, E: Sink>(
+    alloc: Global,
+    words: &[String],
+    files: &mut F,
+    input: &mut I,
+    output: &mut O,
+    errors: &mut E,
+) -> u8
+    ensures { Does (outside F.contents F.steady F.load_faults F.store_faults I.left I.faults O.held O.faults E.held E.faults)
+        (icepack_task (map string_bytes words.now)) result
+        (scene files.old input.old output.old errors.old) (scene files.new input.new output.new errors.new) }
+{
+    let speaker = "icepack";
+    match request_of(alloc, words) {
+        Ok(Some(Request::Pack(tool, names))) => {
+            pack_between(alloc, tool, names, files, input, output, errors)
+        }
+        Ok(Some(Request::Unpack(names))) => {
+            unpack_between(alloc, speaker, names, files, input, output, errors)
+        }
+        Ok(None) => {
+            let answer = AtOnce::NotTaken(ICEPACK_USAGE);
+            answer_at_once(alloc, speaker, answer, files, input, output, errors)
+        }
+        Err(AllocError) => give_up(speaker, files, input, output, errors),
+    }
+}

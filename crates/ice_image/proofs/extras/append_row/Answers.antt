@@ -1,10 +1,10 @@
 use Rattle.std.proofs.Common.{arith}
 use Rattle.ice_image.proofs.InOrder.{extras-more, extras-row}
-use Rattle.ice_image.proofs.extras.add_row.Goals as goal
+use Rattle.ice_image.proofs.extras.append_row.Goals as goal
 
 pub loop-px-preserved : goal.loop-px-preserved
 loop-px-preserved g c =
-    extras-more g.D.Device.NAME c.args.cram.now c.args.bank c.loop-px.px c.args.py c.loop-px.places.items c.add_extra.new.places.items c.loop-px.invariant c.in_ok-add_extra.ensures
+    extras-more g.D.Device.NAME c.args.cram.now c.args.bank c.loop-px.px c.args.py c.loop-px.places.items c.append_extra.new.places.items c.loop-px.invariant c.in_ok-append_extra.ensures
 
 pub returns : goal.returns
 returns g c =

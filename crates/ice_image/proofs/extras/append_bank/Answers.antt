@@ -1,6 +1,6 @@
 use Rattle.std.proofs.Common.{arith}
 use Rattle.ice_image.proofs.InOrder.{extras-bank}
-use Rattle.ice_image.proofs.extras.add_bank.Goals as goal
+use Rattle.ice_image.proofs.extras.append_bank.Goals as goal
 
 pub returns : goal.returns
 returns g c =

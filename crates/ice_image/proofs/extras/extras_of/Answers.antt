@@ -1,6 +1,6 @@
 use Rattle.std.proofs.Common.{arith}
 use Rattle.ice_image.proofs.InOrder.{extras-all}
-use Rattle.ice_image.proofs.extras.set_extras.Goals as goal
+use Rattle.ice_image.proofs.extras.extras_of.Goals as goal
 
 pub returns : goal.returns
 returns g c =

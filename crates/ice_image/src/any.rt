@@ -55,7 +55,7 @@ impl AnyImage {
         }
     }
 
-    /// Changes the settings.
+    /// Sets the settings.
     pub fn set_settings(&mut self, settings: Settings)
         ensures device { device_of self.new ≡ device_of self.old }
         ensures changed { configuration_of self.new ≡ record (configuration_of self.old) { settings = settings } }
@@ -76,7 +76,7 @@ impl AnyImage {
         }
     }
 
-    /// Changes the comment.
+    /// Sets the comment, or removes it.
     pub fn set_comment(&mut self, comment: Option<Comment>)
         ensures device { device_of self.new ≡ device_of self.old }
         ensures changed { configuration_of self.new ≡ record (configuration_of self.old) { comment = comment } }

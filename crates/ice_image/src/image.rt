@@ -73,7 +73,7 @@ impl<D: Device> Image<D> {
         self.settings
     }
 
-    /// Changes the settings.
+    /// Sets the settings.
     pub fn set_settings(&mut self, settings: Settings)
         ensures { self.new ≡ record self.old { settings = settings } }
     {
@@ -87,7 +87,7 @@ impl<D: Device> Image<D> {
         self.comment.as_ref()
     }
 
-    /// Changes the comment.
+    /// Sets the comment, or removes it.
     pub fn set_comment(&mut self, comment: Option<Comment>)
         ensures { self.new ≡ record self.old { comment = comment } }
     {

@@ -36,7 +36,7 @@ impl DeviceName {
         }
     }
 
-    /// The left one of the two columns of RAM.
+    /// The left of the two columns of RAM.
     pub(crate) fn left_ram_column(self) -> u32
         ensures { result ≡ ram_column self }
     {
@@ -72,7 +72,7 @@ pub trait Device {
     /// How many rows of tiles there are.
     const GRID_H: usize;
 
-    /// The left one of the two columns of RAM.
+    /// The left of the two columns of RAM.
     const RAM_COLUMN: usize;
 
     /// The device's name.

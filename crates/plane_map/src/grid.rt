@@ -120,7 +120,7 @@ pub(crate) fn ram_at(device: DeviceName, y: u32) -> u32
     }
 }
 
-/// The column of tiles of a bank that is so far from its side edge.
+/// The column of tiles of a bank at that distance from its side edge.
 pub(crate) fn x_at(device: DeviceName, bank: u8, distance: u32) -> u32
     requires { distance < grid_width device / 2 }
     ensures in_grid { result < grid_width device }
@@ -134,7 +134,7 @@ pub(crate) fn x_at(device: DeviceName, bank: u8, distance: u32) -> u32
     }
 }
 
-/// The row of tiles of a bank that is so far from its end edge.
+/// The row of tiles of a bank at that distance from its end edge.
 pub(crate) fn y_at(device: DeviceName, bank: u8, distance: u32) -> u32
     requires { distance < grid_height device / 2 }
     ensures in_grid { result < grid_height device }

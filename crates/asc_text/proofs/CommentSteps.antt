@@ -11,7 +11,7 @@ use Rattle.asc_text.specs.Statements.{statement_in, begins_with_dot}
 use Rattle.asc_text.specs.Blocks.{statement_at, dot_before, is_comment}
 use Rattle.asc_text.specs.Faults.{is_in_comment}
 use Rattle.asc_text.specs.Meaning.{comment_before, comment_from, comment_line, is_that_line}
-use Rattle.asc_text.specs.Reading.{with_line}
+use Rattle.asc_text.specs.inside.Reading.{with_line}
 use Rattle.asc_text.proofs.HasRead.{HasComment, comment_start}
 
 -- ---- the last dot, and where the last comment begins

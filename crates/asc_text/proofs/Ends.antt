@@ -22,13 +22,13 @@ use Rattle.asc_text.specs.declared.fault.AscFault.{AscFault}
 use Rattle.asc_text.specs.declared.fault.AscFault.TheVariants.{At, Memory as OutOfMemory}
 use Rattle.asc_text.specs.declared.file.Symbol.{Symbol as NetName}
 use Rattle.asc_text.specs.declared.file.AscFile.{AscFile}
-use Rattle.asc_text.specs.declared.reading.Expected.{Expected}
-use Rattle.asc_text.specs.declared.reading.Expected.TheVariants.{Statement as AnyStatement, Row, Memory}
+use Rattle.asc_text.specs.declared.reading.reader.Expected.{Expected}
+use Rattle.asc_text.specs.declared.reading.reader.Expected.TheVariants.{Statement as AnyStatement, Row, Memory}
 use Rattle.asc_text.specs.Statements.{statement_in, begins_with_dot}
 use Rattle.asc_text.specs.Blocks.{depth_at}
 use Rattle.asc_text.specs.Faults.{cause_at, fault_at, fault_with, tile_named, asc_fault_of, Fault, Tells}
 use Rattle.asc_text.specs.Meaning.{AscMeans, asc_image_of, asc_symbols_of, image_for, image_before, settings_before, set_before, planes_from, is_set_before, is_word_set_before, comment_before, warm_boot_in, range_in}
-use Rattle.asc_text.specs.Reading.{ReaderState, begun, Finishes, Takes, TakesDotted, dotted_refusal, line_refusal, end_refusal, statement_of, settings_in}
+use Rattle.asc_text.specs.inside.Reading.{ReaderState, begun, Finishes, Takes, TakesDotted, dotted_refusal, line_refusal, end_refusal, statement_of, settings_in}
 use Rattle.asc_text.proofs.HasRead.{HasRead, HasGiven, HasBits, HasImage, IsAt, device_known}
 use Rattle.asc_text.proofs.Given.{HasGiven-none}
 use Rattle.asc_text.proofs.CommentSteps.{HasComment-none}

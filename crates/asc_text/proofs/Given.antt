@@ -11,11 +11,11 @@ use Rattle.asc_text.specs.declared.statement.Statement.{Statement}
 use Rattle.asc_text.specs.declared.statement.Statement.TheVariants.{Comment, Device, WarmBoot, FrequencyRange, NoSleep, Tile, RamData, ExtraBit, Symbol}
 use Rattle.asc_text.specs.declared.fault.TileXy.{TileXy}
 use Rattle.asc_text.specs.declared.file.Symbol.{Symbol as NetName}
-use Rattle.asc_text.specs.TileSets.{has_tile}
+use Rattle.asc_text.specs.inside.TileSets.{has_tile}
 use Rattle.asc_text.specs.Blocks.{statement_at, device_in}
 use Rattle.asc_text.specs.Faults.{is_device, is_warm_boot, is_range, is_no_sleep, names_tile, names_ram}
 use Rattle.asc_text.specs.Meaning.{warm_boot_in, range_in, no_sleep_in, symbols_before, symbol_in}
-use Rattle.asc_text.specs.Reading.{ReaderState, begun, HasInserted}
+use Rattle.asc_text.specs.inside.Reading.{ReaderState, begun, HasInserted}
 use Rattle.asc_text.proofs.HasRead.{IsGiven, AreNamed, HasGiven, device_known}
 
 -- ---- steps

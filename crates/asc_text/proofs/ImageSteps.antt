@@ -17,7 +17,7 @@ use Rattle.ice_image.specs.declared.any.AnyImage.{AnyImage}
 use Rattle.ice_image.proofs.BankBits.{AreBanks-blank, place_bit-blank}
 use Rattle.asc_text.specs.Blocks.{depth_at, statement_over}
 use Rattle.asc_text.specs.Meaning.{is_set_before, is_word_set_before, sets_place, sets_word_place}
-use Rattle.asc_text.specs.Reading.{CramGains, BramGains, IsBlank}
+use Rattle.asc_text.specs.inside.Reading.{CramGains, BramGains, IsBlank}
 use Rattle.asc_text.proofs.HasRead.{SetsNone, HasImage}
 
 -- what a line sets

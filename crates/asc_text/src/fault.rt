@@ -54,6 +54,19 @@ pub enum AscCause {
     CommentByte,
 }
 
+impl AscCause {
+    /// The same as the fault of a line and a tile.
+    pub(crate) fn at(self, line: u64, tile: Option<TileXy>) -> AscFault
+        ensures { result ≡ AscFault.At line tile self }
+    {
+        AscFault::At {
+            line,
+            tile,
+            cause: self,
+        }
+    }
+}
+
 /// Why a text isn't read.
 #[derive(Clone, Copy, Debug, PartialEq, Eq, Error)]
 pub enum AscFault {

@@ -1,15 +1,15 @@
 -- Words and the separators that part them.
-use Rattle.std.proofs.Common.{append-nil, ◌≡◌, ℕ, suc, ◌+◌, ◌-◌, ◌<◌, ◌≤◌, true, false, not, cond, ◌==◌, List, [], ◌∷◌, ◌++◌, length, take, drop, get_or, refl, sym, ap, ◌∙◌, arith, inl, inr}
+use Rattle.std.proofs.Common.{append-nil, ◌≡◌, ℕ, suc, ◌+◌, ◌-◌, ◌<◌, ◌≤◌, true, false, not, cond, ◌==◌, List, [], ◌∷◌, ◌++◌, length, take, take_while, drop, get_or, refl, sym, ap, ◌∙◌, arith, inl, inr}
 use Rattle.std.proofs.lemmas.Bool.{cases_lt, cases_Bool, lt-ltb, le-ltb, eqb-true, ne_eqb}
 use Rattle.std.proofs.lemmas.List.{take_all, take_at, drop_all, drop_at, drop_more, take_rest, length-drop, length-take-le}
 use Rattle.std.proofs.lemmas.List.Elements.{All-head, All-tail, All-weaker}
-use Rattle.std.proofs.lemmas.List.Sums.{passes_at_first}
+use Rattle.std.proofs.lemmas.List.Sums.{take_while-cons}
 use Rattle.std.specs.Prelude.{Some, None, All, position}
 use Rattle.std.specs.List.{position_or_len}
 use Rattle.text_lines.specs.Lines.{with_byte}
 use Rattle.text_lines.specs.declared.words.Separators.{Separators}
 use Rattle.text_lines.specs.declared.words.Separators.TheVariants.{Spaces, SpacesAndTabs}
-use Rattle.text_lines.specs.Words.{is_separator, pieces_of, words_of, from_word}
+use Rattle.text_lines.specs.Words.{is_separator, pieces_of, words_of, from_word, first_word, behind_word}
 use Rattle.text_lines.proofs.Cuts.{end-within, fail_before, cut_at, passes_at_end, position_or_len-none}
 
 -- bytes none of which parts words
@@ -207,6 +207,27 @@ length-behind s line rest is some =
 -- a line without a word
 pub words_of-none : (s : Separators) (line : List ℕ) → from_word s line ≡ [] → words_of s line ≡ []
 words_of-none s line none = sym (words_of-from_word s line) ∙ ap (words_of s) none ∙ words_of-nothing s
+
+-- a line that begins with no separator has a first word
+first_word-starts : (s : Separators) (byte : ℕ) (bytes : List ℕ) → is_separator s byte ≡ false → take_while (λ byte. not (is_separator s byte)) (byte ∷ bytes) ≡ [] → byte ∷ bytes ≡ []
+first_word-starts s byte bytes inner none =
+    let whole = sym (take_while-cons (λ (b : ℕ). not (is_separator s b)) byte bytes) ∙ none in
+    let cut : byte ∷ take_while (λ (b : ℕ). not (is_separator s b)) bytes ≡ [] = rw inner at whole in
+    absurd (cc cut)
+
+-- where there is no first word, nothing is left from it on
+from_word-nothing : (s : Separators) (line : List ℕ) → first_word s line ≡ [] → from_word s line ≡ []
+unfolding from_word
+from_word-nothing s [] none = refl
+from_word-nothing s (byte ∷ bytes) none =
+    elim (cases_Bool (is_separator s byte)) [
+      | inl parts ↦ rw parts (from_word-nothing s bytes (rw parts at none))
+      | inr inner ↦ rw inner (first_word-starts s byte bytes inner (rw inner at none))
+    ]
+
+-- nothing stands behind no word
+pub behind_word-none : (s : Separators) (line : List ℕ) → first_word s line ≡ [] → behind_word s line ≡ []
+behind_word-none s line none = rw (none, from_word-nothing s line none) refl
 
 -- two words with a space between them
 pub words_of-two : (s : Separators) (first second : List ℕ) → IsWord s first → IsWord s second → words_of s (first ++ (32 ∷ second)) ≡ first ∷ second ∷ []

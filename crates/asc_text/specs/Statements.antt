@@ -29,7 +29,7 @@ abbrev pub switch_word : Bool → List ℕ
 switch_word true = codes "enabled"
 switch_word false = codes "disabled"
 
--- whether a word switches on or off
+-- the switch that a word names
 abbrev pub switch_named : List ℕ → Option Bool
 switch_named word =
     if bytes_eq word (switch_word true) then Some true
@@ -81,7 +81,7 @@ extra_bit_keyword = codes ".extra_bit"
 abbrev pub symbol_keyword : List ℕ
 symbol_keyword = codes ".sym"
 
--- ---- statements by the words behind their keyword
+-- ---- statements by the words after their keyword
 
 -- `.device NAME`
 abbrev pub device_of_words : List (List ℕ) → Option Statement
@@ -151,11 +151,11 @@ spelled keyword behind =
 abbrev pub begins_with_dot : List ℕ → Bool
 begins_with_dot line = get_or line 0 0 == 46
 
--- what a line says, where it is a statement and has the form of one
+-- the statement that a line is, where it is a valid one
 unfoldable pub statement_in : List ℕ → Option Statement
 statement_in line =
     if begins_with_dot line then spelled (first_word Spaces (trimmed line)) (behind_word Spaces (trimmed line)) else None
 
--- the name that a line gives to a net, where it does
+-- the name that a line gives to a net, where it gives one
 unfoldable pub name_in : List ℕ → List ℕ
 name_in line = name_behind (behind_word Spaces (trimmed line))

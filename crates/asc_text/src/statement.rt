@@ -3,8 +3,8 @@
 use ice_image::Range;
 use plane_map::{DeviceName, TileKind};
 
-/// What a line that begins with a dot says; the definitions of a text's meaning are in these terms. `None` stands for a
-/// word that isn't one of the known ones.
+/// What a line that begins with a dot says, in which the definitions of a text's meaning are stated. `None` stands for an
+/// unknown word.
 #[derive(Clone, Copy, Debug, PartialEq, Eq)]
 pub(crate) enum Statement {
     /// `.comment`: the lines that follow are a comment.

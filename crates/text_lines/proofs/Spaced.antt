@@ -226,8 +226,8 @@ from_word-nothing s (byte ∷ bytes) none =
     ]
 
 -- nothing stands behind no word
-pub behind_word-none : (s : Separators) (line : List ℕ) → first_word s line ≡ [] → behind_word s line ≡ []
-behind_word-none s line none = rw (none, from_word-nothing s line none) refl
+pub behind_no_word : (s : Separators) (line : List ℕ) → first_word s line ≡ [] → behind_word s line ≡ []
+behind_no_word s line none = rw (none, from_word-nothing s line none) refl
 
 -- two words with a space between them
 pub words_of-two : (s : Separators) (first second : List ℕ) → IsWord s first → IsWord s second → words_of s (first ++ (32 ∷ second)) ≡ first ∷ second ∷ []

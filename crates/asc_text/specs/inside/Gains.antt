@@ -1,4 +1,4 @@
--- What holds while the bits of a line are set, one after the other.
+-- What holds while the reader sets the bits of a line, one after the other.
 use Rattle.std.specs.Prelude.{◌≡◌, ℕ, ◌+◌, ◌*◌, ◌/◌, ◌%◌, ◌^◌, ◌-◌, Bool, ◌&&◌, ◌||◌, List, get_or, ◌==◌}
 use Rattle.place_search.specs.Places.{any_below}
 use Rattle.bit_plane.specs.Rows.{Rows}
@@ -32,7 +32,7 @@ abbrev pub word_sets : DeviceName → ℕ → ℕ → ℕ → ℕ → ℕ → Pl
 word_sets device x y word value count at =
     any_below count (λ bit. number_bit value bit && is_same_place (word_bit_place device x y word bit) at)
 
--- whether one of the first words of a line is it that sets the bit at a place
+-- whether one of the first words of a line sets the bit at a place
 abbrev pub line_sets : DeviceName → ℕ → ℕ → ℕ → List ℕ → ℕ → Place → Bool
 line_sets device x y row bytes count at =
     any_below count (λ index. word_sets device x y (16 * row + index) (word_in bytes index) 16 at)

@@ -127,12 +127,12 @@ statement_refusal s (RamData x y) = or_else (tile_refusal s.image RamB x y) (cau
 statement_refusal s (ExtraBit bank x y) = extra_refusal s.image bank x y
 statement_refusal s (Symbol net) = None
 
--- the same where the line may have the form of none
+-- the same for a line that may not be a valid statement
 abbrev pub dotted_refusal : ReaderState → Option Statement → Option AscCause
 dotted_refusal s None = Some StatementCause
 dotted_refusal s (Some statement) = statement_refusal s statement
 
--- what is wrong with a line that is no statement
+-- what is wrong with a line that is not a statement
 abbrev pub text_refusal : Bool → List ℕ → Option AscCause
 text_refusal in_comment line = if in_comment then comment_cause line else stray_cause line
 
@@ -162,7 +162,7 @@ statement_of AnyStatement line = statement_in line
 statement_of (Row kind x y row) line = Some (Tile kind x y)
 statement_of (Memory x y row) line = Some (RamData x y)
 
--- ---- what a line that isn't refused changes
+-- ---- what a line changes that is not refused
 
 -- the image with more bits of its configuration planes
 pub record GainsCram (before after : AnyImage) (is_set : DeviceName → Place → Bool) : Type 0 where
@@ -202,7 +202,7 @@ abbrev pub with_line : Option (List (List ℕ)) → List ℕ → Option (List (L
 with_line None line = None
 with_line (Some lines) line = Some (lines ++ line ∷ [])
 
--- a line without a byte is dropped
+-- an empty line is dropped
 abbrev pub after_text : ReaderState → List ℕ → ReaderState
 after_text s line = record s { comment = if s.in_comment && nat_lt 0 (length line) then with_line s.comment line else s.comment }
 

@@ -6,7 +6,7 @@ ghost use Rattle.asc_text.specs.Extras.{is_extra, is_owned};
 use bit_plane::Bits;
 use plane_map::{Device, DeviceName, Hx1k, Hx8k, Place, TileKind, kind_at, owner_of};
 
-/// The tile at a place of the grid: none at a corner or outside.
+/// The kind of the tile at a place of the grid: none at a corner or outside.
 pub(crate) fn kind_on(device: DeviceName, x: u32, y: u32) -> Option<TileKind>
     ensures kind { result ≡ kind_of device x y }
     ensures in_grid { OnSome result ((x < 34) × (y < 34)) }
@@ -17,7 +17,7 @@ pub(crate) fn kind_on(device: DeviceName, x: u32, y: u32) -> Option<TileKind>
     }
 }
 
-/// The place of the configuration planes with these numbers, where it is no tile's.
+/// The place of the configuration planes with these numbers, where it belongs to no tile.
 pub(crate) fn extra_place(device: DeviceName, bank: u32, x: u32, y: u32) -> Option<Place>
     ensures { MatchOption result (is_extra device (record { bank = bank; px = x; py = y }) ≡ false)
         (λ at. (is_extra device at ≡ true) × (at ≡ record { bank = bank; px = x; py = y })) }
@@ -28,7 +28,7 @@ pub(crate) fn extra_place(device: DeviceName, bank: u32, x: u32, y: u32) -> Opti
     }
 }
 
-/// The same on a device that is known.
+/// The same for one device.
 fn extra_place_on<D: Device>(bank: u32, x: u32, y: u32) -> Option<Place>
     ensures { MatchOption result (is_extra D.NAME (record { bank = bank; px = x; py = y }) ≡ false)
         (λ at. (is_extra D.NAME at ≡ true) × (at ≡ record { bank = bank; px = x; py = y })) }
@@ -44,7 +44,7 @@ fn extra_place_on<D: Device>(bank: u32, x: u32, y: u32) -> Option<Place>
     if is_owned::<D>(at) { None } else { Some(at) }
 }
 
-/// Whether a bit of some tile lies at a place of the configuration planes.
+/// Whether a place of the configuration planes belongs to a tile.
 fn is_owned<D: Device>(at: Place) -> bool
     requires { IsInCram D.NAME at }
     ensures { result ≡ is_owned D.NAME at }

@@ -4,7 +4,7 @@ ghost use Rattle.asc_text.specs.inside.Keywords.{keyword_of};
 
 use plane_map::TileKind;
 
-/// Which statement a line is, by its first word.
+/// A statement's first word.
 #[derive(Clone, Copy, Debug, PartialEq, Eq)]
 pub(crate) enum Keyword {
     Comment,

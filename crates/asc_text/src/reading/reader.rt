@@ -1,4 +1,4 @@
-// What is kept between the lines of a text, and how a line is taken.
+// What the reader keeps between the lines of a text, and what a line changes.
 ghost use Rattle.std.specs.Prelude.{◌≡◌, [], Some, None, false, IfOk, IfErr, OnOk};
 ghost use Rattle.ice_image.specs.Either.{configuration_of};
 ghost use Rattle.asc_text.specs.Statements.{begins_with_dot};
@@ -12,6 +12,7 @@ use crate::reading::reader::statements::tile_named;
 use crate::reading::rows::is_printable;
 use crate::reading::spelling::{begins_with_dot, statement_in};
 use crate::reading::tile_set::TileSet;
+use crate::statement::Statement;
 use ice_image::{AnyImage, Comment, Range, Settings};
 use plane_map::TileKind;
 use std::alloc::{AllocError, Global};
@@ -37,7 +38,25 @@ pub(crate) enum Expected {
     },
 }
 
-/// Why a line isn't taken.
+impl Expected {
+    ghost use Rattle.asc_text.specs.Faults.{tile_named};
+    ghost use Rattle.asc_text.specs.inside.Reading.{statement_of};
+
+    /// The tile or RAM that a line belongs to, which is to be this.
+    fn tile(self, line: &[u8]) -> Option<TileXy>
+        ensures { result ≡ tile_named (statement_of self line.now) }
+    {
+        match self {
+            Expected::Statement => match statement_in(line) {
+                Some(statement) => tile_named(statement),
+                None => None,
+            },
+            Expected::Row { x, y, .. } | Expected::Memory { x, y, .. } => tile_at(x, y),
+        }
+    }
+}
+
+/// Why a line is refused.
 #[derive(Clone, Copy, Debug, PartialEq, Eq)]
 pub(crate) enum Refusal {
     Cause(AscCause),
@@ -67,7 +86,7 @@ impl From<AllocError> for Refusal {
 impl Refusal {
     ghost use Rattle.asc_text.specs.inside.Reading.{located};
 
-    /// The same as the fault of a line and a tile.
+    /// The fault at a line and a tile.
     pub(crate) fn at(self, line: u64, tile: Option<TileXy>) -> AscFault
         ensures { result ≡ located self line tile }
     {
@@ -119,7 +138,6 @@ impl Reader {
     }
 
     /// Takes the next line, which has that number.
-    #[tactic(auto, using(crate::proofs::Dotted::none_without_dot))]
     pub(crate) fn accept(&mut self, number: u64, line: &[u8]) -> Result<(), AscFault>
         requires { IsReady self.old.image self.old.expected }
         ensures taken { IfOk result (λ _. Takes (state_of self.old) self.old.expected line.now (state_of self.new)) }
@@ -127,43 +145,49 @@ impl Reader {
         ensures refused { IfErr result (Tells (fault_with (line_refusal (state_of self.old) self.old.expected line.now)
             number (tile_named (statement_of self.old.expected line.now)))) }
     {
-        match self.expected {
+        let expected = self.expected;
+        match self.accept_as(expected, line) {
+            Ok(()) => Ok(()),
+            Err(refusal) => Err(refusal.at(number, expected.tile(line))),
+        }
+    }
+
+    /// Takes the next line as what it has to be.
+    fn accept_as(&mut self, expected: Expected, line: &[u8]) -> Result<(), Refusal>
+        requires { IsReady self.old.image expected }
+        ensures taken { IfOk result (λ _. Takes (state_of self.old) expected line.now (state_of self.new)) }
+        ensures accepted { OnOk result (line_refusal (state_of self.old) expected line.now ≡ None) }
+        ensures refused { IfErr result (Reports (line_refusal (state_of self.old) expected line.now)) }
+    {
+        match expected {
             Expected::Statement => {
                 if begins_with_dot(line) {
-                    self.accept_statement(number, line)
+                    self.accept_statement(statement_in(line), line)
                 } else {
                     self.accept_text(line)
-                        .map_err(|refusal| refusal.at(number, None))
                 }
             }
             Expected::Row { kind, x, y, row } => {
-                self.accept_row(kind, x, y, row, trimmed(line))
-                    .map_err(|cause| cause.at(number, tile_at(x, y)))
+                Ok(self.accept_row(kind, x, y, row, trimmed(line))?)
             }
-            Expected::Memory { x, y, row } => {
-                self.accept_memory(x, y, row, trimmed(line))
-                    .map_err(|cause| cause.at(number, tile_at(x, y)))
-            }
+            Expected::Memory { x, y, row } => Ok(self.accept_memory(x, y, row, trimmed(line))?),
         }
     }
 
-    /// Takes a line that begins with a dot.
-    fn accept_statement(&mut self, number: u64, line: &[u8]) -> Result<(), AscFault>
-        ensures taken { IfOk result (λ _. TakesDotted (state_of self.old) (statement_in line.now) line.now (state_of self.new)) }
-        ensures accepted { OnOk result (dotted_refusal (state_of self.old) (statement_in line.now) ≡ None) }
-        ensures refused { IfErr result (Tells (fault_with (dotted_refusal (state_of self.old) (statement_in line.now))
-            number (tile_named (statement_in line.now)))) }
+    /// Takes a line that begins with a dot, which is that statement where it is a valid one.
+    fn accept_statement(&mut self, statement: Option<Statement>, line: &[u8]) -> Result<(), Refusal>
+        ensures taken { IfOk result (λ _. TakesDotted (state_of self.old) statement line.now (state_of self.new)) }
+        ensures accepted { OnOk result (dotted_refusal (state_of self.old) statement ≡ None) }
+        ensures refused { IfErr result (Reports (dotted_refusal (state_of self.old) statement)) }
     {
         self.in_comment = false;
-        match statement_in(line) {
-            Some(statement) => self
-                .take(statement, line)
-                .map_err(|refusal| refusal.at(number, tile_named(statement))),
-            None => Err(AscCause::Statement.at(number, None)),
+        match statement {
+            Some(statement) => self.take(statement, line),
+            None => Err(Refusal::Cause(AscCause::Statement)),
         }
     }
 
-    /// Takes a line that is no statement: one of a comment, or an empty one.
+    /// Takes a line that is not a statement: a line of a comment, or an empty one.
     fn accept_text(&mut self, line: &[u8]) -> Result<(), Refusal>
         requires { begins_with_dot line.now ≡ false }
         ensures taken { IfOk result (λ _. state_of self.new ≡ after_text (state_of self.old) line.now) }
@@ -184,7 +208,7 @@ impl Reader {
         Ok(())
     }
 
-    /// What was read, at the end of the text. The number is that of the line after the last, where something is missing.
+    /// What the text gives, at its end. The number is that of the line after the last, where something is missing.
     #[tactic(auto, using(crate::proofs::Dotted::none_of_nothing))]
     pub(crate) fn finish(self, number: u64) -> Result<AscFile, AscFault>
         ensures image { IfOk result (λ file. Finishes (state_of self) self.image file.image) }

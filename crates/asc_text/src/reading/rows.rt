@@ -4,7 +4,7 @@ ghost use Rattle.std.specs.List.{list_all};
 ghost use Rattle.asc_text.specs.Faults.{is_printable};
 ghost use Rattle.asc_text.specs.Rows.{is_memory_line, is_row, memory_bytes};
 
-/// Whether the line is a row of a tile of that many columns.
+/// Whether the line is a row of a tile with that many columns.
 #[tactic(auto, unfolding(crate::specs::Rows::is_row))]
 pub(crate) fn is_row(line: &[u8], width: usize) -> bool
     ensures { result ≡ is_row width line.now }
@@ -19,7 +19,7 @@ fn are_bits(line: &[u8]) -> bool
     line.iter().all(|byte| *byte == b'0' || *byte == b'1')
 }
 
-/// The bytes of 64 hexadecimal digits, the first digit of each byte being the high one.
+/// The bytes that 64 hexadecimal digits write, the high digit of each byte first.
 pub(crate) fn memory_bytes(line: &[u8]) -> Option<[u8; 32]>
     ensures { MatchOption result (is_memory_line line.now ≡ false)
         (λ bytes. (is_memory_line line.now ≡ true) × (memory_bytes line.now ≡ bytes)) }
@@ -31,7 +31,7 @@ pub(crate) fn memory_bytes(line: &[u8]) -> Option<[u8; 32]>
     }
 }
 
-/// Whether each byte can be seen or is a space.
+/// Whether each byte is a printable ASCII character or a space.
 pub(crate) fn is_printable(line: &[u8]) -> bool
     ensures { result ≡ list_all is_printable line.now }
 {

@@ -18,7 +18,7 @@ pub(crate) fn begins_with_dot(line: &[u8]) -> bool
     matches!(line, [b'.', ..])
 }
 
-/// What the line says: none where it is no statement, or hasn't the form of one.
+/// The statement that the line is: none where it is not a valid one.
 #[tactic(auto, unfolding(crate::specs::Statements::statement_in))]
 pub(crate) fn statement_in(line: &[u8]) -> Option<Statement>
     ensures { result ≡ statement_in line.now }
@@ -170,7 +170,7 @@ fn after_space(rest: &[u8]) -> &[u8]
 }
 
 /// What stands behind the first word.
-#[tactic(auto, using(text_lines::proofs::Spaced::behind_word-none))]
+#[tactic(auto, using(text_lines::proofs::Spaced::behind_no_word))]
 fn behind_word(line: &[u8]) -> &[u8]
     ensures { result.now ≡ behind_word Spaces line.now }
 {
@@ -193,7 +193,7 @@ fn device_named(word: &[u8]) -> Option<DeviceName>
     }
 }
 
-/// Whether a word switches on or off.
+/// The switch that a word names.
 fn switch_named(word: &[u8]) -> Option<bool>
     ensures { result ≡ switch_named word.now }
 {

@@ -11,7 +11,7 @@ use crate::reading::reader::Reader;
 use std::alloc::Global;
 use text_lines::first_line;
 
-/// What a text configures and names, or its first faulty line.
+/// The configuration and the names that a text gives, or its first faulty line.
 pub fn read(alloc: Global, bytes: &[u8]) -> Result<AscFile, AscFault>
     ensures means { IfOk result (λ file. AscMeans bytes.now (configuration_of file.image) file.symbols.items) }
     // Each bit is the character, the digit or the statement that stands for it.

@@ -51,7 +51,7 @@ impl TileSet {
     }
 }
 
-/// Where the flag of a tile stands.
+/// The index of the flag of a tile.
 fn index_of(x: u32, y: u32) -> usize
     requires column { x < 34 }
     requires row { y < 34 }

@@ -340,7 +340,7 @@ fn shows_a_fault(rt: HostRuntime) -> Result<(), Fail> {
     };
     assert_eq!(rt;
         fault.to_string(rt.alloc())?.as_str(),
-        "line 2: a tile of the kind RamB stands there"
+        "line 2: the tile there is of kind RamB"
     );
     Ok(())
 }

@@ -1,4 +1,4 @@
-// The lines of the set bits that are no tile's.
+// The lines of the set bits that belong to no tile.
 ghost use Rattle.std.specs.Prelude.{◌≡◌, [], ◌∷◌, ◌++◌, OnOk};
 ghost use Rattle.text_lines.specs.Written.{text_of};
 ghost use Rattle.asc_text.specs.Canonical.{all_extra_lines, extra_line};
@@ -8,7 +8,7 @@ use ice_image::Image;
 use plane_map::{Device, Place};
 use std::alloc::{AllocError, Global};
 
-/// Appends all set bits that are no tile's, by bank, then by row, then by column.
+/// Appends all set bits that belong to no tile, by bank, then by row, then by column.
 pub(crate) fn append_extra_bits<D: Device>(
     text: &mut Vec<u8>,
     image: &Image<D>,
@@ -24,7 +24,7 @@ pub(crate) fn append_extra_bits<D: Device>(
     Ok(())
 }
 
-/// Appends the statement of a bit that is no tile's.
+/// Appends the statement of an extra bit.
 #[tactic(auto, unfolding(text_lines::specs::Written::text_of))]
 fn append_extra_bit(text: &mut Vec<u8>, at: Place) -> Result<(), AllocError>
     ensures { OnOk result (text.new.items ≡ text.old.items ++ text_of (extra_line at ∷ [])) }

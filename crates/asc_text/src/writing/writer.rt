@@ -14,7 +14,7 @@ use ice_image::{AnyImage, Comment, Image, Range};
 use plane_map::{Device, DeviceName};
 use std::alloc::{AllocError, Global};
 
-/// The canonical text of an image, which `read` reads as that image and no names.
+/// The canonical text of an image; `read` gives that image back, and no names.
 pub fn write(alloc: Global, image: &AnyImage) -> Result<Vec<u8>, AllocError>
     ensures text { IfOk result (λ text. text.items ≡ asc_text_of (configuration_of image.now)) }
     ensures means { IfOk result (λ text. AscMeans text.items (configuration_of image.now) []) }
@@ -108,7 +108,7 @@ fn append_range(text: &mut Vec<u8>, range: Range) -> Result<(), AllocError>
     }
 }
 
-/// Appends that the flash stays awake, where it does.
+/// Appends no sleep, where it is enabled.
 fn append_no_sleep(text: &mut Vec<u8>, no_sleep: bool) -> Result<(), AllocError>
     ensures { OnOk result (text.new.items ≡ text.old.items ++ text_of (no_sleep_lines no_sleep)) }
 {

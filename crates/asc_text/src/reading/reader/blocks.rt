@@ -1,4 +1,4 @@
-// How the lines that follow a statement are taken: rows of a tile, and lines of a RAM's contents.
+// What the sixteen lines below a statement change: rows of a tile, and lines of a RAM's contents.
 ghost use Rattle.std.specs.Prelude.{◌≡◌, ◌<◌, true, Some, None, IfOk, IfErr, OnOk};
 ghost use Rattle.plane_map.specs.Layout.{columns_of};
 ghost use Rattle.asc_text.specs.Rows.{is_row};

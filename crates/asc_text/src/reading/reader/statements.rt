@@ -1,4 +1,4 @@
-// How statements are taken.
+// What statements change.
 ghost use Rattle.std.specs.Prelude.{◌≡◌, ◌<◌, ◌++◌, ◌∷◌, [], Some, None, true, IfOk, IfErr, OnOk, is_some, MatchOption};
 ghost use Rattle.asc_text.specs.Extras.{is_same_place};
 ghost use Rattle.asc_text.specs.Faults.{tile_named};
@@ -39,7 +39,7 @@ impl Reader {
         }
     }
 
-    /// Begins a comment, in place of one before.
+    /// Begins a comment, which replaces an earlier one.
     fn begin_comment(&mut self)
         ensures { state_of self.new ≡ record (state_of self.old) { comment = Some []; in_comment = true } }
     {
@@ -47,7 +47,7 @@ impl Reader {
         self.in_comment = true;
     }
 
-    /// Takes the device, which none was named before.
+    /// Takes the device, where the text has named none before.
     fn take_device(&mut self, device: Option<DeviceName>) -> Result<(), Refusal>
         ensures taken { IfOk result (λ _. TakesStatement (state_of self.old) (Statement.Device device) [] (state_of self.new)) }
         ensures accepted { OnOk result (statement_refusal (state_of self.old) (Statement.Device device) ≡ None) }
@@ -63,7 +63,7 @@ impl Reader {
         Ok(())
     }
 
-    /// Takes the statement of a tile, which wasn't named before.
+    /// Begins the rows of a tile, where the text has not given them before.
     fn begin_tile(&mut self, kind: TileKind, x: u32, y: u32) -> Result<(), AscCause>
         ensures taken { IfOk result (λ _. TakesStatement (state_of self.old) (Statement.Tile kind x y) [] (state_of self.new)) }
         ensures accepted { OnOk result (statement_refusal (state_of self.old) (Statement.Tile kind x y) ≡ None) }
@@ -85,7 +85,7 @@ impl Reader {
         Ok(())
     }
 
-    /// Takes the statement of the contents of a RAM, which weren't given before.
+    /// Begins the contents of a RAM, where the text has not given them before.
     fn begin_memory(&mut self, x: u32, y: u32) -> Result<(), AscCause>
         ensures taken { IfOk result (λ _. TakesStatement (state_of self.old) (Statement.RamData x y) [] (state_of self.new)) }
         ensures accepted { OnOk result (statement_refusal (state_of self.old) (Statement.RamData x y) ≡ None) }
@@ -116,7 +116,7 @@ impl Reader {
     }
 }
 
-/// Gives a setting its value, which has none before.
+/// Sets a setting that has no value yet.
 fn set_once<T: Copy>(slot: &mut Option<T>, setting: Option<T>) -> Result<(), AscCause>
     ensures taken { OnOk result (slot.new ≡ setting) }
     ensures accepted { OnOk result (setting_refusal (is_some slot.old) (is_some setting) ≡ None) }

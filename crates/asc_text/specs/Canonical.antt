@@ -68,7 +68,7 @@ two_bytes word = word / 256 ∷ word % 256 ∷ []
 -- sixteen words of a RAM, the first of them at the right
 abbrev pub memory_line : DeviceName → List Rows → ℕ → ℕ → ℕ → List ℕ
 memory_line device bram x y row =
-    encode_lower (gathered_below 16 (λ place. two_bytes (word_value device bram x y (16 * row + 15 - place))))
+    encode_lower (gathered_below 16 (λ index. two_bytes (word_value device bram x y (16 * row + 15 - index))))
 
 -- the contents of a RAM, at its lower tile
 abbrev pub ram_lines : DeviceName → List Rows → ℕ → ℕ → List (List ℕ)

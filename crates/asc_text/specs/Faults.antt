@@ -136,7 +136,7 @@ is_printable byte = nat_le 0x20 byte && nat_le byte 0x7E
 -- whether a line that is not a statement belongs to a comment: the last statement before it begins one
 abbrev pub is_in_comment : List (List ℕ) → Option ℕ → Bool
 is_in_comment lines None = false
-is_in_comment lines (Some place) = is_comment (statement_in (line_at lines place))
+is_in_comment lines (Some index) = is_comment (statement_in (line_at lines index))
 
 -- what is wrong with a line of a comment, blanks at its end included
 abbrev pub comment_cause : List ℕ → Option AscCause

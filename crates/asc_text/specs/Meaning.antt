@@ -47,10 +47,10 @@ settings_before lines n = record {
 
 -- ---- the comment
 
--- whether a place, where there is one, is that of a line
+-- whether an index, where there is one, is that of a line
 abbrev pub is_that_line : Option ℕ → ℕ → Bool
 is_that_line None start = false
-is_that_line (Some place) start = place == start
+is_that_line (Some index) start = index == start
 
 -- a line of the comment that begins at that line; empty lines are dropped
 abbrev pub comment_line : List (List ℕ) → ℕ → ℕ → List (List ℕ)

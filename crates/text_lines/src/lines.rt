@@ -75,12 +75,12 @@ fn length_before_lf(text: &[u8]) -> usize
     ensures { result ≡ position_or_len (λ byte. byte == 10) text.now }
 {
     match first_lf(text) {
-        Some(place) => place,
+        Some(offset) => offset,
         None => text.len(),
     }
 }
 
-/// Where the first LF stands.
+/// The offset of the first LF.
 fn first_lf(text: &[u8]) -> Option<usize>
     ensures { result ≡ position (λ byte. byte == 10) text.now }
 {

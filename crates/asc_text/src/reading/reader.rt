@@ -256,7 +256,7 @@ impl Reader {
     }
 }
 
-/// A line that is missing below the statement of the tile or RAM at a place.
+/// A line that is missing below the statement of the tile or RAM at (x, y).
 fn missing(line: u64, x: u8, y: u8, cause: AscCause) -> AscFault
     ensures { result ≡ AscFault.At line (Some (record { x = x; y = y })) cause }
 {
@@ -273,7 +273,7 @@ fn finished(image: AnyImage, settings: Settings, comment: Option<Comment>) -> An
     image
 }
 
-/// The tile at a place.
+/// The tile at (x, y).
 fn tile_at(x: u8, y: u8) -> Option<TileXy>
     ensures { result ≡ Some (record { x = x; y = y }) }
 {

@@ -55,7 +55,7 @@ impl TileSet {
 fn index_of(x: u32, y: u32) -> usize
     requires column { x < 34 }
     requires row { y < 34 }
-    ensures place { result ≡ 34 * y + x }
+    ensures index { result ≡ 34 * y + x }
     ensures inside { result < 1156 }
 {
     (34 * y + x) as usize

@@ -149,8 +149,8 @@ fn append_memory_line<D: Device>(
     requires lower { kind_of D.NAME x y ≡ Some TileKind.RamB }
     ensures { OnOk result (text.new.items ≡ text.old.items ++ text_of (memory_line D.NAME image.now.bram x y row ∷ [])) }
 {
-    for place in 0..16 {
-        append_digits(text, image.ram_word(x, y, 16 * row + 15 - place))?;
+    for index in 0..16 {
+        append_digits(text, image.ram_word(x, y, 16 * row + 15 - index))?;
     }
     end_line(text)
 }

@@ -70,8 +70,8 @@ fn append_comment_lines(text: &mut Vec<u8>, comment: &Comment) -> Result<(), All
     ensures lines { OnOk result (All IsCommentLine comment.now) }
 {
     append_line(text, b".comment")?;
-    for place in 0..comment.len() {
-        append_line(text, comment.line(place))?;
+    for index in 0..comment.len() {
+        append_line(text, comment.line(index))?;
     }
     Ok(())
 }

@@ -5,6 +5,6 @@ use Rattle.ice_image.specs.Contents.{word_value}
 use Rattle.asc_text.specs.Canonical.{two_bytes}
 use Rattle.asc_text.proofs.writing.tiles.append_memory_line.Given as goal
 
-abbrev pub invariant-loop-place : goal.invariant-loop-place
-invariant-loop-place g l =
-    l.text.items ≡ l.initial.text.items ++ encode_lower (gathered_below l.place (λ place. two_bytes (word_value g.D.Device.NAME l.image.bram l.x l.y (16 * l.row + 15 - place))))
+abbrev pub invariant-loop-index : goal.invariant-loop-index
+invariant-loop-index g l =
+    l.text.items ≡ l.initial.text.items ++ encode_lower (gathered_below l.index (λ index. two_bytes (word_value g.D.Device.NAME l.image.bram l.x l.y (16 * l.row + 15 - index))))

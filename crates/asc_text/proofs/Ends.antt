@@ -9,7 +9,7 @@ use Rattle.place_search.proofs.Places.{first_below-none, first_below-first}
 use Rattle.plane_map.specs.Layout.{cram_width, cram_height, bram_width, bram_height}
 use Rattle.plane_map.specs.declared.device.DeviceName.{DeviceName}
 use Rattle.plane_map.specs.declared.tile.Place.{Place}
-use Rattle.ice_image.specs.Configuration.{Configuration, AreBanks, bank_rows, place_bit}
+use Rattle.ice_image.specs.Configuration.{Configuration, AreBanks, place_bit}
 use Rattle.ice_image.specs.Either.{configuration_of, device_of}
 use Rattle.ice_image.specs.declared.any.AnyImage.{AnyImage}
 use Rattle.ice_image.specs.declared.settings.Settings.{Settings}

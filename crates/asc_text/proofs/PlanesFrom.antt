@@ -1,5 +1,5 @@
 -- Planes that are made from the bits of their places.
-use Rattle.std.proofs.Common.{◌≡◌, ℕ, zero, suc, ◌<◌, Bool, List, ◌∷◌, [], refl, sym, ◌∙◌, arith}
+use Rattle.std.proofs.Common.{◌≡◌, ℕ, zero, suc, ◌<◌, Bool, List, refl, ◌∙◌, arith}
 use Rattle.bit_plane.specs.Rows.{Rows, IsGrid}
 use Rattle.bit_plane.proofs.Made.{IsGrid-rows_from, bit_at-rows_from}
 use Rattle.plane_map.specs.declared.tile.Place.{Place}

@@ -1,5 +1,5 @@
 -- The canonical text of an image means that image.
-use Rattle.std.proofs.Common.{◌≡◌, ℕ, zero, suc, ◌+◌, ◌<◌, Bool, true, false, ◌||◌, List, [], ◌∷◌, ◌++◌, length, append_assoc, refl, sym, ap, ◌∙◌, subst, arith, inl, inr, Option, Some, None}
+use Rattle.std.proofs.Common.{◌≡◌, ℕ, ◌+◌, ◌<◌, Bool, true, false, ◌||◌, List, [], ◌∷◌, ◌++◌, length, append_assoc, refl, sym, ap, ◌∙◌, subst, arith, inl, inr, Option, Some, None}
 use Rattle.std.proofs.lemmas.Bool.{le-leb, or_cases, or_from, or_left, or_right, cases_lt, cases_Bool, both_ways}
 use Rattle.std.proofs.lemmas.List.{length-append, get_or_at}
 use Rattle.std.proofs.lemmas.List.Elements.{All-nil, All-append}
@@ -9,13 +9,10 @@ use Rattle.place_search.specs.Places.{any_below, first_below}
 use Rattle.text_lines.specs.Written.{text_of, IsPlain}
 use Rattle.place_search.proofs.Places.{any_below-at, first_below-none, gathered_below-none}
 use Rattle.text_lines.proofs.Written.{lines_of-text_of}
-use Rattle.bit_plane.specs.Rows.{Rows, IsGrid, bit_at}
-use Rattle.bit_plane.proofs.Made.{IsGrid-rows_from, bit_at-rows_from}
 use Rattle.plane_map.specs.Layout.{cram_width, cram_height, bram_width, bram_height}
 use Rattle.plane_map.specs.declared.device.DeviceName.{DeviceName}
 use Rattle.plane_map.specs.declared.tile.Place.{Place}
-use Rattle.ice_image.specs.Configuration.{Configuration, bank_rows, place_bit, AreBanks, IsWhole}
-use Rattle.ice_image.proofs.BankBits.{same_banks}
+use Rattle.ice_image.specs.Configuration.{Configuration, place_bit, IsWhole}
 use Rattle.ice_image.specs.declared.settings.Range.TheVariants.{Low}
 use Rattle.asc_text.specs.declared.statement.Statement.{Statement}
 use Rattle.asc_text.specs.declared.statement.Statement.TheVariants.{Comment, Device, WarmBoot, FrequencyRange, NoSleep, Tile, RamData, ExtraBit, Symbol}
@@ -23,7 +20,7 @@ use Rattle.asc_text.specs.Statements.{device_word, device_keyword, begins_with_d
 use Rattle.asc_text.specs.Blocks.{depth_at, statement_over, statement_at, is_comment, device_in, device_before}
 use Rattle.asc_text.specs.Extras.{is_owned}
 use Rattle.asc_text.specs.Faults.{names_tile, names_ram, cause_at, fault_with, tile_named, fault_at, asc_fault_of}
-use Rattle.asc_text.specs.Meaning.{is_set_before, is_word_set_before, comment_before, settings_before, planes_from, image_before, symbol_in, symbols_before, image_for, asc_image_of, asc_symbols_of, AscMeans}
+use Rattle.asc_text.specs.Meaning.{is_set_before, is_word_set_before, comment_before, settings_before, image_before, symbol_in, symbols_before, image_for, asc_image_of, asc_symbols_of, AscMeans}
 use Rattle.asc_text.specs.Canonical.{with_word, comment_lines, warm_boot_lines, range_lines, no_sleep_lines, all_tile_lines, all_extra_lines, canonical_lines, asc_text_of}
 use Rattle.asc_text.proofs.PieceRead.{Piece, Stands, piece_lines, piece_sets, piece_sets_word}
 use Rattle.asc_text.proofs.PlanesFrom.{planes_from-is}

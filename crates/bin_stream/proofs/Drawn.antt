@@ -20,8 +20,9 @@ use Rattle.ice_image.proofs.BankBits.{same_banks, AreBanks-with_bank, AreBanks-b
 use Rattle.bin_stream.specs.Commands.{Kind, Command, Cram, Bram, Short, Data}
 use Rattle.bin_stream.specs.State.{bank_after, width_after, height_after, offset_after, device_after, device_with, plane_width, plane_height}
 use Rattle.bin_stream.specs.Meaning.{is_same_kind, gives, bit_given, plane_bit, plane_of, planes_of}
-use Rattle.bin_stream.specs.Registers.{Fits, held_after, reached_in}
-use Rattle.bin_stream.specs.Step.{device_if, image_or_blank, with_rows, IsDrawnOn, IsDrawn, Holds}
+use Rattle.bin_stream.specs.Refusals.{reached_in}
+use Rattle.bin_stream.specs.inside.Registers.{Fits, held_after}
+use Rattle.bin_stream.specs.inside.Step.{device_if, image_or_blank, with_rows, IsDrawnOn, IsDrawn, Holds}
 use Rattle.bin_stream.proofs.OneMore.{device_after-more, reached_in-more, plane_bit-more}
 use Rattle.text_lines.proofs.Places.{or_else-none}
 

@@ -7,13 +7,13 @@ use Rattle.text_lines.specs.Places.{least_below}
 abbrev pub preamble : List ℕ
 preamble = 0x7E ∷ 0xAA ∷ 0x99 ∷ 0x7E ∷ []
 
--- whether the preamble stands at a place
+-- whether the preamble stands at an offset
 abbrev pub is_preamble_at : List ℕ → ℕ → Bool
-is_preamble_at bytes place = bytes_eq (take 4 (drop place bytes)) preamble
+is_preamble_at bytes offset = bytes_eq (take 4 (drop offset bytes)) preamble
 
 -- where the preamble stands first
-unfoldable pub preamble_place : List ℕ → Option ℕ
-preamble_place bytes = least_below (length bytes) (is_preamble_at bytes)
+unfoldable pub preamble_offset : List ℕ → Option ℕ
+preamble_offset bytes = least_below (length bytes) (is_preamble_at bytes)
 
 -- the pieces between bytes 00 and FF
 unfoldable pub pieces_of : List ℕ → List (List ℕ)

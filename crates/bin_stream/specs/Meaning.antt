@@ -19,12 +19,15 @@ abbrev pub range_of : ℕ → Range
 range_of n = if n == 0 then Low else if n == 1 then Medium else High
 
 -- bit 5 of the mode is the warm boot, bit 0 keeps the flash awake
-abbrev pub settings_of : List Command → Settings
-settings_of commands = record {
-  range = range_of (range_after commands);
-  warm_boot = mode_after commands / 32 % 2 == 1;
-  no_sleep = mode_after commands % 2 == 1;
+abbrev pub settings_from : ℕ → ℕ → Settings
+settings_from range mode = record {
+  range = range_of range;
+  warm_boot = mode / 32 % 2 == 1;
+  no_sleep = mode % 2 == 1;
 }
+
+abbrev pub settings_of : List Command → Settings
+settings_of commands = settings_from (range_after commands) (mode_after commands)
 
 -- ---- planes
 
@@ -49,7 +52,7 @@ bit_given at before command = get_or (bits_of (body_of command)) ((at.py - offse
 
 abbrev pub bit_where : Place → List Command → Option ℕ → Bool
 bit_where at commands None = false
-bit_where at commands (Some place) = bit_given at (take place commands) (slice_get commands place)
+bit_where at commands (Some index) = bit_given at (take index commands) (slice_get commands index)
 
 -- The bit at a place is that of the last data that give it, and 0 where none do.
 unfoldable pub plane_bit : Kind → List Command → Place → Bool

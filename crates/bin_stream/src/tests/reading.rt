@@ -108,7 +108,7 @@ fn no_part_is_read(alloc: Global) -> Result<bool, AllocError> {
 }
 
 #[test]
-fn a_stream_may_be_cut_nowhere(rt: HostRuntime) {
+fn a_stream_that_is_cut_is_refused(rt: HostRuntime) {
     assert!(rt; no_part_is_read(rt.alloc()) == Ok(true));
 }
 

@@ -91,7 +91,7 @@ unfoldable pub checked_bytes : Configuration → List ℕ
 checked_bytes c =
     mode_command c.settings.warm_boot c.settings.no_sleep ++ cram_bytes c.device c.cram ++ bram_bytes c.device c.bram ++ check_head
 
--- before the preamble a comment stands between FF 00 and 00 FF, each line ended by 00
+-- a comment comes before the preamble, between FF 00 and 00 FF; each line ends with 00
 abbrev pub comment_bytes : Option (List (List ℕ)) → List ℕ
 comment_bytes None = []
 comment_bytes (Some lines) = 0xFF ∷ 0 ∷ flat_map (λ line. line ++ 0 ∷ []) lines ++ 0 ∷ 0xFF ∷ []

@@ -21,7 +21,7 @@ kind_number Cram = 1
 kind_number Bram = 3
 
 -- The first byte has the opcode in its high half, which is 0 for data, and the number of bytes of payload in its low half.
--- Two bytes 00 stand behind data.
+-- Two bytes 00 follow data.
 abbrev pub spelling : Command → List ℕ
 spelling (Short opcode payload) = (16 * opcode + length payload) ∷ payload
 spelling (Data kind payload body) = length payload ∷ payload ++ body ++ 0 ∷ 0 ∷ []

@@ -6,7 +6,7 @@ use Rattle.plane_map.specs.Layout.{cram_height}
 use Rattle.plane_map.specs.declared.device.DeviceName.{DeviceName}
 use Rattle.bin_stream.specs.CheckValue.{check_value}
 use Rattle.bin_stream.specs.Commands.{Kind, Command, Cram, Bram, Short, Data, number_of, kind_number, spelling, control_opcode, bank_opcode, check_opcode, boot_address_opcode, range_opcode, width_opcode, height_opcode, offset_opcode, mode_opcode, reset_number, wake_up_number}
-use Rattle.bin_stream.specs.State.{height_after, offset_after, width_after, size_after, plane_width, plane_height, device_with, device_after, covered}
+use Rattle.bin_stream.specs.State.{height_after, first_row_after, width_after, size_after, plane_width, plane_height, device_with, device_after, covered}
 use Rattle.bin_stream.specs.declared.fault.BinCause.{BinCause}
 use Rattle.bin_stream.specs.declared.fault.BinCause.TheVariants.{Truncated, UnknownCommand, LongPayload, BadBank, BadWidth, BadHeight, DataEnd, Check, BadRange, BadMode, NoDevice}
 
@@ -37,7 +37,7 @@ device_for before kind = or_else (device_after before) (device_with kind (width_
 abbrev pub data_cause : List Command → Kind → Option BinCause
 data_cause before kind =
     or_else (width_cause kind (device_for before kind) (width_after before))
-    (height_cause kind (device_for before kind) (offset_after before) (height_after before) (width_after before))
+    (height_cause kind (device_for before kind) (first_row_after before) (height_after before) (width_after before))
 
 -- ---- other commands
 
@@ -49,7 +49,7 @@ ends_plane (Some device) rows = rows == cram_height device
 -- whether a command gives the last row of a configuration plane, where the commands before it are these; the device is
 -- that of its width
 abbrev pub gives_last_row : List Command → Option Command → Bool
-gives_last_row before (Some (Data Cram payload body)) = ends_plane (device_with Cram (width_after before)) (offset_after before + height_after before)
+gives_last_row before (Some (Data Cram payload body)) = ends_plane (device_with Cram (width_after before)) (first_row_after before + height_after before)
 gives_last_row before command = false
 
 -- whether some command gives the last row of a configuration plane, in any bank
@@ -100,7 +100,7 @@ data_kind opcode n =
     if opcode == control_opcode then (if n == kind_number Cram then Some Cram else if n == kind_number Bram then Some Bram else None)
     else None
 
--- a command that may stand behind these
+-- a command that may follow these
 abbrev pub IsAllowedAfter : List Command → Command → Type 0
 IsAllowedAfter before (Short opcode payload) =
     (length payload < 5) × (data_kind opcode (number_of payload) ≡ None) × (short_cause before opcode payload ≡ None)

@@ -14,11 +14,11 @@ use Rattle.bin_stream.specs.declared.fault.BinFault.TheVariants.{At, Memory}
 
 -- ---- as relations
 
--- each command may stand behind those before it
+-- each command may follow those before it
 abbrev pub IsAllowed : List Command → Type 0
 IsAllowed commands = (k : ℕ) (command : Command) → slice_get commands k ≡ Some command → IsAllowedAfter (take k commands) command
 
--- the preamble stands first behind so many bytes
+-- the first preamble is behind this front
 abbrev pub IsFront : List ℕ → List ℕ → Type 0
 IsFront front bytes = preamble_offset bytes ≡ Some (length front)
 
@@ -26,7 +26,7 @@ IsFront front bytes = preamble_offset bytes ≡ Some (length front)
 abbrev pub NoWakeUp : List Command → Type 0
 NoWakeUp commands = All (λ command. is_wake_up command ≡ false) commands
 
--- The bytes spell the image: what stands before the preamble, the preamble, allowed commands with a wake-up as the last of
+-- The bytes spell the image: a front, the preamble, allowed commands with a wake-up as the last of
 -- them and nowhere before, and anything behind it.
 pub record Spells (bytes : List ℕ) (image : Configuration) : Type 0 where
   pub front : List ℕ
@@ -41,7 +41,7 @@ pub record Spells (bytes : List ℕ) (image : Configuration) : Type 0 where
   pub device : device_after commands ≡ Some image.device
   pub means : image ≡ meaning image.device front (commands ++ wake_up ∷ [])
 
--- The bytes have a fault: behind what stands before the preamble and allowed commands without a wake-up, something is
+-- The bytes have a fault: behind a front, the preamble and allowed commands without a wake-up, something is
 -- wrong with the first command of the rest. So no longer list of allowed commands is spelled there.
 pub record FailsAt (bytes : List ℕ) (fault : Fault) : Type 0 where
   pub front : List ℕ

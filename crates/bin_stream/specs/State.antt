@@ -6,7 +6,7 @@ use Rattle.plane_map.specs.declared.device.DeviceName.{DeviceName}
 use Rattle.plane_map.specs.declared.device.DeviceName.TheVariants.{K1, K8}
 use Rattle.bin_stream.specs.Commands.{Kind, Command, Cram, Bram, Short, Data, number_of, spelled, is_reset, bank_opcode, range_opcode, width_opcode, height_opcode, offset_opcode, mode_opcode}
 
--- whether a command has an opcode; data have none of these
+-- whether a command that isn't data has that opcode
 abbrev pub has_opcode : ℕ → Option Command → Bool
 has_opcode opcode (Some (Short other payload)) = other == opcode
 has_opcode opcode command = false
@@ -17,7 +17,7 @@ number_in None = 0
 number_in (Some (Short opcode payload)) = number_of payload
 number_in (Some (Data kind payload body)) = number_of payload
 
--- where the last command of an opcode stands
+-- the index of the last command of an opcode
 abbrev pub last_index : List Command → ℕ → Option ℕ
 last_index commands opcode = last_below (length commands) (λ k. has_opcode opcode (slice_get commands k))
 
@@ -39,8 +39,9 @@ range_after commands = last_of commands range_opcode 0
 abbrev pub height_after : List Command → ℕ
 height_after commands = last_of commands height_opcode 0
 
-abbrev pub offset_after : List Command → ℕ
-offset_after commands = last_of commands offset_opcode 0
+-- the row at which data begin behind these commands
+abbrev pub first_row_after : List Command → ℕ
+first_row_after commands = last_of commands offset_opcode 0
 
 abbrev pub mode_after : List Command → ℕ
 mode_after commands = last_of commands mode_opcode 32

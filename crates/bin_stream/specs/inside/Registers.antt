@@ -6,7 +6,7 @@ use Rattle.plane_map.specs.declared.device.DeviceName.{DeviceName}
 use Rattle.bin_stream.specs.CheckValue.{check_value}
 use Rattle.bin_stream.specs.inside.Register.{entered_all}
 use Rattle.bin_stream.specs.Commands.{Kind, Command, Cram, Bram, control_opcode, bank_opcode, range_opcode, width_opcode, height_opcode, offset_opcode, mode_opcode, reset_number}
-use Rattle.bin_stream.specs.State.{bank_after, range_after, height_after, offset_after, mode_after, width_after, plane_width, plane_height, device_with, covered}
+use Rattle.bin_stream.specs.State.{bank_after, range_after, height_after, first_row_after, mode_after, width_after, plane_width, plane_height, device_with, covered}
 use Rattle.ice_image.specs.declared.settings.Settings.{Settings}
 use Rattle.bin_stream.specs.Meaning.{settings_from}
 use Rattle.bin_stream.specs.Refusals.{width_cause, height_cause, ends_plane, reached_in, short_cause_where}
@@ -29,7 +29,7 @@ held_after commands = record {
   bank = bank_after commands;
   width = width_after commands;
   height = height_after commands;
-  first_row = offset_after commands;
+  first_row = first_row_after commands;
   range = range_after commands;
   mode = mode_after commands;
   check = check_value (bits_of (covered commands));

@@ -6,7 +6,7 @@ use Rattle.asc_text.specs.declared.file.Symbol.{Symbol}
 use Rattle.asc_text.specs.Meaning.{AscMeans}
 use Rattle.bin_stream.specs.CanonicalBytes.{canonical_bytes}
 use Rattle.bin_stream.specs.Spelling.{bin_read_of, IsDecided}
-use Rattle.ice_pack.specs.Packed.{awake_where, IsPacked, IsUnpacked, PacksAlike, UnpacksBack, PacksBack, PacksToItself}
+use Rattle.ice_pack.specs.Packed.{awake_where, IsPacked, IsUnpacked, PacksAlike, UnpacksBack, PacksBack}
 
 -- a text means one image
 image-meant : (text : List ℕ) (one other : Configuration) (symbols others : List Symbol) → AscMeans text one symbols → AscMeans text other others → one ≡ other
@@ -40,6 +40,3 @@ packs_back bytes text decided is image packed spells again =
     image-meant text again.image is.image again.symbols [] again.means is.means
     ∙ image-read bytes is.image image is.read ((decided.spelled image).0 spells) in
     again.canonical ∙ ap canonical_bytes same
-
-pub packs_to_itself : (bytes text : List ℕ) → IsDecided bytes → IsUnpacked bytes text → PacksToItself bytes text
-packs_to_itself bytes text decided is image packed spells canonical again = packs_back bytes text decided is image packed spells again ∙ sym canonical

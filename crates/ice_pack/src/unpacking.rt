@@ -8,7 +8,6 @@ use bin_stream::{BinFault, decode};
 use std::alloc::Global;
 
 /// The canonical text of what a bitstream spells.
-#[tactic(auto, using(crate::proofs::BothWays::packs_back, crate::proofs::BothWays::packs_to_itself))]
 pub fn unpack(alloc: Global, bin: &[u8]) -> Result<Vec<u8>, BinFault>
     // The input spells one image or has one fault, and not both.
     ensures decided { IsDecided bin.now }

@@ -22,12 +22,21 @@ const END: &[u8] = b"\x00\x00\x01\x06";
 /// Bytes, and behind them so many copies of one byte.
 type Part = (&'static [u8], u8, usize);
 
+/// Appends a part of a stream.
+fn append_part(stream: &mut Vec<u8>, part: &Part) -> Result<(), AllocError> {
+    let (bytes, filler, count) = part;
+    stream.extend_from_slice(bytes)?;
+    for _ in 0..*count {
+        stream.push(*filler)?;
+    }
+    Ok(())
+}
+
 /// A stream in parts.
 fn stream_of(alloc: Global, parts: &[Part]) -> Result<Vec<u8>, AllocError> {
     let mut stream = Vec::new(alloc);
-    for (bytes, filler, count) in parts {
-        stream.extend_from_slice(bytes)?;
-        stream.extend_from_slice(&vec![in alloc; *filler; *count]?)?;
+    for part in parts {
+        append_part(&mut stream, part)?;
     }
     Ok(stream)
 }

@@ -1,6 +1,6 @@
 -- A command in bytes, and what registers hold behind it.
 use Rattle.std.proofs.Common.{◌≡◌, ℕ, suc, ◌+◌, ◌*◌, ◌/◌, ◌%◌, Bool, true, false, ◌&&◌, ◌||◌, cond, List, [], ◌∷◌, ◌++◌, length, take, drop, get_or, refl, sym, ap, subst, ◌∙◌, arith, inl, inr, length-take-le}
-use Rattle.std.specs.Prelude.{Option, Some, None, nat_lt, ◌==◌}
+use Rattle.std.specs.Prelude.{Some, None, nat_lt, ◌==◌}
 use Rattle.std.proofs.lemmas.Bool.{cases_Bool, ltb-false, eqb-true}
 use Rattle.std.proofs.lemmas.List.Concat.{flat_map-append}
 use Rattle.std.proofs.Math.Bool.{or-false}
@@ -8,8 +8,8 @@ use Rattle.text_lines.specs.Places.{any_below, last_below}
 use Rattle.bit_plane.specs.BitList.{byte_bits, bits_of}
 use Rattle.bin_stream.specs.CheckValue.{check_value, powers_from, power, doubled, sum_of}
 use Rattle.bin_stream.specs.inside.Register.{entered_all}
-use Rattle.bin_stream.specs.Commands.{Kind, Command, Cram, Bram, Short, Data, number_of, spelling, spelled, is_reset, control_opcode, bank_opcode, check_opcode, range_opcode, width_opcode, height_opcode, offset_opcode, mode_opcode, reset_number}
-use Rattle.bin_stream.specs.State.{last_of, width_after, device_with, covered}
+use Rattle.bin_stream.specs.Commands.{Kind, Command, Cram, Bram, Short, Data, number_of, spelling, spelled, is_reset, control_opcode, bank_opcode, range_opcode, width_opcode, height_opcode, offset_opcode, mode_opcode, reset_number}
+use Rattle.bin_stream.specs.State.{last_of, width_after, covered}
 use Rattle.bin_stream.specs.Refusals.{fault_at, first_fault, payload_fault, short_cause, short_cause_where, data_kind, gives_last_row, reached_in}
 use Rattle.bin_stream.specs.Spelling.{first_command, command_of}
 use Rattle.bin_stream.specs.inside.Registers.{Held, held_after, held_first, short_cause_by, checked, after_short, gives_last_by, after_data}

@@ -1,5 +1,5 @@
 -- What a step of a decoder does.
-use Rattle.std.specs.Prelude.{◌≡◌, ℕ, ◌+◌, ◌*◌, ◌/◌, ◌%◌, ◌<◌, Bool, true, false, List, [], ◌∷◌, ◌++◌, length, drop, nat_lt, if◌then◌else◌, Option, Some, None}
+use Rattle.std.specs.Prelude.{◌≡◌, ℕ, ◌+◌, ◌%◌, ◌<◌, Bool, true, false, List, [], ◌∷◌, ◌++◌, length, drop, nat_lt, if◌then◌else◌, Option, Some, None}
 use Rattle.text_lines.specs.Places.{or_else}
 use Rattle.bit_plane.specs.BitList.{bits_of, placed}
 use Rattle.bit_plane.specs.Rows.{Rows, rows_of}

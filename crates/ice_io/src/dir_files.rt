@@ -1,7 +1,9 @@
-// The real files, of which nothing is told but how often they failed.
-ghost use Rattle.std.specs.Prelude.{◌≡◌, ◌+◌, ◌<◌, ◌≤◌, ◌^◌, ℕ, None, false, length, vec_len, IfOk, IfErr, OnOk, OnErr, IsErrOf};
-ghost use Rattle.ice_io.specs.DirFiles.{after_load_fault, after_store_fault};
+// The real files. A load gives all that was in a file of the system, and a store writes to one; which file it is, and
+// what it had before, only the system knows.
+ghost use Rattle.std.specs.Prelude.{◌≡◌, ◌+◌, ◌<◌, ◌≤◌, ◌^◌, ℕ, None, true, false, length, vec_len, IfOk, IfErr, OnOk, OnErr, IsErrOf};
+ghost use Rattle.ice_io.specs.DirFiles.{after_load_fault, after_store_fault, WereInFile, WereTaken, WereWritten, WerePartWritten};
 ghost use Rattle.ice_io.specs.Files.{LeavesPart};
+ghost use Rattle.ice_io.specs.Put.{written_before};
 
 use crate::files::{Files, StoreFault};
 use crate::real::{StdSink, StdSource};
@@ -57,6 +59,10 @@ impl<R: rt::Files> Files for DirFiles<'_, R> {
 
         ensures same { (IsErrOf result TakeFault.Failed → ⊥) → self.new ≡ self.old }
         ensures failed { IsErrOf result TakeFault.Failed → self.new ≡ after_load_fault self.old }
+
+        // All bytes of a file were given, and it is told as too long only where more than the limit were taken from one.
+        ensures whole { IfOk result (λ bytes. WereInFile R.File.remaining bytes.items) }
+        ensures longer { IsErrOf result TakeFault.TooLong → WereTaken R.File.remaining (limit + 1) }
     {
         let loaded = load_from(self.rt, alloc, name, limit);
         if let Err(TakeFault::Failed) = loaded {
@@ -72,6 +78,10 @@ impl<R: rt::Files> Files for DirFiles<'_, R> {
 
         ensures same { OnOk result (self.new ≡ self.old) }
         ensures failed { OnErr result (self.new ≡ after_store_fault self.old) }
+
+        // All bytes were written to a file, or as many as the fault tells.
+        ensures whole { OnOk result (WereWritten R.File.contents bytes.now) }
+        ensures first { IfErr result (WerePartWritten R.File.contents bytes.now) }
     {
         let stored = store_to(self.rt, name, bytes);
         if stored.is_err() {
@@ -89,7 +99,9 @@ fn load_from<R: rt::Files>(
     limit: usize,
 ) -> Result<Vec<u8>, TakeFault>
     requires { limit < 2 ^ 32 }
-    ensures { IfOk result (λ bytes. vec_len bytes ≤ limit) }
+    ensures within { IfOk result (λ bytes. vec_len bytes ≤ limit) }
+    ensures whole { IfOk result (λ bytes. WereInFile R.File.remaining bytes.items) }
+    ensures longer { IsErrOf result TakeFault.TooLong → WereTaken R.File.remaining (limit + 1) }
 {
     let Ok(file) = fs::open(rt, name) else {
         return Err(TakeFault::Failed);
@@ -99,7 +111,9 @@ fn load_from<R: rt::Files>(
 
 // Makes a file, or empties it, and writes the bytes.
 fn store_to<R: rt::Files>(rt: &R, name: &str, bytes: &[u8]) -> Result<(), StoreFault>
-    ensures { IfErr result (LeavesPart None None name.now bytes.now) }
+    ensures part { IfErr result (LeavesPart None None name.now bytes.now) }
+    ensures whole { OnOk result (WereWritten R.File.contents bytes.now) }
+    ensures first { IfErr result (WerePartWritten R.File.contents bytes.now) }
 {
     let Ok(file) = fs::create(rt, name) else {
         return Err(StoreFault::Failed {
@@ -109,9 +123,17 @@ fn store_to<R: rt::Files>(rt: &R, name: &str, bytes: &[u8]) -> Result<(), StoreF
     };
     match write_whole(&mut StdSink::new(file), bytes) {
         Ok(()) => Ok(()),
-        Err(PutFault::Failed { written }) => Err(StoreFault::Failed {
-            opened: true,
-            written,
-        }),
+        Err(fault) => Err(fault_of_opened(fault)),
+    }
+}
+
+// The fault of a store whose file was opened.
+fn fault_of_opened(fault: PutFault) -> StoreFault
+    ensures { result ≡ StoreFault.Failed true (written_before fault) }
+{
+    let PutFault::Failed { written } = fault;
+    StoreFault::Failed {
+        opened: true,
+        written,
     }
 }

@@ -1,15 +1,14 @@
-// Sources and sinks over the readers and writers of the standard library. They tell what those tell: of a file, a
+// Sources and sinks over the readers and writers of the standard library. They know what those know: of a file, a
 // terminal or a pipe nothing.
-ghost use Rattle.std.specs.Prelude.{◌≡◌, ◌<◌, ◌≤◌, ℕ, length, IfOk, OnOk, OnErr};
+ghost use Rattle.std.specs.Prelude.{◌≡◌, ◌≢◌, ◌<◌, ◌≤◌, ℕ, length, IfOk, IfErr, OnOk, OnErr};
+ghost use Rattle.std.specs.IoError.{error_kind};
 ghost use Rattle.std.specs.Io.KnownBytes.{ReadConsumes, WriteAppends};
 ghost use Rattle.ice_io.specs.Faults.{counted};
 
 use crate::sink::Sink;
 use crate::source::{Failed, Source};
-use std::io::{ErrorKind, Read, Write};
-
-/// How often a read or a write that was interrupted is tried.
-const TRIES: u32 = 1000;
+use std::io;
+use std::io::{Error, ErrorKind, Read, Write};
 
 /// A source over a reader.
 #[derive(Drop)]
@@ -45,11 +44,13 @@ impl<R: Read> Source for StdSource<R> {
         ensures ok { OnOk result (read_faults self.new ≡ read_faults self.old) }
         ensures failed { OnErr result (read_faults self.new ≡ counted (read_faults self.old)) }
     {
-        let count = read_once(&mut self.inner, into);
-        if count.is_err() {
-            self.faults = self.faults.saturating_add(1);
+        match read_once(&mut self.inner, into) {
+            Ok(count) => Ok(count),
+            Err(_) => {
+                self.faults = self.faults.saturating_add(1);
+                Err(Failed)
+            }
         }
-        count
     }
 }
 
@@ -88,42 +89,44 @@ impl<W: Write> Sink for StdSink<W> {
         ensures ok { OnOk result (write_faults self.new ≡ write_faults self.old) }
         ensures failed { OnErr result (write_faults self.new ≡ counted (write_faults self.old)) }
     {
-        let count = write_once(&mut self.inner, piece);
-        if count.is_err() {
-            self.faults = self.faults.saturating_add(1);
+        match write_once(&mut self.inner, piece) {
+            Ok(count) => Ok(count),
+            Err(_) => {
+                self.faults = self.faults.saturating_add(1);
+                Err(Failed)
+            }
         }
-        count
     }
 }
 
-// One read. It is tried again where it was interrupted.
-fn read_once<R: Read>(reader: &mut R, into: &mut [u8]) -> Result<usize, Failed>
+// One read. It is tried again as often as it is interrupted.
+fn read_once<R: Read>(reader: &mut R, into: &mut [u8]) -> io::Result<usize>
     ensures count { IfOk result (λ n. n ≤ length into.new) }
     ensures bytes { ReadConsumes (R.remaining reader.old) (R.remaining reader.new) result into.new }
+    ensures retried { IfErr result (λ e. error_kind e ≢ ErrorKind.Interrupted) }
 {
-    for _ in 0..TRIES {
+    for _ in 0..u64::MAX {
         match reader.read(into) {
-            Ok(count) => return Ok(count),
             Err(e) if e.kind() == ErrorKind::Interrupted => {}
-            Err(_) => return Err(Failed),
+            count => return count,
         }
     }
-    Err(Failed)
+    Err(Error::from(ErrorKind::TimedOut))
 }
 
-// One write. It is tried again where it was interrupted, and fails where it takes nothing of a piece that isn't empty.
-fn write_once<W: Write>(writer: &mut W, piece: &[u8]) -> Result<usize, Failed>
+// One write. It is tried again as often as it is interrupted, and fails where it takes nothing of a piece that isn't empty.
+fn write_once<W: Write>(writer: &mut W, piece: &[u8]) -> io::Result<usize>
     ensures count { IfOk result (λ n. n ≤ length piece.now) }
     ensures progress { IfOk result (λ n. 0 < length piece.now → 0 < n) }
     ensures bytes { WriteAppends (W.contents writer.old) (W.contents writer.new) result piece.now }
+    ensures retried { IfErr result (λ e. error_kind e ≢ ErrorKind.Interrupted) }
 {
-    for _ in 0..TRIES {
+    for _ in 0..u64::MAX {
         match writer.write(piece) {
-            Ok(0) if !piece.is_empty() => return Err(Failed),
-            Ok(count) => return Ok(count),
+            Ok(0) if !piece.is_empty() => return Err(Error::from(ErrorKind::WriteZero)),
             Err(e) if e.kind() == ErrorKind::Interrupted => {}
-            Err(_) => return Err(Failed),
+            count => return count,
         }
     }
-    Err(Failed)
+    Err(Error::from(ErrorKind::TimedOut))
 }

@@ -27,11 +27,11 @@ WereInFile {File} remaining bytes = (before : File) × (after : File) × TakesAl
 abbrev pub WereTaken : {File : Type 0} → (File → Option (List ℕ)) → ℕ → Type 0
 WereTaken {File} remaining n = (before : File) × (after : File) × TakesCount (remaining before) (remaining after) n
 
--- some file has what it had, and then these bytes
+-- these bytes were appended to some file
 abbrev pub WereWritten : {File : Type 0} → (File → Option (List ℕ)) → List ℕ → Type 0
 WereWritten {File} contents bytes = (before : File) × (after : File) × Appends (contents before) (contents after) bytes
 
--- where a store failed after a file was opened, some file has what it had, and then as many of the bytes as it is told
+-- where a store failed after its file was opened, as many of the bytes as the fault says were appended to some file
 abbrev pub WerePartWritten : {File : Type 0} → (File → Option (List ℕ)) → List ℕ → StoreFault → Type 0
 WerePartWritten contents bytes (Failed true written) = WereWritten contents (take written bytes)
 WerePartWritten contents bytes (Failed false written) = ⊤

@@ -1,5 +1,5 @@
-// The real files. A load gives all that was in a file of the system, and a store writes to one; which file it is, and
-// what it had before, only the system knows.
+// The real files. A load returns all that was left in a file of the system, and a store adds all its bytes to one. That the file
+// is the one of that name, and was emptied before, is the system's part.
 ghost use Rattle.std.specs.Prelude.{◌≡◌, ◌+◌, ◌<◌, ◌≤◌, ◌^◌, ℕ, None, true, false, length, vec_len, IfOk, IfErr, OnOk, OnErr, IsErrOf};
 ghost use Rattle.ice_io.specs.DirFiles.{after_load_fault, after_store_fault, WereInFile, WereTaken, WereWritten, WerePartWritten};
 ghost use Rattle.ice_io.specs.Files.{LeavesPart};
@@ -13,7 +13,7 @@ use std::alloc::Global;
 use std::marker::Model;
 use std::{fs, rt};
 
-/// The files of the system that a runtime reaches. They are seen as the counts of the loads and the stores that failed.
+/// The files of the system. A contract sees only how many loads and stores have failed.
 #[derive(Drop)]
 pub struct DirFiles<'a, R: rt::Files> {
     rt: &'a R,
@@ -30,7 +30,7 @@ impl<'a, R: rt::Files> Model for DirFiles<'a, R> {
 }
 
 impl<'a, R: rt::Files> DirFiles<'a, R> {
-    /// The files that a runtime reaches, none of which has failed yet.
+    /// The files that this runtime reaches, with no failure counted yet.
     pub fn new(rt: &'a R) -> DirFiles<'a, R>
         ensures { result ≡ record { load_faults = 0; store_faults = 0 } }
     {
@@ -60,7 +60,7 @@ impl<R: rt::Files> Files for DirFiles<'_, R> {
         ensures same { (IsErrOf result TakeFault.Failed → ⊥) → self.new ≡ self.old }
         ensures failed { IsErrOf result TakeFault.Failed → self.new ≡ after_load_fault self.old }
 
-        // All bytes of a file were given, and it is told as too long only where more than the limit were taken from one.
+        // `Ok` has all bytes of a file, and `TooLong` comes only where more than the limit were read from one.
         ensures whole { IfOk result (λ bytes. WereInFile R.File.remaining bytes.items) }
         ensures longer { IsErrOf result TakeFault.TooLong → WereTaken R.File.remaining (limit + 1) }
     {
@@ -79,7 +79,7 @@ impl<R: rt::Files> Files for DirFiles<'_, R> {
         ensures same { OnOk result (self.new ≡ self.old) }
         ensures failed { OnErr result (self.new ≡ after_store_fault self.old) }
 
-        // All bytes were written to a file, or as many as the fault tells.
+        // `Ok` has written all bytes to a file, and a fault as many as it says.
         ensures whole { OnOk result (WereWritten R.File.contents bytes.now) }
         ensures first { IfErr result (WerePartWritten R.File.contents bytes.now) }
     {
@@ -91,7 +91,7 @@ impl<R: rt::Files> Files for DirFiles<'_, R> {
     }
 }
 
-// Reads a file to its end.
+// Opens a file and reads it to its end.
 fn load_from<R: rt::Files>(
     rt: &R,
     alloc: Global,
@@ -109,7 +109,7 @@ fn load_from<R: rt::Files>(
     read_all(alloc, &mut StdSource::new(file), limit)
 }
 
-// Makes a file, or empties it, and writes the bytes.
+// Creates a file, or empties it, and writes the bytes.
 fn store_to<R: rt::Files>(rt: &R, name: &str, bytes: &[u8]) -> Result<(), StoreFault>
     ensures part { IfErr result (LeavesPart None None name.now bytes.now) }
     ensures whole { OnOk result (WereWritten R.File.contents bytes.now) }
@@ -127,7 +127,7 @@ fn store_to<R: rt::Files>(rt: &R, name: &str, bytes: &[u8]) -> Result<(), StoreF
     }
 }
 
-// The fault of a store whose file was opened.
+// The fault where the file was opened and a write failed.
 fn fault_of_opened(fault: PutFault) -> StoreFault
     ensures { result ≡ StoreFault.Failed true (written_before fault) }
 {

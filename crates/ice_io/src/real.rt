@@ -1,5 +1,5 @@
-// Sources and sinks over the readers and writers of the standard library. They know what those know: of a file, a
-// terminal or a pipe nothing.
+// Sources and sinks over the readers and writers of the standard library. They know the bytes where those do: in memory, but
+// not in a file, at a terminal or in a pipe.
 ghost use Rattle.std.specs.Prelude.{◌≡◌, ◌≢◌, ◌<◌, ◌≤◌, ℕ, length, IfOk, IfErr, OnOk, OnErr};
 ghost use Rattle.std.specs.IoError.{error_kind};
 ghost use Rattle.std.specs.Io.KnownBytes.{ReadConsumes, WriteAppends};
@@ -10,7 +10,7 @@ use crate::source::{Failed, Source};
 use std::io;
 use std::io::{Error, ErrorKind, Read, Write};
 
-/// A source over a reader.
+/// A source over a reader. It reads again where a read is interrupted.
 #[derive(Drop)]
 pub struct StdSource<R: Read> {
     inner: R,
@@ -20,7 +20,7 @@ pub struct StdSource<R: Read> {
 impl<R: Read> StdSource<R> {
     ghost use Rattle.ice_io.specs.Real.{reader_of, read_faults};
 
-    /// A source over a reader, which hasn't failed yet.
+    /// A source over this reader, with no failure counted yet.
     pub fn new(inner: R) -> StdSource<R>
         ensures reader { reader_of result ≡ inner }
         ensures faults { read_faults result ≡ 0 }
@@ -54,7 +54,7 @@ impl<R: Read> Source for StdSource<R> {
     }
 }
 
-/// A sink over a writer.
+/// A sink over a writer. It writes again where a write is interrupted.
 #[derive(Drop)]
 pub struct StdSink<W: Write> {
     inner: W,
@@ -64,7 +64,7 @@ pub struct StdSink<W: Write> {
 impl<W: Write> StdSink<W> {
     ghost use Rattle.ice_io.specs.Real.{writer_of, write_faults};
 
-    /// A sink over a writer, which hasn't failed yet.
+    /// A sink over this writer, with no failure counted yet.
     pub fn new(inner: W) -> StdSink<W>
         ensures writer { writer_of result ≡ inner }
         ensures faults { write_faults result ≡ 0 }
@@ -99,7 +99,7 @@ impl<W: Write> Sink for StdSink<W> {
     }
 }
 
-// One read. It is tried again as often as it is interrupted.
+// One read, repeated while it is interrupted.
 fn read_once<R: Read>(reader: &mut R, into: &mut [u8]) -> io::Result<usize>
     ensures count { IfOk result (λ n. n ≤ length into.new) }
     ensures bytes { ReadConsumes (R.remaining reader.old) (R.remaining reader.new) result into.new }
@@ -114,7 +114,7 @@ fn read_once<R: Read>(reader: &mut R, into: &mut [u8]) -> io::Result<usize>
     Err(Error::from(ErrorKind::TimedOut))
 }
 
-// One write. It is tried again as often as it is interrupted, and fails where it takes nothing of a piece that isn't empty.
+// One write, repeated while it is interrupted. Writing nothing of a piece that isn't empty is a failure.
 fn write_once<W: Write>(writer: &mut W, piece: &[u8]) -> io::Result<usize>
     ensures count { IfOk result (λ n. n ≤ length piece.now) }
     ensures progress { IfOk result (λ n. 0 < length piece.now → 0 < n) }

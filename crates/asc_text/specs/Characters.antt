@@ -2,7 +2,7 @@
 -- statement that names its tile or its RAM, or the statement of the extra bit.
 use Rattle.std.specs.Prelude.{◌≡◌, ℕ, ◌+◌, ◌/◌, ◌%◌, Bool, false, List, length, Option, Some, None}
 use Rattle.text_lines.specs.Lines.{lines_of, line_at, trimmed}
-use Rattle.text_lines.specs.Places.{any_below, least_below}
+use Rattle.place_search.specs.Places.{any_below, least_below}
 use Rattle.plane_map.specs.Layout.{place_of, word_place_of, IsTileBit, IsWordBit, IsExtraBit, IsInCram}
 use Rattle.plane_map.specs.declared.tile.Place.{Place}
 use Rattle.plane_map.specs.declared.tile.TileBit.{TileBit}
@@ -24,7 +24,7 @@ tile_statement lines x y = least_below (length lines) (λ k. names_tile x y (sta
 -- whether the row's line below a statement has the character 1 at the column, and never where there is no statement
 abbrev pub character_below : List (List ℕ) → Option ℕ → ℕ → ℕ → Bool
 character_below lines None row col = false
-character_below lines (Some place) row col = row_bit (trimmed (line_at lines (place + 1 + row))) col
+character_below lines (Some index) row col = row_bit (trimmed (line_at lines (index + 1 + row))) col
 
 -- whether the character that stands for a bit of a tile is 1
 abbrev pub character_of : List (List ℕ) → TileBit → Bool
@@ -50,7 +50,7 @@ ram_statement lines x y = least_below (length lines) (λ k. names_ram x y (state
 -- whether the digits of a word have a bit, sixteen words to a line below a statement, and never where there is no statement
 abbrev pub digit_bit_below : List (List ℕ) → Option ℕ → ℕ → ℕ → Bool
 digit_bit_below lines None word bit = false
-digit_bit_below lines (Some place) word bit = memory_bit (trimmed (line_at lines (place + 1 + word / 16))) (word % 16) bit
+digit_bit_below lines (Some index) word bit = memory_bit (trimmed (line_at lines (index + 1 + word / 16))) (word % 16) bit
 
 -- whether the digits that stand for a word of a RAM have a bit
 abbrev pub digit_bit_of : List (List ℕ) → WordBit → Bool

@@ -4,7 +4,8 @@ use Rattle.bit_plane.specs.BitList.{bits_of}
 use Rattle.ice_image.specs.Configuration.{Configuration}
 use Rattle.bin_stream.specs.CheckValue.{check_value}
 use Rattle.bin_stream.specs.Front.{preamble}
-use Rattle.bin_stream.specs.CanonicalBytes.{canonical_bytes, checked_bytes, comment_bytes, command, range_number, range_command, reset_command, two_bytes, wake_up_command}
+use Rattle.bin_stream.specs.Commands.{Short, spelling, range_opcode}
+use Rattle.bin_stream.specs.CanonicalBytes.{canonical_bytes, checked_bytes, comment_bytes, range_number, range_command, reset_command, two_bytes, wake_up_command}
 
 -- the bytes after each of the writes; the check value is that of the bytes behind the reset
 pub record AreWritten (image : Configuration) (all : List ℕ) : Type 0 where
@@ -22,7 +23,7 @@ pub record AreWritten (image : Configuration) (all : List ℕ) : Type 0 where
   pub comment : at_comment ≡ at_first ++ comment_bytes image.comment
   pub preamble_is : at_preamble ≡ at_comment ++ preamble
   pub number_is : number ≡ range_number image.settings.range
-  pub range : at_range ≡ at_preamble ++ command 5 (number ∷ [])
+  pub range : at_range ≡ at_preamble ++ spelling (Short range_opcode (number ∷ []))
   pub reset : at_reset ≡ at_range ++ reset_command
   pub start_is : start ≡ length at_reset
   pub checked : at_checked ≡ at_reset ++ checked_bytes image
@@ -36,7 +37,7 @@ assembled image all w =
     let behind : drop w.start w.at_checked ≡ checked_bytes image = ap (drop w.start) w.checked ∙ drop_at w.at_reset (checked_bytes image) w.start (sym w.start_is) in
     let value = two_bytes (check_value (bits_of (checked_bytes image))) in
     let comment : w.at_comment ≡ comment_bytes image.comment = w.comment ∙ ap (λ bytes. bytes ++ comment_bytes image.comment) w.first in
-    let range : w.at_range ≡ w.at_preamble ++ range_command image.settings.range = w.range ∙ ap (λ n. w.at_preamble ++ command 5 (n ∷ [])) w.number_is in
+    let range : w.at_range ≡ w.at_preamble ++ range_command image.settings.range = w.range ∙ ap (λ n. w.at_preamble ++ spelling (Short range_opcode (n ∷ []))) w.number_is in
     let front : w.at_reset ≡ comment_bytes image.comment ++ preamble ++ range_command image.settings.range ++ reset_command =
     w.reset ∙ ap (λ bytes. bytes ++ reset_command) (range ∙ ap (λ bytes. bytes ++ range_command image.settings.range) (w.preamble_is ∙ ap (λ bytes. bytes ++ preamble) comment)) in
     w.last

@@ -2,11 +2,11 @@
 use Rattle.std.proofs.Common.{◌≡◌, ℕ, zero, suc, ◌*◌, ◌/◌, ◌<◌, ◌≤◌, true, not, List, [], ◌∷◌, ◌++◌, ◌==◌, length, take, drop, refl, sym, ap, ◌∙◌, subst, arith, append_assoc, append-nil}
 use Rattle.std.specs.Prelude.{Some, None, slice_get}
 use Rattle.std.proofs.lemmas.Bool.{le-ltb}
-use Rattle.text_lines.specs.Places.{any_below, last_below, first_below}
+use Rattle.place_search.specs.Places.{any_below, last_below, first_below}
 use Rattle.plane_map.specs.Layout.{cram_width, cram_height, bram_width}
 use Rattle.plane_map.specs.declared.device.DeviceName.{DeviceName}
 use Rattle.plane_map.specs.declared.device.DeviceName.TheVariants.{K1, K8}
-use Rattle.bin_stream.specs.Commands.{Command, Short, Cram, Bram, number_of, range, mode, check}
+use Rattle.bin_stream.specs.Commands.{Command, Short, Cram, Bram, number_of, range_opcode, mode_opcode, check_opcode}
 use Rattle.bin_stream.specs.State.{last_of, width_after, device_after, size_after}
 use Rattle.bin_stream.specs.Refusals.{data_cause, wake_up_cause, IsAllowedAfter, check_found, is_mode, cause_if}
 use Rattle.bin_stream.specs.declared.fault.BinCause.TheVariants.{Check, BadRange, BadMode}
@@ -76,7 +76,7 @@ pub record AreFit (device : DeviceName) (range_value mode_value : ℕ) (cram : �
   pub cram_sizes : (bank : ℕ) → bank < 4 → length (cram bank) ≡ cram_width device * cram_height device / 8
   pub bram_sizes : (bank offset : ℕ) → bank < 4 → offset ≤ 128 → length (bram bank offset) ≡ bram_width device * 128 / 8
   pub check_long : length check_payload ≡ 2
-  pub check_passes : check_found (before_check device range_value mode_value cram bram) check_payload ≡ 0
+  pub check_passes : check_found (before_check device range_value mode_value cram bram) (Short check_opcode check_payload) ≡ 0
 
 -- the canonical commands, one by one
 pub allowed : (device : DeviceName) (range_value mode_value : ℕ) (cram : ℕ → List ℕ) (bram : ℕ → ℕ → List ℕ) (check_payload : List ℕ) → AreFit device range_value mode_value cram bram check_payload → IsAllowed (all_commands device range_value mode_value cram bram check_payload)
@@ -85,10 +85,10 @@ allowed device range_value mode_value cram bram check_payload fit =
     let two : 2 < 5 = omega arith in
     let causes = data_causes device range_value mode_value cram bram in
     let sizes = data_sizes device range_value mode_value cram bram in
-    let range_is : IsAllowedAfter [] (Short range (range_value ∷ [])) = (one, refl, ap (λ over. cause_if over BadRange) (le-ltb 2 (number_of (range_value ∷ [])) (omega (arith, fit.range_in)))) in
+    let range_is : IsAllowedAfter [] (Short range_opcode (range_value ∷ [])) = (one, refl, ap (λ over. cause_if over BadRange) (le-ltb 2 (number_of (range_value ∷ [])) (omega (arith, fit.range_in)))) in
     let mode_number : number_of (0 ∷ mode_value ∷ []) ≡ mode_value = omega arith in
-    let mode_is : IsAllowedAfter (take 2 (before_check device range_value mode_value cram bram)) (Short mode (0 ∷ mode_value ∷ [])) = (two, refl, ap (λ known. cause_if (not known) BadMode) (ap is_mode mode_number ∙ fit.mode_in)) in
-    let check_is : IsAllowedAfter (before_check device range_value mode_value cram bram) (Short check check_payload) = (omega (arith, fit.check_long), refl, ap (λ found. cause_if (not (found == 0)) (Check found)) fit.check_passes) in
+    let mode_is : IsAllowedAfter (take 2 (before_check device range_value mode_value cram bram)) (Short mode_opcode (0 ∷ mode_value ∷ [])) = (two, refl, ap (λ known. cause_if (not known) BadMode) (ap is_mode mode_number ∙ fit.mode_in)) in
+    let check_is : IsAllowedAfter (before_check device range_value mode_value cram bram) (Short check_opcode check_payload) = (omega (arith, fit.check_long), refl, ap (λ found. cause_if (not (found == 0)) (Check found)) fit.check_passes) in
     let commands = all_commands device range_value mode_value cram bram check_payload in
     let end : AllowedFrom (take 36 commands) (drop 36 commands) = (check_is, ((one, refl, wakes device range_value mode_value cram bram check_payload), tt)) in
     let bram3 : AllowedFrom (take 31 commands) (drop 31 commands) = ((one, refl, refl), ((two, refl, refl), ((one, refl, causes.10, fit.bram_sizes 3 0 (omega arith) (omega arith) ∙ sym sizes.10), ((two, refl, refl), ((one, refl, causes.11, fit.bram_sizes 3 128 (omega arith) (omega arith) ∙ sym sizes.11), end))))) in

@@ -6,40 +6,40 @@ use Rattle.bit_plane.specs.BitList.{bit_value}
 use Rattle.plane_map.specs.Layout.{cram_width, cram_height, bram_width}
 use Rattle.plane_map.specs.declared.device.DeviceName.{DeviceName}
 use Rattle.ice_image.specs.Configuration.{Configuration, bank_rows}
-use Rattle.bin_stream.specs.Commands.{Command, spelling, spelled, Short, Data, Cram, Bram, control, bank, check, range, width, height, offset, mode}
-use Rattle.bin_stream.specs.CanonicalBytes.{command, two_bytes, row_bytes, reset_command, mode_command, bank_command, width_command, height_command, offset_command, wake_up_command, cram_bank, bram_half, bram_bank, four_banks, check_head, checked_bytes, cram_bytes, bram_bytes}
+use Rattle.bin_stream.specs.Commands.{Command, spelling, spelled, Short, Data, Cram, Bram, control_opcode, bank_opcode, check_opcode, range_opcode, width_opcode, height_opcode, offset_opcode, mode_opcode}
+use Rattle.bin_stream.specs.CanonicalBytes.{two_bytes, row_bytes, reset_command, mode_command, bank_command, width_command, height_command, offset_command, wake_up_command, cram_bank, bram_half, bram_bank, four_banks, check_head, checked_bytes, cram_bytes, bram_bytes}
 
 -- a bank's configuration plane, by its bytes
 abbrev pub cram_part : (ℕ → List ℕ) → ℕ → List Command
-cram_part cram number = Short bank (number ∷ []) ∷ Data Cram (1 ∷ []) (cram number) ∷ []
+cram_part cram number = Short bank_opcode (number ∷ []) ∷ Data Cram (1 ∷ []) (cram number) ∷ []
 
 -- a bank's RAM plane, by the bytes of the halves that begin at an offset
 abbrev pub bram_part : (ℕ → ℕ → List ℕ) → ℕ → List Command
 bram_part bram number =
-    Short bank (number ∷ [])
-    ∷ Short offset (two_bytes 0) ∷ Data Bram (3 ∷ []) (bram number 0)
-    ∷ Short offset (two_bytes 128) ∷ Data Bram (3 ∷ []) (bram number 128)
+    Short bank_opcode (number ∷ [])
+    ∷ Short offset_opcode (two_bytes 0) ∷ Data Bram (3 ∷ []) (bram number 0)
+    ∷ Short offset_opcode (two_bytes 128) ∷ Data Bram (3 ∷ []) (bram number 128)
     ∷ []
 
 -- the commands between the reset and the check
 abbrev pub checked_commands : DeviceName → ℕ → (ℕ → List ℕ) → (ℕ → ℕ → List ℕ) → List Command
 checked_commands device mode_value cram bram =
-    Short mode (0 ∷ mode_value ∷ [])
-    ∷ Short width (two_bytes (cram_width device - 1)) ∷ Short height (two_bytes (cram_height device)) ∷ Short offset (two_bytes 0)
+    Short mode_opcode (0 ∷ mode_value ∷ [])
+    ∷ Short width_opcode (two_bytes (cram_width device - 1)) ∷ Short height_opcode (two_bytes (cram_height device)) ∷ Short offset_opcode (two_bytes 0)
     ∷ flat_map (cram_part cram) four_banks
-    ++ Short width (two_bytes (bram_width device - 1)) ∷ Short height (two_bytes 128)
+    ++ Short width_opcode (two_bytes (bram_width device - 1)) ∷ Short height_opcode (two_bytes 128)
     ∷ flat_map (bram_part bram) four_banks
 
 -- the commands before the check
 abbrev pub before_check : DeviceName → ℕ → ℕ → (ℕ → List ℕ) → (ℕ → ℕ → List ℕ) → List Command
-before_check device range_value mode_value cram bram = Short range (range_value ∷ []) ∷ Short control (5 ∷ []) ∷ checked_commands device mode_value cram bram
+before_check device range_value mode_value cram bram = Short range_opcode (range_value ∷ []) ∷ Short control_opcode (5 ∷ []) ∷ checked_commands device mode_value cram bram
 
 -- the commands before the wake-up
 abbrev pub before_wake_up : DeviceName → ℕ → ℕ → (ℕ → List ℕ) → (ℕ → ℕ → List ℕ) → List ℕ → List Command
-before_wake_up device range_value mode_value cram bram check_payload = before_check device range_value mode_value cram bram ++ Short check check_payload ∷ []
+before_wake_up device range_value mode_value cram bram check_payload = before_check device range_value mode_value cram bram ++ Short check_opcode check_payload ∷ []
 
 abbrev pub wake_up : Command
-wake_up = Short control (6 ∷ [])
+wake_up = Short control_opcode (6 ∷ [])
 
 -- all commands
 abbrev pub all_commands : DeviceName → ℕ → ℕ → (ℕ → List ℕ) → (ℕ → ℕ → List ℕ) → List ℕ → List Command
@@ -83,21 +83,21 @@ checked-is c =
     let crams = flat_map (cram_part (cram_bodies c)) four_banks in
     let brams = flat_map (bram_part (bram_bodies c)) four_banks in
     let size = width_command (bram_width c.device) ++ height_command 128 in
-    let planes : flat_map spelling (crams ++ Short width (two_bytes (bram_width c.device - 1)) ∷ Short height (two_bytes 128) ∷ brams) ≡ flat_map (cram_bank c.cram) four_banks ++ (size ++ flat_map (bram_bank c.bram) four_banks) =
-    flat_map-append spelling crams (Short width (two_bytes (bram_width c.device - 1)) ∷ Short height (two_bytes 128) ∷ brams)
+    let planes : flat_map spelling (crams ++ Short width_opcode (two_bytes (bram_width c.device - 1)) ∷ Short height_opcode (two_bytes 128) ∷ brams) ≡ flat_map (cram_bank c.cram) four_banks ++ (size ++ flat_map (bram_bank c.bram) four_banks) =
+    flat_map-append spelling crams (Short width_opcode (two_bytes (bram_width c.device - 1)) ∷ Short height_opcode (two_bytes 128) ∷ brams)
     ∙ ap₂ (λ (first more : List ℕ). first ++ (size ++ more)) (spelled-parts (cram_part (cram_bodies c)) (cram_bank c.cram) (spelled-cram c) four_banks) (spelled-parts (bram_part (bram_bodies c)) (bram_bank c.bram) (spelled-bram c) four_banks) in
     ap (λ more. (mode_command c.settings.warm_boot c.settings.no_sleep ++ width_command (cram_width c.device) ++ height_command (cram_height c.device) ++ offset_command 0 ++ more) ++ check_head) planes
 
 -- all commands
-pub spelled-all_commands : (c : Configuration) (range_value : ℕ) (check_payload : List ℕ) → length check_payload ≡ 2 → spelled (all_commands c.device range_value (mode_bits c) (cram_bodies c) (bram_bodies c) check_payload) ≡ command 5 (range_value ∷ []) ++ reset_command ++ checked_bytes c ++ check_payload ++ wake_up_command
+pub spelled-all_commands : (c : Configuration) (range_value : ℕ) (check_payload : List ℕ) → length check_payload ≡ 2 → spelled (all_commands c.device range_value (mode_bits c) (cram_bodies c) (bram_bodies c) check_payload) ≡ spelling (Short range_opcode (range_value ∷ [])) ++ reset_command ++ checked_bytes c ++ check_payload ++ wake_up_command
 unfolding spelled
 spelled-all_commands c range_value check_payload long =
     let inside = checked_commands c.device (mode_bits c) (cram_bodies c) (bram_bodies c) in
-    let head : flat_map spelling (Short check check_payload ∷ wake_up ∷ []) ≡ check_head ++ (check_payload ++ wake_up_command) = ap (λ n. (16 * 2 + n) ∷ (check_payload ++ wake_up_command)) long in
-    let rest : flat_map spelling (inside ++ Short check check_payload ∷ wake_up ∷ []) ≡ checked_bytes c ++ (check_payload ++ wake_up_command) =
-    flat_map-append spelling inside (Short check check_payload ∷ wake_up ∷ [])
+    let head : flat_map spelling (Short check_opcode check_payload ∷ wake_up ∷ []) ≡ check_head ++ (check_payload ++ wake_up_command) = ap (λ n. (16 * 2 + n) ∷ (check_payload ++ wake_up_command)) long in
+    let rest : flat_map spelling (inside ++ Short check_opcode check_payload ∷ wake_up ∷ []) ≡ checked_bytes c ++ (check_payload ++ wake_up_command) =
+    flat_map-append spelling inside (Short check_opcode check_payload ∷ wake_up ∷ [])
     ∙ ap (λ more. flat_map spelling inside ++ more) head
     ∙ sym (append_assoc (flat_map spelling inside) check_head (check_payload ++ wake_up_command))
     ∙ ap (λ bytes. bytes ++ (check_payload ++ wake_up_command)) (checked-is c) in
-    ap (λ more. command 5 (range_value ∷ []) ++ reset_command ++ more) rest
-    ∙ sym (append_assoc (command 5 (range_value ∷ []) ++ reset_command ++ checked_bytes c) check_payload wake_up_command)
+    ap (λ more. spelling (Short range_opcode (range_value ∷ [])) ++ reset_command ++ more) rest
+    ∙ sym (append_assoc (spelling (Short range_opcode (range_value ∷ [])) ++ reset_command ++ checked_bytes c) check_payload wake_up_command)

@@ -4,7 +4,7 @@ use Rattle.std.proofs.lemmas.Bool.{cases_lt, lt-ltb, le-ltb}
 use Rattle.bit_plane.specs.BitList.{byte_bits, bits_of}
 use Rattle.std.specs.Int.{byte_at}
 use Rattle.bin_stream.specs.CheckValue.{check_value}
-use Rattle.bin_stream.specs.Register.{entered, entered_all}
+use Rattle.bin_stream.specs.inside.Register.{entered, entered_all}
 use Rattle.bin_stream.specs.CanonicalBytes.{two_bytes}
 use Rattle.bin_stream.proofs.Powers.{check_value-append, check_value-below, entered_all-append}
 

@@ -6,13 +6,13 @@ use Rattle.ice_image.specs.Configuration.{Configuration}
 use Rattle.bin_stream.specs.Commands.{Command, spelled}
 use Rattle.bin_stream.specs.State.{device_after}
 use Rattle.bin_stream.specs.Refusals.{Fault, fault_at, first_fault}
-use Rattle.bin_stream.specs.Front.{preamble, preamble_place}
+use Rattle.bin_stream.specs.Front.{preamble, preamble_offset}
 use Rattle.bin_stream.specs.Meaning.{meaning}
 use Rattle.bin_stream.specs.Spelling.{Spells, FailsAt, IsRefused, IsFront, commands_from, image_of, read_behind, device_or, bin_read_of, IsDecided}
 use Rattle.bin_stream.specs.declared.fault.BinCause.TheVariants.{NoPreamble}
 use Rattle.bin_stream.proofs.Allowed.{Follows-from_IsAllowed, IsAllowed-from_Follows, Follows-right}
 use Rattle.bin_stream.proofs.ManyCommands.{Woken, Failed, length-spelled, commands_from-woken, commands_from-failed, commands_from-Ok, commands_from-Err}
-use Rattle.bin_stream.proofs.PreamblePlace.{preamble_place-splits}
+use Rattle.bin_stream.proofs.PreamblePlace.{preamble_offset-splits}
 use Rattle.bin_stream.proofs.DeviceKnown.{device_after-woken, device_after-known}
 
 -- what is read behind a front and the preamble
@@ -62,11 +62,11 @@ unfolding meaning
 device-meant device front commands = refl
 
 -- an image that commands up to a wake-up mean, behind a preamble, is spelled
-spelled-woken : (bytes : List ℕ) (image : Configuration) (place : ℕ) (all : List Command) → preamble_place bytes ≡ Some place → Woken [] (drop (place + 4) bytes) all → meaning (device_or (device_after all)) (take place bytes) all ≡ image → Spells bytes image
+spelled-woken : (bytes : List ℕ) (image : Configuration) (place : ℕ) (all : List Command) → preamble_offset bytes ≡ Some place → Woken [] (drop (place + 4) bytes) all → meaning (device_or (device_after all)) (take place bytes) all ≡ image → Spells bytes image
 spelled-woken bytes image place all front_is woken means =
     let front = take place bytes in
     let behind = drop (place + 4) bytes in
-    let splits = preamble_place-splits bytes place front_is in
+    let splits = preamble_offset-splits bytes place front_is in
     let commands = woken.commands in
     let wake_up = woken.wake_up in
     let known = device_after-known commands wake_up woken.wakes (Follows-right [] commands (wake_up ∷ []) woken.follows).0 in
@@ -92,7 +92,7 @@ spelled-woken bytes image place all front_is woken means =
     }
 
 -- an image that is read is spelled
-spelled-read : (bytes : List ℕ) (image : Configuration) (place : Option ℕ) → preamble_place bytes ≡ place → read_behind bytes place ≡ Ok image → Spells bytes image
+spelled-read : (bytes : List ℕ) (image : Configuration) (place : Option ℕ) → preamble_offset bytes ≡ place → read_behind bytes place ≡ Ok image → Spells bytes image
 spelled-read bytes image None front_is read = absurd cc
 spelled-read bytes image (Some place) front_is read =
     let behind = drop (place + 4) bytes in
@@ -105,10 +105,10 @@ spelled-read bytes image (Some place) front_is read =
     ]
 
 -- a fault behind a preamble and allowed commands
-failed-behind : (bytes : List ℕ) (fault : Fault) (place : ℕ) → preamble_place bytes ≡ Some place → Failed [] (place + 4) (drop (place + 4) bytes) fault → FailsAt bytes fault
+failed-behind : (bytes : List ℕ) (fault : Fault) (place : ℕ) → preamble_offset bytes ≡ Some place → Failed [] (place + 4) (drop (place + 4) bytes) fault → FailsAt bytes fault
 failed-behind bytes fault place front_is failed =
     let front = take place bytes in
-    let splits = preamble_place-splits bytes place front_is in
+    let splits = preamble_offset-splits bytes place front_is in
     let place_is : length front ≡ place = length-take-le place bytes (omega (arith, splits.0)) in
     record {
       front = front;
@@ -124,7 +124,7 @@ failed-behind bytes fault place front_is failed =
     }
 
 -- a fault that is read behind the preamble is there
-failed-read : (bytes : List ℕ) (fault : Fault) (place : ℕ) → preamble_place bytes ≡ Some place → read_behind bytes (Some place) ≡ Err fault → FailsAt bytes fault
+failed-read : (bytes : List ℕ) (fault : Fault) (place : ℕ) → preamble_offset bytes ≡ Some place → read_behind bytes (Some place) ≡ Err fault → FailsAt bytes fault
 failed-read bytes fault place front_is read =
     let behind = drop (place + 4) bytes in
     let few : length behind < length bytes + 1 = omega (arith, length-drop (place + 4) bytes) in
@@ -137,7 +137,7 @@ failed-read bytes fault place front_is read =
     ]
 
 -- a fault that the relation has, and the one that is read, by the preamble's place
-refused-both : (bytes : List ℕ) (fault : Fault) (place : Option ℕ) → preamble_place bytes ≡ place → IsRefused bytes fault ↔ (bin_read_of bytes ≡ Err fault)
+refused-both : (bytes : List ℕ) (fault : Fault) (place : Option ℕ) → preamble_offset bytes ≡ place → IsRefused bytes fault ↔ (bin_read_of bytes ≡ Err fault)
 unfolding bin_read_of
 refused-both bytes fault None front_is =
     let read : bin_read_of bytes ≡ Err (fault_at (length bytes) NoPreamble) = ap (read_behind bytes) front_is in (
@@ -155,6 +155,6 @@ refused-both bytes fault (Some place) front_is = (
 pub decided : (bytes : List ℕ) → IsDecided bytes
 unfolding bin_read_of
 decided bytes = record {
-  spelled = λ image. (read-spelled bytes image, spelled-read bytes image (preamble_place bytes) refl);
-  refused = λ fault. refused-both bytes fault (preamble_place bytes) refl;
+  spelled = λ image. (read-spelled bytes image, spelled-read bytes image (preamble_offset bytes) refl);
+  refused = λ fault. refused-both bytes fault (preamble_offset bytes) refl;
 }

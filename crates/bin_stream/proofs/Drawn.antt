@@ -3,7 +3,7 @@ use Rattle.std.proofs.Common.{◌≡◌, ℕ, zero, suc, ◌+◌, ◌-◌, ◌*�
 use Rattle.std.specs.Prelude.{Option, Some, None, nat_lt, nat_le, ◌==◌}
 use Rattle.std.proofs.lemmas.Bool.{cases_eq, cases_lt, lt-ltb, le-ltb, le-leb, lt-leb, eq-eqb, ne_eqb, and_from, and_left, and_right}
 use Rattle.std.proofs.Math.Bool.{or-false}
-use Rattle.text_lines.specs.Places.{or_else}
+use Rattle.place_search.specs.Places.{or_else}
 use Rattle.bit_plane.specs.BitList.{bits_of, placed}
 use Rattle.bit_plane.specs.Rows.{Rows, IsGrid, bit_at, blank, flat, rows_of}
 use Rattle.bit_plane.proofs.Grids.{length-rows_of, bit_at-rows_of, same_grids, length-flat, rows_of-flat, rows_of-placed, IsGrid-rows_of}
@@ -18,12 +18,13 @@ use Rattle.ice_image.specs.Either.{configuration_of, device_of}
 use Rattle.ice_image.specs.declared.any.AnyImage.{AnyImage}
 use Rattle.ice_image.proofs.BankBits.{same_banks, AreBanks-with_bank, AreBanks-blank, place_bit-blank}
 use Rattle.bin_stream.specs.Commands.{Kind, Command, Cram, Bram, Short, Data}
-use Rattle.bin_stream.specs.State.{bank_after, width_after, height_after, offset_after, device_after, device_with, plane_width, plane_height}
+use Rattle.bin_stream.specs.State.{bank_after, width_after, height_after, first_row_after, device_after, device_with, plane_width, plane_height}
 use Rattle.bin_stream.specs.Meaning.{is_same_kind, gives, bit_given, plane_bit, plane_of, planes_of}
-use Rattle.bin_stream.specs.Registers.{Fits, held_after, reached_in}
-use Rattle.bin_stream.specs.Step.{device_if, image_or_blank, with_rows, IsDrawnOn, IsDrawn, Holds}
+use Rattle.bin_stream.specs.Refusals.{reached_in}
+use Rattle.bin_stream.specs.inside.Registers.{Fits, held_after}
+use Rattle.bin_stream.specs.inside.Step.{device_if, image_or_blank, with_rows, IsDrawnOn, IsDrawn, Holds}
 use Rattle.bin_stream.proofs.OneMore.{device_after-more, reached_in-more, plane_bit-more}
-use Rattle.text_lines.proofs.Places.{or_else-none}
+use Rattle.place_search.proofs.Places.{or_else-none}
 
 -- ---- planes by their bits
 
@@ -128,13 +129,13 @@ same_kind Cram = refl
 same_kind Bram = refl
 
 -- the planes with data's rows written into the bank's plane are what the data draw
-pub planes_drawn : (device : DeviceName) (kind : Kind) (commands : List Command) (payload body : List ℕ) → bank_after commands < 4 → width_after commands ≡ plane_width kind device → offset_after commands + height_after commands ≤ plane_height kind device → 8 * length body ≡ height_after commands * plane_width kind device → with_bank (planes_of device kind commands) (bank_after commands) (placed (offset_after commands) (rows_of (width_after commands) (height_after commands) (bits_of body)) (bank_rows (planes_of device kind commands) (bank_after commands))) ≡ planes_of device kind (commands ++ Data kind payload body ∷ [])
+pub planes_drawn : (device : DeviceName) (kind : Kind) (commands : List Command) (payload body : List ℕ) → bank_after commands < 4 → width_after commands ≡ plane_width kind device → first_row_after commands + height_after commands ≤ plane_height kind device → 8 * length body ≡ height_after commands * plane_width kind device → with_bank (planes_of device kind commands) (bank_after commands) (placed (first_row_after commands) (rows_of (width_after commands) (height_after commands) (bits_of body)) (bank_rows (planes_of device kind commands) (bank_after commands))) ≡ planes_of device kind (commands ++ Data kind payload body ∷ [])
 planes_drawn device kind commands payload body bank_in width_is within long =
     let W = plane_width kind device in
     let H = plane_height kind device in
     let planes = planes_of device kind commands in
     let bank = bank_after commands in
-    let first = offset_after commands in
+    let first = first_row_after commands in
     let count = height_after commands in
     let bits = bits_of body in
     let command = Data kind payload body in
@@ -200,14 +201,14 @@ eight : (n p : ℕ) → n ≡ p / 8 → p % 8 ≡ 0 → 8 * n ≡ p
 eight n p is whole = omega arith
 
 -- an image with data's rows, by its kind
-Drawn-rows : (device : DeviceName) (kind : Kind) (commands : List Command) (payload body : List ℕ) (base image : Configuration) → IsBase device commands base → Fits device kind (held_after commands) → bank_after commands < 4 → length body ≡ width_after commands * height_after commands / 8 → image ≡ with_rows kind (bank_after commands) (offset_after commands) (rows_of (width_after commands) (height_after commands) (bits_of body)) base → IsBase device (commands ++ Data kind payload body ∷ []) image
+Drawn-rows : (device : DeviceName) (kind : Kind) (commands : List Command) (payload body : List ℕ) (base image : Configuration) → IsBase device commands base → Fits device kind (held_after commands) → bank_after commands < 4 → length body ≡ width_after commands * height_after commands / 8 → image ≡ with_rows kind (bank_after commands) (first_row_after commands) (rows_of (width_after commands) (height_after commands) (bits_of body)) base → IsBase device (commands ++ Data kind payload body ∷ []) image
 Drawn-rows device Cram commands payload body base image is fits bank_in long image_is =
     let bank = bank_after commands in
     let rows = rows_of (width_after commands) (height_after commands) (bits_of body) in
     let full : 8 * length body ≡ height_after commands * plane_width Cram device = eight (length body) (width_after commands * height_after commands) long fits.whole ∙ mul_comm (width_after commands) (height_after commands) ∙ ap (λ width. height_after commands * width) fits.columns in
     record {
       device_is = ap (λ c. c.device) image_is ∙ is.device_is;
-      cram_is = ap (λ c. c.cram) image_is ∙ ap (λ planes. with_bank planes bank (placed (offset_after commands) rows (bank_rows planes bank))) is.cram_is ∙ planes_drawn device Cram commands payload body bank_in fits.columns fits.rows full;
+      cram_is = ap (λ c. c.cram) image_is ∙ ap (λ planes. with_bank planes bank (placed (first_row_after commands) rows (bank_rows planes bank))) is.cram_is ∙ planes_drawn device Cram commands payload body bank_in fits.columns fits.rows full;
       bram_is = ap (λ c. c.bram) image_is ∙ is.bram_is ∙ planes_of-same device Bram commands (commands ++ Data Cram payload body ∷ []) (λ at. sym (plane_bit-other commands payload body at).0);
     }
 Drawn-rows device Bram commands payload body base image is fits bank_in long image_is =
@@ -217,7 +218,7 @@ Drawn-rows device Bram commands payload body base image is fits bank_in long ima
     record {
       device_is = ap (λ c. c.device) image_is ∙ is.device_is;
       cram_is = ap (λ c. c.cram) image_is ∙ is.cram_is ∙ planes_of-same device Cram commands (commands ++ Data Bram payload body ∷ []) (λ at. sym (plane_bit-other commands payload body at).1);
-      bram_is = ap (λ c. c.bram) image_is ∙ ap (λ planes. with_bank planes bank (placed (offset_after commands) rows (bank_rows planes bank))) is.bram_is ∙ planes_drawn device Bram commands payload body bank_in fits.columns fits.rows full;
+      bram_is = ap (λ c. c.bram) image_is ∙ ap (λ planes. with_bank planes bank (placed (first_row_after commands) rows (bank_rows planes bank))) is.bram_is ∙ planes_drawn device Bram commands payload body bank_in fits.columns fits.rows full;
     }
 
 -- data written into the image are what the commands draw with them

@@ -2,14 +2,14 @@
 use Rattle.std.proofs.Common.{◌≡◌, ℕ, suc, ◌+◌, ◌*◌, ◌/◌, ◌%◌, ◌≤◌, Bool, true, false, not, ◌&&◌, List, [], ◌∷◌, ◌++◌, length, take, drop, refl, sym, ap, ap₂, subst, ◌∙◌, arith, inl, inr, append_assoc, length-append, length-take-le, take_at, take-append-drop, drop-drop}
 use Rattle.std.specs.Prelude.{Option, Some, None, nat_lt, ◌==◌}
 use Rattle.std.proofs.lemmas.Bool.{cases_Bool, ltb-false, eqb-true, and_parts}
-use Rattle.text_lines.specs.Places.{or_else}
+use Rattle.place_search.specs.Places.{or_else}
 use Rattle.ice_image.specs.declared.any.AnyImage.{AnyImage}
-use Rattle.bin_stream.specs.Commands.{Kind, Command, Short, Data, number_of, spelling, is_wake_up, control, wake_up_number}
+use Rattle.bin_stream.specs.Commands.{Kind, Command, Short, Data, number_of, spelling, is_wake_up, control_opcode, wake_up_number}
 use Rattle.bin_stream.specs.State.{size_after}
 use Rattle.bin_stream.specs.Refusals.{Fault, cause_if, fault_at, first_fault, payload_fault, fault_where, body_fault, end_fault, data_cause, data_fault, data_kind}
 use Rattle.bin_stream.specs.Spelling.{first_command, command_of}
-use Rattle.bin_stream.specs.Registers.{Held, held_after, short_cause_by, checked, after_short, data_cause_by, after_data}
-use Rattle.bin_stream.specs.Step.{payload_refusal, device_if, Refuses, IsDrawnOn, Stands, IsEntered}
+use Rattle.bin_stream.specs.inside.Registers.{Held, held_after, short_cause_by, checked, after_short, data_cause_by, after_data}
+use Rattle.bin_stream.specs.inside.Step.{payload_refusal, device_if, Refuses, IsDrawnOn, Stands, IsEntered}
 use Rattle.bin_stream.specs.declared.fault.BinCause.{BinCause}
 use Rattle.bin_stream.specs.declared.fault.BinFault.{BinFault}
 use Rattle.bin_stream.specs.declared.fault.BinCause.TheVariants.{Truncated, DataEnd, NoDevice}
@@ -26,10 +26,10 @@ or_else-parts (Some a) b none = absurd cc
 or_else-parts None b none = (refl, none)
 
 -- data have opcode 0
-data_opcode : (opcode n : ℕ) (kind : Kind) → data_kind opcode n ≡ Some kind → opcode ≡ control
+data_opcode : (opcode n : ℕ) (kind : Kind) → data_kind opcode n ≡ Some kind → opcode ≡ control_opcode
 data_opcode opcode n kind is =
-    elim (cases_Bool (opcode == control)) [
-      | inl here ↦ eqb-true opcode control here
+    elim (cases_Bool (opcode == control_opcode)) [
+      | inl here ↦ eqb-true opcode control_opcode here
       | inr other ↦
           let bad : None ≡ Some kind = rw other at is in
           absurd cc
@@ -73,12 +73,12 @@ body_zeros size place bytes is =
     ]
 
 -- a wake-up that may stand there has a configuration plane's last row before it
-wake_up_reached : (held : Held) (opcode n : ℕ) → ((opcode == control) && (n == wake_up_number)) ≡ true → None ≡ short_cause_by held opcode n → held.reached ≡ true
+wake_up_reached : (held : Held) (opcode n : ℕ) → ((opcode == control_opcode) && (n == wake_up_number)) ≡ true → None ≡ short_cause_by held opcode n → held.reached ≡ true
 wake_up_reached held opcode n is allowed =
-    let parts = and_parts (opcode == control) (n == wake_up_number) is in
+    let parts = and_parts (opcode == control_opcode) (n == wake_up_number) is in
     let P : ℕ → ℕ → Type 0 = λ opcode n. None ≡ short_cause_by held opcode n in
-    let at_control : P control n = subst (λ (opcode : ℕ). P opcode n) (eqb-true opcode control parts.0) allowed in
-    let here : None ≡ cause_if (not held.reached) NoDevice = subst (P control) (eqb-true n wake_up_number parts.1) at_control in
+    let at_control : P control_opcode n = subst (λ (opcode : ℕ). P opcode n) (eqb-true opcode control_opcode parts.0) allowed in
+    let here : None ≡ cause_if (not held.reached) NoDevice = subst (P control_opcode) (eqb-true n wake_up_number parts.1) at_control in
     elim (cases_Bool held.reached) [
       | inl reached ↦ reached
       | inr not_reached ↦
@@ -122,7 +122,7 @@ module _ (commands : List Command) (place n : ℕ) (bytes payload spelled : List
     pub short_refused : (cause : BinCause) → Some cause ≡ short_cause_by (checked held spelled) opcode n → first_fault commands place bytes ≡ Some (fault_at place cause)
     short_refused cause is = short_fault ∙ ap (fault_where place) (sym is)
 
-    pub short_entered : (size : ℕ) (is_last : Bool) (after : Held) → None ≡ short_cause_by (checked held spelled) opcode n → after ≡ after_short (checked held spelled) opcode n → size ≡ 1 + length payload → is_last ≡ ((opcode == control) && (n == wake_up_number)) → IsEntered commands place bytes size is_last after image
+    pub short_entered : (size : ℕ) (is_last : Bool) (after : Held) → None ≡ short_cause_by (checked held spelled) opcode n → after ≡ after_short (checked held spelled) opcode n → size ≡ 1 + length payload → is_last ≡ ((opcode == control_opcode) && (n == wake_up_number)) → IsEntered commands place bytes size is_last after image
     short_entered size is_last after allowed after_is size_is last_is =
         let kept : after ≡ held_after (commands ++ short ∷ []) =
         after_is
@@ -136,7 +136,7 @@ module _ (commands : List Command) (place n : ℕ) (bytes payload spelled : List
           size_is =
               let e : size ≡ suc (length (payload_in bytes)) = omega (arith, long) in
               e ∙ ap (λ command. length (spelling command)) (sym short_is);
-          last_is = last_is ∙ ap (λ n. (opcode == control) && (n == wake_up_number)) number ∙ ap is_wake_up (sym short_is);
+          last_is = last_is ∙ ap (λ n. (opcode == control_opcode) && (n == wake_up_number)) number ∙ ap is_wake_up (sym short_is);
           reached = λ last. ap (λ held. held.reached) (after_is ∙ after_short-is (checked held spelled) opcode n) ∙ wake_up_reached (checked held spelled) opcode n (sym last_is ∙ last) allowed;
           stands = subst P (sym short_is) now;
         }

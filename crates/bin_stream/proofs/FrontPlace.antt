@@ -3,8 +3,8 @@ use Rattle.std.proofs.Common.{◌≡◌, ◌≢◌, ℕ, suc, ◌+◌, ◌<◌, 
 use Rattle.std.specs.Prelude.{bytes_eq}
 use Rattle.std.proofs.lemmas.Bool.{cases_eq, eqb-true, and_parts, false_from_ne_true}
 use Rattle.std.proofs.lemmas.List.{get_or-drop, get_or_append_left}
-use Rattle.text_lines.proofs.Places.{least_below-first}
-use Rattle.bin_stream.specs.Front.{preamble, preamble_place, is_preamble_at}
+use Rattle.place_search.proofs.Places.{least_below-first}
+use Rattle.bin_stream.specs.Front.{preamble, preamble_offset, is_preamble_at}
 use Rattle.bin_stream.specs.Spelling.{IsFront}
 
 -- the first two bytes of the preamble
@@ -25,7 +25,7 @@ pub record IsClear (front : List ℕ) : Type 0 where
   pub no_first : (k : ℕ) → suc k ≡ length front → get_or front k 0 ≢ 0x7E
 
 pub front_place : (front rest : List ℕ) → IsClear front → IsFront front (front ++ (preamble ++ rest))
-unfolding preamble_place
+unfolding preamble_offset
 front_place front rest clear =
     let bytes = front ++ (preamble ++ rest) in
     let long : length bytes ≡ length front + suc (suc (suc (suc (length rest)))) = length-append front (preamble ++ rest) in

@@ -7,7 +7,7 @@ use Rattle.std.proofs.lemmas.List.Sums.{AllPass-from_list_all, list_all-from_All
 use Rattle.text_lines.specs.Lines.{with_byte}
 use Rattle.ice_image.specs.CommentLines.{IsCommentLine}
 use Rattle.bin_stream.specs.Front.{pieces_of, is_comment_line}
-use Rattle.bin_stream.specs.Pieces.{is_piece_end}
+use Rattle.bin_stream.specs.inside.Pieces.{is_piece_end}
 
 -- a piece that ends before the bytes do
 pub piece_cut : (bytes : List ℕ) → position_or_len is_piece_end bytes < length bytes → pieces_of bytes ≡ take (position_or_len is_piece_end bytes) bytes ∷ pieces_of (drop (position_or_len is_piece_end bytes + 1) bytes)

@@ -3,14 +3,13 @@ use Rattle.std.proofs.Common.{◌≡◌, ℕ, zero, suc, ◌+◌, ◌<◌, ◌�
 use Rattle.std.specs.Prelude.{Option, Some, None, slice_get}
 use Rattle.std.proofs.lemmas.List.{take-append-le, drop-append-le, drop_all}
 use Rattle.std.proofs.lemmas.List.Concat.{flat_map-append}
-use Rattle.text_lines.specs.Places.{any_below, last_below, first_below, or_else}
-use Rattle.text_lines.proofs.Places.{any_below-more, any_below-same, last_below-more, last_below-same, last_below-place, first_below-more, first_below-same}
+use Rattle.place_search.specs.Places.{any_below, last_below, first_below, or_else}
+use Rattle.place_search.proofs.Places.{any_below-more, any_below-same, last_below-more, last_below-same, last_below-place, first_below-more, first_below-same}
 use Rattle.plane_map.specs.declared.device.DeviceName.{DeviceName}
 use Rattle.plane_map.specs.declared.tile.Place.{Place}
-use Rattle.bin_stream.specs.Commands.{Kind, Command, spelling, spelled, is_reset, width}
-use Rattle.bin_stream.specs.State.{has_opcode, number_in, last_place, given_or, last_of, width_given, width_after, device_in, device_after, behind_reset, covered}
-use Rattle.bin_stream.specs.Refusals.{gives_last_row}
-use Rattle.bin_stream.specs.Registers.{reached_in}
+use Rattle.bin_stream.specs.Commands.{Kind, Command, spelling, spelled, is_reset, width_opcode}
+use Rattle.bin_stream.specs.State.{has_opcode, number_in, last_index, given_or, last_of, width_given, width_after, device_in, device_after, behind_reset, covered}
+use Rattle.bin_stream.specs.Refusals.{gives_last_row, reached_in}
 use Rattle.bin_stream.specs.Meaning.{gives, bit_given, bit_where, plane_bit}
 
 -- ---- lists
@@ -72,12 +71,12 @@ module _ (test : List Command → Option Command → Bool) where
 -- ---- the number of the last command of an opcode
 
 -- where the last one stands
-pub last_place-more : (commands : List Command) (command : Command) (opcode : ℕ) → last_place (commands ++ command ∷ []) opcode ≡ cond (has_opcode opcode (Some command)) (Some (length commands)) (last_place commands opcode)
-last_place-more commands command opcode = last-more (λ before here. has_opcode opcode here) commands command
+pub last_index-more : (commands : List Command) (command : Command) (opcode : ℕ) → last_index (commands ++ command ∷ []) opcode ≡ cond (has_opcode opcode (Some command)) (Some (length commands)) (last_index commands opcode)
+last_index-more commands command opcode = last-more (λ before here. has_opcode opcode here) commands command
 
 -- the last place is one of the list
-pub last_place-within : (commands : List Command) (opcode k : ℕ) → last_place commands opcode ≡ Some k → k < length commands
-last_place-within commands opcode k is = (last_below-place (length commands) k (λ k. has_opcode opcode (slice_get commands k)) is).0
+pub last_index-within : (commands : List Command) (opcode k : ℕ) → last_index commands opcode ≡ Some k → k < length commands
+last_index-within commands opcode k is = (last_below-place (length commands) k (λ k. has_opcode opcode (slice_get commands k)) is).0
 
 given_or-before : (commands : List Command) (command : Command) (start : ℕ) (place : Option ℕ) → ((k : ℕ) → place ≡ Some k → k < length commands) → given_or (commands ++ command ∷ []) place start ≡ given_or commands place start
 given_or-before commands command start None within = refl
@@ -91,8 +90,8 @@ chosen commands command start false place within = given_or-before commands comm
 pub last_of-more : (commands : List Command) (command : Command) (opcode start : ℕ) → last_of (commands ++ command ∷ []) opcode start ≡ cond (has_opcode opcode (Some command)) (number_in (Some command)) (last_of commands opcode start)
 unfolding last_of
 last_of-more commands command opcode start =
-    ap (λ place. given_or (commands ++ command ∷ []) place start) (last_place-more commands command opcode)
-    ∙ chosen commands command start (has_opcode opcode (Some command)) (last_place commands opcode) (last_place-within commands opcode)
+    ap (λ place. given_or (commands ++ command ∷ []) place start) (last_index-more commands command opcode)
+    ∙ chosen commands command start (has_opcode opcode (Some command)) (last_index commands opcode) (last_index-within commands opcode)
 
 -- ---- the width
 
@@ -104,11 +103,11 @@ width_chosen : (commands : List Command) (command : Command) (here : Bool) (plac
 width_chosen commands command true place within = ap (λ here. number_in here + 1) (slice_get-last commands command)
 width_chosen commands command false place within = width_given-before commands command place within
 
-pub width_after-more : (commands : List Command) (command : Command) → width_after (commands ++ command ∷ []) ≡ cond (has_opcode width (Some command)) (number_in (Some command) + 1) (width_after commands)
+pub width_after-more : (commands : List Command) (command : Command) → width_after (commands ++ command ∷ []) ≡ cond (has_opcode width_opcode (Some command)) (number_in (Some command) + 1) (width_after commands)
 unfolding width_after
 width_after-more commands command =
-    ap (width_given (commands ++ command ∷ [])) (last_place-more commands command width)
-    ∙ width_chosen commands command (has_opcode width (Some command)) (last_place commands width) (last_place-within commands width)
+    ap (width_given (commands ++ command ∷ [])) (last_index-more commands command width_opcode)
+    ∙ width_chosen commands command (has_opcode width_opcode (Some command)) (last_index commands width_opcode) (last_index-within commands width_opcode)
 
 -- ---- the device
 

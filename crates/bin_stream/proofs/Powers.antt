@@ -9,7 +9,7 @@ use Rattle.bit_plane.specs.BitList.{byte_bits, bits_of}
 use Rattle.std.specs.Int.Bits.{xor_assoc, xor_self, xor_zero_r}
 use Rattle.std.specs.Prelude.{bit_xor}
 use Rattle.bin_stream.specs.CheckValue.{doubled, power, powers_from, sum_of, check_value}
-use Rattle.bin_stream.specs.Register.{entered, entered_all}
+use Rattle.bin_stream.specs.inside.Register.{entered, entered_all}
 
 -- nothing yet: the register starts with all ones
 pub check_value-nil : check_value [] ≡ 65535

@@ -1,8 +1,8 @@
 -- What stands before the preamble, the preamble, and what stands behind it.
 use Rattle.std.proofs.Common.{◌≡◌, ℕ, zero, suc, ◌+◌, ◌<◌, Bool, true, false, List, ◌++◌, length, take, drop, ◌⊎◌, Option, Some, None, append_assoc, take-append-drop, drop-drop, refl, sym, ap, ap₂, ◌∙◌, inl, inr, arith}
 use Rattle.std.proofs.lemmas.Slice.Eq.{bytes_eq-Decides}
-use Rattle.text_lines.specs.Places.{least_below, or_here}
-use Rattle.bin_stream.specs.Front.{preamble, preamble_place, is_preamble_at}
+use Rattle.place_search.specs.Places.{least_below, or_here}
+use Rattle.bin_stream.specs.Front.{preamble, preamble_offset, is_preamble_at}
 
 -- an earlier place, or the place here where the test passes
 or_here-from : (earlier : Option ℕ) (passes : Bool) (here k : ℕ) → or_here earlier passes here ≡ Some k → (earlier ≡ Some k) ⊎ ((passes ≡ true) × (here ≡ k))
@@ -21,9 +21,9 @@ least_below-place (suc n) k test is =
     ]
 
 -- where the preamble stands, the bytes are those before it, the preamble and those behind it
-pub preamble_place-splits : (bytes : List ℕ) (place : ℕ) → preamble_place bytes ≡ Some place → (place < length bytes) × (bytes ≡ take place bytes ++ preamble ++ drop (place + 4) bytes)
-unfolding preamble_place
-preamble_place-splits bytes place is =
+pub preamble_offset-splits : (bytes : List ℕ) (place : ℕ) → preamble_offset bytes ≡ Some place → (place < length bytes) × (bytes ≡ take place bytes ++ preamble ++ drop (place + 4) bytes)
+unfolding preamble_offset
+preamble_offset-splits bytes place is =
     let facts = least_below-place (length bytes) place (is_preamble_at bytes) is in
     let behind = drop place bytes in
     let first : take 4 behind ≡ preamble = (bytes_eq-Decides (take 4 behind) preamble).0 facts.1 in (

@@ -1,7 +1,7 @@
 -- Commands that are read one after the other.
 use Rattle.std.proofs.Common.{◌≡◌, ℕ, suc, ◌+◌, ◌-◌, ◌<◌, ◌≤◌, Bool, true, false, List, [], ◌∷◌, ◌++◌, length, take, drop, refl, sym, ap, ap₂, subst, ◌∙◌, arith, drop-drop}
 use Rattle.std.specs.Prelude.{Option, Some, None, Result, Ok, Err}
-use Rattle.text_lines.specs.Places.{any_below, last_below, first_below}
+use Rattle.place_search.specs.Places.{any_below, last_below, first_below}
 use Rattle.bit_plane.specs.Rows.{Rows}
 use Rattle.plane_map.specs.declared.device.DeviceName.{DeviceName}
 use Rattle.ice_image.specs.Configuration.{Configuration}
@@ -10,12 +10,12 @@ use Rattle.ice_image.specs.Either.{configuration_of, device_of}
 use Rattle.ice_image.specs.declared.any.AnyImage.{AnyImage}
 use Rattle.bin_stream.specs.Commands.{Command, Cram, spelling, is_wake_up}
 use Rattle.bin_stream.specs.State.{device_after}
-use Rattle.bin_stream.specs.Refusals.{Fault, fault_at, first_fault}
-use Rattle.bin_stream.specs.Front.{preamble_place, comment_of}
+use Rattle.bin_stream.specs.Refusals.{Fault, fault_at, first_fault, reached_in}
+use Rattle.bin_stream.specs.Front.{preamble_offset, comment_of}
 use Rattle.bin_stream.specs.Meaning.{meaning, planes_of, plane_bit}
 use Rattle.bin_stream.specs.Spelling.{first_command, commands_from, device_or, image_of, read_behind, bin_read_of, Tells}
-use Rattle.bin_stream.specs.Registers.{Held, held_first, held_after, reached_in, settings_by}
-use Rattle.bin_stream.specs.Step.{Refuses, IsEntered, HasRead, IsFinished, IsDrawn, IsBlank, Holds}
+use Rattle.bin_stream.specs.inside.Registers.{Held, held_first, held_after, settings_by}
+use Rattle.bin_stream.specs.inside.Step.{Refuses, IsEntered, HasRead, IsFinished, IsDrawn, IsBlank, Holds}
 use Rattle.bin_stream.specs.declared.fault.BinCause.TheVariants.{NoPreamble}
 use Rattle.bin_stream.specs.declared.fault.BinFault.{BinFault}
 use Rattle.bin_stream.specs.declared.fault.BinFault.TheVariants.{At, Memory}
@@ -124,12 +124,12 @@ module _ (bytes : List ℕ) (start place : ℕ) (held : Held) (image : Option An
 -- ---- the preamble
 
 -- what is read behind a preamble
-pub read_at : (bytes : List ℕ) (place : ℕ) → Some place ≡ preamble_place bytes → bin_read_of bytes ≡ image_of (take place bytes) (commands_from (length bytes + 1) [] (place + 4) (drop (place + 4) bytes))
+pub read_at : (bytes : List ℕ) (place : ℕ) → Some place ≡ preamble_offset bytes → bin_read_of bytes ≡ image_of (take place bytes) (commands_from (length bytes + 1) [] (place + 4) (drop (place + 4) bytes))
 unfolding bin_read_of
 read_at bytes place is = ap (read_behind bytes) (sym is)
 
 -- what is read where there is none
-pub read_nowhere : (bytes : List ℕ) → None ≡ preamble_place bytes → bin_read_of bytes ≡ Err (fault_at (length bytes) NoPreamble)
+pub read_nowhere : (bytes : List ℕ) → None ≡ preamble_offset bytes → bin_read_of bytes ≡ Err (fault_at (length bytes) NoPreamble)
 unfolding bin_read_of
 read_nowhere bytes is = ap (read_behind bytes) (sym is)
 

@@ -6,7 +6,7 @@ use Rattle.std.proofs.lemmas.Bool.{not-true}
 use Rattle.std.proofs.lemmas.List.Concat.{flat_map-append}
 use Rattle.std.proofs.lemmas.List.Elements.{All-weaker}
 use Rattle.std.proofs.lemmas.List.Sums.{AllPass-from_list_all}
-use Rattle.text_lines.specs.Places.{last_below, first_below}
+use Rattle.place_search.specs.Places.{last_below, first_below}
 use Rattle.bit_plane.specs.BitList.{bit_value, bits_of, byte_bits}
 use Rattle.plane_map.specs.declared.device.DeviceName.{DeviceName}
 use Rattle.plane_map.specs.declared.device.DeviceName.TheVariants.{K1, K8}
@@ -15,13 +15,13 @@ use Rattle.ice_image.specs.declared.settings.Range.{Range}
 use Rattle.ice_image.specs.declared.settings.Range.TheVariants.{Low, Medium, High}
 use Rattle.plane_map.specs.Layout.{cram_width, cram_height, bram_width}
 use Rattle.bin_stream.specs.CheckValue.{check_value}
-use Rattle.bin_stream.specs.Commands.{Command, Short, spelled, spelling, check, is_wake_up, number_of}
+use Rattle.bin_stream.specs.Commands.{Command, Short, spelled, spelling, check_opcode, is_wake_up, number_of}
 use Rattle.bin_stream.specs.State.{last_of, width_after, device_after, covered, range_after, mode_after}
 use Rattle.bin_stream.specs.Refusals.{check_found, is_mode}
 use Rattle.bin_stream.specs.Front.{preamble}
 use Rattle.bin_stream.specs.Meaning.{meaning, range_of, settings_of}
 use Rattle.bin_stream.specs.Spelling.{Spells, IsFront, NoWakeUp}
-use Rattle.bin_stream.specs.CanonicalBytes.{canonical_bytes, checked_bytes, comment_bytes, two_bytes, range_number, check_head, reset_command, wake_up_command, command}
+use Rattle.bin_stream.specs.CanonicalBytes.{canonical_bytes, checked_bytes, comment_bytes, two_bytes, range_number, check_head, reset_command, wake_up_command, range_command}
 use Rattle.bin_stream.proofs.CanonicalCommands.{checked_commands, before_check, before_wake_up, wake_up, all_commands, mode_bits, cram_bodies, bram_bodies, checked-is, spelled-all_commands}
 use Rattle.bin_stream.proofs.CheckLaw.{check_value-own}
 use Rattle.bin_stream.proofs.FrontPlace.{front_place}
@@ -98,10 +98,10 @@ abbrev pub value_bytes : Configuration → List ℕ
 value_bytes c = two_bytes (check_value (bits_of (checked_bytes c)))
 
 -- the check passes
-check-passes : (c : Configuration) (range_value : ℕ) → check_found (before_check c.device range_value (mode_bits c) (cram_bodies c) (bram_bodies c)) (value_bytes c) ≡ 0
+check-passes : (c : Configuration) (range_value : ℕ) → check_found (before_check c.device range_value (mode_bits c) (cram_bodies c) (bram_bodies c)) (Short check_opcode (value_bytes c)) ≡ 0
 check-passes c range_value =
     let inside = spelled (checked_commands c.device (mode_bits c) (cram_bodies c) (bram_bodies c)) in
-    let bytes : covered (before_check c.device range_value (mode_bits c) (cram_bodies c) (bram_bodies c)) ++ spelling (Short check (value_bytes c)) ≡ checked_bytes c ++ value_bytes c =
+    let bytes : covered (before_check c.device range_value (mode_bits c) (cram_bodies c) (bram_bodies c)) ++ spelling (Short check_opcode (value_bytes c)) ≡ checked_bytes c ++ value_bytes c =
     ap (λ before. before ++ (check_head ++ value_bytes c)) (covered-is c.device range_value (mode_bits c) (cram_bodies c) (bram_bodies c))
     ∙ sym (append_assoc inside check_head (value_bytes c))
     ∙ ap (λ before. before ++ value_bytes c) (checked-is c) in
@@ -138,7 +138,7 @@ bytes-are : (c : Configuration) → canonical_bytes c ≡ comment_bytes c.commen
 unfolding canonical_bytes
 bytes-are c =
     let front = comment_bytes c.comment ++ preamble in
-    let first = command 5 (range_number c.settings.range ∷ []) in
+    let first = range_command c.settings.range in
     ap (λ bytes. bytes ++ 0 ∷ []) (behind_front front first reset_command (checked_bytes c) (value_bytes c) wake_up_command ∙ ap (λ bytes. front ++ bytes) (sym (spelled-all_commands c (range_number c.settings.range) (value_bytes c) refl)))
 
 -- the settings that were written are read

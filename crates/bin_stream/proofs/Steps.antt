@@ -1,19 +1,19 @@
 -- A command in bytes, and what registers hold behind it.
-use Rattle.std.proofs.Common.{◌≡◌, ℕ, suc, ◌+◌, ◌*◌, ◌/◌, ◌%◌, Bool, true, false, ◌&&◌, ◌||◌, cond, List, [], ◌∷◌, ◌++◌, length, take, drop, get_or, refl, sym, ap, subst, ◌∙◌, arith, inl, inr, ◌⊎◌, length-take-le}
-use Rattle.std.specs.Prelude.{Option, Some, None, nat_lt, ◌==◌}
+use Rattle.std.proofs.Common.{◌≡◌, ℕ, suc, ◌+◌, ◌*◌, ◌/◌, ◌%◌, Bool, true, false, ◌&&◌, ◌||◌, cond, List, [], ◌∷◌, ◌++◌, length, take, drop, get_or, refl, sym, ap, subst, ◌∙◌, arith, inl, inr, length-take-le}
+use Rattle.std.specs.Prelude.{Some, None, nat_lt, ◌==◌}
 use Rattle.std.proofs.lemmas.Bool.{cases_Bool, ltb-false, eqb-true}
 use Rattle.std.proofs.lemmas.List.Concat.{flat_map-append}
 use Rattle.std.proofs.Math.Bool.{or-false}
-use Rattle.text_lines.specs.Places.{any_below, last_below}
+use Rattle.place_search.specs.Places.{any_below, last_below}
 use Rattle.bit_plane.specs.BitList.{byte_bits, bits_of}
 use Rattle.bin_stream.specs.CheckValue.{check_value, powers_from, power, doubled, sum_of}
-use Rattle.bin_stream.specs.Register.{entered_all}
-use Rattle.bin_stream.specs.Commands.{Kind, Command, Cram, Bram, Short, Data, number_of, spelling, spelled, is_reset, control, bank, check, range, width, height, offset, mode, reset_number}
-use Rattle.bin_stream.specs.State.{last_of, width_after, device_with, covered}
-use Rattle.bin_stream.specs.Refusals.{fault_at, first_fault, payload_fault, short_cause, data_kind, check_found, gives_last_row}
+use Rattle.bin_stream.specs.inside.Register.{entered_all}
+use Rattle.bin_stream.specs.Commands.{Kind, Command, Cram, Bram, Short, Data, number_of, spelling, spelled, is_reset, control_opcode, bank_opcode, range_opcode, width_opcode, height_opcode, offset_opcode, mode_opcode, reset_number}
+use Rattle.bin_stream.specs.State.{last_of, width_after, covered}
+use Rattle.bin_stream.specs.Refusals.{fault_at, first_fault, payload_fault, short_cause, short_cause_where, data_kind, gives_last_row, reached_in}
 use Rattle.bin_stream.specs.Spelling.{first_command, command_of}
-use Rattle.bin_stream.specs.Registers.{Held, reached_in, held_after, held_first, short_cause_by, checked, after_short, gives_last_by, after_data}
-use Rattle.bin_stream.specs.Step.{payload_refusal}
+use Rattle.bin_stream.specs.inside.Registers.{Held, held_after, held_first, short_cause_by, checked, after_short, gives_last_by, after_data}
+use Rattle.bin_stream.specs.inside.Step.{payload_refusal}
 use Rattle.bin_stream.specs.declared.fault.BinCause.TheVariants.{Truncated, LongPayload}
 use Rattle.bin_stream.proofs.Powers.{check_value-nil, check_value-append}
 use Rattle.bin_stream.proofs.OneMore.{last_of-more, width_after-more, covered-more, reached_in-more}
@@ -90,35 +90,22 @@ check_after-more commands command =
 -- what is wrong with one, told by the registers
 pub short_cause-is : (commands : List Command) (opcode : ℕ) (payload : List ℕ) → short_cause commands opcode payload ≡ short_cause_by (checked (held_after commands) (spelling (Short opcode payload))) opcode (number_of payload)
 short_cause-is commands opcode payload =
-    elim (cases_Bool (opcode == control)) [
-      | inl is ↦ rw is refl
-      | inr not_control ↦ elim (cases_Bool (opcode == bank)) [
-        | inl is ↦ rw (not_control, is) refl
-        | inr not_bank ↦ elim (cases_Bool (opcode == check)) [
-          | inl is ↦
-              let e : opcode ≡ check = eqb-true opcode check is in
-              let found : check_found commands payload ≡ entered_all (check_value (bits_of (covered commands))) (bits_of (spelling (Short opcode payload))) =
-              check_entered (covered commands) (spelling (Short check payload)) ∙ ap (λ o. entered_all (check_value (bits_of (covered commands))) (bits_of (spelling (Short o payload)))) (sym e) in
-              rw (not_control, not_bank, is, found) refl
-          | inr not_check ↦ rw (not_control, not_bank, not_check) refl
-        ]
-      ]
-    ]
+    ap (λ found. short_cause_where (reached_in commands) found opcode (number_of payload)) (check_entered (covered commands) (spelling (Short opcode payload)))
 
 -- each number that is kept is the command's where it has that opcode
 abbrev pub fields_after : Held → ℕ → ℕ → Held
 fields_after held opcode n = record {
-  bank = cond (opcode == bank) n held.bank;
-  width = cond (opcode == width) (n + 1) held.width;
-  height = cond (opcode == height) n held.height;
-  offset = cond (opcode == offset) n held.offset;
-  range = cond (opcode == range) n held.range;
-  mode = cond (opcode == mode) n held.mode;
-  check = cond ((opcode == control) && (n == reset_number)) 65535 held.check;
+  bank = cond (opcode == bank_opcode) n held.bank;
+  width = cond (opcode == width_opcode) (n + 1) held.width;
+  height = cond (opcode == height_opcode) n held.height;
+  first_row = cond (opcode == offset_opcode) n held.first_row;
+  range = cond (opcode == range_opcode) n held.range;
+  mode = cond (opcode == mode_opcode) n held.mode;
+  check = cond ((opcode == control_opcode) && (n == reset_number)) 65535 held.check;
   reached = held.reached;
 }
 
-fields_control : (held : Held) (n : ℕ) → after_short held control n ≡ fields_after held control n
+fields_control : (held : Held) (n : ℕ) → after_short held control_opcode n ≡ fields_after held control_opcode n
 fields_control held n =
     elim (cases_Bool (n == reset_number)) [
       | inl is ↦ rw is refl
@@ -128,20 +115,20 @@ fields_control held n =
 pub after_short-is : (held : Held) (opcode n : ℕ) → after_short held opcode n ≡ fields_after held opcode n
 after_short-is held opcode n =
     let P : ℕ → Type 0 = λ o. after_short held o n ≡ fields_after held o n in
-    elim (cases_Bool (opcode == control)) [
-      | inl is ↦ subst P (sym (eqb-true opcode control is)) (fields_control held n)
-      | inr not_control ↦ elim (cases_Bool (opcode == bank)) [
-        | inl is ↦ subst P (sym (eqb-true opcode bank is)) refl
-        | inr not_bank ↦ elim (cases_Bool (opcode == range)) [
-          | inl is ↦ subst P (sym (eqb-true opcode range is)) refl
-          | inr not_range ↦ elim (cases_Bool (opcode == width)) [
-            | inl is ↦ subst P (sym (eqb-true opcode width is)) refl
-            | inr not_width ↦ elim (cases_Bool (opcode == height)) [
-              | inl is ↦ subst P (sym (eqb-true opcode height is)) refl
-              | inr not_height ↦ elim (cases_Bool (opcode == offset)) [
-                | inl is ↦ subst P (sym (eqb-true opcode offset is)) refl
-                | inr not_offset ↦ elim (cases_Bool (opcode == mode)) [
-                  | inl is ↦ subst P (sym (eqb-true opcode mode is)) refl
+    elim (cases_Bool (opcode == control_opcode)) [
+      | inl is ↦ subst P (sym (eqb-true opcode control_opcode is)) (fields_control held n)
+      | inr not_control ↦ elim (cases_Bool (opcode == bank_opcode)) [
+        | inl is ↦ subst P (sym (eqb-true opcode bank_opcode is)) refl
+        | inr not_bank ↦ elim (cases_Bool (opcode == range_opcode)) [
+          | inl is ↦ subst P (sym (eqb-true opcode range_opcode is)) refl
+          | inr not_range ↦ elim (cases_Bool (opcode == width_opcode)) [
+            | inl is ↦ subst P (sym (eqb-true opcode width_opcode is)) refl
+            | inr not_width ↦ elim (cases_Bool (opcode == height_opcode)) [
+              | inl is ↦ subst P (sym (eqb-true opcode height_opcode is)) refl
+              | inr not_height ↦ elim (cases_Bool (opcode == offset_opcode)) [
+                | inl is ↦ subst P (sym (eqb-true opcode offset_opcode is)) refl
+                | inr not_offset ↦ elim (cases_Bool (opcode == mode_opcode)) [
+                  | inl is ↦ subst P (sym (eqb-true opcode mode_opcode is)) refl
                   | inr not_mode ↦ rw (not_control, not_bank, not_range, not_width, not_height, not_offset, not_mode) refl
                 ]
               ]
@@ -157,7 +144,7 @@ held_after-short commands opcode payload =
     let command = Short opcode payload in
     let reached : reached_in (commands ++ command ∷ []) ≡ reached_in commands = reached_in-more commands command ∙ or-false (reached_in commands) in
     after_short-is (checked (held_after commands) (spelling command)) opcode (number_of payload)
-    ∙ sym (rw (last_of-more commands command bank 0, width_after-more commands command, last_of-more commands command height 0, last_of-more commands command offset 0, last_of-more commands command range 0, last_of-more commands command mode 32, check_after-more commands command, reached) refl)
+    ∙ sym (rw (last_of-more commands command bank_opcode 0, width_after-more commands command, last_of-more commands command height_opcode 0, last_of-more commands command offset_opcode 0, last_of-more commands command range_opcode 0, last_of-more commands command mode_opcode 32, check_after-more commands command, reached) refl)
 
 -- before the first command
 pub held_first-is : held_first ≡ held_after []
@@ -166,17 +153,9 @@ held_first-is = refl
 
 -- ---- data
 
-option_cases : {A : Type 0} (value : Option A) → (value ≡ None) ⊎ ((a : A) × (value ≡ Some a))
-option_cases None = inl refl
-option_cases (Some a) = inr (a, refl)
-
 -- whether data give the last row of a configuration plane, told by the registers
 gives_last-is : (commands : List Command) (kind : Kind) (payload body : List ℕ) → gives_last_row commands (Some (Data kind payload body)) ≡ gives_last_by (held_after commands) kind
-gives_last-is commands Cram payload body =
-    elim (option_cases (device_with Cram (width_after commands))) [
-      | inl none ↦ rw none refl
-      | inr some ↦ rw some.1 refl
-    ]
+gives_last-is commands Cram payload body = refl
 gives_last-is commands Bram payload body = refl
 
 -- what is kept behind data
@@ -184,4 +163,4 @@ pub held_after-data : (commands : List Command) (kind : Kind) (payload body : Li
 held_after-data commands kind payload body =
     let command = Data kind payload body in
     let reached : reached_in (commands ++ command ∷ []) ≡ (reached_in commands || gives_last_by (held_after commands) kind) = reached_in-more commands command ∙ ap (λ b. reached_in commands || b) (gives_last-is commands kind payload body) in
-    sym (rw (last_of-more commands command bank 0, width_after-more commands command, last_of-more commands command height 0, last_of-more commands command offset 0, last_of-more commands command range 0, last_of-more commands command mode 32, check_after-more commands command, reached) refl)
+    sym (rw (last_of-more commands command bank_opcode 0, width_after-more commands command, last_of-more commands command height_opcode 0, last_of-more commands command offset_opcode 0, last_of-more commands command range_opcode 0, last_of-more commands command mode_opcode 32, check_after-more commands command, reached) refl)

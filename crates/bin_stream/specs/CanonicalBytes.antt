@@ -9,12 +9,8 @@ use Rattle.ice_image.specs.Configuration.{Configuration, bank_rows}
 use Rattle.ice_image.specs.declared.settings.Range.{Range}
 use Rattle.ice_image.specs.declared.settings.Range.TheVariants.{Low, Medium, High}
 use Rattle.bin_stream.specs.CheckValue.{check_value}
-use Rattle.bin_stream.specs.Commands.{check}
+use Rattle.bin_stream.specs.Commands.{Kind, Cram, Bram, Short, Data, kind_number, spelling, control_opcode, bank_opcode, check_opcode, range_opcode, width_opcode, height_opcode, offset_opcode, mode_opcode, reset_number, wake_up_number}
 use Rattle.bin_stream.specs.Front.{preamble}
-
--- A command is a byte, its opcode in the high half and how many bytes of payload follow in the low half, and the payload.
-abbrev pub command : ℕ → List ℕ → List ℕ
-command opcode payload = (16 * opcode + length payload) ∷ payload
 
 -- a number as two bytes, the high one first
 abbrev pub two_bytes : ℕ → List ℕ
@@ -26,57 +22,53 @@ range_number Medium = 1
 range_number High = 2
 
 abbrev pub range_command : Range → List ℕ
-range_command range = command 5 (range_number range ∷ [])
+range_command range = spelling (Short range_opcode (range_number range ∷ []))
 
 abbrev pub reset_command : List ℕ
-reset_command = command 0 (5 ∷ [])
+reset_command = spelling (Short control_opcode (reset_number ∷ []))
 
 -- bit 5 of the mode is the warm boot, bit 0 keeps the flash awake
 abbrev pub mode_command : Bool → Bool → List ℕ
-mode_command warm_boot no_sleep = command 9 (0 ∷ (32 * bit_value warm_boot + bit_value no_sleep) ∷ [])
+mode_command warm_boot no_sleep = spelling (Short mode_opcode (0 ∷ (32 * bit_value warm_boot + bit_value no_sleep) ∷ []))
 
 abbrev pub bank_command : ℕ → List ℕ
-bank_command bank = command 1 (bank ∷ [])
+bank_command bank = spelling (Short bank_opcode (bank ∷ []))
 
 -- the width is written less one
 abbrev pub width_command : ℕ → List ℕ
-width_command width = command 6 (two_bytes (width - 1))
+width_command width = spelling (Short width_opcode (two_bytes (width - 1)))
 
 abbrev pub height_command : ℕ → List ℕ
-height_command height = command 7 (two_bytes height)
+height_command height = spelling (Short height_opcode (two_bytes height))
 
 abbrev pub offset_command : ℕ → List ℕ
-offset_command offset = command 8 (two_bytes offset)
+offset_command first = spelling (Short offset_opcode (two_bytes first))
 
--- the first byte of the check: opcode 2 with two bytes of payload, which are the check value after this byte
+-- the first byte of the check: two bytes of payload follow, which are the check value behind this byte
 abbrev pub check_head : List ℕ
-check_head = (16 * check + 2) ∷ []
+check_head = (16 * check_opcode + 2) ∷ []
 
 abbrev pub wake_up_command : List ℕ
-wake_up_command = command 0 (6 ∷ [])
+wake_up_command = spelling (Short control_opcode (wake_up_number ∷ []))
 
 -- rows as bytes, row after row, the first bit of each eight as the highest of a byte
 abbrev pub row_bytes : Rows → List ℕ
 row_bytes rows = bytes_of (length (flat rows) / 8) (flat rows)
 
--- rows of configuration bits, and two bytes 0 behind them
-abbrev pub cram_data : Rows → List ℕ
-cram_data rows = command 0 (1 ∷ []) ++ row_bytes rows ++ 0 ∷ 0 ∷ []
-
--- rows of RAM contents, and two bytes 0 behind them
-abbrev pub bram_data : Rows → List ℕ
-bram_data rows = command 0 (3 ∷ []) ++ row_bytes rows ++ 0 ∷ 0 ∷ []
+-- rows as data
+abbrev pub data_command : Kind → Rows → List ℕ
+data_command kind rows = spelling (Data kind (kind_number kind ∷ []) (row_bytes rows))
 
 abbrev pub four_banks : List ℕ
 four_banks = 0 ∷ 1 ∷ 2 ∷ 3 ∷ []
 
 -- a bank's configuration plane, whole
 abbrev pub cram_bank : List Rows → ℕ → List ℕ
-cram_bank planes bank = bank_command bank ++ cram_data (bank_rows planes bank)
+cram_bank planes bank = bank_command bank ++ data_command Cram (bank_rows planes bank)
 
--- 128 rows of a bank's RAM plane, from an offset on
+-- 128 rows of a bank's RAM plane, from a row on
 abbrev pub bram_half : List Rows → ℕ → ℕ → List ℕ
-bram_half planes bank offset = offset_command offset ++ bram_data (take 128 (drop offset (bank_rows planes bank)))
+bram_half planes bank first = offset_command first ++ data_command Bram (take 128 (drop first (bank_rows planes bank)))
 
 -- a bank's RAM plane, in two halves
 abbrev pub bram_bank : List Rows → ℕ → List ℕ
@@ -99,7 +91,7 @@ unfoldable pub checked_bytes : Configuration → List ℕ
 checked_bytes c =
     mode_command c.settings.warm_boot c.settings.no_sleep ++ cram_bytes c.device c.cram ++ bram_bytes c.device c.bram ++ check_head
 
--- before the preamble a comment stands between FF 00 and 00 FF, each line ended by 00
+-- a comment comes before the preamble, between FF 00 and 00 FF; each line ends with 00
 abbrev pub comment_bytes : Option (List (List ℕ)) → List ℕ
 comment_bytes None = []
 comment_bytes (Some lines) = 0xFF ∷ 0 ∷ flat_map (λ line. line ++ 0 ∷ []) lines ++ 0 ∷ 0xFF ∷ []

@@ -15,13 +15,13 @@ pub data Command : Type 0 where
 abbrev pub number_of : List ℕ → ℕ
 number_of payload = fold (λ n byte. 256 * n + byte) 0 payload
 
--- the payload's number that tells the kind of data
+-- the payload's number that tells what data are for
 abbrev pub kind_number : Kind → ℕ
 kind_number Cram = 1
 kind_number Bram = 3
 
 -- The first byte has the opcode in its high half, which is 0 for data, and the number of bytes of payload in its low half.
--- Two bytes 00 stand behind data.
+-- Two bytes 00 follow data.
 abbrev pub spelling : Command → List ℕ
 spelling (Short opcode payload) = (16 * opcode + length payload) ∷ payload
 spelling (Data kind payload body) = length payload ∷ payload ++ body ++ 0 ∷ 0 ∷ []
@@ -33,32 +33,36 @@ spelled commands = flat_map spelling commands
 -- ---- opcodes
 
 -- data, a reset of the check value or the wake-up, by the payload's number
-abbrev pub control : ℕ
-control = 0
+abbrev pub control_opcode : ℕ
+control_opcode = 0
 
-abbrev pub bank : ℕ
-bank = 1
+abbrev pub bank_opcode : ℕ
+bank_opcode = 1
 
-abbrev pub check : ℕ
-check = 2
+abbrev pub check_opcode : ℕ
+check_opcode = 2
 
-abbrev pub boot_address : ℕ
-boot_address = 4
+abbrev pub boot_address_opcode : ℕ
+boot_address_opcode = 4
 
-abbrev pub range : ℕ
-range = 5
+abbrev pub range_opcode : ℕ
+range_opcode = 5
 
-abbrev pub width : ℕ
-width = 6
+-- the width of data, less one
+abbrev pub width_opcode : ℕ
+width_opcode = 6
 
-abbrev pub height : ℕ
-height = 7
+abbrev pub height_opcode : ℕ
+height_opcode = 7
 
-abbrev pub offset : ℕ
-offset = 8
+-- the row at which data begin
+abbrev pub offset_opcode : ℕ
+offset_opcode = 8
 
-abbrev pub mode : ℕ
-mode = 9
+abbrev pub mode_opcode : ℕ
+mode_opcode = 9
+
+-- ---- numbers of payloads
 
 -- the payload's number at which the check value begins anew
 abbrev pub reset_number : ℕ
@@ -69,9 +73,9 @@ abbrev pub wake_up_number : ℕ
 wake_up_number = 6
 
 abbrev pub is_reset : Option Command → Bool
-is_reset (Some (Short opcode payload)) = (opcode == control) && (number_of payload == reset_number)
+is_reset (Some (Short opcode payload)) = (opcode == control_opcode) && (number_of payload == reset_number)
 is_reset command = false
 
 abbrev pub is_wake_up : Command → Bool
-is_wake_up (Short opcode payload) = (opcode == control) && (number_of payload == wake_up_number)
+is_wake_up (Short opcode payload) = (opcode == control_opcode) && (number_of payload == wake_up_number)
 is_wake_up (Data kind payload body) = false

@@ -1,19 +1,19 @@
--- The bytes before the preamble, and the comment in them.
+-- The front of a bitstream, which is all before its preamble, and the comment in it.
 use Rattle.std.specs.Prelude.{ℕ, Bool, not, ◌&&◌, ◌||◌, List, [], ◌∷◌, length, take, drop, get_or, filter, bytes_eq, nat_lt, nat_le, ◌==◌, if◌then◌else◌, Option, Some, None}
 use Rattle.std.specs.List.{list_all}
 use Rattle.text_lines.specs.Lines.{with_byte}
-use Rattle.text_lines.specs.Places.{least_below}
+use Rattle.place_search.specs.Places.{least_below}
 
 abbrev pub preamble : List ℕ
 preamble = 0x7E ∷ 0xAA ∷ 0x99 ∷ 0x7E ∷ []
 
--- whether the preamble stands at a place
+-- whether the preamble is at an offset
 abbrev pub is_preamble_at : List ℕ → ℕ → Bool
-is_preamble_at bytes place = bytes_eq (take 4 (drop place bytes)) preamble
+is_preamble_at bytes offset = bytes_eq (take 4 (drop offset bytes)) preamble
 
--- where the preamble stands first
-unfoldable pub preamble_place : List ℕ → Option ℕ
-preamble_place bytes = least_below (length bytes) (is_preamble_at bytes)
+-- the first offset of the preamble
+unfoldable pub preamble_offset : List ℕ → Option ℕ
+preamble_offset bytes = least_below (length bytes) (is_preamble_at bytes)
 
 -- the pieces between bytes 00 and FF
 unfoldable pub pieces_of : List ℕ → List (List ℕ)
@@ -25,7 +25,7 @@ abbrev pub is_comment_line : List ℕ → Bool
 is_comment_line line =
     nat_lt 0 (length line) && list_all (λ byte. nat_le 0x20 byte && nat_le byte 0x7E) line && not (get_or line 0 0 == 0x2E)
 
--- the comment of what stands before the preamble: it has one where it begins with FF 00
+-- the comment of a front: it has one where it begins with FF 00
 unfoldable pub comment_of : List ℕ → Option (List (List ℕ))
 comment_of front =
     if bytes_eq (take 2 front) (0xFF ∷ 0 ∷ []) then Some (filter is_comment_line (pieces_of (drop 2 front))) else None

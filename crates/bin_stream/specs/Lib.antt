@@ -1,5 +1,4 @@
 pub mod CheckValue
-pub mod Register
 pub mod Commands
 pub mod State
 pub mod Refusals
@@ -7,7 +6,4 @@ pub mod Front
 pub mod Meaning
 pub mod Spelling
 pub mod CanonicalBytes
-pub mod Registers
-pub mod DataKinds
-pub mod Step
-pub mod Pieces
+pub mod inside

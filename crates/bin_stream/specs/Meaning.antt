@@ -1,6 +1,6 @@
 -- What commands configure.
 use Rattle.std.specs.Prelude.{ℕ, ◌+◌, ◌-◌, ◌*◌, ◌/◌, ◌%◌, Bool, true, false, ◌&&◌, List, [], ◌∷◌, length, take, get_or, slice_get, nat_lt, nat_le, ◌==◌, if◌then◌else◌, Option, Some, None}
-use Rattle.text_lines.specs.Places.{last_below}
+use Rattle.place_search.specs.Places.{last_below}
 use Rattle.bit_plane.specs.BitList.{bits_of}
 use Rattle.bit_plane.specs.Rows.{Rows, rows_from}
 use Rattle.plane_map.specs.declared.device.DeviceName.{DeviceName}
@@ -10,7 +10,7 @@ use Rattle.ice_image.specs.declared.settings.Settings.{Settings}
 use Rattle.ice_image.specs.declared.settings.Range.{Range}
 use Rattle.ice_image.specs.declared.settings.Range.TheVariants.{Low, Medium, High}
 use Rattle.bin_stream.specs.Commands.{Kind, Command, Cram, Bram, Data}
-use Rattle.bin_stream.specs.State.{bank_after, range_after, height_after, offset_after, mode_after, width_after, plane_width, plane_height}
+use Rattle.bin_stream.specs.State.{bank_after, range_after, height_after, first_row_after, mode_after, width_after, plane_width, plane_height}
 use Rattle.bin_stream.specs.Front.{comment_of}
 
 -- ---- settings
@@ -19,12 +19,15 @@ abbrev pub range_of : ℕ → Range
 range_of n = if n == 0 then Low else if n == 1 then Medium else High
 
 -- bit 5 of the mode is the warm boot, bit 0 keeps the flash awake
-abbrev pub settings_of : List Command → Settings
-settings_of commands = record {
-  range = range_of (range_after commands);
-  warm_boot = mode_after commands / 32 % 2 == 1;
-  no_sleep = mode_after commands % 2 == 1;
+abbrev pub settings_from : ℕ → ℕ → Settings
+settings_from range mode = record {
+  range = range_of range;
+  warm_boot = mode / 32 % 2 == 1;
+  no_sleep = mode % 2 == 1;
 }
+
+abbrev pub settings_of : List Command → Settings
+settings_of commands = settings_from (range_after commands) (mode_after commands)
 
 -- ---- planes
 
@@ -36,7 +39,7 @@ is_same_kind kind other = false
 -- whether a command gives the bit at a place of a kind's planes, where the commands before it are these
 abbrev pub gives : Kind → Place → List Command → Option Command → Bool
 gives kind at before (Some (Data other payload body)) =
-    is_same_kind other kind && (bank_after before == at.bank) && nat_le (offset_after before) at.py && nat_lt at.py (offset_after before + height_after before)
+    is_same_kind other kind && (bank_after before == at.bank) && nat_le (first_row_after before) at.py && nat_lt at.py (first_row_after before + height_after before)
 gives kind at before command = false
 
 abbrev pub body_of : Option Command → List ℕ
@@ -45,11 +48,11 @@ body_of command = []
 
 -- the bit at a place in data, where the commands before them are these: row after row, each byte's highest bit first
 abbrev pub bit_given : Place → List Command → Option Command → Bool
-bit_given at before command = get_or (bits_of (body_of command)) ((at.py - offset_after before) * width_after before + at.px) false
+bit_given at before command = get_or (bits_of (body_of command)) ((at.py - first_row_after before) * width_after before + at.px) false
 
 abbrev pub bit_where : Place → List Command → Option ℕ → Bool
 bit_where at commands None = false
-bit_where at commands (Some place) = bit_given at (take place commands) (slice_get commands place)
+bit_where at commands (Some index) = bit_given at (take index commands) (slice_get commands index)
 
 -- The bit at a place is that of the last data that give it, and 0 where none do.
 unfoldable pub plane_bit : Kind → List Command → Place → Bool
@@ -65,7 +68,7 @@ abbrev pub planes_of : DeviceName → Kind → List Command → List Rows
 planes_of device kind commands =
     plane_of device kind commands 0 ∷ plane_of device kind commands 1 ∷ plane_of device kind commands 2 ∷ plane_of device kind commands 3 ∷ []
 
--- what a device's commands configure behind what stands before the preamble
+-- what a front and a device's commands configure
 unfoldable pub meaning : DeviceName → List ℕ → List Command → Configuration
 meaning device front commands = record {
   device = device;

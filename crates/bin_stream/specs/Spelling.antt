@@ -6,7 +6,7 @@ use Rattle.ice_image.specs.Configuration.{Configuration}
 use Rattle.bin_stream.specs.Commands.{Kind, Command, Short, Data, number_of, spelling, spelled, is_wake_up}
 use Rattle.bin_stream.specs.State.{size_after, device_after}
 use Rattle.bin_stream.specs.Refusals.{Fault, fault_at, first_fault, data_kind, IsAllowedAfter}
-use Rattle.bin_stream.specs.Front.{preamble, preamble_place}
+use Rattle.bin_stream.specs.Front.{preamble, preamble_offset}
 use Rattle.bin_stream.specs.Meaning.{meaning}
 use Rattle.bin_stream.specs.declared.fault.BinCause.TheVariants.{NoPreamble}
 use Rattle.bin_stream.specs.declared.fault.BinFault.{BinFault}
@@ -14,19 +14,19 @@ use Rattle.bin_stream.specs.declared.fault.BinFault.TheVariants.{At, Memory}
 
 -- ---- as relations
 
--- each command may stand behind those before it
+-- each command may follow those before it
 abbrev pub IsAllowed : List Command → Type 0
 IsAllowed commands = (k : ℕ) (command : Command) → slice_get commands k ≡ Some command → IsAllowedAfter (take k commands) command
 
--- the preamble stands first behind so many bytes
+-- the first preamble is behind this front
 abbrev pub IsFront : List ℕ → List ℕ → Type 0
-IsFront front bytes = preamble_place bytes ≡ Some (length front)
+IsFront front bytes = preamble_offset bytes ≡ Some (length front)
 
 -- commands before the wake-up
 abbrev pub NoWakeUp : List Command → Type 0
 NoWakeUp commands = All (λ command. is_wake_up command ≡ false) commands
 
--- The bytes spell the image: what stands before the preamble, the preamble, allowed commands with a wake-up as the last of
+-- The bytes spell the image: a front, the preamble, allowed commands with a wake-up as the last of
 -- them and nowhere before, and anything behind it.
 pub record Spells (bytes : List ℕ) (image : Configuration) : Type 0 where
   pub front : List ℕ
@@ -41,7 +41,7 @@ pub record Spells (bytes : List ℕ) (image : Configuration) : Type 0 where
   pub device : device_after commands ≡ Some image.device
   pub means : image ≡ meaning image.device front (commands ++ wake_up ∷ [])
 
--- The bytes have a fault: behind what stands before the preamble and allowed commands without a wake-up, something is
+-- The bytes have a fault: behind a front, the preamble and allowed commands without a wake-up, something is
 -- wrong with the first command of the rest. So no longer list of allowed commands is spelled there.
 pub record FailsAt (bytes : List ℕ) (fault : Fault) : Type 0 where
   pub front : List ℕ
@@ -55,11 +55,11 @@ pub record FailsAt (bytes : List ℕ) (fault : Fault) : Type 0 where
 
 -- bytes without a preamble fail at their end, others where their commands do
 abbrev pub IsRefused : List ℕ → Fault → Type 0
-IsRefused bytes fault = IsRefusedAt (preamble_place bytes)
+IsRefused bytes fault = IsRefusedAt (preamble_offset bytes)
   where
     IsRefusedAt : Option ℕ → Type 0
     IsRefusedAt None = fault ≡ fault_at (length bytes) NoPreamble
-    IsRefusedAt (Some place) = FailsAt bytes fault
+    IsRefusedAt (Some offset) = FailsAt bytes fault
 
 -- ---- as one small program
 
@@ -83,12 +83,12 @@ read_on None false all more = more
 -- the commands up to the wake-up, or the first fault; each takes a byte at least, so that a count above that of the bytes is
 -- never used up
 unfoldable pub commands_from : ℕ → List Command → ℕ → List ℕ → Result (List Command) Fault
-commands_from zero before place bytes = Ok before
-commands_from (suc most) before place bytes =
+commands_from zero before offset bytes = Ok before
+commands_from (suc most) before offset bytes =
     let command = first_command before bytes in
     let commands = before ++ command ∷ [] in
     let size = length (spelling command) in
-    read_on (first_fault before place bytes) (is_wake_up command) (Ok commands) (commands_from most commands (place + size) (drop size bytes))
+    read_on (first_fault before offset bytes) (is_wake_up command) (Ok commands) (commands_from most commands (offset + size) (drop size bytes))
 
 -- the device, of which there is one where a wake-up is allowed
 abbrev pub device_or : Option DeviceName → DeviceName
@@ -101,19 +101,19 @@ image_of front (Err fault) = Err fault
 
 abbrev pub read_behind : List ℕ → Option ℕ → Result Configuration Fault
 read_behind bytes None = Err (fault_at (length bytes) NoPreamble)
-read_behind bytes (Some place) =
-    image_of (take place bytes) (commands_from (length bytes + 1) [] (place + 4) (drop (place + 4) bytes))
+read_behind bytes (Some offset) =
+    image_of (take offset bytes) (commands_from (length bytes + 1) [] (offset + 4) (drop (offset + 4) bytes))
 
 -- the image that bytes spell, or their fault
 unfoldable pub bin_read_of : List ℕ → Result Configuration Fault
-bin_read_of bytes = read_behind bytes (preamble_place bytes)
+bin_read_of bytes = read_behind bytes (preamble_offset bytes)
 
 -- Each input has an image or a fault, not both, and only one: that which the program gives.
 pub record IsDecided (bytes : List ℕ) : Type 0 where
   pub spelled : (image : Configuration) → Spells bytes image ↔ (bin_read_of bytes ≡ Ok image)
   pub refused : (fault : Fault) → IsRefused bytes fault ↔ (bin_read_of bytes ≡ Err fault)
 
--- a fault that isn't want of memory is that one
+-- a fault other than out of memory is that one
 abbrev pub Tells : Result Configuration Fault → BinFault → Type 0
-Tells read (At place cause) = read ≡ Err (fault_at place cause)
+Tells read (At offset cause) = read ≡ Err (fault_at offset cause)
 Tells read (Memory e) = Unit {0}

@@ -1,12 +1,12 @@
 -- What holds behind a list of commands, by looking back in it.
 use Rattle.std.specs.Prelude.{ℕ, ◌+◌, ◌*◌, ◌/◌, Bool, false, List, length, take, drop, slice_get, ◌==◌, if◌then◌else◌, Option, Some, None}
-use Rattle.text_lines.specs.Places.{last_below, first_below}
+use Rattle.place_search.specs.Places.{last_below, first_below}
 use Rattle.plane_map.specs.Layout.{cram_width, cram_height, bram_width, bram_height}
 use Rattle.plane_map.specs.declared.device.DeviceName.{DeviceName}
 use Rattle.plane_map.specs.declared.device.DeviceName.TheVariants.{K1, K8}
-use Rattle.bin_stream.specs.Commands.{Kind, Command, Cram, Bram, Short, Data, number_of, spelled, is_reset, bank, range, width, height, offset, mode}
+use Rattle.bin_stream.specs.Commands.{Kind, Command, Cram, Bram, Short, Data, number_of, spelled, is_reset, bank_opcode, range_opcode, width_opcode, height_opcode, offset_opcode, mode_opcode}
 
--- whether a command has an opcode; data have none of these
+-- whether a command that isn't data has that opcode
 abbrev pub has_opcode : ℕ → Option Command → Bool
 has_opcode opcode (Some (Short other payload)) = other == opcode
 has_opcode opcode command = false
@@ -17,42 +17,43 @@ number_in None = 0
 number_in (Some (Short opcode payload)) = number_of payload
 number_in (Some (Data kind payload body)) = number_of payload
 
--- where the last command of an opcode stands
-abbrev pub last_place : List Command → ℕ → Option ℕ
-last_place commands opcode = last_below (length commands) (λ k. has_opcode opcode (slice_get commands k))
+-- the index of the last command of an opcode
+abbrev pub last_index : List Command → ℕ → Option ℕ
+last_index commands opcode = last_below (length commands) (λ k. has_opcode opcode (slice_get commands k))
 
 -- the number that a command gives, or what held at the start
 abbrev pub given_or : List Command → Option ℕ → ℕ → ℕ
 given_or commands None start = start
-given_or commands (Some place) start = number_in (slice_get commands place)
+given_or commands (Some index) start = number_in (slice_get commands index)
 
 -- the number that the last command of an opcode gives, or what held at the start
 unfoldable pub last_of : List Command → ℕ → ℕ → ℕ
-last_of commands opcode start = given_or commands (last_place commands opcode) start
+last_of commands opcode start = given_or commands (last_index commands opcode) start
 
 abbrev pub bank_after : List Command → ℕ
-bank_after commands = last_of commands bank 0
+bank_after commands = last_of commands bank_opcode 0
 
 abbrev pub range_after : List Command → ℕ
-range_after commands = last_of commands range 0
+range_after commands = last_of commands range_opcode 0
 
 abbrev pub height_after : List Command → ℕ
-height_after commands = last_of commands height 0
+height_after commands = last_of commands height_opcode 0
 
-abbrev pub offset_after : List Command → ℕ
-offset_after commands = last_of commands offset 0
+-- the row at which data begin behind these commands
+abbrev pub first_row_after : List Command → ℕ
+first_row_after commands = last_of commands offset_opcode 0
 
 abbrev pub mode_after : List Command → ℕ
-mode_after commands = last_of commands mode 32
+mode_after commands = last_of commands mode_opcode 32
 
 -- the width that a command gives: it is written less one
 abbrev pub width_given : List Command → Option ℕ → ℕ
 width_given commands None = 0
-width_given commands (Some place) = number_in (slice_get commands place) + 1
+width_given commands (Some index) = number_in (slice_get commands index) + 1
 
 -- the width of data behind these commands, and 0 where none was given
 unfoldable pub width_after : List Command → ℕ
-width_after commands = width_given commands (last_place commands width)
+width_after commands = width_given commands (last_index commands width_opcode)
 
 -- how many bytes data have behind these commands
 abbrev pub size_after : List Command → ℕ
@@ -86,10 +87,10 @@ device_after commands = first_below (length commands) (λ k. device_in (take k c
 
 -- ---- the check value
 
--- the commands behind a place, and all of them where there is none
+-- the commands behind a index, and all of them where there is none
 abbrev pub behind_reset : List Command → Option ℕ → List Command
 behind_reset commands None = commands
-behind_reset commands (Some place) = drop (place + 1) commands
+behind_reset commands (Some index) = drop (index + 1) commands
 
 -- the bytes that the check value covers: those behind the last reset, and all where there was none
 unfoldable pub covered : List Command → List ℕ

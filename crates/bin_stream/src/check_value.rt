@@ -1,8 +1,8 @@
-// The check value of bytes, a bit at a time in one register.
+// The check value of bytes, which the bitstream documentation calls the CRC: one register that bits enter one by one.
 ghost use Rattle.std.specs.Prelude.{◌≡◌, ◌<◌, ◌^◌, ◌/◌, ◌%◌, ◌==◌};
 ghost use Rattle.bit_plane.specs.BitList.{bits_of, byte_bits};
 ghost use Rattle.bin_stream.specs.CheckValue.{check_value};
-ghost use Rattle.bin_stream.specs.Register.{entered, entered_all};
+ghost use Rattle.bin_stream.specs.inside.Register.{entered, entered_all};
 
 /// The divisor x^16 + x^12 + x^5 + 1 without its highest power, bit k being that of x^k.
 const DIVISOR: u16 = 0x1021;
@@ -10,15 +10,14 @@ const DIVISOR: u16 = 0x1021;
 /// What the register holds before the first bit.
 pub(crate) const START: u16 = 0xFFFF;
 
-/// The check value of bytes, the bits of each from the most significant on. The bytes of `123456789` have 29B1
-/// (hexadecimal).
+/// The CRC of bytes, the most significant bit of each byte first. That of the text `123456789` is 29B1 (hexadecimal).
 pub fn check_value(bytes: &[u8]) -> u16
     ensures { result ≡ check_value (bits_of bytes.now) }
 {
     enter_bytes(START, bytes)
 }
 
-/// The register after bytes have entered, one after the other.
+/// The register after bytes have entered.
 pub(crate) fn enter_bytes(value: u16, bytes: &[u8]) -> u16
     ensures { result ≡ entered_all value (bits_of bytes.now) }
 {
@@ -40,12 +39,12 @@ fn enter_byte(value: u16, byte: u8) -> u16
     value
 }
 
-/// Whether the bit of value 2^place is 1.
-fn is_set(byte: u8, place: u32) -> bool
-    requires { place < 8 }
-    ensures { result ≡ (byte / 2 ^ place % 2 == 1) }
+/// Whether the bit of value 2^index is 1.
+fn is_set(byte: u8, index: u32) -> bool
+    requires { index < 8 }
+    ensures { result ≡ (byte / 2 ^ index % 2 == 1) }
 {
-    byte >> place & 1 == 1
+    byte >> index & 1 == 1
 }
 
 /// The register after a bit has entered.

@@ -1,4 +1,4 @@
-// Why a bitstream isn't read.
+// Why a bitstream is refused.
 ghost use Rattle.std.specs.Prelude.{◌≡◌};
 ghost use Rattle.bin_stream.specs.declared.fault.BinFault.TheVariants.{Memory};
 
@@ -8,48 +8,48 @@ use thiserror::Error;
 /// What is wrong with a bitstream.
 #[derive(Clone, Copy, Debug, PartialEq, Eq, Error)]
 pub enum BinCause {
-    /// `7E AA 99 7E` stands nowhere. The offset is the length.
-    #[error("the preamble stands nowhere")]
+    /// There is no preamble, `7E AA 99 7E`. The offset is the input's length.
+    #[error("there is no preamble")]
     NoPreamble,
-    /// The stream ends within a command, or before the wake-up. The offset is the length.
-    #[error("the stream ends here")]
+    /// The input ends within a command or before the wake-up. The offset is the input's length.
+    #[error("the bitstream ends too early")]
     Truncated,
-    /// A command that isn't known. The offset is that of its first byte, as in all that follow but `DataEnd`.
-    #[error("no such command is known")]
+    /// An unknown command. The offset is that of its first byte, as for all causes below except `DataEnd`.
+    #[error("unknown command")]
     UnknownCommand,
     /// More than four bytes of payload.
-    #[error("a payload has four bytes at most")]
+    #[error("a payload of more than four bytes")]
     LongPayload,
     /// A bank above 3.
-    #[error("there are four banks")]
+    #[error("a bank above 3")]
     BadBank,
-    /// Data of a width that no device's plane of that kind has, or not that of the device of earlier data.
+    /// Data of a width that no device's planes have, or that the device of earlier data doesn't have.
     #[error("no plane of the device has that width")]
     BadWidth,
-    /// Data of no height, past the last row, or of a part of a byte.
+    /// Data without a row, with rows past the plane's last, or with a part of a byte at the end.
     #[error("the rows do not fit into the plane")]
     BadHeight,
-    /// Another byte than 00 in one of the two places behind data. The offset is that of the first such byte.
-    #[error("here belongs a byte 00")]
+    /// One of the two bytes behind data isn't 00. The offset is that of the first such byte.
+    #[error("a byte behind data is not 00")]
     DataEnd,
-    /// The check value behind a check's payload isn't 0; it is told.
-    #[error("the check value is {found} and not 0")]
+    /// The CRC behind a check command isn't 0. `found` is that CRC.
+    #[error("the CRC is {found} and not 0")]
     Check { found: u16 },
     /// A range above 2.
-    #[error("there are three ranges")]
+    #[error("a range above 2")]
     BadRange,
-    /// Another mode than 0, 1, 32 and 33.
-    #[error("no such mode is known")]
+    /// A mode other than 0, 1, 32 and 33.
+    #[error("unknown mode")]
     BadMode,
-    /// A wake-up before the last row of a configuration plane was given.
-    #[error("the last row of no configuration plane was given")]
+    /// A wake-up before any data reached the last row of a configuration plane.
+    #[error("no data reached the last row of a configuration plane")]
     NoDevice,
 }
 
-/// Why a bitstream isn't read.
+/// Why a bitstream is refused.
 #[derive(Clone, Copy, Debug, PartialEq, Eq, Error)]
 pub enum BinFault {
-    /// The offset of the first fault, in bytes from 0, and what is wrong there.
+    /// Where the first fault is, in bytes from 0, and what is wrong there.
     #[error("offset {offset}: {cause}")]
     At { offset: u64, cause: BinCause },
     /// Out of memory. It may come in place of any other answer.

@@ -1,23 +1,16 @@
-//! Images as the bitstream that a device loads.
+//! Reads and writes bitstreams: the files that a device loads.
 #![tactic(auto)]
 
 mod check_value;
-mod command;
-mod comment;
-mod data_kind;
-mod decoder;
 mod fault;
-mod front;
-mod head;
-mod machine;
+mod marks;
 mod opcode;
-mod planes;
-mod registers;
-mod stream;
+mod reading;
+mod writing;
 
-pub use decoder::decode;
 pub use fault::{BinCause, BinFault};
-pub use stream::encode;
+pub use reading::decode;
+pub use writing::encode;
 
 #[cfg(test)]
 mod tests;

@@ -1,27 +1,27 @@
-// The numbers of commands: opcodes, which are the high half of a command's first byte, and payloads.
+// The numbers of commands: the opcode is the high half of a command's first byte.
 
-/// Data, a reset of the check value or the wake-up, by the payload.
+/// Data, a reset of the CRC or the wake-up: the payload tells which.
 pub(crate) const CONTROL: u8 = 0;
 
-/// The bank of what follows.
+/// The bank of the data that follow.
 pub(crate) const BANK: u8 = 1;
 
-/// A check: the check value behind it is to be 0.
+/// A check: behind its payload the CRC has to be 0.
 pub(crate) const CHECK: u8 = 2;
 
-/// Where the device looks for the next image. It configures nothing here.
+/// Where the device looks for the next image. It is passed over.
 pub(crate) const BOOT_ADDRESS: u8 = 4;
 
-/// The oscillator's range.
+/// The range of the oscillator.
 pub(crate) const RANGE: u8 = 5;
 
-/// How many columns of bits the data has, less one.
+/// The width of the data that follow in bits, less one.
 pub(crate) const WIDTH: u8 = 6;
 
-/// How many rows of bits the data has.
+/// How many rows the data that follow have.
 pub(crate) const HEIGHT: u8 = 7;
 
-/// The row at which the data begins.
+/// The row at which the data that follow begin.
 pub(crate) const OFFSET: u8 = 8;
 
 /// Warm boot and sleep.
@@ -33,7 +33,7 @@ pub(crate) const CRAM_DATA: u8 = 1;
 /// The payload of `CONTROL` before rows of a RAM plane.
 pub(crate) const BRAM_DATA: u8 = 3;
 
-/// The payload of `CONTROL` at which the check value begins anew.
+/// The payload of `CONTROL` that resets the CRC.
 pub(crate) const RESET: u8 = 5;
 
 /// The payload of `CONTROL` that ends the configuration.

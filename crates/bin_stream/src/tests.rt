@@ -1,4 +1,4 @@
-// Streams and images that are known from outside.
+// Streams that are known from outside.
 
-mod decoder;
-mod encoder;
+mod reading;
+mod writing;

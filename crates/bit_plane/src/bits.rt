@@ -30,20 +30,20 @@ pub trait Bits: Sized + Drop {
         requires row { y < HEIGHT }
         ensures { result ≡ bit_at (rows self.now) x y };
 
-    /// Gives column x in row y that bit.
+    /// Sets the bit of column x in row y.
     fn set(&mut self, x: usize, y: usize, bit: bool)
         requires column { x < WIDTH }
         requires row { y < HEIGHT }
         ensures { rows self.new ≡ with_bit (rows self.old) x y bit };
 
-    /// `count` bits of row y from column x on, the first as the bit of value 1.
+    /// `count` bits of row y, from column x on. The first is the bit of value 1.
     fn row_bits(&self, x: usize, y: usize, count: usize) -> u64
         requires count { count ≤ 64 }
         requires columns { x + count ≤ WIDTH }
         requires row { y < HEIGHT }
         ensures { result ≡ word_of (take count (drop x (row_at (rows self.now) y))) };
 
-    /// Gives `count` bits of row y from column x on the low bits of `bits`, the first the bit of value 1.
+    /// Sets `count` bits of row y, from column x on, to the low bits of `bits`. The first gets the bit of value 1.
     fn set_row_bits(&mut self, x: usize, y: usize, count: usize, bits: u64)
         requires count { count ≤ 64 }
         requires columns { x + count ≤ WIDTH }
@@ -51,7 +51,7 @@ pub trait Bits: Sized + Drop {
         ensures { rows self.new ≡ with_row (rows self.old) y
             (placed x (word_bits count bits) (row_at (rows self.old) y)) };
 
-    /// Gives the eight bits from a position on those of a byte, the most significant first.
+    /// Sets the eight bits from a position on to those of a byte, the most significant first.
     fn put_byte(&mut self, position: usize, byte: u8)
         requires { position + 8 ≤ WIDTH * HEIGHT }
         ensures { rows self.new ≡ rows_of WIDTH HEIGHT
@@ -62,13 +62,13 @@ pub trait Bits: Sized + Drop {
         requires { position + 8 ≤ WIDTH * HEIGHT }
         ensures { result ≡ byte_of (take 8 (drop position (flat (rows self.now)))) };
 
-    /// Gives `count` whole rows, from row `first` on, the bits of bytes, the most significant bit of each byte first.
+    /// Sets `count` whole rows, from row `first` on, to the bits of the bytes, the most significant bit of each byte first.
     fn put_bytes(&mut self, first: usize, count: usize, bytes: &[u8])
         requires rows { first + count ≤ HEIGHT }
         requires bytes { 8 * length bytes.now ≡ count * WIDTH }
         ensures { rows self.new ≡ placed first (rows_of WIDTH count (bits_of bytes.now)) (rows self.old) };
 
-    /// The bytes of `count` whole rows, from row `first` on, the most significant bit of each byte first.
+    /// Fills `out` with the bytes of `count` whole rows, from row `first` on, the most significant bit of each byte first.
     fn take_bytes(&self, first: usize, count: usize, out: &mut [u8])
         requires rows { first + count ≤ HEIGHT }
         requires bytes { 8 * length out.old ≡ count * WIDTH }

@@ -30,7 +30,7 @@ fn byte_of(bits: &[bool]) -> u8
     byte
 }
 
-/// Gives the eight bits from a position on those of a byte.
+/// Sets the eight bits from a position on to those of a byte.
 pub fn put_byte(bits: &mut [bool], position: usize, byte: u8)
     requires { position + 8 ≤ length bits.old }
     ensures { bits.new ≡ placed position (byte_bits byte) bits.old }
@@ -46,7 +46,7 @@ pub fn take_byte(bits: &[bool], position: usize) -> u8
     byte_of(&bits[position..position + 8])
 }
 
-/// Gives the bits from a position on those of the bytes, one byte after the other.
+/// Sets the bits from a position on to those of the bytes, one byte after the other.
 pub fn put_bytes(bits: &mut [bool], position: usize, bytes: &[u8])
     requires { position + 8 * length bytes.now ≤ length bits.old }
     ensures { bits.new ≡ placed position (bits_of bytes.now) bits.old }
@@ -56,7 +56,7 @@ pub fn put_bytes(bits: &mut [bool], position: usize, bytes: &[u8])
     }
 }
 
-/// Gives the bytes those of the bits from a position on.
+/// Fills the bytes with the bits from a position on.
 pub fn take_bytes(bits: &[bool], position: usize, bytes: &mut [u8])
     requires { position + 8 * length bytes.old ≤ length bits.now }
     ensures { bytes.new ≡ bytes_of (length bytes.old) (drop position bits.now) }
@@ -66,7 +66,7 @@ pub fn take_bytes(bits: &[bool], position: usize, bytes: &mut [u8])
     }
 }
 
-/// The number of the bits, the first the bit of value 1.
+/// The number that has these bits. The first is the bit of value 1.
 fn word_of(bits: &[bool]) -> u64
     requires { length bits.now ≤ 64 }
     ensures { result ≡ word_of bits.now }
@@ -78,7 +78,7 @@ fn word_of(bits: &[bool]) -> u64
     word
 }
 
-/// Gives all bits those of a number, the first the bit of value 1.
+/// Sets all bits to the low bits of a number. The first gets the bit of value 1.
 fn fill_word(bits: &mut [bool], word: u64)
     ensures { bits.new ≡ word_bits (length bits.old) word }
 {
@@ -89,7 +89,7 @@ fn fill_word(bits: &mut [bool], word: u64)
     }
 }
 
-/// The number of the bits from a position on, the first the bit of value 1.
+/// The number that has `count` bits from a position on. The first is the bit of value 1.
 pub fn take_word(bits: &[bool], position: usize, count: usize) -> u64
     requires count { count ≤ 64 }
     requires bits { position + count ≤ length bits.now }
@@ -98,7 +98,7 @@ pub fn take_word(bits: &[bool], position: usize, count: usize) -> u64
     word_of(&bits[position..position + count])
 }
 
-/// Gives the bits from a position on those of a number, the first the bit of value 1.
+/// Sets `count` bits from a position on to the low bits of a number. The first gets the bit of value 1.
 pub fn put_word(bits: &mut [bool], position: usize, count: usize, word: u64)
     requires { position + count ≤ length bits.old }
     ensures { bits.new ≡ placed position (word_bits count word) bits.old }

@@ -44,7 +44,7 @@ impl<const C: usize> Tile<C> {
         self.words[row] >> col & 1 == 1
     }
 
-    /// Gives a column in a row that bit.
+    /// Sets the bit of a column in a row.
     pub fn set(&mut self, row: usize, col: usize, bit: bool)
         requires row { row < 16 }
         requires col { col < C }
@@ -58,7 +58,7 @@ impl<const C: usize> Tile<C> {
         }
     }
 
-    /// The row as a word.
+    /// The bits of a row as a word.
     pub fn row(&self, row: usize) -> u64
         requires { row < 16 }
         ensures word { result ≡ word_of (row_at self.now row) }
@@ -67,7 +67,7 @@ impl<const C: usize> Tile<C> {
         self.words[row]
     }
 
-    /// Gives a row the bits of a word.
+    /// Sets the bits of a row to those of a word.
     pub fn set_row(&mut self, row: usize, bits: u64)
         requires row { row < 16 }
         requires bits { bits < 2 ^ C }

@@ -8,7 +8,7 @@ use Rattle.plane_map.specs.Layout.{IsInCram, cram_width, cram_height}
 use Rattle.plane_map.specs.declared.device.DeviceName.{DeviceName}
 use Rattle.plane_map.specs.declared.tile.Place.{Place}
 use Rattle.ice_image.specs.Extras.{IsBefore, IsSetExtra, AreSetExtras}
-use Rattle.ice_image.specs.Written.{HasExtras, IsExtraAdded}
+use Rattle.ice_image.specs.Written.{HasExtras, IsExtraAppended}
 use Rattle.ice_image.proofs.BankBits.{same_place}
 
 -- the place of a bank's column and row
@@ -148,7 +148,7 @@ module _ (device : DeviceName) (cram : List Rows) where
   }
 
   -- the next column
-  pub extras-more : (bank px py : ℕ) (before after : List Place) → HasExtras device cram (place bank px py) before → IsExtraAdded device cram (place bank px py) before after → HasExtras device cram (place bank (px + 1) py) after
+  pub extras-more : (bank px py : ℕ) (before after : List Place) → HasExtras device cram (place bank px py) before → IsExtraAppended device cram (place bank px py) before after → HasExtras device cram (place bank (px + 1) py) after
   extras-more bank px py before after so_far added =
       elim added [
         | inl h ↦ subst (HasExtras device cram (place bank (px + 1) py)) (sym h.1) (extras-pushed bank px py before so_far h.0)

@@ -34,7 +34,7 @@ with_bank planes bank rows = set planes bank rows
 abbrev pub with_place_bit : List Rows → Place → Bool → List Rows
 with_place_bit planes at bit = with_bank planes at.bank (with_bit (bank_rows planes at.bank) at.px at.py bit)
 
--- no bit is another than before, but those at places of that kind
+-- all bits are as before, except those at places of that kind
 abbrev pub SameBut : (Place → Type 0) → List Rows → List Rows → Type 0
 SameBut IsChanged before after = (at : Place) → ¬ IsChanged at → place_bit after at ≡ place_bit before at
 

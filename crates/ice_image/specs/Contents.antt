@@ -2,7 +2,7 @@
 use Rattle.std.specs.Prelude.{◌≡◌, ℕ, ◌<◌, Bool, List, map}
 use Rattle.bit_plane.specs.BitList.{word_of}
 use Rattle.bit_plane.specs.Rows.{Rows, row_from, rows_from}
-use Rattle.plane_map.specs.Layout.{columns_at, place_of, word_place_of}
+use Rattle.plane_map.specs.Layout.{columns_at, place_of, word_place_of, IsTileBit}
 use Rattle.plane_map.specs.declared.device.DeviceName.{DeviceName}
 use Rattle.plane_map.specs.declared.tile.Place.{Place}
 use Rattle.plane_map.specs.declared.tile.RowCol.{RowCol}
@@ -34,9 +34,8 @@ abbrev pub IsPlaceOfWord : DeviceName → ℕ → ℕ → ℕ → Place → Type
 IsPlaceOfWord device x y word at = (bit : ℕ) × (bit < 16) × (word_bit_place device x y word bit ≡ at)
 
 -- a bit that the tile has
-pub record IsBitOfTile (device : DeviceName) (x y : ℕ) (bit : RowCol) : Type 0 where
-  pub row_in : bit.row < 16
-  pub col_in : bit.col < columns_at device x y
+abbrev pub IsBitOfTile : DeviceName → ℕ → ℕ → RowCol → Type 0
+IsBitOfTile device x y bit = IsTileBit device (record { x = x; y = y; row = bit.row; col = bit.col })
 
 -- the bits of a tile at listed rows and columns
 abbrev pub listed_bits : DeviceName → List Rows → ℕ → ℕ → List RowCol → List Bool

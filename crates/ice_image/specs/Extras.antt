@@ -1,4 +1,4 @@
--- The set bits of a device's configuration planes that are no tile's bits.
+-- The set bits of a device's configuration planes that belong to no tile.
 use Rattle.std.specs.Prelude.{◌≡◌, ◌<◌, ◌⊎◌, ◌↔◌, true, List, Contains, AllPairs}
 use Rattle.bit_plane.specs.Rows.{Rows}
 use Rattle.plane_map.specs.Layout.{IsInCram, IsExtraBit}
@@ -11,7 +11,7 @@ abbrev pub IsBefore : Place → Place → Type 0
 IsBefore a b =
     (a.bank < b.bank) ⊎ ((a.bank ≡ b.bank) × ((a.py < b.py) ⊎ ((a.py ≡ b.py) × (a.px < b.px))))
 
--- a place of the planes that is no tile's bit, and whose bit is set
+-- a place of the planes whose bit is set and belongs to no tile
 pub record IsSetExtra (device : DeviceName) (cram : List Rows) (at : Place) : Type 0 where
   pub inside : IsInCram device at
   pub is_set : place_bit cram at ≡ true

@@ -38,7 +38,7 @@ pub record HasExtras (device : DeviceName) (cram : List Rows) (limit : Place) (p
   pub ordered : AllPairs IsBefore places
   pub exact : (at : Place) → Contains places at ↔ (IsBefore at limit × IsSetExtra device cram at)
 
--- a place is added where it is a set extra bit
-abbrev pub IsExtraAdded : DeviceName → List Rows → Place → List Place → List Place → Type 0
-IsExtraAdded device cram at before after =
+-- a place is appended where it is a set extra bit
+abbrev pub IsExtraAppended : DeviceName → List Rows → Place → List Place → List Place → Type 0
+IsExtraAppended device cram at before after =
     (IsSetExtra device cram at × (after ≡ before ++ at ∷ [])) ⊎ ((¬ IsSetExtra device cram at) × (after ≡ before))

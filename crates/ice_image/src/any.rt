@@ -55,7 +55,7 @@ impl AnyImage {
         }
     }
 
-    /// Changes the settings.
+    /// Sets the settings.
     pub fn set_settings(&mut self, settings: Settings)
         ensures device { device_of self.new ≡ device_of self.old }
         ensures changed { configuration_of self.new ≡ record (configuration_of self.old) { settings = settings } }
@@ -76,7 +76,7 @@ impl AnyImage {
         }
     }
 
-    /// Changes the comment.
+    /// Sets the comment, or removes it.
     pub fn set_comment(&mut self, comment: Option<Comment>)
         ensures device { device_of self.new ≡ device_of self.old }
         ensures changed { configuration_of self.new ≡ record (configuration_of self.old) { comment = comment } }
@@ -87,7 +87,7 @@ impl AnyImage {
         }
     }
 
-    /// The bit of a tile.
+    /// A bit of a tile.
     pub fn tile_bit(&self, at: TileBit) -> bool
         requires { IsTileBit (device_of self.now) at }
         ensures { result ≡ place_bit (configuration_of self.now).cram (place_of (device_of self.now) at) }
@@ -98,7 +98,7 @@ impl AnyImage {
         }
     }
 
-    /// Gives a tile that bit.
+    /// Sets a bit of a tile.
     pub fn set_tile_bit(&mut self, at: TileBit, bit: bool)
         requires { IsTileBit (device_of self.old) at }
         ensures device { device_of self.new ≡ device_of self.old }
@@ -121,7 +121,7 @@ impl AnyImage {
         }
     }
 
-    /// Gives a place of the configuration planes that bit.
+    /// Sets the bit at a place of the configuration planes.
     pub fn set_cram_bit(&mut self, at: Place, bit: bool)
         requires { IsInCram (device_of self.old) at }
         ensures device { device_of self.new ≡ device_of self.old }
@@ -144,7 +144,7 @@ impl AnyImage {
         }
     }
 
-    /// Gives the tile at (x, y), which has C columns, the bits of another.
+    /// Sets all bits of the tile at (x, y), which has C columns, to those of another tile.
     pub fn put_tile<const C: usize>(&mut self, x: u8, y: u8, tile: &Tile<C>)
         requires { columns_at (device_of self.old) x y ≡ C }
         ensures device { device_of self.new ≡ device_of self.old }
@@ -182,7 +182,7 @@ impl AnyImage {
         }
     }
 
-    /// Gives a word of the RAM whose lower tile is at (x, y) that value.
+    /// Sets a word of the RAM whose lower tile is at (x, y), bit b having the value 2^b.
     pub fn set_ram_word(&mut self, x: u8, y: u8, word: u8, value: u16)
         requires { kind_of (device_of self.old) x y ≡ Some TileKind.RamB }
         ensures device { device_of self.new ≡ device_of self.old }
@@ -197,7 +197,7 @@ impl AnyImage {
         }
     }
 
-    /// The set bits of the configuration planes that are no tile's bits, by bank, then by row, then by column.
+    /// The set bits of the configuration planes that belong to no tile, by bank, then by row, then by column.
     pub fn extra_bits(&self, alloc: Global) -> Result<Vec<Place>, AllocError>
         ensures { IfOk result (λ places. AreSetExtras (device_of self.now) (configuration_of self.now).cram places.items) }
     {

@@ -79,7 +79,7 @@ impl<P: Bits> Banks<P> {
             .get(usize::from(at.px), usize::from(at.py))
     }
 
-    /// Gives a place that bit.
+    /// Sets the bit at a place.
     pub(crate) fn set(&mut self, at: Place, bit: bool)
         requires bank { at.bank < 4 }
         requires column { at.px < P.WIDTH }

@@ -34,7 +34,7 @@ impl Comment {
         }
     }
 
-    /// Adds a line at the end.
+    /// Appends a line.
     pub fn push(&mut self, line: &[u8]) -> Result<(), AllocError>
         requires { IsCommentLine line.now }
         ensures pushed { IfOk result (λ _. self.new ≡ self.old ++ line.now ∷ []) }
@@ -53,12 +53,12 @@ impl Comment {
         self.lines.len()
     }
 
-    /// The bytes of a line; lines count from 0.
-    pub fn line(&self, place: usize) -> &[u8]
-        requires { place < length self.now }
-        ensures { result.now ≡ slice_index_or self.now place [] }
+    /// The bytes of the line at an index; indexes count from 0.
+    pub fn line(&self, index: usize) -> &[u8]
+        requires { index < length self.now }
+        ensures { result.now ≡ slice_index_or self.now index [] }
     {
-        &self.lines[place]
+        &self.lines[index]
     }
 }
 

@@ -1,8 +1,8 @@
-// The set bits of the configuration planes that are no tile's bits.
+// The set bits of the configuration planes that belong to no tile.
 ghost use Rattle.std.specs.Prelude.{◌≡◌, ◌+◌, ◌<◌, IfOk};
 ghost use Rattle.plane_map.specs.Layout.{IsInCram};
 ghost use Rattle.ice_image.specs.Extras.{AreSetExtras};
-ghost use Rattle.ice_image.specs.Written.{HasExtras, IsExtraAdded};
+ghost use Rattle.ice_image.specs.Written.{HasExtras, IsExtraAppended};
 
 use crate::banks::Banks;
 use bit_plane::Bits;
@@ -10,7 +10,7 @@ use plane_map::{Device, Place, owner_of};
 use std::alloc::{AllocError, Global};
 
 /// All set extra bits, by bank, then by row, then by column.
-pub(crate) fn set_extras<D: Device>(
+pub(crate) fn extras_of<D: Device>(
     cram: &Banks<D::Cram>,
     alloc: Global,
 ) -> Result<Vec<Place>, AllocError>
@@ -18,13 +18,13 @@ pub(crate) fn set_extras<D: Device>(
 {
     let mut places = Vec::new(alloc);
     for bank in 0..4 {
-        add_bank::<D>(cram, bank, &mut places)?;
+        append_bank::<D>(cram, bank, &mut places)?;
     }
     Ok(places)
 }
 
-/// Adds the set extra bits of a bank.
-fn add_bank<D: Device>(
+/// Appends the set extra bits of a bank.
+fn append_bank<D: Device>(
     cram: &Banks<D::Cram>,
     bank: u8,
     places: &mut Vec<Place>,
@@ -34,13 +34,13 @@ fn add_bank<D: Device>(
     ensures { IfOk result (λ _. HasExtras D.NAME cram.now (record { bank = bank + 1; px = 0; py = 0 }) places.new.items) }
 {
     for py in 0..D::Cram::HEIGHT {
-        add_row::<D>(cram, bank, py as u16, places)?;
+        append_row::<D>(cram, bank, py as u16, places)?;
     }
     Ok(())
 }
 
-/// Adds the set extra bits of a row.
-fn add_row<D: Device>(
+/// Appends the set extra bits of a row.
+fn append_row<D: Device>(
     cram: &Banks<D::Cram>,
     bank: u8,
     py: u16,
@@ -57,19 +57,19 @@ fn add_row<D: Device>(
             px: px as u16,
             py,
         };
-        add_extra::<D>(cram, at, places)?;
+        append_extra::<D>(cram, at, places)?;
     }
     Ok(())
 }
 
-/// Adds a place where its bit is set and no tile's.
-fn add_extra<D: Device>(
+/// Appends a place if its bit is set and belongs to no tile.
+fn append_extra<D: Device>(
     cram: &Banks<D::Cram>,
     at: Place,
     places: &mut Vec<Place>,
 ) -> Result<(), AllocError>
     requires { IsInCram D.NAME at }
-    ensures { IfOk result (λ _. IsExtraAdded D.NAME cram.now at places.old.items places.new.items) }
+    ensures { IfOk result (λ _. IsExtraAppended D.NAME cram.now at places.old.items places.new.items) }
 {
     if cram.get(at) && owner_of::<D>(at).is_none() {
         places.push(at)?;

@@ -10,7 +10,7 @@ ghost use Rattle.ice_image.specs.contracts.image.Image.{the_row};
 
 use crate::banks::Banks;
 use crate::comment::Comment;
-use crate::extras::set_extras;
+use crate::extras::extras_of;
 use crate::settings::{Range, Settings};
 use crate::tiles::{read_tile, write_tile};
 use crate::words::{read_word, write_word};
@@ -73,7 +73,7 @@ impl<D: Device> Image<D> {
         self.settings
     }
 
-    /// Changes the settings.
+    /// Sets the settings.
     pub fn set_settings(&mut self, settings: Settings)
         ensures { self.new ≡ record self.old { settings = settings } }
     {
@@ -87,14 +87,14 @@ impl<D: Device> Image<D> {
         self.comment.as_ref()
     }
 
-    /// Changes the comment.
+    /// Sets the comment, or removes it.
     pub fn set_comment(&mut self, comment: Option<Comment>)
         ensures { self.new ≡ record self.old { comment = comment } }
     {
         self.comment = comment;
     }
 
-    /// The bit of a tile.
+    /// A bit of a tile.
     pub fn tile_bit(&self, at: TileBit) -> bool
         requires { IsTileBit D.NAME at }
         ensures { result ≡ place_bit self.now.cram (place_of D.NAME at) }
@@ -102,7 +102,7 @@ impl<D: Device> Image<D> {
         self.cram.get(cram_place::<D>(at.x, at.y, at.row, at.col))
     }
 
-    /// Gives a tile that bit.
+    /// Sets a bit of a tile.
     pub fn set_tile_bit(&mut self, at: TileBit, bit: bool)
         requires { IsTileBit D.NAME at }
         ensures { self.new ≡ record self.old { cram = with_place_bit self.old.cram (place_of D.NAME at) bit } }
@@ -119,7 +119,7 @@ impl<D: Device> Image<D> {
         self.cram.get(at)
     }
 
-    /// Gives a place of the configuration planes that bit.
+    /// Sets the bit at a place of the configuration planes.
     pub fn set_cram_bit(&mut self, at: Place, bit: bool)
         requires { IsInCram D.NAME at }
         ensures { self.new ≡ record self.old { cram = with_place_bit self.old.cram at bit } }
@@ -169,7 +169,7 @@ impl<D: Device> Image<D> {
         read_tile::<D, C>(&self.cram, x, y)
     }
 
-    /// Gives the tile at (x, y), which has C columns, the bits of another.
+    /// Sets all bits of the tile at (x, y), which has C columns, to those of another tile.
     pub fn put_tile<const C: usize>(&mut self, x: u8, y: u8, tile: &Tile<C>)
         requires { columns_at D.NAME x y ≡ C }
         ensures tile { tile_rows D.NAME self.new.cram x y ≡ tile.now }
@@ -208,7 +208,7 @@ impl<D: Device> Image<D> {
         read_word::<D>(&self.bram, x, y, word)
     }
 
-    /// Gives a word of the RAM whose lower tile is at (x, y) that value.
+    /// Sets a word of the RAM whose lower tile is at (x, y), bit b having the value 2^b.
     pub fn set_ram_word(&mut self, x: u8, y: u8, word: u8, value: u16)
         requires { kind_of D.NAME x y ≡ Some TileKind.RamB }
         ensures word { word_value D.NAME self.new.bram x y word ≡ value }
@@ -219,10 +219,10 @@ impl<D: Device> Image<D> {
         write_word::<D>(&mut self.bram, x, y, word, value);
     }
 
-    /// The set bits of the configuration planes that are no tile's bits, by bank, then by row, then by column.
+    /// The set bits of the configuration planes that belong to no tile, by bank, then by row, then by column.
     pub fn extra_bits(&self, alloc: Global) -> Result<Vec<Place>, AllocError>
         ensures { IfOk result (λ places. AreSetExtras D.NAME self.now.cram places.items) }
     {
-        set_extras::<D>(&self.cram, alloc)
+        extras_of::<D>(&self.cram, alloc)
     }
 }

@@ -3,15 +3,15 @@
 /// The range of the oscillator that clocks the configuration.
 #[derive(Clone, Copy, Debug, PartialEq, Eq)]
 pub enum Range {
-    /// Written as 0.
+    /// Number 0 in a bitstream.
     Low,
-    /// Written as 1.
+    /// Number 1 in a bitstream.
     Medium,
-    /// Written as 2.
+    /// Number 2 in a bitstream.
     High,
 }
 
-/// What an image sets beside its bits.
+/// What an image sets besides its bits.
 #[derive(Clone, Copy, Debug, PartialEq, Eq)]
 pub struct Settings {
     /// How fast the oscillator runs.

@@ -1,134 +1,276 @@
-// Each call at each device, with places that are known from outside.
-ghost use Rattle.std.specs.Prelude.{◌≡◌};
+// Each call at both devices, with places that are known from outside.
+ghost use Rattle.std.specs.Prelude.{◌≡◌, Some, IsTrue, All};
+ghost use Rattle.plane_map.specs.Layout.{kind_of, columns_at, IsTileBit, IsInCram};
+ghost use Rattle.ice_image.specs.Contents.{IsBitOfTile};
 
 use crate::{AnyImage, Comment, Image, Range, Settings, is_comment_line};
 use bit_plane::{Bits, Tile};
-use plane_map::{DeviceName, Hx1k, Hx8k, Place, RowCol, TileBit};
-use std::test::Fail;
+use plane_map::{
+    Device, DeviceName, Hx1k, Hx8k, Place, RowCol, TileBit, TileKind, kind_at, tile_width,
+};
+use std::alloc::{AllocError, Global};
 
 /// A place by its bank, column and row.
-fn at(bank: u8, px: u16, py: u16) -> Place
-    ensures { result ≡ record { bank = bank; px = px; py = py } }
-{
+fn at(bank: u8, px: u16, py: u16) -> Place {
     Place { bank, px, py }
 }
 
 /// A bit of the tile at (x, y) by its row and column.
-fn bit(x: u8, y: u8, row: u8, col: u8) -> TileBit
-    ensures { result ≡ record { x = x; y = y; row = row; col = col } }
-{
+fn bit(x: u8, y: u8, row: u8, col: u8) -> TileBit {
     TileBit { x, y, row, col }
 }
 
-/// A bit by its row and column.
-fn bit_in_tile(row: u8, col: u8) -> RowCol
-    ensures { result ≡ record { row = row; col = col } }
+// ---- what the calls require, tested at run time
+
+fn kind_on(device: DeviceName, x: u8, y: u8) -> Option<TileKind>
+    ensures { result ≡ kind_of device x y }
 {
-    RowCol { row, col }
+    match device {
+        DeviceName::K1 => kind_at::<Hx1k>(u32::from(x), u32::from(y)),
+        DeviceName::K8 => kind_at::<Hx8k>(u32::from(x), u32::from(y)),
+    }
+}
+
+fn is_tile_bit(device: DeviceName, bit: TileBit) -> bool
+    ensures { IsTrue result → IsTileBit device bit }
+{
+    match kind_on(device, bit.x, bit.y) {
+        Some(kind) => bit.row < 16 && usize::from(bit.col) < tile_width(kind),
+        None => false,
+    }
+}
+
+fn are_in_tile(device: DeviceName, x: u8, y: u8, bits: &[RowCol]) -> bool
+    ensures { IsTrue result → All (IsBitOfTile device x y) bits.now }
+{
+    bits.iter().all(|bit| {
+        is_tile_bit(
+            device,
+            TileBit {
+                x,
+                y,
+                row: bit.row,
+                col: bit.col,
+            },
+        )
+    })
+}
+
+fn is_logic(device: DeviceName, x: u8, y: u8) -> bool
+    ensures { IsTrue result → columns_at device x y ≡ 54 }
+{
+    kind_on(device, x, y) == Some(TileKind::Logic)
+}
+
+fn is_lower_ram(device: DeviceName, x: u8, y: u8) -> bool
+    ensures { IsTrue result → kind_of device x y ≡ Some TileKind.RamB }
+{
+    kind_on(device, x, y) == Some(TileKind::RamB)
+}
+
+fn is_in_cram(device: DeviceName, at: Place) -> bool
+    ensures { IsTrue result → IsInCram device at }
+{
+    let (width, height) = match device {
+        DeviceName::K1 => (332, 144),
+        DeviceName::K8 => (872, 272),
+    };
+    at.bank < 4 && at.px < width && at.py < height
+}
+
+// ---- bits of tiles
+
+/// Whether a new image has the device and the settings, and no comment.
+fn is_new(alloc: Global, device: DeviceName, settings: Settings) -> Result<bool, AllocError> {
+    let image = AnyImage::zeroed(alloc, device)?;
+    Ok(image.device() == device && image.settings() == settings && image.comment().is_none())
 }
 
 #[test]
-fn a_new_image_is_blank(rt: HostRuntime) -> Result<(), Fail> {
+fn a_new_image_has_the_usual_settings(rt: HostRuntime) {
     let usual = Settings {
         range: Range::Low,
         warm_boot: true,
         no_sleep: false,
     };
-    let small = Image::<Hx1k>::zeroed(rt.alloc())?;
-    assert_eq!(rt; small.device(), DeviceName::K1);
-    assert_eq!(rt; small.settings(), usual);
-    assert!(rt; small.comment().is_none());
-    assert!(rt; !small.cram_bit(at(3, 331, 143)));
-    let large = Image::<Hx8k>::zeroed(rt.alloc())?;
-    assert_eq!(rt; large.device(), DeviceName::K8);
-    assert_eq!(rt; large.settings(), usual);
-    assert!(rt; large.comment().is_none());
-    assert!(rt; !large.cram_bit(at(3, 871, 271)));
-    Ok(())
+    assert!(rt; is_new(rt.alloc(), DeviceName::K1, usual) == Ok(true));
+    assert!(rt; is_new(rt.alloc(), DeviceName::K8, usual) == Ok(true));
+}
+
+/// Whether the bit of a tile is the bit at the place, one way and the other.
+fn is_at(image: &mut AnyImage, bit: TileBit, place: Place) -> bool {
+    let device = image.device();
+    if !is_tile_bit(device, bit) || !is_in_cram(device, place) {
+        return false;
+    }
+    image.set_tile_bit(bit, true);
+    let reaches = image.cram_bit(place);
+    image.set_cram_bit(place, false);
+    reaches && !image.tile_bit(bit)
+}
+
+fn lies_at(
+    alloc: Global,
+    device: DeviceName,
+    bit: TileBit,
+    place: Place,
+) -> Result<bool, AllocError> {
+    let mut image = AnyImage::zeroed(alloc, device)?;
+    Ok(is_at(&mut image, bit, place))
 }
 
 #[test]
-#[tactic(auto, unfolding(plane_map::specs::Layout::kind_of))]
-fn bits_of_tiles_lie_at_their_places(rt: HostRuntime) -> Result<(), Fail> {
-    let mut small = Image::<Hx1k>::zeroed(rt.alloc())?;
-    small.set_tile_bit(bit(1, 1, 0, 0), true);
-    assert!(rt; small.tile_bit(bit(1, 1, 0, 0)));
-    assert!(rt; small.cram_bit(at(0, 18, 16)));
-    small.set_tile_bit(bit(12, 16, 0, 0), true);
-    assert!(rt; small.cram(3).get(71, 31));
-    small.set_tile_bit(bit(1, 1, 0, 0), false);
-    assert!(rt; !small.cram_bit(at(0, 18, 16)));
-    let mut large = Image::<Hx8k>::zeroed(rt.alloc())?;
-    large.set_tile_bit(bit(32, 1, 15, 53), true);
-    assert!(rt; large.tile_bit(bit(32, 1, 15, 53)));
-    assert!(rt; large.cram_bit(at(2, 18, 31)));
-    assert!(rt; large.cram(2).get(18, 31));
-    Ok(())
+fn bits_of_tiles_lie_at_their_places(rt: HostRuntime) {
+    for (device, bit, place) in [
+        (DeviceName::K1, bit(1, 1, 0, 0), at(0, 18, 16)),
+        (DeviceName::K1, bit(12, 16, 0, 0), at(3, 71, 31)),
+        (DeviceName::K1, bit(1, 17, 2, 4), at(1, 34, 12)),
+        (DeviceName::K8, bit(32, 1, 15, 53), at(2, 18, 31)),
+        (DeviceName::K8, bit(32, 32, 0, 0), at(3, 71, 31)),
+    ] {
+        assert!(rt;
+            lies_at(rt.alloc(), device, bit, place) == Ok(true),
+            "at {bit:?}"
+        );
+    }
 }
 
-#[test]
-#[tactic(auto, unfolding(plane_map::specs::Layout::kind_of))]
-fn bits_at_places_are_those_of_tiles(rt: HostRuntime) -> Result<(), Fail> {
-    let mut small = Image::<Hx1k>::zeroed(rt.alloc())?;
-    small.set_cram_bit(at(1, 34, 12), true);
-    assert!(rt; small.tile_bit(bit(1, 17, 2, 4)));
-    small.cram_mut(1).set(23, 12, true);
-    let pads: Tile<18> = small.tile(1, 17);
-    assert_eq!(rt; pads.row(2), 1 << 4 | 1 << 17);
-    let mut large = Image::<Hx8k>::zeroed(rt.alloc())?;
-    large.set_cram_bit(at(3, 71, 31), true);
-    assert!(rt; large.tile_bit(bit(32, 32, 0, 0)));
-    large.cram_mut(3).set(18, 31, true);
-    let logic: Tile<54> = large.tile(32, 32);
-    assert_eq!(rt; logic.row(0), 1 << 53 | 1);
-    Ok(())
+/// Whether a logic tile that is put at (x, y) is read there, by its rows and by listed bits.
+fn is_put(image: &mut AnyImage, x: u8, y: u8, tile: &Tile<54>, bits: &[RowCol]) -> bool {
+    let device = image.device();
+    if !is_logic(device, x, y) || bits.len() > 64 || !are_in_tile(device, x, y, bits) {
+        return false;
+    }
+    image.put_tile(x, y, tile);
+    let read: Tile<54> = image.tile(x, y);
+    read.row(15) == 1 << 53 | 1
+        && image.tile_equals(x, y, bits, 0b101)
+        && !image.tile_equals(x, y, bits, 0b100)
 }
 
-#[test]
-#[tactic(auto, unfolding(plane_map::specs::Layout::kind_of))]
-fn tiles_are_read_and_written_whole(rt: HostRuntime) -> Result<(), Fail> {
+fn keeps_a_tile(alloc: Global, device: DeviceName, x: u8, y: u8) -> Result<bool, AllocError> {
+    let mut image = AnyImage::zeroed(alloc, device)?;
     let mut tile = Tile::<54>::new();
     tile.set_row(15, 1 << 53 | 1);
-    let bits = [bit_in_tile(15, 0), bit_in_tile(15, 1), bit_in_tile(15, 53)];
-    let mut small = Image::<Hx1k>::zeroed(rt.alloc())?;
-    small.put_tile(12, 1, &tile);
-    assert!(rt; small.cram_bit(at(2, 18, 31)));
-    assert!(rt; small.cram_bit(at(2, 71, 31)));
-    let read: Tile<54> = small.tile(12, 1);
-    assert_eq!(rt; read.row(15), 1 << 53 | 1);
-    assert!(rt; small.tile_equals(12, 1, &bits, 0b101));
-    assert!(rt; !small.tile_equals(12, 1, &bits, 0b110));
-    let mut large = Image::<Hx8k>::zeroed(rt.alloc())?;
-    large.put_tile(32, 1, &tile);
-    assert!(rt; large.cram_bit(at(2, 18, 31)));
-    assert!(rt; large.cram_bit(at(2, 71, 31)));
-    let read: Tile<54> = large.tile(32, 1);
-    assert_eq!(rt; read.row(15), 1 << 53 | 1);
-    assert_eq!(rt; read.row(14), 0);
-    assert!(rt; large.tile_equals(32, 1, &bits, 0b101));
-    assert!(rt; !large.tile_equals(32, 1, &bits, 0b100));
-    Ok(())
+    let bits = [
+        RowCol { row: 15, col: 0 },
+        RowCol { row: 15, col: 1 },
+        RowCol { row: 15, col: 53 },
+    ];
+    Ok(is_put(&mut image, x, y, &tile, &bits))
 }
 
 #[test]
-#[tactic(auto, unfolding(plane_map::specs::Layout::kind_of))]
-fn words_lie_at_their_places(rt: HostRuntime) -> Result<(), Fail> {
-    let mut small = Image::<Hx1k>::zeroed(rt.alloc())?;
-    small.set_ram_word(3, 1, 0, 0x8001);
-    assert_eq!(rt; small.ram_word(3, 1, 0), 0x8001);
-    assert_eq!(rt; small.ram_word(3, 1, 1), 0);
-    assert!(rt; small.bram(0).get(15, 0));
-    assert!(rt; small.bram(0).get(0, 0));
-    small.bram_mut(0).set(3, 2, true);
-    assert_eq!(rt; small.ram_word(3, 1, 2), 1 << 12);
-    let mut large = Image::<Hx8k>::zeroed(rt.alloc())?;
-    large.bram_mut(1).set(124, 7, true);
-    assert_eq!(rt; large.ram_word(8, 17, 7), 8);
-    large.set_ram_word(25, 1, 255, 0x8000);
-    assert_eq!(rt; large.ram_word(25, 1, 255), 0x8000);
-    assert!(rt; large.bram(2).get(0, 255));
-    Ok(())
+fn tiles_are_read_and_written_whole(rt: HostRuntime) {
+    assert!(rt; keeps_a_tile(rt.alloc(), DeviceName::K1, 12, 1) == Ok(true));
+    assert!(rt; keeps_a_tile(rt.alloc(), DeviceName::K8, 32, 1) == Ok(true));
 }
+
+// ---- words and planes
+
+/// Whether a word of a RAM is read as it was written.
+fn is_written(image: &mut AnyImage, x: u8, y: u8, word: u8) -> bool {
+    if !is_lower_ram(image.device(), x, y) {
+        return false;
+    }
+    image.set_ram_word(x, y, word, 0x1234);
+    image.ram_word(x, y, word) == 0x1234
+}
+
+fn keeps_a_word(alloc: Global, device: DeviceName, x: u8, y: u8) -> Result<bool, AllocError> {
+    let mut image = AnyImage::zeroed(alloc, device)?;
+    Ok(is_written(&mut image, x, y, 255))
+}
+
+#[test]
+fn words_are_read_and_written(rt: HostRuntime) {
+    assert!(rt; keeps_a_word(rt.alloc(), DeviceName::K1, 3, 1) == Ok(true));
+    assert!(rt; keeps_a_word(rt.alloc(), DeviceName::K8, 8, 17) == Ok(true));
+}
+
+/// Whether a bit of a configuration plane is the one at its place.
+fn is_in_plane<D: Device>(image: &mut Image<D>, place: Place) -> bool {
+    let x = usize::from(place.px);
+    let y = usize::from(place.py);
+    let bank = usize::from(place.bank);
+    if !is_in_cram(image.device(), place) || x >= D::Cram::WIDTH || y >= D::Cram::HEIGHT {
+        return false;
+    }
+    image.cram_mut(bank).set(x, y, true);
+    image.cram_bit(place) && image.cram(bank).get(x, y)
+}
+
+/// Whether the bit of value 8 of a word of a RAM is the one at the column and row of its bank's plane.
+fn is_word_bit<D: Device>(
+    image: &mut Image<D>,
+    ram: (u8, u8),
+    bank: usize,
+    x: usize,
+    y: u8,
+) -> bool {
+    let row = usize::from(y);
+    if !is_lower_ram(image.device(), ram.0, ram.1)
+        || bank >= 4
+        || x >= D::Bram::WIDTH
+        || row >= D::Bram::HEIGHT
+    {
+        return false;
+    }
+    image.bram_mut(bank).set(x, row, true);
+    image.ram_word(ram.0, ram.1, y) == 8 && image.bram(bank).get(x, row)
+}
+
+fn small_planes_hold_bits(alloc: Global) -> Result<bool, AllocError> {
+    let mut image = Image::<Hx1k>::zeroed(alloc)?;
+    Ok(is_in_plane(&mut image, at(3, 331, 143)) && is_word_bit(&mut image, (3, 1), 0, 12, 2))
+}
+
+fn large_planes_hold_bits(alloc: Global) -> Result<bool, AllocError> {
+    let mut image = Image::<Hx8k>::zeroed(alloc)?;
+    Ok(is_in_plane(&mut image, at(3, 871, 271)) && is_word_bit(&mut image, (8, 17), 1, 124, 7))
+}
+
+#[test]
+fn planes_hold_bits_of_places_and_words(rt: HostRuntime) {
+    assert!(rt; small_planes_hold_bits(rt.alloc()) == Ok(true));
+    assert!(rt; large_planes_hold_bits(rt.alloc()) == Ok(true));
+}
+
+// ---- extra bits
+
+/// Sets the bits at the places, and tells whether each is in the planes.
+fn set_all(image: &mut AnyImage, places: &[Place]) -> bool {
+    for place in places {
+        if !is_in_cram(image.device(), *place) {
+            return false;
+        }
+        image.set_cram_bit(*place, true);
+    }
+    true
+}
+
+/// Whether an image with the bits at the places has those extra bits, in that order.
+fn has_extras(
+    alloc: Global,
+    device: DeviceName,
+    places: &[Place],
+    extras: &[Place],
+) -> Result<bool, AllocError> {
+    let mut image = AnyImage::zeroed(alloc, device)?;
+    Ok(set_all(&mut image, places) && image.extra_bits(alloc)?.as_slice() == extras)
+}
+
+#[test]
+fn extra_bits_come_in_order(rt: HostRuntime) {
+    let small = [at(1, 330, 0), at(0, 18, 16), at(0, 330, 143), at(0, 331, 5)];
+    let ordered = [at(0, 331, 5), at(0, 330, 143), at(1, 330, 0)];
+    assert!(rt; has_extras(rt.alloc(), DeviceName::K1, &small, &ordered) == Ok(true));
+    let large = [at(3, 870, 271), at(3, 871, 2), at(2, 869, 100)];
+    let ordered = [at(3, 871, 2), at(3, 870, 271)];
+    assert!(rt; has_extras(rt.alloc(), DeviceName::K8, &large, &ordered) == Ok(true));
+}
+
+// ---- comments and settings
 
 #[test]
 fn tells_the_lines_that_a_comment_may_hold(rt: HostRuntime) {
@@ -145,96 +287,39 @@ fn tells_the_lines_that_a_comment_may_hold(rt: HostRuntime) {
     }
 }
 
-#[test]
-fn settings_and_comments_are_kept(rt: HostRuntime) -> Result<(), Fail> {
-    let mut comment = Comment::new(rt.alloc());
-    comment.push(b"from")?;
-    comment.push(b"next-pnr")?;
-    assert_eq!(rt; comment.len(), 2);
-    let mut small = Image::<Hx1k>::zeroed(rt.alloc())?;
-    small.set_comment(Some(comment));
+/// A comment of those lines that a comment may hold.
+fn comment_of(alloc: Global, lines: &[&[u8]]) -> Result<Comment, AllocError> {
+    let mut comment = Comment::new(alloc);
+    for line in lines {
+        if is_comment_line(line) {
+            comment.push(line)?;
+        }
+    }
+    Ok(comment)
+}
+
+/// Whether an image keeps the settings and a comment.
+fn keeps(image: &mut AnyImage, settings: Settings, comment: Comment) -> bool {
+    image.set_settings(settings);
+    image.set_comment(Some(comment));
+    image.settings() == settings
+        && image.comment().is_some_and(|kept| kept.len() == 2
+            && kept.line(1) == b"next-pnr".as_slice())
+}
+
+fn keeps_what_was_set(alloc: Global, device: DeviceName) -> Result<bool, AllocError> {
+    let comment = comment_of(alloc, &[b"from", b"", b"next-pnr"])?;
+    let mut image = AnyImage::zeroed(alloc, device)?;
     let settings = Settings {
         range: Range::High,
         warm_boot: false,
         no_sleep: true,
     };
-    small.set_settings(settings);
-    assert_eq!(rt; small.settings(), settings);
-    match small.comment() {
-        Some(kept) => {
-            assert_eq!(rt; kept.len(), 2);
-            assert!(rt; kept.len() > 1 && kept.line(1) == b"next-pnr".as_slice());
-        }
-        None => assert!(rt; false),
-    }
-    let mut large = Image::<Hx8k>::zeroed(rt.alloc())?;
-    large.set_settings(settings);
-    assert_eq!(rt; large.settings(), settings);
-    large.set_comment(Some(Comment::new(rt.alloc())));
-    assert!(rt; large.comment().is_some());
-    Ok(())
+    Ok(keeps(&mut image, settings, comment))
 }
 
 #[test]
-fn extra_bits_come_in_order(rt: HostRuntime) -> Result<(), Fail> {
-    let mut small = Image::<Hx1k>::zeroed(rt.alloc())?;
-    for place in [at(1, 330, 0), at(0, 18, 16), at(0, 330, 143), at(0, 331, 5)] {
-        small.set_cram_bit(place, true);
-    }
-    let extra = small.extra_bits(rt.alloc())?;
-    let ordered = [at(0, 331, 5), at(0, 330, 143), at(1, 330, 0)];
-    assert!(rt; extra.as_slice() == ordered.as_slice());
-    let mut large = Image::<Hx8k>::zeroed(rt.alloc())?;
-    for place in [at(3, 870, 271), at(3, 871, 2), at(2, 869, 100)] {
-        large.set_cram_bit(place, true);
-    }
-    let extra = large.extra_bits(rt.alloc())?;
-    let ordered = [at(3, 871, 2), at(3, 870, 271)];
-    assert!(rt; extra.as_slice() == ordered.as_slice());
-    Ok(())
-}
-
-#[test]
-fn an_image_of_either_device_has_the_calls(rt: HostRuntime) -> Result<(), Fail> {
-    for device in [DeviceName::K1, DeviceName::K8] {
-        let mut image = AnyImage::zeroed(rt.alloc(), device)?;
-        assert_eq!(rt; image.device(), device);
-        let mut settings = image.settings();
-        settings.no_sleep = true;
-        image.set_settings(settings);
-        assert!(rt; image.settings().no_sleep);
-        image.set_comment(Some(Comment::new(rt.alloc())));
-        assert!(rt; image.comment().is_some());
-        image.set_cram_bit(at(0, 18, 16), true);
-        assert!(rt; image.cram_bit(at(0, 18, 16)));
-        assert!(rt; image.extra_bits(rt.alloc())?.is_empty());
-    }
-    Ok(())
-}
-
-#[test]
-#[tactic(auto, unfolding(plane_map::specs::Layout::kind_of))]
-fn an_image_of_either_device_has_tiles(rt: HostRuntime) -> Result<(), Fail> {
-    for device in [DeviceName::K1, DeviceName::K8] {
-        let mut image = AnyImage::zeroed(rt.alloc(), device)?;
-        image.set_tile_bit(bit(1, 1, 0, 0), true);
-        assert!(rt; image.tile_bit(bit(1, 1, 0, 0)));
-        let tile: Tile<54> = image.tile(1, 1);
-        assert_eq!(rt; tile.row(0), 1);
-        image.put_tile(2, 1, &tile);
-        assert!(rt; image.tile_equals(2, 1, &[bit_in_tile(0, 0)], 1));
-    }
-    Ok(())
-}
-
-#[test]
-#[tactic(auto, unfolding(plane_map::specs::Layout::kind_of))]
-fn an_image_of_either_device_has_words(rt: HostRuntime) -> Result<(), Fail> {
-    let mut small = AnyImage::zeroed(rt.alloc(), DeviceName::K1)?;
-    small.set_ram_word(3, 1, 255, 0x1234);
-    assert_eq!(rt; small.ram_word(3, 1, 255), 0x1234);
-    let mut large = AnyImage::zeroed(rt.alloc(), DeviceName::K8)?;
-    large.set_ram_word(8, 1, 255, 0x1234);
-    assert_eq!(rt; large.ram_word(8, 1, 255), 0x1234);
-    Ok(())
+fn settings_and_comments_are_kept(rt: HostRuntime) {
+    assert!(rt; keeps_what_was_set(rt.alloc(), DeviceName::K1) == Ok(true));
+    assert!(rt; keeps_what_was_set(rt.alloc(), DeviceName::K8) == Ok(true));
 }

@@ -23,7 +23,7 @@ pub(crate) fn read_tile<D: Device, const C: usize>(cram: &Banks<D::Cram>, x: u8,
     tile
 }
 
-/// A row of the tile at (x, y) as a word, column c the bit of value 2^c.
+/// A row of the tile at (x, y) as a word. Column c is the bit of value 2^c.
 fn row_word<D: Device>(cram: &Banks<D::Cram>, x: u8, y: u8, row: u8, width: usize) -> u64
     requires row { row < 16 }
     requires width { columns_at D.NAME x y ≡ width }
@@ -36,7 +36,7 @@ fn row_word<D: Device>(cram: &Banks<D::Cram>, x: u8, y: u8, row: u8, width: usiz
     word
 }
 
-/// Gives the tile at (x, y) the bits of another.
+/// Sets all bits of the tile at (x, y) to those of another tile.
 pub(crate) fn write_tile<D: Device, const C: usize>(
     cram: &mut Banks<D::Cram>,
     x: u8,
@@ -54,7 +54,7 @@ pub(crate) fn write_tile<D: Device, const C: usize>(
     }
 }
 
-/// Gives a row of the tile at (x, y) the bits of a word, column c the bit of value 2^c.
+/// Sets a row of the tile at (x, y) to the bits of a word. Column c gets the bit of value 2^c.
 fn write_row<D: Device>(cram: &mut Banks<D::Cram>, x: u8, y: u8, row: u8, width: usize, word: u64)
     requires row { row < 16 }
     requires width { columns_at D.NAME x y ≡ width }

@@ -19,7 +19,7 @@ pub(crate) fn read_word<D: Device>(bram: &Banks<D::Bram>, x: u8, y: u8, word: u8
     value
 }
 
-/// Gives a word of the RAM whose lower tile is at (x, y) that value.
+/// Sets a word of the RAM whose lower tile is at (x, y).
 pub(crate) fn write_word<D: Device>(bram: &mut Banks<D::Bram>, x: u8, y: u8, word: u8, value: u16)
     requires lower { kind_of D.NAME x y ≡ Some TileKind.RamB }
     requires whole { AreBanks D.Bram.WIDTH D.Bram.HEIGHT bram.old }

@@ -1,4 +1,4 @@
--- How often calls to the outside have failed.
+-- Counts of failed calls.
 use Rattle.std.specs.Prelude.{ℕ, ◌+◌, ◌-◌, ◌^◌, ◌≤◌, min}
 
 -- the greatest count, at which a counter stays

@@ -27,7 +27,7 @@ after_read s n = record s { left = drop n s.left; calls = counted s.calls }
 abbrev pub after_failed_read : SourceState → SourceState
 after_failed_read s = record s { calls = counted s.calls; faults = counted s.faults }
 
--- the bytes taken so far, how many may be taken in all, and the same of writes
+-- the bytes written so far, how many may be written in all, and the same of writes
 pub record SinkState : Type 0 where
   pub held : List ℕ
   pub room : ℕ

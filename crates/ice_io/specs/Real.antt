@@ -1,4 +1,4 @@
--- The adapters over readers and writers: what they stand over, and how often they failed.
+-- Sources over readers and sinks over writers: what is under them, and how often they failed.
 use Rattle.std.specs.Prelude.{ℕ}
 use Rattle.ice_io.specs.declared.real.StdSource.{StdSource}
 use Rattle.ice_io.specs.declared.real.StdSink.{StdSink}

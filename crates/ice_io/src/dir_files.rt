@@ -1,7 +1,9 @@
-// The real files, of which nothing is told but how often they failed.
-ghost use Rattle.std.specs.Prelude.{◌≡◌, ◌+◌, ◌<◌, ◌≤◌, ◌^◌, ℕ, None, false, length, vec_len, IfOk, IfErr, OnOk, OnErr, IsErrOf};
-ghost use Rattle.ice_io.specs.DirFiles.{after_load_fault, after_store_fault};
+// The real files. A load returns all that was left in a file of the system, and a store adds all its bytes to one. That the file
+// is the one of that name, and was emptied before, is the system's part.
+ghost use Rattle.std.specs.Prelude.{◌≡◌, ◌+◌, ◌<◌, ◌≤◌, ◌^◌, ℕ, None, true, false, length, vec_len, IfOk, IfErr, OnOk, OnErr, IsErrOf};
+ghost use Rattle.ice_io.specs.DirFiles.{after_load_fault, after_store_fault, WereInFile, WereTaken, WereWritten, WerePartWritten};
 ghost use Rattle.ice_io.specs.Files.{LeavesPart};
+ghost use Rattle.ice_io.specs.Put.{written_before};
 
 use crate::files::{Files, StoreFault};
 use crate::real::{StdSink, StdSource};
@@ -11,7 +13,7 @@ use std::alloc::Global;
 use std::marker::Model;
 use std::{fs, rt};
 
-/// The files of the system that a runtime reaches. They are seen as the counts of the loads and the stores that failed.
+/// The files of the system. A contract sees only how many loads and stores have failed.
 #[derive(Drop)]
 pub struct DirFiles<'a, R: rt::Files> {
     rt: &'a R,
@@ -28,7 +30,7 @@ impl<'a, R: rt::Files> Model for DirFiles<'a, R> {
 }
 
 impl<'a, R: rt::Files> DirFiles<'a, R> {
-    /// The files that a runtime reaches, none of which has failed yet.
+    /// The files that this runtime reaches, with no failure counted yet.
     pub fn new(rt: &'a R) -> DirFiles<'a, R>
         ensures { result ≡ record { load_faults = 0; store_faults = 0 } }
     {
@@ -57,6 +59,10 @@ impl<R: rt::Files> Files for DirFiles<'_, R> {
 
         ensures same { (IsErrOf result TakeFault.Failed → ⊥) → self.new ≡ self.old }
         ensures failed { IsErrOf result TakeFault.Failed → self.new ≡ after_load_fault self.old }
+
+        // `Ok` has all bytes of a file, and `TooLong` comes only where more than the limit were read from one.
+        ensures whole { IfOk result (λ bytes. WereInFile R.File.remaining bytes.items) }
+        ensures longer { IsErrOf result TakeFault.TooLong → WereTaken R.File.remaining (limit + 1) }
     {
         let loaded = load_from(self.rt, alloc, name, limit);
         if let Err(TakeFault::Failed) = loaded {
@@ -72,6 +78,10 @@ impl<R: rt::Files> Files for DirFiles<'_, R> {
 
         ensures same { OnOk result (self.new ≡ self.old) }
         ensures failed { OnErr result (self.new ≡ after_store_fault self.old) }
+
+        // `Ok` has written all bytes to a file, and a fault as many as it says.
+        ensures whole { OnOk result (WereWritten R.File.contents bytes.now) }
+        ensures first { IfErr result (WerePartWritten R.File.contents bytes.now) }
     {
         let stored = store_to(self.rt, name, bytes);
         if stored.is_err() {
@@ -81,7 +91,7 @@ impl<R: rt::Files> Files for DirFiles<'_, R> {
     }
 }
 
-// Reads a file to its end.
+// Opens a file and reads it to its end.
 fn load_from<R: rt::Files>(
     rt: &R,
     alloc: Global,
@@ -89,7 +99,9 @@ fn load_from<R: rt::Files>(
     limit: usize,
 ) -> Result<Vec<u8>, TakeFault>
     requires { limit < 2 ^ 32 }
-    ensures { IfOk result (λ bytes. vec_len bytes ≤ limit) }
+    ensures within { IfOk result (λ bytes. vec_len bytes ≤ limit) }
+    ensures whole { IfOk result (λ bytes. WereInFile R.File.remaining bytes.items) }
+    ensures longer { IsErrOf result TakeFault.TooLong → WereTaken R.File.remaining (limit + 1) }
 {
     let Ok(file) = fs::open(rt, name) else {
         return Err(TakeFault::Failed);
@@ -97,9 +109,11 @@ fn load_from<R: rt::Files>(
     read_all(alloc, &mut StdSource::new(file), limit)
 }
 
-// Makes a file, or empties it, and writes the bytes.
+// Creates a file, or empties it, and writes the bytes.
 fn store_to<R: rt::Files>(rt: &R, name: &str, bytes: &[u8]) -> Result<(), StoreFault>
-    ensures { IfErr result (LeavesPart None None name.now bytes.now) }
+    ensures part { IfErr result (LeavesPart None None name.now bytes.now) }
+    ensures whole { OnOk result (WereWritten R.File.contents bytes.now) }
+    ensures first { IfErr result (WerePartWritten R.File.contents bytes.now) }
 {
     let Ok(file) = fs::create(rt, name) else {
         return Err(StoreFault::Failed {
@@ -109,9 +123,17 @@ fn store_to<R: rt::Files>(rt: &R, name: &str, bytes: &[u8]) -> Result<(), StoreF
     };
     match write_whole(&mut StdSink::new(file), bytes) {
         Ok(()) => Ok(()),
-        Err(PutFault::Failed { written }) => Err(StoreFault::Failed {
-            opened: true,
-            written,
-        }),
+        Err(fault) => Err(fault_of_opened(fault)),
+    }
+}
+
+// The fault where the file was opened and a write failed.
+fn fault_of_opened(fault: PutFault) -> StoreFault
+    ensures { result ≡ StoreFault.Failed true (written_before fault) }
+{
+    let PutFault::Failed { written } = fault;
+    StoreFault::Failed {
+        opened: true,
+        written,
     }
 }

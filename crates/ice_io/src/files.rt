@@ -1,4 +1,4 @@
-// Files that are loaded and stored as a whole, by their names.
+// Files, loaded and stored whole.
 ghost use Rattle.std.specs.Prelude.{◌≡◌, ◌+◌, ◌<◌, ◌≤◌, ◌^◌, ℕ, Bool, Option, vec_len, IfOk, IfErr, OnOk, OnErr, IsErrOf, IsTrue};
 ghost use Rattle.ice_io.specs.Faults.{Rose};
 ghost use Rattle.ice_io.specs.Files.{FileMap, HasFile, HasMore, LacksFile, with_file, LeavesPart};
@@ -6,14 +6,14 @@ ghost use Rattle.ice_io.specs.Files.{FileMap, HasFile, HasMore, LacksFile, with_
 use crate::source::TakeFault;
 use std::alloc::Global;
 
-/// Why bytes could not be stored.
+/// Why a file could not be stored.
 #[derive(Clone, Copy, Debug, PartialEq, Eq)]
 pub enum StoreFault {
-    /// The file could not be opened for writing, or a write failed after that many bytes were taken.
+    /// The file could not be opened for writing, or a write failed after `written` bytes had been written.
     Failed { opened: bool, written: usize },
 }
 
-/// Files that are loaded and stored as a whole, by their names.
+/// Files by name, loaded and stored whole.
 pub trait Files {
     /// The bytes of each name, where they are known.
     ghost contents: { Self → Option FileMap };
@@ -27,7 +27,7 @@ pub trait Files {
     /// How many stores have failed. It never falls, and stays at `u64::MAX`.
     ghost store_faults: { Self → ℕ };
 
-    /// The bytes of a name, at most `limit` of them.
+    /// All bytes of a file, if there are at most `limit`.
     fn load(&mut self, alloc: Global, name: &str, limit: usize) -> Result<Vec<u8>, TakeFault>
         requires { limit < 2 ^ 32 }
 
@@ -42,8 +42,8 @@ pub trait Files {
         ensures never_falls { load_faults self.old ≤ load_faults self.new }
         ensures same_store_faults { store_faults self.new ≡ store_faults self.old };
 
-    /// Gives a name these bytes, whether it is there or not. A fault after the file was opened leaves the first bytes,
-    /// and any other leaves all as it was.
+    /// Creates the file or replaces it, with these bytes. If a write fails, the file has the bytes written before it. If the
+    /// file can't be opened, all files stay as they were.
     fn store(&mut self, name: &str, bytes: &[u8]) -> Result<(), StoreFault>
         ensures whole { OnOk result (contents self.new ≡ with_file (contents self.old) name.now bytes.now) }
         ensures part { IfErr result (LeavesPart (contents self.old) (contents self.new) name.now bytes.now) }

@@ -1,7 +1,8 @@
-//! The outside as the tools see it: sources of bytes, sinks for bytes and files, each with counts of its faults.
+//! Input and output: sources of bytes, sinks for bytes, and files by name. Each counts its failures.
 //!
-//! The forms in memory tell what they hold, and fail at the calls that were chosen. The adapters over real readers,
-//! writers and files are the trusted edge: of a file, a terminal or a pipe they tell nothing.
+//! The sources, sinks and files in memory know their bytes, and fail at the calls that you choose. `StdSource`, `StdSink` and
+//! `DirFiles` stand over the standard library. They promise that all bytes were read or written, and an exact count where not;
+//! what lies in a file of the system, only the system knows.
 #![tactic(auto)]
 
 mod dir_files;

@@ -1,4 +1,4 @@
-// Files in memory, which tell what they hold, and fail at calls that are chosen beforehand.
+// Files in memory. They know their bytes, and fail at the calls that were chosen.
 ghost use Rattle.std.specs.Prelude.{◌≡◌, ◌⊎◌, ◌↔◌, ◌+◌, ◌<◌, ◌≤◌, ◌^◌, ℕ, Bool, true, false, Option, Some, None, map, nat_eq, length, take, vec_len, IfOk, IfErr, OnOk, OnErr, IfSome, IsSomeAnd, IsErrOf, IsTrue, option_copied};
 ghost use Rattle.std.specs.Ordering.{nat_cmp};
 ghost use Rattle.std.specs.Cmp.Lexicographic.{slice_cmp};
@@ -12,7 +12,7 @@ use crate::source::TakeFault;
 use std::alloc::{AllocError, Global};
 use std::marker::Model;
 
-/// Files in memory. Bytes may be stored under one name.
+/// Files in memory, of which one may be stored.
 #[derive(Drop)]
 pub struct MemFiles {
     files: Vec<NamedFile>,
@@ -50,9 +50,9 @@ impl Model for MemFiles {
 }
 
 impl MemFiles {
-    /// Files in memory, whose bytes are copied at most `most` at a time. At most `room` bytes may be stored under the
-    /// name `target`, and none under another. The calls that `failing` lists fail, loads and stores being counted
-    /// together from 1. All the room is taken here.
+    /// Files in memory, whose bytes are copied at most `most` at a time. Only `target` may be stored, with at most `room` bytes.
+    /// `failing` lists the calls that fail: loads and stores are counted together, from 1. The memory for `target` is allocated
+    /// here.
     pub fn new(
         alloc: Global,
         files: Vec<NamedFile>,
@@ -77,7 +77,7 @@ impl MemFiles {
         })
     }
 
-    /// The bytes of a name.
+    /// The bytes of a file, if there is one of that name.
     pub fn bytes_of(&self, name: &str) -> Option<&[u8]>
         ensures { option_copied result ≡ get self.now.files name.now }
     {

@@ -1,4 +1,4 @@
-// Sources and sinks in memory, which tell what they hold, and fail at calls that are chosen beforehand.
+// Sources and sinks in memory. They know their bytes, and fail at the calls that were chosen.
 ghost use Rattle.std.specs.Prelude.{◌≡◌, ◌⊎◌, ◌↔◌, ◌+◌, ◌++◌, ◌<◌, ◌≤◌, min, ℕ, [], Some, length, take, drop, IfOk, OnErr, IsErr, IsTrue, Contains};
 ghost use Rattle.std.specs.Io.KnownBytes.{ReadConsumes, WriteAppends};
 ghost use Rattle.ice_io.specs.Faults.{counted, Rose};
@@ -33,8 +33,7 @@ impl Model for MemSource {
 }
 
 impl MemSource {
-    /// A source of these bytes, of which a read gives at most `most`. The reads that `failing` lists fail: the first
-    /// read has the number 1.
+    /// A source of these bytes. A read gives at most `most` of them. `failing` lists the reads that fail, counted from 1.
     pub fn new(bytes: Vec<u8>, most: usize, failing: Vec<u64>) -> MemSource
         requires { 1 ≤ most }
         ensures { result ≡ record { left = bytes.items; most = most; failing = failing.items; calls = 0; faults = 0 } }
@@ -99,8 +98,8 @@ impl Model for MemSink {
 }
 
 impl MemSink {
-    /// A sink that takes at most `room` bytes in all, and at most `most` in one write. The writes that `failing` lists
-    /// fail: the first write has the number 1. All the room is taken here.
+    /// A sink for at most `room` bytes in all, and at most `most` in one write. `failing` lists the writes that fail, counted
+    /// from 1. All memory is allocated here.
     pub fn new(
         alloc: Global,
         room: usize,
@@ -120,7 +119,7 @@ impl MemSink {
         })
     }
 
-    /// The bytes taken so far.
+    /// The bytes written so far.
     pub fn bytes(&self) -> &[u8]
         ensures { result.now ≡ self.now.held }
     {

@@ -1,4 +1,4 @@
-/// A file, to be handed to files in memory.
+/// A file for `MemFiles`.
 #[derive(Drop)]
 pub struct NamedFile {
     pub name: String,

@@ -1,4 +1,4 @@
-// What the forms in memory share: which calls fail, and bytes that are copied a piece at a time.
+// Shared by the sources, sinks and files in memory: which calls fail, and copying a piece at a time.
 ghost use Rattle.std.specs.Prelude.{◌≡◌, ◌++◌, ◌↔◌, ◌≤◌, min, length, take, drop, IsTrue, Contains};
 
 // Whether a call is one of those that are listed.

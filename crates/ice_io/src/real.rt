@@ -1,17 +1,16 @@
-// Sources and sinks over the readers and writers of the standard library. They tell what those tell: of a file, a
-// terminal or a pipe nothing.
-ghost use Rattle.std.specs.Prelude.{◌≡◌, ◌<◌, ◌≤◌, ℕ, length, IfOk, OnOk, OnErr};
+// Sources and sinks over the readers and writers of the standard library. They know the bytes where those do: in memory, but
+// not in a file, at a terminal or in a pipe.
+ghost use Rattle.std.specs.Prelude.{◌≡◌, ◌≢◌, ◌<◌, ◌≤◌, ℕ, length, IfOk, IfErr, OnOk, OnErr};
+ghost use Rattle.std.specs.IoError.{error_kind};
 ghost use Rattle.std.specs.Io.KnownBytes.{ReadConsumes, WriteAppends};
 ghost use Rattle.ice_io.specs.Faults.{counted};
 
 use crate::sink::Sink;
 use crate::source::{Failed, Source};
-use std::io::{ErrorKind, Read, Write};
+use std::io;
+use std::io::{Error, ErrorKind, Read, Write};
 
-/// How often a read or a write that was interrupted is tried.
-const TRIES: u32 = 1000;
-
-/// A source over a reader.
+/// A source over a reader. It reads again where a read is interrupted.
 #[derive(Drop)]
 pub struct StdSource<R: Read> {
     inner: R,
@@ -21,7 +20,7 @@ pub struct StdSource<R: Read> {
 impl<R: Read> StdSource<R> {
     ghost use Rattle.ice_io.specs.Real.{reader_of, read_faults};
 
-    /// A source over a reader, which hasn't failed yet.
+    /// A source over this reader, with no failure counted yet.
     pub fn new(inner: R) -> StdSource<R>
         ensures reader { reader_of result ≡ inner }
         ensures faults { read_faults result ≡ 0 }
@@ -45,15 +44,17 @@ impl<R: Read> Source for StdSource<R> {
         ensures ok { OnOk result (read_faults self.new ≡ read_faults self.old) }
         ensures failed { OnErr result (read_faults self.new ≡ counted (read_faults self.old)) }
     {
-        let count = read_once(&mut self.inner, into);
-        if count.is_err() {
-            self.faults = self.faults.saturating_add(1);
+        match read_once(&mut self.inner, into) {
+            Ok(count) => Ok(count),
+            Err(_) => {
+                self.faults = self.faults.saturating_add(1);
+                Err(Failed)
+            }
         }
-        count
     }
 }
 
-/// A sink over a writer.
+/// A sink over a writer. It writes again where a write is interrupted.
 #[derive(Drop)]
 pub struct StdSink<W: Write> {
     inner: W,
@@ -63,7 +64,7 @@ pub struct StdSink<W: Write> {
 impl<W: Write> StdSink<W> {
     ghost use Rattle.ice_io.specs.Real.{writer_of, write_faults};
 
-    /// A sink over a writer, which hasn't failed yet.
+    /// A sink over this writer, with no failure counted yet.
     pub fn new(inner: W) -> StdSink<W>
         ensures writer { writer_of result ≡ inner }
         ensures faults { write_faults result ≡ 0 }
@@ -88,42 +89,44 @@ impl<W: Write> Sink for StdSink<W> {
         ensures ok { OnOk result (write_faults self.new ≡ write_faults self.old) }
         ensures failed { OnErr result (write_faults self.new ≡ counted (write_faults self.old)) }
     {
-        let count = write_once(&mut self.inner, piece);
-        if count.is_err() {
-            self.faults = self.faults.saturating_add(1);
+        match write_once(&mut self.inner, piece) {
+            Ok(count) => Ok(count),
+            Err(_) => {
+                self.faults = self.faults.saturating_add(1);
+                Err(Failed)
+            }
         }
-        count
     }
 }
 
-// One read. It is tried again where it was interrupted.
-fn read_once<R: Read>(reader: &mut R, into: &mut [u8]) -> Result<usize, Failed>
+// One read, repeated while it is interrupted.
+fn read_once<R: Read>(reader: &mut R, into: &mut [u8]) -> io::Result<usize>
     ensures count { IfOk result (λ n. n ≤ length into.new) }
     ensures bytes { ReadConsumes (R.remaining reader.old) (R.remaining reader.new) result into.new }
+    ensures retried { IfErr result (λ e. error_kind e ≢ ErrorKind.Interrupted) }
 {
-    for _ in 0..TRIES {
+    for _ in 0..u64::MAX {
         match reader.read(into) {
-            Ok(count) => return Ok(count),
             Err(e) if e.kind() == ErrorKind::Interrupted => {}
-            Err(_) => return Err(Failed),
+            count => return count,
         }
     }
-    Err(Failed)
+    Err(Error::from(ErrorKind::TimedOut))
 }
 
-// One write. It is tried again where it was interrupted, and fails where it takes nothing of a piece that isn't empty.
-fn write_once<W: Write>(writer: &mut W, piece: &[u8]) -> Result<usize, Failed>
+// One write, repeated while it is interrupted. Writing nothing of a piece that isn't empty is a failure.
+fn write_once<W: Write>(writer: &mut W, piece: &[u8]) -> io::Result<usize>
     ensures count { IfOk result (λ n. n ≤ length piece.now) }
     ensures progress { IfOk result (λ n. 0 < length piece.now → 0 < n) }
     ensures bytes { WriteAppends (W.contents writer.old) (W.contents writer.new) result piece.now }
+    ensures retried { IfErr result (λ e. error_kind e ≢ ErrorKind.Interrupted) }
 {
-    for _ in 0..TRIES {
+    for _ in 0..u64::MAX {
         match writer.write(piece) {
-            Ok(0) if !piece.is_empty() => return Err(Failed),
-            Ok(count) => return Ok(count),
+            Ok(0) if !piece.is_empty() => return Err(Error::from(ErrorKind::WriteZero)),
             Err(e) if e.kind() == ErrorKind::Interrupted => {}
-            Err(_) => return Err(Failed),
+            count => return count,
         }
     }
-    Err(Failed)
+    Err(Error::from(ErrorKind::TimedOut))
 }

@@ -1,4 +1,4 @@
-// What bytes are written to.
+// Writing bytes.
 ghost use Rattle.std.specs.Prelude.{◌≡◌, ◌+◌, ◌<◌, ◌≤◌, ℕ, List, Option, length, take, IfOk, OnOk, OnErr};
 ghost use Rattle.std.specs.Io.KnownBytes.{Appends, WriteAppends};
 ghost use Rattle.ice_io.specs.Faults.{Rose};
@@ -6,16 +6,16 @@ ghost use Rattle.ice_io.specs.Put.{ForWritten};
 
 use crate::source::Failed;
 
-/// What bytes are written to, in order.
+/// A writer of bytes, in order.
 pub trait Sink {
-    /// The bytes taken so far, where they are known.
+    /// The bytes written so far, where they are known.
     ghost held: { Self → Option (List ℕ) };
 
     /// How many writes have failed. It never falls, and stays at `u64::MAX`.
     ghost faults: { Self → ℕ };
 
-    /// Takes bytes from the front of a piece, at least one of a piece that isn't empty, and answers how many. After
-    /// `Failed` nothing was taken.
+    /// Writes bytes from the front of the piece, at least one unless the piece is empty, and returns how many. `Failed` has
+    /// written none.
     fn write(&mut self, piece: &[u8]) -> Result<usize, Failed>
         ensures count { IfOk result (λ n. n ≤ length piece.now) }
         ensures progress { IfOk result (λ n. 0 < length piece.now → 0 < n) }
@@ -24,14 +24,14 @@ pub trait Sink {
         ensures failed { OnErr result (Rose (faults self.old) (faults self.new)) };
 }
 
-/// Why bytes could not be put.
+/// Why bytes could not be written.
 #[derive(Clone, Copy, Debug, PartialEq, Eq)]
 pub enum PutFault {
-    /// A write failed after that many bytes were taken.
+    /// A write failed, after `written` bytes had been written.
     Failed { written: usize },
 }
 
-/// Writes all the bytes, in as many writes as it takes. It takes no memory.
+/// Writes all the bytes, in as many writes as it takes. It allocates nothing.
 pub fn write_whole<K: Sink>(sink: &mut K, bytes: &[u8]) -> Result<(), PutFault>
     ensures whole { OnOk result (Appends (K.held sink.old) (K.held sink.new) bytes.now) }
     ensures part { ForWritten result (λ written. Appends (K.held sink.old) (K.held sink.new) (take written bytes.now)) }

@@ -1,4 +1,4 @@
-// What bytes are read from.
+// Reading bytes.
 ghost use Rattle.std.specs.Prelude.{◌≡◌, ◌≢◌, ◌+◌, ◌<◌, ◌≤◌, ◌^◌, ℕ, List, Option, length, vec_len, take, IfOk, OnErr, IsErrOf};
 ghost use Rattle.std.specs.Io.KnownBytes.{ReadConsumes};
 ghost use Rattle.ice_io.specs.Faults.{Rose};
@@ -6,11 +6,11 @@ ghost use Rattle.ice_io.specs.Taken.{TakesCount, TakesAtMost, TakesAll};
 
 use std::alloc::{AllocError, Global};
 
-/// A call to the outside failed.
+/// A read or a write failed.
 #[derive(Clone, Copy, Debug, PartialEq, Eq)]
 pub struct Failed;
 
-/// What bytes are read from, in order.
+/// A reader of bytes, in order.
 pub trait Source {
     /// The bytes not yet read, where they are known.
     ghost left: { Self → Option (List ℕ) };
@@ -18,8 +18,8 @@ pub trait Source {
     /// How many reads have failed. It never falls, and stays at `u64::MAX`.
     ghost faults: { Self → ℕ };
 
-    /// Reads into the front of the buffer, and answers how many bytes. It answers 0 for a buffer that isn't empty only
-    /// at the end of the input. After `Failed` the same bytes are left.
+    /// Reads bytes into the front of the buffer, and returns how many. It returns 0 only at the end of the input, or for an
+    /// empty buffer. `Failed` leaves the unread bytes as they were.
     fn read(&mut self, into: &mut [u8]) -> Result<usize, Failed>
         ensures count { IfOk result (λ n. n ≤ length into.new) }
         ensures bytes { ReadConsumes (left self.old) (left self.new) result into.new }
@@ -27,12 +27,12 @@ pub trait Source {
         ensures failed { OnErr result (Rose (faults self.old) (faults self.new)) };
 }
 
-/// Why bytes could not be taken.
+/// Why a whole input could not be read.
 #[derive(Clone, Copy, Debug, PartialEq, Eq)]
 pub enum TakeFault {
     /// A read failed.
     Failed,
-    /// There are more bytes than the limit.
+    /// The input has more bytes than the limit.
     TooLong,
     /// Out of memory.
     Memory(AllocError),
@@ -58,10 +58,10 @@ impl From<Failed> for TakeFault {
     }
 }
 
-/// The most bytes that one read of `read_all` asks for.
+/// How many bytes `read_all` asks for at a time, at most.
 const TURN: usize = 65536;
 
-/// Reads to the end. After `TooLong` one byte more than the limit was taken.
+/// Reads all bytes up to the end, if there are at most `limit`. `TooLong` leaves `limit + 1` bytes read.
 pub fn read_all<S: Source>(
     alloc: Global,
     source: &mut S,

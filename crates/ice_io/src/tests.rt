@@ -4,7 +4,7 @@ use std::fs;
 use std::io::{Error, ErrorKind, Read, Write};
 use std::test::Fail;
 
-// A reader and a writer of single bytes, whose second call fails and whose third is interrupted.
+// A reader and a writer of one byte a call. It is interrupted three times before the second byte, and fails after that byte.
 #[derive(Drop)]
 struct Unsteady {
     calls: u8,
@@ -14,8 +14,8 @@ impl Unsteady {
     fn next(&mut self) -> Result<(), Error> {
         self.calls = self.calls.saturating_add(1);
         match self.calls {
-            2 => Err(Error::from(ErrorKind::Other)),
-            3 => Err(Error::from(ErrorKind::Interrupted)),
+            2..=4 => Err(Error::from(ErrorKind::Interrupted)),
+            6 => Err(Error::from(ErrorKind::Other)),
             _ => Ok(()),
         }
     }
@@ -44,189 +44,96 @@ impl Write for Unsteady {
 }
 
 #[test]
-fn memory_gives_its_bytes_in_turns(rt: HostRuntime) -> Result<(), Fail> {
-    let alloc = rt.alloc();
-    let mut source = MemSource::new(b"abcdef".to_vec(alloc)?, 4, [2].to_vec(alloc)?);
-    let mut turn = [0; 3];
-    for (want, bytes) in [
-        (Ok(3), b"abc"),
-        (Err(Failed), b"abc"),
-        (Ok(3), b"def"),
-        (Ok(0), b"def"),
-    ] {
-        assert_eq!(rt; source.read(&mut turn), want);
-        assert_eq!(rt; turn.as_slice(), bytes.as_slice());
-    }
-    let mut source = MemSource::new(b"abcdef".to_vec(alloc)?, 4, Vec::new(alloc));
-    let mut turn = [0; 6];
-    assert_eq!(rt; source.read(&mut turn), Ok(4));
-    Ok(())
-}
-
-#[test]
-fn all_is_read_up_to_the_limit(rt: HostRuntime) -> Result<(), Fail> {
-    let alloc = rt.alloc();
-    for (limit, failing, want) in [
-        (5, 9, Ok(b"abcde".as_slice())),
-        (4, 9, Err(TakeFault::TooLong)),
-        (5, 2, Err(TakeFault::Failed)),
-        (1, 2, Err(TakeFault::TooLong)),
-    ] {
-        let mut source = MemSource::new(b"abcde".to_vec(alloc)?, 3, [failing].to_vec(alloc)?);
-        let taken = read_all(alloc, &mut source, limit);
-        assert_eq!(rt;
-            taken
-                .as_ref()
-                .map(|bytes| bytes.as_slice())
-                .map_err(|fault| *fault),
-            want
-        );
-    }
-    Ok(())
-}
-
-#[test]
-fn memory_takes_bytes_up_to_its_room(rt: HostRuntime) -> Result<(), Fail> {
-    let alloc = rt.alloc();
-    let mut sink = MemSink::new(alloc, 5, 2, [3].to_vec(alloc)?)?;
-    for (piece, want) in [
-        (b"abcd".as_slice(), Ok(())),
-        (b"e".as_slice(), Err(PutFault::Failed { written: 0 })),
-        (b"ef".as_slice(), Err(PutFault::Failed { written: 1 })),
-        (b"".as_slice(), Ok(())),
-    ] {
-        assert_eq!(rt; write_whole(&mut sink, piece), want);
-    }
-    assert_eq!(rt; sink.bytes(), b"abcde".as_slice());
-    assert_eq!(rt; sink.write(b""), Ok(0));
-    Ok(())
-}
-
-#[test]
-fn a_real_reader_is_a_source(rt: HostRuntime) -> Result<(), Fail> {
-    let alloc = rt.alloc();
-    let name = "ice_io_read_by_a_source";
-    fs::write(&rt, name, "abc")?;
-    let mut source = StdSource::new(fs::open(&rt, name)?);
-    fs::remove_file(&rt, name)?;
-    let taken = read_all(alloc, &mut source, 3)
-        .ok()
-        .ok_or("three bytes are within the limit")?;
-    assert_eq!(rt; taken.as_slice(), b"abc".as_slice());
+fn an_interrupted_read_is_tried_again(rt: HostRuntime) {
     let mut source = StdSource::new(Unsteady { calls: 0 });
-    let mut turn = [0; 2];
-    for want in [Ok(1), Err(Failed), Ok(1)] {
-        assert_eq!(rt; source.read(&mut turn), want);
+    for want in [Ok(1), Ok(5), Err(Failed), Ok(7)] {
+        let mut byte = [0];
+        let count = source.read(&mut byte);
+        assert_eq!(rt; count.map(|_| byte[0]), want);
     }
-    assert_eq!(rt; turn[0], 4);
-    Ok(())
 }
 
 #[test]
-fn a_real_writer_is_a_sink(rt: HostRuntime) -> Result<(), Fail> {
-    let name = "ice_io_written_by_a_sink";
-    let mut sink = StdSink::new(fs::create(&rt, name)?);
-    assert_eq!(rt; write_whole(&mut sink, b"abc"), Ok(()));
-    let bytes = fs::read(&rt, name)?;
-    fs::remove_file(&rt, name)?;
-    assert_eq!(rt; bytes.as_slice(), b"abc".as_slice());
+fn an_interrupted_write_is_tried_again(rt: HostRuntime) {
     let mut sink = StdSink::new(Unsteady { calls: 0 });
-    for want in [Err(PutFault::Failed { written: 1 }), Ok(())] {
-        assert_eq!(rt; write_whole(&mut sink, b"ab"), want);
+    for want in [Err(PutFault::Failed { written: 2 }), Ok(())] {
+        assert_eq!(rt; write_whole(&mut sink, b"abc"), want);
     }
-    let mut room = [0; 2];
-    let mut sink = StdSink::new(room.as_mut_slice());
-    assert_eq!(rt;
-        write_whole(&mut sink, b"abc"),
-        Err(PutFault::Failed { written: 2 })
-    );
-    Ok(())
 }
 
-fn named(alloc: Global, name: &str, bytes: &[u8]) -> Result<NamedFile, AllocError> {
-    Ok(NamedFile {
-        name: String::from_str(alloc, name)?,
-        bytes: bytes.to_vec(alloc)?,
-    })
+// Stores the bytes and loads them again, and answers whether they are the same.
+fn is_kept<F: Files>(
+    alloc: Global,
+    files: &mut F,
+    name: &str,
+    bytes: &[u8],
+    limit: u32,
+) -> Result<bool, TakeFault> {
+    if files.store(name, bytes).is_err() {
+        return Ok(false);
+    }
+    let loaded = files.load(alloc, name, limit as usize)?;
+    Ok(loaded.as_slice() == bytes)
 }
 
-fn two_files(alloc: Global) -> Result<Vec<NamedFile>, AllocError> {
-    let mut files = Vec::new(alloc);
-    files.push(named(alloc, "a", b"abc")?)?;
-    files.push(named(alloc, "b", b"defgh")?)?;
-    Ok(files)
+// 100,000 bytes, with a period that divides no power of two.
+fn many_bytes(alloc: Global) -> Result<Vec<u8>, AllocError> {
+    (0..100_000u32).map(|i| (i % 251) as u8).collect(alloc)
 }
 
 #[test]
-fn files_in_memory_are_loaded(rt: HostRuntime) -> Result<(), Fail> {
-    let alloc = rt.alloc();
-    let failing = [4].to_vec(alloc)?;
-    let mut files = MemFiles::new(alloc, two_files(alloc)?, "out", 3, 2, failing)?;
-    for (name, limit, want) in [
-        ("a", 3, Ok(b"abc".as_slice())),
-        ("b", 4, Err(TakeFault::TooLong)),
-        ("c", 9, Err(TakeFault::Failed)),
-        ("b", 9, Err(TakeFault::Failed)),
-        ("b", 5, Ok(b"defgh".as_slice())),
-    ] {
-        let loaded = files.load(alloc, name, limit);
-        assert_eq!(rt;
-            loaded
-                .as_ref()
-                .map(|bytes| bytes.as_slice())
-                .map_err(|fault| *fault),
-            want
-        );
-    }
-    Ok(())
-}
-
-#[test]
-fn one_file_in_memory_is_stored(rt: HostRuntime) -> Result<(), Fail> {
-    let alloc = rt.alloc();
-    let failing = [4].to_vec(alloc)?;
-    let mut files = MemFiles::new(alloc, two_files(alloc)?, "b", 3, 2, failing)?;
-    for (name, bytes, want, now) in [
-        ("b", b"xy".as_slice(), Ok(()), b"xy".as_slice()),
-        ("b", b"12345".as_slice(), Err((true, 3)), b"123".as_slice()),
-        ("a", b"xy".as_slice(), Err((false, 0)), b"abc".as_slice()),
-        ("b", b"xy".as_slice(), Err((false, 0)), b"123".as_slice()),
-        ("b", b"".as_slice(), Ok(()), b"".as_slice()),
-    ] {
-        let want = want.map_err(|(opened, written)| StoreFault::Failed { opened, written });
-        assert_eq!(rt; files.store(name, bytes), want);
-        assert_eq!(rt; files.bytes_of(name), Some(now));
-    }
-    assert_eq!(rt; files.bytes_of("c"), None);
-    Ok(())
-}
-
-#[test]
-fn real_files_are_stored_and_loaded(rt: HostRuntime) -> Result<(), Fail> {
-    let alloc = rt.alloc();
+fn real_files_are_stored_and_loaded_whole(rt: HostRuntime) -> Result<(), Fail> {
     let name = "ice_io_stored_and_loaded";
+    let many = many_bytes(rt.alloc())?;
     let mut files = DirFiles::new(&rt);
-    assert_eq!(rt; files.store(name, b"abcde"), Ok(()));
-    assert_eq!(rt; files.store(name, b"abc"), Ok(()));
-    for (name, limit, want) in [
-        (name, 3, Ok(b"abc".as_slice())),
-        (name, 2, Err(TakeFault::TooLong)),
-        ("ice_io_missing", 3, Err(TakeFault::Failed)),
+    let mut are_as_wanted = true;
+    for (bytes, limit, want) in [
+        (many.as_slice(), 100_000, Ok(true)),
+        (many.as_slice(), 99_999, Err(TakeFault::TooLong)),
+        (b"abc".as_slice(), 3, Ok(true)),
+        (b"".as_slice(), 0, Ok(true)),
     ] {
-        let loaded = files.load(alloc, name, limit);
-        assert_eq!(rt;
-            loaded
-                .as_ref()
-                .map(|bytes| bytes.as_slice())
-                .map_err(|fault| *fault),
-            want
-        );
+        are_as_wanted &= is_kept(rt.alloc(), &mut files, name, bytes, limit) == want;
     }
     fs::remove_file(&rt, name)?;
-    let unopened = StoreFault::Failed {
-        opened: false,
-        written: 0,
-    };
-    assert_eq!(rt; files.store("ice_io_missing/file", b"abc"), Err(unopened));
+    assert!(rt; are_as_wanted);
+    Ok(())
+}
+
+#[test]
+fn faults_of_real_files_are_told(rt: HostRuntime) {
+    let mut files = DirFiles::new(&rt);
+    for (name, opened) in [("ice_io_missing/file", false), ("/dev/full", true)] {
+        let fault = StoreFault::Failed { opened, written: 0 };
+        assert_eq!(rt; files.store(name, b"abc"), Err(fault));
+    }
+    let missing = files.load(rt.alloc(), "ice_io_missing", 3);
+    assert!(rt; matches!(missing, Err(TakeFault::Failed)));
+}
+
+#[test]
+fn files_in_memory_are_stored_and_loaded(rt: HostRuntime) -> Result<(), Fail> {
+    let alloc = rt.alloc();
+    let mut given = Vec::new(alloc);
+    given.push(NamedFile {
+        name: String::from_str(alloc, "a")?,
+        bytes: b"abc".to_vec(alloc)?,
+    })?;
+    let mut files = MemFiles::new(alloc, given, "b", 3, 2, Vec::new(alloc))?;
+    assert_eq!(rt; is_kept(alloc, &mut files, "b", b"xyz", 3), Ok(true));
+    assert_eq!(rt; files.bytes_of("a"), Some(b"abc".as_slice()));
+    Ok(())
+}
+
+#[test]
+fn memory_is_read_and_written(rt: HostRuntime) -> Result<(), Fail> {
+    let alloc = rt.alloc();
+    let mut source = MemSource::new(b"abcde".to_vec(alloc)?, 2, Vec::new(alloc));
+    let mut sink = MemSink::new(alloc, 5, 3, Vec::new(alloc))?;
+    let taken = read_all(alloc, &mut source, 5)
+        .ok()
+        .ok_or("five bytes are within the limit")?;
+    assert_eq!(rt; write_whole(&mut sink, &taken), Ok(()));
+    assert_eq!(rt; sink.bytes(), b"abcde".as_slice());
     Ok(())
 }

@@ -19,6 +19,7 @@ pub record IsPacked (text : List ℕ) (no_sleep : Bool) (bytes : List ℕ) : Typ
   pub means : AscMeans text image symbols
   pub canonical : bytes ≡ canonical_bytes (awake_where no_sleep image)
   pub spells : Spells bytes (awake_where no_sleep image)
+  pub read : bin_read_of bytes ≡ Ok (awake_where no_sleep image)
 
 -- The text is the canonical text of what the bytes spell, and means that.
 pub record IsUnpacked (bytes text : List ℕ) : Type 0 where
@@ -27,3 +28,28 @@ pub record IsUnpacked (bytes text : List ℕ) : Type 0 where
   pub spells : Spells bytes image
   pub canonical : text ≡ asc_text_of image
   pub means : AscMeans text image []
+
+-- ---- both ways
+
+-- Every text of the same image is packed to the same bytes.
+abbrev pub PacksAlike : List ℕ → Bool → List ℕ → Type 0
+PacksAlike text no_sleep bytes =
+    (image : Configuration) (symbols others : List Symbol) (other packed : List ℕ) →
+    AscMeans text image symbols → AscMeans other image others → IsPacked other no_sleep packed → packed ≡ bytes
+
+-- What is packed is unpacked to a text of the same image.
+abbrev pub UnpacksBack : List ℕ → Bool → List ℕ → Type 0
+UnpacksBack text no_sleep bytes =
+    (image : Configuration) (symbols : List Symbol) (unpacked : List ℕ) →
+    AscMeans text image symbols → IsUnpacked bytes unpacked → AscMeans unpacked (awake_where no_sleep image) []
+
+-- What is unpacked is packed to the canonical bytes of the image that was spelled.
+abbrev pub PacksBack : List ℕ → List ℕ → Type 0
+PacksBack bytes text =
+    (image : Configuration) (packed : List ℕ) → Spells bytes image → IsPacked text false packed → packed ≡ canonical_bytes image
+
+-- So what was canonical is packed to itself.
+abbrev pub PacksToItself : List ℕ → List ℕ → Type 0
+PacksToItself bytes text =
+    (image : Configuration) (packed : List ℕ) →
+    Spells bytes image → bytes ≡ canonical_bytes image → IsPacked text false packed → packed ≡ bytes

@@ -6,3 +6,6 @@ mod unpacking;
 
 pub use packing::pack;
 pub use unpacking::unpack;
+
+#[cfg(test)]
+mod tests;

@@ -2,7 +2,7 @@
 ghost use Rattle.std.specs.Prelude.{◌≡◌, None, IfOk, IfErr, OnOk};
 ghost use Rattle.ice_image.specs.Either.{configuration_of, device_of};
 ghost use Rattle.asc_text.specs.Faults.{asc_fault_of, Tells};
-ghost use Rattle.ice_pack.specs.Packed.{awake_where, IsPacked};
+ghost use Rattle.ice_pack.specs.Packed.{awake_where, IsPacked, PacksAlike, UnpacksBack};
 
 use asc_text::{AscFault, AscFile, read};
 use bin_stream::encode;
@@ -10,8 +10,11 @@ use ice_image::{AnyImage, Settings};
 use std::alloc::Global;
 
 /// The canonical bytes of what a text configures. The flash stays awake where `no_sleep` is true, whatever the text says.
+#[tactic(auto, using(crate::proofs::BothWays::packs_alike, crate::proofs::BothWays::unpacks_back))]
 pub fn pack(alloc: Global, asc: &[u8], no_sleep: bool) -> Result<Vec<u8>, AscFault>
     ensures packed { IfOk result (λ bytes. IsPacked asc.now no_sleep bytes.items) }
+    ensures alike { IfOk result (λ bytes. PacksAlike asc.now no_sleep bytes.items) }
+    ensures back { IfOk result (λ bytes. UnpacksBack asc.now no_sleep bytes.items) }
     ensures accepted { OnOk result (asc_fault_of asc.now ≡ None) }
     ensures refused { IfErr result (Tells (asc_fault_of asc.now)) }
 {

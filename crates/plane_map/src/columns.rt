@@ -44,7 +44,7 @@ pub(crate) fn px_of(device: DeviceName, bit: TileBit) -> u32
     let start = column_start(device, distance);
     let width = column_width(device, distance);
     start
-        + offset_of_col(
+        + inner_px(
             width,
             on_end(device, bit.y as u32),
             is_mirrored(device, x),
@@ -52,8 +52,8 @@ pub(crate) fn px_of(device: DeviceName, bit: TileBit) -> u32
         )
 }
 
-/// How far a column of a tile is from the start of its column of tiles.
-fn offset_of_col(width: u32, end: bool, mirrored: bool, col: u8) -> u32
+/// The column of bits that a column of a tile takes, counted from the start of its column of tiles.
+fn inner_px(width: u32, end: bool, mirrored: bool, col: u8) -> u32
     requires end { end ≡ true → col < 18 }
     requires inner { end ≡ false → col < width }
     ensures { result ≡ (if end then pad_column col else if mirrored then width - 1 - col else col) }
@@ -72,8 +72,8 @@ fn offset_of_col(width: u32, end: bool, mirrored: bool, col: u8) -> u32
 pub(crate) struct TileColumn {
     /// How far the column of tiles is from its side edge.
     pub(crate) distance: u32,
-    /// How far the column of bits is from the start of its column of tiles.
-    pub(crate) offset: u32,
+    /// The column of bits, counted from the start of that column of tiles.
+    pub(crate) inner_px: u32,
 }
 
 /// The column of tiles that takes a column of bits, if one does.
@@ -81,34 +81,34 @@ pub(crate) struct TileColumn {
 pub(crate) fn column_at(device: DeviceName, px: u32) -> Option<TileColumn>
     ensures none { IfNone result (start_of device (grid_width device / 2) ≤ px) }
     ensures in_half { IfSome result (λ column. column.distance < grid_width device / 2) }
-    ensures in_column { IfSome result (λ column. column.offset < width_of device column.distance) }
-    ensures value { IfSome result (λ column. start_of device column.distance + column.offset ≡ px) }
+    ensures in_column { IfSome result (λ column. column.inner_px < width_of device column.distance) }
+    ensures value { IfSome result (λ column. start_of device column.distance + column.inner_px ≡ px) }
 {
-    let mut offset = px;
+    let mut inner_px = px;
     for distance in 0..device.columns() / 2 {
         let width = column_width(device, distance);
-        if offset < width {
-            return Some(TileColumn { distance, offset });
+        if inner_px < width {
+            return Some(TileColumn { distance, inner_px });
         }
-        offset -= width;
+        inner_px -= width;
     }
     None
 }
 
-/// The column of a tile that is so far from the start of its column of tiles, if there is one.
-pub(crate) fn col_at(width: u32, end: bool, mirrored: bool, offset: u32) -> Option<u8>
+/// The column of a tile that takes a column of bits, counted from the start of its column of tiles, if one does.
+pub(crate) fn col_at(width: u32, end: bool, mirrored: bool, inner_px: u32) -> Option<u8>
     requires width { width ≤ 54 }
-    requires offset { offset < width }
-    ensures none { IfNone result ((end ≡ true) × ((col : ℕ) → col < 18 → pad_column col ≢ offset)) }
+    requires inner_px { inner_px < width }
+    ensures none { IfNone result ((end ≡ true) × ((col : ℕ) → col < 18 → pad_column col ≢ inner_px)) }
     ensures end { IfSome result (λ col. end ≡ true → col < 18) }
     ensures inner { IfSome result (λ col. end ≡ false → col < width) }
-    ensures value { IfSome result (λ col. (if end then pad_column col else if mirrored then width - 1 - col else col) ≡ offset) }
+    ensures value { IfSome result (λ col. (if end then pad_column col else if mirrored then width - 1 - col else col) ≡ inner_px) }
 {
     if end {
-        pad_at_column(offset)
+        pad_at_column(inner_px)
     } else if mirrored {
-        Some((width - 1 - offset) as u8)
+        Some((width - 1 - inner_px) as u8)
     } else {
-        Some(offset as u8)
+        Some(inner_px as u8)
     }
 }

@@ -17,7 +17,7 @@ pub enum DeviceName {
 
 impl DeviceName {
     /// How many columns of tiles there are.
-    pub(crate) fn columns(self) -> u32
+    pub fn columns(self) -> u32
         ensures { result ≡ grid_width self }
     {
         match self {
@@ -27,7 +27,7 @@ impl DeviceName {
     }
 
     /// How many rows of tiles there are.
-    pub(crate) fn rows(self) -> u32
+    pub fn rows(self) -> u32
         ensures { result ≡ grid_height self }
     {
         match self {
@@ -36,7 +36,27 @@ impl DeviceName {
         }
     }
 
-    /// The left one of the two columns of RAM.
+    /// How many columns of bits each of the four configuration planes has.
+    pub fn cram_columns(self) -> u32
+        ensures { result ≡ cram_width self }
+    {
+        match self {
+            DeviceName::K1 => 332,
+            DeviceName::K8 => 872,
+        }
+    }
+
+    /// How many rows of bits each of the four configuration planes has.
+    pub fn cram_rows(self) -> u32
+        ensures { result ≡ cram_height self }
+    {
+        match self {
+            DeviceName::K1 => 144,
+            DeviceName::K8 => 272,
+        }
+    }
+
+    /// The left of the two columns of RAM.
     pub(crate) fn left_ram_column(self) -> u32
         ensures { result ≡ ram_column self }
     {
@@ -72,7 +92,7 @@ pub trait Device {
     /// How many rows of tiles there are.
     const GRID_H: usize;
 
-    /// The left one of the two columns of RAM.
+    /// The left of the two columns of RAM.
     const RAM_COLUMN: usize;
 
     /// The device's name.

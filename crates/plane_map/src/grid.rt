@@ -5,9 +5,9 @@ ghost use Rattle.plane_map.specs.Layout.{kind_of, columns_of, is_side, is_end, i
 use crate::device::DeviceName;
 use crate::tile::TileKind;
 
-/// The tile of a device at a place of the grid.
+/// The tile of a device at a place of the grid: none at a corner or outside.
 #[tactic(auto, unfolding(crate::specs::Layout::kind_of))]
-pub(crate) fn kind_on(device: DeviceName, x: u32, y: u32) -> Option<TileKind>
+pub fn kind_on(device: DeviceName, x: u32, y: u32) -> Option<TileKind>
     ensures kind { result ≡ kind_of device x y }
     ensures in_grid { OnSome result ((x < grid_width device) × (y < grid_height device)) }
 {
@@ -120,7 +120,7 @@ pub(crate) fn ram_at(device: DeviceName, y: u32) -> u32
     }
 }
 
-/// The column of tiles of a bank that is so far from its side edge.
+/// The column of tiles of a bank at that distance from its side edge.
 pub(crate) fn x_at(device: DeviceName, bank: u8, distance: u32) -> u32
     requires { distance < grid_width device / 2 }
     ensures in_grid { result < grid_width device }
@@ -134,7 +134,7 @@ pub(crate) fn x_at(device: DeviceName, bank: u8, distance: u32) -> u32
     }
 }
 
-/// The row of tiles of a bank that is so far from its end edge.
+/// The row of tiles of a bank at that distance from its end edge.
 pub(crate) fn y_at(device: DeviceName, bank: u8, distance: u32) -> u32
     requires { distance < grid_height device / 2 }
     ensures in_grid { result < grid_height device }

@@ -107,7 +107,7 @@ fn owner_on(device: DeviceName, at: Place) -> Option<TileBit>
     kind_on(device, x, y)?;
     let end = on_end(device, y);
     let width = column_width(device, column.distance);
-    let col = col_at(width, end, is_mirrored(device, x), column.offset)?;
+    let col = col_at(width, end, is_mirrored(device, x), column.inner_px)?;
     let row = row_at(end, in_top(device, y), at.py as u32 % 16);
     Some(TileBit {
         x: x as u8,

@@ -14,12 +14,12 @@ pub(crate) fn py_of(device: DeviceName, bit: TileBit) -> u32
     ensures in_plane { result < cram_height device }
 {
     let y = bit.y as u32;
-    16 * end_distance(device, y) + height_of_row(on_end(device, y), in_top(device, y), bit.row)
+    16 * end_distance(device, y) + inner_py(on_end(device, y), in_top(device, y), bit.row)
 }
 
-/// How far a row of a tile is from the start of its row of tiles.
+/// The row of bits that a row of a tile takes, counted from the start of its row of tiles.
 #[tactic(auto, using(crate::proofs::Layouts::pad_row_below))]
-fn height_of_row(end: bool, top: bool, row: u8) -> u32
+fn inner_py(end: bool, top: bool, row: u8) -> u32
     requires { row < 16 }
     ensures { result ≡ (if end then 15 - pad_row row else if top then 15 - row else row) }
 {
@@ -31,12 +31,12 @@ fn height_of_row(end: bool, top: bool, row: u8) -> u32
     }
 }
 
-/// The row of a tile that is so far from the start of its row of tiles.
-pub(crate) fn row_at(end: bool, top: bool, height: u32) -> u8
-    requires { height < 16 }
+/// The row of a tile that takes a row of bits, counted from the start of its row of tiles.
+pub(crate) fn row_at(end: bool, top: bool, inner_py: u32) -> u8
+    requires { inner_py < 16 }
     ensures in_tile { result < 16 }
-    ensures value { (if end then 15 - pad_row result else if top then 15 - result else result) ≡ height }
+    ensures value { (if end then 15 - pad_row result else if top then 15 - result else result) ≡ inner_py }
 {
-    let row = if end || top { 15 - height } else { height };
+    let row = if end || top { 15 - inner_py } else { inner_py };
     if end { pad_at_row(row) } else { row as u8 }
 }

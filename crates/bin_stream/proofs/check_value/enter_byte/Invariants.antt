@@ -1,6 +1,6 @@
 use Rattle.std.proofs.Common.{◌≡◌, take}
 use Rattle.bit_plane.specs.BitList.{byte_bits}
-use Rattle.bin_stream.specs.Register.{entered_all}
+use Rattle.bin_stream.specs.inside.Register.{entered_all}
 use Rattle.bin_stream.proofs.check_value.enter_byte.Given as goal
 
 abbrev pub invariant-loop-entered : goal.invariant-loop-entered

@@ -1,7 +1,7 @@
 use Rattle.std.proofs.Common.{◌≡◌, ◌∙◌, ap, take}
 use Rattle.std.proofs.lemmas.List.{take_all}
 use Rattle.bit_plane.specs.BitList.{bits_of}
-use Rattle.bin_stream.specs.Register.{entered_all}
+use Rattle.bin_stream.specs.inside.Register.{entered_all}
 use Rattle.bin_stream.proofs.Powers.{entered_all-byte}
 use Rattle.bin_stream.proofs.check_value.enter_bytes.Goals as goal
 

@@ -1,6 +1,6 @@
 use Rattle.std.proofs.Common.{◌≡◌, take}
 use Rattle.bit_plane.specs.BitList.{bits_of}
-use Rattle.bin_stream.specs.Register.{entered_all}
+use Rattle.bin_stream.specs.inside.Register.{entered_all}
 use Rattle.bin_stream.proofs.check_value.enter_bytes.Given as goal
 
 abbrev pub invariant-loop-byte : goal.invariant-loop-byte

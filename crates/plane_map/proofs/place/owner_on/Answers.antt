@@ -10,8 +10,8 @@ returns-in_err-kind_on c =
     let x = c.x_at-x in
     let y = c.y_at-y in
     let column = c.in_ok-column in
-    let holds : Holds c.args.device c.args.at x.result y.result column.column.offset =
-    holds-parts c.args.device c.args.at c.requires column.column.distance column.column.offset column.ensures.in_column column.ensures.value
+    let holds : Holds c.args.device c.args.at x.result y.result column.column.inner_px =
+    holds-parts c.args.device c.args.at c.requires column.column.distance column.column.inner_px column.ensures.in_column column.ensures.value
     x.result y.result x.ensures.in_grid x.ensures.half x.ensures.distance y.ensures.in_grid y.ensures.half y.ensures.distance
     in
     rw c.from_residual-in_err-kind_on.ensures (record { owner = extra-corner c.args.device c.args.at _ _ _ holds (sym c.kind_on.ensures.kind ∙ c.in_err-kind_on.was); only = tt })
@@ -21,8 +21,8 @@ returns-in_err-col c =
     let x = c.x_at-x in
     let y = c.y_at-y in
     let column = c.in_ok-column in
-    let holds : Holds c.args.device c.args.at x.result y.result column.column.offset =
-    holds-parts c.args.device c.args.at c.requires column.column.distance column.column.offset column.ensures.in_column column.ensures.value
+    let holds : Holds c.args.device c.args.at x.result y.result column.column.inner_px =
+    holds-parts c.args.device c.args.at c.requires column.column.distance column.column.inner_px column.ensures.in_column column.ensures.value
     x.result y.result x.ensures.in_grid x.ensures.half x.ensures.distance y.ensures.in_grid y.ensures.half y.ensures.distance
     in
     let none = c.in_err-col.ensures.none in
@@ -35,11 +35,11 @@ returns c =
     let column = c.in_ok-column in
     let col = c.in_ok-col in
     let row = c.row_at-row in
-    let holds : Holds c.args.device c.args.at x.result y.result column.column.offset =
-    holds-parts c.args.device c.args.at c.requires column.column.distance column.column.offset column.ensures.in_column column.ensures.value
+    let holds : Holds c.args.device c.args.at x.result y.result column.column.inner_px =
+    holds-parts c.args.device c.args.at c.requires column.column.distance column.column.inner_px column.ensures.in_column column.ensures.value
     x.result y.result x.ensures.in_grid x.ensures.half x.ensures.distance y.ensures.in_grid y.ensures.half y.ensures.distance
     in
-    let found = owner-found c.args.device c.args.at x.result y.result column.column.offset holds c.in_ok-kind_on.field-0 (sym c.kind_on.ensures.kind ∙ c.in_ok-kind_on.was)
+    let found = owner-found c.args.device c.args.at x.result y.result column.column.inner_px holds c.in_ok-kind_on.field-0 (sym c.kind_on.ensures.kind ∙ c.in_ok-kind_on.was)
     c.on_end-end.result c.is_mirrored.result c.in_top.result column.column.distance c.column_width-width.result col.col row.result
     c.on_end-end.ensures c.is_mirrored.ensures c.in_top.ensures x.ensures.distance c.column_width-width.ensures
     col.ensures.end col.ensures.inner col.ensures.value row.ensures.in_tile row.ensures.value

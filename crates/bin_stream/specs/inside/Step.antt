@@ -1,0 +1,119 @@
+-- What a step of a decoder does.
+use Rattle.std.specs.Prelude.{◌≡◌, ℕ, ◌+◌, ◌%◌, ◌<◌, Bool, true, false, List, [], ◌∷◌, ◌++◌, length, drop, nat_lt, if◌then◌else◌, Option, Some, None}
+use Rattle.place_search.specs.Places.{or_else}
+use Rattle.bit_plane.specs.BitList.{bits_of, placed}
+use Rattle.bit_plane.specs.Rows.{Rows, rows_of}
+use Rattle.plane_map.specs.declared.device.DeviceName.{DeviceName}
+use Rattle.plane_map.specs.declared.tile.Place.{Place}
+use Rattle.ice_image.specs.Configuration.{Configuration, bank_rows, with_bank, blank_image}
+use Rattle.ice_image.specs.Either.{configuration_of, device_of}
+use Rattle.ice_image.specs.declared.any.AnyImage.{AnyImage}
+use Rattle.bin_stream.specs.Commands.{Kind, Command, Cram, Bram, spelling, is_wake_up}
+use Rattle.bin_stream.specs.State.{device_with, device_after}
+use Rattle.bin_stream.specs.Refusals.{Fault, fault_at, fault_where, body_fault, first_fault, reached_in}
+use Rattle.bin_stream.specs.Meaning.{plane_bit, planes_of}
+use Rattle.bin_stream.specs.Spelling.{first_command, commands_from}
+use Rattle.bin_stream.specs.inside.Registers.{Held, Fits, held_after, settings_by, size_by, data_cause_by}
+use Rattle.bin_stream.specs.declared.fault.BinCause.{BinCause}
+use Rattle.bin_stream.specs.declared.fault.BinCause.TheVariants.{Truncated, LongPayload}
+use Rattle.bin_stream.specs.declared.fault.BinFault.{BinFault}
+use Rattle.bin_stream.specs.declared.fault.BinFault.TheVariants.{At, Memory}
+
+-- ---- faults
+
+abbrev pub fault_of : ℕ → BinCause → BinFault
+fault_of offset cause = At offset cause
+
+-- a fault other than out of memory is the one that was found
+abbrev pub Refuses : Option Fault → BinFault → Type 0
+Refuses found (At offset cause) = found ≡ Some (fault_at offset cause)
+Refuses found (Memory e) = Unit {0}
+
+-- what is wrong with the first byte and the payload of the command at an offset
+abbrev pub payload_refusal : ℕ → List ℕ → Option Fault
+payload_refusal offset [] = Some (fault_at offset Truncated)
+payload_refusal offset (head ∷ rest) =
+    if nat_lt 4 (head % 16) then Some (fault_at offset LongPayload)
+    else if nat_lt (length rest) (head % 16) then Some (fault_at (offset + 1 + length rest) Truncated)
+    else None
+
+-- what is wrong with data at an offset, whose bytes begin at another
+abbrev pub data_refusal : Held → Option DeviceName → Kind → ℕ → ℕ → List ℕ → Option Fault
+data_refusal held fixed kind offset start bytes =
+    or_else (fault_where offset (data_cause_by held fixed kind)) (body_fault (size_by held) start bytes)
+
+-- ---- the image
+
+-- the device of the image, where there is one
+abbrev pub device_if : Option AnyImage → Option DeviceName
+device_if None = None
+device_if (Some image) = Some (device_of image)
+
+-- the image so far, or one without a bit
+abbrev pub image_or_blank : DeviceName → Option AnyImage → Configuration
+image_or_blank device None = blank_image device
+image_or_blank device (Some image) = configuration_of image
+
+-- an image with other rows in a bank's plane, from one row on
+abbrev pub with_rows : Kind → ℕ → ℕ → Rows → Configuration → Configuration
+with_rows Cram bank first rows image = record image { cram = with_bank image.cram bank (placed first rows (bank_rows image.cram bank)) }
+with_rows Bram bank first rows image = record image { bram = with_bank image.bram bank (placed first rows (bank_rows image.bram bank)) }
+
+-- data were written into the image so far, or into one without a bit
+pub record IsDrawnOn (kind : Kind) (held : Held) (body : List ℕ) (before after : Option AnyImage) : Type 0 where
+  pub device : DeviceName
+  pub image : AnyImage
+  pub device_is : or_else (device_if before) (device_with kind held.width) ≡ Some device
+  pub fits : Fits device kind held
+  pub bank_in : held.bank < 4
+  pub long : length body ≡ size_by held
+  pub image_is : after ≡ Some image
+  pub same_device : device_of image ≡ device
+  pub rows_are : configuration_of image ≡ with_rows kind held.bank held.first_row (rows_of held.width held.height (bits_of body)) (image_or_blank device before)
+
+-- an image of a device with what commands draw
+pub record IsDrawn (commands : List Command) (image : AnyImage) : Type 0 where
+  pub device_is : device_after commands ≡ Some (device_of image)
+  pub name_is : (configuration_of image).device ≡ device_of image
+  pub cram_is : (configuration_of image).cram ≡ planes_of (device_of image) Cram commands
+  pub bram_is : (configuration_of image).bram ≡ planes_of (device_of image) Bram commands
+
+-- no data yet
+pub record IsBlank (commands : List Command) : Type 0 where
+  pub no_device : device_after commands ≡ None
+  pub not_reached : reached_in commands ≡ false
+  pub no_bit : (kind : Kind) (at : Place) → plane_bit kind commands at ≡ false
+
+abbrev pub Holds : List Command → Option AnyImage → Type 0
+Holds commands None = IsBlank commands
+Holds commands (Some image) = IsDrawn commands image
+
+-- ---- commands
+
+-- registers and an image are what commands leave
+pub record Stands (commands : List Command) (held : Held) (image : Option AnyImage) : Type 0 where
+  pub held_is : held ≡ held_after commands
+  pub drawn : Holds commands image
+
+-- the first command of the bytes at an offset was read
+pub record IsEntered (commands : List Command) (offset : ℕ) (bytes : List ℕ) (size : ℕ) (is_last : Bool) (held : Held) (image : Option AnyImage) : Type 0 where
+  pub fine : first_fault commands offset bytes ≡ None
+  pub size_is : size ≡ length (spelling (first_command commands bytes))
+  pub last_is : is_last ≡ is_wake_up (first_command commands bytes)
+  pub reached : is_last ≡ true → held.reached ≡ true
+  pub stands : Stands (commands ++ first_command commands bytes ∷ []) held image
+
+-- Commands were read up to an offset, and registers and an image are what they leave.
+pub record HasRead (bytes : List ℕ) (start offset : ℕ) (held : Held) (image : Option AnyImage) : Type 0 where
+  pub commands : List Command
+  pub most : ℕ
+  pub enough : length bytes < offset + most
+  pub goes_on : commands_from (length bytes + 1) [] start (drop start bytes) ≡ commands_from most commands offset (drop offset bytes)
+  pub stands : Stands commands held image
+
+-- the image that was drawn, with the settings that are kept
+pub record IsFinished (held : Held) (drawn : Option AnyImage) (image : AnyImage) : Type 0 where
+  pub before : AnyImage
+  pub drawn_is : drawn ≡ Some before
+  pub same_device : device_of image ≡ device_of before
+  pub settings_are : configuration_of image ≡ record (configuration_of before) { settings = settings_by held }

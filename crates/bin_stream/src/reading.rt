@@ -1,0 +1,10 @@
+// Reading a bitstream.
+
+mod data_kind;
+mod decoder;
+mod front;
+mod head;
+mod machine;
+mod registers;
+
+pub use decoder::decode;

@@ -1,0 +1,67 @@
+// Reading a bitstream.
+ghost use Rattle.std.specs.Prelude.{List, ℕ, ◌≡◌, ◌+◌, ◌<◌, ◌≤◌, ◌^◌, [], None, Ok, IfOk, IfErr, length, take, drop};
+ghost use Rattle.ice_image.specs.Either.{configuration_of};
+ghost use Rattle.bin_stream.specs.Spelling.{IsDecided, commands_from, image_of, bin_read_of, Tells};
+ghost use Rattle.bin_stream.specs.Front.{comment_of};
+ghost use Rattle.bin_stream.specs.inside.Step.{IsFinished};
+
+use super::front::{comment_of, preamble_offset};
+use super::head::fault_at;
+use super::machine::Machine;
+use super::registers::Registers;
+use crate::fault::{BinCause, BinFault};
+use crate::marks::PREAMBLE;
+use ice_image::AnyImage;
+use std::alloc::Global;
+
+/// The image that a bitstream spells, or its first fault.
+#[tactic(auto, using(crate::proofs::Decided::decided))]
+pub fn decode(alloc: Global, bytes: &[u8]) -> Result<AnyImage, BinFault>
+    ensures decided { IsDecided bytes.now }
+    ensures image { IfOk result (λ image. bin_read_of bytes.now ≡ Ok (configuration_of image)) }
+    ensures refused { IfErr result (Tells (bin_read_of bytes.now)) }
+{
+    match preamble_offset(bytes) {
+        Some(offset) => {
+            let mut image = read_commands(alloc, bytes, offset + PREAMBLE.len())?;
+            image.set_comment(comment_of(alloc, &bytes[..offset])?);
+            Ok(image)
+        }
+        None => Err(fault_at(bytes.len(), BinCause::NoPreamble)),
+    }
+}
+
+/// What the commands from offset `start` on configure, up to the wake-up, or their first fault. The comment isn't set.
+fn read_commands(alloc: Global, bytes: &[u8], start: usize) -> Result<AnyImage, BinFault>
+    requires { start ≤ length bytes.now }
+    ensures image { IfOk result (λ image. (front : List ℕ) → image_of front (commands_from (length bytes.now + 1) [] start (drop start bytes.now)) ≡ Ok (record (configuration_of image) { comment = comment_of front })) }
+    ensures refused { IfErr result (λ fault. (front : List ℕ) → Tells (image_of front (commands_from (length bytes.now + 1) [] start (drop start bytes.now))) fault) }
+{
+    let mut machine = Machine {
+        registers: Registers::new(),
+        image: None,
+    };
+    let mut offset = start;
+    loop {
+        let entered = machine.enter_command(alloc, offset, &bytes[offset..])?;
+        if entered.is_last {
+            return image_at_end(machine, offset);
+        }
+        offset += entered.size;
+    }
+}
+
+/// The image at the wake-up, which is at that offset, with the settings that the commands give.
+fn image_at_end(machine: Machine, offset: usize) -> Result<AnyImage, BinFault>
+    ensures image { IfOk result (λ image. IsFinished machine.registers machine.image image) }
+    ensures missing { IfErr result (λ fault. machine.image ≡ None) }
+{
+    let Machine { registers, image } = machine;
+    match image {
+        Some(mut image) => {
+            image.set_settings(registers.settings());
+            Ok(image)
+        }
+        None => Err(fault_at(offset, BinCause::NoDevice)),
+    }
+}

@@ -1,0 +1,296 @@
+// What a decoder keeps of the commands so far.
+ghost use Rattle.std.specs.Prelude.{◌≡◌, ◌+◌, ◌*◌, ◌/◌, ◌%◌, ◌<◌, ◌≤◌, ◌^◌, ◌==◌, not, None, Some, IfOk, nat_lt};
+ghost use Rattle.place_search.specs.Places.{or_else};
+ghost use Rattle.plane_map.specs.declared.device.DeviceName.{DeviceName as Name};
+ghost use Rattle.bin_stream.specs.Refusals.{cause_if, is_mode, is_bad_height, control_cause, check_cause};
+ghost use Rattle.bin_stream.specs.State.{device_with};
+ghost use Rattle.bin_stream.specs.inside.DataKinds.{kind_of};
+ghost use Rattle.bin_stream.specs.Meaning.{range_of};
+ghost use Rattle.bin_stream.specs.inside.Registers.{held_first, refusal_of, short_cause_by, checked, after_control, after_short, data_cause_by, gives_last_by, Fits, after_data, settings_by, size_by};
+ghost use Rattle.bin_stream.specs.declared.fault.BinCause.TheVariants.{BadBank, BadRange, BadMode};
+
+use super::data_kind::{DataKind, device_with, plane_height, plane_width};
+use crate::check_value::{START, enter_bytes};
+use crate::fault::BinCause;
+use crate::opcode::{
+    BANK, BOOT_ADDRESS, CHECK, CONTROL, HEIGHT, MODE, OFFSET, RANGE, RESET, WAKE_UP, WIDTH,
+};
+use ice_image::{Range, Settings};
+use plane_map::DeviceName;
+use std::marker::Model;
+
+/// The last bank.
+const LAST_BANK: u32 = 3;
+
+/// The number of the high range, the last one.
+const HIGH_RANGE: u32 = 2;
+
+/// The mode that holds where no command sets one: warm boot, and sleep.
+const FIRST_MODE: u32 = 32;
+
+/// The numbers that commands gave, the CRC's register, and whether data reached the last row of a configuration plane.
+#[derive(Drop)]
+pub(crate) struct Registers {
+    bank: usize,
+    width: usize,
+    height: usize,
+    first_row: usize,
+    range: u32,
+    mode: u32,
+    check: u16,
+    reached: bool,
+}
+
+impl Model for Registers {
+    ghost use Rattle.std.specs.Prelude.{◌<◌, ◌≤◌, ◌^◌};
+    ghost use Rattle.bin_stream.specs.inside.Registers.{Held};
+
+    ghost Value = { Held };
+
+    ghost view = { λ r. record { bank = r.bank; width = r.width; height = r.height; first_row = r.first_row; range = r.range; mode = r.mode; check = r.check; reached = r.reached } };
+
+    // A payload has four bytes at most, and the width is one more than its number.
+    ghost invariant = { λ r. (r.bank < 4) × (r.width ≤ 2 ^ 32) × (r.height < 2 ^ 32) × (r.first_row < 2 ^ 32) };
+}
+
+impl Registers {
+    /// What holds before the first command.
+    pub(crate) fn new() -> Registers
+        ensures { result ≡ held_first }
+    {
+        Registers {
+            bank: 0,
+            width: 0,
+            height: 0,
+            first_row: 0,
+            range: 0,
+            mode: FIRST_MODE,
+            check: START,
+            reached: false,
+        }
+    }
+
+    /// The bank of the next data.
+    pub(crate) fn bank(&self) -> usize
+        ensures value { result ≡ self.now.bank }
+        ensures four { result < 4 }
+    {
+        self.bank
+    }
+
+    /// The row at which the next data begin.
+    pub(crate) fn first_row(&self) -> usize
+        ensures { result ≡ self.now.first_row }
+    {
+        self.first_row
+    }
+
+    /// How many rows the next data have.
+    pub(crate) fn rows(&self) -> usize
+        ensures { result ≡ self.now.height }
+    {
+        self.height
+    }
+
+    /// How many bytes the next data have.
+    pub(crate) fn data_size(&self) -> usize
+        ensures { result ≡ size_by self.now }
+    {
+        self.width * self.height / 8
+    }
+
+    /// The settings.
+    pub(crate) fn settings(&self) -> Settings
+        ensures { result ≡ settings_by self.now }
+    {
+        Settings {
+            range: range_of(self.range),
+            warm_boot: self.mode / 32 % 2 == 1,
+            no_sleep: self.mode % 2 == 1,
+        }
+    }
+
+    /// Takes a command that isn't data: its opcode, its payload's number and its bytes.
+    pub(crate) fn enter_short(
+        &mut self,
+        opcode: u8,
+        number: u32,
+        command: &[u8],
+    ) -> Result<(), BinCause>
+        ensures allowed { refusal_of result ≡ short_cause_by (checked self.old command.now) opcode number }
+        ensures entered { IfOk result (λ _. self.new ≡ after_short (checked self.old command.now) opcode number) }
+    {
+        self.check = enter_bytes(self.check, command);
+        match opcode {
+            CONTROL => self.enter_control(number),
+            BANK => self.set_bank(number),
+            CHECK => self.test_check(),
+            BOOT_ADDRESS => Ok(()),
+            RANGE => self.set_range(number),
+            WIDTH => self.set_width(number),
+            HEIGHT => self.set_height(number),
+            OFFSET => self.set_first_row(number),
+            MODE => self.set_mode(number),
+            _ => Err(BinCause::UnknownCommand),
+        }
+    }
+
+    /// Resets the check value, or tests whether there is a device at the wake-up.
+    fn enter_control(&mut self, number: u32) -> Result<(), BinCause>
+        ensures allowed { refusal_of result ≡ control_cause self.old.reached number }
+        ensures entered { IfOk result (λ _. self.new ≡ after_control self.old number) }
+    {
+        if number == u32::from(RESET) {
+            self.check = START;
+            Ok(())
+        } else if number != u32::from(WAKE_UP) {
+            Err(BinCause::UnknownCommand)
+        } else if self.reached {
+            Ok(())
+        } else {
+            Err(BinCause::NoDevice)
+        }
+    }
+
+    /// Changes the bank.
+    fn set_bank(&mut self, number: u32) -> Result<(), BinCause>
+        ensures allowed { refusal_of result ≡ cause_if (nat_lt 3 number) BadBank }
+        ensures entered { IfOk result (λ _. self.new ≡ record self.old { bank = number }) }
+    {
+        if number > LAST_BANK {
+            return Err(BinCause::BadBank);
+        }
+        self.bank = number as usize;
+        Ok(())
+    }
+
+    /// Tests that the CRC is 0.
+    fn test_check(&self) -> Result<(), BinCause>
+        ensures { refusal_of result ≡ check_cause self.now.check }
+    {
+        if self.check == 0 {
+            Ok(())
+        } else {
+            Err(BinCause::Check { found: self.check })
+        }
+    }
+
+    /// Changes the range.
+    fn set_range(&mut self, number: u32) -> Result<(), BinCause>
+        ensures allowed { refusal_of result ≡ cause_if (nat_lt 2 number) BadRange }
+        ensures entered { IfOk result (λ _. self.new ≡ record self.old { range = number }) }
+    {
+        if number > HIGH_RANGE {
+            return Err(BinCause::BadRange);
+        }
+        self.range = number;
+        Ok(())
+    }
+
+    /// Changes the width, which is written less one.
+    fn set_width(&mut self, number: u32) -> Result<(), BinCause>
+        ensures allowed { refusal_of result ≡ None }
+        ensures entered { self.new ≡ record self.old { width = number + 1 } }
+    {
+        self.width = number as usize + 1;
+        Ok(())
+    }
+
+    /// Changes the height.
+    fn set_height(&mut self, number: u32) -> Result<(), BinCause>
+        ensures allowed { refusal_of result ≡ None }
+        ensures entered { self.new ≡ record self.old { height = number } }
+    {
+        self.height = number as usize;
+        Ok(())
+    }
+
+    /// Changes the row at which data begin.
+    fn set_first_row(&mut self, number: u32) -> Result<(), BinCause>
+        ensures allowed { refusal_of result ≡ None }
+        ensures entered { self.new ≡ record self.old { first_row = number } }
+    {
+        self.first_row = number as usize;
+        Ok(())
+    }
+
+    /// Changes the mode.
+    fn set_mode(&mut self, number: u32) -> Result<(), BinCause>
+        ensures allowed { refusal_of result ≡ cause_if (not (is_mode number)) BadMode }
+        ensures entered { IfOk result (λ _. self.new ≡ record self.old { mode = number }) }
+    {
+        match number {
+            0 | 1 | 32 | 33 => {
+                self.mode = number;
+                Ok(())
+            }
+            _ => Err(BinCause::BadMode),
+        }
+    }
+
+    /// The device of the next data: the one of earlier data, else that of their width.
+    pub(crate) fn device_for(
+        &self,
+        kind: DataKind,
+        fixed: Option<DeviceName>,
+    ) -> Result<DeviceName, BinCause>
+        ensures allowed { refusal_of result ≡ data_cause_by self.now fixed (kind_of kind) }
+        ensures device { IfOk result (λ device. or_else fixed (device_with (kind_of kind) self.now.width) ≡ Some device) }
+        ensures fits { IfOk result (λ device. Fits device (kind_of kind) self.now) }
+    {
+        match fixed.or(device_with(kind, self.width)) {
+            None => Err(BinCause::BadWidth),
+            Some(device) => {
+                if self.width != plane_width(kind, device) {
+                    Err(BinCause::BadWidth)
+                } else if self.has_bad_height(kind, device) {
+                    Err(BinCause::BadHeight)
+                } else {
+                    Ok(device)
+                }
+            }
+        }
+    }
+
+    /// Whether the next data have no row, rows past the plane's last, or a part of a byte at the end.
+    fn has_bad_height(&self, kind: DataKind, device: DeviceName) -> bool
+        ensures { result ≡ is_bad_height (kind_of kind) device self.now.first_row self.now.height self.now.width }
+    {
+        self.height == 0
+            || plane_height(kind, device) < self.first_row + self.height
+            || self.width * self.height % 8 != 0
+    }
+
+    /// Takes data by all their bytes, from the first byte of the command to the last of the two 00 behind the rows.
+    pub(crate) fn enter_data(&mut self, kind: DataKind, command: &[u8])
+        ensures { self.new ≡ after_data self.old (kind_of kind) command.now }
+    {
+        self.check = enter_bytes(self.check, command);
+        self.reached = self.reached || self.gives_last_row(kind);
+    }
+
+    /// Whether the next data reach the last row of a configuration plane.
+    fn gives_last_row(&self, kind: DataKind) -> bool
+        ensures { result ≡ gives_last_by self.now (kind_of kind) }
+    {
+        match kind {
+            DataKind::Cram => match device_with(kind, self.width) {
+                Some(device) => self.first_row + self.height
+                    == plane_height(DataKind::Cram, device),
+                None => false,
+            },
+            DataKind::Bram => false,
+        }
+    }
+}
+
+/// The range that has a number.
+fn range_of(number: u32) -> Range
+    ensures { result ≡ range_of number }
+{
+    match number {
+        0 => Range::Low,
+        1 => Range::Medium,
+        _ => Range::High,
+    }
+}

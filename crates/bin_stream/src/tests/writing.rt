@@ -1,0 +1,266 @@
+// Streams as they are written.
+ghost use Rattle.std.specs.Prelude.{IsTrue, ◌≡◌, Some};
+ghost use Rattle.plane_map.specs.Layout.{IsInCram, kind_of};
+ghost use Rattle.plane_map.specs.declared.tile.TileKind.TheVariants.{RamB};
+
+use super::reading::is_in_cram;
+use crate::check_value::check_value;
+use crate::encode;
+use ice_image::{AnyImage, Comment, Range, Settings, is_comment_line};
+use plane_map::{DeviceName, Place};
+use std::alloc::{AllocError, Global};
+
+/// The settings of a new image.
+const USUAL: Settings = Settings {
+    range: Range::Low,
+    warm_boot: true,
+    no_sleep: false,
+};
+
+/// All settings turned.
+const TURNED: Settings = Settings {
+    range: Range::High,
+    warm_boot: false,
+    no_sleep: true,
+};
+
+/// The comment of these lines.
+fn comment_of(alloc: Global, lines: &[&[u8]]) -> Result<Comment, AllocError> {
+    let mut comment = Comment::new(alloc);
+    for line in lines {
+        if is_comment_line(line) {
+            comment.push(line)?;
+        }
+    }
+    Ok(comment)
+}
+
+/// The stream of an image without a bit, with those settings and the comment of these lines.
+fn stream_of(
+    alloc: Global,
+    device: DeviceName,
+    settings: Settings,
+    lines: Option<&[&[u8]]>,
+) -> Result<Vec<u8>, AllocError> {
+    let mut image = AnyImage::zeroed(alloc, device)?;
+    image.set_settings(settings);
+    if let Some(lines) = lines {
+        image.set_comment(Some(comment_of(alloc, lines)?));
+    }
+    encode(alloc, &image)
+}
+
+/// Whether a stream has those bytes from an offset on.
+fn has_bytes(stream: &[u8], offset: usize, bytes: &[u8]) -> bool {
+    offset <= stream.len() && stream[offset..].starts_with(bytes)
+}
+
+/// Whether the stream of an image without a bit has that length, and those bytes from an offset on.
+fn is_written(
+    alloc: Global,
+    of: (DeviceName, Settings, Option<&[&[u8]]>),
+    length: usize,
+    offset: usize,
+    bytes: &[u8],
+) -> Result<bool, AllocError> {
+    let (device, settings, lines) = of;
+    let stream = stream_of(alloc, device, settings, lines)?;
+    Ok(stream.len() == length && has_bytes(&stream, offset, bytes))
+}
+
+#[test]
+fn images_without_a_bit_are_written(rt: HostRuntime) {
+    let none = [].as_slice();
+    let two = [b"AB" as &[u8], b"C"].as_slice();
+    for (of, length, offset, bytes) in [
+        (
+            (DeviceName::K1, USUAL, None),
+            32_216,
+            0,
+            b"\x7E\xAA\x99\x7E\x51\x00\x01\x05\x92\x00\x20" as &[u8],
+        ),
+        (
+            (DeviceName::K1, USUAL, None),
+            32_216,
+            32_210,
+            b"\x22\xE9\xB6\x01\x06\x00",
+        ),
+        (
+            (DeviceName::K1, USUAL, Some(none)),
+            32_220,
+            0,
+            b"\xFF\0\0\xFF\x7E\xAA\x99\x7E\x51\0\x01\x05\x92\0\x20\x62\x01\x4B\x72\0\x90\x82\0\0\x11\0\x01\x01",
+        ),
+        (
+            (DeviceName::K1, USUAL, Some(none)),
+            32_220,
+            23_952,
+            b"\x62\0\x3F\x72\0\x80\x11\0\x82\0\0\x01\x03",
+        ),
+        (
+            (DeviceName::K8, USUAL, Some(none)),
+            135_100,
+            15,
+            b"\x62\x03\x67\x72\x01\x10",
+        ),
+        (
+            (DeviceName::K8, USUAL, Some(none)),
+            135_100,
+            135_094,
+            b"\x22\x98\xA0\x01\x06\x00",
+        ),
+        (
+            (DeviceName::K1, TURNED, Some(two)),
+            32_225,
+            0,
+            b"\xFF\0AB\0C\0\0\xFF\x7E\xAA\x99\x7E\x51\x02\x01\x05\x92\0\x01\x62\x01\x4B",
+        ),
+        (
+            (DeviceName::K1, TURNED, Some(two)),
+            32_225,
+            32_219,
+            b"\x22\x8A\xB5\x01\x06\x00",
+        ),
+    ] {
+        assert!(rt;
+            is_written(rt.alloc(), of, length, offset, bytes) == Ok(true),
+            "{of:?} at {offset}"
+        );
+    }
+}
+
+/// What a test sets in an image without a bit.
+#[derive(Clone, Copy)]
+enum Change {
+    /// A bit at a place.
+    Bit(Place),
+    /// A word of the RAM at (3, 1) of the HX1K.
+    Word(u8, u16),
+    /// That the flash stays awake.
+    NoSleep,
+}
+
+/// Whether a RAM's lower tile is at (x, y).
+#[tactic(auto, unfolding(plane_map::specs::Layout::kind_of))]
+fn is_ram(device: DeviceName, x: u8, y: u8) -> bool
+    ensures { IsTrue result → kind_of device x y ≡ Some RamB }
+{
+    device == DeviceName::K1 && x == 3 && y == 1
+}
+
+/// Makes a change, where the image has room for it.
+fn make(image: &mut AnyImage, change: Change) {
+    let device = image.device();
+    match change {
+        Change::Bit(at) => {
+            if is_in_cram(device, at) {
+                image.set_cram_bit(at, true);
+            }
+        }
+        Change::Word(word, value) => {
+            if is_ram(device, 3, 1) {
+                image.set_ram_word(3, 1, word, value);
+            }
+        }
+        Change::NoSleep => image.set_settings(Settings {
+            no_sleep: true,
+            ..USUAL
+        }),
+    }
+}
+
+/// The stream of an image with these changes.
+fn stream_with(
+    alloc: Global,
+    device: DeviceName,
+    changes: &[Change],
+) -> Result<Vec<u8>, AllocError> {
+    let mut image = AnyImage::zeroed(alloc, device)?;
+    for change in changes {
+        make(&mut image, *change);
+    }
+    encode(alloc, &image)
+}
+
+/// Whether just these bytes of the stream are changed.
+fn changes_bytes(
+    alloc: Global,
+    device: DeviceName,
+    changes: &[Change],
+    bytes: &[(usize, u8)],
+) -> Result<bool, AllocError> {
+    let mut want = stream_with(alloc, device, &[])?;
+    for (offset, byte) in bytes {
+        if let Some(found) = want.get_mut(*offset) {
+            *found = *byte;
+        }
+    }
+    Ok(stream_with(alloc, device, changes)? == want)
+}
+
+fn bit(bank: u8, px: u16, py: u16) -> Change {
+    Change::Bit(Place { bank, px, py })
+}
+
+#[test]
+fn each_change_has_its_bytes(rt: HostRuntime) {
+    for (device, changes, bytes) in [
+        (
+            DeviceName::K1,
+            [bit(0, 18, 16)].as_slice(),
+            [(690, 0x20), (32_211, 0x03), (32_212, 0x4A)].as_slice(),
+        ),
+        (
+            DeviceName::K1,
+            [bit(1, 25, 28)].as_slice(),
+            [(7_171, 0x40), (32_211, 0x38), (32_212, 0x14)].as_slice(),
+        ),
+        (
+            DeviceName::K1,
+            [bit(2, 18, 31)].as_slice(),
+            [(13_276, 0x02), (32_211, 0xFA), (32_212, 0xDA)].as_slice(),
+        ),
+        (
+            DeviceName::K1,
+            [bit(3, 71, 31)].as_slice(),
+            [(19_265, 0x10), (32_211, 0x9C), (32_212, 0x6B)].as_slice(),
+        ),
+        (
+            DeviceName::K8,
+            [bit(3, 71, 31)].as_slice(),
+            [(92_373, 0x01), (135_091, 0xDB), (135_092, 0xC0)].as_slice(),
+        ),
+        (
+            DeviceName::K1,
+            [Change::Word(0, 0x8001), Change::Word(255, 0x8000)].as_slice(),
+            [
+                (23_961, 0x80),
+                (23_962, 0x01),
+                (26_008, 0x80),
+                (32_211, 0x1D),
+                (32_212, 0xC1),
+            ]
+            .as_slice(),
+        ),
+        (
+            DeviceName::K1,
+            [Change::NoSleep].as_slice(),
+            [(10, 0x21), (32_211, 0x96), (32_212, 0xDA)].as_slice(),
+        ),
+    ] {
+        let answer = changes_bytes(rt.alloc(), device, changes, bytes);
+        assert!(rt; answer == Ok(true), "{bytes:?}");
+    }
+}
+
+#[test]
+fn gives_the_known_check_values(rt: HostRuntime) {
+    for (bytes, value) in [
+        (b"" as &[u8], 0xFFFF),
+        (b"123456789", 0x29B1),
+        (b"\x22", 0xE5D0),
+        (b"\x01\x05", 0x7E9B),
+    ] {
+        assert!(rt; check_value(bytes) == value, "{bytes:?}");
+    }
+}

@@ -1,0 +1,101 @@
+// Writing the bitstream of an image.
+ghost use Rattle.std.specs.Prelude.{◌≡◌, ◌≤◌, ◌++◌, length, drop, Ok, IfOk, OnOk};
+ghost use Rattle.bit_plane.specs.BitList.{bits_of};
+ghost use Rattle.ice_image.specs.Either.{configuration_of};
+ghost use Rattle.bin_stream.specs.CanonicalBytes.{canonical_bytes, checked_bytes, range_number, mode_command, two_bytes};
+ghost use Rattle.bin_stream.specs.CheckValue.{check_value};
+ghost use Rattle.bin_stream.specs.Spelling.{Spells, bin_read_of};
+
+use super::command::{append_command, two_bytes};
+use super::comment::append_comment;
+use super::planes::{append_bram, append_cram};
+use crate::check_value::check_value;
+use crate::marks::PREAMBLE;
+use crate::opcode::{CHECK, CONTROL, MODE, RANGE, RESET, WAKE_UP};
+use ice_image::{AnyImage, Image, Range, Settings};
+use plane_map::{Device, DeviceName};
+use std::alloc::{AllocError, Global};
+
+/// The bit of the mode that enables a warm boot.
+const WARM_BOOT: u8 = 32;
+
+/// The canonical bytes of an image: the one bitstream that is written for it.
+pub fn encode(alloc: Global, image: &AnyImage) -> Result<Vec<u8>, AllocError>
+    ensures bytes { IfOk result (λ bytes. bytes.items ≡ canonical_bytes (configuration_of image.now)) }
+    ensures spells { IfOk result (λ bytes. Spells bytes.items (configuration_of image.now)) }
+    // So `decode` gives the image back.
+    ensures read { IfOk result (λ bytes. bin_read_of bytes.items ≡ Ok (configuration_of image.now)) }
+{
+    match image {
+        AnyImage::K1(image) => image_bytes(alloc, image),
+        AnyImage::K8(image) => image_bytes(alloc, image),
+    }
+}
+
+/// The canonical bytes of an image of a device.
+fn image_bytes<D: Device>(alloc: Global, image: &Image<D>) -> Result<Vec<u8>, AllocError>
+    ensures bytes { IfOk result (λ bytes. bytes.items ≡ canonical_bytes image.now) }
+    ensures spells { IfOk result (λ bytes. Spells bytes.items image.now) }
+    ensures read { IfOk result (λ bytes. bin_read_of bytes.items ≡ Ok image.now) }
+{
+    let mut out = Vec::with_capacity(alloc, usual_size(image.device()))?;
+    append_comment(&mut out, image)?;
+    out.extend_from_slice(&PREAMBLE)?;
+    append_command(&mut out, RANGE, &[range_number(image.settings().range)])?;
+    append_command(&mut out, CONTROL, &[RESET])?;
+    let after_reset = out.len();
+    append_checked(&mut out, image)?;
+    append_check_value(&mut out, after_reset)?;
+    append_command(&mut out, CONTROL, &[WAKE_UP])?;
+    out.push(0)?;
+    Ok(out)
+}
+
+/// How many bytes the bitstream of an image has, where its comment has no lines.
+fn usual_size(device: DeviceName) -> usize {
+    match device {
+        DeviceName::K1 => 32_220,
+        DeviceName::K8 => 135_100,
+    }
+}
+
+/// The number of a range.
+fn range_number(range: Range) -> u8
+    ensures { result ≡ range_number range }
+{
+    match range {
+        Range::Low => 0,
+        Range::Medium => 1,
+        Range::High => 2,
+    }
+}
+
+/// Appends what the CRC covers: all behind the reset, up to the first byte of the check command.
+#[tactic(auto, unfolding(crate::specs::CanonicalBytes::checked_bytes))]
+fn append_checked<D: Device>(out: &mut Vec<u8>, image: &Image<D>) -> Result<(), AllocError>
+    requires { image.now.device ≡ D.NAME }
+    ensures { OnOk result (out.new.items ≡ out.old.items ++ checked_bytes image.now) }
+{
+    append_mode(out, image.settings())?;
+    append_cram(out, image)?;
+    append_bram(out, image)?;
+    out.push(16 * CHECK + 2)?;
+    Ok(())
+}
+
+/// Appends the mode: warm boot and sleep.
+fn append_mode(out: &mut Vec<u8>, settings: Settings) -> Result<(), AllocError>
+    ensures { OnOk result (out.new.items ≡ out.old.items ++ mode_command settings.warm_boot settings.no_sleep) }
+{
+    let mode = WARM_BOOT * u8::from(settings.warm_boot) + u8::from(settings.no_sleep);
+    append_command(out, MODE, &[0, mode])
+}
+
+/// Appends the CRC of the bytes from an offset on.
+fn append_check_value(out: &mut Vec<u8>, start: usize) -> Result<(), AllocError>
+    requires { start ≤ length out.old.items }
+    ensures { OnOk result (out.new.items ≡ out.old.items ++ two_bytes (check_value (bits_of (drop start out.old.items)))) }
+{
+    let value = check_value(&out[start..]);
+    out.extend_from_slice(&two_bytes(value))
+}

@@ -1,0 +1,7 @@
+use Rattle.std.proofs.Common.{arith}
+use Rattle.ice_image.proofs.InOrder.{extras-bank}
+use Rattle.ice_image.proofs.extras.append_bank.Goals as goal
+
+pub returns : goal.returns
+returns g c =
+    extras-bank g.D.Device.NAME c.args.cram.now c.args.bank c.loop-py.py c.loop-py.places.items (omega (arith, g.met.D.Device.cram_height_is)) c.loop-py.invariant

@@ -1,6 +1,0 @@
-use Rattle.ice_image.specs.Written.{HasExtras}
-use Rattle.ice_image.proofs.InOrder.{place}
-use Rattle.ice_image.proofs.extras.set_extras.Given as goal
-
-abbrev pub invariant-loop-bank : goal.invariant-loop-bank
-invariant-loop-bank g l = HasExtras g.D.Device.NAME l.cram (place l.bank 0 0) l.places.items

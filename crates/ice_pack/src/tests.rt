@@ -1,0 +1,116 @@
+// Texts and bitstreams that are known from outside.
+
+use crate::{pack, unpack};
+use asc_text::{AscCause, AscFault, TileXy};
+use bin_stream::{BinCause, BinFault};
+use std::alloc::Global;
+
+/// A text's bytes, and the text that is unpacked from them; nothing where one is refused.
+fn there_and_back(alloc: Global, text: &[u8], no_sleep: bool) -> Option<(Vec<u8>, Vec<u8>)> {
+    match pack(alloc, text, no_sleep) {
+        Ok(bytes) => match unpack(alloc, &bytes) {
+            Ok(back) => Some((bytes, back)),
+            Err(_) => None,
+        },
+        Err(_) => None,
+    }
+}
+
+/// Whether a text is packed to these bytes.
+fn packs_to(alloc: Global, text: &[u8], bytes: &[u8]) -> bool {
+    match pack(alloc, text, false) {
+        Ok(packed) => packed.as_slice() == bytes,
+        Err(_) => false,
+    }
+}
+
+/// Whether a text has so many bytes, the mode among them, and comes back with that head and that end.
+fn comes_back(
+    alloc: Global,
+    text: &[u8],
+    no_sleep: bool,
+    length: usize,
+    mode: u8,
+    head: &[u8],
+    end: &[u8],
+) -> bool {
+    match there_and_back(alloc, text, no_sleep) {
+        Some((bytes, back)) => {
+            bytes.len() == length
+                && bytes.get(10) == Some(&mode)
+                && back.starts_with(head)
+                && back.ends_with(end)
+                && packs_to(alloc, &back, &bytes)
+        }
+        None => false,
+    }
+}
+
+#[test]
+fn texts_are_packed_and_come_back(rt: HostRuntime) {
+    for (text, no_sleep, length, mode, head, end) in [
+        (
+            b".device 1k\n" as &[u8],
+            false,
+            32_216,
+            0x20,
+            b".device 1k\n.io_tile 1 0\n000000000000000000\n" as &[u8],
+            b"0\n" as &[u8],
+        ),
+        (
+            b".device 1k\n",
+            true,
+            32_216,
+            0x21,
+            b".device 1k\n.nosleep enabled\n.io_tile 1 0\n",
+            b"0\n",
+        ),
+        (
+            b".device 8k\n.warmboot disabled\n",
+            true,
+            135_096,
+            0x01,
+            b".device 8k\n.warmboot disabled\n.nosleep enabled\n",
+            b"0\n",
+        ),
+        (
+            b".device 1k\n.extra_bit 0 330 143\n",
+            false,
+            32_216,
+            0x20,
+            b".device 1k\n.io_tile 1 0\n",
+            b"0\n.extra_bit 0 330 143\n",
+        ),
+    ] {
+        let alloc = rt.alloc();
+        assert!(rt;
+            comes_back(alloc, text, no_sleep, length, mode, head, end),
+            "{text:?}"
+        );
+    }
+}
+
+/// Whether a text is refused at a row of a tile.
+fn is_row_refused(alloc: Global, text: &[u8], line: u64, x: u32, y: u32) -> bool {
+    let tile = Some(TileXy { x, y });
+    let cause = AscCause::Row;
+    match pack(alloc, text, false) {
+        Ok(_) => false,
+        Err(fault) => fault == AscFault::At { line, tile, cause },
+    }
+}
+
+/// Whether a bitstream is refused for that cause at that offset.
+fn is_refused(alloc: Global, bin: &[u8], offset: u64, cause: BinCause) -> bool {
+    match unpack(alloc, bin) {
+        Ok(_) => false,
+        Err(fault) => fault == BinFault::At { offset, cause },
+    }
+}
+
+#[test]
+fn faults_are_told(rt: HostRuntime) {
+    let text = b".device 1k\n.io_tile 1 0\n";
+    assert!(rt; is_row_refused(rt.alloc(), text, 3, 1, 0));
+    assert!(rt; is_refused(rt.alloc(), b"", 0, BinCause::NoPreamble));
+}

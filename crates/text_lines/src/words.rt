@@ -99,14 +99,14 @@ fn one_number(separators: Separators, line: &[u8]) -> Option<u32>
 fn from_word(separators: Separators, line: &[u8]) -> &[u8]
     ensures { result.now ≡ from_word separators line.now }
 {
-    match first_place_of_word(separators, line) {
-        Some(place) => &line[place..],
+    match offset_of_word(separators, line) {
+        Some(offset) => &line[offset..],
         None => &[],
     }
 }
 
-/// Where the first byte stands that is no separator.
-fn first_place_of_word(separators: Separators, line: &[u8]) -> Option<usize>
+/// The offset of the first byte that is not a separator.
+fn offset_of_word(separators: Separators, line: &[u8]) -> Option<usize>
     ensures { result ≡ position (λ byte. not (is_separator separators byte)) line.now }
 {
     line.iter().position(|byte| !separators.has(*byte))
@@ -117,12 +117,12 @@ fn length_of_word(separators: Separators, line: &[u8]) -> usize
     ensures { result ≡ position_or_len (is_separator separators) line.now }
 {
     match first_separator(separators, line) {
-        Some(place) => place,
+        Some(offset) => offset,
         None => line.len(),
     }
 }
 
-/// Where the first separator stands.
+/// The offset of the first separator.
 fn first_separator(separators: Separators, line: &[u8]) -> Option<usize>
     ensures { result ≡ position (is_separator separators) line.now }
 {

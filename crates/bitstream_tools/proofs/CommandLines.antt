@@ -1,14 +1,80 @@
--- The command lines of the tools are simple.
-use Rattle.std.proofs.Common.{◌≡◌, true, refl}
-use Rattle.clap.specs.Words.{is_simple_and_free}
+-- The command lines of the tools: they are simple, and what is found in the words is the task.
+use Rattle.std.proofs.Common.{◌≡◌, ◌∙◌, Bool, true, false, ℕ, List, codes, refl, sym, ap, ap₂, subst}
+use Rattle.std.specs.Prelude.{Option, None, Some, option_map, if◌then◌else◌}
+use Rattle.std.specs.Borrow.{Bor}
+use Rattle.clap.specs.Words.{App, Row, Text, first_of, is_simple_and_free, matches_of}
 use Rattle.clap.proofs.OnLiterals.{clap_on_literals}
-use Rattle.bitstream_tools.specs.Pack.{icepack_command}
-use Rattle.bitstream_tools.specs.Unpack.{iceunpack_command}
+use Rattle.tool_run.specs.Needs.{text_of}
+use Rattle.tool_run.specs.Tasks.{Task, not_taken}
+use Rattle.tool_words.specs.Commands.{has_flag, is_taken}
+use Rattle.bitstream_tools.specs.declared.pack.Request.{Request}
+use Rattle.bitstream_tools.specs.Unpack.{iceunpack_command, iceunpack_name, iceunpack_task, iceunpack_task_by, iceunpack_usage, unpack_task}
+use Rattle.bitstream_tools.specs.Pack.{icepack_command, icepack_name, icepack_task, icepack_task_by, icepack_task_for, icepack_task_of, icepack_usage}
+
+-- a text that may be missing, either way
+text_of-map : (text : Option (Bor (List ℕ))) → option_map (λ t. t.now) text ≡ text_of text
+text_of-map None = refl
+text_of-map (Some text) = refl
+
+-- what is taken is what was found
+taken_task : (taken : Bool) (found other : Task) → true ≡ taken → (if taken then found else other) ≡ found
+taken_task true found other e = refl
+taken_task false found other e = absurd cc
+
+-- ---- iceunpack
 
 pub iceunpack-is_simple : is_simple_and_free iceunpack_command ≡ true
 unfolding clap_on_literals
 iceunpack-is_simple = refl
 
+pub iceunpack-speaker : (words : List Text) → (iceunpack_task words).speaker ≡ iceunpack_name
+unfolding iceunpack_task
+iceunpack-speaker words = by_case (is_taken iceunpack_command words)
+  where
+    by_case : (taken : Bool) → (if taken then iceunpack_task_by (matches_of iceunpack_command words) else not_taken iceunpack_name iceunpack_usage).speaker ≡ iceunpack_name
+    by_case true = refl
+    by_case false = refl
+
+pub iceunpack-found : (words : List Text) (app : App) (rows : List Row) (input output : Option (Bor (List ℕ))) → app ≡ iceunpack_command → true ≡ is_taken app words → rows ≡ matches_of app words
+    → option_map (λ t. t.now) input ≡ first_of (codes "input") rows → option_map (λ t. t.now) output ≡ first_of (codes "output") rows → iceunpack_task words ≡ unpack_task iceunpack_name (text_of input) (text_of output)
+unfolding iceunpack_task
+iceunpack-found words app rows input output same taken found input_is output_is =
+    let here : rows ≡ matches_of iceunpack_command words = found ∙ ap (λ a. matches_of a words) same in
+    taken_task (is_taken iceunpack_command words) (iceunpack_task_by (matches_of iceunpack_command words)) (not_taken iceunpack_name iceunpack_usage) (taken ∙ ap (λ a. is_taken a words) same)
+    ∙ ap iceunpack_task_by (sym here)
+    ∙ ap₂ (unpack_task iceunpack_name) (sym input_is ∙ text_of-map input) (sym output_is ∙ text_of-map output)
+
+-- ---- icepack
+
 pub icepack-is_simple : is_simple_and_free icepack_command ≡ true
 unfolding clap_on_literals
 icepack-is_simple = refl
+
+of-speaker : (unpacks no_sleep : Bool) (input output : Option Text) → (icepack_task_of unpacks no_sleep input output).speaker ≡ icepack_name
+of-speaker false no_sleep input output = refl
+of-speaker true false input output = refl
+of-speaker true true input output = refl
+
+pub icepack-speaker : (words : List Text) → (icepack_task words).speaker ≡ icepack_name
+unfolding icepack_task
+icepack-speaker words = by_case (is_taken icepack_command words)
+  where
+    rows : List Row
+    rows = matches_of icepack_command words
+
+    by_case : (taken : Bool) → (if taken then icepack_task_by rows else not_taken icepack_name icepack_usage).speaker ≡ icepack_name
+    by_case true = of-speaker (has_flag (codes "unpack") rows) (has_flag (codes "no_sleep") rows) (first_of (codes "input") rows) (first_of (codes "output") rows)
+    by_case false = refl
+
+pub icepack-found : (words : List Text) (app : App) (rows : List Row) (unpacks no_sleep : Bool) (input output : Option (Bor (List ℕ))) (request : Option Request)
+    → app ≡ icepack_command → true ≡ is_taken app words → rows ≡ matches_of app words → unpacks ≡ has_flag (codes "unpack") rows → no_sleep ≡ has_flag (codes "no_sleep") rows
+    → option_map (λ t. t.now) input ≡ first_of (codes "input") rows → option_map (λ t. t.now) output ≡ first_of (codes "output") rows
+    → icepack_task_for request ≡ icepack_task_of unpacks no_sleep (text_of input) (text_of output) → icepack_task words ≡ icepack_task_for request
+unfolding icepack_task
+icepack-found words app rows unpacks no_sleep input output request same taken found unpacks_is no_sleep_is input_is output_is wanted =
+    let here : rows ≡ matches_of icepack_command words = found ∙ ap (λ a. matches_of a words) same in
+    taken_task (is_taken icepack_command words) (icepack_task_by (matches_of icepack_command words)) (not_taken icepack_name icepack_usage) (taken ∙ ap (λ a. is_taken a words) same)
+    ∙ ap icepack_task_by (sym here)
+    ∙ ap₂ (λ (u n : Bool). icepack_task_of u n (first_of (codes "input") rows) (first_of (codes "output") rows)) (sym unpacks_is) (sym no_sleep_is)
+    ∙ ap₂ (icepack_task_of unpacks no_sleep) (sym input_is ∙ text_of-map input) (sym output_is ∙ text_of-map output)
+    ∙ sym wanted

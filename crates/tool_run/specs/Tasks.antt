@@ -1,5 +1,5 @@
 -- What a command line asks for, done on files and on an input that are known, where nothing fails from outside.
-use Rattle.std.specs.Prelude.{ℕ, Bool, List, [], ◌∷◌, length, nat_lt, if◌then◌else◌, Option, None, Some, Result, Ok, Err}
+use Rattle.std.specs.Prelude.{ℕ, Bool, false, bytes_eq, codes, List, [], ◌∷◌, length, nat_lt, if◌then◌else◌, Option, None, Some, Result, Ok, Err}
 use Rattle.std.specs.FinMap.{get}
 use Rattle.ice_io.specs.Files.{FileMap}
 use Rattle.tool_run.specs.Needs.{Need, reads_files, reads_input}
@@ -25,6 +25,17 @@ at_once speaker target answer = record { speaker = speaker; needs = []; target =
 -- a command line that isn't taken: the one that would be is told
 abbrev pub not_taken : List ℕ → List ℕ → Task
 not_taken speaker usage = at_once speaker None (NotTaken (usage_text usage))
+
+-- whether a tool is asked for its help: by the word `--help` alone behind its name
+abbrev pub asks_for_help : List (List ℕ) → Bool
+asks_for_help [] = false
+asks_for_help (tool ∷ []) = false
+asks_for_help (tool ∷ word ∷ []) = bytes_eq word (codes "--help")
+asks_for_help (tool ∷ word ∷ next ∷ words) = false
+
+-- the help of a tool where it is asked for, and else a task
+abbrev pub helped : List ℕ → List ℕ → List (List ℕ) → Task → Task
+helped speaker help words task = if asks_for_help words then at_once speaker None (Done help) else task
 
 -- why a need couldn't be read: there is no such file, or it has more bytes than its limit
 pub data LoadFault : Type 0 where

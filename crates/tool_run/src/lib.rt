@@ -8,12 +8,14 @@
 
 mod at_once;
 mod delivery;
+mod help;
 mod line;
 mod load;
 mod performing;
 mod tool;
 
 pub use at_once::{AtOnce, answer_at_once};
+pub use help::asks_for_help;
 pub use line::{Number, Phrase, Refusal, decimal, text};
 pub use load::Load;
 pub use performing::{Job, give_up, perform};

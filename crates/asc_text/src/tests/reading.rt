@@ -209,21 +209,26 @@ fn text_of_block(
     Ok(text)
 }
 
+/// The fault that such a text is told to have.
+fn fault_of_block(alloc: Global, block: &FaultyBlock) -> Result<Option<AscFault>, AllocError> {
+    let text = text_of_block(alloc, block.0, block.1, block.2, block.3)?;
+    Ok(fault_of(alloc, text.as_str()))
+}
+
 #[test]
-fn counts_sixteen_lines_of_a_block(rt: HostRuntime) -> Result<(), Fail> {
-    for (statement, row, count, rest, line, tile, cause) in &FAULTY_BLOCKS {
-        let text = text_of_block(rt.alloc(), statement, row, *count, rest)?;
+fn counts_sixteen_lines_of_a_block(rt: HostRuntime) {
+    for block in &FAULTY_BLOCKS {
         let told = AscFault::At {
-            line: *line,
-            tile: *tile,
-            cause: *cause,
+            line: block.4,
+            tile: block.5,
+            cause: block.6,
         };
         assert!(rt;
-            fault_of(rt.alloc(), text.as_str()) == Some(told),
-            "of {text:?}"
+            fault_of_block(rt.alloc(), block) == Ok(Some(told)),
+            "of {:?}",
+            block.0
         );
     }
-    Ok(())
 }
 
 /// A text as a placer may write it: lines with CR LF, blanks at ends, capital digits, statements in any order.

@@ -2,7 +2,7 @@
 
 use super::{BIT, EXTRA, is_in_cram, is_lower_ram, is_tile_bit};
 use crate::write;
-use ice_image::{AnyImage, Comment, Range, Settings};
+use ice_image::{AnyImage, Comment, Range, Settings, is_comment_line};
 use plane_map::DeviceName;
 use std::alloc::{AllocError, Global};
 use std::test::Fail;
@@ -18,19 +18,24 @@ fn set_bits(image: &mut AnyImage) {
     image.set_ram_word(3, 1, 0, 0x12af);
 }
 
-/// A comment of two lines.
-fn comment_of_two(alloc: Global) -> Result<Comment, AllocError> {
+/// A comment of these lines, as far as a comment can have them.
+fn comment_of(alloc: Global, lines: &[&[u8]]) -> Result<Comment, AllocError> {
     let mut comment = Comment::new(alloc);
-    comment.push(b"made by hand")?;
-    comment.push(b"for a test")?;
+    for line in lines {
+        if is_comment_line(line) {
+            comment.push(line)?;
+        }
+    }
     Ok(comment)
 }
+
+static LINES: [&[u8]; 2] = [b"made by hand", b"for a test"];
 
 /// The text of an image with these bits, a comment, and settings that are not the usual ones.
 fn text_of_marks(alloc: Global) -> Result<Vec<u8>, AllocError> {
     let mut image = AnyImage::zeroed(alloc, DeviceName::K1)?;
     set_bits(&mut image);
-    image.set_comment(Some(comment_of_two(alloc)?));
+    image.set_comment(Some(comment_of(alloc, &LINES)?));
     image.set_settings(Settings {
         range: Range::High,
         warm_boot: false,

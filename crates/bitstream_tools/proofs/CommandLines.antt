@@ -5,7 +5,7 @@ use Rattle.std.specs.Borrow.{Bor}
 use Rattle.clap.specs.Words.{App, Row, Text, first_of, is_simple_and_free, matches_of}
 use Rattle.clap.proofs.OnLiterals.{clap_on_literals}
 use Rattle.tool_run.specs.Needs.{text_of}
-use Rattle.tool_run.specs.Tasks.{Task, not_taken}
+use Rattle.tool_run.specs.Tasks.{Task, Done, asks_for_help, at_once, helped, not_taken}
 use Rattle.tool_words.specs.Commands.{has_flag, is_taken}
 use Rattle.bitstream_tools.specs.declared.pack.Request.{Request}
 use Rattle.bitstream_tools.specs.Unpack.{iceunpack_command, iceunpack_name, iceunpack_task, iceunpack_task_by, iceunpack_usage, unpack_task}
@@ -78,3 +78,12 @@ icepack-found words app rows unpacks no_sleep input output request same taken fo
     ∙ ap₂ (λ (u n : Bool). icepack_task_of u n (first_of (codes "input") rows) (first_of (codes "output") rows)) (sym unpacks_is) (sym no_sleep_is)
     ∙ ap₂ (icepack_task_of unpacks no_sleep) (sym input_is ∙ text_of-map input) (sym output_is ∙ text_of-map output)
     ∙ sym wanted
+
+-- ---- help
+
+pub helped-speaker : (name help : List ℕ) (words : List Text) (task : Task) → task.speaker ≡ name → (helped name help words task).speaker ≡ name
+helped-speaker name help words task speaks = by_case (asks_for_help words)
+  where
+    by_case : (asks : Bool) → (if asks then at_once name None (Done help) else task).speaker ≡ name
+    by_case true = refl
+    by_case false = speaks

@@ -6,11 +6,12 @@ use Rattle.asc_text.specs.Faults.{Fault, asc_fault_of}
 use Rattle.asc_text.specs.Meaning.{asc_image_of}
 use Rattle.bin_stream.specs.CanonicalBytes.{canonical_bytes}
 use Rattle.ice_pack.specs.Packed.{awake_where}
-use Rattle.tool_run.specs.Tasks.{Answer, Done, Refused, Task, not_taken}
+use Rattle.tool_run.specs.Tasks.{Answer, Done, Refused, Task, helped, not_taken}
 use Rattle.tool_words.specs.Commands.{command, flag, has_flag, is_taken, positional}
 use Rattle.tool_run.specs.Needs.{text_of}
 use Rattle.bitstream_tools.specs.declared.pack.Request.{Request}
 use Rattle.bitstream_tools.specs.declared.pack.Request.TheVariants.{Pack, Unpack}
+use Rattle.bitstream_tools.specs.declared.pack.TheConstants.{ICEPACK_HELP}
 use Rattle.bitstream_tools.specs.Faults.{asc_fault_text}
 use Rattle.bitstream_tools.specs.Unpack.{unpack_task}
 
@@ -69,3 +70,7 @@ abbrev pub icepack_task_for : Option Request → Task
 icepack_task_for None = not_taken icepack_name icepack_usage
 icepack_task_for (Some (Pack tool names)) = pack_task tool.no_sleep (text_of names.input) (text_of names.output)
 icepack_task_for (Some (Unpack names)) = unpack_task icepack_name (text_of names.input) (text_of names.output)
+
+-- what the words of `icepack` ask for, its help among that
+abbrev pub icepack_outcome : List Text → Task
+icepack_outcome words = helped icepack_name ICEPACK_HELP.now words (icepack_task words)

@@ -5,10 +5,11 @@ use Rattle.ice_image.specs.Configuration.{Configuration}
 use Rattle.asc_text.specs.Canonical.{asc_text_of}
 use Rattle.bin_stream.specs.Refusals.{Fault}
 use Rattle.bin_stream.specs.Spelling.{bin_read_of}
-use Rattle.tool_run.specs.Tasks.{Answer, Done, Refused, Task, not_taken}
+use Rattle.tool_run.specs.Tasks.{Answer, Done, Refused, Task, helped, not_taken}
 use Rattle.tool_words.specs.Commands.{command, is_taken, positional}
 use Rattle.tool_run.specs.Needs.{text_of}
 use Rattle.bitstream_tools.specs.declared.unpack.Names.{Names}
+use Rattle.bitstream_tools.specs.declared.unpack.TheConstants.{ICEUNPACK_HELP}
 use Rattle.bitstream_tools.specs.Faults.{bin_fault_text}
 
 -- the most bytes of a bitstream
@@ -54,3 +55,7 @@ iceunpack_task words =
 abbrev pub iceunpack_task_for : Option Names → Task
 iceunpack_task_for None = not_taken iceunpack_name iceunpack_usage
 iceunpack_task_for (Some names) = unpack_task iceunpack_name (text_of names.input) (text_of names.output)
+
+-- what the words of `iceunpack` ask for, its help among that
+abbrev pub iceunpack_outcome : List Text → Task
+iceunpack_outcome words = helped iceunpack_name ICEUNPACK_HELP.now words (iceunpack_task words)

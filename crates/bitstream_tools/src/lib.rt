@@ -9,5 +9,5 @@ mod first;
 mod pack;
 mod unpack;
 
-pub use pack::{ICEPACK_USAGE, run_icepack};
-pub use unpack::{ICEUNPACK_USAGE, run_iceunpack};
+pub use pack::{ICEPACK_HELP, ICEPACK_USAGE, run_icepack};
+pub use unpack::{ICEUNPACK_HELP, ICEUNPACK_USAGE, run_iceunpack};

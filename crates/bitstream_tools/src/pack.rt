@@ -7,7 +7,7 @@ ghost use Rattle.tool_run.specs.Needs.{text_of};
 ghost use Rattle.tool_run.specs.Runs.{Does, outside, scene};
 ghost use Rattle.tool_run.specs.Stops.{StopsWith};
 ghost use Rattle.tool_run.specs.Tasks.{Done};
-ghost use Rattle.bitstream_tools.specs.Pack.{icepack_command, icepack_task, icepack_task_for, icepack_task_of, pack_task, packed};
+ghost use Rattle.bitstream_tools.specs.Pack.{icepack_command, icepack_task, icepack_outcome, icepack_task_for, icepack_task_of, pack_task, packed};
 
 use crate::faults::asc_refusal;
 use crate::first::first;
@@ -17,7 +17,7 @@ use clap::Command;
 use ice_io::{Files, Sink, Source};
 use ice_pack::pack;
 use std::alloc::{AllocError, Global};
-use tool_run::{AtOnce, Job, Load, Stop, Tool, answer_at_once, give_up, perform};
+use tool_run::{AtOnce, Job, Load, Stop, Tool, answer_at_once, asks_for_help, give_up, perform};
 use tool_words::{flag, has_flag, parse, positional, value, with};
 
 /// The most bytes of a text.
@@ -25,6 +25,27 @@ pub(crate) const TEXT_LIMIT: usize = 16_777_216;
 
 /// The command line of `icepack`.
 pub const ICEPACK_USAGE: &str = "icepack [-u] [-s] [INPUT [OUTPUT]]";
+
+/// The help of `icepack`, at most 80 columns wide.
+pub const ICEPACK_HELP: &str = "\
+icepack: packs a text (.asc) into the bitstream (.bin) that an iCE40 HX1K or HX8K
+loads.
+
+Usage: icepack [-u] [-s] [INPUT [OUTPUT]]
+
+  INPUT     the text; standard input if it is missing
+  OUTPUT    the bitstream; standard output if it is missing
+  -s        sets the flag that keeps the flash awake after the configuration
+  -u        unpacks instead, as iceunpack does; not together with -s
+
+Example: icepack blink.asc blink.bin
+
+Limits: a text has at most 16777216 bytes, a bitstream 4194304.
+
+Exit status: 0 done; 1 the input is refused, with its first faulty line or the
+offset of its first fault; 2 the command line isn't taken; 3 reading failed;
+4 writing failed; 5 out of memory; 6 the input is longer than its limit.
+";
 
 /// Packs the text that it loads. The flash stays awake where `no_sleep` is true, whatever the text says.
 #[derive(Clone, Copy, Debug, PartialEq, Eq)]
@@ -141,10 +162,14 @@ pub fn run_icepack<F: Files, I: Source, O: Sink, E: Sink>(
     errors: &mut E,
 ) -> u8
     ensures { Does (outside F.contents F.steady F.load_faults F.store_faults I.left I.faults O.held O.faults E.held E.faults)
-        (icepack_task (map string_bytes words.now)) result
+        (icepack_outcome (map string_bytes words.now)) result
         (scene files.old input.old output.old errors.old) (scene files.new input.new output.new errors.new) }
 {
     let speaker = "icepack";
+    if asks_for_help(words) {
+        let answer = AtOnce::Tells(ICEPACK_HELP);
+        return answer_at_once(alloc, speaker, answer, files, input, output, errors);
+    }
     match request_of(alloc, words) {
         Ok(Some(Request::Pack(tool, names))) => {
             pack_between(alloc, tool, names, files, input, output, errors)

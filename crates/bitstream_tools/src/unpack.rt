@@ -3,7 +3,7 @@ ghost use Rattle.std.specs.Prelude.{◌≡◌, map, string_bytes, IfOk};
 ghost use Rattle.clap.specs.Words.{app_of};
 ghost use Rattle.tool_run.specs.Runs.{Does, outside, scene};
 ghost use Rattle.tool_run.specs.Needs.{text_of};
-ghost use Rattle.bitstream_tools.specs.Unpack.{iceunpack_command, iceunpack_task, iceunpack_task_for, unpack_task};
+ghost use Rattle.bitstream_tools.specs.Unpack.{iceunpack_command, iceunpack_task, iceunpack_outcome, iceunpack_task_for, unpack_task};
 
 use crate::faults::bin_refusal;
 use crate::first::first;
@@ -12,11 +12,29 @@ use clap::Command;
 use ice_io::{Files, Sink, Source};
 use ice_pack::unpack;
 use std::alloc::{AllocError, Global};
-use tool_run::{AtOnce, Job, Load, Stop, Tool, answer_at_once, give_up, perform};
+use tool_run::{AtOnce, Job, Load, Stop, Tool, answer_at_once, asks_for_help, give_up, perform};
 use tool_words::{parse, positional, value, with};
 
 /// The command line of `iceunpack`.
 pub const ICEUNPACK_USAGE: &str = "iceunpack [INPUT [OUTPUT]]";
+
+/// The help of `iceunpack`, at most 80 columns wide.
+pub const ICEUNPACK_HELP: &str = "\
+iceunpack: unpacks a bitstream (.bin) of an iCE40 HX1K or HX8K into a text (.asc).
+
+Usage: iceunpack [INPUT [OUTPUT]]
+
+  INPUT     the bitstream; standard input if it is missing
+  OUTPUT    the text; standard output if it is missing
+
+Example: iceunpack blink.bin blink.asc
+
+Limit: a bitstream has at most 4194304 bytes.
+
+Exit status: 0 done; 1 the input is refused, with the offset of its first fault;
+2 the command line isn't taken; 3 reading failed; 4 writing failed; 5 out of
+memory; 6 the input is longer than its limit.
+";
 
 /// The most bytes of a bitstream.
 pub(crate) const STREAM_LIMIT: usize = 4_194_304;
@@ -106,10 +124,14 @@ pub fn run_iceunpack<F: Files, I: Source, O: Sink, E: Sink>(
     errors: &mut E,
 ) -> u8
     ensures { Does (outside F.contents F.steady F.load_faults F.store_faults I.left I.faults O.held O.faults E.held E.faults)
-        (iceunpack_task (map string_bytes words.now)) result
+        (iceunpack_outcome (map string_bytes words.now)) result
         (scene files.old input.old output.old errors.old) (scene files.new input.new output.new errors.new) }
 {
     let speaker = "iceunpack";
+    if asks_for_help(words) {
+        let answer = AtOnce::Tells(ICEUNPACK_HELP);
+        return answer_at_once(alloc, speaker, answer, files, input, output, errors);
+    }
     match names_of(alloc, words) {
         Ok(Some(names)) => unpack_between(alloc, speaker, names, files, input, output, errors),
         Ok(None) => {

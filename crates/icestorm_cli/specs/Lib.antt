@@ -1,4 +1,1 @@
-pub mod Jobs
-pub mod Messages
-pub mod Outcome
-pub mod Effects
+pub mod Tools

@@ -1,14 +1,10 @@
 //! Project IceStorm's bitstream tools in one program: the first word of the command line is the tool.
 #![tactic(auto)]
 
-mod answers;
-mod carrying;
-mod delivery;
-mod job;
-mod loading;
-mod report;
+ghost use Rattle.std.specs.Prelude.{◌≡◌, ◌≢◌, ◌⊎◌, IfErr};
+
 mod running;
-mod words;
+mod tool;
 
 use crate::running::run;
 use ice_io::{DirFiles, StdSink, StdSource};
@@ -17,18 +13,30 @@ use std::io::ErrorKind;
 use std::process::ExitCode;
 use std::rt::Env;
 
-/// The status where there is no memory for the words.
+/// The exit status where there is no memory for the words.
 const OUT_OF_MEMORY: u8 = 5;
 
-/// The status where a word is no text.
+/// The exit status where a word isn't UTF-8.
 const NOT_TAKEN: u8 = 2;
 
-/// The words behind the program's own name, or the status where there are none to be had.
-fn words_of(rt: &(impl Env + AllocGlobal)) -> Result<Vec<String>, u8> {
+/// The exit status where the words can't be had, by the kind of error: out of memory, or a word that isn't UTF-8.
+fn status_without_words(kind: ErrorKind) -> u8
+    ensures memory { kind ≡ ErrorKind.OutOfMemory → result ≡ 5 }
+    ensures other { kind ≢ ErrorKind.OutOfMemory → result ≡ 2 }
+{
+    match kind {
+        ErrorKind::OutOfMemory => OUT_OF_MEMORY,
+        _ => NOT_TAKEN,
+    }
+}
+
+/// The words behind the program's own name, or the exit status where they can't be had.
+fn words_of(rt: &(impl Env + AllocGlobal)) -> Result<Vec<String>, u8>
+    ensures { IfErr result (λ status. (status ≡ 2) ⊎ (status ≡ 5)) }
+{
     let args = match env::args(rt) {
         Ok(args) => args,
-        Err(e) if e.kind() == ErrorKind::OutOfMemory => return Err(OUT_OF_MEMORY),
-        Err(_) => return Err(NOT_TAKEN),
+        Err(error) => return Err(status_without_words(error.kind())),
     };
     match args.skip(1).collect(rt.alloc()) {
         Ok(words) => Ok(words),

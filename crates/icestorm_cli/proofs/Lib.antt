@@ -1,4 +1,0 @@
-pub mod Loads
-pub mod Deliveries
-pub mod Pieces
-pub mod Endings

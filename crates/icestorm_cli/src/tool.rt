@@ -1,0 +1,57 @@
+// The tools, each by the first word of the command line.
+ghost use Rattle.std.specs.Prelude.{◌≡◌, map, string_bytes};
+ghost use Rattle.icestorm_cli.specs.Tools.{tool_named, tool_of};
+
+/// The tools.
+#[derive(Clone, Copy, Debug, PartialEq, Eq)]
+pub enum Tool {
+    /// Text to bitstream.
+    Icepack,
+    /// Bitstream to text.
+    Iceunpack,
+}
+
+/// The version of the program.
+pub const VERSION: &str = "icestorm 0.1.0\n";
+
+/// The help of the program, at most 80 columns wide.
+pub const HELP: &str = "\
+icestorm: Project IceStorm's bitstream tools for the iCE40 HX1K and HX8K, proved.
+
+Usage: icestorm TOOL ...
+       icestorm TOOL --help
+       icestorm --help
+       icestorm --version
+
+Tools:
+  icepack      packs a text (.asc) into a bitstream (.bin)
+  iceunpack    unpacks a bitstream (.bin) into a text (.asc)
+
+Example: icestorm icepack blink.asc blink.bin
+
+Exit status: 0 done; 1 the input is refused; 2 the command line isn't taken;
+3 reading failed; 4 writing failed; 5 out of memory; 6 an input is longer than
+its limit. With each but 0 one line on standard error tells why.
+";
+
+/// The tool that the words name.
+pub fn tool_of(words: &[String]) -> Option<Tool>
+    ensures { result ≡ tool_of (map string_bytes words.now) }
+{
+    match words {
+        [] => None,
+        [word, ..] => tool_named(word.as_str()),
+    }
+}
+
+// The tool that a word names.
+#[tactic(auto, unfolding(crate::specs::Tools::tool_named))]
+fn tool_named(word: &str) -> Option<Tool>
+    ensures { result ≡ tool_named word.now }
+{
+    match word {
+        "icepack" => Some(Tool::Icepack),
+        "iceunpack" => Some(Tool::Iceunpack),
+        _ => None,
+    }
+}

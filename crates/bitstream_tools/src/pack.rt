@@ -28,8 +28,7 @@ pub const ICEPACK_USAGE: &str = "icepack [-u] [-s] [INPUT [OUTPUT]]";
 
 /// The help of `icepack`, at most 80 columns wide.
 pub const ICEPACK_HELP: &str = "\
-icepack: packs a text (.asc) into the bitstream (.bin) that an iCE40 HX1K or HX8K
-loads.
+icepack: packs a text (.asc) into a bitstream (.bin) for an iCE40 HX1K or HX8K.
 
 Usage: icepack [-u] [-s] [INPUT [OUTPUT]]
 

@@ -20,7 +20,7 @@ pub const ICEUNPACK_USAGE: &str = "iceunpack [INPUT [OUTPUT]]";
 
 /// The help of `iceunpack`, at most 80 columns wide.
 pub const ICEUNPACK_HELP: &str = "\
-iceunpack: unpacks a bitstream (.bin) of an iCE40 HX1K or HX8K into a text (.asc).
+iceunpack: unpacks a bitstream (.bin) of an iCE40 HX1K or HX8K to a text (.asc).
 
 Usage: iceunpack [INPUT [OUTPUT]]
 

@@ -50,16 +50,16 @@ pub fn run<F: Files, I: Source, O: Sink, E: Sink>(
 ) -> u8
     ensures icepack { tool_of (texts_of words.now) ≡ Some Tool.Icepack
         → Does (outside F.contents F.steady F.load_faults F.store_faults I.left I.faults O.held O.faults E.held E.faults)
-            (icepack_outcome (texts_of words.now)) result
-            (scene files.old input.old output.old errors.old) (scene files.new input.new output.new errors.new) }
+        (icepack_outcome (texts_of words.now)) result
+        (scene files.old input.old output.old errors.old) (scene files.new input.new output.new errors.new) }
     ensures iceunpack { tool_of (texts_of words.now) ≡ Some Tool.Iceunpack
         → Does (outside F.contents F.steady F.load_faults F.store_faults I.left I.faults O.held O.faults E.held E.faults)
-            (iceunpack_outcome (texts_of words.now)) result
-            (scene files.old input.old output.old errors.old) (scene files.new input.new output.new errors.new) }
+        (iceunpack_outcome (texts_of words.now)) result
+        (scene files.old input.old output.old errors.old) (scene files.new input.new output.new errors.new) }
     ensures others { tool_of (texts_of words.now) ≡ None
         → Does (outside F.contents F.steady F.load_faults F.store_faults I.left I.faults O.held O.faults E.held E.faults)
-            (other_outcome (texts_of words.now)) result
-            (scene files.old input.old output.old errors.old) (scene files.new input.new output.new errors.new) }
+        (other_outcome (texts_of words.now)) result
+        (scene files.old input.old output.old errors.old) (scene files.new input.new output.new errors.new) }
 {
     let words = words.as_slice();
     match tool_of(words) {

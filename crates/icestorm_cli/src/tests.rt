@@ -114,10 +114,18 @@ fn tells_why_nothing_is_done(rt: HostRuntime) -> Result<(), Fail> {
             3,
             "icepack: read failed: nofile\n",
         ),
-        (["icepack", "-", "a", "b"].as_slice(), "", 2, ICEPACK_USAGE),
-        (["icepack", "a", "-"].as_slice(), "", 2, ICEPACK_USAGE),
+        (["icepack", "a", "b", "c"].as_slice(), "", 2, ICEPACK_USAGE),
+        (
+            ["icepack", "-"].as_slice(),
+            "",
+            3,
+            "icepack: read failed: -\n",
+        ),
         (["icepack", "-x"].as_slice(), "", 2, ICEPACK_USAGE),
-        (["icepack", "-s"].as_slice(), "", 2, ICEPACK_USAGE),
+        (["icepack", "-u", "-s"].as_slice(), "", 2, ICEPACK_USAGE),
+        (["icepack", "-s", "-s"].as_slice(), "", 2, ICEPACK_USAGE),
+        (["icepack", "--help", "a"].as_slice(), "", 2, ICEPACK_USAGE),
+        (["--help", "icepack"].as_slice(), "", 2, USAGE),
         ([].as_slice(), "", 2, USAGE),
         (["icemulti"].as_slice(), "", 2, USAGE),
         (
@@ -208,5 +216,55 @@ fn keeps_the_status_where_the_line_is_cut(rt: HostRuntime) -> Result<(), Fail> {
     stage.errors = MemSink::new(alloc, 100, 7, [4].to_vec(alloc)?)?;
     assert_eq!(rt; stage.run(alloc, &["icepack"])?, 1);
     assert_eq!(rt; stage.errors.bytes(), b"icepack: line ".as_slice());
+    Ok(())
+}
+
+#[test]
+fn writes_help_and_version(rt: HostRuntime) -> Result<(), Fail> {
+    let alloc = rt.alloc();
+    for (words, first_line) in [
+        (
+            ["--help"].as_slice(),
+            "icestorm: the bitstream tools of Project IceStorm for the iCE40 HX1K and HX8K.\n",
+        ),
+        (["--version"].as_slice(), "icestorm 0.1.0\n"),
+        (
+            ["icepack", "--help"].as_slice(),
+            "icepack: packs a text (.asc) into a bitstream (.bin) for an iCE40 HX1K or HX8K.\n",
+        ),
+        (
+            ["iceunpack", "--help"].as_slice(),
+            "iceunpack: unpacks a bitstream (.bin) of an iCE40 HX1K or HX8K to a text (.asc).\n",
+        ),
+    ] {
+        let mut stage = Stage::on_input(alloc, b"", 1)?;
+        assert_eq!(rt; stage.run(alloc, words)?, 0, "of {words:?}");
+        assert!(rt;
+            stage.output.bytes().starts_with(first_line.as_bytes()),
+            "of {words:?}"
+        );
+        assert_eq!(rt; stage.errors.bytes(), b"".as_slice(), "of {words:?}");
+    }
+    Ok(())
+}
+
+#[test]
+fn takes_the_options_of_icepack(rt: HostRuntime) -> Result<(), Fail> {
+    let alloc = rt.alloc();
+    let mut awake = Stage::on_input(alloc, DEVICE, 0)?;
+    assert_eq!(rt; awake.run(alloc, &["icepack", "-s"])?, 0);
+    assert_eq!(rt; awake.output.bytes().get(10), Some(&0x21));
+    let mut back = Stage::on_input(alloc, awake.output.bytes(), 0)?;
+    back.output = MemSink::new(alloc, 1_000_000, 100_000, Vec::new(alloc))?;
+    assert_eq!(rt; back.run(alloc, &["icepack", "-u"])?, 0);
+    assert!(rt;
+        back.output
+            .bytes()
+            .starts_with(b".device 1k\n.nosleep enabled\n")
+    );
+    let mut bad = Stage::on_input(alloc, b"", 0)?;
+    assert_eq!(rt; bad.run(alloc, &["icepack", "-u"])?, 1);
+    let line = b"icepack: offset 0: NoPreamble\n";
+    assert_eq!(rt; bad.errors.bytes(), line.as_slice());
     Ok(())
 }

@@ -16,7 +16,7 @@ pub const VERSION: &str = "icestorm 0.1.0\n";
 
 /// The help of the program, at most 80 columns wide.
 pub const HELP: &str = "\
-icestorm: Project IceStorm's bitstream tools for the iCE40 HX1K and HX8K, proved.
+icestorm: the bitstream tools of Project IceStorm for the iCE40 HX1K and HX8K.
 
 Usage: icestorm TOOL ...
        icestorm TOOL --help

@@ -5,8 +5,8 @@ use Rattle.std.proofs.lemmas.Bool.{cases_eq, cases_lt, cases_Bool, and_parts, an
 use Rattle.std.proofs.lemmas.Bool.Decides.{nat_tests}
 use Rattle.std.proofs.lemmas.List.{get_or_past}
 use Rattle.text_lines.specs.Lines.{lines_of, line_at, trimmed}
-use Rattle.text_lines.specs.Places.{any_below, least_below, first_below, or_here, or_else}
-use Rattle.text_lines.proofs.Places.{any_below-at, any_below-place, least_below-first, first_below-sum}
+use Rattle.place_search.specs.Places.{any_below, least_below, first_below, or_here, or_else}
+use Rattle.place_search.proofs.Places.{any_below-at, any_below-place, least_below-first, first_below-sum}
 use Rattle.plane_map.specs.Layout.{kind_of, columns_of, columns_in, place_of, word_place_of, px_of, bank_of, ram_of, from_end, grid_height, cram_width, cram_height, bram_width, bram_height, IsTileBit, IsWordBit, IsExtraBit, IsInCram, IsInBram}
 use Rattle.plane_map.specs.declared.device.DeviceName.{DeviceName}
 use Rattle.plane_map.specs.declared.device.DeviceName.TheVariants.{K1, K8}

@@ -6,7 +6,7 @@ use Rattle.std.proofs.lemmas.List.{length-drop}
 use Rattle.bit_plane.specs.Rows.{Rows, IsGrid}
 use Rattle.bit_plane.proofs.Made.{IsGrid-rows_from, bit_at-rows_from}
 use Rattle.text_lines.specs.Lines.{lines_of, line_at}
-use Rattle.text_lines.proofs.Places.{first_below-none, first_below-first}
+use Rattle.place_search.proofs.Places.{first_below-none, first_below-first}
 use Rattle.plane_map.specs.Layout.{cram_width, cram_height, bram_width, bram_height}
 use Rattle.plane_map.specs.declared.device.DeviceName.{DeviceName}
 use Rattle.plane_map.specs.declared.tile.Place.{Place}

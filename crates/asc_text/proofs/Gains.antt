@@ -3,7 +3,7 @@ use Rattle.std.proofs.Common.{◌≡◌, ℕ, ◌+◌, ◌-◌, ◌*◌, ◌<◌
 use Rattle.std.proofs.lemmas.Bool.{cases_eq, eq-eqb, ne_eqb, lt-ltb}
 use Rattle.std.specs.Prelude.{length, Some, nat_lt}
 use Rattle.std.proofs.Math.Bool.{or-false, or-true, or_assoc, and-false}
-use Rattle.text_lines.specs.Places.{any_below}
+use Rattle.place_search.specs.Places.{any_below}
 use Rattle.bit_plane.specs.Rows.{Rows}
 use Rattle.plane_map.specs.declared.tile.Place.{Place}
 use Rattle.ice_image.specs.Configuration.{place_bit, with_place_bit, AreBanks}

@@ -5,8 +5,8 @@ use Rattle.std.proofs.lemmas.Bool.{cases_eq, eq-eqb, ne_eqb}
 use Rattle.std.proofs.lemmas.List.{get_or-replicate}
 use Rattle.std.proofs.Math.Bool.{or-false}
 use Rattle.text_lines.specs.Lines.{line_at}
-use Rattle.text_lines.specs.Places.{any_below, first_below, gathered_below, or_else}
-use Rattle.text_lines.proofs.Places.{or_else-none, any_below-more, first_below-more, gathered_below-more}
+use Rattle.place_search.specs.Places.{any_below, first_below, gathered_below, or_else}
+use Rattle.place_search.proofs.Places.{or_else-none, any_below-more, first_below-more, gathered_below-more}
 use Rattle.asc_text.specs.declared.statement.Statement.{Statement}
 use Rattle.asc_text.specs.declared.statement.Statement.TheVariants.{Comment, Device, WarmBoot, FrequencyRange, NoSleep, Tile, RamData, ExtraBit, Symbol}
 use Rattle.asc_text.specs.declared.fault.TileXy.{TileXy}

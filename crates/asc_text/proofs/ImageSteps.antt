@@ -6,8 +6,8 @@ use Rattle.std.proofs.lemmas.List.{get_or_past}
 use Rattle.std.proofs.Math.Bool.{or-false}
 use Rattle.bit_plane.specs.Rows.{Rows, blank, bit_at}
 use Rattle.text_lines.specs.Lines.{line_at, trimmed}
-use Rattle.text_lines.specs.Places.{any_below}
-use Rattle.text_lines.proofs.Places.{any_below-more}
+use Rattle.place_search.specs.Places.{any_below}
+use Rattle.place_search.proofs.Places.{any_below-more}
 use Rattle.plane_map.specs.Layout.{cram_width, cram_height, bram_width, bram_height}
 use Rattle.plane_map.specs.declared.device.DeviceName.{DeviceName}
 use Rattle.plane_map.specs.declared.tile.Place.{Place}

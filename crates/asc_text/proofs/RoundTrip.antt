@@ -5,9 +5,9 @@ use Rattle.std.proofs.lemmas.List.{length-append, get_or_at}
 use Rattle.std.proofs.lemmas.List.Elements.{All-nil, All-append}
 use Rattle.std.specs.Prelude.{All, unwrap_or}
 use Rattle.text_lines.specs.Lines.{lines_of, line_at}
-use Rattle.text_lines.specs.Places.{any_below, first_below}
+use Rattle.place_search.specs.Places.{any_below, first_below}
 use Rattle.text_lines.specs.Written.{text_of, IsPlain}
-use Rattle.text_lines.proofs.Places.{any_below-at, first_below-none, gathered_below-none}
+use Rattle.place_search.proofs.Places.{any_below-at, first_below-none, gathered_below-none}
 use Rattle.text_lines.proofs.Written.{lines_of-text_of}
 use Rattle.bit_plane.specs.Rows.{Rows, IsGrid, bit_at}
 use Rattle.bit_plane.proofs.Made.{IsGrid-rows_from, bit_at-rows_from}

@@ -1,6 +1,6 @@
 -- The one text that is written for a configuration: a concatenation of lines.
 use Rattle.std.specs.Prelude.{ℕ, ◌+◌, ◌-◌, ◌*◌, ◌/◌, ◌%◌, Bool, true, false, not, ◌&&◌, List, [], ◌∷◌, ◌++◌, map, decimal, if◌then◌else◌, Option, Some, None}
-use Rattle.text_lines.specs.Places.{gathered_below}
+use Rattle.place_search.specs.Places.{gathered_below}
 use Rattle.text_lines.specs.Written.{text_of}
 use Rattle.bit_plane.specs.Rows.{Rows}
 use Rattle.hex.specs.Hex.{encode_lower}

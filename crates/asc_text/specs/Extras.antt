@@ -1,6 +1,6 @@
 -- Places of the configuration planes that are no tile's.
 use Rattle.std.specs.Prelude.{Bool, not, ◌&&◌, nat_lt, ◌==◌}
-use Rattle.text_lines.specs.Places.{any_below}
+use Rattle.place_search.specs.Places.{any_below}
 use Rattle.plane_map.specs.Layout.{grid_width, grid_height, columns_at, cram_width, cram_height}
 use Rattle.plane_map.specs.declared.device.DeviceName.{DeviceName}
 use Rattle.plane_map.specs.declared.tile.Place.{Place}

@@ -1,6 +1,6 @@
 -- What holds while the bits of a line are set, one after the other. Only contracts within this crate cite this.
 use Rattle.std.specs.Prelude.{◌≡◌, ℕ, ◌+◌, ◌*◌, ◌/◌, ◌%◌, ◌^◌, ◌-◌, Bool, ◌&&◌, ◌||◌, List, get_or, ◌==◌}
-use Rattle.text_lines.specs.Places.{any_below}
+use Rattle.place_search.specs.Places.{any_below}
 use Rattle.bit_plane.specs.Rows.{Rows}
 use Rattle.plane_map.specs.declared.device.DeviceName.{DeviceName}
 use Rattle.plane_map.specs.declared.tile.Place.{Place}

@@ -2,7 +2,7 @@
 -- the whole text the index is the number of its lines.
 use Rattle.std.specs.Prelude.{◌≡◌, ℕ, ◌+◌, ◌-◌, ◌*◌, Bool, false, not, ◌&&◌, List, [], ◌∷◌, length, nat_lt, ◌==◌, if◌then◌else◌, Option, Some, None, unwrap_or}
 use Rattle.text_lines.specs.Lines.{lines_of, line_at, trimmed}
-use Rattle.text_lines.specs.Places.{any_below, last_below, first_below, gathered_below}
+use Rattle.place_search.specs.Places.{any_below, last_below, first_below, gathered_below}
 use Rattle.bit_plane.specs.Rows.{Rows, rows_from}
 use Rattle.plane_map.specs.Layout.{columns_of, cram_width, cram_height, bram_width, bram_height}
 use Rattle.plane_map.specs.declared.device.DeviceName.{DeviceName}

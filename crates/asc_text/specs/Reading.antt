@@ -3,7 +3,7 @@
 use Rattle.std.specs.Prelude.{◌≡◌, ℕ, ◌+◌, ◌<◌, Bool, true, false, not, ◌&&◌, ◌||◌, List, [], ◌∷◌, ◌++◌, length, nat_lt, ◌==◌, if◌then◌else◌, Option, Some, None, is_some, unwrap_or, replicate}
 use Rattle.std.specs.Bool.{MatchBool}
 use Rattle.text_lines.specs.Lines.{trimmed}
-use Rattle.text_lines.specs.Places.{or_else}
+use Rattle.place_search.specs.Places.{or_else}
 use Rattle.plane_map.specs.Layout.{kind_of, columns_of, cram_width, cram_height, bram_width, bram_height}
 use Rattle.plane_map.specs.declared.device.DeviceName.{DeviceName}
 use Rattle.plane_map.specs.declared.tile.Place.{Place}

@@ -1,6 +1,6 @@
 // The lines of the tiles, and of the contents of the RAMs.
 ghost use Rattle.std.specs.Prelude.{◌≡◌, ◌<◌, [], ◌∷◌, ◌++◌, Some, OnOk};
-ghost use Rattle.text_lines.specs.Places.{gathered_below};
+ghost use Rattle.place_search.specs.Places.{gathered_below};
 ghost use Rattle.text_lines.specs.Written.{text_of};
 ghost use Rattle.bit_plane.specs.Rows.{row_from};
 ghost use Rattle.hex.specs.Hex.{encode_lower};
@@ -16,7 +16,7 @@ use plane_map::{Device, TileBit, TileKind, kind_at, tile_width};
 use std::alloc::AllocError;
 
 /// Adds all tiles, row of the grid by row of the grid.
-#[tactic(auto, using(crate::proofs::Pieces::joined), unfolding(text_lines::specs::Places::gathered_below))]
+#[tactic(auto, using(crate::proofs::Pieces::joined), unfolding(place_search::specs::Places::gathered_below))]
 pub(crate) fn put_tiles<D: Device>(text: &mut Vec<u8>, image: &Image<D>) -> Result<(), AllocError>
     requires { image.now.device ≡ D.NAME }
     ensures { OnOk result (text.new.items ≡ text.old.items ++ text_of (all_tile_lines image.now)) }
@@ -28,7 +28,7 @@ pub(crate) fn put_tiles<D: Device>(text: &mut Vec<u8>, image: &Image<D>) -> Resu
 }
 
 /// Adds the tiles of a row of the grid.
-#[tactic(auto, using(crate::proofs::Pieces::joined), unfolding(text_lines::specs::Places::gathered_below))]
+#[tactic(auto, using(crate::proofs::Pieces::joined), unfolding(place_search::specs::Places::gathered_below))]
 fn put_grid_row<D: Device>(text: &mut Vec<u8>, image: &Image<D>, y: u8) -> Result<(), AllocError>
     requires { image.now.device ≡ D.NAME }
     ensures { OnOk result (text.new.items ≡ text.old.items ++ text_of (gathered_below (grid_width image.now.device) (λ x. lines_of_tile_at image.now x y (kind_of image.now.device x y)))) }
@@ -117,7 +117,7 @@ fn bit_character(bit: bool) -> u8
 }
 
 /// Adds the contents of the RAM whose lower tile is at a place.
-#[tactic(auto, using(crate::proofs::Pieces::joined), unfolding(text_lines::specs::Places::gathered_below))]
+#[tactic(auto, using(crate::proofs::Pieces::joined), unfolding(place_search::specs::Places::gathered_below))]
 fn put_ram<D: Device>(text: &mut Vec<u8>, image: &Image<D>, x: u8, y: u8) -> Result<(), AllocError>
     requires { kind_of D.NAME x y ≡ Some TileKind.RamB }
     ensures { OnOk result (text.new.items ≡ text.old.items ++ text_of (ram_lines D.NAME image.now.bram x y)) }

@@ -1,6 +1,6 @@
 use Rattle.std.proofs.Common.{◌≡◌, ◌+◌, ◌*◌, ◌-◌, ◌++◌}
 use Rattle.hex.specs.Hex.{encode_lower}
-use Rattle.text_lines.specs.Places.{gathered_below}
+use Rattle.place_search.specs.Places.{gathered_below}
 use Rattle.ice_image.specs.Contents.{word_value}
 use Rattle.asc_text.specs.Canonical.{two_bytes}
 use Rattle.asc_text.proofs.write_tiles.put_memory_line.Given as goal

@@ -1,7 +1,7 @@
 use Rattle.std.proofs.Common.{ℕ, List, [], ◌∷◌, arith}
 use Rattle.asc_text.specs.Statements.{ram_data_keyword}
 use Rattle.asc_text.specs.Canonical.{grid_line, memory_line}
-use Rattle.text_lines.specs.Places.{gathered_below}
+use Rattle.place_search.specs.Places.{gathered_below}
 use Rattle.asc_text.proofs.Pieces.{lines-joined, gathered-all}
 use Rattle.asc_text.proofs.write_tiles.put_ram.Goals as goal
 

@@ -3,7 +3,7 @@ use Rattle.std.proofs.Common.{◌≡◌, ℕ, zero, suc, ◌+◌, ◌<◌, Bool,
 use Rattle.std.specs.Prelude.{Option, Some, None}
 use Rattle.std.proofs.lemmas.Bool.{cases_eq, cases_Bool}
 use Rattle.std.proofs.Math.Bool.{or-false, or-true, or_assoc}
-use Rattle.text_lines.specs.Places.{any_below, least_below, last_below, first_below, gathered_below, or_here, or_else}
+use Rattle.place_search.specs.Places.{any_below, least_below, last_below, first_below, gathered_below, or_here, or_else}
 
 -- whether some place passes
 

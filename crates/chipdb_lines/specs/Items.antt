@@ -11,8 +11,8 @@ use Rattle.plane_map.specs.declared.tile.RowCol.{RowCol}
 use Rattle.plane_map.specs.declared.tile.Place.{Place}
 use Rattle.chipdb_lines.specs.declared.cause.DbCause.{DbCause}
 use Rattle.chipdb_lines.specs.declared.cause.DbCause.TheVariants.{Number, TileKind as KindCause, NetRange, BitRange, CellBits, ValueLength}
-use Rattle.chipdb_lines.specs.declared.items.GlobalInput.{GlobalInput}
-use Rattle.chipdb_lines.specs.declared.items.GlobalPin.{GlobalPin}
+use Rattle.chipdb_lines.specs.declared.globals.GlobalInput.{GlobalInput}
+use Rattle.chipdb_lines.specs.declared.globals.GlobalPin.{GlobalPin}
 use Rattle.chipdb_lines.specs.Words.{is_values}
 use Rattle.chipdb_lines.specs.Statements.{is_kind_there, tile_bits_of}
 
@@ -65,10 +65,14 @@ function_with kind name (Ok bits) =
     else Ok (record { kind = kind; name = name; bits = bits })
 function_with kind name (Err cause) = Err cause
 
+abbrev pub function_of_bits : TileKind → List ℕ → List (List ℕ) → Result FunctionLine DbCause
+function_of_bits kind name [] = Err Number
+function_of_bits kind name (bit ∷ bits) = function_with kind name (tile_bits_of (columns_of kind) (bit ∷ bits))
+
 -- `FUNCTION BIT BIT ...`, with at least one bit
 unfoldable pub function_of : TileKind → List (List ℕ) → Result FunctionLine DbCause
-function_of kind (name ∷ bit ∷ bits) = function_with kind name (tile_bits_of (columns_of kind) (bit ∷ bits))
-function_of kind words = Err Number
+function_of kind [] = Err Number
+function_of kind (name ∷ bits) = function_of_bits kind name bits
 
 -- ---- extra bits
 

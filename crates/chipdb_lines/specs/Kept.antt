@@ -9,18 +9,22 @@ use Rattle.chipdb_lines.specs.declared.bits.BitList.{BitList}
 use Rattle.chipdb_lines.specs.declared.links.LinkHead.{LinkHead as KeptHead}
 use Rattle.chipdb_lines.specs.declared.links.Choice.{Choice}
 use Rattle.chipdb_lines.specs.declared.functions.FunctionItem.{FunctionItem}
-use Rattle.chipdb_lines.specs.declared.statement.Below.{Below}
-use Rattle.chipdb_lines.specs.declared.statement.Below.TheVariants.{Passed, Device, GlobalInputs, GlobalPins, Functions, ExtraBits, Names, Buffers, Routings}
+use Rattle.chipdb_lines.specs.declared.functions.ExtraItem.{ExtraItem}
+use Rattle.chipdb_lines.specs.declared.names.NameItem.{NameItem}
+use Rattle.plane_map.specs.declared.tile.TileKind.{TileKind}
+use Rattle.chipdb_lines.specs.declared.statements.Below.{Below}
+use Rattle.chipdb_lines.specs.declared.statements.Below.TheVariants.{Passed, Device, GlobalInputs, GlobalPins, Functions, ExtraBits, Names, Buffers, Routings}
 use Rattle.chipdb_lines.specs.Statements.{Block, passed, of_device, global_inputs, global_pins, functions, extra_bits, names, buffers, routings, LinkHead}
-use Rattle.chipdb_lines.specs.Items.{LinkChoice}
+use Rattle.chipdb_lines.specs.Items.{LinkChoice, FunctionLine, ExtraLine, NameLine}
 
 -- the bits of a list
 abbrev pub bits_named : List RowCol → BitList → List RowCol
 bits_named bits list = take list.count (drop list.start bits)
 
--- a list of a table of so many bits
-abbrev pub IsListOf : ℕ → BitList → Type 0
-IsListOf count list = list.start + list.count ≤ count
+-- a list of a table of so many bits; it has at most 64
+pub record IsListOf (count : ℕ) (list : BitList) : Type 0 where
+  pub inside : list.start + list.count ≤ count
+  pub few : list.count ≤ 64
 
 -- a table with more bits at its end
 abbrev pub Extends : List RowCol → List RowCol → Type 0
@@ -34,6 +38,17 @@ low_bits (suc count) number = (number % 2 == 1) ∷ low_bits count (number / 2)
 -- a choice whose values are the lowest bits of a number
 abbrev pub choice_named : ℕ → Choice → LinkChoice
 choice_named count choice = record { values = low_bits count choice.values; src = choice.src }
+
+-- a function with the bits of a list
+abbrev pub function_named : TileKind → List RowCol → FunctionItem → FunctionLine
+function_named kind bits item = record { kind = kind; name = item.name.now; bits = bits_named bits item.bits }
+
+abbrev pub extra_named : ExtraItem → ExtraLine
+extra_named item = record { name = item.name.now; at = item.at }
+
+-- a name of a net
+abbrev pub name_named : ℕ → NameItem → NameLine
+name_named net item = record { net = net; x = item.x; y = item.y; name = item.name.now }
 
 abbrev pub head_named : List RowCol → KeptHead → LinkHead
 head_named bits head = record { x = head.x; y = head.y; dst = head.dst; bits = bits_named bits head.bits }

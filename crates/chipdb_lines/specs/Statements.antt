@@ -97,22 +97,22 @@ pub record LinkHead : Type 0 where
 -- what the lines below a statement are
 pub data Block : Type 0 where
   -- passed over
-  pub passed : Block
+  passed : Block
   -- passed over too: the statement gives the device
-  pub of_device : Chip → Block
+  of_device : Chip → Block
   -- `X Y GLB`
-  pub global_inputs : Block
+  global_inputs : Block
   -- `X Y PIO GLB`
-  pub global_pins : Block
+  global_pins : Block
   -- `FUNCTION BIT BIT ...` of tiles of a kind
-  pub functions : TileKind → Block
+  functions : TileKind → Block
   -- `FUNCTION BANK X Y`
-  pub extra_bits : Block
+  extra_bits : Block
   -- `X Y NAME` of a net
-  pub names : ℕ → Block
+  names : ℕ → Block
   -- `VALUES SRC`
-  pub buffers : LinkHead → Block
-  pub routings : LinkHead → Block
+  buffers : LinkHead → Block
+  routings : LinkHead → Block
 
 -- a statement of one word
 abbrev pub alone : Block → List (List ℕ) → Result Block DbCause

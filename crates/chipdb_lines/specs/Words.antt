@@ -1,6 +1,6 @@
 -- Lines and words of a database. Spaces and tabs part words. A line that begins with a dot is a statement, one that begins
 -- with `#` is a remark, and a line without a word carries nothing.
-use Rattle.std.specs.Prelude.{ℕ, ◌-◌, Bool, true, false, ◌&&◌, ◌||◌, List, [], ◌∷◌, length, take, drop, get_or, ◌==◌, if◌then◌else◌, Option, Some, None}
+use Rattle.std.specs.Prelude.{ℕ, ◌-◌, Bool, true, false, ◌&&◌, ◌||◌, List, [], ◌∷◌, length, take, drop, get_or, nat_le, ◌==◌, if◌then◌else◌, Option, Some, None}
 use Rattle.std.specs.List.{list_all, before_first, after_first}
 use Rattle.text_lines.specs.declared.words.Separators.TheVariants.{SpacesAndTabs}
 use Rattle.text_lines.specs.Words.{words_of, number_of}
@@ -44,7 +44,7 @@ is_bracket byte = byte == 91
 -- the bit that a word names, which is written `B<row>[<column>]`
 unfoldable pub bit_of : List ℕ → Option RowCol
 bit_of word =
-    if (get_or word 0 0 == 66) && (get_or word (length word - 1) 0 == 93)
+    if nat_le 2 (length word) && (get_or word 0 0 == 66) && (get_or word (length word - 1) 0 == 93)
     then bit_by (number_of (before_first is_bracket (inside word))) (number_of (after_first is_bracket (inside word)))
     else None
 

@@ -1,5 +1,5 @@
 // Bits of tiles: words such as `B1[36]`, and lists of them in one table.
-ghost use Rattle.std.specs.Prelude.{◌≡◌, ◌≤◌, ◌++◌, ◌∷◌, [], ℕ, ◌&&◌, nat_lt, length, true, false, IfOk, MatchOption, MatchResult, Option, Some, None, Bool, if◌then◌else◌, is_some};
+ghost use Rattle.std.specs.Prelude.{◌≡◌, ◌≤◌, ◌++◌, ◌∷◌, [], ℕ, ◌&&◌, nat_lt, length, true, false, IfOk, MatchOption, MatchResult, position, Some, None, if◌then◌else◌, is_some};
 ghost use Rattle.std.specs.Bool.{MatchBool};
 ghost use Rattle.std.specs.List.{position_or_len, before_first, after_first};
 ghost use Rattle.std.specs.Result.{result_err};
@@ -11,6 +11,7 @@ ghost use Rattle.chipdb_lines.specs.declared.cause.DbCause.TheVariants.{BitName,
 
 use crate::cause::{DbCause, Refusal};
 use plane_map::RowCol;
+use std::alloc::AllocError;
 use text_lines::{Separators, number, split_word};
 
 /// A list of bits, by its places in a table of bits.
@@ -82,7 +83,8 @@ fn push_bit(bits: &mut Vec<RowCol>, columns: usize, word: &[u8]) -> Result<bool,
             bits.push(RowCol {
                 row: row as u8,
                 col: col as u8,
-            })?;
+            })
+            .map_err(AllocError::from)?;
             Ok(true)
         }
         Some(_) => Ok(false),
@@ -105,12 +107,15 @@ fn cause_before(words: &[u8]) -> DbCause
 }
 
 /// The row and the column that a word names.
+#[tactic(auto, unfolding(crate::specs::Words::bit_of))]
 fn bit_of(word: &[u8]) -> Option<(u32, u32)>
     ensures { MatchOption result (bit_of word.now ≡ None) (λ bit. bit_of word.now ≡ Some (record { row = bit.0; col = bit.1 })) }
 {
-    match word {
-        [b'B', inside @ .., b']'] => bit_in(inside),
-        _ => None,
+    let length = word.len();
+    if 2 <= length && word[0] == b'B' && word[length - 1] == b']' {
+        bit_in(&word[1..length - 1])
+    } else {
+        None
     }
 }
 
@@ -125,4 +130,11 @@ fn bit_in(inside: &[u8]) -> Option<(u32, u32)>
         (Some(row), Some(col)) => Some((row, col)),
         _ => None,
     }
+}
+
+/// Where the first bracket stands.
+fn bracket_place(inside: &[u8]) -> Option<usize>
+    ensures { result ≡ position is_bracket inside.now }
+{
+    inside.iter().position(|byte| *byte == b'[')
 }

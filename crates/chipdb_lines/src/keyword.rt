@@ -1,6 +1,6 @@
 // Keywords: the first word of a statement.
 ghost use Rattle.std.specs.Prelude.{◌≡◌};
-ghost use Rattle.chipdb_lines.specs.Statements.{keyword_of};
+ghost use Rattle.chipdb_lines.specs.Statements.{keyword_of, tile_keyword_of};
 
 use plane_map::TileKind;
 

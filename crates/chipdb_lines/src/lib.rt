@@ -13,7 +13,7 @@ mod keyword;
 mod kinds;
 mod links;
 mod names;
-mod statement;
+mod statements;
 mod words;
 
 pub use bits::{BitList, bits_of};
@@ -21,7 +21,7 @@ pub use cause::{DbCause, Refusal};
 pub use chip::Chip;
 pub use functions::{ExtraItem, FunctionItem, extra_item, function_item};
 pub use globals::{GlobalInput, GlobalPin, global_input, global_pin};
-pub use links::{Choice, LinkHead, choice};
+pub use links::{Choice, LinkHead, choice_item};
 pub use names::{NameItem, name_item};
-pub use statement::{Below, statement};
+pub use statements::{Below, statement};
 pub use words::{is_statement, own_words};

@@ -1,5 +1,5 @@
 // Lines by their first byte, and their words.
-ghost use Rattle.std.specs.Prelude.{◌≡◌, [], MatchOption, Some};
+ghost use Rattle.std.specs.Prelude.{◌≡◌, [], MatchOption, false};
 ghost use Rattle.chipdb_lines.specs.Words.{has_none, is_remark, is_statement, own_words, words_in};
 
 use text_lines::{Separators, split_word};

@@ -4,13 +4,13 @@ use Rattle.std.specs.Bool.{beq}
 use Rattle.std.specs.List.{list_any}
 use Rattle.std.specs.Cmp.Lexicographic.{pointwise}
 use Rattle.text_lines.specs.Lines.{lines_of}
-use Rattle.text_lines.specs.Places.{any_below, gathered_below}
+use Rattle.place_search.specs.Places.{any_below, gathered_below}
 use Rattle.plane_map.specs.declared.tile.RowCol.{RowCol}
 use Rattle.chipdb_lines.specs.declared.cause.DbCause.{DbCause}
 use Rattle.chipdb_lines.specs.declared.chip.Chip.{Chip}
-use Rattle.chipdb_lines.specs.declared.items.GlobalInput.{GlobalInput}
-use Rattle.chipdb_lines.specs.declared.items.GlobalPin.{GlobalPin}
-use Rattle.chipdb_lines.specs.Statements.{Block, passed, global_inputs, global_pins, functions, extra_bits, names, buffers, routings, LinkHead}
+use Rattle.chipdb_lines.specs.declared.globals.GlobalInput.{GlobalInput}
+use Rattle.chipdb_lines.specs.declared.globals.GlobalPin.{GlobalPin}
+use Rattle.chipdb_lines.specs.Statements.{Block, passed, of_device, global_inputs, global_pins, functions, extra_bits, names, buffers, routings, LinkHead}
 use Rattle.chipdb_lines.specs.Items.{NameLine, FunctionLine, ExtraLine, LinkChoice, name_of, function_of, extra_of, global_input_of, global_pin_of, choice_of}
 use Rattle.chipdb_reader.specs.Blocks.{chip_before, statement_over, block_over, own_words_at}
 
@@ -34,63 +34,53 @@ pub record Database : Type 0 where
   pub global_inputs : List GlobalInput
   pub global_pins : List GlobalPin
 
--- ---- the lines of each kind
+-- ---- lines by their kind
 
--- what a line says that isn't faulty
-abbrev pub said : {A : Type 0} → Result A DbCause → List A
-said (Ok item) = item ∷ []
-said (Err cause) = []
+-- what a line says for the statement above it: one item of one kind, or nothing
+pub record Said : Type 0 where
+  pub names : List NameLine
+  pub functions : List FunctionLine
+  pub extras : List ExtraLine
+  pub global_inputs : List GlobalInput
+  pub global_pins : List GlobalPin
+  pub choices : List LinkChoice
 
-abbrev pub names_in : Option Chip → Block → List (List ℕ) → List NameLine
-names_in (Some chip) (names net) (word ∷ words) = said (name_of chip.device net (word ∷ words))
-names_in chip block words = []
+abbrev pub nothing : Said
+nothing = record { names = []; functions = []; extras = []; global_inputs = []; global_pins = []; choices = [] }
 
-abbrev pub functions_in : Option Chip → Block → List (List ℕ) → List FunctionLine
-functions_in (Some chip) (functions kind) (word ∷ words) = said (function_of kind (word ∷ words))
-functions_in chip block words = []
+-- an item that isn't faulty
+abbrev pub item : {A : Type 0} → Result A DbCause → List A
+item (Ok said) = said ∷ []
+item (Err cause) = []
 
-abbrev pub extras_in : Option Chip → Block → List (List ℕ) → List ExtraLine
-extras_in (Some chip) extra_bits (word ∷ words) = said (extra_of chip.device (word ∷ words))
-extras_in chip block words = []
+-- what words say for a statement
+abbrev pub said_for : Chip → Block → List (List ℕ) → Said
+said_for chip passed words = nothing
+said_for chip (of_device given) words = nothing
+said_for chip global_inputs words = record nothing { global_inputs = item (global_input_of chip.device words) }
+said_for chip global_pins words = record nothing { global_pins = item (global_pin_of chip.device words) }
+said_for chip (functions kind) words = record nothing { functions = item (function_of kind words) }
+said_for chip extra_bits words = record nothing { extras = item (extra_of chip.device words) }
+said_for chip (names net) words = record nothing { names = item (name_of chip.device net words) }
+said_for chip (buffers head) words = record nothing { choices = item (choice_of chip.nets (length head.bits) words) }
+said_for chip (routings head) words = record nothing { choices = item (choice_of chip.nets (length head.bits) words) }
 
-abbrev pub global_inputs_in : Option Chip → Block → List (List ℕ) → List GlobalInput
-global_inputs_in (Some chip) global_inputs (word ∷ words) = said (global_input_of chip.device (word ∷ words))
-global_inputs_in chip block words = []
+-- the same where there may be no word or no device
+abbrev pub said_by : List (List ℕ) → Option Chip → Block → Said
+said_by [] chip block = nothing
+said_by (word ∷ words) None block = nothing
+said_by (word ∷ words) (Some chip) block = said_for chip block (word ∷ words)
 
-abbrev pub global_pins_in : Option Chip → Block → List (List ℕ) → List GlobalPin
-global_pins_in (Some chip) global_pins (word ∷ words) = said (global_pin_of chip.device (word ∷ words))
-global_pins_in chip block words = []
-
-abbrev pub choices_in : Option Chip → Block → List (List ℕ) → List LinkChoice
-choices_in (Some chip) (buffers head) (word ∷ words) = said (choice_of chip.nets (length head.bits) (word ∷ words))
-choices_in (Some chip) (routings head) (word ∷ words) = said (choice_of chip.nets (length head.bits) (word ∷ words))
-choices_in chip block words = []
-
--- what the line at a place says of its kind: one item or none
-unfoldable pub names_at : List (List ℕ) → ℕ → List NameLine
-names_at lines n = names_in (chip_before lines n) (block_over lines n) (own_words_at lines n)
-
-unfoldable pub functions_at : List (List ℕ) → ℕ → List FunctionLine
-functions_at lines n = functions_in (chip_before lines n) (block_over lines n) (own_words_at lines n)
-
-unfoldable pub extras_at : List (List ℕ) → ℕ → List ExtraLine
-extras_at lines n = extras_in (chip_before lines n) (block_over lines n) (own_words_at lines n)
-
-unfoldable pub global_inputs_at : List (List ℕ) → ℕ → List GlobalInput
-global_inputs_at lines n = global_inputs_in (chip_before lines n) (block_over lines n) (own_words_at lines n)
-
-unfoldable pub global_pins_at : List (List ℕ) → ℕ → List GlobalPin
-global_pins_at lines n = global_pins_in (chip_before lines n) (block_over lines n) (own_words_at lines n)
-
-unfoldable pub choices_at : List (List ℕ) → ℕ → List LinkChoice
-choices_at lines n = choices_in (chip_before lines n) (block_over lines n) (own_words_at lines n)
+-- what the line at a place says
+unfoldable pub said_at : List (List ℕ) → ℕ → Said
+said_at lines n = said_by (own_words_at lines n) (chip_before lines n) (block_over lines n)
 
 -- ---- links
 
 -- whether a line between the statement over a place and that place has a choice that passes
 abbrev pub any_since : List (List ℕ) → Option ℕ → ℕ → (LinkChoice → Bool) → Bool
-any_since lines None n test = any_below n (λ k. list_any test (choices_at lines k))
-any_since lines (Some place) n test = any_below n (λ k. nat_lt place k && list_any test (choices_at lines k))
+any_since lines None n test = any_below n (λ k. list_any test (said_at lines k).choices)
+any_since lines (Some place) n test = any_below n (λ k. nat_lt place k && list_any test (said_at lines k).choices)
 
 -- whether an earlier line of its statement passes
 unfoldable pub is_chosen_before : List (List ℕ) → ℕ → (LinkChoice → Bool) → Bool
@@ -124,11 +114,11 @@ routings_in block choices = []
 
 -- the link that the line of a `.buffer` gives; a line that is equal to an earlier one of its statement gives none
 unfoldable pub buffers_at : List (List ℕ) → ℕ → List Link
-buffers_at lines n = buffers_in (block_over lines n) (new_choices lines n (choices_at lines n))
+buffers_at lines n = buffers_in (block_over lines n) (new_choices lines n (said_at lines n).choices)
 
 -- the link that the line of a `.routing` gives
 unfoldable pub routings_at : List (List ℕ) → ℕ → List Link
-routings_at lines n = routings_in (block_over lines n) (choices_at lines n)
+routings_at lines n = routings_in (block_over lines n) (said_at lines n).choices
 
 -- ---- the whole
 
@@ -138,11 +128,11 @@ database_of chip lines =
     let count = length lines in
     record {
       chip = chip;
-      names = gathered_below count (names_at lines);
+      names = gathered_below count (λ n. (said_at lines n).names);
       buffers = gathered_below count (buffers_at lines);
       routings = gathered_below count (routings_at lines);
-      functions = gathered_below count (functions_at lines);
-      extras = gathered_below count (extras_at lines);
-      global_inputs = gathered_below count (global_inputs_at lines);
-      global_pins = gathered_below count (global_pins_at lines);
+      functions = gathered_below count (λ n. (said_at lines n).functions);
+      extras = gathered_below count (λ n. (said_at lines n).extras);
+      global_inputs = gathered_below count (λ n. (said_at lines n).global_inputs);
+      global_pins = gathered_below count (λ n. (said_at lines n).global_pins);
     }

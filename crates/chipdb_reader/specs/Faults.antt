@@ -3,7 +3,7 @@ use Rattle.std.specs.Prelude.{◌≡◌, ℕ, ◌+◌, Bool, true, false, ◌&&�
 use Rattle.std.specs.List.{list_any}
 use Rattle.std.specs.Result.{result_err}
 use Rattle.text_lines.specs.Lines.{line_at, lines_of}
-use Rattle.text_lines.specs.Places.{any_below, first_below}
+use Rattle.place_search.specs.Places.{any_below, first_below}
 use Rattle.chipdb_lines.specs.declared.cause.DbCause.{DbCause}
 use Rattle.chipdb_lines.specs.declared.cause.DbCause.TheVariants.{NoDevice, NetTwice, NameTwice, ValuesTwice}
 use Rattle.chipdb_lines.specs.declared.chip.Chip.{Chip}
@@ -11,7 +11,7 @@ use Rattle.chipdb_lines.specs.Words.{is_statement}
 use Rattle.chipdb_lines.specs.Statements.{Block, passed, of_device, global_inputs, global_pins, functions, extra_bits, names, buffers, routings}
 use Rattle.chipdb_lines.specs.Items.{NameLine, LinkChoice, name_of, function_of, extra_of, global_input_of, global_pin_of, choice_of}
 use Rattle.chipdb_reader.specs.Blocks.{chip_before, statement_at, block_over, own_words_at}
-use Rattle.chipdb_reader.specs.Database.{Database, database_of, names_at, is_chosen_before, is_other_choice}
+use Rattle.chipdb_reader.specs.Database.{Database, database_of, said_at, is_chosen_before, is_other_choice}
 
 -- a cause where a test passes
 abbrev pub cause_if : Bool → DbCause → Option DbCause
@@ -46,7 +46,7 @@ is_same_name line other = (line.x == other.x) && (line.y == other.y) && bytes_eq
 
 -- whether a line before a place gives that name at that place of the grid
 unfoldable pub is_named_before : List (List ℕ) → ℕ → NameLine → Bool
-is_named_before lines n line = any_below n (λ k. list_any (is_same_name line) (names_at lines k))
+is_named_before lines n line = any_below n (λ k. list_any (is_same_name line) (said_at lines k).names)
 
 abbrev pub name_cause : List (List ℕ) → ℕ → Result NameLine DbCause → Option DbCause
 name_cause lines n (Err cause) = Some cause

@@ -1,5 +1,5 @@
 // Names, one after another in one vector of bytes.
-ghost use Rattle.std.specs.Prelude.{◌≡◌, ◌+◌, ◌-◌, ◌^◌, ◌<◌, ◌++◌, ◌∷◌, [], length, slice_index_or, IfOk, OnErr};
+ghost use Rattle.std.specs.Prelude.{◌≡◌, ◌+◌, ◌-◌, ◌^◌, ◌<◌, ◌++◌, ◌∷◌, [], length, slice_index_or, ◌↔◌, IsTrue, IfOk, OnErr};
 
 use std::alloc::{AllocError, Global};
 use std::marker::Model;
@@ -79,6 +79,13 @@ impl NameArena {
     {
         let span = self.spans[id.place as usize];
         &self.bytes[span.start..span.end]
+    }
+
+    /// Whether the arena has a name of that id, as it has of each of its own.
+    pub fn has(&self, id: NameId) -> bool
+        ensures { IsTrue result ↔ (id < length self.now) }
+    {
+        (id.place as usize) < self.spans.len()
     }
 
     /// How many names there are.

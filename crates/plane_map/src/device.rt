@@ -17,7 +17,7 @@ pub enum DeviceName {
 
 impl DeviceName {
     /// How many columns of tiles there are.
-    pub(crate) fn columns(self) -> u32
+    pub fn columns(self) -> u32
         ensures { result ≡ grid_width self }
     {
         match self {
@@ -27,12 +27,32 @@ impl DeviceName {
     }
 
     /// How many rows of tiles there are.
-    pub(crate) fn rows(self) -> u32
+    pub fn rows(self) -> u32
         ensures { result ≡ grid_height self }
     {
         match self {
             DeviceName::K1 => 18,
             DeviceName::K8 => 34,
+        }
+    }
+
+    /// How many columns of bits each of the four configuration planes has.
+    pub fn cram_columns(self) -> u32
+        ensures { result ≡ cram_width self }
+    {
+        match self {
+            DeviceName::K1 => 332,
+            DeviceName::K8 => 872,
+        }
+    }
+
+    /// How many rows of bits each of the four configuration planes has.
+    pub fn cram_rows(self) -> u32
+        ensures { result ≡ cram_height self }
+    {
+        match self {
+            DeviceName::K1 => 144,
+            DeviceName::K8 => 272,
         }
     }
 

@@ -5,9 +5,9 @@ ghost use Rattle.plane_map.specs.Layout.{kind_of, columns_of, is_side, is_end, i
 use crate::device::DeviceName;
 use crate::tile::TileKind;
 
-/// The tile of a device at a place of the grid.
+/// The tile of a device at a place of the grid: none at a corner or outside.
 #[tactic(auto, unfolding(crate::specs::Layout::kind_of))]
-pub(crate) fn kind_on(device: DeviceName, x: u32, y: u32) -> Option<TileKind>
+pub fn kind_on(device: DeviceName, x: u32, y: u32) -> Option<TileKind>
     ensures kind { result ≡ kind_of device x y }
     ensures in_grid { OnSome result ((x < grid_width device) × (y < grid_height device)) }
 {

@@ -10,6 +10,7 @@ mod rows;
 mod tile;
 
 pub use device::{Device, DeviceName, Hx1k, Hx8k};
+pub use grid::kind_on;
 pub use place::{bram_place, cram_place, kind_at, owner_of, tile_width};
 pub use tile::{Place, RowCol, TileBit, TileKind, WordBit};
 

@@ -16,11 +16,11 @@ low_bits-more count number bit small =
     rw (low, high) refl
 
 -- the parts of a test of both
-and-left : (a b : Bool) → (a && b) ≡ true → a ≡ true
+pub and-left : (a b : Bool) → (a && b) ≡ true → a ≡ true
 and-left true b is = refl
 and-left false b is = is
 
-and-right : (a b : Bool) → (a && b) ≡ true → b ≡ true
+pub and-right : (a b : Bool) → (a && b) ≡ true → b ≡ true
 and-right true b is = is
 and-right false b is = absurd (true≢false (sym is))
 

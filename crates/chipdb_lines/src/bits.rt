@@ -46,6 +46,7 @@ pub fn bits_of(bits: &[RowCol], list: BitList) -> &[RowCol]
 /// Adds the bits that words name to a table. They are bits of a tile with so many columns of bits, and at most 64.
 #[tactic(auto, unfolding(crate::specs::Statements::tile_bits_of))]
 pub(crate) fn push_bits(bits: &mut Vec<RowCol>, columns: usize, words: &[u8]) -> Result<BitList, Refusal>
+    requires { columns ≤ 256 }
     ensures grown { IfOk result (λ _. Extends bits.old.items bits.new.items) }
     ensures within { IfOk result (IsListOf (length bits.new.items)) }
     ensures named { Tells (tile_bits_of columns (words_in words.now)) (bits_named bits.new.items) result }
@@ -71,6 +72,7 @@ pub(crate) fn push_bits(bits: &mut Vec<RowCol>, columns: usize, words: &[u8]) ->
 
 /// Adds the bit that a word names to a table, and tells whether it is a bit of the tile; else nothing is added.
 fn push_bit(bits: &mut Vec<RowCol>, columns: usize, word: &[u8]) -> Result<bool, Refusal>
+    requires { columns ≤ 256 }
     ensures named { MatchResult result
         (λ is_there. MatchBool is_there
             ((bit : RowCol) × (bit_of word.now ≡ Some bit) × (is_in_columns columns bit ≡ true) × (bits.new.items ≡ bits.old.items ++ bit ∷ []))
@@ -79,7 +81,7 @@ fn push_bit(bits: &mut Vec<RowCol>, columns: usize, word: &[u8]) -> Result<bool,
 {
     match bit_of(word) {
         None => Err(Refusal::Cause(DbCause::BitName)),
-        Some((row, col)) if row < 16 && (col as usize) < columns && col < 256 => {
+        Some((row, col)) if row < 16 && (col as usize) < columns => {
             bits.push(RowCol {
                 row: row as u8,
                 col: col as u8,

@@ -44,6 +44,7 @@ pub fn function_item<'a>(
 }
 
 /// What the words `BIT BIT ...` say of a function.
+#[tactic(auto, using(crate::proofs::Heads::columns_small))]
 fn named_function<'a>(
     kind: TileKind,
     name: &'a [u8],

@@ -1,5 +1,6 @@
 // The statements `.buffer` and `.routing`, and their lines.
-ghost use Rattle.std.specs.Prelude.{◌≡◌, ◌≤◌, ◌<◌, ◌^◌, ◌∷◌, [], ℕ, Option, Some, map, ◌==◌, length, IfOk, MatchOption, true, false};
+ghost use Rattle.std.specs.Prelude.{◌≡◌, ◌≤◌, ◌<◌, ◌^◌, ◌∷◌, [], ℕ, map, ◌==◌, ◌||◌, length, IfOk, MatchOption, true, false};
+ghost use Rattle.std.specs.List.{list_all};
 ghost use Rattle.plane_map.specs.Layout.{kind_of};
 ghost use Rattle.chipdb_lines.specs.Words.{has_none, is_values, words_in};
 ghost use Rattle.chipdb_lines.specs.Statements.{link_at, link_of_words};
@@ -56,7 +57,7 @@ struct HeadWords<'a> {
 }
 
 /// The words `X`, `Y` and `DST`, and those of at least one bit.
-#[tactic(auto, unfolding(crate::specs::Statements::link_of_words))]
+#[tactic(auto, using(crate::proofs::Heads::link_without_bits), unfolding(crate::specs::Statements::link_of_words))]
 fn head_words(words: &[u8]) -> Option<HeadWords<'_>>
     ensures { MatchOption result ((chip : Chip) → link_of_words chip (words_in words.now) ≡ Err DbCause.Number)
         (λ head. (words_in words.now ≡ head.x.now ∷ head.y.now ∷ head.dst.now ∷ words_in head.bits.now)
@@ -73,6 +74,7 @@ fn head_words(words: &[u8]) -> Option<HeadWords<'_>>
 }
 
 /// Links into a net of the tile at (x, y), with the words of their bits.
+#[tactic(auto, using(crate::proofs::Heads::columns_small))]
 fn link_into(
     chip: Chip,
     x: u32,
@@ -149,7 +151,21 @@ fn values_of(count: usize, word: &[u8]) -> Option<u64>
 fn is_values(count: usize, word: &[u8]) -> bool
     ensures { result ≡ is_values count word.now }
 {
-    word.len() == count && word.iter().all(|byte| *byte == b'0' || *byte == b'1')
+    word.len() == count && are_values(word)
+}
+
+/// Whether each byte of a word is `0` or `1`.
+fn are_values(word: &[u8]) -> bool
+    ensures { result ≡ list_all (λ byte. (byte == 48) || (byte == 49)) word.now }
+{
+    word.iter().all(|byte| is_value(*byte))
+}
+
+/// Whether a byte is `0` or `1`.
+fn is_value(byte: u8) -> bool
+    ensures { result ≡ ((byte == 48) || (byte == 49)) }
+{
+    byte == b'0' || byte == b'1'
 }
 
 /// The number whose lowest bits a word of `0` and `1` has, the lowest first.

@@ -10,6 +10,8 @@ use Rattle.chipdb_lines.specs.declared.chip.Chip.{Chip}
 use Rattle.chipdb_lines.specs.Words.{is_statement}
 use Rattle.chipdb_lines.specs.Statements.{Block, passed, of_device, global_inputs, global_pins, functions, extra_bits, names, buffers, routings}
 use Rattle.chipdb_lines.specs.Items.{NameLine, LinkChoice, name_of, function_of, extra_of, global_input_of, global_pin_of, choice_of}
+use Rattle.chipdb_reader.specs.declared.fault.DbFault.{DbFault}
+use Rattle.chipdb_reader.specs.declared.fault.DbFault.TheVariants.{At, Memory}
 use Rattle.chipdb_reader.specs.Blocks.{chip_before, statement_at, block_over, own_words_at}
 use Rattle.chipdb_reader.specs.Database.{Database, database_of, said_at, is_chosen_before, is_other_choice}
 
@@ -109,3 +111,8 @@ pub record DbMeans (bytes : List ℕ) (database : Database) : Type 0 where
   pub sound : db_fault_of bytes ≡ None
   pub device : chip_before (lines_of bytes) (length (lines_of bytes)) ≡ Some database.chip
   pub lines : database ≡ database_of database.chip (lines_of bytes)
+
+-- a fault that is told is that one
+abbrev pub Tells : Option Fault → DbFault → Type 0
+Tells fault (At line cause) = fault ≡ Some (record { line = line; cause = cause })
+Tells fault (Memory e) = Unit {0}

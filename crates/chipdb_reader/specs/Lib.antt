@@ -6,3 +6,5 @@ pub mod Nets
 pub mod Buffers
 pub mod Kept
 pub mod Reading
+pub mod Lookups
+pub mod Sound

@@ -3,7 +3,7 @@ use Rattle.std.specs.Prelude.{◌≡◌, ℕ, Bool, true, false, ◌&&◌, ◌||
 use Rattle.std.specs.declared.cmp.Ordering.{Ordering}
 use Rattle.std.specs.BTreeMap.{get}
 use Rattle.std.specs.Map.{lookup}
-use Rattle.indexmap.specs.IndexMap.{get as index_get}
+use Rattle.indexmap.specs.IndexMap.{get as index_get, IsUnique}
 use Rattle.std.specs.declared.vec.Vec.{Vec}
 use Rattle.chipdb_reader.specs.declared.items.NetName.{NetName}
 use Rattle.chipdb_reader.specs.declared.nets.Nets.{Nets}
@@ -38,13 +38,14 @@ abbrev pub has_net : Nets → ℕ → Bool
 has_net nets net = is_some (index_get nat_eq nets.earlier net) || is_net net nets.last
 
 abbrev pub is_name : NetName → NetName → Bool
-is_name name other = (name.x == other.x) && (name.y == other.y) && (name.name == other.name)
+is_name name other = (other.x == name.x) && ((other.y == name.y) && (other.name == name.name))
 
 -- the index has the first net of each name, and the last net isn't among the earlier ones
 pub record IsNetIndex (nets : Nets) : Type 0 where
   pub found : (name : NetName) → named_net nets name ≡ lookup (is_name name) (net_names nets)
   pub apart : (net : ℕ) → nets.last ≡ Some net → index_get nat_eq nets.earlier net ≡ None
   pub idle : nets.last ≡ None → nets.names.items ≡ []
+  pub unique : IsUnique nat_eq nets.earlier
 
 -- the last net is put to the earlier ones
 pub record ClosesNet (old new : Nets) : Type 0 where

@@ -5,11 +5,12 @@ use Rattle.std.specs.declared.vec.Vec.{Vec}
 use Rattle.std.specs.declared.alloc.Global.{Global}
 use Rattle.std.specs.Prelude.{◌≡◌, ℕ, ◌<◌, ◌^◌, Bool, true, false, List, [], ◌∷◌, ◌++◌, length, is_some, if◌then◌else◌, Option, Some, None, Result, Ok, Err}
 use Rattle.std.specs.Result.{result_err, MatchResult}
+use Rattle.place_search.specs.Places.{or_else}
 use Rattle.plane_map.specs.declared.device.DeviceName.{DeviceName}
 use Rattle.plane_map.specs.declared.tile.TileKind.{TileKind}
 use Rattle.plane_map.specs.declared.tile.RowCol.{RowCol}
 use Rattle.chipdb_lines.specs.declared.cause.DbCause.{DbCause}
-use Rattle.chipdb_lines.specs.declared.cause.DbCause.TheVariants.{NetTwice, NameTwice}
+use Rattle.chipdb_lines.specs.declared.cause.DbCause.TheVariants.{NetTwice, NameTwice, NoDevice}
 use Rattle.chipdb_lines.specs.declared.cause.Refusal.{Refusal}
 use Rattle.chipdb_lines.specs.declared.cause.Refusal.TheVariants.{Cause, Memory}
 use Rattle.chipdb_lines.specs.declared.chip.Chip.{Chip}
@@ -28,6 +29,9 @@ use Rattle.chipdb_reader.specs.declared.items.Extra.{Extra}
 use Rattle.chipdb_reader.specs.declared.texts.Texts.{Texts}
 use Rattle.chipdb_reader.specs.declared.nets.Nets.{Nets}
 use Rattle.chipdb_reader.specs.declared.reading.Reader.{Reader}
+use Rattle.chipdb_reader.specs.declared.fault.DbFault.{DbFault}
+use Rattle.chipdb_reader.specs.declared.fault.DbFault.TheVariants.{At, Memory as OutOfMemory}
+use Rattle.chipdb_reader.specs.Kept.{Kept}
 use Rattle.chipdb_reader.specs.Texts.{IsIndexed, Interns}
 use Rattle.chipdb_reader.specs.Nets.{IsNetIndex, BeginsNet, AddsName, has_net, named_net, net_names}
 use Rattle.chipdb_reader.specs.Buffers.{IsChosen, BeginsBuffers, AddsBuffer, buffer_cause}
@@ -75,11 +79,13 @@ pub record PushesBuffer (nets : ℕ) (head : LinkHead) (words : List (List ℕ))
   pub rest : new ≡ record old { buffers = new.buffers }
 
 pub record PushesName (device : DeviceName) (net : ℕ) (words : List (List ℕ)) (old new : Reader) : Type 0 where
-  pub line : NameLine
-  pub says : name_of device net words ≡ Ok line
+  pub x : ℕ
+  pub y : ℕ
+  pub text : List ℕ
+  pub says : name_of device net words ≡ Ok (record { net = net; x = x; y = y; name = text })
   pub id : ℕ
-  pub interned : Interns old.texts new.texts line.name id
-  pub added : AddsName old.nets new.nets net (record { x = line.x; y = line.y; name = id })
+  pub interned : Interns old.texts new.texts text id
+  pub added : AddsName old.nets new.nets net (record { x = x; y = y; name = id })
   pub rest : new ≡ record old { texts = new.texts; nets = new.nets }
 
 pub record PushesFunction (kind : TileKind) (words : List (List ℕ)) (old new : Reader) : Type 0 where
@@ -115,12 +121,14 @@ TakesItem old chip (Routings head) words new = PushesRouting chip.nets head word
 
 -- a name that its place has already
 pub record IsNamedTwice (device : DeviceName) (net : ℕ) (words : List (List ℕ)) (old : Reader) : Type 0 where
-  pub line : NameLine
-  pub says : name_of device net words ≡ Ok line
+  pub x : ℕ
+  pub y : ℕ
+  pub text : List ℕ
+  pub says : name_of device net words ≡ Ok (record { net = net; x = x; y = y; name = text })
   pub texts : Texts
   pub id : ℕ
-  pub interned : Interns old.texts texts line.name id
-  pub named : is_some (named_net old.nets (record { x = line.x; y = line.y; name = id })) ≡ true
+  pub interned : Interns old.texts texts text id
+  pub named : is_some (named_net old.nets (record { x = x; y = y; name = id })) ≡ true
 
 -- values that choose another net already
 pub record IsChosenTwice (nets : ℕ) (head : LinkHead) (words : List (List ℕ)) (old : Reader) (cause : DbCause) : Type 0 where
@@ -130,12 +138,12 @@ pub record IsChosenTwice (nets : ℕ) (head : LinkHead) (words : List (List ℕ)
 
 -- a cause that a line has by itself, or by an earlier one
 pub data NameRefusal (device : DeviceName) (net : ℕ) (words : List (List ℕ)) (old : Reader) (cause : DbCause) : Type 0 where
-  own : name_of device net words ≡ Err cause → NameRefusal device net words old cause
-  twice : IsNamedTwice device net words old → cause ≡ NameTwice → NameRefusal device net words old cause
+  name_own : name_of device net words ≡ Err cause → NameRefusal device net words old cause
+  name_twice : IsNamedTwice device net words old → cause ≡ NameTwice → NameRefusal device net words old cause
 
 pub data BufferRefusal (nets : ℕ) (head : LinkHead) (words : List (List ℕ)) (old : Reader) (cause : DbCause) : Type 0 where
-  own : choice_of nets head.bits.count words ≡ Err cause → BufferRefusal nets head words old cause
-  twice : IsChosenTwice nets head words old cause → BufferRefusal nets head words old cause
+  buffer_own : choice_of nets head.bits.count words ≡ Err cause → BufferRefusal nets head words old cause
+  buffer_twice : IsChosenTwice nets head words old cause → BufferRefusal nets head words old cause
 
 -- why the words of a line aren't taken
 abbrev pub RefusesItem : Reader → Chip → Below → List (List ℕ) → DbCause → Type 0
@@ -169,7 +177,7 @@ RefusesWords old (Some chip) (word ∷ words) cause = RefusesItem old chip old.b
 
 -- what else changes where the lines below a statement begin
 abbrev pub ChangesAt : Reader → Below → Reader → Type 0
-ChangesAt old (Device chip) new = new ≡ record old { chip = Some chip; below = Device chip; buffers = new.buffers }
+ChangesAt old (Device chip) new = new ≡ record old { chip = or_else old.chip (Some chip); below = Device chip; buffers = new.buffers }
 ChangesAt old (Names net) new = BeginsNet old.nets new.nets net × (new ≡ record old { below = Names net; nets = new.nets; buffers = new.buffers })
 ChangesAt old below new = new ≡ record old { below = below; buffers = new.buffers }
 
@@ -201,8 +209,8 @@ pub record IsBegunTwice (old : Reader) (line : List ℕ) (cause : DbCause) : Typ
   pub twice : begin_cause old.nets below ≡ Some cause
 
 pub data StatementRefusal (old : Reader) (line : List ℕ) (cause : DbCause) : Type 0 where
-  own : result_err (statement_of old.chip (words_in line)) ≡ Some cause → StatementRefusal old line cause
-  twice : IsBegunTwice old line cause → StatementRefusal old line cause
+  statement_own : result_err (statement_of old.chip (words_in line)) ≡ Some cause → StatementRefusal old line cause
+  statement_twice : IsBegunTwice old line cause → StatementRefusal old line cause
 
 -- ---- lines
 
@@ -228,3 +236,37 @@ pub record IsUnread (reader : Reader) : Type 0 where
   pub extras : reader.extras.items ≡ []
   pub global_inputs : reader.global_inputs.items ≡ []
   pub global_pins : reader.global_pins.items ≡ []
+
+-- ---- the end
+
+-- a database has what was read
+pub record FitsReader (chip : Chip) (reader : Reader) (kept : Kept) : Type 0 where
+  pub chip_is : kept.chip ≡ chip
+  pub texts : kept.texts ≡ reader.texts.arena
+  pub bits : kept.bits ≡ reader.bits.items
+  pub names : kept.names ≡ net_names reader.nets
+  pub buffers : kept.buffers ≡ reader.buffers.lines.items
+  pub routings : kept.routings ≡ reader.routings.items
+  pub functions : kept.functions ≡ reader.functions.items
+  pub extras : kept.extras ≡ reader.extras.items
+  pub global_inputs : kept.global_inputs ≡ reader.global_inputs.items
+  pub global_pins : kept.global_pins ≡ reader.global_pins.items
+
+abbrev pub IsOutOfMemory : DbFault → Type 0
+IsOutOfMemory (OutOfMemory e) = Unit {0}
+IsOutOfMemory (At line cause) = ⊥
+
+-- a refusal as the fault of a line
+abbrev pub located : Refusal → ℕ → DbFault
+located (Cause cause) line = At line cause
+located (Memory e) line = OutOfMemory e
+
+-- a fault of a line has a cause that is one
+abbrev pub FaultOf : ℕ → (DbCause → Type 0) → DbFault → Type 0
+FaultOf number P (At line cause) = (line ≡ number) × P cause
+FaultOf number P (OutOfMemory e) = Unit {0}
+
+-- what is answered at the end
+abbrev pub EndsReading : Reader → Option Chip → ℕ → Result Kept DbFault → Type 0
+EndsReading reader None number answer = answer ≡ Err (At number NoDevice)
+EndsReading reader (Some chip) number answer = MatchResult answer (FitsReader chip reader) IsOutOfMemory

@@ -1,4 +1,6 @@
 // A database as it is kept.
+ghost use Rattle.std.specs.Prelude.{◌≡◌, ◌<◌, length, All, Some, IfOk, IfErr};
+
 use crate::fault::DbFault;
 use crate::items::{Extra, Function, LinkLine};
 use crate::nets::Nets;
@@ -6,8 +8,10 @@ use crate::reading::Reader;
 use crate::texts::Texts;
 use chipdb_lines::{Chip, GlobalInput, GlobalPin};
 use plane_map::RowCol;
+use std::marker::Model;
 
-/// A database: a device, the names of its nets, their links, the functions of its tiles, and its extra bits.
+/// A database: a device, the names of its nets, their links, the functions of its tiles, and its extra bits. Contracts see
+/// the lists that are kept, and what they say is a function of these.
 #[derive(Drop)]
 pub struct ChipDb {
     pub(crate) chip: Chip,
@@ -22,9 +26,41 @@ pub struct ChipDb {
     pub(crate) global_pins: Vec<GlobalPin>,
 }
 
+impl Model for ChipDb {
+    ghost use Rattle.chipdb_reader.specs.Kept.{Kept};
+    ghost use Rattle.chipdb_reader.specs.Nets.{net_names};
+    ghost use Rattle.chipdb_reader.specs.Sound.{IsSound};
+
+    ghost Value = { Kept };
+
+    ghost view = { λ db. record {
+        chip = db.chip;
+        texts = db.texts.arena;
+        bits = db.bits.items;
+        names = net_names db.nets;
+        buffers = db.buffers.items;
+        routings = db.routings.items;
+        functions = db.functions.items;
+        extras = db.extras.items;
+        global_inputs = db.global_inputs.items;
+        global_pins = db.global_pins.items;
+    } };
+
+    ghost invariant = { λ db. IsSound db.texts db.nets db.functions.items db.extras.items };
+}
+
 impl ChipDb {
+    ghost use Rattle.chipdb_reader.specs.Nets.{net_names};
+    ghost use Rattle.chipdb_reader.specs.Reading.{FitsReader, IsReady, IsOutOfMemory};
+
     /// What the lines of a text have given.
     pub(crate) fn of(chip: Chip, reader: Reader) -> Result<ChipDb, DbFault>
+        requires ready { IsReady reader }
+        requires names { All (λ p. p.0.name < length reader.texts.arena) (net_names reader.nets) }
+        requires functions { All (λ f. f.name < length reader.texts.arena) reader.functions.items }
+        requires extras { All (λ e. e.name < length reader.texts.arena) reader.extras.items }
+        ensures kept { IfOk result (FitsReader chip reader) }
+        ensures refused { IfErr result IsOutOfMemory }
     {
         let mut nets = reader.nets;
         nets.close()?;

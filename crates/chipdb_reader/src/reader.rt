@@ -1,5 +1,7 @@
 // A database read line by line.
-ghost use Rattle.std.specs.Prelude.{◌≤◌, length};
+ghost use Rattle.std.specs.Prelude.{◌≡◌, ◌≤◌, ◌-◌, ◌^◌, ◌<◌, length, IfOk, IfErr};
+ghost use Rattle.chipdb_reader.specs.Faults.{DbMeans, Tells, db_fault_of};
+ghost use Rattle.chipdb_reader.specs.Kept.{database_in};
 
 use crate::chip_db::ChipDb;
 use crate::fault::DbFault;
@@ -11,6 +13,8 @@ use text_lines::first_line;
 /// What a database says, or its first faulty line. A text has at most 268,435,456 bytes.
 pub fn read(alloc: Global, bytes: &[u8]) -> Result<ChipDb, DbFault>
     requires { length bytes.now ≤ 268435456 }
+    ensures means { IfOk result (λ db. DbMeans bytes.now (database_in db)) }
+    ensures refused { IfErr result (Tells (db_fault_of bytes.now)) }
 {
     let mut reader = Reader::new(alloc);
     let mut left = bytes;
@@ -23,8 +27,14 @@ pub fn read(alloc: Global, bytes: &[u8]) -> Result<ChipDb, DbFault>
     finish(reader, count + 1)
 }
 
+ghost use Rattle.chipdb_reader.specs.Reading.{EndsReading, FaultOf, IsReady, RefusesLine, TakesLine, located};
+
 /// Takes the next line, which has that number.
 fn take_line(reader: &mut Reader, number: u64, line: &[u8]) -> Result<(), DbFault>
+    requires ready { IsReady reader.old }
+    requires room { length reader.old.texts.arena < 2 ^ 32 - 1 }
+    ensures taken { IfOk result (λ _. TakesLine reader.old line.now reader.new) }
+    ensures refused { IfErr result (FaultOf number (RefusesLine reader.old line.now)) }
 {
     match reader.accept(line) {
         Ok(()) => Ok(()),
@@ -34,6 +44,7 @@ fn take_line(reader: &mut Reader, number: u64, line: &[u8]) -> Result<(), DbFaul
 
 /// A refusal as the fault of a line.
 fn fault_at(line: u64, refusal: Refusal) -> DbFault
+    ensures { result ≡ located refusal line }
 {
     match refusal {
         Refusal::Cause(cause) => DbFault::At { line, cause },
@@ -41,8 +52,16 @@ fn fault_at(line: u64, refusal: Refusal) -> DbFault
     }
 }
 
+ghost use Rattle.std.specs.Prelude.{All};
+ghost use Rattle.chipdb_reader.specs.Nets.{net_names};
+
 /// What the lines have given, all of them being read; the line behind the last has that number.
 fn finish(reader: Reader, number: u64) -> Result<ChipDb, DbFault>
+    requires ready { IsReady reader }
+    requires names { All (λ p. p.0.name < length reader.texts.arena) (net_names reader.nets) }
+    requires functions { All (λ f. f.name < length reader.texts.arena) reader.functions.items }
+    requires extras { All (λ e. e.name < length reader.texts.arena) reader.extras.items }
+    ensures ended { EndsReading reader reader.chip number result }
 {
     match reader.chip {
         None => Err(DbFault::At {

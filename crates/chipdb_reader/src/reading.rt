@@ -95,7 +95,7 @@ impl Reader {
         self.buffers.begin();
         match below {
             Below::Device(chip) => {
-                self.chip = Some(chip);
+                self.chip = first_chip(self.chip, chip);
                 Ok(())
             }
             Below::Names(net) => self.nets.begin(net),
@@ -213,8 +213,20 @@ impl Reader {
     }
 }
 
+ghost use Rattle.std.specs.Prelude.{Some};
+ghost use Rattle.place_search.specs.Places.{or_else};
 ghost use Rattle.chipdb_lines.specs.Items.{extra_of, function_of};
 ghost use Rattle.chipdb_reader.specs.Reading.{Pushes, PushesRouting, link_with};
+
+/// The device that was given before, or else this one.
+fn first_chip(earlier: Option<Chip>, chip: Chip) -> Option<Chip>
+    ensures { result ≡ or_else earlier (Some chip) }
+{
+    match earlier {
+        Some(earlier) => Some(earlier),
+        None => Some(chip),
+    }
+}
 
 /// The link of a statement's line.
 fn link(head: LinkHead, choice: Choice) -> LinkLine

@@ -115,14 +115,14 @@ unfolding bits_of
 some_bits-nothing = refl
 
 -- what is told of an option that is none
-pub none-by : {X : Type 0} (found : Option X) (is : Bool) (P : Type 0) (Q : X → Type 0) → is ≡ is_none found → is ≡ true → MatchOption found P Q → P
-none-by None is P Q answer yes told = told
-none-by (Some x) is P Q answer yes told = absurd (true≢false (sym yes ∙ answer))
+pub none-by : {X : Type 0} (found : Option X) (is : Bool) (P : Type 0) (Q : X → Type 0) → is_some found ≡ not is → is ≡ true → MatchOption found P Q → P
+none-by None is P Q answer none_is told = told
+none-by (Some x) is P Q answer none_is told = absurd (true≢false (answer ∙ ap not none_is))
 
 -- and of one that is some
-pub some-by : {X : Type 0} (found : Option X) (is : Bool) (P : Type 0) (Q : X → Type 0) → is ≡ is_none found → is ≡ false → MatchOption found P Q → (x : X) × Q x
-some-by None is P Q answer not_yet told = absurd (true≢false (sym answer ∙ not_yet))
-some-by (Some x) is P Q answer not_yet told = (x, told)
+pub some-by : {X : Type 0} (found : Option X) (is : Bool) (P : Type 0) (Q : X → Type 0) → is_some found ≡ not is → is ≡ false → MatchOption found P Q → (x : X) × Q x
+some-by None is P Q answer none_is told = absurd (true≢false (sym (answer ∙ ap not none_is)))
+some-by (Some x) is P Q answer none_is told = (x, told)
 
 -- ---- refusals
 

@@ -1,5 +1,5 @@
 use Rattle.std.proofs.Common.{◌≡◌, ◌-◌, ◌<◌, ◌≤◌, ap, ◌∙◌, sym, arith, length}
-use Rattle.std.proofs.lemmas.Bool.{MatchBool-at_true, MatchBool-at_false, not-true, not-false}
+use Rattle.std.proofs.lemmas.Bool.{MatchBool-at_true, MatchBool-at_false}
 use Rattle.std.specs.Prelude.{Some}
 use Rattle.std.proofs.lemmas.Result.{err_from_is_err_and}
 use Rattle.std.specs.Result.{result_err}
@@ -15,13 +15,13 @@ returns-in_err-push_bit-clause-named c =
 
 pub returns-then-not-branch-clause-named : goal.returns-then-not-branch-clause-named
 returns-then-not-branch-clause-named c =
-    let outside = MatchBool-at_false _ _ (not-true _ c.if-not-branch.true) c.in_ok-push_bit.ensures.named in
+    let outside = MatchBool-at_false _ _ c.if-not-branch.true c.in_ok-push_bit.ensures.named in
     ap result_err (Added-outside c.args.columns c.args.bits.now.items c.loop-word.bits.items (words_in c.args.words.now) (words_in c.loop-word.left.now) (words_in c.in-Some.rest.now) c.in-Some.word.now outside.0
         c.loop-word.invariant.added c.in-Some.ensures.words outside.1 outside.2) ∙ ap (λ cause. Some cause) (sym c.cause_before.ensures)
 
 pub loop-word-preserved : goal.loop-word-preserved
 loop-word-preserved c =
-    let there = MatchBool-at_true _ _ (not-false _ c.if-not-branch.false) c.in_ok-push_bit.ensures.named in
+    let there = MatchBool-at_true _ _ c.if-not-branch.false c.in_ok-push_bit.ensures.named in
     record {
       added = Added-push c.args.columns c.args.bits.now.items c.loop-word.bits.items c.push_bit.new.bits.items (words_in c.args.words.now) (words_in c.loop-word.left.now) (words_in c.in-Some.rest.now) c.in-Some.word.now there.0
           c.loop-word.invariant.added c.in-Some.ensures.words there.1 there.2 there.3;

@@ -6,7 +6,7 @@ use Rattle.std.specs.List.{prefix_len}
 use Rattle.std.proofs.lemmas.List.{length-map, map-append}
 use Rattle.std.specs.Map.{lookup}
 use Rattle.std.proofs.lemmas.Bool.{cases_Bool, cases_eq, ne_eqb, eq-eqb, le-ltb}
-use Rattle.std.proofs.lemmas.List.Elements.{All-head, All-tail}
+use Rattle.std.proofs.lemmas.List.Elements.{All-head, All-tail, filter-append}
 use Rattle.plane_map.specs.declared.tile.TileKind.{TileKind}
 use Rattle.plane_map.specs.declared.tile.Place.{Place}
 use Rattle.plane_map.specs.declared.tile.RowCol.{RowCol}
@@ -22,9 +22,10 @@ use Rattle.std.specs.List.{AllByRecursion, IsDistinct}
 use Rattle.std.specs.Map.{keys_of}
 use Rattle.std.specs.declared.vec.Vec.{Vec}
 use Rattle.std.specs.declared.alloc.Global.{Global}
-use Rattle.chipdb_reader.specs.Nets.{is_name, names_with, items_of}
+use Rattle.chipdb_reader.specs.declared.nets.Nets.{Nets}
+use Rattle.chipdb_reader.specs.Nets.{IsNetIndex, earlier_names, is_name, last_names, names_with, net_names, items_of}
 use Rattle.chipdb_reader.specs.Texts.{IsIndexed, Interns, text_at}
-use Rattle.chipdb_reader.proofs.Lookups.{bytes_eq-true}
+use Rattle.chipdb_reader.proofs.Searches.{bytes_eq-true}
 use Rattle.chipdb_reader.proofs.NameSteps.{text-tie, eqb-sym}
 
 -- ---- names by their ids
@@ -222,3 +223,10 @@ names-found texts net (e ∷ entries) distinct =
               ∙ names-found texts net entries distinct.1
               ∙ ap (λ o. name_lines texts (names_with net (items_of o))) (sym found)
     ]
+
+-- the names of a net, where all nets are earlier ones
+pub net-names-found : (texts : List (List ℕ)) (nets : Nets) (net : ℕ) → IsNetIndex nets → nets.last ≡ None → name_lines texts (names_with net (earlier_names nets net)) ≡ names_of_net net (name_lines texts (net_names nets))
+net-names-found texts nets net indexed closed =
+    let all : net_names nets ≡ flat_map entry_names nets.earlier.entries =
+        ap (λ o. flat_map entry_names nets.earlier.entries ++ last_names o nets.names.items) closed ∙ append-nil (flat_map entry_names nets.earlier.entries) in
+    sym (ap (λ ns. names_of_net net (name_lines texts ns)) all ∙ names-found texts net nets.earlier.entries indexed.unique)

@@ -123,20 +123,20 @@ pub own-step : (old new : Reader) (lines : List (List ℕ)) (n : ℕ) (said : Sa
     → new.global_pins.items ≡ old.global_pins.items ++ said.global_pins
     → length new.texts.arena ≤ n + 1
     → Holds new lines (n + 1)
-own-step old new lines n said own says holds ready in_range choices chip block nets names buffers routings functions extras global_inputs global_pins few = record {
+own-step old new lines n said own says holds ready in_range choices chip block nets more_names more_buffers more_routings more_functions more_extras more_inputs more_pins few = record {
   ready = ready;
   in_range = in_range;
   choices = choices;
   chip = chip ∙ holds.chip ∙ sym (chip-own lines n own);
   block = block ∙ holds.block ∙ sym (block-own lines n own);
   nets = λ net. nets net ∙ holds.nets net ∙ sym (nets-own lines n net own);
-  names = list-step _ _ said.names n (λ k. (said_at lines k).names) names holds.names (ap (λ s. s.names) says);
-  buffers = list-step _ _ (buffers_at lines n) n (buffers_at lines) buffers holds.buffers refl;
-  routings = list-step _ _ (routings_at lines n) n (routings_at lines) routings holds.routings refl;
-  functions = list-step _ _ said.functions n (λ k. (said_at lines k).functions) functions holds.functions (ap (λ s. s.functions) says);
-  extras = list-step _ _ said.extras n (λ k. (said_at lines k).extras) extras holds.extras (ap (λ s. s.extras) says);
-  global_inputs = list-step _ _ said.global_inputs n (λ k. (said_at lines k).global_inputs) global_inputs holds.global_inputs (ap (λ s. s.global_inputs) says);
-  global_pins = list-step _ _ said.global_pins n (λ k. (said_at lines k).global_pins) global_pins holds.global_pins (ap (λ s. s.global_pins) says);
+  names = list-step _ _ said.names n (λ k. (said_at lines k).names) more_names holds.names (ap (λ s. s.names) says);
+  buffers = list-step _ _ (buffers_at lines n) n (buffers_at lines) more_buffers holds.buffers refl;
+  routings = list-step _ _ (routings_at lines n) n (routings_at lines) more_routings holds.routings refl;
+  functions = list-step _ _ said.functions n (λ k. (said_at lines k).functions) more_functions holds.functions (ap (λ s. s.functions) says);
+  extras = list-step _ _ said.extras n (λ k. (said_at lines k).extras) more_extras holds.extras (ap (λ s. s.extras) says);
+  global_inputs = list-step _ _ said.global_inputs n (λ k. (said_at lines k).global_inputs) more_inputs holds.global_inputs (ap (λ s. s.global_inputs) says);
+  global_pins = list-step _ _ said.global_pins n (λ k. (said_at lines k).global_pins) more_pins holds.global_pins (ap (λ s. s.global_pins) says);
   few = few;
 }
 

@@ -81,7 +81,7 @@ cause-at old lines n chip below word words at =
 same : {A : Type 0} (xs : List A) → xs ≡ xs ++ []
 same xs = sym (append-nil xs)
 
-few-more : (n count : ℕ) → count ≤ n → count ≤ n + 1
+pub few-more : (n count : ℕ) → count ≤ n → count ≤ n + 1
 few-more n count le = omega arith
 
 -- a `.gbufin` line

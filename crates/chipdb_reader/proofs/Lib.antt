@@ -1,8 +1,11 @@
 mod Worked
-pub mod Lookups
+pub mod Searches
+pub mod Outcomes
 pub mod TextSteps
+pub mod TextChanges
 pub mod BufferSteps
 pub mod NetSteps
+pub mod NetChanges
 pub mod BlockSteps
 pub mod Grown
 pub mod Holds

@@ -1,6 +1,6 @@
 -- Lines of `.routing` and `.buffer`: what is kept after each, and which are faulty.
 use Rattle.std.proofs.Common.{◌≡◌, ℕ, zero, suc, ◌+◌, ◌-◌, ◌*◌, ◌/◌, ◌%◌, ◌^◌, ◌<◌, ◌≤◌, Bool, true, false, not, ◌&&◌, ◌||◌, cond, eqb, List, [], ◌∷◌, ◌++◌, length, drop, map, append-nil, refl, sym, ap, ◌∙◌, inl, inr, arith, subst, true≢false}
-use Rattle.std.specs.Prelude.{Option, Some, None, Result, Ok, Err, All, nat_eq}
+use Rattle.std.specs.Prelude.{◌==◌, Option, Some, None, Result, Ok, Err, All, nat_eq}
 use Rattle.std.specs.Bool.{beq}
 use Rattle.std.specs.Cmp.Lexicographic.{pointwise}
 use Rattle.std.specs.List.{list_any}
@@ -39,7 +39,7 @@ use Rattle.place_search.specs.Places.{or_else}
 use Rattle.chipdb_reader.proofs.Grown.{length-bits_named, All-weaker}
 use Rattle.chipdb_reader.proofs.Holds.{Holds, InRange, ChoicesHold, LastHolds, IsLastLine, kept_choice, last_lines, chosen-own, own-step, kept-list}
 use Rattle.chipdb_reader.proofs.ItemSteps.{At, block-at, said-at, cause-at, few-more}
-use Rattle.chipdb_reader.proofs.Lookups.{lookup-push}
+use Rattle.chipdb_reader.proofs.Searches.{lookup-push}
 
 -- ---- values by their numbers
 
@@ -379,15 +379,15 @@ grows-equal old new lines n chip head word words choice src at is chosen added s
     let looked : lookup (nat_eq choice.values) (choices_of (last_lines old)) ≡ Some src = sym (at.holds.ready.buffers.found choice.values) ∙ some in
     let again : (test : LinkChoice → Bool) → (list_any test (map (kept_choice head.bits.count) (last_lines old)) || (test lc || false)) ≡ list_any test (map (kept_choice head.bits.count) (last_lines old)) =
         λ test. elim (cases_Bool (test lc)) [
-          | inl yes ↦
+          | inl held ↦
               let there = found-passes old head test choice.values src (last_lines old)
                   (λ l before here at_src.
                       let values : l.values ≡ choice.values = sym (eqb-true choice.values l.values here) in
                       let net : l.src ≡ choice.src = at_src ∙ eqb-true src choice.src same_src in
                       let one : kept_choice head.bits.count l ≡ lc = λ i. record { values = low_bits head.bits.count (values i); src = net i } in
-                      ap test one ∙ yes)
+                      ap test one ∙ held)
                   holds.own looked in
-              rw (there, yes) refl
+              rw (there, held) refl
           | inr not_yet ↦ rw not_yet (or-false _)
         ] in
     record {

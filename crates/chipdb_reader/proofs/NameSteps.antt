@@ -29,7 +29,7 @@ use Rattle.chipdb_reader.specs.Reading.{IsReady, PushesName, IsNamedTwice}
 use Rattle.chipdb_reader.proofs.Grown.{text-grown}
 use Rattle.chipdb_reader.proofs.Holds.{Holds, InRange, own-step, kept-list, buffers_at-nothing, routings_at-nothing}
 use Rattle.chipdb_reader.proofs.ItemSteps.{At, said-at, cause-at, Counts, interned-counts, in_range-grown, names-kept, extras-kept, functions-kept}
-use Rattle.chipdb_reader.proofs.Lookups.{bytes_eq-same, bytes_eq-true}
+use Rattle.chipdb_reader.proofs.Searches.{bytes_eq-same, bytes_eq-true}
 use Rattle.chipdb_reader.proofs.TextSteps.{text-found}
 
 -- ---- names before a line

@@ -11,7 +11,7 @@ use Rattle.std.proofs.lemmas.List.{map-append}
 use Rattle.std.proofs.lemmas.List.Concat.{flat_map-append}
 use Rattle.chipdb_reader.specs.declared.items.NetName.{NetName}
 use Rattle.chipdb_reader.specs.Nets.{name_cmp, is_name, names_with, last_names}
-use Rattle.chipdb_reader.proofs.Lookups.{index-push}
+use Rattle.chipdb_reader.proofs.Searches.{index-push}
 
 -- two comparisons, one after the other
 is_eq-then : (a b : Ordering) → is_eq (ordering_then a b) ≡ (is_eq a && is_eq b)

@@ -7,7 +7,7 @@ use Rattle.std.proofs.lemmas.List.{get_or_append_left, get_or-append_right}
 use Rattle.std.proofs.lemmas.List.Quantifiers.{position-Some}
 use Rattle.place_search.specs.Places.{or_else}
 use Rattle.chipdb_reader.specs.Texts.{text_at}
-use Rattle.chipdb_reader.proofs.Lookups.{lookup-push, position-push, bytes_eq-same, bytes_eq-true}
+use Rattle.chipdb_reader.proofs.Searches.{lookup-push, position-push, bytes_eq-same, bytes_eq-true}
 
 -- the index finds one name more
 pub found-push : {K : Type 0} (bytes : K → List ℕ) (entries : List (K × ℕ)) (texts : List (List ℕ)) (key : K) (id : ℕ)

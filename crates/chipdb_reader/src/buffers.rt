@@ -34,6 +34,13 @@ impl Buffers {
         }
     }
 
+    /// The lines.
+    pub(crate) fn into_lines(self) -> Vec<LinkLine>
+        ensures { result ≡ self.lines }
+    {
+        self.lines
+    }
+
     /// Another statement begins.
     pub(crate) fn begin(&mut self)
         ensures { BeginsBuffers self.old self.new }

@@ -69,7 +69,7 @@ impl ChipDb {
             texts: reader.texts,
             bits: reader.bits,
             nets,
-            buffers: reader.buffers.lines,
+            buffers: reader.buffers.into_lines(),
             routings: reader.routings,
             functions: reader.functions,
             extras: reader.extras,

@@ -1,5 +1,5 @@
 use super::*;
-use plane_map::{DeviceName, RowCol, TileKind};
+use plane_map::{DeviceName, Place, RowCol, TileKind};
 use std::alloc::{AllocError, Global};
 
 /// A small database of a 1k.
@@ -25,6 +25,28 @@ IOB_0.PINTYPE_5 B5[0]
 1 0
 .buffer 0 2 3 B6[0]
 1 2
+";
+
+/// A small database of an 8k.
+const OTHER: &[u8] = b".device 8k 34 34 4
+.gbufin
+0 16 3
+33 17 3
+.gbufpin
+0 7 1 2
+.extra_bits
+padin 0 870 271
+padin 1 0 0
+.pins
+1 2 3
+.buffer 1 1 1 B0[0] B1[2]
+10 2
+# equal to the line above
+10\t02
+01 3
+.routing 1 1 0 B0[0] B1[2]
+11 1
+11 1
 ";
 
 /// The fault of a text: line 0 where it is read, line 1000 where memory is out.
@@ -70,4 +92,74 @@ fn tells_each_cause(rt: HostRuntime) {
     }
     assert!(rt; fault_of(rt.alloc(), b"") == (1, DbCause::NoDevice));
     assert!(rt; fault_of(rt.alloc(), SMALL) == (0, DbCause::NoDevice));
+}
+
+/// Whether the nets of the first database are found.
+fn has_nets(db: &ChipDb) -> bool {
+    db.device() == DeviceName::K1
+        && db.net_count() == 6
+        && db.net_of(1, 1, b"lutff_0/out") == Some(2)
+        && db.net_of(1, 2, b"lutff_0/out").is_none()
+        && db.net_of(1, 1, b"lutff_1/out").is_none()
+        && db.names_of(3).len() == 1
+        && db.names_of(4).is_empty()
+}
+
+/// Whether the first link is from 0 to 1 by one bit, which is 1.
+fn has_link(db: &ChipDb) -> bool {
+    match db.buffers() {
+        [link, _] => {
+            link.dst == 1
+                && link.src == 0
+                && link.values == 1
+                && db.bits(link.bits) == [RowCol { row: 2, col: 0 }].as_slice()
+        }
+        _ => false,
+    }
+}
+
+/// Whether the functions of the first database are found.
+fn has_functions(db: &ChipDb) -> bool {
+    db.functions().len() == 7
+        && db.function(TileKind::Io, b"IOB_0.PINTYPE_5") == Some(6)
+        && db.function(TileKind::Logic, b"LC_0") == Some(0)
+        && db.function(TileKind::Io, b"LC_0").is_none()
+}
+
+/// Whether the first lines of globals and of extra bits are found.
+fn has_firsts(db: &ChipDb) -> bool {
+    db.gbufin(3) == Some(TileXy8 { x: 0, y: 16 })
+        && db.gbufin(2).is_none()
+        && db.gbufpin(2) == Some(PinXy { x: 0, y: 7, n: 1 })
+        && db.extras().len() == 2
+        && db.extra(b"padin")
+            == Some(Place {
+                bank: 0,
+                px: 870,
+                py: 271,
+            })
+}
+
+/// Whether an equal line of a `.buffer` is passed over, and one of a `.routing` isn't.
+fn has_links(db: &ChipDb) -> bool {
+    match (db.buffers(), db.routings()) {
+        ([first, second], [link, _]) => first.values == 1 && second.values == 2 && link.values == 3,
+        _ => false,
+    }
+}
+
+#[test]
+fn looks_up_what_it_read(rt: HostRuntime) {
+    assert!(rt; small_is_read(rt.alloc()) == Ok(true));
+    assert!(rt; other_is_read(rt.alloc()) == Ok(true));
+}
+
+fn small_is_read(alloc: Global) -> Result<bool, DbFault> {
+    let db = read(alloc, SMALL)?;
+    Ok(has_nets(&db) && has_link(&db) && has_functions(&db))
+}
+
+fn other_is_read(alloc: Global) -> Result<bool, DbFault> {
+    let db = read(alloc, OTHER)?;
+    Ok(has_firsts(&db) && has_links(&db))
 }

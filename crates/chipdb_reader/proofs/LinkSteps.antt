@@ -387,8 +387,8 @@ grows-equal old new lines n chip head word words choice src at is chosen added s
                       let one : kept_choice head.bits.count l ≡ lc = λ i. record { values = low_bits head.bits.count (values i); src = net i } in
                       ap test one ∙ held)
                   holds.own looked in
-              rw (there, held) refl
-          | inr not_yet ↦ rw not_yet (or-false _)
+              ap (λ b. b || (test lc || false)) there ∙ sym there
+          | inr not_yet ↦ ap (λ b. list_any test (map (kept_choice head.bits.count) (last_lines old)) || (b || false)) not_yet ∙ or-false _
         ] in
     record {
       links = ap (link_lines old.bits.items) kept ∙ kept-list (link_lines old.bits.items old.buffers.lines.items) (buffers_at lines n) link;

@@ -17,7 +17,7 @@ loop-line-preserved c =
     c.loop-line.invariant c.in-Some.ensures.lines c.in-Some.ensures.shorter c.in_ok-take_line.ensures.taken
 
 pub returns-clause-means : goal.returns-clause-means
-returns-clause-means c = answered c.args.bytes.now c.loop-line.left.now c.loop-line.count c.loop-line.reader c.finish.result c.loop-line.invariant c.in_default.ensures.lines c.finish.ensures
+returns-clause-means c = answered c.args.bytes.now c.loop-line.left.now c.loop-line.count c.loop-line.reader c.finish.result c.loop-line.invariant c.in_default.ensures.lines c.finish.ensures.ended
 
 pub returns-clause-refused : goal.returns-clause-refused
-returns-clause-refused c = refused c.args.bytes.now c.loop-line.left.now c.loop-line.count c.loop-line.reader c.finish.result c.loop-line.invariant c.in_default.ensures.lines c.finish.ensures
+returns-clause-refused c = refused c.args.bytes.now c.loop-line.left.now c.loop-line.count c.loop-line.reader c.finish.result c.loop-line.invariant c.in_default.ensures.lines c.finish.ensures.ended

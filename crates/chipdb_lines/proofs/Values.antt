@@ -75,7 +75,7 @@ Written-more word left values written some digits =
     let longer : length word - (left - 1) ≡ suc count = omega arith in
     let split : drop (left - 1) word ≡ byte ∷ drop left word = rw next at (drop-cons word (left - 1) 0 lt) in
     let bits : low_bits (suc count) (2 * values + (byte - 48)) ≡ map (λ b. b == 49) (byte ∷ drop left word) =
-        low_bits-more count values (byte - 48) digit.0 ∙ ap (λ b. b ∷ low_bits count values) digit.2 ∙ ap (λ bs. (byte == 49) ∷ bs) written.bits in
+    low_bits-more count values (byte - 48) digit.0 ∙ ap (λ b. b ∷ low_bits count values) digit.2 ∙ ap (λ bs. (byte == 49) ∷ bs) written.bits in
     let small : values < 2 ^ count = written.small in
     let digit_small : byte - 48 < 2 = digit.0 in
     record {

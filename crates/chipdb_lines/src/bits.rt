@@ -45,7 +45,11 @@ pub fn bits_of(bits: &[RowCol], list: BitList) -> &[RowCol]
 
 /// Adds the bits that words name to a table. They are bits of a tile with so many columns of bits, and at most 64.
 #[tactic(auto, unfolding(crate::specs::Statements::tile_bits_of))]
-pub(crate) fn push_bits(bits: &mut Vec<RowCol>, columns: usize, words: &[u8]) -> Result<BitList, Refusal>
+pub(crate) fn push_bits(
+    bits: &mut Vec<RowCol>,
+    columns: usize,
+    words: &[u8],
+) -> Result<BitList, Refusal>
     requires { columns ≤ 256 }
     ensures grown { IfOk result (λ _. Extends bits.old.items bits.new.items) }
     ensures within { IfOk result (IsListOf (length bits.new.items)) }
@@ -75,8 +79,8 @@ fn push_bit(bits: &mut Vec<RowCol>, columns: usize, word: &[u8]) -> Result<bool,
     requires { columns ≤ 256 }
     ensures named { MatchResult result
         (λ is_there. MatchBool is_there
-            ((bit : RowCol) × (bit_of word.now ≡ Some bit) × (is_in_columns columns bit ≡ true) × (bits.new.items ≡ bits.old.items ++ bit ∷ []))
-            ((bit : RowCol) × (bit_of word.now ≡ Some bit) × (is_in_columns columns bit ≡ false)))
+        ((bit : RowCol) × (bit_of word.now ≡ Some bit) × (is_in_columns columns bit ≡ true) × (bits.new.items ≡ bits.old.items ++ bit ∷ []))
+        ((bit : RowCol) × (bit_of word.now ≡ Some bit) × (is_in_columns columns bit ≡ false)))
         (λ refusal. Reports (if is_some (bit_of word.now) then None else Some BitName) refusal) }
 {
     match bit_of(word) {

@@ -32,7 +32,11 @@ pub struct Choice {
 
 /// What the words `X Y DST BIT ...` say. The bits are added to a table.
 #[tactic(auto, unfolding(crate::specs::Statements::link_of_words, text_lines::specs::Words::numbers_of))]
-pub(crate) fn link_head(chip: Chip, words: &[u8], bits: &mut Vec<RowCol>) -> Result<LinkHead, Refusal>
+pub(crate) fn link_head(
+    chip: Chip,
+    words: &[u8],
+    bits: &mut Vec<RowCol>,
+) -> Result<LinkHead, Refusal>
     ensures grown { IfOk result (λ _. Extends bits.old.items bits.new.items) }
     ensures within { IfOk result (λ head. IsListOf (length bits.new.items) head.bits) }
     ensures says { Tells (link_of_words chip (words_in words.now)) (head_named bits.new.items) result }
@@ -61,7 +65,7 @@ struct HeadWords<'a> {
 fn head_words(words: &[u8]) -> Option<HeadWords<'_>>
     ensures { MatchOption result ((chip : Chip) → link_of_words chip (words_in words.now) ≡ Err DbCause.Number)
         (λ head. (words_in words.now ≡ head.x.now ∷ head.y.now ∷ head.dst.now ∷ words_in head.bits.now)
-            × (has_none (words_in head.bits.now) ≡ false)) }
+        × (has_none (words_in head.bits.now) ≡ false)) }
 {
     let (x, behind) = split_word(Separators::SpacesAndTabs, words)?;
     let (y, behind) = split_word(Separators::SpacesAndTabs, behind)?;

@@ -84,5 +84,5 @@ unfolding chip_in statement_of
 chip-given (Some chip) line block dot says = refl
 chip-given None line block dot says =
     let given : chip_by (keyword_of (get_or (words_in line) 0 [])) (drop 1 (words_in line)) ≡ device_of block =
-        device_by (keyword_of (get_or (words_in line) 0 [])) (drop 1 (words_in line)) block says in
+    device_by (keyword_of (get_or (words_in line) 0 [])) (drop 1 (words_in line)) block says in
     rw dot given

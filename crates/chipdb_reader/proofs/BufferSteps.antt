@@ -23,9 +23,9 @@ pub chosen-push : (old new : ℕ → Option ℕ) (lines : List LinkLine) (start 
     → (q : ℕ) → new q ≡ lookup (nat_eq q) (choices_of (drop start (lines ++ line ∷ [])))
 chosen-push old new lines start line within updates found none q =
     let pushed = index-push nat_eq (λ key other. is_eq (nat_cmp key other)) old new (choices_of (drop start lines)) line.values line.src
-        (λ other. sym (unsigned_ties line.values other) ∙ nat_eq-sym line.values other) (λ other is. eqb-true other line.values is) updates found none q in
+    (λ other. sym (unsigned_ties line.values other) ∙ nat_eq-sym line.values other) (λ other is. eqb-true other line.values is) updates found none q in
     let more : choices_of (drop start (lines ++ line ∷ [])) ≡ choices_of (drop start lines) ++ (line.values, line.src) ∷ [] =
-        ap choices_of (drop-append-le start lines (line ∷ []) within) ∙ map-append (λ (l : LinkLine). (l.values, l.src)) (drop start lines) (line ∷ []) in
+    ap choices_of (drop-append-le start lines (line ∷ []) within) ∙ map-append (λ (l : LinkLine). (l.values, l.src)) (drop start lines) (line ∷ []) in
     pushed ∙ ap (lookup (nat_eq q)) (sym more)
 
 -- what a new line changes

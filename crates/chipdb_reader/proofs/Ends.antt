@@ -23,6 +23,8 @@ use Rattle.chipdb_reader.specs.Faults.{Fault, DbMeans, Tells, cause_at, db_fault
 use Rattle.chipdb_reader.specs.Kept.{Kept, database_in, name_lines, link_lines, function_lines, extra_lines}
 use Rattle.chipdb_reader.specs.Nets.{has_net, net_names}
 use Rattle.chipdb_reader.specs.Reading.{EndsReading, FaultOf, FitsReader, IsOutOfMemory, IsUnread, RefusesLine, TakesLine}
+use Rattle.chipdb_reader.specs.Fit.{IsFit}
+use Rattle.chipdb_reader.proofs.FitPlaces.{means-fit}
 use Rattle.chipdb_reader.proofs.Holds.{Holds, InRange}
 use Rattle.chipdb_reader.proofs.LineSteps.{Taken, line-taken, line-refused}
 
@@ -220,3 +222,8 @@ answered bytes left count reader answer before none ends = answered-by bytes lef
 
 pub refused : (bytes left : List ℕ) (count : ℕ) (reader : Reader) (answer : Result Kept DbFault) → SoFar bytes left count reader → left ≡ [] → EndsReading reader reader.chip (count + 1) answer → IfErr answer (Tells (db_fault_of bytes))
 refused bytes left count reader answer before none ends = refused-by bytes left count reader reader.chip answer before (all-read bytes left count reader before none) refl ends
+
+-- what is answered at the end is fit
+pub fit-at_end : (bytes left : List ℕ) (count : ℕ) (reader : Reader) → SoFar bytes left count reader → left ≡ [] → (chip : Chip) (kept : Kept) → reader.chip ≡ Some chip → FitsReader chip reader kept → IsFit (database_in kept)
+fit-at_end bytes left count reader before none chip kept given fits =
+    means-fit bytes (database_in kept) (means-by bytes left count reader chip kept before (all-read bytes left count reader before none) given fits)

@@ -93,10 +93,10 @@ unfolding net_at
 net-found texts names x y name id indexed all here =
     let key : NetName = record { x = x; y = y; name = id } in
     let agrees : (p : NetName × ℕ) → p.0.name < length texts.arena → is_name_at x y name (name_line texts.arena p) ≡ is_name key p.0 =
-        λ p lt. ap (λ b. eqb p.0.x x && (eqb p.0.y y && b)) (id-tie texts name id p.0.name indexed here lt) in
+    λ p lt. ap (λ b. eqb p.0.x x && (eqb p.0.y y && b)) (id-tie texts name id p.0.name indexed here lt) in
     lookup-find (is_name key) names
-        ∙ sym (ap (option_map (λ (line : NameLine). line.net)) (find-map (λ (p : NetName × ℕ). p.0.name < length texts.arena) (name_line texts.arena) (is_name_at x y name) (λ p. is_name key p.0) names agrees all)
-            ∙ option_map-map (name_line texts.arena) (λ (line : NameLine). line.net) (find (λ p. is_name key p.0) names))
+    ∙ sym (ap (option_map (λ (line : NameLine). line.net)) (find-map (λ (p : NetName × ℕ). p.0.name < length texts.arena) (name_line texts.arena) (is_name_at x y name) (λ p. is_name key p.0) names agrees all)
+    ∙ option_map-map (name_line texts.arena) (λ (line : NameLine). line.net) (find (λ p. is_name key p.0) names))
 
 -- a name without an id has no net
 pub net-none : (texts : Texts) (names : List (NetName × ℕ)) (x y : ℕ) (name : List ℕ) → IsIndexed texts → All (λ p. p.0.name < length texts.arena) names → position (bytes_eq name) texts.arena ≡ None
@@ -104,7 +104,7 @@ pub net-none : (texts : Texts) (names : List (NetName × ℕ)) (x y : ℕ) (name
 unfolding net_at
 net-none texts names x y name indexed all none =
     let fails : (p : NetName × ℕ) → p.0.name < length texts.arena → is_name_at x y name (name_line texts.arena p) ≡ false =
-        λ p lt. ap (λ b. eqb p.0.x x && (eqb p.0.y y && b)) (id-none texts name p.0.name indexed none lt) ∙ and-none (eqb p.0.x x) (eqb p.0.y y) in
+    λ p lt. ap (λ b. eqb p.0.x x && (eqb p.0.y y && b)) (id-none texts name p.0.name indexed none lt) ∙ and-none (eqb p.0.x x) (eqb p.0.y y) in
     ap (option_map (λ (line : NameLine). line.net)) (find-none (λ (p : NetName × ℕ). p.0.name < length texts.arena) (name_line texts.arena) (is_name_at x y name) names fails all)
 
 -- ---- extra bits
@@ -114,15 +114,15 @@ pub extra-found : (texts : Texts) (extras : List Extra) (name : List ℕ) (id : 
 unfolding extra_place
 extra-found texts extras name id indexed all here =
     sym (ap (option_map (λ (line : ExtraLine). line.at))
-            (find-map (λ (e : Extra). e.name < length texts.arena) (extra_line texts.arena) (λ (line : ExtraLine). bytes_eq name line.name) (λ (e : Extra). eqb e.name id) extras (λ e lt. id-tie texts name id e.name indexed here lt) all)
-        ∙ option_map-map (extra_line texts.arena) (λ (line : ExtraLine). line.at) (find (λ (e : Extra). eqb e.name id) extras))
+    (find-map (λ (e : Extra). e.name < length texts.arena) (extra_line texts.arena) (λ (line : ExtraLine). bytes_eq name line.name) (λ (e : Extra). eqb e.name id) extras (λ e lt. id-tie texts name id e.name indexed here lt) all)
+    ∙ option_map-map (extra_line texts.arena) (λ (line : ExtraLine). line.at) (find (λ (e : Extra). eqb e.name id) extras))
 
 pub extra-none : (texts : Texts) (extras : List Extra) (name : List ℕ) → IsIndexed texts → All (λ e. e.name < length texts.arena) extras → position (bytes_eq name) texts.arena ≡ None
     → extra_place name (extra_lines texts.arena extras) ≡ None
 unfolding extra_place
 extra-none texts extras name indexed all none =
     ap (option_map (λ (line : ExtraLine). line.at))
-        (find-none (λ (e : Extra). e.name < length texts.arena) (extra_line texts.arena) (λ (line : ExtraLine). bytes_eq name line.name) extras (λ e lt. id-none texts name e.name indexed none lt) all)
+    (find-none (λ (e : Extra). e.name < length texts.arena) (extra_line texts.arena) (λ (line : ExtraLine). bytes_eq name line.name) extras (λ e lt. id-none texts name e.name indexed none lt) all)
 
 -- ---- functions
 
@@ -155,14 +155,14 @@ pub function-found : (texts : Texts) (bits : List RowCol) (functions : List Func
 unfolding function_place
 function-found texts bits functions kind name id indexed all here =
     sym (position-map (λ (f : Function). f.name < length texts.arena) (function_line texts.arena bits) (is_function kind name) (λ (f : Function). is_same_kind f.kind kind && eqb f.name id) functions
-        (λ f lt. ap (λ b. is_same_kind f.kind kind && b) (id-tie texts name id f.name indexed here lt)) all)
+    (λ f lt. ap (λ b. is_same_kind f.kind kind && b) (id-tie texts name id f.name indexed here lt)) all)
 
 pub function-none : (texts : Texts) (bits : List RowCol) (functions : List Function) (kind : TileKind) (name : List ℕ) → IsIndexed texts → All (λ f. f.name < length texts.arena) functions → position (bytes_eq name) texts.arena ≡ None
     → function_place kind name (function_lines texts.arena bits functions) ≡ None
 unfolding function_place
 function-none texts bits functions kind name indexed all none =
     position-map (λ (f : Function). f.name < length texts.arena) (function_line texts.arena bits) (is_function kind name) (λ f. false) functions
-        (λ f lt. ap (λ b. is_same_kind f.kind kind && b) (id-none texts name f.name indexed none lt) ∙ and-no (is_same_kind f.kind kind)) all
+    (λ f lt. ap (λ b. is_same_kind f.kind kind && b) (id-none texts name f.name indexed none lt) ∙ and-no (is_same_kind f.kind kind)) all
     ∙ position-no functions
 
 -- ---- the names of a net
@@ -192,9 +192,9 @@ names-absent texts net [] all = refl
 names-absent texts net (e ∷ entries) all =
     let apart : eqb e.0 net ≡ false = eqb-sym e.0 net ∙ all.0 in
     ap (names_of_net net) (map-append (name_line texts) (entry_names e) (flat_map entry_names entries))
-        ∙ names_of_net-append net (name_lines texts (entry_names e)) (name_lines texts (flat_map entry_names entries))
-        ∙ ap (λ ls. ls ++ names_of_net net (name_lines texts (flat_map entry_names entries))) (filter-no texts net e.0 e.1.items apart)
-        ∙ names-absent texts net entries all.1
+    ∙ names_of_net-append net (name_lines texts (entry_names e)) (name_lines texts (flat_map entry_names entries))
+    ∙ ap (λ ls. ls ++ names_of_net net (name_lines texts (flat_map entry_names entries))) (filter-no texts net e.0 e.1.items apart)
+    ∙ names-absent texts net entries all.1
 
 -- the names of a net are those of its entry
 pub names-found : (texts : List (List ℕ)) (net : ℕ) (entries : List (ℕ × Vec NetName Global)) → IsDistinct nat_eq (keys_of entries)
@@ -203,8 +203,8 @@ unfolding names_of_net IsDistinct
 names-found texts net [] distinct = refl
 names-found texts net (e ∷ entries) distinct =
     let split =
-        ap (names_of_net net) (map-append (name_line texts) (entry_names e) (flat_map entry_names entries))
-            ∙ names_of_net-append net (name_lines texts (entry_names e)) (name_lines texts (flat_map entry_names entries)) in
+    ap (names_of_net net) (map-append (name_line texts) (entry_names e) (flat_map entry_names entries))
+    ∙ names_of_net-append net (name_lines texts (entry_names e)) (name_lines texts (flat_map entry_names entries)) in
     elim (cases_eq net e.0) [
       | inl same ↦
           let here : eqb e.0 net ≡ true = eq-eqb e.0 net (sym same) in
@@ -212,21 +212,21 @@ names-found texts net (e ∷ entries) distinct =
           let others : AllByRecursion (λ other. nat_eq net other ≡ false) (keys_of entries) = rw same distinct.0 in
           let found : items_of (lookup (nat_eq net) (e ∷ entries)) ≡ e.1.items = rw key refl in
           split ∙ ap (λ ls. ls ++ names_of_net net (name_lines texts (flat_map entry_names entries))) (filter-one texts net e.0 e.1.items here)
-              ∙ ap (λ ls. name_lines texts (entry_names e) ++ ls) (names-absent texts net entries others)
-              ∙ append-nil (name_lines texts (entry_names e))
-              ∙ ap (λ n. name_lines texts (names_with n e.1.items)) (sym same) ∙ ap (λ ns. name_lines texts (names_with net ns)) (sym found)
+          ∙ ap (λ ls. name_lines texts (entry_names e) ++ ls) (names-absent texts net entries others)
+          ∙ append-nil (name_lines texts (entry_names e))
+          ∙ ap (λ n. name_lines texts (names_with n e.1.items)) (sym same) ∙ ap (λ ns. name_lines texts (names_with net ns)) (sym found)
       | inr other ↦
           let apart : eqb e.0 net ≡ false = ne_eqb e.0 net (λ s. other (sym s)) in
           let key : nat_eq net e.0 ≡ false = ne_eqb net e.0 other in
           let found : lookup (nat_eq net) (e ∷ entries) ≡ lookup (nat_eq net) entries = rw key refl in
           split ∙ ap (λ ls. ls ++ names_of_net net (name_lines texts (flat_map entry_names entries))) (filter-no texts net e.0 e.1.items apart)
-              ∙ names-found texts net entries distinct.1
-              ∙ ap (λ o. name_lines texts (names_with net (items_of o))) (sym found)
+          ∙ names-found texts net entries distinct.1
+          ∙ ap (λ o. name_lines texts (names_with net (items_of o))) (sym found)
     ]
 
 -- the names of a net, where all nets are earlier ones
 pub net-names-found : (texts : List (List ℕ)) (nets : Nets) (net : ℕ) → IsNetIndex nets → nets.last ≡ None → name_lines texts (names_with net (earlier_names nets net)) ≡ names_of_net net (name_lines texts (net_names nets))
 net-names-found texts nets net indexed closed =
     let all : net_names nets ≡ flat_map entry_names nets.earlier.entries =
-        ap (λ o. flat_map entry_names nets.earlier.entries ++ last_names o nets.names.items) closed ∙ append-nil (flat_map entry_names nets.earlier.entries) in
+    ap (λ o. flat_map entry_names nets.earlier.entries ++ last_names o nets.names.items) closed ∙ append-nil (flat_map entry_names nets.earlier.entries) in
     sym (ap (λ ns. names_of_net net (name_lines texts ns)) all ∙ names-found texts net nets.earlier.entries indexed.unique)

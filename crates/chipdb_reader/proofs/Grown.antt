@@ -58,27 +58,27 @@ head-grown bits more head is = let same = bits-grown bits more head.bits is in �
 pub names-grown : (texts more : List (List ℕ)) (names : List (NetName × ℕ)) → All (λ p. p.0.name < length texts) names → name_lines (texts ++ more) names ≡ name_lines texts names
 names-grown texts more names all =
     map-same (λ (p : NetName × ℕ). p.0.name < length texts) (name_line (texts ++ more)) (name_line texts) names
-        (λ p lt. let same = text-grown texts more p.0.name lt in λ i. record { net = p.1; x = p.0.x; y = p.0.y; name = same i }) all
+    (λ p lt. let same = text-grown texts more p.0.name lt in λ i. record { net = p.1; x = p.0.x; y = p.0.y; name = same i }) all
 
 pub extras-grown : (texts more : List (List ℕ)) (extras : List Extra) → All (λ e. e.name < length texts) extras → extra_lines (texts ++ more) extras ≡ extra_lines texts extras
 extras-grown texts more extras all =
     map-same (λ (e : Extra). e.name < length texts) (extra_line (texts ++ more)) (extra_line texts) extras
-        (λ e lt. let same = text-grown texts more e.name lt in λ i. record { name = same i; at = e.at }) all
+    (λ e lt. let same = text-grown texts more e.name lt in λ i. record { name = same i; at = e.at }) all
 
 pub functions-grown : (texts new_texts : List (List ℕ)) (bits new_bits : List RowCol) (functions : List Function) → All (λ f. f.name < length texts) functions → All (λ f. IsListOf (length bits) f.bits) functions
     → function_lines (texts ++ new_texts) (bits ++ new_bits) functions ≡ function_lines texts bits functions
 functions-grown texts new_texts bits new_bits functions ids lists =
     map-same (λ (f : Function). (f.name < length texts) × IsListOf (length bits) f.bits) (function_line (texts ++ new_texts) (bits ++ new_bits)) (function_line texts bits) functions
-        (λ f is.
-            let name = text-grown texts new_texts f.name is.0 in
-            let named = bits-grown bits new_bits f.bits is.1 in
-            λ i. record { kind = f.kind; name = name i; bits = named i })
-        (λ k d lt. (ids k d lt, lists k d lt))
+    (λ f is.
+    let name = text-grown texts new_texts f.name is.0 in
+    let named = bits-grown bits new_bits f.bits is.1 in
+    λ i. record { kind = f.kind; name = name i; bits = named i })
+    (λ k d lt. (ids k d lt, lists k d lt))
 
 pub links-grown : (bits more : List RowCol) (lines : List LinkLine) → All (λ l. IsListOf (length bits) l.bits) lines → link_lines (bits ++ more) lines ≡ link_lines bits lines
 links-grown bits more lines all =
     map-same (λ (l : LinkLine). IsListOf (length bits) l.bits) (link_line (bits ++ more)) (link_line bits) lines
-        (λ l is.
-            let named = bits-grown bits more l.bits is in
-            λ i. record { x = l.x; y = l.y; dst = l.dst; src = l.src; bits = named i; values = low_bits (length (named i)) l.values })
-        all
+    (λ l is.
+    let named = bits-grown bits more l.bits is in
+    λ i. record { x = l.x; y = l.y; dst = l.dst; src = l.src; bits = named i; values = low_bits (length (named i)) l.values })
+    all

@@ -132,7 +132,7 @@ pub in_range-grown : (old : Reader) (texts : Texts) (bits : Vec RowCol Global) (
 in_range-grown old texts bits more_texts more_bits texts_grown bits_grown range =
     let count : length texts.arena ≡ length old.texts.arena + length more_texts = ap length texts_grown ∙ length-append old.texts.arena more_texts in
     let listed : (list : BitList) → IsListOf (length old.bits.items) list → IsListOf (length bits.items) list =
-        λ list is. let longer = IsListOf-grown old.bits.items more_bits list is in rw bits_grown longer in
+    λ list is. let longer = IsListOf-grown old.bits.items more_bits list is in rw bits_grown longer in
     record {
       names = All-weaker (λ (p : NetName × ℕ). p.0.name < length old.texts.arena) (λ (p : NetName × ℕ). p.0.name < length texts.arena) (net_names old.nets) (λ p lt. omega arith) range.names;
       functions = All-weaker (λ (f : Function). f.name < length old.texts.arena) (λ (f : Function). f.name < length texts.arena) old.functions.items (λ f lt. omega arith) range.functions;
@@ -173,27 +173,27 @@ function-step old new lines n chip kind word words at pushed =
     let found = (text-found new.texts.arena pushed.name function.name pushed.interned.here).1 in
     let read : function_line new.texts.arena new.bits.items function ≡ line = λ i. record { kind = pushed.same i; name = found i; bits = bits_named new.bits.items function.bits } in
     let listed : function_lines new.texts.arena new.bits.items new.functions.items ≡ function_lines old.texts.arena old.bits.items old.functions.items ++ line ∷ [] =
-        ap (function_lines new.texts.arena new.bits.items) pushed.added
-            ∙ map-append (function_line new.texts.arena new.bits.items) old.functions.items (function ∷ [])
-            ∙ ap (λ fs. fs ++ function_line new.texts.arena new.bits.items function ∷ []) (functions-kept old new.texts new.bits.items pushed.interned.more pushed.grown.0 pushed.interned.grown pushed.grown.1 range)
-            ∙ ap (λ f. function_lines old.texts.arena old.bits.items old.functions.items ++ f ∷ []) read in
+    ap (function_lines new.texts.arena new.bits.items) pushed.added
+    ∙ map-append (function_line new.texts.arena new.bits.items) old.functions.items (function ∷ [])
+    ∙ ap (λ fs. fs ++ function_line new.texts.arena new.bits.items function ∷ []) (functions-kept old new.texts new.bits.items pushed.interned.more pushed.grown.0 pushed.interned.grown pushed.grown.1 range)
+    ∙ ap (λ f. function_lines old.texts.arena old.bits.items old.functions.items ++ f ∷ []) read in
     let ids : All (λ f. f.name < length new.texts.arena) new.functions.items =
-        rw pushed.added (All-push (λ (f : Function). f.name < length new.texts.arena) old.functions.items function after.functions counts.inside) in
+    rw pushed.added (All-push (λ (f : Function). f.name < length new.texts.arena) old.functions.items function after.functions counts.inside) in
     let lists : All (λ f. IsListOf (length new.bits.items) f.bits) new.functions.items =
-        rw pushed.added (All-push (λ (f : Function). IsListOf (length new.bits.items) f.bits) old.functions.items function after.function_bits pushed.within) in
+    rw pushed.added (All-push (λ (f : Function). IsListOf (length new.bits.items) f.bits) old.functions.items function after.function_bits pushed.within) in
     let count : length new.texts.arena ≤ length old.texts.arena + 1 = counts.few in
     let before : length old.texts.arena ≤ n = at.holds.few in
     subst (λ r. Holds r lines (n + 1)) (sym pushed.rest)
     (own-step old (record old { texts = new.texts; bits = new.bits; functions = new.functions }) lines n said at.own says at.holds
-        (record { texts = pushed.interned.indexed; nets = at.holds.ready.nets; buffers = at.holds.ready.buffers; below = rw under tt })
-        (record { names = after.names; functions = ids; function_bits = lists; extras = after.extras; buffers = after.buffers; routings = after.routings })
-        (rw under tt) refl (rw under refl) (λ net. refl)
-        (names-kept old new.texts pushed.interned.more pushed.interned.grown range ∙ same _)
-        (links-kept old.bits.items new.bits.items pushed.grown.0 old.buffers.lines.items pushed.grown.1 range.buffers ∙ kept-list _ _ (buffers_at-nothing lines n none))
-        (links-kept old.bits.items new.bits.items pushed.grown.0 old.routings.items pushed.grown.1 range.routings ∙ kept-list _ _ (routings_at-nothing lines n none))
-        listed
-        (extras-kept old new.texts pushed.interned.more pushed.interned.grown range ∙ same _)
-        (same _) (same _) (omega arith))
+    (record { texts = pushed.interned.indexed; nets = at.holds.ready.nets; buffers = at.holds.ready.buffers; below = rw under tt })
+    (record { names = after.names; functions = ids; function_bits = lists; extras = after.extras; buffers = after.buffers; routings = after.routings })
+    (rw under tt) refl (rw under refl) (λ net. refl)
+    (names-kept old new.texts pushed.interned.more pushed.interned.grown range ∙ same _)
+    (links-kept old.bits.items new.bits.items pushed.grown.0 old.buffers.lines.items pushed.grown.1 range.buffers ∙ kept-list _ _ (buffers_at-nothing lines n none))
+    (links-kept old.bits.items new.bits.items pushed.grown.0 old.routings.items pushed.grown.1 range.routings ∙ kept-list _ _ (routings_at-nothing lines n none))
+    listed
+    (extras-kept old new.texts pushed.interned.more pushed.interned.grown range ∙ same _)
+    (same _) (same _) (omega arith))
 
 -- a line of extra bits
 pub extra-step : (old new : Reader) (lines : List (List ℕ)) (n : ℕ) (chip : Chip) (word : List ℕ) (words : List (List ℕ)) → At old lines n chip ExtraBits word words
@@ -211,20 +211,20 @@ extra-step old new lines n chip word words at pushed =
     let found = (text-found new.texts.arena pushed.name extra.name pushed.interned.here).1 in
     let read : extra_line new.texts.arena extra ≡ line = λ i. record { name = found i; at = extra.at } in
     let listed : extra_lines new.texts.arena new.extras.items ≡ extra_lines old.texts.arena old.extras.items ++ line ∷ [] =
-        ap (extra_lines new.texts.arena) pushed.added
-            ∙ map-append (extra_line new.texts.arena) old.extras.items (extra ∷ [])
-            ∙ ap (λ es. es ++ extra_line new.texts.arena extra ∷ []) (extras-kept old new.texts pushed.interned.more pushed.interned.grown range)
-            ∙ ap (λ e. extra_lines old.texts.arena old.extras.items ++ e ∷ []) read in
+    ap (extra_lines new.texts.arena) pushed.added
+    ∙ map-append (extra_line new.texts.arena) old.extras.items (extra ∷ [])
+    ∙ ap (λ es. es ++ extra_line new.texts.arena extra ∷ []) (extras-kept old new.texts pushed.interned.more pushed.interned.grown range)
+    ∙ ap (λ e. extra_lines old.texts.arena old.extras.items ++ e ∷ []) read in
     let ids : All (λ e. e.name < length new.texts.arena) new.extras.items =
-        rw pushed.added (All-push (λ (e : Extra). e.name < length new.texts.arena) old.extras.items extra after.extras counts.inside) in
+    rw pushed.added (All-push (λ (e : Extra). e.name < length new.texts.arena) old.extras.items extra after.extras counts.inside) in
     let count : length new.texts.arena ≤ length old.texts.arena + 1 = counts.few in
     let before : length old.texts.arena ≤ n = at.holds.few in
     subst (λ r. Holds r lines (n + 1)) (sym pushed.rest)
     (own-step old (record old { texts = new.texts; extras = new.extras }) lines n said at.own says at.holds
-        (record { texts = pushed.interned.indexed; nets = at.holds.ready.nets; buffers = at.holds.ready.buffers; below = rw under tt })
-        (record { names = after.names; functions = after.functions; function_bits = after.function_bits; extras = ids; buffers = after.buffers; routings = after.routings })
-        (rw under tt) refl refl (λ net. refl)
-        (names-kept old new.texts pushed.interned.more pushed.interned.grown range ∙ same _)
-        (kept-list _ _ (buffers_at-nothing lines n none)) (kept-list _ _ (routings_at-nothing lines n none))
-        (functions-kept old new.texts old.bits.items pushed.interned.more [] pushed.interned.grown (same old.bits.items) range ∙ same _)
-        listed (same _) (same _) (omega arith))
+    (record { texts = pushed.interned.indexed; nets = at.holds.ready.nets; buffers = at.holds.ready.buffers; below = rw under tt })
+    (record { names = after.names; functions = after.functions; function_bits = after.function_bits; extras = ids; buffers = after.buffers; routings = after.routings })
+    (rw under tt) refl refl (λ net. refl)
+    (names-kept old new.texts pushed.interned.more pushed.interned.grown range ∙ same _)
+    (kept-list _ _ (buffers_at-nothing lines n none)) (kept-list _ _ (routings_at-nothing lines n none))
+    (functions-kept old new.texts old.bits.items pushed.interned.more [] pushed.interned.grown (same old.bits.items) range ∙ same _)
+    listed (same _) (same _) (omega arith))

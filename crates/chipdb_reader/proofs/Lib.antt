@@ -16,3 +16,5 @@ pub mod StatementSteps
 pub mod LineSteps
 pub mod Ends
 pub mod Found
+pub mod FitLines
+pub mod FitPlaces

@@ -101,7 +101,7 @@ taken-item old new lines n chip (Names net) word words at taken = record {
   holds = name-step old new lines n chip net word words at taken;
   sound =
       name-cause old new.texts lines n chip net taken.x taken.y taken.text taken.id word words at taken.says taken.interned
-          ∙ ap (λ (o : Option ℕ). cause_if (is_some o) NameTwice) taken.added.absent;
+      ∙ ap (λ (o : Option ℕ). cause_if (is_some o) NameTwice) taken.added.absent;
 }
 taken-item old new lines n chip (Buffers head) word words at taken =
     let is = list-of old (Buffers head) at.holds.ready at.under in
@@ -141,13 +141,13 @@ name-refused : (old : Reader) (lines : List (List ℕ)) (n : ℕ) (chip : Chip) 
 name-refused old lines n chip net word words cause at (name_own told) = cause-at old lines n chip (Names net) word words at ∙ ap (name_cause lines n) told
 name-refused old lines n chip net word words cause at (name_twice named is) =
     name-cause old named.texts lines n chip net named.x named.y named.text named.id word words at named.says named.interned
-        ∙ ap (λ b. cause_if b NameTwice) named.named ∙ ap (λ c. Some c) (sym is)
+    ∙ ap (λ b. cause_if b NameTwice) named.named ∙ ap (λ c. Some c) (sym is)
 
 buffer-refused : (old : Reader) (lines : List (List ℕ)) (n : ℕ) (chip : Chip) (head : KeptHead) (word : List ℕ) (words : List (List ℕ)) (cause : DbCause) → At old lines n chip (Buffers head) word words → IsListOf (length old.bits.items) head.bits
     → BufferRefusal chip.nets head (word ∷ words) old cause → cause_at lines n ≡ Some cause
 buffer-refused old lines n chip head word words cause at is (buffer_own told) =
     cause-at old lines n chip (Buffers head) word words at
-        ∙ ap (λ count. choice_cause lines n (choice_of chip.nets count (word ∷ words))) (length-bits_named old.bits.items head.bits is) ∙ ap (choice_cause lines n) told
+    ∙ ap (λ count. choice_cause lines n (choice_of chip.nets count (word ∷ words))) (length-bits_named old.bits.items head.bits is) ∙ ap (choice_cause lines n) told
 buffer-refused old lines n chip head word words cause at is (buffer_twice chosen) =
     buffer-cause_is old lines n chip head word words chosen.choice at is chosen.chosen ∙ chosen.twice
 
@@ -164,7 +164,7 @@ refused-item old lines n chip (Buffers head) word words cause at told =
     buffer-refused old lines n chip head word words cause at (list-of old (Buffers head) at.holds.ready at.under) told
 refused-item old lines n chip (Routings head) word words cause at told =
     cause-at old lines n chip (Routings head) word words at
-        ∙ ap (λ count. result_err (choice_of chip.nets count (word ∷ words))) (length-bits_named old.bits.items head.bits (list-of old (Routings head) at.holds.ready at.under)) ∙ told
+    ∙ ap (λ count. result_err (choice_of chip.nets count (word ∷ words))) (length-bits_named old.bits.items head.bits (list-of old (Routings head) at.holds.ready at.under)) ∙ told
 
 refused-words : (old : Reader) (lines : List (List ℕ)) (n : ℕ) (chip : Option Chip) (words : List (List ℕ)) (cause : DbCause) → n < length lines → is_statement (line_at lines n) ≡ false → Holds old lines n → old.chip ≡ chip → own_words_at lines n ≡ words
     → RefusesWords old chip words cause → cause_at lines n ≡ Some cause

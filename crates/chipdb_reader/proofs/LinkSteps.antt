@@ -131,13 +131,13 @@ routing-step old lines_kept lines n chip head word words at is pushed =
     let over = block-at old lines n chip (Routings head) word words at in
     let none : buffers_at lines n ≡ [] = ap (λ b. buffers_in b (new_choices lines n (said_at lines n).choices)) over in
     let link : routings_at lines n ≡ link_line old.bits.items (link_with head choice) ∷ [] =
-        (λ i. routings_in (over i) (says i).choices) ∙ ap (λ l. l ∷ []) (link-read old.bits.items head choice is) in
+    (λ i. routings_in (over i) (says i).choices) ∙ ap (λ l. l ∷ []) (link-read old.bits.items head choice is) in
     let under = at.under in
     let added : link_lines old.bits.items lines_kept.items ≡ link_lines old.bits.items old.routings.items ++ routings_at lines n =
-        ap (link_lines old.bits.items) pushed.added ∙ map-append (link_line old.bits.items) old.routings.items (link_with head choice ∷ []) ∙ ap (λ ls. link_lines old.bits.items old.routings.items ++ ls) (sym link) in
+    ap (link_lines old.bits.items) pushed.added ∙ map-append (link_line old.bits.items) old.routings.items (link_with head choice ∷ []) ∙ ap (λ ls. link_lines old.bits.items old.routings.items ++ ls) (sym link) in
     let range = at.holds.in_range in
     let lists : All (λ l. IsListOf (length old.bits.items) l.bits) lines_kept.items =
-        rw pushed.added (All-push (λ (l : LinkLine). IsListOf (length old.bits.items) l.bits) old.routings.items (link_with head choice) range.routings is) in
+    rw pushed.added (All-push (λ (l : LinkLine). IsListOf (length old.bits.items) l.bits) old.routings.items (link_with head choice) range.routings is) in
     own-step old (record old { routings = lines_kept }) lines n said at.own says at.holds
     (record { texts = at.holds.ready.texts; nets = at.holds.ready.nets; buffers = at.holds.ready.buffers; below = at.holds.ready.below })
     (record { names = range.names; functions = range.functions; function_bits = range.function_bits; extras = range.extras; buffers = range.buffers; routings = lists })
@@ -181,9 +181,9 @@ fails-unchosen : (reader : Reader) (head : KeptHead) (choice : Choice) (l : Link
     → has_same_values (choice_named head.bits.count choice) (kept_choice head.bits.count l) ≡ false
 fails-unchosen reader head choice l small none is =
     same-by_number reader head choice l small is ∙ ne_eqb choice.values l.values (λ same.
-        let some : chosen_src reader.buffers choice.values ≡ Some l.src = ap (chosen_src reader.buffers) same ∙ is.chosen in
-        let both : None ≡ Some l.src = sym none ∙ some in
-        cc)
+    let some : chosen_src reader.buffers choice.values ≡ Some l.src = ap (chosen_src reader.buffers) same ∙ is.chosen in
+    let both : None ≡ Some l.src = sym none ∙ some in
+    cc)
 
 -- a line with the values of a choice has the net that they choose
 src-is : (reader : Reader) (head : KeptHead) (values src : ℕ) (l : LinkLine) → chosen_src reader.buffers values ≡ Some src → IsLastLine reader head l → values ≡ l.values → l.src ≡ src
@@ -222,9 +222,9 @@ judged reader lines n head choice (Some src) holds small chosen looked =
           record {
             equal = holds.seen _ ∙ found-passes reader head (is_same_choice lc) choice.values src (last_lines reader)
                 (λ l is here at.
-                    let same_values = same-by_number reader head choice l small is ∙ here in
-                    let same_net : eqb choice.src l.src ≡ true = eq-eqb choice.src l.src (sym same_src ∙ sym at) in
-                    rw (same_values, same_net) refl)
+                let same_values = same-by_number reader head choice l small is ∙ here in
+                let same_net : eqb choice.src l.src ≡ true = eq-eqb choice.src l.src (sym same_src ∙ sym at) in
+                rw (same_values, same_net) refl)
                 holds.own looked ∙ sym yes;
             other = holds.seen _ ∙ none-passes reader head (is_other_choice lc) (last_lines reader)
                 (λ l is. elim (cases_eq choice.values l.values) [
@@ -254,9 +254,9 @@ judged reader lines n head choice (Some src) holds small chosen looked =
                 holds.own ∙ sym no_;
             other = holds.seen _ ∙ found-passes reader head (is_other_choice lc) choice.values src (last_lines reader)
                 (λ l is here at.
-                    let same_values = same-by_number reader head choice l small is ∙ here in
-                    let apart_net : eqb choice.src l.src ≡ false = ne_eqb choice.src l.src (λ e. other_src (sym at ∙ sym e)) in
-                    rw (same_values, apart_net) refl)
+                let same_values = same-by_number reader head choice l small is ∙ here in
+                let apart_net : eqb choice.src l.src ≡ false = ne_eqb choice.src l.src (λ e. other_src (sym at ∙ sym e)) in
+                rw (same_values, apart_net) refl)
                 holds.own looked ∙ sym (ap not no_);
           }
     ]
@@ -298,8 +298,8 @@ pub buffer-cause_is : (old : Reader) (lines : List (List ℕ)) (n : ℕ) (chip :
     → IsListOf (length old.bits.items) head.bits → Chooses chip.nets head (word ∷ words) choice → cause_at lines n ≡ buffer_cause old.buffers (link_with head choice)
 buffer-cause_is old lines n chip head word words choice at is chosen =
     buffer-cause old lines n chip head word words choice at is chosen
-        ∙ ap (λ b. cause_if b ValuesTwice) (buffer-judged old lines n chip head word words choice at chosen.small).other
-        ∙ cause_of_apart (chosen_src old.buffers choice.values) choice.src
+    ∙ ap (λ b. cause_if b ValuesTwice) (buffer-judged old lines n chip head word words choice at chosen.small).other
+    ∙ cause_of_apart (chosen_src old.buffers choice.values) choice.src
 
 -- a line that the index takes is a new one or an equal one
 is_equal-fits : (found src : ℕ) → choice_cause_of (Some found) src ≡ None → eqb found src ≡ true
@@ -328,21 +328,21 @@ grows-new old new lines n chip head word words choice at is chosen added none =
     let equal : is_chosen_before lines n (is_same_choice lc) ≡ false = (buffer-judged old lines n chip head word words choice at chosen.small).equal ∙ ap (λ o. is_equal o choice.src) none in
     let new_one : new_choices lines n (lc ∷ []) ≡ lc ∷ [] = rw equal refl in
     let link : buffers_at lines n ≡ link_line old.bits.items line ∷ [] =
-        (λ i. buffers_in (over i) (new_choices lines n (says i).choices)) ∙ ap (map (link_of (head_named old.bits.items head))) new_one ∙ ap (λ l. l ∷ []) (link-read old.bits.items head choice is) in
+    (λ i. buffers_in (over i) (new_choices lines n (says i).choices)) ∙ ap (map (link_of (head_named old.bits.items head))) new_one ∙ ap (λ l. l ∷ []) (link-read old.bits.items head choice is) in
     let pushed : new.buffers.lines.items ≡ old.buffers.lines.items ++ line ∷ [] = added.lines ∙ ap (λ o. with_line o old.buffers.lines.items line) none in
     let last : last_lines new ≡ last_lines old ++ line ∷ [] =
-        (λ i. drop (added.start i) (pushed i)) ∙ drop-append-le old.buffers.start old.buffers.lines.items (line ∷ []) at.holds.ready.buffers.within in
+    (λ i. drop (added.start i) (pushed i)) ∙ drop-append-le old.buffers.start old.buffers.lines.items (line ∷ []) at.holds.ready.buffers.within in
     let range = at.holds.in_range in
     let found : (values : ℕ) → chosen_src new.buffers values ≡ or_else (chosen_src old.buffers values) (cond (eqb values choice.values) (Some choice.src) None) =
-        λ values. added.indexed.found values ∙ ap (λ ls. lookup (nat_eq values) (choices_of ls)) last
-            ∙ ap (lookup (nat_eq values)) (map-append (λ (l : LinkLine). (l.values, l.src)) (last_lines old) (line ∷ []))
-            ∙ lookup-push (nat_eq values) (choices_of (last_lines old)) (choice.values, choice.src)
-            ∙ ap (λ o. or_else o (cond (eqb values choice.values) (Some choice.src) None)) (sym (at.holds.ready.buffers.found values)) in
+    λ values. added.indexed.found values ∙ ap (λ ls. lookup (nat_eq values) (choices_of ls)) last
+    ∙ ap (lookup (nat_eq values)) (map-append (λ (l : LinkLine). (l.values, l.src)) (last_lines old) (line ∷ []))
+    ∙ lookup-push (nat_eq values) (choices_of (last_lines old)) (choice.values, choice.src)
+    ∙ ap (λ o. or_else o (cond (eqb values choice.values) (Some choice.src) None)) (sym (at.holds.ready.buffers.found values)) in
     let older : (l : LinkLine) → IsLastLine old head l → IsLastLine new head l =
-        λ l before. record { bits = before.bits; small = before.small; chosen = found l.values ∙ ap (λ o. or_else o (cond (eqb l.values choice.values) (Some choice.src) None)) before.chosen } in
+    λ l before. record { bits = before.bits; small = before.small; chosen = found l.values ∙ ap (λ o. or_else o (cond (eqb l.values choice.values) (Some choice.src) None)) before.chosen } in
     let newest : IsLastLine new head line =
-        let here : eqb choice.values choice.values ≡ true = eq-eqb choice.values choice.values refl in
-        record { bits = refl; small = chosen.small; chosen = found choice.values ∙ rw (none, here) refl } in
+    let here : eqb choice.values choice.values ≡ true = eq-eqb choice.values choice.values refl in
+    record { bits = refl; small = chosen.small; chosen = found choice.values ∙ rw (none, here) refl } in
     record {
       links = ap (link_lines old.bits.items) pushed ∙ map-append (link_line old.bits.items) old.buffers.lines.items (line ∷ []) ∙ ap (λ ls. link_lines old.bits.items old.buffers.lines.items ++ ls) (sym link);
       lists = rw pushed (All-push (λ (l : LinkLine). IsListOf (length old.bits.items) l.bits) old.buffers.lines.items line range.buffers is);
@@ -350,9 +350,9 @@ grows-new old new lines n chip head word words choice at is chosen added none =
         own = rw last (All-push (IsLastLine new head) (last_lines old) line (All-weaker (IsLastLine old head) (IsLastLine new head) (last_lines old) older holds.own) newest);
         seen = λ test.
             chosen-own lines n test at.own ∙ (λ i. holds.seen test i || list_any test (says i).choices)
-                ∙ sym (list_any-append test (map (kept_choice head.bits.count) (last_lines old)) (lc ∷ []))
-                ∙ ap (list_any test) (sym (map-append (kept_choice head.bits.count) (last_lines old) (line ∷ [])))
-                ∙ ap (λ ls. list_any test (map (kept_choice head.bits.count) ls)) (sym last);
+            ∙ sym (list_any-append test (map (kept_choice head.bits.count) (last_lines old)) (lc ∷ []))
+            ∙ ap (list_any test) (sym (map-append (kept_choice head.bits.count) (last_lines old) (line ∷ [])))
+            ∙ ap (λ ls. list_any test (map (kept_choice head.bits.count) ls)) (sym last);
       };
     }
 
@@ -373,23 +373,23 @@ grows-equal old new lines n chip head word words choice src at is chosen added s
     let last : last_lines new ≡ last_lines old = λ i. drop (added.start i) (kept i) in
     let range = at.holds.in_range in
     let found : (values : ℕ) → chosen_src new.buffers values ≡ chosen_src old.buffers values =
-        λ values. added.indexed.found values ∙ ap (λ ls. lookup (nat_eq values) (choices_of ls)) last ∙ sym (at.holds.ready.buffers.found values) in
+    λ values. added.indexed.found values ∙ ap (λ ls. lookup (nat_eq values) (choices_of ls)) last ∙ sym (at.holds.ready.buffers.found values) in
     let older : (l : LinkLine) → IsLastLine old head l → IsLastLine new head l =
-        λ l before. record { bits = before.bits; small = before.small; chosen = found l.values ∙ before.chosen } in
+    λ l before. record { bits = before.bits; small = before.small; chosen = found l.values ∙ before.chosen } in
     let looked : lookup (nat_eq choice.values) (choices_of (last_lines old)) ≡ Some src = sym (at.holds.ready.buffers.found choice.values) ∙ some in
     let again : (test : LinkChoice → Bool) → (list_any test (map (kept_choice head.bits.count) (last_lines old)) || (test lc || false)) ≡ list_any test (map (kept_choice head.bits.count) (last_lines old)) =
-        λ test. elim (cases_Bool (test lc)) [
-          | inl held ↦
-              let there = found-passes old head test choice.values src (last_lines old)
-                  (λ l before here at_src.
-                      let values : l.values ≡ choice.values = sym (eqb-true choice.values l.values here) in
-                      let net : l.src ≡ choice.src = at_src ∙ eqb-true src choice.src same_src in
-                      let one : kept_choice head.bits.count l ≡ lc = λ i. record { values = low_bits head.bits.count (values i); src = net i } in
-                      ap test one ∙ held)
-                  holds.own looked in
-              ap (λ b. b || (test lc || false)) there ∙ sym there
-          | inr not_yet ↦ ap (λ b. list_any test (map (kept_choice head.bits.count) (last_lines old)) || (b || false)) not_yet ∙ or-false _
-        ] in
+    λ test. elim (cases_Bool (test lc)) [
+      | inl held ↦
+          let there = found-passes old head test choice.values src (last_lines old)
+          (λ l before here at_src.
+          let values : l.values ≡ choice.values = sym (eqb-true choice.values l.values here) in
+          let net : l.src ≡ choice.src = at_src ∙ eqb-true src choice.src same_src in
+          let one : kept_choice head.bits.count l ≡ lc = λ i. record { values = low_bits head.bits.count (values i); src = net i } in
+          ap test one ∙ held)
+          holds.own looked in
+          ap (λ b. b || (test lc || false)) there ∙ sym there
+      | inr not_yet ↦ ap (λ b. list_any test (map (kept_choice head.bits.count) (last_lines old)) || (b || false)) not_yet ∙ or-false _
+    ] in
     record {
       links = ap (link_lines old.bits.items) kept ∙ kept-list (link_lines old.bits.items old.buffers.lines.items) (buffers_at lines n) link;
       lists = rw kept range.buffers;
@@ -397,7 +397,7 @@ grows-equal old new lines n chip head word words choice src at is chosen added s
         own = rw last (All-weaker (IsLastLine old head) (IsLastLine new head) (last_lines old) older holds.own);
         seen = λ test.
             chosen-own lines n test at.own ∙ (λ i. holds.seen test i || list_any test (says i).choices) ∙ again test
-                ∙ ap (λ ls. list_any test (map (kept_choice head.bits.count) ls)) (sym last);
+            ∙ ap (λ ls. list_any test (map (kept_choice head.bits.count) ls)) (sym last);
       };
     }
 
@@ -423,11 +423,11 @@ buffer-step old new lines n chip head word words at is pushed =
     let range = at.holds.in_range in
     let under = at.under in
     let last : ChoicesHold (record old { buffers = new.buffers }) lines (n + 1) (Buffers head) =
-        record { own = λ k d lt. let o = grown.last.own k d lt in record { bits = o.bits; small = o.small; chosen = o.chosen }; seen = grown.last.seen } in
+    record { own = λ k d lt. let o = grown.last.own k d lt in record { bits = o.bits; small = o.small; chosen = o.chosen }; seen = grown.last.seen } in
     subst (λ r. Holds r lines (n + 1)) (sym pushed.rest)
     (own-step old (record old { buffers = new.buffers }) lines n (record nothing { choices = choice_named head.bits.count choice ∷ [] }) at.own says at.holds
-        (record { texts = at.holds.ready.texts; nets = at.holds.ready.nets; buffers = pushed.added.indexed; below = at.holds.ready.below })
-        (record { names = range.names; functions = range.functions; function_bits = range.function_bits; extras = range.extras; buffers = grown.lists; routings = range.routings })
-        (subst (ChoicesHold (record old { buffers = new.buffers }) lines (n + 1)) (sym under) last)
-        refl refl (λ net. refl) (same _) grown.links (kept-list _ _ none) (same _) (same _) (same _) (same _)
-        (few-more n _ at.holds.few))
+    (record { texts = at.holds.ready.texts; nets = at.holds.ready.nets; buffers = pushed.added.indexed; below = at.holds.ready.below })
+    (record { names = range.names; functions = range.functions; function_bits = range.function_bits; extras = range.extras; buffers = grown.lists; routings = range.routings })
+    (subst (ChoicesHold (record old { buffers = new.buffers }) lines (n + 1)) (sym under) last)
+    refl refl (λ net. refl) (same _) grown.links (kept-list _ _ none) (same _) (same _) (same _) (same _)
+    (few-more n _ at.holds.few))

@@ -101,10 +101,10 @@ named-before old texts lines n net x y text id holds interned =
     let line : NameLine = record { net = net; x = x; y = y; name = text } in
     let name : NetName = record { x = x; y = y; name = id } in
     any_below-gathered n (is_same_name line) (λ k. (said_at lines k).names)
-        ∙ ap (list_any (is_same_name line)) (sym holds.names)
-        ∙ any-tie old.texts texts net x y text id (net_names old.nets) interned holds.in_range.names
-        ∙ any-lookup (is_name name) (net_names old.nets)
-        ∙ ap (λ (o : Option ℕ). is_some o) (sym (holds.ready.nets.found name))
+    ∙ ap (list_any (is_same_name line)) (sym holds.names)
+    ∙ any-tie old.texts texts net x y text id (net_names old.nets) interned holds.in_range.names
+    ∙ any-lookup (is_name name) (net_names old.nets)
+    ∙ ap (λ (o : Option ℕ). is_some o) (sym (holds.ready.nets.found name))
 
 -- what is wrong with a line that gives a name
 pub name-cause : (old : Reader) (texts : Texts) (lines : List (List ℕ)) (n : ℕ) (chip : Chip) (net x y : ℕ) (text : List ℕ) (id : ℕ) (word : List ℕ) (words : List (List ℕ)) → At old lines n chip (Names net) word words
@@ -112,7 +112,7 @@ pub name-cause : (old : Reader) (texts : Texts) (lines : List (List ℕ)) (n : �
     → cause_at lines n ≡ cause_if (is_some (named_net old.nets (record { x = x; y = y; name = id }))) NameTwice
 name-cause old texts lines n chip net x y text id word words at says interned =
     cause-at old lines n chip (Names net) word words at ∙ ap (name_cause lines n) says
-        ∙ ap (λ b. cause_if b NameTwice) (named-before old texts lines n net x y text id at.holds interned)
+    ∙ ap (λ b. cause_if b NameTwice) (named-before old texts lines n net x y text id at.holds interned)
 
 -- ---- one name more
 
@@ -135,21 +135,21 @@ name-step old new lines n chip net word words at pushed =
     let found = (text-found new.texts.arena pushed.text pushed.id pushed.interned.here).1 in
     let read : name_line new.texts.arena (name, net) ≡ line = λ i. record { net = net; x = pushed.x; y = pushed.y; name = found i } in
     let listed : name_lines new.texts.arena (net_names new.nets) ≡ name_lines old.texts.arena (net_names old.nets) ++ line ∷ [] =
-        ap (name_lines new.texts.arena) pushed.added.names
-            ∙ map-append (name_line new.texts.arena) (net_names old.nets) ((name, net) ∷ [])
-            ∙ ap (λ ls. ls ++ name_line new.texts.arena (name, net) ∷ []) (names-kept old new.texts pushed.interned.more pushed.interned.grown range)
-            ∙ ap (λ l. name_lines old.texts.arena (net_names old.nets) ++ l ∷ []) read in
+    ap (name_lines new.texts.arena) pushed.added.names
+    ∙ map-append (name_line new.texts.arena) (net_names old.nets) ((name, net) ∷ [])
+    ∙ ap (λ ls. ls ++ name_line new.texts.arena (name, net) ∷ []) (names-kept old new.texts pushed.interned.more pushed.interned.grown range)
+    ∙ ap (λ l. name_lines old.texts.arena (net_names old.nets) ++ l ∷ []) read in
     let ids : All (λ p. p.0.name < length new.texts.arena) (net_names new.nets) =
-        rw pushed.added.names (All-push (λ (p : NetName × ℕ). p.0.name < length new.texts.arena) (net_names old.nets) (name, net) after.names counts.inside) in
+    rw pushed.added.names (All-push (λ (p : NetName × ℕ). p.0.name < length new.texts.arena) (net_names old.nets) (name, net) after.names counts.inside) in
     let count : length new.texts.arena ≤ length old.texts.arena + 1 = counts.few in
     let before : length old.texts.arena ≤ n = at.holds.few in
     subst (λ r. Holds r lines (n + 1)) (sym pushed.rest)
     (own-step old (record old { texts = new.texts; nets = new.nets }) lines n said at.own says at.holds
-        (record { texts = pushed.interned.indexed; nets = pushed.added.indexed; buffers = at.holds.ready.buffers; below = rw under pushed.added.last })
-        (record { names = ids; functions = after.functions; function_bits = after.function_bits; extras = after.extras; buffers = after.buffers; routings = after.routings })
-        (rw under tt) refl refl pushed.added.nets
-        listed
-        (kept-list _ _ (buffers_at-nothing lines n none)) (kept-list _ _ (routings_at-nothing lines n none))
-        (functions-kept old new.texts old.bits.items pushed.interned.more [] pushed.interned.grown (same old.bits.items) range ∙ same _)
-        (extras-kept old new.texts pushed.interned.more pushed.interned.grown range ∙ same _)
-        (same _) (same _) (omega arith))
+    (record { texts = pushed.interned.indexed; nets = pushed.added.indexed; buffers = at.holds.ready.buffers; below = rw under pushed.added.last })
+    (record { names = ids; functions = after.functions; function_bits = after.function_bits; extras = after.extras; buffers = after.buffers; routings = after.routings })
+    (rw under tt) refl refl pushed.added.nets
+    listed
+    (kept-list _ _ (buffers_at-nothing lines n none)) (kept-list _ _ (routings_at-nothing lines n none))
+    (functions-kept old new.texts old.bits.items pushed.interned.more [] pushed.interned.grown (same old.bits.items) range ∙ same _)
+    (extras-kept old new.texts pushed.interned.more pushed.interned.grown range ∙ same _)
+    (same _) (same _) (omega arith))

@@ -28,7 +28,7 @@ begun-names : (old new : Nets) (net : ℕ) → IsNetIndex old → old.last ≡ N
 begun-names old new net indexed none earlier last names =
     let empty : old.names.items ≡ [] = indexed.idle none in
     let left : net_names new ≡ earlier_of old ++ [] =
-        (λ i. flat_map entry_names (earlier i).entries ++ last_names (last i) (names i).items) ∙ ap (λ ns. earlier_of old ++ names_with net ns) empty in
+    (λ i. flat_map entry_names (earlier i).entries ++ last_names (last i) (names i).items) ∙ ap (λ ns. earlier_of old ++ names_with net ns) empty in
     let right : net_names old ≡ earlier_of old ++ [] = ap (λ o. earlier_of old ++ last_names o old.names.items) none in
     left ∙ sym right
 
@@ -53,9 +53,9 @@ begins-net old closed new net closes absent is =
       names = names ∙ closes.names;
       nets = λ other.
           let before : has_net closed other ≡ is_some (index_get nat_eq closed.earlier other) =
-              ap (λ o. is_some (index_get nat_eq closed.earlier other) || is_net other o) closes.last ∙ or-false (is_some (index_get nat_eq closed.earlier other)) in
+          ap (λ o. is_some (index_get nat_eq closed.earlier other) || is_net other o) closes.last ∙ or-false (is_some (index_get nat_eq closed.earlier other)) in
           let after : has_net new other ≡ (is_some (index_get nat_eq closed.earlier other) || eqb net other) =
-              λ i. is_some (index_get nat_eq (earlier i) other) || is_net other (last i) in
+          λ i. is_some (index_get nat_eq (earlier i) other) || is_net other (last i) in
           after ∙ ap (λ b. b || eqb net other) (sym before ∙ closes.nets other);
     }
 
@@ -82,9 +82,9 @@ closes-net old new net names indexed last taken entries updates unique none empt
     let pushed : new.earlier.entries ≡ old.earlier.entries ++ (net, names) ∷ [] = entries ∙ insert_entry-new nat_eq old.earlier net names absent in
     let flat : earlier_of new ≡ earlier_of old ++ (names_with net names.items ++ []) = ap (flat_map entry_names) pushed ∙ flat_map-append entry_names old.earlier.entries ((net, names) ∷ []) in
     let left : net_names new ≡ earlier_of old ++ names_with net names.items =
-        (λ i. flat i ++ last_names (none i) new.names.items) ∙ append-nil (earlier_of old ++ (names_with net names.items ++ [])) ∙ ap (λ ns. earlier_of old ++ ns) (append-nil (names_with net names.items)) in
+    (λ i. flat i ++ last_names (none i) new.names.items) ∙ append-nil (earlier_of old ++ (names_with net names.items ++ [])) ∙ ap (λ ns. earlier_of old ++ ns) (append-nil (names_with net names.items)) in
     let right : net_names old ≡ earlier_of old ++ names_with net names.items =
-        ap (λ o. earlier_of old ++ last_names o old.names.items) last ∙ ap (λ (v : Vec NetName Global). earlier_of old ++ names_with net v.items) (sym taken) in
+    ap (λ o. earlier_of old ++ last_names o old.names.items) last ∙ ap (λ (v : Vec NetName Global). earlier_of old ++ names_with net v.items) (sym taken) in
     let same : net_names new ≡ net_names old = left ∙ sym right in
     record {
       indexed = record {
@@ -97,7 +97,7 @@ closes-net old new net names indexed last taken entries updates unique none empt
       names = same;
       nets = λ other.
           let after : has_net new other ≡ (is_some (cond (eqb net other) (Some names) (index_get nat_eq old.earlier other)) || false) =
-              λ i. is_some (updates.0 other i) || is_net other (none i) in
+          λ i. is_some (updates.0 other i) || is_net other (none i) in
           let before : has_net old other ≡ (is_some (index_get nat_eq old.earlier other) || eqb net other) = ap (λ o. is_some (index_get nat_eq old.earlier other) || is_net other o) last in
           after ∙ has-by (eqb net other) names (index_get nat_eq old.earlier other) ∙ sym before;
     }
@@ -110,9 +110,9 @@ adds-name old new net name indexed last absent updates pushed earlier kept =
     let last_is : new.last ≡ Some net = kept ∙ last in
     let before : net_names old ≡ earlier_of old ++ last_names (Some net) old.names.items = ap (λ o. earlier_of old ++ last_names o old.names.items) last in
     let after : net_names new ≡ earlier_of old ++ last_names (Some net) (old.names.items ++ name ∷ []) =
-        λ i. flat_map entry_names (earlier i).entries ++ last_names (last_is i) (pushed i) in
+    λ i. flat_map entry_names (earlier i).entries ++ last_names (last_is i) (pushed i) in
     let names : net_names new ≡ net_names old ++ (name, net) ∷ [] =
-        after ∙ last_names-push (earlier_of old) net old.names.items name ∙ ap (λ ns. ns ++ (name, net) ∷ []) (sym before) in
+    after ∙ last_names-push (earlier_of old) net old.names.items name ∙ ap (λ ns. ns ++ (name, net) ∷ []) (sym before) in
     record {
       indexed = record {
         found = λ other. named-push (named_net old) (named_net new) (net_names old) name net updates.0 indexed.found absent other ∙ ap (lookup (is_name other)) (sym names);

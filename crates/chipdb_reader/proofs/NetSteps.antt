@@ -23,8 +23,8 @@ is_eq-then Greater b = refl
 pub name-ties : (name other : NetName) → is_eq (name_cmp name other) ≡ is_name other name
 name-ties name other =
     is_eq-then (nat_cmp name.x other.x) (ordering_then (nat_cmp name.y other.y) (nat_cmp name.name other.name))
-        ∙ ap (λ b. is_eq (nat_cmp name.x other.x) && b) (is_eq-then (nat_cmp name.y other.y) (nat_cmp name.name other.name))
-        ∙ (λ i. sym (unsigned_ties name.x other.x) i && (sym (unsigned_ties name.y other.y) i && sym (unsigned_ties name.name other.name) i))
+    ∙ ap (λ b. is_eq (nat_cmp name.x other.x) && b) (is_eq-then (nat_cmp name.y other.y) (nat_cmp name.name other.name))
+    ∙ (λ i. sym (unsigned_ties name.x other.x) i && (sym (unsigned_ties name.y other.y) i && sym (unsigned_ties name.name other.name) i))
 
 -- and names with the same parts are equal
 pub name-same : (name other : NetName) → is_name name other ≡ true → name ≡ other

@@ -22,7 +22,7 @@ lookup-push test (e ∷ entries) entry = by (test e.0) (lookup-push test entries
 -- the place of one element more, by numbers
 place_by : (place count : ℕ) (passes : Bool) → place ≤ count
     → cond (ltb (cond (eqb place count) (count + cond passes 0 1) place) (count + 1)) (Some (cond (eqb place count) (count + cond passes 0 1) place)) None
-        ≡ or_else (cond (ltb place count) (Some place) None) (cond passes (Some count) None)
+    ≡ or_else (cond (ltb place count) (Some place) None) (cond passes (Some count) None)
 place_by place count true le =
     elim (cases_eq place count) [
       | inl same ↦

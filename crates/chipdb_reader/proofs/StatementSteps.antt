@@ -100,7 +100,7 @@ chosen-none : (lines : List (List ℕ)) (n : ℕ) (test : LinkChoice → Bool) �
 unfolding is_chosen_before
 chosen-none lines n test dot =
     ap (λ over. any_since lines over (n + 1) test) (over-statement lines n dot)
-        ∙ any_below-none (n + 1) (λ k. nat_lt n k && list_any test (said_at lines k).choices) (λ k lt. let before : nat_lt n k ≡ false = le-ltb n k (omega arith) in rw before refl)
+    ∙ any_below-none (n + 1) (λ k. nat_lt n k && list_any test (said_at lines k).choices) (λ k lt. let before : nat_lt n k ≡ false = le-ltb n k (omega arith) in rw before refl)
 
 -- What a statement changes, with what it says.
 pub record Begun (old : Reader) (lines : List (List ℕ)) (n : ℕ) (bits : Vec RowCol Global) (chip : Option Chip) (below : Below) (nets : Nets) (buffers : KeptBuffers) : Type 0 where
@@ -163,7 +163,7 @@ begun-step old lines n bits chip below nets buffers begun =
       block = sym (block-statement lines n block begun.dot at);
       nets = λ net.
           begun.nets_are net ∙ ap (λ b. b || is_net net (net_in (Ok block))) (holds.nets net)
-              ∙ sym (any_below-more n _ ∙ (λ i. is_net_before lines n net || (begun.dot i && is_net net (net_in (at i)))));
+          ∙ sym (any_below-more n _ ∙ (λ i. is_net_before lines n net || (begun.dot i && is_net net (net_in (at i)))));
       names = list-step _ _ [] n (λ k. (said_at lines k).names) (ap (name_lines old.texts.arena) begun.names ∙ same _) holds.names (ap (λ s. s.names) said);
       buffers = list-step _ _ [] n (buffers_at lines) (ap (link_lines bits.items) lines_same ∙ links-kept old.bits.items bits.items begun.grown.0 old.buffers.lines.items begun.grown.1 range.buffers ∙ same _) holds.buffers (buffers_at-nothing lines n none);
       routings = list-step _ _ [] n (routings_at lines) (links-kept old.bits.items bits.items begun.grown.0 old.routings.items begun.grown.1 range.routings ∙ same _) holds.routings (routings_at-nothing lines n none);

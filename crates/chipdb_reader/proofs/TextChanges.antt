@@ -25,15 +25,15 @@ pub interns-new : (old new : Texts) (text : List ℕ) (key : Vec ℕ Global) (id
     → Interns old new text id
 interns-new old new text key id equal indexed none bytes compares pushed last entries =
     let absent : lookup (equal key) old.ids.entries ≡ None =
-        lookup-same (equal key) (λ k. bytes_eq text k.items) old.ids.entries (λ k. compares k ∙ ap (λ t. bytes_eq t k.items) bytes) ∙ indexed.found text ∙ none in
+    lookup-same (equal key) (λ k. bytes_eq text k.items) old.ids.entries (λ k. compares k ∙ ap (λ t. bytes_eq t k.items) bytes) ∙ indexed.found text ∙ none in
     let more : new.ids.entries ≡ old.ids.entries ++ (key, id) ∷ [] = entries ∙ insert_entry-new equal old.ids key id absent in
     let arena : new.arena ≡ old.arena ++ key.items ∷ [] = pushed ∙ ap (λ t. old.arena ++ t ∷ []) (sym bytes) in
     record {
       indexed = record {
         found = λ q.
             ap (lookup (λ (k : Vec ℕ Global). bytes_eq q k.items)) more
-                ∙ found-push (λ (k : Vec ℕ Global). k.items) old.ids.entries old.arena key id indexed.found last q
-                ∙ ap (position (bytes_eq q)) (sym arena);
+            ∙ found-push (λ (k : Vec ℕ Global). k.items) old.ids.entries old.arena key id indexed.found last q
+            ∙ ap (position (bytes_eq q)) (sym arena);
         apart = rw pushed (apart-push old.arena text indexed.apart none);
       };
       here = ap (position (bytes_eq text)) pushed ∙ position-new old.arena text none ∙ ap (λ n. Some n) (sym last);

@@ -15,9 +15,9 @@ pub found-push : {K : Type 0} (bytes : K → List ℕ) (entries : List (K × ℕ
     → (q : List ℕ) → lookup (λ k. bytes_eq q (bytes k)) (entries ++ (key, id) ∷ []) ≡ position (bytes_eq q) (texts ++ bytes key ∷ [])
 found-push bytes entries texts key id found last q =
     lookup-push (λ k. bytes_eq q (bytes k)) entries (key, id)
-        ∙ ap (λ o. or_else o (cond (bytes_eq q (bytes key)) (Some id) None)) (found q)
-        ∙ ap (λ n. or_else (position (bytes_eq q) texts) (cond (bytes_eq q (bytes key)) (Some n) None)) last
-        ∙ sym (position-push (bytes_eq q) texts (bytes key))
+    ∙ ap (λ o. or_else o (cond (bytes_eq q (bytes key)) (Some id) None)) (found q)
+    ∙ ap (λ n. or_else (position (bytes_eq q) texts) (cond (bytes_eq q (bytes key)) (Some n) None)) last
+    ∙ sym (position-push (bytes_eq q) texts (bytes key))
 
 -- a new name is found at the end
 pub position-new : (texts : List (List ℕ)) (text : List ℕ) → position (bytes_eq text) texts ≡ None → position (bytes_eq text) (texts ++ text ∷ []) ≡ Some (length texts)

@@ -8,3 +8,5 @@ pub mod Kept
 pub mod Reading
 pub mod Lookups
 pub mod Sound
+pub mod Fit
+pub mod Inside

@@ -28,28 +28,19 @@ pub struct ChipDb {
 
 impl Model for ChipDb {
     ghost use Rattle.chipdb_reader.specs.Kept.{Kept};
-    ghost use Rattle.chipdb_reader.specs.Nets.{net_names};
-    ghost use Rattle.chipdb_reader.specs.Sound.{IsSound};
 
     ghost Value = { Kept };
 
-    ghost view = { λ db. record {
-        chip = db.chip;
-        texts = db.texts.arena;
-        bits = db.bits.items;
-        names = net_names db.nets;
-        buffers = db.buffers.items;
-        routings = db.routings.items;
-        functions = db.functions.items;
-        extras = db.extras.items;
-        global_inputs = db.global_inputs.items;
-        global_pins = db.global_pins.items;
-    } };
+    ghost use Rattle.chipdb_reader.specs.Inside.{kept_of, IsDatabase};
 
-    ghost invariant = { λ db. IsSound db.texts db.nets db.functions.items db.extras.items };
+    ghost view = { kept_of };
+
+    ghost invariant = { IsDatabase };
 }
 
 impl ChipDb {
+    ghost use Rattle.chipdb_reader.specs.Fit.{IsFit};
+    ghost use Rattle.chipdb_reader.specs.Kept.{Kept, database_in};
     ghost use Rattle.chipdb_reader.specs.Nets.{net_names};
     ghost use Rattle.chipdb_reader.specs.Reading.{FitsReader, IsReady, IsOutOfMemory};
 
@@ -59,6 +50,7 @@ impl ChipDb {
         requires names { All (λ p. p.0.name < length reader.texts.arena) (net_names reader.nets) }
         requires functions { All (λ f. f.name < length reader.texts.arena) reader.functions.items }
         requires extras { All (λ e. e.name < length reader.texts.arena) reader.extras.items }
+        requires fit { (kept : Kept) → FitsReader chip reader kept → IsFit (database_in kept) }
         ensures kept { IfOk result (FitsReader chip reader) }
         ensures refused { IfErr result IsOutOfMemory }
     {

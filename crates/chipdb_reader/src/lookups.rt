@@ -3,6 +3,7 @@ ghost use Rattle.std.specs.Prelude.{◌≡◌, ◌&&◌, ◌==◌, position, fin
 ghost use Rattle.std.specs.Option.{option_map};
 ghost use Rattle.chipdb_lines.specs.Kept.{bits_named};
 ghost use Rattle.chipdb_lines.specs.Statements.{is_same_kind};
+ghost use Rattle.chipdb_reader.specs.Fit.{IsFit};
 ghost use Rattle.chipdb_reader.specs.Kept.{database_in, name_lines};
 ghost use Rattle.chipdb_reader.specs.Lookups.{extra_place, function_place, input_of, names_of_net, net_at, pad_of};
 ghost use Rattle.chipdb_reader.specs.Nets.{names_with};
@@ -17,7 +18,8 @@ use plane_map::{DeviceName, Place, RowCol, TileKind};
 impl ChipDb {
     /// The device.
     pub fn device(&self) -> DeviceName
-        ensures { result ≡ self.now.chip.device }
+        ensures device { result ≡ self.now.chip.device }
+        ensures fit { IsFit (database_in self.now) }
     {
         self.chip.device
     }
@@ -55,14 +57,16 @@ impl ChipDb {
 
     /// The links of `.buffer` statements, in the order of the text.
     pub fn buffers(&self) -> &[LinkLine]
-        ensures { result.now ≡ self.now.buffers }
+        ensures buffers { result.now ≡ self.now.buffers }
+        ensures fit { IsFit (database_in self.now) }
     {
         &self.buffers
     }
 
     /// The links of `.routing` statements, in the order of the text.
     pub fn routings(&self) -> &[LinkLine]
-        ensures { result.now ≡ self.now.routings }
+        ensures routings { result.now ≡ self.now.routings }
+        ensures fit { IsFit (database_in self.now) }
     {
         &self.routings
     }
@@ -76,7 +80,8 @@ impl ChipDb {
 
     /// The functions of tiles, in the order of the text.
     pub fn functions(&self) -> &[Function]
-        ensures { result.now ≡ self.now.functions }
+        ensures functions { result.now ≡ self.now.functions }
+        ensures fit { IsFit (database_in self.now) }
     {
         &self.functions
     }
@@ -93,7 +98,8 @@ impl ChipDb {
 
     /// The extra bits, in the order of the text.
     pub fn extras(&self) -> &[Extra]
-        ensures { result.now ≡ self.now.extras }
+        ensures extras { result.now ≡ self.now.extras }
+        ensures fit { IsFit (database_in self.now) }
     {
         &self.extras
     }

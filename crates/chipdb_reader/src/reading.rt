@@ -10,8 +10,8 @@ use crate::items::{Extra, Function, LinkLine, NetName};
 use crate::nets::Nets;
 use crate::texts::Texts;
 use chipdb_lines::{
-    Below, Chip, Choice, GlobalInput, GlobalPin, LinkHead, Refusal, choice_item, extra_item, function_item,
-    global_input, global_pin, is_statement, name_item, own_words, statement,
+    Below, Chip, Choice, GlobalInput, GlobalPin, LinkHead, Refusal, choice_item, extra_item,
+    function_item, global_input, global_pin, is_statement, name_item, own_words, statement,
 };
 use plane_map::{DeviceName, RowCol, TileKind};
 use std::alloc::{AllocError, Global};
@@ -257,9 +257,7 @@ fn push_routing(
     match choice_item(nets, head.bits.len(), words) {
         Err(cause) => Err(Refusal::Cause(cause)),
         Ok(choice) => {
-            routings
-                .push(link(head, choice))
-                .map_err(AllocError::from)?;
+            routings.push(link(head, choice)).map_err(AllocError::from)?;
             Ok(())
         }
     }

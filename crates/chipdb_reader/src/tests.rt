@@ -49,9 +49,21 @@ padin 1 0 0
 11 1
 ";
 
+/// What a text says, where it isn't too long.
+fn read_short(alloc: Global, text: &[u8]) -> Result<ChipDb, DbFault> {
+    if text.len() <= 268_435_456 {
+        read(alloc, text)
+    } else {
+        Err(DbFault::At {
+            line: 0,
+            cause: DbCause::Number,
+        })
+    }
+}
+
 /// The fault of a text: line 0 where it is read, line 1000 where memory is out.
 fn fault_of(alloc: Global, text: &[u8]) -> (u64, DbCause) {
-    match read(alloc, text) {
+    match read_short(alloc, text) {
         Ok(_) => (0, DbCause::NoDevice),
         Err(DbFault::At { line, cause }) => (line, cause),
         Err(DbFault::Memory(_)) => (1000, DbCause::NoDevice),
@@ -84,8 +96,16 @@ fn tells_each_cause(rt: HostRuntime) {
         (".routing 1 1 1 B2(0)", 23, DbCause::BitName),
         (".routing 1 1 1 B16[0]", 23, DbCause::BitRange),
         (".logic_tile_bits 54 16\nLC_7 B0[36]", 24, DbCause::CellBits),
-        (".routing 1 1 1 B2[0]\n\n# none\n10 0", 26, DbCause::ValueLength),
-        (".buffer 1 1 1 B2[0]\n1 0\n0 2\n1 3", 26, DbCause::ValuesTwice),
+        (
+            ".routing 1 1 1 B2[0]\n\n# none\n10 0",
+            26,
+            DbCause::ValueLength,
+        ),
+        (
+            ".buffer 1 1 1 B2[0]\n1 0\n0 2\n1 3",
+            26,
+            DbCause::ValuesTwice,
+        ),
     ] {
         let found = fault_with(rt.alloc(), more.as_bytes());
         assert!(rt; found == (line, cause), "of {more:?}");
@@ -155,11 +175,11 @@ fn looks_up_what_it_read(rt: HostRuntime) {
 }
 
 fn small_is_read(alloc: Global) -> Result<bool, DbFault> {
-    let db = read(alloc, SMALL)?;
+    let db = read_short(alloc, SMALL)?;
     Ok(has_nets(&db) && has_link(&db) && has_functions(&db))
 }
 
 fn other_is_read(alloc: Global) -> Result<bool, DbFault> {
-    let db = read(alloc, OTHER)?;
+    let db = read_short(alloc, OTHER)?;
     Ok(has_firsts(&db) && has_links(&db))
 }

@@ -40,4 +40,4 @@ names-push bytes name spans span start end all =
     let f : Span → List ℕ = λ s. name_in (bytes ++ name) s.start s.end in
     let last : f span ≡ name = name_in-last bytes name span.start span.end start end in
     map-append f spans (span ∷ []) ∙ ap (λ names. names ++ f span ∷ []) (names-append bytes name spans all)
-        ∙ ap (λ x. map (λ s. name_in bytes s.start s.end) spans ++ x ∷ []) last
+    ∙ ap (λ x. map (λ s. name_in bytes s.start s.end) spans ++ x ∷ []) last

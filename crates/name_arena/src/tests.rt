@@ -10,10 +10,12 @@ fn keeps_names(alloc: Global) -> Result<bool, AllocError> {
     let first = names.push(b"io_0/D_IN_0")?;
     let second = names.push(b"")?;
     let third = names.push(b"lutff_0/out")?;
-    Ok(names.len() == 3
-        && names.get(first) == b"io_0/D_IN_0".as_slice()
-        && names.get(second) == b"".as_slice()
-        && names.get(third) == b"lutff_0/out".as_slice())
+    Ok(
+        names.len() == 3
+            && names.get(first) == b"io_0/D_IN_0".as_slice()
+            && names.get(second) == b"".as_slice()
+            && names.get(third) == b"lutff_0/out".as_slice(),
+    )
 }
 
 #[test]

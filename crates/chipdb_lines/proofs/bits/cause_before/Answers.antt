@@ -8,7 +8,7 @@ pub returns-then-is_none : goal.returns-then-is_none
 returns-then-is_none c =
     let none : bit_of c.in-Some.word.now ≡ None = none-by c.bit_of.result c.is_none.result _ _ c.is_none.ensures c.if-is_none.true c.bit_of.ensures in
     let first : is_some (bits_of (words_in c.loop-word.left.now)) ≡ false =
-        ap (λ ws. is_some (bits_of ws)) c.in-Some.ensures.words ∙ some_bits-more c.in-Some.word.now (words_in c.in-Some.rest.now) ∙ rw none refl in
+    ap (λ ws. is_some (bits_of ws)) c.in-Some.ensures.words ∙ some_bits-more c.in-Some.word.now (words_in c.in-Some.rest.now) ∙ rw none refl in
     rw (c.loop-word.invariant ∙ first) refl
 
 pub loop-word-preserved : goal.loop-word-preserved

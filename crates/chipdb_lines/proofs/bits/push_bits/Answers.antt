@@ -11,13 +11,13 @@ pub returns-in_err-push_bit-clause-named : goal.returns-in_err-push_bit-clause-n
 returns-in_err-push_bit-clause-named c =
     let p = err_from_is_err_and c.from_residual.result c.from_residual.ensures.1 in
     rw (p.1, p.2) (told-unnamed c.args.columns c.args.bits.now.items c.loop-word.bits.items (words_in c.args.words.now) (words_in c.loop-word.left.now) (words_in c.in-Some.rest.now) c.in-Some.word.now c.in_err-push_bit.field-0.0
-        c.loop-word.invariant.added c.in-Some.ensures.words c.in_err-push_bit.ensures.named)
+    c.loop-word.invariant.added c.in-Some.ensures.words c.in_err-push_bit.ensures.named)
 
 pub returns-then-not-branch-clause-named : goal.returns-then-not-branch-clause-named
 returns-then-not-branch-clause-named c =
     let outside = MatchBool-at_false _ _ c.if-not-branch.true c.in_ok-push_bit.ensures.named in
     ap result_err (Added-outside c.args.columns c.args.bits.now.items c.loop-word.bits.items (words_in c.args.words.now) (words_in c.loop-word.left.now) (words_in c.in-Some.rest.now) c.in-Some.word.now outside.0
-        c.loop-word.invariant.added c.in-Some.ensures.words outside.1 outside.2) ∙ ap (λ cause. Some cause) (sym c.cause_before.ensures)
+    c.loop-word.invariant.added c.in-Some.ensures.words outside.1 outside.2) ∙ ap (λ cause. Some cause) (sym c.cause_before.ensures)
 
 pub loop-word-preserved : goal.loop-word-preserved
 loop-word-preserved c =

@@ -20,5 +20,5 @@ pub loop-left-preserved : goal.loop-left-preserved
 loop-left-preserved c =
     let word = c.args.word.now in
     let written = Written-more word c.loop-left.left c.loop-left.values c.loop-left.invariant c.loop-left-test.true
-        (and-right (length word == length word) (list_all (λ b. (b == 48) || (b == 49)) word) c.requires.values) in
+    (and-right (length word == length word) (list_all (λ b. (b == 48) || (b == 49)) word) c.requires.values) in
     rw c.from.ensures written

@@ -13,5 +13,5 @@ pub returns-clause-pushed : goal.returns-clause-pushed
 returns-clause-pushed c =
     rw (c.in_ok-push.ensures.items, c.in_ok-extend_from_slice.ensures.items, ← c.self.view_is)
     (names-push c.self.inside.bytes.items c.args.name.now c.self.inside.spans.items (record { start = c.len-start.result; end = c.len-end.result })
-        (omega (arith, c.len-start.ensures, c.self.inside.bytes.ok.0))
-        (omega (arith, c.len-end.ensures, c.in_ok-extend_from_slice.ensures.len, c.self.inside.bytes.ok.0)) c.self.invariant.1)
+    (omega (arith, c.len-start.ensures, c.self.inside.bytes.ok.0))
+    (omega (arith, c.len-end.ensures, c.in_ok-extend_from_slice.ensures.len, c.self.inside.bytes.ok.0)) c.self.invariant.1)

@@ -1,0 +1,3 @@
+pub mod TableBits
+pub mod Values
+pub mod Heads

@@ -1,0 +1,4 @@
+use Rattle.chipdb_lines.proofs.statements.below_keyword.Goals as goal
+
+pub returns-in-None-chip-clause-says : goal.returns-in-None-chip-clause-says
+returns-in-None-chip-clause-says c = rw (c.in-None-chip.is, c.in-Some.is) (c.below_none.ensures.says c.args.bits.now.items)

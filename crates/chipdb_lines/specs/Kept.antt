@@ -1,0 +1,85 @@
+-- What is kept of lines: bits in one table, and lists of them by their places in it.
+use Rattle.std.specs.Prelude.{◌≡◌, ℕ, zero, suc, ◌+◌, ◌%◌, ◌/◌, ◌≤◌, Bool, List, [], ◌∷◌, ◌++◌, length, take, drop, ◌==◌, Option, Some, None, Result, Ok, Err}
+use Rattle.std.specs.Result.{result_err, MatchResult}
+use Rattle.plane_map.specs.declared.tile.RowCol.{RowCol}
+use Rattle.chipdb_lines.specs.declared.cause.DbCause.{DbCause}
+use Rattle.chipdb_lines.specs.declared.cause.Refusal.{Refusal}
+use Rattle.chipdb_lines.specs.declared.cause.Refusal.TheVariants.{Cause, Memory}
+use Rattle.chipdb_lines.specs.declared.bits.BitList.{BitList}
+use Rattle.chipdb_lines.specs.declared.links.LinkHead.{LinkHead as KeptHead}
+use Rattle.chipdb_lines.specs.declared.links.Choice.{Choice}
+use Rattle.chipdb_lines.specs.declared.functions.FunctionItem.{FunctionItem}
+use Rattle.chipdb_lines.specs.declared.functions.ExtraItem.{ExtraItem}
+use Rattle.chipdb_lines.specs.declared.names.NameItem.{NameItem}
+use Rattle.plane_map.specs.declared.tile.TileKind.{TileKind}
+use Rattle.chipdb_lines.specs.declared.statements.Below.{Below}
+use Rattle.chipdb_lines.specs.declared.statements.Below.TheVariants.{Passed, Device, GlobalInputs, GlobalPins, Functions, ExtraBits, Names, Buffers, Routings}
+use Rattle.chipdb_lines.specs.Statements.{Block, passed, of_device, global_inputs, global_pins, functions, extra_bits, names, buffers, routings, LinkHead}
+use Rattle.chipdb_lines.specs.Items.{LinkChoice, FunctionLine, ExtraLine, NameLine}
+
+-- the bits of a list
+abbrev pub bits_named : List RowCol → BitList → List RowCol
+bits_named bits list = take list.count (drop list.start bits)
+
+-- a list of a table of so many bits; it has at most 64
+pub record IsListOf (count : ℕ) (list : BitList) : Type 0 where
+  pub inside : list.start + list.count ≤ count
+  pub few : list.count ≤ 64
+
+-- a table with more bits at its end
+abbrev pub Extends : List RowCol → List RowCol → Type 0
+Extends old new = (more : List RowCol) × (new ≡ old ++ more)
+
+-- the lowest bits of a number, as many as asked for, the lowest first
+abbrev pub low_bits : ℕ → ℕ → List Bool
+low_bits zero number = []
+low_bits (suc count) number = (number % 2 == 1) ∷ low_bits count (number / 2)
+
+-- a choice whose values are the lowest bits of a number
+abbrev pub choice_named : ℕ → Choice → LinkChoice
+choice_named count choice = record { values = low_bits count choice.values; src = choice.src }
+
+-- a function with the bits of a list
+abbrev pub function_named : TileKind → List RowCol → FunctionItem → FunctionLine
+function_named kind bits item = record { kind = kind; name = item.name.now; bits = bits_named bits item.bits }
+
+abbrev pub extra_named : ExtraItem → ExtraLine
+extra_named item = record { name = item.name.now; at = item.at }
+
+-- a name of a net
+abbrev pub name_named : ℕ → NameItem → NameLine
+name_named net item = record { net = net; x = item.x; y = item.y; name = item.name.now }
+
+abbrev pub head_named : List RowCol → KeptHead → LinkHead
+head_named bits head = record { x = head.x; y = head.y; dst = head.dst; bits = bits_named bits head.bits }
+
+-- what the lines below a statement are
+abbrev pub block_named : List RowCol → Below → Block
+block_named bits Passed = passed
+block_named bits (Device chip) = of_device chip
+block_named bits GlobalInputs = global_inputs
+block_named bits GlobalPins = global_pins
+block_named bits (Functions kind) = functions kind
+block_named bits ExtraBits = extra_bits
+block_named bits (Names net) = names net
+block_named bits (Buffers head) = buffers (head_named bits head)
+block_named bits (Routings head) = routings (head_named bits head)
+
+-- the bits of a statement are in a table of so many
+abbrev pub IsBelowIn : ℕ → Below → Type 0
+IsBelowIn count (Buffers head) = IsListOf count head.bits
+IsBelowIn count (Routings head) = IsListOf count head.bits
+IsBelowIn count below = Unit {0}
+
+-- a cause that is told is that one
+abbrev pub Reports : Option DbCause → Refusal → Type 0
+Reports cause (Cause told) = cause ≡ Some told
+Reports cause (Memory e) = Unit {0}
+
+-- what is told of a line is what it says, or what is wrong with it
+abbrev pub Tells : {A B : Type 0} → Result A DbCause → (B → A) → Result B Refusal → Type 0
+Tells said meaning told = MatchResult told (λ item. said ≡ Ok (meaning item)) (Reports (result_err said))
+
+-- the same where no memory is taken
+abbrev pub Reads : {A B : Type 0} → Result A DbCause → (B → A) → Result B DbCause → Type 0
+Reads said meaning told = MatchResult told (λ item. said ≡ Ok (meaning item)) (λ cause. said ≡ Err cause)

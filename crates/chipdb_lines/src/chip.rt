@@ -1,0 +1,63 @@
+// The statement `.device`.
+ghost use Rattle.std.specs.Prelude.{◌≡◌, ◌∷◌, [], Option, Some};
+ghost use Rattle.text_lines.specs.Words.{numbers_of};
+ghost use Rattle.chipdb_lines.specs.Words.{words_in};
+ghost use Rattle.chipdb_lines.specs.Statements.{chip_of_numbers, chip_of_words, device_named};
+
+use plane_map::DeviceName;
+use text_lines::{Separators, split_word, three_numbers};
+
+/// The device of a database, and how many nets it has.
+#[derive(Clone, Copy, Debug, PartialEq, Eq)]
+pub struct Chip {
+    pub device: DeviceName,
+    pub nets: u32,
+}
+
+/// The device that the words NAME, WIDTH, HEIGHT and NUM_NETS give.
+#[tactic(auto, unfolding(crate::specs::Statements::chip_of_words))]
+pub(crate) fn chip_of(words: &[u8]) -> Option<Chip>
+    ensures { result ≡ chip_of_words (words_in words.now) }
+{
+    match split_word(Separators::SpacesAndTabs, words) {
+        None => None,
+        Some((name, sizes)) => sized_chip(device_named(name), sizes),
+    }
+}
+
+/// A device with the words WIDTH, HEIGHT and NUM_NETS.
+fn sized_chip(device: Option<DeviceName>, sizes: &[u8]) -> Option<Chip>
+    ensures { result ≡ chip_of_numbers device (numbers_of (words_in sizes.now)) }
+{
+    match device {
+        None => None,
+        Some(device) => match three_numbers(Separators::SpacesAndTabs, sizes) {
+            None => None,
+            Some((width, height, nets)) => checked_chip(device, width, height, nets),
+        },
+    }
+}
+
+/// A device where its grid has that size and the number of nets is allowed.
+fn checked_chip(device: DeviceName, width: u32, height: u32, nets: u32) -> Option<Chip>
+    ensures { result ≡ chip_of_numbers (Some device) (Some (width ∷ height ∷ nets ∷ [])) }
+{
+    if width == device.columns() && height == device.rows() && nets <= 16_777_216 {
+        Some(Chip { device, nets })
+    } else {
+        None
+    }
+}
+
+/// The device that a word names.
+fn device_named(word: &[u8]) -> Option<DeviceName>
+    ensures { result ≡ device_named word.now }
+{
+    if word == b"1k".as_slice() {
+        Some(DeviceName::K1)
+    } else if word == b"8k".as_slice() {
+        Some(DeviceName::K8)
+    } else {
+        None
+    }
+}

@@ -1,0 +1,121 @@
+// Lines of the statements `.io_tile_bits` and its like, and of `.extra_bits`.
+ghost use Rattle.std.specs.Prelude.{◌≡◌, ◌&&◌, ◌<◌, bytes_eq, length, IfOk};
+ghost use Rattle.std.specs.Bool.{OnTrue};
+ghost use Rattle.std.specs.List.{list_any};
+ghost use Rattle.chipdb_lines.specs.Words.{words_in};
+ghost use Rattle.chipdb_lines.specs.Items.{cell_names, extra_of, function_of, function_of_bits, is_cell, is_in_planes};
+ghost use Rattle.chipdb_lines.specs.Kept.{extra_named, function_named, Extends, IsListOf, Reads, Tells};
+
+use crate::bits::{BitList, push_bits};
+use crate::cause::{DbCause, Refusal};
+use crate::words::has_no_word;
+use plane_map::{DeviceName, Place, RowCol, TileKind, tile_width};
+use text_lines::{Separators, split_word, three_numbers};
+
+/// A function of tiles by its name, and its bits.
+#[derive(Clone, Copy, Debug)]
+pub struct FunctionItem<'a> {
+    pub name: &'a [u8],
+    pub bits: BitList,
+}
+
+/// An extra bit by its name, and its place in the configuration planes.
+#[derive(Clone, Copy, Debug)]
+pub struct ExtraItem<'a> {
+    pub name: &'a [u8],
+    pub at: Place,
+}
+
+/// What the words `FUNCTION BIT BIT ...` say of tiles of a kind. The bits are added to a table.
+#[tactic(auto, unfolding(crate::specs::Items::function_of))]
+pub fn function_item<'a>(
+    kind: TileKind,
+    words: &'a [u8],
+    bits: &mut Vec<RowCol>,
+) -> Result<FunctionItem<'a>, Refusal>
+    ensures grown { IfOk result (λ _. Extends bits.old.items bits.new.items) }
+    ensures within { IfOk result (λ item. IsListOf (length bits.new.items) item.bits) }
+    ensures says { Tells (function_of kind (words_in words.now)) (function_named kind bits.new.items) result }
+{
+    match split_word(Separators::SpacesAndTabs, words) {
+        None => Err(Refusal::Cause(DbCause::Number)),
+        Some((name, behind)) => named_function(kind, name, behind, bits),
+    }
+}
+
+/// What the words `BIT BIT ...` say of a function.
+#[tactic(auto, using(crate::proofs::Heads::columns_small))]
+fn named_function<'a>(
+    kind: TileKind,
+    name: &'a [u8],
+    words: &[u8],
+    bits: &mut Vec<RowCol>,
+) -> Result<FunctionItem<'a>, Refusal>
+    ensures grown { IfOk result (λ _. Extends bits.old.items bits.new.items) }
+    ensures within { IfOk result (λ item. IsListOf (length bits.new.items) item.bits) }
+    ensures says { Tells (function_of_bits kind name.now (words_in words.now)) (function_named kind bits.new.items) result }
+{
+    if has_no_word(words) {
+        return Err(Refusal::Cause(DbCause::Number));
+    }
+    let list = push_bits(bits, tile_width(kind), words)?;
+    if is_cell(kind, name) && list.len() != 20 {
+        Err(Refusal::Cause(DbCause::CellBits))
+    } else {
+        Ok(FunctionItem { name, bits: list })
+    }
+}
+
+/// Whether a function is one of the eight cells of a logic tile.
+fn is_cell(kind: TileKind, name: &[u8]) -> bool
+    ensures { result ≡ is_cell kind name.now }
+{
+    match kind {
+        TileKind::Logic => is_cell_name(name),
+        _ => false,
+    }
+}
+
+/// Whether a name is `LC_0` to `LC_7`.
+fn is_cell_name(name: &[u8]) -> bool
+    ensures { result ≡ list_any (bytes_eq name.now) cell_names }
+{
+    name == b"LC_0".as_slice()
+        || name == b"LC_1".as_slice()
+        || name == b"LC_2".as_slice()
+        || name == b"LC_3".as_slice()
+        || name == b"LC_4".as_slice()
+        || name == b"LC_5".as_slice()
+        || name == b"LC_6".as_slice()
+        || name == b"LC_7".as_slice()
+}
+
+/// What the words `FUNCTION BANK X Y` say.
+#[tactic(auto, unfolding(crate::specs::Items::extra_of))]
+pub fn extra_item(device: DeviceName, words: &[u8]) -> Result<ExtraItem<'_>, DbCause>
+    ensures { Reads (extra_of device (words_in words.now)) extra_named result }
+{
+    match split_word(Separators::SpacesAndTabs, words) {
+        None => Err(DbCause::Number),
+        Some((name, behind)) => match three_numbers(Separators::SpacesAndTabs, behind) {
+            None => Err(DbCause::Number),
+            Some((bank, x, y)) if is_in_planes(device, bank, x, y) => Ok(ExtraItem {
+                name,
+                at: Place {
+                    bank: bank as u8,
+                    px: x as u16,
+                    py: y as u16,
+                },
+            }),
+            Some(_) => Err(DbCause::BitRange),
+        },
+    }
+}
+
+/// Whether a bank, a column and a row are a place of the configuration planes.
+fn is_in_planes(device: DeviceName, bank: u32, x: u32, y: u32) -> bool
+    ensures inside { result ≡ is_in_planes device bank x y }
+    ensures small { OnTrue result ((bank < 4) × (x < 872) × (y < 272)) }
+{
+    bank < 4 && x < device.cram_columns() && y < device.cram_rows()
+}

@@ -1,0 +1,77 @@
+// Keywords: the first word of a statement.
+ghost use Rattle.std.specs.Prelude.{◌≡◌};
+ghost use Rattle.chipdb_lines.specs.Statements.{keyword_of, tile_keyword_of};
+
+use plane_map::TileKind;
+
+/// Which statement a line is, by its first word.
+#[derive(Clone, Copy, Debug, PartialEq, Eq)]
+pub enum Keyword {
+    /// `.device`
+    Device,
+    /// `.gbufin`
+    GlobalInputs,
+    /// `.gbufpin`
+    GlobalPins,
+    /// `.io_tile` and its like
+    Tile(TileKind),
+    /// `.io_tile_bits` and its like
+    TileBits(TileKind),
+    /// `.extra_bits`
+    ExtraBits,
+    /// `.net`
+    Net,
+    /// `.buffer`
+    Buffer,
+    /// `.routing`
+    Routing,
+}
+
+/// The keyword that a word is; statements of other words are passed over.
+#[tactic(auto, unfolding(crate::specs::Statements::keyword_of))]
+pub(crate) fn keyword_of(word: &[u8]) -> Option<Keyword>
+    ensures { result ≡ keyword_of word.now }
+{
+    if word == b".buffer".as_slice() {
+        Some(Keyword::Buffer)
+    } else if word == b".routing".as_slice() {
+        Some(Keyword::Routing)
+    } else if word == b".net".as_slice() {
+        Some(Keyword::Net)
+    } else if word == b".device".as_slice() {
+        Some(Keyword::Device)
+    } else if word == b".gbufin".as_slice() {
+        Some(Keyword::GlobalInputs)
+    } else if word == b".gbufpin".as_slice() {
+        Some(Keyword::GlobalPins)
+    } else if word == b".extra_bits".as_slice() {
+        Some(Keyword::ExtraBits)
+    } else {
+        tile_keyword_of(word)
+    }
+}
+
+/// The keyword of tiles or of their functions that a word is.
+fn tile_keyword_of(word: &[u8]) -> Option<Keyword>
+    ensures { result ≡ tile_keyword_of word.now }
+{
+    if word == b".io_tile".as_slice() {
+        Some(Keyword::Tile(TileKind::Io))
+    } else if word == b".logic_tile".as_slice() {
+        Some(Keyword::Tile(TileKind::Logic))
+    } else if word == b".ramb_tile".as_slice() {
+        Some(Keyword::Tile(TileKind::RamB))
+    } else if word == b".ramt_tile".as_slice() {
+        Some(Keyword::Tile(TileKind::RamT))
+    } else if word == b".io_tile_bits".as_slice() {
+        Some(Keyword::TileBits(TileKind::Io))
+    } else if word == b".logic_tile_bits".as_slice() {
+        Some(Keyword::TileBits(TileKind::Logic))
+    } else if word == b".ramb_tile_bits".as_slice() {
+        Some(Keyword::TileBits(TileKind::RamB))
+    } else if word == b".ramt_tile_bits".as_slice() {
+        Some(Keyword::TileBits(TileKind::RamT))
+    } else {
+        None
+    }
+}

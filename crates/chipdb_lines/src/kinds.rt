@@ -1,0 +1,26 @@
+// Tiles by their places.
+ghost use Rattle.std.specs.Prelude.{◌≡◌, ◌<◌, ◌&&◌, nat_lt};
+ghost use Rattle.std.specs.Bool.{OnTrue};
+ghost use Rattle.plane_map.specs.Layout.{grid_height, grid_width, kind_of};
+ghost use Rattle.chipdb_lines.specs.Statements.{is_kind_there};
+
+use plane_map::{DeviceName, TileKind, kind_on};
+
+/// Whether a tile of that kind stands there.
+pub(crate) fn is_kind_at(device: DeviceName, kind: TileKind, x: u32, y: u32) -> bool
+    ensures there { result ≡ is_kind_there kind (kind_of device x y) }
+    ensures small { OnTrue result ((x < 34) × (y < 34)) }
+{
+    match kind_on(device, x, y) {
+        Some(there) if there == kind => true,
+        _ => false,
+    }
+}
+
+/// Whether the place is in the grid; corners are.
+pub(crate) fn is_in_grid(device: DeviceName, x: u32, y: u32) -> bool
+    ensures inside { result ≡ (nat_lt x (grid_width device) && nat_lt y (grid_height device)) }
+    ensures small { OnTrue result ((x < 34) × (y < 34)) }
+{
+    x < device.columns() && y < device.rows()
+}

@@ -1,0 +1,27 @@
+//! Lines of a chip database: what a statement says of the lines below it, and what those lines say.
+//!
+//! Spaces and tabs part words. A line that begins with a dot is a statement, one that begins with `#` a remark. Each line is
+//! read alone; the repeats of earlier lines are the reader's.
+#![tactic(auto)]
+
+mod bits;
+mod cause;
+mod chip;
+mod functions;
+mod globals;
+mod keyword;
+mod kinds;
+mod links;
+mod names;
+mod statements;
+mod words;
+
+pub use bits::{BitList, bits_of};
+pub use cause::{DbCause, Refusal};
+pub use chip::Chip;
+pub use functions::{ExtraItem, FunctionItem, extra_item, function_item};
+pub use globals::{GlobalInput, GlobalPin, global_input, global_pin};
+pub use links::{Choice, LinkHead, choice_item};
+pub use names::{NameItem, name_item};
+pub use statements::{Below, statement};
+pub use words::{is_statement, own_words};

@@ -1,0 +1,189 @@
+// The statements `.buffer` and `.routing`, and their lines.
+ghost use Rattle.std.specs.Prelude.{◌≡◌, ◌≤◌, ◌<◌, ◌^◌, ◌∷◌, [], ℕ, map, ◌==◌, ◌||◌, length, IfOk, MatchOption, true, false};
+ghost use Rattle.std.specs.List.{list_all};
+ghost use Rattle.plane_map.specs.Layout.{kind_of};
+ghost use Rattle.chipdb_lines.specs.Words.{has_none, is_values, words_in};
+ghost use Rattle.chipdb_lines.specs.Statements.{link_at, link_of_words};
+ghost use Rattle.chipdb_lines.specs.Items.{choice_by, choice_of};
+ghost use Rattle.chipdb_lines.specs.Kept.{choice_named, head_named, low_bits, Extends, IsListOf, Reads, Tells};
+
+use crate::bits::{BitList, push_bits};
+use crate::cause::{DbCause, Refusal};
+use crate::chip::Chip;
+use crate::words::has_no_word;
+use plane_map::{RowCol, TileKind, kind_on, tile_width};
+use text_lines::{Separators, number, one_word, split_word};
+
+/// The net to which links lead, in a tile, and the bits that choose among them.
+#[derive(Clone, Copy, Debug, PartialEq, Eq)]
+pub struct LinkHead {
+    pub x: u8,
+    pub y: u8,
+    pub dst: u32,
+    pub bits: BitList,
+}
+
+/// The net from which a link comes, and the values of the bits that choose it: that of the first bit is the lowest bit.
+#[derive(Clone, Copy, Debug, PartialEq, Eq)]
+pub struct Choice {
+    pub src: u32,
+    pub values: u64,
+}
+
+/// What the words `X Y DST BIT ...` say. The bits are added to a table.
+#[tactic(auto, unfolding(crate::specs::Statements::link_of_words, text_lines::specs::Words::numbers_of))]
+pub(crate) fn link_head(
+    chip: Chip,
+    words: &[u8],
+    bits: &mut Vec<RowCol>,
+) -> Result<LinkHead, Refusal>
+    ensures grown { IfOk result (λ _. Extends bits.old.items bits.new.items) }
+    ensures within { IfOk result (λ head. IsListOf (length bits.new.items) head.bits) }
+    ensures says { Tells (link_of_words chip (words_in words.now)) (head_named bits.new.items) result }
+{
+    match head_words(words) {
+        None => Err(Refusal::Cause(DbCause::Number)),
+        Some(head) => match (number(head.x), number(head.y), number(head.dst)) {
+            (Some(x), Some(y), Some(dst)) => link_into(chip, x, y, dst, head.bits, bits),
+            _ => Err(Refusal::Cause(DbCause::Number)),
+        },
+    }
+}
+
+/// The words of a statement of links.
+#[derive(Clone, Copy)]
+struct HeadWords<'a> {
+    x: &'a [u8],
+    y: &'a [u8],
+    dst: &'a [u8],
+    /// The words of at least one bit.
+    bits: &'a [u8],
+}
+
+/// The words `X`, `Y` and `DST`, and those of at least one bit.
+#[tactic(auto, using(crate::proofs::Heads::link_without_bits), unfolding(crate::specs::Statements::link_of_words))]
+fn head_words(words: &[u8]) -> Option<HeadWords<'_>>
+    ensures { MatchOption result ((chip : Chip) → link_of_words chip (words_in words.now) ≡ Err DbCause.Number)
+        (λ head. (words_in words.now ≡ head.x.now ∷ head.y.now ∷ head.dst.now ∷ words_in head.bits.now)
+        × (has_none (words_in head.bits.now) ≡ false)) }
+{
+    let (x, behind) = split_word(Separators::SpacesAndTabs, words)?;
+    let (y, behind) = split_word(Separators::SpacesAndTabs, behind)?;
+    let (dst, bits) = split_word(Separators::SpacesAndTabs, behind)?;
+    if has_no_word(bits) {
+        None
+    } else {
+        Some(HeadWords { x, y, dst, bits })
+    }
+}
+
+/// Links into a net of the tile at (x, y), with the words of their bits.
+#[tactic(auto, using(crate::proofs::Heads::columns_small))]
+fn link_into(
+    chip: Chip,
+    x: u32,
+    y: u32,
+    dst: u32,
+    words: &[u8],
+    bits: &mut Vec<RowCol>,
+) -> Result<LinkHead, Refusal>
+    ensures grown { IfOk result (λ _. Extends bits.old.items bits.new.items) }
+    ensures within { IfOk result (λ head. IsListOf (length bits.new.items) head.bits) }
+    ensures says { Tells (link_at chip.nets x y dst (kind_of chip.device x y) (words_in words.now)) (head_named bits.new.items) result }
+{
+    match kind_on(chip.device, x, y) {
+        None => Err(Refusal::Cause(DbCause::TileKind)),
+        Some(kind) if dst < chip.nets => {
+            let list = push_bits(bits, tile_width(kind), words)?;
+            Ok(LinkHead {
+                x: x as u8,
+                y: y as u8,
+                dst,
+                bits: list,
+            })
+        }
+        Some(_) => Err(Refusal::Cause(DbCause::NetRange)),
+    }
+}
+
+/// What the words `VALUES SRC` say below a statement with so many bits.
+#[tactic(auto, unfolding(crate::specs::Items::choice_of))]
+pub fn choice_item(nets: u32, count: usize, words: &[u8]) -> Result<Choice, DbCause>
+    requires { count ≤ 64 }
+    ensures says { Reads (choice_of nets count (words_in words.now)) (choice_named count) result }
+    ensures small { IfOk result (λ choice. choice.values < 2 ^ count) }
+{
+    match split_word(Separators::SpacesAndTabs, words) {
+        None => Err(DbCause::Number),
+        Some((values, behind)) => match one_word(Separators::SpacesAndTabs, behind) {
+            None => Err(DbCause::Number),
+            Some(src) => choice_by(nets, count, values, number(src)),
+        },
+    }
+}
+
+/// What the word `VALUES` and the number SRC say.
+fn choice_by(nets: u32, count: usize, values: &[u8], src: Option<u32>) -> Result<Choice, DbCause>
+    requires { count ≤ 64 }
+    ensures says { Reads (choice_by nets count values.now src) (choice_named count) result }
+    ensures small { IfOk result (λ choice. choice.values < 2 ^ count) }
+{
+    match src {
+        None => Err(DbCause::Number),
+        Some(src) if src < nets => match values_of(count, values) {
+            None => Err(DbCause::ValueLength),
+            Some(values) => Ok(Choice { src, values }),
+        },
+        Some(_) => Err(DbCause::NetRange),
+    }
+}
+
+/// The values that a word has for so many bits.
+fn values_of(count: usize, word: &[u8]) -> Option<u64>
+    requires { count ≤ 64 }
+    ensures { MatchOption result (is_values count word.now ≡ false)
+        (λ values. (is_values count word.now ≡ true) × (low_bits count values ≡ map (λ byte. byte == 49) word.now) × (values < 2 ^ count)) }
+{
+    if is_values(count, word) {
+        Some(values_in(word))
+    } else {
+        None
+    }
+}
+
+/// Whether a word is one `0` or `1` for each of so many bits.
+fn is_values(count: usize, word: &[u8]) -> bool
+    ensures { result ≡ is_values count word.now }
+{
+    word.len() == count && are_values(word)
+}
+
+/// Whether each byte of a word is `0` or `1`.
+fn are_values(word: &[u8]) -> bool
+    ensures { result ≡ list_all (λ byte. (byte == 48) || (byte == 49)) word.now }
+{
+    word.iter().all(|byte| is_value(*byte))
+}
+
+/// Whether a byte is `0` or `1`.
+fn is_value(byte: u8) -> bool
+    ensures { result ≡ ((byte == 48) || (byte == 49)) }
+{
+    byte == b'0' || byte == b'1'
+}
+
+/// The number whose lowest bits a word of `0` and `1` has, the lowest first.
+fn values_in(word: &[u8]) -> u64
+    requires values { is_values (length word.now) word.now ≡ true }
+    requires count { length word.now ≤ 64 }
+    ensures bits { low_bits (length word.now) result ≡ map (λ byte. byte == 49) word.now }
+    ensures small { result < 2 ^ length word.now }
+{
+    let mut values = 0;
+    let mut left = word.len();
+    while 0 < left {
+        left -= 1;
+        values = 2 * values + u64::from(word[left] - b'0');
+    }
+    values
+}

@@ -1,0 +1,168 @@
+// Statements: lines that begin with a dot.
+ghost use Rattle.std.specs.Prelude.{◌≡◌, List, length, IfOk};
+ghost use Rattle.text_lines.specs.Words.{numbers_of};
+ghost use Rattle.plane_map.specs.declared.tile.RowCol.{RowCol as Bit};
+ghost use Rattle.chipdb_lines.specs.Words.{words_in};
+ghost use Rattle.chipdb_lines.specs.Statements.{alone, block_by, block_of, block_without, device_block, chip_of_words, names_block, net_of_numbers, statement_of, tile_bits_of_numbers, tile_of_numbers};
+ghost use Rattle.chipdb_lines.specs.Kept.{block_named, Extends, IsBelowIn, Tells};
+
+use crate::cause::{DbCause, Refusal};
+use crate::chip::{Chip, chip_of};
+use crate::keyword::{Keyword, keyword_of};
+use crate::kinds::is_kind_at;
+use crate::links::{LinkHead, link_head};
+use crate::words::has_no_word;
+use plane_map::{DeviceName, RowCol, TileKind, tile_width};
+use text_lines::{Separators, one_number, split_word, two_numbers};
+
+/// What the lines below a statement are.
+#[derive(Clone, Copy, Debug, PartialEq, Eq)]
+pub enum Below {
+    /// Passed over.
+    Passed,
+    /// Passed over: the statement gives the device.
+    Device(Chip),
+    /// `X Y GLB`
+    GlobalInputs,
+    /// `X Y PIO GLB`
+    GlobalPins,
+    /// `FUNCTION BIT BIT ...` of tiles of a kind
+    Functions(TileKind),
+    /// `FUNCTION BANK X Y`
+    ExtraBits,
+    /// `X Y NAME` of a net
+    Names(u32),
+    /// `VALUES SRC`
+    Buffers(LinkHead),
+    /// `VALUES SRC`
+    Routings(LinkHead),
+}
+
+/// What a statement says that stands behind that device or none; repeats of earlier statements aren't looked for. The bits
+/// of links are added to a table.
+#[tactic(auto, unfolding(crate::specs::Statements::statement_of))]
+pub fn statement(chip: Option<Chip>, line: &[u8], bits: &mut Vec<RowCol>) -> Result<Below, Refusal>
+    ensures grown { IfOk result (λ _. Extends bits.old.items bits.new.items) }
+    ensures within { IfOk result (IsBelowIn (length bits.new.items)) }
+    ensures says { Tells (statement_of chip (words_in line.now)) (block_named bits.new.items) result }
+{
+    match split_word(Separators::SpacesAndTabs, line) {
+        None => Ok(Below::Passed),
+        Some((word, words)) => below_keyword(chip, keyword_of(word), words, bits),
+    }
+}
+
+/// What a keyword, perhaps a known one, and the words behind it say.
+fn below_keyword(
+    chip: Option<Chip>,
+    keyword: Option<Keyword>,
+    words: &[u8],
+    bits: &mut Vec<RowCol>,
+) -> Result<Below, Refusal>
+    ensures grown { IfOk result (λ _. Extends bits.old.items bits.new.items) }
+    ensures within { IfOk result (IsBelowIn (length bits.new.items)) }
+    ensures says { Tells (block_by chip keyword (words_in words.now)) (block_named bits.new.items) result }
+{
+    match keyword {
+        None => Ok(Below::Passed),
+        Some(keyword) => match chip {
+            None => below_none(keyword, words),
+            Some(chip) => below_chip(chip, keyword, words, bits),
+        },
+    }
+}
+
+/// What a statement says before which no device was given.
+fn below_none(keyword: Keyword, words: &[u8]) -> Result<Below, Refusal>
+    ensures within { IfOk result (IsBelowIn 0) }
+    ensures says { (bits : List Bit) → Tells (block_without keyword (words_in words.now)) (block_named bits) result }
+{
+    match keyword {
+        Keyword::Device => match chip_of(words) {
+            None => Err(Refusal::Cause(DbCause::Device)),
+            Some(chip) => Ok(Below::Device(chip)),
+        },
+        _ => Err(Refusal::Cause(DbCause::NoDevice)),
+    }
+}
+
+/// What a statement says behind the device.
+#[tactic(auto, unfolding(crate::specs::Statements::block_of))]
+fn below_chip(
+    chip: Chip,
+    keyword: Keyword,
+    words: &[u8],
+    bits: &mut Vec<RowCol>,
+) -> Result<Below, Refusal>
+    ensures grown { IfOk result (λ _. Extends bits.old.items bits.new.items) }
+    ensures within { IfOk result (IsBelowIn (length bits.new.items)) }
+    ensures says { Tells (block_of chip keyword (words_in words.now)) (block_named bits.new.items) result }
+{
+    match keyword {
+        Keyword::Device => Err(Refusal::Cause(DbCause::Device)),
+        Keyword::GlobalInputs => alone(Below::GlobalInputs, words),
+        Keyword::GlobalPins => alone(Below::GlobalPins, words),
+        Keyword::Tile(kind) => tile(chip.device, kind, words),
+        Keyword::TileBits(kind) => functions(kind, words),
+        Keyword::ExtraBits => alone(Below::ExtraBits, words),
+        Keyword::Net => net(chip.nets, words),
+        Keyword::Buffer => match link_head(chip, words, bits) {
+            Ok(head) => Ok(Below::Buffers(head)),
+            Err(refusal) => Err(refusal),
+        },
+        Keyword::Routing => match link_head(chip, words, bits) {
+            Ok(head) => Ok(Below::Routings(head)),
+            Err(refusal) => Err(refusal),
+        },
+    }
+}
+
+/// A statement of one word.
+fn alone(below: Below, words: &[u8]) -> Result<Below, Refusal>
+    ensures same { IfOk result (λ found. found ≡ below) }
+    ensures says { (bits : List Bit) → Tells (alone (block_named bits below) (words_in words.now)) (block_named bits) result }
+{
+    if has_no_word(words) {
+        Ok(below)
+    } else {
+        Err(Refusal::Cause(DbCause::Number))
+    }
+}
+
+/// `.io_tile X Y` and its like.
+fn tile(device: DeviceName, kind: TileKind, words: &[u8]) -> Result<Below, Refusal>
+    ensures within { IfOk result (IsBelowIn 0) }
+    ensures says { (bits : List Bit) → Tells (tile_of_numbers device kind (numbers_of (words_in words.now))) (block_named bits) result }
+{
+    match two_numbers(Separators::SpacesAndTabs, words) {
+        None => Err(Refusal::Cause(DbCause::Number)),
+        Some((x, y)) if is_kind_at(device, kind, x, y) => Ok(Below::Passed),
+        Some(_) => Err(Refusal::Cause(DbCause::TileKind)),
+    }
+}
+
+/// `.io_tile_bits COLUMNS ROWS` and its like.
+fn functions(kind: TileKind, words: &[u8]) -> Result<Below, Refusal>
+    ensures within { IfOk result (IsBelowIn 0) }
+    ensures says { (bits : List Bit) → Tells (tile_bits_of_numbers kind (numbers_of (words_in words.now))) (block_named bits) result }
+{
+    match two_numbers(Separators::SpacesAndTabs, words) {
+        None => Err(Refusal::Cause(DbCause::Number)),
+        Some((columns, rows)) if columns as usize == tile_width(kind) && rows == 16 => {
+            Ok(Below::Functions(kind))
+        }
+        Some(_) => Err(Refusal::Cause(DbCause::TileKind)),
+    }
+}
+
+/// `.net N`
+fn net(nets: u32, words: &[u8]) -> Result<Below, Refusal>
+    ensures within { IfOk result (IsBelowIn 0) }
+    ensures says { (bits : List Bit) → Tells (names_block (net_of_numbers nets (numbers_of (words_in words.now)))) (block_named bits) result }
+{
+    match one_number(Separators::SpacesAndTabs, words) {
+        None => Err(Refusal::Cause(DbCause::Number)),
+        Some(net) if net < nets => Ok(Below::Names(net)),
+        Some(_) => Err(Refusal::Cause(DbCause::NetRange)),
+    }
+}

@@ -1,0 +1,201 @@
+-- The reader keeps what the lines so far give, and one line more.
+use Rattle.std.proofs.Common.{◌≡◌, ℕ, ◌+◌, ◌-◌, ◌^◌, ◌<◌, ◌≤◌, Bool, true, false, ◌&&◌, ◌||◌, cond, List, [], ◌∷◌, ◌++◌, length, drop, map, append-nil, refl, sym, ap, ◌∙◌, inl, inr, arith, subst}
+use Rattle.std.specs.Prelude.{Option, Some, None, Result, Ok, Err, All, nat_lt}
+use Rattle.std.specs.List.{list_any}
+use Rattle.std.proofs.lemmas.Bool.{cases_Bool, lt-ltb}
+use Rattle.std.proofs.Math.Bool.{or-false}
+use Rattle.text_lines.specs.Lines.{line_at}
+use Rattle.place_search.specs.Places.{any_below, last_below, gathered_below}
+use Rattle.place_search.proofs.Places.{any_below-more, last_below-place, gathered_below-more}
+use Rattle.chipdb_lines.specs.declared.chip.Chip.{Chip}
+use Rattle.chipdb_lines.specs.declared.statements.Below.{Below}
+use Rattle.chipdb_lines.specs.declared.statements.Below.TheVariants.{Passed, Device, GlobalInputs, GlobalPins, Functions, ExtraBits, Names, Buffers, Routings}
+use Rattle.chipdb_lines.specs.declared.links.LinkHead.{LinkHead as KeptHead}
+use Rattle.chipdb_lines.specs.Words.{is_statement, own_words}
+use Rattle.chipdb_lines.specs.Statements.{Block, passed, of_device, global_inputs, global_pins, functions, extra_bits, names, buffers, routings}
+use Rattle.chipdb_lines.specs.Items.{LinkChoice}
+use Rattle.chipdb_lines.specs.Kept.{block_named, low_bits, IsListOf}
+use Rattle.chipdb_reader.specs.declared.items.NetName.{NetName}
+use Rattle.chipdb_reader.specs.declared.items.LinkLine.{LinkLine}
+use Rattle.chipdb_reader.specs.declared.items.Function.{Function}
+use Rattle.chipdb_reader.specs.declared.items.Extra.{Extra}
+use Rattle.chipdb_reader.specs.declared.reading.Reader.{Reader}
+use Rattle.chipdb_reader.specs.Blocks.{chip_before, statement_over, block_over, own_words_at}
+use Rattle.chipdb_reader.specs.Buffers.{chosen_src}
+use Rattle.chipdb_reader.specs.Database.{Link, Said, nothing, said_at, said_by, any_since, is_chosen_before, new_choices, buffers_in, buffers_at, routings_in, routings_at}
+use Rattle.chipdb_reader.specs.Faults.{is_net_before}
+use Rattle.chipdb_reader.specs.Kept.{name_lines, link_lines, function_lines, extra_lines}
+use Rattle.chipdb_reader.specs.Nets.{net_names, has_net}
+use Rattle.chipdb_reader.specs.Reading.{IsReady}
+use Rattle.chipdb_reader.proofs.BlockSteps.{chip-own, over-own, block-own}
+
+-- ids and lists of bits are those of what is kept
+pub record InRange (reader : Reader) : Type 0 where
+  pub names : All (λ p. p.0.name < length reader.texts.arena) (net_names reader.nets)
+  pub functions : All (λ f. f.name < length reader.texts.arena) reader.functions.items
+  pub function_bits : All (λ f. IsListOf (length reader.bits.items) f.bits) reader.functions.items
+  pub extras : All (λ e. e.name < length reader.texts.arena) reader.extras.items
+  pub buffers : All (λ l. IsListOf (length reader.bits.items) l.bits) reader.buffers.lines.items
+  pub routings : All (λ l. IsListOf (length reader.bits.items) l.bits) reader.routings.items
+
+-- the lines of the last statement
+abbrev pub last_lines : Reader → List LinkLine
+last_lines reader = drop reader.buffers.start reader.buffers.lines.items
+
+abbrev pub kept_choice : ℕ → LinkLine → LinkChoice
+kept_choice count line = record { values = low_bits count line.values; src = line.src }
+
+-- a line of the last statement
+pub record IsLastLine (reader : Reader) (head : KeptHead) (line : LinkLine) : Type 0 where
+  pub bits : line.bits ≡ head.bits
+  pub small : line.values < 2 ^ head.bits.count
+  pub chosen : chosen_src reader.buffers line.values ≡ Some line.src
+
+-- the lines of the last statement stand for its choices so far
+pub record LastHolds (reader : Reader) (lines : List (List ℕ)) (n : ℕ) (head : KeptHead) : Type 0 where
+  pub own : All (IsLastLine reader head) (last_lines reader)
+  pub seen : (test : LinkChoice → Bool) → is_chosen_before lines n test ≡ list_any test (map (kept_choice head.bits.count) (last_lines reader))
+
+abbrev pub ChoicesHold : Reader → List (List ℕ) → ℕ → Below → Type 0
+ChoicesHold reader lines n (Buffers head) = LastHolds reader lines n head
+ChoicesHold reader lines n below = Unit {0}
+
+-- what the first n lines give is kept
+pub record Holds (reader : Reader) (lines : List (List ℕ)) (n : ℕ) : Type 0 where
+  pub ready : IsReady reader
+  pub in_range : InRange reader
+  pub choices : ChoicesHold reader lines n reader.below
+  pub chip : reader.chip ≡ chip_before lines n
+  pub block : block_named reader.bits.items reader.below ≡ block_over lines n
+  pub nets : (net : ℕ) → has_net reader.nets net ≡ is_net_before lines n net
+  pub names : name_lines reader.texts.arena (net_names reader.nets) ≡ gathered_below n (λ k. (said_at lines k).names)
+  pub buffers : link_lines reader.bits.items reader.buffers.lines.items ≡ gathered_below n (buffers_at lines)
+  pub routings : link_lines reader.bits.items reader.routings.items ≡ gathered_below n (routings_at lines)
+  pub functions : function_lines reader.texts.arena reader.bits.items reader.functions.items ≡ gathered_below n (λ k. (said_at lines k).functions)
+  pub extras : extra_lines reader.texts.arena reader.extras.items ≡ gathered_below n (λ k. (said_at lines k).extras)
+  pub global_inputs : reader.global_inputs.items ≡ gathered_below n (λ k. (said_at lines k).global_inputs)
+  pub global_pins : reader.global_pins.items ≡ gathered_below n (λ k. (said_at lines k).global_pins)
+  pub few : length reader.texts.arena ≤ n
+
+-- ---- lists, one line further
+
+-- a list that grows by what the line gives
+pub list-step : {A : Type 0} (old new more : List A) (n : ℕ) (given : ℕ → List A) → new ≡ old ++ more → old ≡ gathered_below n given → given n ≡ more → new ≡ gathered_below (n + 1) given
+list-step old new more n given grown gathered gives =
+    grown ∙ ap (λ xs. xs ++ more) gathered ∙ ap (λ xs. gathered_below n given ++ xs) (sym gives) ∙ sym (gathered_below-more n given)
+
+-- ---- choices, one line further
+
+chosen_by : (lines : List (List ℕ)) (n : ℕ) (test : LinkChoice → Bool) (over : Option ℕ) → ((place : ℕ) → over ≡ Some place → place < n)
+    → any_since lines over (n + 1) test ≡ (any_since lines over n test || list_any test (said_at lines n).choices)
+chosen_by lines n test None before = any_below-more n (λ k. list_any test (said_at lines k).choices)
+chosen_by lines n test (Some place) before =
+    any_below-more n (λ k. nat_lt place k && list_any test (said_at lines k).choices) ∙ rw (lt-ltb place n (before place refl)) refl
+
+-- a line that is no statement adds its choice
+pub chosen-own : (lines : List (List ℕ)) (n : ℕ) (test : LinkChoice → Bool) → is_statement (line_at lines n) ≡ false
+    → is_chosen_before lines (n + 1) test ≡ (is_chosen_before lines n test || list_any test (said_at lines n).choices)
+unfolding is_chosen_before statement_over
+chosen-own lines n test own =
+    let before : (place : ℕ) → statement_over lines n ≡ Some place → place < n = λ place is. (last_below-place n place (λ k. is_statement (line_at lines k)) is).0 in
+    ap (λ over. any_since lines over (n + 1) test) (over-own lines n own) ∙ chosen_by lines n test (statement_over lines n) before
+
+-- ---- nets, one line further
+
+pub nets-own : (lines : List (List ℕ)) (n net : ℕ) → is_statement (line_at lines n) ≡ false → is_net_before lines (n + 1) net ≡ is_net_before lines n net
+unfolding is_net_before
+nets-own lines n net own = any_below-more n _ ∙ rw own (or-false _)
+
+-- ---- a line that is no statement
+
+-- What holds after a line that is no statement: the lists have grown by what it says.
+pub own-step : (old new : Reader) (lines : List (List ℕ)) (n : ℕ) (said : Said)
+    → is_statement (line_at lines n) ≡ false → said_at lines n ≡ said → Holds old lines n
+    → IsReady new → InRange new → ChoicesHold new lines (n + 1) new.below
+    → new.chip ≡ old.chip → block_named new.bits.items new.below ≡ block_named old.bits.items old.below
+    → ((net : ℕ) → has_net new.nets net ≡ has_net old.nets net)
+    → name_lines new.texts.arena (net_names new.nets) ≡ name_lines old.texts.arena (net_names old.nets) ++ said.names
+    → link_lines new.bits.items new.buffers.lines.items ≡ link_lines old.bits.items old.buffers.lines.items ++ buffers_at lines n
+    → link_lines new.bits.items new.routings.items ≡ link_lines old.bits.items old.routings.items ++ routings_at lines n
+    → function_lines new.texts.arena new.bits.items new.functions.items ≡ function_lines old.texts.arena old.bits.items old.functions.items ++ said.functions
+    → extra_lines new.texts.arena new.extras.items ≡ extra_lines old.texts.arena old.extras.items ++ said.extras
+    → new.global_inputs.items ≡ old.global_inputs.items ++ said.global_inputs
+    → new.global_pins.items ≡ old.global_pins.items ++ said.global_pins
+    → length new.texts.arena ≤ n + 1
+    → Holds new lines (n + 1)
+own-step old new lines n said own says holds ready in_range choices chip block nets more_names more_buffers more_routings more_functions more_extras more_inputs more_pins few = record {
+  ready = ready;
+  in_range = in_range;
+  choices = choices;
+  chip = chip ∙ holds.chip ∙ sym (chip-own lines n own);
+  block = block ∙ holds.block ∙ sym (block-own lines n own);
+  nets = λ net. nets net ∙ holds.nets net ∙ sym (nets-own lines n net own);
+  names = list-step _ _ said.names n (λ k. (said_at lines k).names) more_names holds.names (ap (λ s. s.names) says);
+  buffers = list-step _ _ (buffers_at lines n) n (buffers_at lines) more_buffers holds.buffers refl;
+  routings = list-step _ _ (routings_at lines n) n (routings_at lines) more_routings holds.routings refl;
+  functions = list-step _ _ said.functions n (λ k. (said_at lines k).functions) more_functions holds.functions (ap (λ s. s.functions) says);
+  extras = list-step _ _ said.extras n (λ k. (said_at lines k).extras) more_extras holds.extras (ap (λ s. s.extras) says);
+  global_inputs = list-step _ _ said.global_inputs n (λ k. (said_at lines k).global_inputs) more_inputs holds.global_inputs (ap (λ s. s.global_inputs) says);
+  global_pins = list-step _ _ said.global_pins n (λ k. (said_at lines k).global_pins) more_pins holds.global_pins (ap (λ s. s.global_pins) says);
+  few = few;
+}
+
+-- no choice makes no link
+pub buffers_in-nothing : (block : Block) → buffers_in block [] ≡ []
+buffers_in-nothing (buffers head) = refl
+buffers_in-nothing passed = refl
+buffers_in-nothing (of_device given) = refl
+buffers_in-nothing global_inputs = refl
+buffers_in-nothing global_pins = refl
+buffers_in-nothing (functions kind) = refl
+buffers_in-nothing extra_bits = refl
+buffers_in-nothing (names net) = refl
+buffers_in-nothing (routings head) = refl
+
+pub routings_in-nothing : (block : Block) → routings_in block [] ≡ []
+routings_in-nothing (routings head) = refl
+routings_in-nothing passed = refl
+routings_in-nothing (of_device given) = refl
+routings_in-nothing global_inputs = refl
+routings_in-nothing global_pins = refl
+routings_in-nothing (functions kind) = refl
+routings_in-nothing extra_bits = refl
+routings_in-nothing (names net) = refl
+routings_in-nothing (buffers head) = refl
+
+-- a line without a choice gives no link
+pub buffers_at-nothing : (lines : List (List ℕ)) (n : ℕ) → (said_at lines n).choices ≡ [] → buffers_at lines n ≡ []
+unfolding buffers_at
+buffers_at-nothing lines n none = ap (λ cs. buffers_in (block_over lines n) (new_choices lines n cs)) none ∙ buffers_in-nothing (block_over lines n)
+
+pub routings_at-nothing : (lines : List (List ℕ)) (n : ℕ) → (said_at lines n).choices ≡ [] → routings_at lines n ≡ []
+unfolding routings_at
+routings_at-nothing lines n none = ap (routings_in (block_over lines n)) none ∙ routings_in-nothing (block_over lines n)
+
+-- nothing is added
+pub kept-list : {A : Type 0} (xs more : List A) → more ≡ [] → xs ≡ xs ++ more
+kept-list xs more none = sym (append-nil xs) ∙ ap (λ ys. xs ++ ys) (sym none)
+
+-- the choices stay where the line has none
+pub choices-kept : (reader : Reader) (lines : List (List ℕ)) (n : ℕ) (below : Below) → is_statement (line_at lines n) ≡ false → (said_at lines n).choices ≡ []
+    → ChoicesHold reader lines n below → ChoicesHold reader lines (n + 1) below
+choices-kept reader lines n (Buffers head) own none holds = record {
+  own = holds.own;
+  seen = λ test. chosen-own lines n test own ∙ ap (λ cs. is_chosen_before lines n test || list_any test cs) none ∙ or-false (is_chosen_before lines n test) ∙ holds.seen test;
+}
+choices-kept reader lines n Passed own none holds = tt
+choices-kept reader lines n (Device chip) own none holds = tt
+choices-kept reader lines n GlobalInputs own none holds = tt
+choices-kept reader lines n GlobalPins own none holds = tt
+choices-kept reader lines n (Functions kind) own none holds = tt
+choices-kept reader lines n ExtraBits own none holds = tt
+choices-kept reader lines n (Names net) own none holds = tt
+choices-kept reader lines n (Routings head) own none holds = tt
+
+-- a line that says nothing
+pub nothing-step : (reader : Reader) (lines : List (List ℕ)) (n : ℕ) → is_statement (line_at lines n) ≡ false → said_at lines n ≡ nothing → Holds reader lines n → Holds reader lines (n + 1)
+nothing-step reader lines n own says holds =
+    let none : (said_at lines n).choices ≡ [] = ap (λ s. s.choices) says in
+    let few : length reader.texts.arena ≤ n = holds.few in
+    own-step reader reader lines n nothing own says holds holds.ready holds.in_range (choices-kept reader lines n reader.below own none holds.choices) refl refl (λ net. refl)
+    (sym (append-nil _)) (kept-list _ _ (buffers_at-nothing lines n none)) (kept-list _ _ (routings_at-nothing lines n none)) (sym (append-nil _)) (sym (append-nil _)) (sym (append-nil _)) (sym (append-nil _)) (omega arith)

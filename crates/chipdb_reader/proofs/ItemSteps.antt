@@ -1,0 +1,230 @@
+-- Lines below statements: what is kept after each, and that none is faulty that is taken.
+use Rattle.std.proofs.Common.{◌≡◌, ℕ, ◌+◌, ◌-◌, ◌^◌, ◌<◌, ◌≤◌, Bool, true, false, ◌&&◌, ◌||◌, cond, List, [], ◌∷◌, ◌++◌, length, length-append, drop, map, append-nil, refl, sym, ap, ◌∙◌, inl, inr, arith, subst}
+use Rattle.std.specs.Prelude.{Option, Some, None, Result, Ok, Err, All, nat_le, is_some}
+use Rattle.std.specs.Result.{result_err}
+use Rattle.std.specs.declared.vec.Vec.{Vec}
+use Rattle.std.specs.declared.alloc.Global.{Global}
+use Rattle.std.proofs.lemmas.Bool.{lt-leb}
+use Rattle.std.proofs.lemmas.List.{map-append}
+use Rattle.std.proofs.lemmas.List.Elements.{All-push}
+use Rattle.text_lines.specs.Lines.{line_at}
+use Rattle.plane_map.specs.declared.tile.TileKind.{TileKind}
+use Rattle.plane_map.specs.declared.tile.RowCol.{RowCol}
+use Rattle.chipdb_lines.specs.declared.cause.DbCause.{DbCause}
+use Rattle.chipdb_lines.specs.declared.chip.Chip.{Chip}
+use Rattle.chipdb_lines.specs.declared.globals.GlobalInput.{GlobalInput}
+use Rattle.chipdb_lines.specs.declared.globals.GlobalPin.{GlobalPin}
+use Rattle.chipdb_lines.specs.declared.statements.Below.{Below}
+use Rattle.chipdb_lines.specs.declared.statements.Below.TheVariants.{Passed, Device, GlobalInputs, GlobalPins, Functions, ExtraBits, Names, Buffers, Routings}
+use Rattle.chipdb_lines.specs.Words.{is_statement}
+use Rattle.chipdb_lines.specs.Statements.{Block, passed, of_device, global_inputs, global_pins, functions, extra_bits, names, buffers, routings}
+use Rattle.chipdb_lines.specs.declared.bits.BitList.{BitList}
+use Rattle.chipdb_lines.specs.Items.{FunctionLine, ExtraLine, global_input_of, global_pin_of, function_of, extra_of}
+use Rattle.chipdb_lines.specs.Kept.{block_named, bits_named, IsListOf}
+use Rattle.chipdb_reader.specs.declared.items.Function.{Function}
+use Rattle.chipdb_reader.specs.declared.items.Extra.{Extra}
+use Rattle.chipdb_reader.specs.declared.items.NetName.{NetName}
+use Rattle.chipdb_reader.specs.declared.items.LinkLine.{LinkLine}
+use Rattle.chipdb_reader.specs.declared.texts.Texts.{Texts}
+use Rattle.chipdb_reader.specs.declared.reading.Reader.{Reader}
+use Rattle.chipdb_reader.specs.Blocks.{chip_before, block_over, own_words_at}
+use Rattle.chipdb_reader.specs.Database.{Said, nothing, item, said_at, said_for}
+use Rattle.chipdb_reader.specs.Faults.{cause_at, item_cause}
+use Rattle.chipdb_reader.specs.Kept.{name_lines, link_lines, function_line, function_lines, extra_line, extra_lines}
+use Rattle.chipdb_reader.specs.Nets.{net_names, has_net}
+use Rattle.chipdb_reader.specs.Texts.{Interns, text_at}
+use Rattle.chipdb_reader.specs.Reading.{IsReady, Pushes, PushesFunction, PushesExtra}
+use Rattle.chipdb_reader.proofs.Grown.{names-grown, extras-grown, functions-grown, links-grown, IsListOf-grown, All-weaker}
+use Rattle.chipdb_reader.proofs.TextSteps.{text-found}
+use Rattle.chipdb_reader.proofs.Holds.{Holds, InRange, ChoicesHold, own-step, kept-list, buffers_at-nothing, routings_at-nothing}
+
+-- what the words of a line say
+pub said-is : (lines : List (List ℕ)) (n : ℕ) (word : List ℕ) (words : List (List ℕ)) (chip : Chip) (block : Block)
+    → own_words_at lines n ≡ word ∷ words → chip_before lines n ≡ Some chip → block_over lines n ≡ block → said_at lines n ≡ said_for chip block (word ∷ words)
+unfolding said_at
+said-is lines n word words chip block is given over = rw (is, given, over) refl
+
+-- what is wrong with them
+pub cause-is : (lines : List (List ℕ)) (n : ℕ) (word : List ℕ) (words : List (List ℕ)) (chip : Chip) (block : Block)
+    → n < length lines → is_statement (line_at lines n) ≡ false → own_words_at lines n ≡ word ∷ words → chip_before lines n ≡ Some chip → block_over lines n ≡ block
+    → cause_at lines n ≡ item_cause lines n chip block (word ∷ words)
+unfolding cause_at
+cause-is lines n word words chip block lt own is given over =
+    let inside : nat_le (length lines) n ≡ false = lt-leb (length lines) n lt in
+    rw (inside, own, is, given, over) refl
+
+-- A line with words below a statement.
+pub record At (old : Reader) (lines : List (List ℕ)) (n : ℕ) (chip : Chip) (below : Below) (word : List ℕ) (words : List (List ℕ)) : Type 0 where
+  pub inside : n < length lines
+  pub own : is_statement (line_at lines n) ≡ false
+  pub holds : Holds old lines n
+  pub given : old.chip ≡ Some chip
+  pub under : old.below ≡ below
+  pub is : own_words_at lines n ≡ word ∷ words
+
+-- the block over it
+pub block-at : (old : Reader) (lines : List (List ℕ)) (n : ℕ) (chip : Chip) (below : Below) (word : List ℕ) (words : List (List ℕ)) → At old lines n chip below word words
+    → block_over lines n ≡ block_named old.bits.items below
+block-at old lines n chip below word words at = sym at.holds.block ∙ ap (block_named old.bits.items) at.under
+
+pub said-at : (old : Reader) (lines : List (List ℕ)) (n : ℕ) (chip : Chip) (below : Below) (word : List ℕ) (words : List (List ℕ)) → At old lines n chip below word words
+    → said_at lines n ≡ said_for chip (block_named old.bits.items below) (word ∷ words)
+said-at old lines n chip below word words at =
+    said-is lines n word words chip (block_named old.bits.items below) at.is (sym at.holds.chip ∙ at.given) (block-at old lines n chip below word words at)
+
+pub cause-at : (old : Reader) (lines : List (List ℕ)) (n : ℕ) (chip : Chip) (below : Below) (word : List ℕ) (words : List (List ℕ)) → At old lines n chip below word words
+    → cause_at lines n ≡ item_cause lines n chip (block_named old.bits.items below) (word ∷ words)
+cause-at old lines n chip below word words at =
+    cause-is lines n word words chip (block_named old.bits.items below) at.inside at.own at.is (sym at.holds.chip ∙ at.given) (block-at old lines n chip below word words at)
+
+-- nothing is kept more
+same : {A : Type 0} (xs : List A) → xs ≡ xs ++ []
+same xs = sym (append-nil xs)
+
+pub few-more : (n count : ℕ) → count ≤ n → count ≤ n + 1
+few-more n count le = omega arith
+
+-- a `.gbufin` line
+pub input-step : (old : Reader) (inputs : Vec GlobalInput Global) (lines : List (List ℕ)) (n : ℕ) (chip : Chip) (word : List ℕ) (words : List (List ℕ)) → At old lines n chip GlobalInputs word words
+    → Pushes (global_input_of chip.device (word ∷ words)) old.global_inputs.items inputs.items → Holds (record old { global_inputs = inputs }) lines (n + 1)
+input-step old inputs lines n chip word words at pushed =
+    let said : Said = record nothing { global_inputs = pushed.item ∷ [] } in
+    let says : said_at lines n ≡ said = said-at old lines n chip GlobalInputs word words at ∙ ap (λ r. record nothing { global_inputs = item r }) pushed.says in
+    let none : (said_at lines n).choices ≡ [] = ap (λ s. s.choices) says in
+    let under = at.under in
+    own-step old (record old { global_inputs = inputs }) lines n said at.own says at.holds
+    (record { texts = at.holds.ready.texts; nets = at.holds.ready.nets; buffers = at.holds.ready.buffers; below = at.holds.ready.below })
+    (record { names = at.holds.in_range.names; functions = at.holds.in_range.functions; function_bits = at.holds.in_range.function_bits; extras = at.holds.in_range.extras; buffers = at.holds.in_range.buffers; routings = at.holds.in_range.routings })
+    (rw under tt) refl refl (λ net. refl) (same _) (kept-list _ _ (buffers_at-nothing lines n none)) (kept-list _ _ (routings_at-nothing lines n none)) (same _) (same _) pushed.added (same _)
+    (few-more n _ at.holds.few)
+
+-- a `.gbufpin` line
+pub pin-step : (old : Reader) (pins : Vec GlobalPin Global) (lines : List (List ℕ)) (n : ℕ) (chip : Chip) (word : List ℕ) (words : List (List ℕ)) → At old lines n chip GlobalPins word words
+    → Pushes (global_pin_of chip.device (word ∷ words)) old.global_pins.items pins.items → Holds (record old { global_pins = pins }) lines (n + 1)
+pin-step old pins lines n chip word words at pushed =
+    let said : Said = record nothing { global_pins = pushed.item ∷ [] } in
+    let says : said_at lines n ≡ said = said-at old lines n chip GlobalPins word words at ∙ ap (λ r. record nothing { global_pins = item r }) pushed.says in
+    let none : (said_at lines n).choices ≡ [] = ap (λ s. s.choices) says in
+    let under = at.under in
+    own-step old (record old { global_pins = pins }) lines n said at.own says at.holds
+    (record { texts = at.holds.ready.texts; nets = at.holds.ready.nets; buffers = at.holds.ready.buffers; below = at.holds.ready.below })
+    (record { names = at.holds.in_range.names; functions = at.holds.in_range.functions; function_bits = at.holds.in_range.function_bits; extras = at.holds.in_range.extras; buffers = at.holds.in_range.buffers; routings = at.holds.in_range.routings })
+    (rw under tt) refl refl (λ net. refl) (same _) (kept-list _ _ (buffers_at-nothing lines n none)) (kept-list _ _ (routings_at-nothing lines n none)) (same _) (same _) (same _) pushed.added
+    (few-more n _ at.holds.few)
+
+-- ---- names and bits that grow
+
+-- how many names there are where one has a place
+pub record Counts (old new id : ℕ) : Type 0 where
+  pub more : old ≤ new
+  pub few : new ≤ old + 1
+  pub inside : id < new
+
+pub interned-counts : (old new : Texts) (text : List ℕ) (id : ℕ) → Interns old new text id → Counts (length old.arena) (length new.arena) id
+interned-counts old new text id interned =
+    let count : length new.arena ≡ length old.arena + length interned.more = ap length interned.grown ∙ length-append old.arena interned.more in
+    let few : length interned.more ≤ 1 = interned.few in
+    record { more = omega arith; few = omega arith; inside = (text-found new.arena text id interned.here).0 }
+
+-- ids and lists of bits stay in range
+pub in_range-grown : (old : Reader) (texts : Texts) (bits : Vec RowCol Global) (more_texts : List (List ℕ)) (more_bits : List RowCol)
+    → texts.arena ≡ old.texts.arena ++ more_texts → bits.items ≡ old.bits.items ++ more_bits → InRange old → InRange (record old { texts = texts; bits = bits })
+in_range-grown old texts bits more_texts more_bits texts_grown bits_grown range =
+    let count : length texts.arena ≡ length old.texts.arena + length more_texts = ap length texts_grown ∙ length-append old.texts.arena more_texts in
+    let listed : (list : BitList) → IsListOf (length old.bits.items) list → IsListOf (length bits.items) list =
+    λ list is. let longer = IsListOf-grown old.bits.items more_bits list is in rw bits_grown longer in
+    record {
+      names = All-weaker (λ (p : NetName × ℕ). p.0.name < length old.texts.arena) (λ (p : NetName × ℕ). p.0.name < length texts.arena) (net_names old.nets) (λ p lt. omega arith) range.names;
+      functions = All-weaker (λ (f : Function). f.name < length old.texts.arena) (λ (f : Function). f.name < length texts.arena) old.functions.items (λ f lt. omega arith) range.functions;
+      function_bits = All-weaker (λ (f : Function). IsListOf (length old.bits.items) f.bits) (λ (f : Function). IsListOf (length bits.items) f.bits) old.functions.items (λ f is. listed f.bits is) range.function_bits;
+      extras = All-weaker (λ (e : Extra). e.name < length old.texts.arena) (λ (e : Extra). e.name < length texts.arena) old.extras.items (λ e lt. omega arith) range.extras;
+      buffers = All-weaker (λ (l : LinkLine). IsListOf (length old.bits.items) l.bits) (λ (l : LinkLine). IsListOf (length bits.items) l.bits) old.buffers.lines.items (λ l is. listed l.bits is) range.buffers;
+      routings = All-weaker (λ (l : LinkLine). IsListOf (length old.bits.items) l.bits) (λ (l : LinkLine). IsListOf (length bits.items) l.bits) old.routings.items (λ l is. listed l.bits is) range.routings;
+    }
+
+-- lists that say the same
+pub names-kept : (old : Reader) (texts : Texts) (more : List (List ℕ)) → texts.arena ≡ old.texts.arena ++ more → InRange old → name_lines texts.arena (net_names old.nets) ≡ name_lines old.texts.arena (net_names old.nets)
+names-kept old texts more grown range = ap (λ t. name_lines t (net_names old.nets)) grown ∙ names-grown old.texts.arena more (net_names old.nets) range.names
+
+pub extras-kept : (old : Reader) (texts : Texts) (more : List (List ℕ)) → texts.arena ≡ old.texts.arena ++ more → InRange old → extra_lines texts.arena old.extras.items ≡ extra_lines old.texts.arena old.extras.items
+extras-kept old texts more grown range = ap (λ t. extra_lines t old.extras.items) grown ∙ extras-grown old.texts.arena more old.extras.items range.extras
+
+pub functions-kept : (old : Reader) (texts : Texts) (bits : List RowCol) (more_texts : List (List ℕ)) (more_bits : List RowCol) → texts.arena ≡ old.texts.arena ++ more_texts → bits ≡ old.bits.items ++ more_bits → InRange old
+    → function_lines texts.arena bits old.functions.items ≡ function_lines old.texts.arena old.bits.items old.functions.items
+functions-kept old texts bits more_texts more_bits texts_grown bits_grown range =
+    (λ i. function_lines (texts_grown i) (bits_grown i) old.functions.items) ∙ functions-grown old.texts.arena more_texts old.bits.items more_bits old.functions.items range.functions range.function_bits
+
+pub links-kept : (bits new_bits more : List RowCol) (lines : List LinkLine) → new_bits ≡ bits ++ more → All (λ l. IsListOf (length bits) l.bits) lines → link_lines new_bits lines ≡ link_lines bits lines
+links-kept bits new_bits more lines grown all = ap (λ b. link_lines b lines) grown ∙ links-grown bits more lines all
+
+-- a line of functions
+pub function-step : (old new : Reader) (lines : List (List ℕ)) (n : ℕ) (chip : Chip) (kind : TileKind) (word : List ℕ) (words : List (List ℕ)) → At old lines n chip (Functions kind) word words
+    → PushesFunction kind (word ∷ words) old new → Holds new lines (n + 1)
+function-step old new lines n chip kind word words at pushed =
+    let function = pushed.function in
+    let line : FunctionLine = record { kind = kind; name = pushed.name; bits = bits_named new.bits.items function.bits } in
+    let said : Said = record nothing { functions = line ∷ [] } in
+    let says : said_at lines n ≡ said = said-at old lines n chip (Functions kind) word words at ∙ ap (λ r. record nothing { functions = item r }) pushed.says in
+    let none : (said_at lines n).choices ≡ [] = ap (λ s. s.choices) says in
+    let counts = interned-counts old.texts new.texts pushed.name function.name pushed.interned in
+    let under = at.under in
+    let range = at.holds.in_range in
+    let after = in_range-grown old new.texts new.bits pushed.interned.more pushed.grown.0 pushed.interned.grown pushed.grown.1 range in
+    let found = (text-found new.texts.arena pushed.name function.name pushed.interned.here).1 in
+    let read : function_line new.texts.arena new.bits.items function ≡ line = λ i. record { kind = pushed.same i; name = found i; bits = bits_named new.bits.items function.bits } in
+    let listed : function_lines new.texts.arena new.bits.items new.functions.items ≡ function_lines old.texts.arena old.bits.items old.functions.items ++ line ∷ [] =
+    ap (function_lines new.texts.arena new.bits.items) pushed.added
+    ∙ map-append (function_line new.texts.arena new.bits.items) old.functions.items (function ∷ [])
+    ∙ ap (λ fs. fs ++ function_line new.texts.arena new.bits.items function ∷ []) (functions-kept old new.texts new.bits.items pushed.interned.more pushed.grown.0 pushed.interned.grown pushed.grown.1 range)
+    ∙ ap (λ f. function_lines old.texts.arena old.bits.items old.functions.items ++ f ∷ []) read in
+    let ids : All (λ f. f.name < length new.texts.arena) new.functions.items =
+    rw pushed.added (All-push (λ (f : Function). f.name < length new.texts.arena) old.functions.items function after.functions counts.inside) in
+    let lists : All (λ f. IsListOf (length new.bits.items) f.bits) new.functions.items =
+    rw pushed.added (All-push (λ (f : Function). IsListOf (length new.bits.items) f.bits) old.functions.items function after.function_bits pushed.within) in
+    let count : length new.texts.arena ≤ length old.texts.arena + 1 = counts.few in
+    let before : length old.texts.arena ≤ n = at.holds.few in
+    subst (λ r. Holds r lines (n + 1)) (sym pushed.rest)
+    (own-step old (record old { texts = new.texts; bits = new.bits; functions = new.functions }) lines n said at.own says at.holds
+    (record { texts = pushed.interned.indexed; nets = at.holds.ready.nets; buffers = at.holds.ready.buffers; below = rw under tt })
+    (record { names = after.names; functions = ids; function_bits = lists; extras = after.extras; buffers = after.buffers; routings = after.routings })
+    (rw under tt) refl (rw under refl) (λ net. refl)
+    (names-kept old new.texts pushed.interned.more pushed.interned.grown range ∙ same _)
+    (links-kept old.bits.items new.bits.items pushed.grown.0 old.buffers.lines.items pushed.grown.1 range.buffers ∙ kept-list _ _ (buffers_at-nothing lines n none))
+    (links-kept old.bits.items new.bits.items pushed.grown.0 old.routings.items pushed.grown.1 range.routings ∙ kept-list _ _ (routings_at-nothing lines n none))
+    listed
+    (extras-kept old new.texts pushed.interned.more pushed.interned.grown range ∙ same _)
+    (same _) (same _) (omega arith))
+
+-- a line of extra bits
+pub extra-step : (old new : Reader) (lines : List (List ℕ)) (n : ℕ) (chip : Chip) (word : List ℕ) (words : List (List ℕ)) → At old lines n chip ExtraBits word words
+    → PushesExtra chip.device (word ∷ words) old new → Holds new lines (n + 1)
+extra-step old new lines n chip word words at pushed =
+    let extra = pushed.extra in
+    let line : ExtraLine = record { name = pushed.name; at = extra.at } in
+    let said : Said = record nothing { extras = line ∷ [] } in
+    let says : said_at lines n ≡ said = said-at old lines n chip ExtraBits word words at ∙ ap (λ r. record nothing { extras = item r }) pushed.says in
+    let none : (said_at lines n).choices ≡ [] = ap (λ s. s.choices) says in
+    let counts = interned-counts old.texts new.texts pushed.name extra.name pushed.interned in
+    let under = at.under in
+    let range = at.holds.in_range in
+    let after = in_range-grown old new.texts old.bits pushed.interned.more [] pushed.interned.grown (same old.bits.items) range in
+    let found = (text-found new.texts.arena pushed.name extra.name pushed.interned.here).1 in
+    let read : extra_line new.texts.arena extra ≡ line = λ i. record { name = found i; at = extra.at } in
+    let listed : extra_lines new.texts.arena new.extras.items ≡ extra_lines old.texts.arena old.extras.items ++ line ∷ [] =
+    ap (extra_lines new.texts.arena) pushed.added
+    ∙ map-append (extra_line new.texts.arena) old.extras.items (extra ∷ [])
+    ∙ ap (λ es. es ++ extra_line new.texts.arena extra ∷ []) (extras-kept old new.texts pushed.interned.more pushed.interned.grown range)
+    ∙ ap (λ e. extra_lines old.texts.arena old.extras.items ++ e ∷ []) read in
+    let ids : All (λ e. e.name < length new.texts.arena) new.extras.items =
+    rw pushed.added (All-push (λ (e : Extra). e.name < length new.texts.arena) old.extras.items extra after.extras counts.inside) in
+    let count : length new.texts.arena ≤ length old.texts.arena + 1 = counts.few in
+    let before : length old.texts.arena ≤ n = at.holds.few in
+    subst (λ r. Holds r lines (n + 1)) (sym pushed.rest)
+    (own-step old (record old { texts = new.texts; extras = new.extras }) lines n said at.own says at.holds
+    (record { texts = pushed.interned.indexed; nets = at.holds.ready.nets; buffers = at.holds.ready.buffers; below = rw under tt })
+    (record { names = after.names; functions = after.functions; function_bits = after.function_bits; extras = ids; buffers = after.buffers; routings = after.routings })
+    (rw under tt) refl refl (λ net. refl)
+    (names-kept old new.texts pushed.interned.more pushed.interned.grown range ∙ same _)
+    (kept-list _ _ (buffers_at-nothing lines n none)) (kept-list _ _ (routings_at-nothing lines n none))
+    (functions-kept old new.texts old.bits.items pushed.interned.more [] pushed.interned.grown (same old.bits.items) range ∙ same _)
+    listed (same _) (same _) (omega arith))

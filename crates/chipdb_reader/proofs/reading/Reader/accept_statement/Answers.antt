@@ -1,0 +1,14 @@
+use Rattle.chipdb_reader.proofs.Outcomes.{ok-both}
+use Rattle.chipdb_reader.proofs.reading.Reader.accept_statement.Goals as goal
+
+pub returns-clause-taken : goal.returns-clause-taken
+returns-clause-taken c =
+    ok-both c.begin.result _ _ _ c.begin.ensures.fits c.begin.ensures.begun (λ x fits begun. record {
+      bits = c.statement.new.bits;
+      below = c.in_ok-below.below;
+      says = c.in_ok-below.ensures.says;
+      grown = c.in_ok-below.ensures.grown;
+      within = c.in_ok-below.ensures.within;
+      fits = fits;
+      begun = begun;
+    })

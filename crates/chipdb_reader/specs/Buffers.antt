@@ -1,0 +1,46 @@
+-- Lines of `.buffer` statements, and the index from the values of the last statement's lines to their nets.
+use Rattle.std.specs.Prelude.{◌≡◌, ℕ, ◌≤◌, Bool, List, [], ◌∷◌, ◌++◌, length, drop, map, nat_eq, ◌==◌, if◌then◌else◌, Option, Some, None}
+use Rattle.std.specs.Ordering.{nat_cmp}
+use Rattle.std.specs.BTreeMap.{get}
+use Rattle.std.specs.Map.{lookup}
+use Rattle.chipdb_lines.specs.declared.cause.DbCause.{DbCause}
+use Rattle.chipdb_lines.specs.declared.cause.DbCause.TheVariants.{ValuesTwice}
+use Rattle.chipdb_reader.specs.declared.items.LinkLine.{LinkLine}
+use Rattle.chipdb_reader.specs.declared.buffers.Buffers.{Buffers}
+
+-- the net that the index has for values
+abbrev pub chosen_src : Buffers → ℕ → Option ℕ
+chosen_src buffers values = get nat_cmp buffers.chosen values
+
+-- the values of lines with their nets
+abbrev pub choices_of : List LinkLine → List (ℕ × ℕ)
+choices_of lines = map (λ line. (line.values, line.src)) lines
+
+-- the index has the nets of the last statement's lines
+pub record IsChosen (buffers : Buffers) : Type 0 where
+  pub found : (values : ℕ) → chosen_src buffers values ≡ lookup (nat_eq values) (choices_of (drop buffers.start buffers.lines.items))
+  pub within : buffers.start ≤ length buffers.lines.items
+
+-- another statement begins
+pub record BeginsBuffers (old new : Buffers) : Type 0 where
+  pub indexed : IsChosen new
+  pub lines : new.lines.items ≡ old.lines.items
+  pub start : new.start ≡ length new.lines.items
+
+-- a line whose values the statement hasn't yet is added
+abbrev pub with_line : Option ℕ → List LinkLine → LinkLine → List LinkLine
+with_line None lines line = lines ++ line ∷ []
+with_line (Some src) lines line = lines
+
+-- what is wrong with a line, where its values choose that net already
+abbrev pub choice_cause_of : Option ℕ → ℕ → Option DbCause
+choice_cause_of None src = None
+choice_cause_of (Some other) src = if other == src then None else Some ValuesTwice
+
+abbrev pub buffer_cause : Buffers → LinkLine → Option DbCause
+buffer_cause buffers line = choice_cause_of (chosen_src buffers line.values) line.src
+
+pub record AddsBuffer (old new : Buffers) (line : LinkLine) : Type 0 where
+  pub indexed : IsChosen new
+  pub lines : new.lines.items ≡ with_line (chosen_src old line.values) old.lines.items line
+  pub start : new.start ≡ old.start

@@ -1,0 +1,26 @@
+-- The fields of a database, and what its contracts see of them.
+use Rattle.chipdb_reader.specs.declared.chip_db.ChipDb.TheInside.{Inside}
+use Rattle.chipdb_reader.specs.Fit.{IsFit}
+use Rattle.chipdb_reader.specs.Kept.{Kept, database_in}
+use Rattle.chipdb_reader.specs.Nets.{net_names}
+use Rattle.chipdb_reader.specs.Sound.{IsSound}
+
+-- the lists that are kept
+abbrev pub kept_of : Inside → Kept
+kept_of db = record {
+  chip = db.chip;
+  texts = db.texts.arena;
+  bits = db.bits.items;
+  names = net_names db.nets;
+  buffers = db.buffers.items;
+  routings = db.routings.items;
+  functions = db.functions.items;
+  extras = db.extras.items;
+  global_inputs = db.global_inputs.items;
+  global_pins = db.global_pins.items;
+}
+
+-- the indexes are those of the lists, and the lists name what the device has
+pub record IsDatabase (db : Inside) : Type 0 where
+  pub sound : IsSound db.texts db.nets db.functions.items db.extras.items
+  pub fit : IsFit (database_in (kept_of db))

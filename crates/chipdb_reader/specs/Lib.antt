@@ -1,0 +1,12 @@
+pub mod Blocks
+pub mod Database
+pub mod Faults
+pub mod Texts
+pub mod Nets
+pub mod Buffers
+pub mod Kept
+pub mod Reading
+pub mod Lookups
+pub mod Sound
+pub mod Fit
+pub mod Inside

@@ -1,0 +1,72 @@
+// A database as it is kept.
+ghost use Rattle.std.specs.Prelude.{◌≡◌, ◌<◌, length, All, Some, IfOk, IfErr};
+
+use crate::fault::DbFault;
+use crate::items::{Extra, Function, LinkLine};
+use crate::nets::Nets;
+use crate::reading::Reader;
+use crate::texts::Texts;
+use chipdb_lines::{Chip, GlobalInput, GlobalPin};
+use plane_map::RowCol;
+use std::marker::Model;
+
+/// A database: a device, the names of its nets, their links, the functions of its tiles, and its extra bits. Contracts see
+/// the lists that are kept, and what they say is a function of these.
+#[derive(Drop)]
+pub struct ChipDb {
+    pub(crate) chip: Chip,
+    pub(crate) texts: Texts,
+    pub(crate) bits: Vec<RowCol>,
+    pub(crate) nets: Nets,
+    pub(crate) buffers: Vec<LinkLine>,
+    pub(crate) routings: Vec<LinkLine>,
+    pub(crate) functions: Vec<Function>,
+    pub(crate) extras: Vec<Extra>,
+    pub(crate) global_inputs: Vec<GlobalInput>,
+    pub(crate) global_pins: Vec<GlobalPin>,
+}
+
+impl Model for ChipDb {
+    ghost use Rattle.chipdb_reader.specs.Kept.{Kept};
+
+    ghost Value = { Kept };
+
+    ghost use Rattle.chipdb_reader.specs.Inside.{kept_of, IsDatabase};
+
+    ghost view = { kept_of };
+
+    ghost invariant = { IsDatabase };
+}
+
+impl ChipDb {
+    ghost use Rattle.chipdb_reader.specs.Fit.{IsFit};
+    ghost use Rattle.chipdb_reader.specs.Kept.{Kept, database_in};
+    ghost use Rattle.chipdb_reader.specs.Nets.{net_names};
+    ghost use Rattle.chipdb_reader.specs.Reading.{FitsReader, IsReady, IsOutOfMemory};
+
+    /// What the lines of a text have given.
+    pub(crate) fn of(chip: Chip, reader: Reader) -> Result<ChipDb, DbFault>
+        requires ready { IsReady reader }
+        requires names { All (λ p. p.0.name < length reader.texts.arena) (net_names reader.nets) }
+        requires functions { All (λ f. f.name < length reader.texts.arena) reader.functions.items }
+        requires extras { All (λ e. e.name < length reader.texts.arena) reader.extras.items }
+        requires fit { (kept : Kept) → FitsReader chip reader kept → IsFit (database_in kept) }
+        ensures kept { IfOk result (FitsReader chip reader) }
+        ensures refused { IfErr result IsOutOfMemory }
+    {
+        let mut nets = reader.nets;
+        nets.close()?;
+        Ok(ChipDb {
+            chip,
+            texts: reader.texts,
+            bits: reader.bits,
+            nets,
+            buffers: reader.buffers.into_lines(),
+            routings: reader.routings,
+            functions: reader.functions,
+            extras: reader.extras,
+            global_inputs: reader.global_inputs,
+            global_pins: reader.global_pins,
+        })
+    }
+}

@@ -1,0 +1,54 @@
+// What a database gives of its lines.
+use chipdb_lines::BitList;
+use name_arena::NameId;
+use plane_map::{Place, TileKind};
+
+/// A name that a net has in the tile at (x, y).
+#[derive(Clone, Copy, Debug, PartialEq, Eq, PartialOrd, Ord)]
+pub struct NetName {
+    pub x: u8,
+    pub y: u8,
+    pub name: NameId,
+}
+
+/// A link from the net `src` to the net `dst` in the tile at (x, y). It is on where each of the bits has its value.
+#[derive(Clone, Copy, Debug, PartialEq, Eq)]
+pub struct LinkLine {
+    pub x: u8,
+    pub y: u8,
+    pub dst: u32,
+    pub src: u32,
+    pub bits: BitList,
+    /// The values of the bits: that of the first one is the lowest bit.
+    pub values: u64,
+}
+
+/// A function of the tiles of a kind, and the bits that it has in each.
+#[derive(Clone, Copy, Debug, PartialEq, Eq)]
+pub struct Function {
+    pub kind: TileKind,
+    pub name: NameId,
+    pub bits: BitList,
+}
+
+/// An extra bit, and its place in the configuration planes.
+#[derive(Clone, Copy, Debug, PartialEq, Eq)]
+pub struct Extra {
+    pub name: NameId,
+    pub at: Place,
+}
+
+/// A tile by its place in the grid.
+#[derive(Clone, Copy, Debug, PartialEq, Eq)]
+pub struct TileXy8 {
+    pub x: u8,
+    pub y: u8,
+}
+
+/// A pad of an io tile: pad `n` of the tile at (x, y).
+#[derive(Clone, Copy, Debug, PartialEq, Eq)]
+pub struct PinXy {
+    pub x: u8,
+    pub y: u8,
+    pub n: u8,
+}

@@ -1,0 +1,24 @@
+//! Chip databases: the text that tells of a device which bits its functions have, and how its nets are linked.
+//!
+//! The text has lines; a line that begins with a dot is a statement, and the lines that follow belong to it. [`read`] makes
+//! a [`ChipDb`] of it or tells its first faulty line. The look-ups of a `ChipDb` take no memory.
+#![tactic(auto)]
+
+mod buffers;
+mod chip_db;
+mod fault;
+mod items;
+mod lookups;
+mod nets;
+mod reader;
+mod reading;
+mod texts;
+
+pub use chip_db::ChipDb;
+pub use chipdb_lines::{BitList, DbCause};
+pub use fault::DbFault;
+pub use items::{Extra, Function, LinkLine, NetName, PinXy, TileXy8};
+pub use reader::read;
+
+#[cfg(test)]
+mod tests;

@@ -1,0 +1,178 @@
+// Look-ups in a database. They take no memory.
+ghost use Rattle.std.specs.Prelude.{◌≡◌, ◌&&◌, ◌==◌, position, find};
+ghost use Rattle.std.specs.Option.{option_map};
+ghost use Rattle.chipdb_lines.specs.Kept.{bits_named};
+ghost use Rattle.chipdb_lines.specs.Statements.{is_same_kind};
+ghost use Rattle.chipdb_reader.specs.Fit.{IsFit};
+ghost use Rattle.chipdb_reader.specs.Kept.{database_in, name_lines};
+ghost use Rattle.chipdb_reader.specs.Lookups.{extra_place, function_place, input_of, names_of_net, net_at, pad_of};
+ghost use Rattle.chipdb_reader.specs.Nets.{names_with};
+ghost use Rattle.chipdb_reader.specs.Texts.{text_at};
+
+use crate::chip_db::ChipDb;
+use crate::items::{Extra, Function, LinkLine, NetName, PinXy, TileXy8};
+use chipdb_lines::{BitList, GlobalInput, GlobalPin, bits_of};
+use name_arena::NameId;
+use plane_map::{DeviceName, Place, RowCol, TileKind};
+
+impl ChipDb {
+    /// The device.
+    pub fn device(&self) -> DeviceName
+        ensures device { result ≡ self.now.chip.device }
+        ensures fit { IsFit (database_in self.now) }
+    {
+        self.chip.device
+    }
+
+    /// How many nets there are.
+    pub fn net_count(&self) -> u32
+        ensures { result ≡ self.now.chip.nets }
+    {
+        self.chip.nets
+    }
+
+    /// The net that has a name in the tile at (x, y).
+    pub fn net_of(&self, x: u8, y: u8, name: &[u8]) -> Option<u32>
+        ensures { result ≡ net_at x y name.now (database_in self.now).names }
+    {
+        match self.texts.find(name) {
+            None => None,
+            Some(name) => self.nets.net_of(NetName { x, y, name }),
+        }
+    }
+
+    /// The names of a net, in the order of the text.
+    pub fn names_of(&self, net: u32) -> &[NetName]
+        ensures { name_lines self.now.texts (names_with net result.now) ≡ names_of_net net (database_in self.now).names }
+    {
+        self.nets.names_of(net)
+    }
+
+    /// The bytes of a name of this database.
+    pub fn text(&self, name: NameId) -> &[u8]
+        ensures { result.now ≡ text_at self.now.texts name }
+    {
+        self.texts.get(name)
+    }
+
+    /// The links of `.buffer` statements, in the order of the text.
+    pub fn buffers(&self) -> &[LinkLine]
+        ensures buffers { result.now ≡ self.now.buffers }
+        ensures fit { IsFit (database_in self.now) }
+    {
+        &self.buffers
+    }
+
+    /// The links of `.routing` statements, in the order of the text.
+    pub fn routings(&self) -> &[LinkLine]
+        ensures routings { result.now ≡ self.now.routings }
+        ensures fit { IsFit (database_in self.now) }
+    {
+        &self.routings
+    }
+
+    /// The bits of a list of this database.
+    pub fn bits(&self, list: BitList) -> &[RowCol]
+        ensures { result.now ≡ bits_named self.now.bits list }
+    {
+        bits_of(&self.bits, list)
+    }
+
+    /// The functions of tiles, in the order of the text.
+    pub fn functions(&self) -> &[Function]
+        ensures functions { result.now ≡ self.now.functions }
+        ensures fit { IsFit (database_in self.now) }
+    {
+        &self.functions
+    }
+
+    /// The place of the first function of a kind and name.
+    pub fn function(&self, kind: TileKind, name: &[u8]) -> Option<usize>
+        ensures { result ≡ function_place kind name.now (database_in self.now).functions }
+    {
+        match self.texts.find(name) {
+            None => None,
+            Some(name) => first_function(&self.functions, kind, name),
+        }
+    }
+
+    /// The extra bits, in the order of the text.
+    pub fn extras(&self) -> &[Extra]
+        ensures extras { result.now ≡ self.now.extras }
+        ensures fit { IsFit (database_in self.now) }
+    {
+        &self.extras
+    }
+
+    /// The place of the first extra bit of a name.
+    pub fn extra(&self, name: &[u8]) -> Option<Place>
+        ensures { result ≡ extra_place name.now (database_in self.now).extras }
+    {
+        match self.texts.find(name) {
+            None => None,
+            Some(name) => first_extra(&self.extras, name),
+        }
+    }
+
+    /// The tile of the first `.gbufin` line of a global net.
+    pub fn gbufin(&self, g: u8) -> Option<TileXy8>
+        ensures { result ≡ input_of g self.now.global_inputs }
+    {
+        first_input(&self.global_inputs, g)
+    }
+
+    /// The pad of the first `.gbufpin` line of a global net.
+    pub fn gbufpin(&self, g: u8) -> Option<PinXy>
+        ensures { result ≡ pad_of g self.now.global_pins }
+    {
+        first_pin(&self.global_pins, g)
+    }
+}
+
+/// The place of the first function of a kind and name.
+fn first_function(functions: &[Function], kind: TileKind, name: NameId) -> Option<usize>
+    ensures { result ≡ position (λ function. is_same_kind function.kind kind && (function.name == name)) functions.now }
+{
+    functions
+        .iter()
+        .position(|function| function.kind == kind && function.name == name)
+}
+
+/// The place of the first extra bit of a name.
+fn first_extra(extras: &[Extra], name: NameId) -> Option<Place>
+    ensures { result ≡ option_map (λ extra. extra.at) (find (λ extra. extra.name == name) extras.now) }
+{
+    match extras.iter().find(|extra| extra.name == name) {
+        None => None,
+        Some(extra) => Some(extra.at),
+    }
+}
+
+/// The tile of the first line of a global net.
+#[tactic(auto, unfolding(crate::specs::Lookups::input_of))]
+fn first_input(inputs: &[GlobalInput], g: u8) -> Option<TileXy8>
+    ensures { result ≡ input_of g inputs.now }
+{
+    match inputs.iter().find(|input| input.global == g) {
+        None => None,
+        Some(input) => Some(TileXy8 {
+            x: input.x,
+            y: input.y,
+        }),
+    }
+}
+
+/// The pad of the first line of a global net.
+#[tactic(auto, unfolding(crate::specs::Lookups::pad_of))]
+fn first_pin(pins: &[GlobalPin], g: u8) -> Option<PinXy>
+    ensures { result ≡ pad_of g pins.now }
+{
+    match pins.iter().find(|pin| pin.global == g) {
+        None => None,
+        Some(pin) => Some(PinXy {
+            x: pin.x,
+            y: pin.y,
+            n: pin.pad,
+        }),
+    }
+}

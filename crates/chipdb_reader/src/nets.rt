@@ -1,0 +1,114 @@
+// The nets of a database and their names.
+ghost use Rattle.std.specs.Prelude.{◌≡◌, ℕ, [], false, is_some, if◌then◌else◌, IfOk, IfErr, OnOk};
+ghost use Rattle.chipdb_lines.specs.Kept.{Reports};
+
+use crate::items::NetName;
+use chipdb_lines::{DbCause, Refusal};
+use indexmap::IndexMap;
+use std::alloc::{AllocError, Global};
+use std::collections::BTreeMap;
+use std::mem;
+
+/// Nets with their names, and an index from a place and a name to the net.
+#[derive(Drop)]
+pub(crate) struct Nets {
+    /// The nets that were begun before the last, and their names, in the order of the text.
+    earlier: IndexMap<u32, Vec<NetName>>,
+    /// The net that was begun last.
+    last: Option<u32>,
+    /// The names of that net.
+    names: Vec<NetName>,
+    /// The net of each name.
+    index: BTreeMap<NetName, u32>,
+    alloc: Global,
+}
+
+impl Nets {
+    ghost use Rattle.chipdb_reader.specs.Nets.{AddsName, BeginsNet, ClosesNet, IsNetIndex, earlier_names, has_net, named_net, net_names};
+
+    /// No nets. It takes no memory yet.
+    pub(crate) fn new(alloc: Global) -> Nets
+        ensures indexed { IsNetIndex result }
+        ensures none { result.last ≡ None }
+        ensures empty { net_names result ≡ [] }
+        ensures no_net { (net : ℕ) → has_net result net ≡ false }
+    {
+        Nets {
+            earlier: IndexMap::new(alloc),
+            last: None,
+            names: Vec::new(alloc),
+            index: BTreeMap::new(alloc),
+            alloc,
+        }
+    }
+
+    /// Begins the names of a net, which wasn't begun before.
+    pub(crate) fn begin(&mut self, net: u32) -> Result<(), Refusal>
+        requires { IsNetIndex self.old }
+        ensures begun { IfOk result (λ _. BeginsNet self.old self.new net) }
+        ensures refused { IfErr result (Reports (if has_net self.old net then Some DbCause.NetTwice else None)) }
+        ensures new { OnOk result (has_net self.old net ≡ false) }
+    {
+        self.close()?;
+        if self.earlier.contains_key(&net) {
+            return Err(Refusal::Cause(DbCause::NetTwice));
+        }
+        self.last = Some(net);
+        Ok(())
+    }
+
+    /// Puts the net that was begun last to the earlier ones.
+    pub(crate) fn close(&mut self) -> Result<(), AllocError>
+        requires { IsNetIndex self.old }
+        ensures { IfOk result (λ _. ClosesNet self.old self.new) }
+    {
+        match self.last {
+            None => Ok(()),
+            Some(net) => self.put_earlier(net),
+        }
+    }
+
+    /// Puts a net that was begun last to the earlier ones.
+    fn put_earlier(&mut self, net: u32) -> Result<(), AllocError>
+        requires indexed { IsNetIndex self.old }
+        requires last { self.old.last ≡ Some net }
+        ensures { IfOk result (λ _. ClosesNet self.old self.new) }
+    {
+        let names = mem::replace(&mut self.names, Vec::new(self.alloc));
+        self.earlier.insert(net, names).map_err(AllocError::from)?;
+        self.last = None;
+        Ok(())
+    }
+
+    /// Adds a name to the net that was begun last, where the place hasn't that name yet.
+    pub(crate) fn add(&mut self, net: u32, name: NetName) -> Result<(), Refusal>
+        requires indexed { IsNetIndex self.old }
+        requires last { self.old.last ≡ Some net }
+        ensures added { IfOk result (λ _. AddsName self.old self.new net name) }
+        ensures refused { IfErr result (Reports (if is_some (named_net self.old name) then Some DbCause.NameTwice else None)) }
+    {
+        if self.index.contains_key(&name) {
+            return Err(Refusal::Cause(DbCause::NameTwice));
+        }
+        self.index.insert(name, net).map_err(AllocError::from)?;
+        self.names.push(name).map_err(AllocError::from)?;
+        Ok(())
+    }
+
+    /// The net of a name.
+    pub(crate) fn net_of(&self, name: NetName) -> Option<u32>
+        ensures { result ≡ named_net self.now name }
+    {
+        self.index.get(&name).copied()
+    }
+
+    /// The names of a net that isn't the last.
+    pub(crate) fn names_of(&self, net: u32) -> &[NetName]
+        ensures { result.now ≡ earlier_names self.now net }
+    {
+        match self.earlier.get(&net) {
+            None => &[],
+            Some(names) => names,
+        }
+    }
+}

@@ -1,0 +1,302 @@
+// What is kept between the lines of a database, and how a line is taken.
+ghost use Rattle.std.specs.Prelude.{◌≡◌, ◌-◌, ◌^◌, ◌<◌, ◌≤◌, ℕ, length, IfOk, IfErr, OnOk, MatchResult, false};
+ghost use Rattle.std.specs.Result.{result_err};
+ghost use Rattle.chipdb_lines.specs.Words.{has_none, own_words, words_in};
+ghost use Rattle.chipdb_lines.specs.Items.{choice_of, global_input_of, global_pin_of};
+ghost use Rattle.chipdb_lines.specs.Kept.{Reports};
+
+use crate::buffers::Buffers;
+use crate::items::{Extra, Function, LinkLine, NetName};
+use crate::nets::Nets;
+use crate::texts::Texts;
+use chipdb_lines::{
+    Below, Chip, Choice, GlobalInput, GlobalPin, LinkHead, Refusal, choice_item, extra_item,
+    function_item, global_input, global_pin, is_statement, name_item, own_words, statement,
+};
+use plane_map::{DeviceName, RowCol, TileKind};
+use std::alloc::{AllocError, Global};
+
+/// What the lines so far have given, and what the next ones are.
+#[derive(Drop)]
+pub(crate) struct Reader {
+    pub(crate) chip: Option<Chip>,
+    below: Below,
+    pub(crate) texts: Texts,
+    pub(crate) bits: Vec<RowCol>,
+    pub(crate) nets: Nets,
+    pub(crate) buffers: Buffers,
+    pub(crate) routings: Vec<LinkLine>,
+    pub(crate) functions: Vec<Function>,
+    pub(crate) extras: Vec<Extra>,
+    pub(crate) global_inputs: Vec<GlobalInput>,
+    pub(crate) global_pins: Vec<GlobalPin>,
+}
+
+impl Reader {
+    ghost use Rattle.chipdb_reader.specs.Nets.{IsNetIndex};
+    ghost use Rattle.chipdb_reader.specs.Texts.{IsIndexed};
+    ghost use Rattle.chipdb_reader.specs.Buffers.{IsChosen};
+    ghost use Rattle.chipdb_reader.specs.Reading.{BeginsBlock, BufferRefusal, ForCause, IsReady, IsUnread, NameRefusal, PushesBuffer, PushesExtra, PushesFunction, PushesName, RefusesItem, RefusesLine, RefusesWords, StatementRefusal, TakesItem, TakesLine, TakesStatement, TakesWords, begin_cause};
+
+    /// No line was read. It takes no memory yet.
+    pub(crate) fn new(alloc: Global) -> Reader
+        ensures { IsUnread result }
+    {
+        Reader {
+            chip: None,
+            below: Below::Passed,
+            texts: Texts::new(alloc),
+            bits: Vec::new(alloc),
+            nets: Nets::new(alloc),
+            buffers: Buffers::new(alloc),
+            routings: Vec::new(alloc),
+            functions: Vec::new(alloc),
+            extras: Vec::new(alloc),
+            global_inputs: Vec::new(alloc),
+            global_pins: Vec::new(alloc),
+        }
+    }
+
+    /// Takes the next line.
+    pub(crate) fn accept(&mut self, line: &[u8]) -> Result<(), Refusal>
+        requires ready { IsReady self.old }
+        requires room { length self.old.texts.arena < 2 ^ 32 - 1 }
+        ensures taken { IfOk result (λ _. TakesLine self.old line.now self.new) }
+        ensures refused { IfErr result (ForCause (RefusesLine self.old line.now)) }
+    {
+        if is_statement(line) {
+            self.accept_statement(line)
+        } else {
+            match own_words(line) {
+                None => Ok(()),
+                Some(words) => self.accept_words(words),
+            }
+        }
+    }
+
+    /// Takes a statement.
+    fn accept_statement(&mut self, line: &[u8]) -> Result<(), Refusal>
+        requires { IsReady self.old }
+        ensures taken { IfOk result (λ _. TakesStatement self.old line.now self.new) }
+        ensures refused { IfErr result (ForCause (StatementRefusal self.old line.now)) }
+    {
+        let below = statement(self.chip, line, &mut self.bits)?;
+        self.begin(below)
+    }
+
+    /// Begins the lines below a statement.
+    fn begin(&mut self, below: Below) -> Result<(), Refusal>
+        requires { IsNetIndex self.old.nets }
+        ensures begun { IfOk result (λ _. BeginsBlock self.old below self.new) }
+        ensures fits { OnOk result (begin_cause self.old.nets below ≡ None) }
+        ensures refused { IfErr result (Reports (begin_cause self.old.nets below)) }
+    {
+        self.below = below;
+        self.buffers.begin();
+        match below {
+            Below::Device(chip) => {
+                self.chip = first_chip(self.chip, chip);
+                Ok(())
+            }
+            Below::Names(net) => self.nets.begin(net),
+            _ => Ok(()),
+        }
+    }
+
+    /// Takes the words of a line for the statement above it.
+    fn accept_words(&mut self, words: &[u8]) -> Result<(), Refusal>
+        requires ready { IsReady self.old }
+        requires room { length self.old.texts.arena < 2 ^ 32 - 1 }
+        requires some { has_none (words_in words.now) ≡ false }
+        ensures taken { IfOk result (λ _. TakesWords self.old self.old.chip (words_in words.now) self.new) }
+        ensures refused { IfErr result (ForCause (RefusesWords self.old self.old.chip (words_in words.now))) }
+    {
+        match self.chip {
+            None => Ok(()),
+            Some(chip) => self.accept_item(chip, words),
+        }
+    }
+
+    /// Takes the words of a line for the statement above it, behind the device.
+    fn accept_item(&mut self, chip: Chip, words: &[u8]) -> Result<(), Refusal>
+        requires ready { IsReady self.old }
+        requires room { length self.old.texts.arena < 2 ^ 32 - 1 }
+        ensures taken { IfOk result (λ _. TakesItem self.old chip self.old.below (words_in words.now) self.new) }
+        ensures refused { IfErr result (ForCause (RefusesItem self.old chip self.old.below (words_in words.now))) }
+    {
+        match self.below {
+            Below::Passed | Below::Device(_) => Ok(()),
+            Below::GlobalInputs => push_global_input(&mut self.global_inputs, chip.device, words),
+            Below::GlobalPins => push_global_pin(&mut self.global_pins, chip.device, words),
+            Below::Functions(kind) => self.accept_function(kind, words),
+            Below::ExtraBits => self.accept_extra(chip.device, words),
+            Below::Names(net) => self.accept_name(chip.device, net, words),
+            Below::Buffers(head) => self.accept_buffer(chip.nets, head, words),
+            Below::Routings(head) => push_routing(&mut self.routings, chip.nets, head, words),
+        }
+    }
+
+    /// Takes a line of functions.
+    fn accept_function(&mut self, kind: TileKind, words: &[u8]) -> Result<(), Refusal>
+        requires indexed { IsIndexed self.old.texts }
+        requires room { length self.old.texts.arena < 2 ^ 32 - 1 }
+        ensures taken { IfOk result (λ _. PushesFunction kind (words_in words.now) self.old self.new) }
+        ensures refused { IfErr result (Reports (result_err (function_of kind (words_in words.now)))) }
+    {
+        let item = function_item(kind, words, &mut self.bits)?;
+        let name = self.texts.intern(item.name)?;
+        self.functions
+            .push(Function {
+                kind,
+                name,
+                bits: item.bits,
+            })
+            .map_err(AllocError::from)?;
+        Ok(())
+    }
+
+    /// Takes a line of extra bits.
+    fn accept_extra(&mut self, device: DeviceName, words: &[u8]) -> Result<(), Refusal>
+        requires indexed { IsIndexed self.old.texts }
+        requires room { length self.old.texts.arena < 2 ^ 32 - 1 }
+        ensures taken { IfOk result (λ _. PushesExtra device (words_in words.now) self.old self.new) }
+        ensures refused { IfErr result (Reports (result_err (extra_of device (words_in words.now)))) }
+    {
+        match extra_item(device, words) {
+            Err(cause) => Err(Refusal::Cause(cause)),
+            Ok(item) => {
+                let name = self.texts.intern(item.name)?;
+                self.extras
+                    .push(Extra { name, at: item.at })
+                    .map_err(AllocError::from)?;
+                Ok(())
+            }
+        }
+    }
+
+    /// Takes a name of a net.
+    fn accept_name(&mut self, device: DeviceName, net: u32, words: &[u8]) -> Result<(), Refusal>
+        requires indexed { IsIndexed self.old.texts }
+        requires nets { IsNetIndex self.old.nets }
+        requires last { self.old.nets.last ≡ Some net }
+        requires room { length self.old.texts.arena < 2 ^ 32 - 1 }
+        ensures taken { IfOk result (λ _. PushesName device net (words_in words.now) self.old self.new) }
+        ensures refused { IfErr result (ForCause (NameRefusal device net (words_in words.now) self.old)) }
+    {
+        match name_item(device, words) {
+            Err(cause) => Err(Refusal::Cause(cause)),
+            Ok(item) => {
+                let name = self.texts.intern(item.name)?;
+                self.nets.add(
+                    net,
+                    NetName {
+                        x: item.x,
+                        y: item.y,
+                        name,
+                    },
+                )
+            }
+        }
+    }
+
+    /// Takes a line of a `.buffer`.
+    fn accept_buffer(&mut self, nets: u32, head: LinkHead, words: &[u8]) -> Result<(), Refusal>
+        requires chosen { IsChosen self.old.buffers }
+        requires few { head.bits.count ≤ 64 }
+        ensures taken { IfOk result (λ _. PushesBuffer nets head (words_in words.now) self.old self.new) }
+        ensures refused { IfErr result (ForCause (BufferRefusal nets head (words_in words.now) self.old)) }
+    {
+        match choice_item(nets, head.bits.len(), words) {
+            Err(cause) => Err(Refusal::Cause(cause)),
+            Ok(choice) => self.buffers.add(link(head, choice)),
+        }
+    }
+}
+
+ghost use Rattle.std.specs.Prelude.{Some};
+ghost use Rattle.place_search.specs.Places.{or_else};
+ghost use Rattle.chipdb_lines.specs.Items.{extra_of, function_of};
+ghost use Rattle.chipdb_reader.specs.Reading.{Pushes, PushesRouting, link_with};
+
+/// The device that was given before, or else this one.
+fn first_chip(earlier: Option<Chip>, chip: Chip) -> Option<Chip>
+    ensures { result ≡ or_else earlier (Some chip) }
+{
+    match earlier {
+        Some(earlier) => Some(earlier),
+        None => Some(chip),
+    }
+}
+
+/// The link of a statement's line.
+fn link(head: LinkHead, choice: Choice) -> LinkLine
+    ensures { result ≡ link_with head choice }
+{
+    LinkLine {
+        x: head.x,
+        y: head.y,
+        dst: head.dst,
+        src: choice.src,
+        bits: head.bits,
+        values: choice.values,
+    }
+}
+
+/// Takes a line of a `.routing`.
+fn push_routing(
+    routings: &mut Vec<LinkLine>,
+    nets: u32,
+    head: LinkHead,
+    words: &[u8],
+) -> Result<(), Refusal>
+    requires { head.bits.count ≤ 64 }
+    ensures { MatchResult result
+        (λ _. PushesRouting nets head (words_in words.now) routings.old.items routings.new.items)
+        (Reports (result_err (choice_of nets head.bits.count (words_in words.now)))) }
+{
+    match choice_item(nets, head.bits.len(), words) {
+        Err(cause) => Err(Refusal::Cause(cause)),
+        Ok(choice) => {
+            routings.push(link(head, choice)).map_err(AllocError::from)?;
+            Ok(())
+        }
+    }
+}
+
+/// Takes a line of a `.gbufin`.
+fn push_global_input(
+    inputs: &mut Vec<GlobalInput>,
+    device: DeviceName,
+    words: &[u8],
+) -> Result<(), Refusal>
+    ensures { MatchResult result
+        (λ _. Pushes (global_input_of device (words_in words.now)) inputs.old.items inputs.new.items)
+        (Reports (result_err (global_input_of device (words_in words.now)))) }
+{
+    match global_input(device, words) {
+        Err(cause) => Err(Refusal::Cause(cause)),
+        Ok(input) => {
+            inputs.push(input).map_err(AllocError::from)?;
+            Ok(())
+        }
+    }
+}
+
+/// Takes a line of a `.gbufpin`.
+fn push_global_pin(
+    pins: &mut Vec<GlobalPin>,
+    device: DeviceName,
+    words: &[u8],
+) -> Result<(), Refusal>
+    ensures { MatchResult result
+        (λ _. Pushes (global_pin_of device (words_in words.now)) pins.old.items pins.new.items)
+        (Reports (result_err (global_pin_of device (words_in words.now)))) }
+{
+    match global_pin(device, words) {
+        Err(cause) => Err(Refusal::Cause(cause)),
+        Ok(pin) => {
+            pins.push(pin).map_err(AllocError::from)?;
+            Ok(())
+        }
+    }
+}

@@ -1,0 +1,185 @@
+use super::*;
+use plane_map::{DeviceName, Place, RowCol, TileKind};
+use std::alloc::{AllocError, Global};
+
+/// A small database of a 1k.
+const SMALL: &[u8] = b".device 1k 14 18 6
+.logic_tile_bits 54 16
+LC_0 B0[36] B0[37] B0[38] B0[39] B0[40] B0[41] B0[42] B0[43] B0[44] B0[45] B1[36] B1[37] B1[38] B1[39] B1[40] B1[41] B1[42] B1[43] B1[44] B1[45]
+.io_tile_bits 18 16
+IOB_0.PINTYPE_0 B0[0]
+IOB_0.PINTYPE_1 B1[0]
+IOB_0.PINTYPE_2 B2[0]
+IOB_0.PINTYPE_3 B3[0]
+IOB_0.PINTYPE_4 B4[0]
+IOB_0.PINTYPE_5 B5[0]
+.net 0
+0 1 io_0/D_IN_0
+.net 1
+1 1 lutff_0/in_0
+.net 2
+1 1 lutff_0/out
+.net 3
+0 2 io_0/D_OUT_0
+.buffer 1 1 1 B2[0]
+1 0
+.buffer 0 2 3 B6[0]
+1 2
+";
+
+/// A small database of an 8k.
+const OTHER: &[u8] = b".device 8k 34 34 4
+.gbufin
+0 16 3
+33 17 3
+.gbufpin
+0 7 1 2
+.extra_bits
+padin 0 870 271
+padin 1 0 0
+.pins
+1 2 3
+.buffer 1 1 1 B0[0] B1[2]
+10 2
+# equal to the line above
+10\t02
+01 3
+.routing 1 1 0 B0[0] B1[2]
+11 1
+11 1
+";
+
+/// What a text says, where it isn't too long.
+fn read_short(alloc: Global, text: &[u8]) -> Result<ChipDb, DbFault> {
+    if text.len() <= 268_435_456 {
+        read(alloc, text)
+    } else {
+        Err(DbFault::At {
+            line: 0,
+            cause: DbCause::Number,
+        })
+    }
+}
+
+/// The fault of a text: line 0 where it is read, line 1000 where memory is out.
+fn fault_of(alloc: Global, text: &[u8]) -> (u64, DbCause) {
+    match read_short(alloc, text) {
+        Ok(_) => (0, DbCause::NoDevice),
+        Err(DbFault::At { line, cause }) => (line, cause),
+        Err(DbFault::Memory(_)) => (1000, DbCause::NoDevice),
+    }
+}
+
+/// The fault of the small database with more lines at its end.
+fn fault_with(alloc: Global, more: &[u8]) -> (u64, DbCause) {
+    match joined(alloc, more) {
+        Ok(text) => fault_of(alloc, &text),
+        Err(_) => (1000, DbCause::NoDevice),
+    }
+}
+
+fn joined(alloc: Global, more: &[u8]) -> Result<Vec<u8>, AllocError> {
+    let mut text = Vec::from_slice(alloc, SMALL)?;
+    text.extend_from_slice(more)?;
+    Ok(text)
+}
+
+#[test]
+fn tells_each_cause(rt: HostRuntime) {
+    for (more, line, cause) in [
+        (".net 6", 23, DbCause::NetRange),
+        (".net 4294967296", 23, DbCause::Number),
+        (".net 3", 23, DbCause::NetTwice),
+        (".net 4\n1 1 lutff_0/out", 24, DbCause::NameTwice),
+        (".device 1k 14 18 6", 23, DbCause::Device),
+        (".logic_tile 3 1", 23, DbCause::TileKind),
+        (".routing 1 1 1 B2(0)", 23, DbCause::BitName),
+        (".routing 1 1 1 B16[0]", 23, DbCause::BitRange),
+        (".logic_tile_bits 54 16\nLC_7 B0[36]", 24, DbCause::CellBits),
+        (
+            ".routing 1 1 1 B2[0]\n\n# none\n10 0",
+            26,
+            DbCause::ValueLength,
+        ),
+        (
+            ".buffer 1 1 1 B2[0]\n1 0\n0 2\n1 3",
+            26,
+            DbCause::ValuesTwice,
+        ),
+    ] {
+        let found = fault_with(rt.alloc(), more.as_bytes());
+        assert!(rt; found == (line, cause), "of {more:?}");
+    }
+    assert!(rt; fault_of(rt.alloc(), b"") == (1, DbCause::NoDevice));
+    assert!(rt; fault_of(rt.alloc(), SMALL) == (0, DbCause::NoDevice));
+}
+
+/// Whether the nets of the first database are found.
+fn has_nets(db: &ChipDb) -> bool {
+    db.device() == DeviceName::K1
+        && db.net_count() == 6
+        && db.net_of(1, 1, b"lutff_0/out") == Some(2)
+        && db.net_of(1, 2, b"lutff_0/out").is_none()
+        && db.net_of(1, 1, b"lutff_1/out").is_none()
+        && db.names_of(3).len() == 1
+        && db.names_of(4).is_empty()
+}
+
+/// Whether the first link is from 0 to 1 by one bit, which is 1.
+fn has_link(db: &ChipDb) -> bool {
+    match db.buffers() {
+        [link, _] => {
+            link.dst == 1
+                && link.src == 0
+                && link.values == 1
+                && db.bits(link.bits) == [RowCol { row: 2, col: 0 }].as_slice()
+        }
+        _ => false,
+    }
+}
+
+/// Whether the functions of the first database are found.
+fn has_functions(db: &ChipDb) -> bool {
+    db.functions().len() == 7
+        && db.function(TileKind::Io, b"IOB_0.PINTYPE_5") == Some(6)
+        && db.function(TileKind::Logic, b"LC_0") == Some(0)
+        && db.function(TileKind::Io, b"LC_0").is_none()
+}
+
+/// Whether the first lines of globals and of extra bits are found.
+fn has_firsts(db: &ChipDb) -> bool {
+    db.gbufin(3) == Some(TileXy8 { x: 0, y: 16 })
+        && db.gbufin(2).is_none()
+        && db.gbufpin(2) == Some(PinXy { x: 0, y: 7, n: 1 })
+        && db.extras().len() == 2
+        && db.extra(b"padin")
+            == Some(Place {
+                bank: 0,
+                px: 870,
+                py: 271,
+            })
+}
+
+/// Whether an equal line of a `.buffer` is passed over, and one of a `.routing` isn't.
+fn has_links(db: &ChipDb) -> bool {
+    match (db.buffers(), db.routings()) {
+        ([first, second], [link, _]) => first.values == 1 && second.values == 2 && link.values == 3,
+        _ => false,
+    }
+}
+
+#[test]
+fn looks_up_what_it_read(rt: HostRuntime) {
+    assert!(rt; small_is_read(rt.alloc()) == Ok(true));
+    assert!(rt; other_is_read(rt.alloc()) == Ok(true));
+}
+
+fn small_is_read(alloc: Global) -> Result<bool, DbFault> {
+    let db = read_short(alloc, SMALL)?;
+    Ok(has_nets(&db) && has_link(&db) && has_functions(&db))
+}
+
+fn other_is_read(alloc: Global) -> Result<bool, DbFault> {
+    let db = read_short(alloc, OTHER)?;
+    Ok(has_firsts(&db) && has_links(&db))
+}

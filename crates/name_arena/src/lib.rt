@@ -1,0 +1,9 @@
+//! An arena of names: byte strings that are added one after another and named by their places.
+#![tactic(auto)]
+
+mod arena;
+
+pub use arena::{NameArena, NameId};
+
+#[cfg(test)]
+mod tests;

@@ -3,15 +3,16 @@ use Rattle.std.proofs.Common.{◌≡◌, ℕ, Bool, true, false, List, [], ◌�
 use Rattle.std.specs.Prelude.{Result, Ok, Err, Option, Some, None, if◌then◌else◌, nat_le}
 use Rattle.vlog_tokens.specs.declared.fixed.Fixed.TheVariants as sign
 use Rattle.vlog_tokens.specs.Tokens.{TokenValue, Spot}
-use Rattle.vlog_tokens.specs.Tokens.TokenValue as token
+use Rattle.vlog_tokens.specs.Tokens.{TokenValue as token}
 use Rattle.vlog_module.specs.declared.atoms.Atom.{Atom}
 use Rattle.vlog_module.specs.declared.atoms.Atom.TheVariants as atom
 use Rattle.vlog_forms.specs.Values.{Value, atom_tokens, is_same_token}
 use Rattle.vlog_forms.specs.Values.Value.{AnAtom}
 use Rattle.vlog_forms.specs.Items.{tokens_in}
-use Rattle.vlog_forms.specs.Reading.{Found, found_at, Reading, opens, close_part, index_part, read_part, behind_open, with_atom, with_part, atom_from, read_atom}
+use Rattle.vlog_forms.specs.Reading.{Found, found_at, Reading, opens, read_tokens, with_index, close_part, index_part, read_part, behind_open, with_atom, with_part, atom_from, read_atom}
 use Rattle.vlog_forms.proofs.Tokens.{token-same, same-token}
-use Rattle.vlog_forms.proofs.Kinds.{FitsAtom}
+use Rattle.vlog_forms.proofs.Exact.{read_tokens-whole}
+use Rattle.vlog_forms.proofs.ValueKinds.{FitsAtom}
 
 -- ---- what is read stands there
 
@@ -20,20 +21,18 @@ record PartStands (spots : List Spot) (k : ℕ) (rest : List Spot) : Type 0 wher
   tokens : tokens_in spots ≡ token.number k ∷ token.fixed sign.CloseBracket ∷ tokens_in rest
   small : nat_le k 15 ≡ true
 
-close_case : (b : Bool) (k other offset : ℕ) (first : Spot) (spots rest : List Spot) → is_same_token (token.fixed sign.CloseBracket) first.token ≡ b
-    → ◌≡◌ {A = Reading ℕ} (if b then Ok (k, spots) else Err offset) (Ok (other, rest))
-    → (k ≡ other) × (first.token ∷ tokens_in spots ≡ token.fixed sign.CloseBracket ∷ tokens_in rest)
-close_case true k other offset first spots rest same reads =
-    let head : token.fixed sign.CloseBracket ≡ first.token = token-same (token.fixed sign.CloseBracket) first.token same in
-    let tail : spots ≡ rest = cc in
-    (cc, cc)
-close_case false k other offset first spots rest same reads = absurd cc
+close_case : (k other : ℕ) (spots rest : List Spot) (reading : Result (List Spot) ℕ)
+    → ((left : List Spot) → reading ≡ Ok left → tokens_in spots ≡ token.fixed sign.CloseBracket ∷ tokens_in left) → with_index k reading ≡ Ok (other, rest)
+    → (k ≡ other) × (tokens_in spots ≡ token.fixed sign.CloseBracket ∷ tokens_in rest)
+close_case k other spots rest (Err stuck) stands reads = absurd cc
+close_case k other spots rest (Ok left) stands reads =
+    let same : left ≡ rest = cc in (cc, rw same at (stands left refl))
 
 close-stands : (end k other : ℕ) (spots rest : List Spot) → close_part end k spots ≡ Ok (other, rest)
     → (k ≡ other) × (tokens_in spots ≡ token.fixed sign.CloseBracket ∷ tokens_in rest)
-close-stands end k other [] rest reads = absurd cc
-close-stands end k other (first ∷ spots) rest reads =
-    close_case (is_same_token (token.fixed sign.CloseBracket) first.token) k other first.offset first spots rest refl reads
+close-stands end k other spots rest reads =
+    close_case k other spots rest (read_tokens end (token.fixed sign.CloseBracket ∷ []) spots)
+        (λ left. read_tokens-whole end (token.fixed sign.CloseBracket ∷ []) spots left) reads
 
 index_case : (b : Bool) (end k other offset : ℕ) (spots rest : List Spot) → nat_le k 15 ≡ b
     → (if b then close_part end k spots else Err offset) ≡ Ok (other, rest)
@@ -144,7 +143,7 @@ atom-read end found (atom.Part name k) (head ∷ bracket ∷ number ∷ close �
     let part : read_part end (number ∷ close ∷ spots) ≡ Ok (k, spots) =
         ap (λ one. index_part end number.offset one (close ∷ spots)) number_is
         ∙ ap (λ b. if b then close_part end k (close ∷ spots) else Err number.offset) fits
-        ∙ ap (λ b. if b then Ok (k, spots) else Err close.offset) closes in
+        ∙ ap (λ b. with_index k (if b then Ok spots else Err close.offset)) closes in
     let chosen : atom_from end found head.offset (token.name name) (bracket ∷ number ∷ close ∷ spots) ≡ with_part found head.offset name (read_part end (number ∷ close ∷ spots))
         = ap (λ b. if b then with_part found head.offset name (read_part end (number ∷ close ∷ spots)) else with_atom found head.offset (atom.Whole name) (bracket ∷ number ∷ close ∷ spots)) opened in
     record { offset = head.offset; rest = spots; reads = ap (λ one. atom_from end found head.offset one (bracket ∷ number ∷ close ∷ spots)) is ∙ chosen ∙ ap (with_part found head.offset name) part; left = left }

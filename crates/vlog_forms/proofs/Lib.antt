@@ -1,6 +1,12 @@
 pub mod Worked
 pub mod Tokens
 pub mod Exact
-pub mod Kinds
+pub mod ValueKinds
 pub mod Atoms
-pub mod Slots
+pub mod SlotLists
+pub mod Rebuilt
+pub mod Shape
+pub mod Uses
+pub mod Forms
+pub mod Plain
+pub mod Digits

@@ -7,7 +7,7 @@ use Rattle.vlog_tokens.specs.declared.fixed.Fixed.{Fixed}
 use Rattle.vlog_tokens.specs.declared.fixed.Fixed.TheVariants as sign
 use Rattle.vlog_tokens.specs.Fixed.{fixed_text, word_of, pair_of, sign_of}
 use Rattle.vlog_tokens.specs.Tokens.{TokenValue}
-use Rattle.vlog_tokens.specs.Tokens.TokenValue as token
+use Rattle.vlog_tokens.specs.Tokens.{TokenValue as token}
 use Rattle.vlog_forms.specs.Values.{is_same_token, is_same_bit}
 
 -- a sign or word from its spelling

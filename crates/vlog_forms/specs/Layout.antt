@@ -2,7 +2,7 @@
 use Rattle.std.specs.Prelude.{ℕ, zero, suc, ◌+◌, Bool, true, false, List, [], ◌∷◌, ◌++◌, flat_map, take, drop, if◌then◌else◌}
 use Rattle.vlog_tokens.specs.declared.fixed.Fixed.TheVariants as sign
 use Rattle.vlog_tokens.specs.Tokens.{TokenValue}
-use Rattle.vlog_tokens.specs.Tokens.TokenValue as token
+use Rattle.vlog_tokens.specs.Tokens.{TokenValue as token}
 use Rattle.vlog_forms.specs.declared.form.Form.{Form}
 use Rattle.vlog_forms.specs.declared.slot.Slot.{Slot}
 use Rattle.vlog_forms.specs.declared.slot.Slot.TheVariants.{Space, Fixed, Literal, Again, AtomsAgain, Name, Edge, Bit, Word, Index, Atom, Atoms}

@@ -3,14 +3,14 @@ use Rattle.std.specs.Prelude.{ℕ, zero, suc, ◌+◌, nat_lt, Bool, true, false
 use Rattle.std.specs.List.{list_all, list_any}
 use Rattle.vlog_tokens.specs.declared.fixed.Fixed.TheVariants as sign
 use Rattle.vlog_tokens.specs.Tokens.{TokenValue, Spot, spots_of}
-use Rattle.vlog_tokens.specs.Tokens.TokenValue as token
+use Rattle.vlog_tokens.specs.Tokens.{TokenValue as token}
 use Rattle.vlog_module.specs.declared.sort.Sort.TheVariants as sort
 use Rattle.vlog_module.specs.declared.atoms.Atom.TheVariants as atom
 use Rattle.vlog_module.specs.declared.item.Item.{Item}
 use Rattle.vlog_module.specs.declared.modules.Port.{Port}
 use Rattle.vlog_module.specs.Parts.{Parts}
 use Rattle.vlog_module.specs.Uses.{Use}
-use Rattle.vlog_module.specs.Uses.Use as use_as
+use Rattle.vlog_module.specs.Uses.{Use as use_as}
 use Rattle.vlog_module.specs.WellFormed.{Scope, scope_of, section_of, is_known, is_first, is_assigned}
 use Rattle.vlog_forms.specs.declared.fault.VlogCause.{VlogCause}
 use Rattle.vlog_forms.specs.declared.fault.VlogCause.TheVariants.{Syntax, Order, Undeclared, AssignedTwice}

@@ -2,7 +2,7 @@
 use Rattle.std.specs.Prelude.{ℕ, zero, suc, max, nat_le, ◌==◌, Bool, true, false, List, [], ◌∷◌, ◌++◌, map, Option, Some, None, Result, Ok, Err, if◌then◌else◌}
 use Rattle.vlog_tokens.specs.declared.fixed.Fixed.TheVariants as sign
 use Rattle.vlog_tokens.specs.Tokens.{TokenValue, Spot}
-use Rattle.vlog_tokens.specs.Tokens.TokenValue as token
+use Rattle.vlog_tokens.specs.Tokens.{TokenValue as token}
 use Rattle.vlog_module.specs.declared.atoms.Atom.{Atom}
 use Rattle.vlog_module.specs.declared.atoms.Atom.TheVariants as atom
 use Rattle.vlog_forms.specs.declared.form.Form.{Form}
@@ -36,11 +36,17 @@ read_tokens end (wanted ∷ more) [] = Err end
 read_tokens end (wanted ∷ more) (first ∷ spots) =
     if is_same_token wanted first.token then read_tokens end more spots else Err first.offset
 
+-- whether the edge of a word is `negedge`
+abbrev pub edge_of : TokenValue → Option Value
+edge_of one =
+    if is_same_token (token.fixed sign.Posedge) one then Some (Edge false)
+    else if is_same_token (token.fixed sign.Negedge) one then Some (Edge true)
+    else None
+
 -- the value that one token is in a slot
 abbrev pub single : Slot → TokenValue → Option Value
 single (slot.Name role) (token.name name) = Some (Name role name)
-single slot.Edge (token.fixed sign.Posedge) = Some (Edge false)
-single slot.Edge (token.fixed sign.Negedge) = Some (Edge true)
+single slot.Edge one = edge_of one
 single slot.Bit (token.bit bit) = Some (Bit bit)
 single slot.Word (token.word word) = Some (Word word)
 single (slot.Index limit) (token.number k) = if nat_le k limit then Some (Index k) else None
@@ -64,11 +70,14 @@ abbrev pub opens : List Spot → Bool
 opens [] = false
 opens (first ∷ spots) = is_same_token (token.fixed sign.OpenBracket) first.token
 
+-- an index, and what stands behind it
+abbrev pub with_index : ℕ → Result (List Spot) ℕ → Reading ℕ
+with_index k (Ok spots) = Ok (k, spots)
+with_index k (Err stuck) = Err stuck
+
 -- `]` behind the index of a bit
 abbrev pub close_part : ℕ → ℕ → List Spot → Reading ℕ
-close_part end k [] = Err end
-close_part end k (first ∷ spots) =
-    if is_same_token (token.fixed sign.CloseBracket) first.token then Ok (k, spots) else Err first.offset
+close_part end k spots = with_index k (read_tokens end (token.fixed sign.CloseBracket ∷ []) spots)
 
 -- the index of a bit of a register of 16 bits, and `]`
 abbrev pub index_part : ℕ → ℕ → TokenValue → List Spot → Reading ℕ

@@ -1,10 +1,10 @@
 -- Values: what stands in the slots of a form that take one.
-use Rattle.std.specs.Prelude.{ℕ, zero, suc, Bool, true, false, List, [], ◌∷◌, ◌==◌, bytes_eq}
+use Rattle.std.specs.Prelude.{ℕ, zero, suc, Bool, true, false, not, List, [], ◌∷◌, ◌==◌, bytes_eq}
 use Rattle.vlog_tokens.specs.declared.fixed.Fixed.{Fixed}
 use Rattle.vlog_tokens.specs.declared.fixed.Fixed.TheVariants as sign
 use Rattle.vlog_tokens.specs.Fixed.{fixed_text}
 use Rattle.vlog_tokens.specs.Tokens.{TokenValue}
-use Rattle.vlog_tokens.specs.Tokens.TokenValue as token
+use Rattle.vlog_tokens.specs.Tokens.{TokenValue as token}
 use Rattle.vlog_module.specs.declared.atoms.Atom.{Atom}
 use Rattle.vlog_module.specs.declared.atoms.Atom.TheVariants as atom
 use Rattle.vlog_forms.specs.declared.slot.Role.{Role}
@@ -63,8 +63,7 @@ tokens_at (value ∷ values) (suc place) = tokens_at values place
 -- whether two tokens have the same value; a stray byte is like no token
 abbrev pub is_same_bit : Bool → Bool → Bool
 is_same_bit true other = other
-is_same_bit false true = false
-is_same_bit false false = true
+is_same_bit false other = not other
 
 abbrev pub is_same_token : TokenValue → TokenValue → Bool
 is_same_token (token.fixed one) (token.fixed other) = bytes_eq (fixed_text one) (fixed_text other)

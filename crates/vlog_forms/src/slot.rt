@@ -30,9 +30,9 @@ pub enum Slot {
     /// This number.
     Literal(u8),
     /// The tokens of the value of this place once more.
-    Again(usize),
+    Again(u8),
     /// The atoms of as many places from the first one on once more, in braces.
-    AtomsAgain(usize, usize),
+    AtomsAgain(u8, u8),
     /// A name; a value.
     Name(Role),
     /// `posedge` or `negedge`; a value.
@@ -46,5 +46,5 @@ pub enum Slot {
     /// A bit, a name or `NAME[k]`; a value.
     Atom,
     /// So many atoms in braces, the highest index first; each is a value.
-    Atoms(usize),
+    Atoms(u8),
 }

@@ -1,5 +1,6 @@
 -- Sorts of bytes, and the values of digits.
 use Rattle.std.specs.Prelude.{ℕ, ◌+◌, ◌-◌, ◌*◌, Bool, ◌&&◌, ◌||◌, not, List, get_or, nat_le, ◌==◌, if◌then◌else◌}
+use Rattle.std.specs.Char.{is_ascii_alphabetic, is_ascii_digit}
 
 -- space, tab, CR and LF
 abbrev pub is_blank : ℕ → Bool
@@ -7,11 +8,11 @@ is_blank byte = (byte == 32) || (byte == 9) || (byte == 13) || (byte == 10)
 
 -- a letter or an underscore
 abbrev pub is_letter : ℕ → Bool
-is_letter byte = (nat_le 97 byte && nat_le byte 122) || (nat_le 65 byte && nat_le byte 90) || (byte == 95)
+is_letter byte = is_ascii_alphabetic byte || (byte == 95)
 
 -- a decimal digit
 abbrev pub is_digit : ℕ → Bool
-is_digit byte = nat_le 48 byte && nat_le byte 57
+is_digit byte = is_ascii_digit byte
 
 -- what a name may go on with
 abbrev pub is_name_byte : ℕ → Bool

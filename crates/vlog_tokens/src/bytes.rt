@@ -14,14 +14,14 @@ pub(crate) fn is_blank(byte: u8) -> bool
 pub(crate) fn is_letter(byte: u8) -> bool
     ensures { result ≡ is_letter byte }
 {
-    (b'a' <= byte && byte <= b'z') || (b'A' <= byte && byte <= b'Z') || byte == b'_'
+    byte.is_ascii_alphabetic() || byte == b'_'
 }
 
 /// Whether the byte is a decimal digit.
 pub(crate) fn is_digit(byte: u8) -> bool
     ensures { result ≡ is_digit byte }
 {
-    b'0' <= byte && byte <= b'9'
+    byte.is_ascii_digit()
 }
 
 /// Whether a name may go on with the byte.

@@ -3,14 +3,15 @@ use Rattle.std.proofs.Common.{◌≡◌, ℕ, Bool, true, false, List, [], ◌�
 use Rattle.std.specs.Prelude.{Result, Ok, Err, Option, Some, None, if◌then◌else◌, nat_le}
 use Rattle.vlog_tokens.specs.declared.fixed.Fixed.TheVariants as sign
 use Rattle.vlog_tokens.specs.Tokens.{TokenValue, Spot}
-use Rattle.vlog_tokens.specs.Tokens.TokenValue as token
+use Rattle.vlog_tokens.specs.Tokens.{TokenValue as token}
 use Rattle.vlog_module.specs.declared.atoms.Atom.{Atom}
 use Rattle.vlog_module.specs.declared.atoms.Atom.TheVariants as atom
 use Rattle.vlog_forms.specs.declared.slot.Slot.{Slot}
 use Rattle.vlog_forms.specs.declared.slot.Slot.TheVariants as slot
-use Rattle.vlog_forms.specs.Values.{Value, value_tokens, edge_sign}
+use Rattle.vlog_forms.specs.Values.{Value, value_tokens, edge_sign, is_same_token}
 use Rattle.vlog_forms.specs.Values.Value.{Name, Edge, Bit, Word, Index, AnAtom}
 use Rattle.vlog_forms.specs.Reading.{single}
+use Rattle.vlog_forms.proofs.Tokens.{token-same}
 
 -- the index of a part is below 16
 abbrev pub FitsAtom : Atom → Type 0
@@ -34,17 +35,25 @@ index_step true limit k value fits reads =
     subst (λ (w : Value). Fits (slot.Index limit) w × (value_tokens w ≡ token.number k ∷ [])) same (fits, refl)
 index_step false limit k value fits reads = absurd cc
 
+edge_step : (a b : Bool) (one : TokenValue) (value : Value) → is_same_token (token.fixed sign.Posedge) one ≡ a → is_same_token (token.fixed sign.Negedge) one ≡ b
+    → (if a then Some (Edge false) else if b then Some (Edge true) else None) ≡ Some value → Fits slot.Edge value × (value_tokens value ≡ one ∷ [])
+edge_step true b one value rises falls reads =
+    let same : Edge false ≡ value = cc in
+    let is : token.fixed sign.Posedge ≡ one = token-same (token.fixed sign.Posedge) one rises in
+    subst (λ (w : Value). Fits slot.Edge w × (value_tokens w ≡ one ∷ [])) same (tt, ap (λ each. each ∷ []) is)
+edge_step false true one value rises falls reads =
+    let same : Edge true ≡ value = cc in
+    let is : token.fixed sign.Negedge ≡ one = token-same (token.fixed sign.Negedge) one falls in
+    subst (λ (w : Value). Fits slot.Edge w × (value_tokens w ≡ one ∷ [])) same (tt, ap (λ each. each ∷ []) is)
+edge_step false false one value rises falls reads = absurd cc
+
 -- the value of a token is of the slot's kind, and is written so
 pub single-fits : (wanted : Slot) (one : TokenValue) (value : Value) → single wanted one ≡ Some value → Fits wanted value × (value_tokens value ≡ one ∷ [])
 single-fits (slot.Name role) (token.name name) value reads =
     let same : Name role name ≡ value = cc in
     subst (λ (w : Value). Fits (slot.Name role) w × (value_tokens w ≡ token.name name ∷ [])) same (refl, refl)
-single-fits slot.Edge (token.fixed sign.Posedge) value reads =
-    let same : Edge false ≡ value = cc in
-    subst (λ (w : Value). Fits slot.Edge w × (value_tokens w ≡ token.fixed sign.Posedge ∷ [])) same (tt, refl)
-single-fits slot.Edge (token.fixed sign.Negedge) value reads =
-    let same : Edge true ≡ value = cc in
-    subst (λ (w : Value). Fits slot.Edge w × (value_tokens w ≡ token.fixed sign.Negedge ∷ [])) same (tt, refl)
+single-fits slot.Edge one value reads =
+    edge_step (is_same_token (token.fixed sign.Posedge) one) (is_same_token (token.fixed sign.Negedge) one) one value refl refl reads
 single-fits slot.Bit (token.bit bit) value reads =
     let same : Bit bit ≡ value = cc in
     subst (λ (w : Value). Fits slot.Bit w × (value_tokens w ≡ token.bit bit ∷ [])) same (tt, refl)

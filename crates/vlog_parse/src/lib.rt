@@ -1,0 +1,21 @@
+//! Modules of the Verilog subset from text.
+#![tactic(auto)]
+
+mod atom;
+mod build;
+mod check;
+mod fault;
+mod forms;
+mod found;
+mod header;
+mod names;
+mod parse;
+mod slots;
+mod stop;
+mod token;
+
+pub use fault::VlogFault;
+pub use parse::parse;
+
+#[cfg(test)]
+mod tests;

@@ -37,23 +37,25 @@ among-all form.Start = later (later (later (later (later (later (later (later (l
 among-all form.End = later (later (later (later (later (later (later (later (later (later (later (later (later (later (later here))))))))))))))
 
 -- a form that was read
-pub record IsRead (end : ℕ) (given : List Found) (spots : List Spot) (whole : Whole) : Type 0 where
+pub record IsRead (end : ℕ) (given : List Found) (forms : List Form) (spots : List Spot) (whole : Whole) : Type 0 where
+  pub among : IsAmong whole.form forms
   pub reads : read_slots end (slots_of whole.form) given spots ≡ Ok (whole.found, whole.spots)
 
-whole_case : (end : ℕ) (given : List Found) (one : Form) (spots : List Spot) (whole : Whole) (reading : Reading (List Found)) (others : Result Whole ℕ)
-    → read_slots end (slots_of one) given spots ≡ reading → (others ≡ Ok whole → IsRead end given spots whole) → first_whole one reading others ≡ Ok whole → IsRead end given spots whole
-whole_case end given one spots whole (Ok step) others is more reads =
+whole_case : (end : ℕ) (given : List Found) (one : Form) (forms : List Form) (spots : List Spot) (whole : Whole) (reading : Reading (List Found)) (others : Result Whole ℕ)
+    → read_slots end (slots_of one) given spots ≡ reading → (others ≡ Ok whole → IsRead end given forms spots whole) → first_whole one reading others ≡ Ok whole → IsRead end given (one ∷ forms) spots whole
+whole_case end given one forms spots whole (Ok step) others is more reads =
     let same : record { form = one; found = step.0; spots = step.1 } ≡ whole = cc in
-    subst (λ (w : Whole). IsRead end given spots w) same (record { reads = is })
-whole_case end given one spots whole (Err stuck) (Ok other) is more reads = more cc
-whole_case end given one spots whole (Err stuck) (Err other) is more reads = absurd cc
+    subst (λ (w : Whole). IsRead end given (one ∷ forms) spots w) same (record { among = here; reads = is })
+whole_case end given one forms spots whole (Err stuck) (Ok other) is more reads =
+    let found = more cc in record { among = later found.among; reads = found.reads }
+whole_case end given one forms spots whole (Err stuck) (Err other) is more reads = absurd cc
 
 -- what is whole is read
-pub forms-read : (end : ℕ) (given : List Found) (forms : List Form) (spots : List Spot) (whole : Whole) → read_forms end given forms spots ≡ Ok whole → IsRead end given spots whole
+pub forms-read : (end : ℕ) (given : List Found) (forms : List Form) (spots : List Spot) (whole : Whole) → read_forms end given forms spots ≡ Ok whole → IsRead end given forms spots whole
 unfolding read_forms
 forms-read end given [] spots whole reads = absurd cc
 forms-read end given (one ∷ forms) spots whole reads =
-    whole_case end given one spots whole (read_slots end (slots_of one) given spots) (read_forms end given forms spots) refl (forms-read end given forms spots whole) reads
+    whole_case end given one forms spots whole (read_slots end (slots_of one) given spots) (read_forms end given forms spots) refl (forms-read end given forms spots whole) reads
 
 -- some form is whole
 abbrev pub SomeWhole : Result Whole ℕ → Type 0

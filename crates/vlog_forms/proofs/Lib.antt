@@ -10,3 +10,8 @@ pub mod Uses
 pub mod Forms
 pub mod Plain
 pub mod Digits
+pub mod WrittenSlots
+pub mod ItemRead
+pub mod ItemsRead
+pub mod HeaderRead
+pub mod Spelled

@@ -177,7 +177,7 @@ are_closed [] = true
 are_closed (wanted ∷ slots) = if takes_atom wanted then (if is_closed slots then are_closed slots else false) else are_closed slots
 
 -- whether each repeat is of a value before it, of which there are so many at first
-abbrev is_before : ℕ → Slot → Bool
+abbrev pub is_before : ℕ → Slot → Bool
 is_before n (slot.Again place) = nat_lt place n
 is_before n _ = true
 

@@ -20,7 +20,7 @@ use Rattle.vlog_forms.specs.declared.slot.Role.{Role}
 use Rattle.vlog_forms.specs.declared.slot.Role.TheVariants.{Declares, Reads, ReadsBit, Takes, Assigns, Starts}
 use Rattle.vlog_forms.specs.declared.slot.Slot.{Slot}
 use Rattle.vlog_forms.specs.declared.slot.Slot.TheVariants as slot
-use Rattle.vlog_forms.specs.Values.{Value}
+use Rattle.vlog_forms.specs.Values.{Value, is_same_token}
 use Rattle.vlog_forms.specs.Values.Value.{Name, Edge, Bit, Word, Index, AnAtom}
 use Rattle.vlog_forms.specs.Items.{item_of, name_in, index_in}
 use Rattle.vlog_forms.specs.Reading.{Found, found_at, values_of, offset_of, read_tokens, Reading, read_slots, Whole, read_forms, port_forms, all_forms}
@@ -169,11 +169,15 @@ pub data PortStep : Type 0 where
   Closes : PortStep
   Stops : PortStep
 
+abbrev pub sign_step : Turn → TokenValue → PortStep
+sign_step turn one =
+    if is_same_token (token.fixed sign.Comma) one then (if wants_name turn then Stops else PartsNames)
+    else if is_same_token (token.fixed sign.CloseParen) one then (if may_close turn then Closes else Stops)
+    else Stops
+
 abbrev pub port_step : Turn → TokenValue → PortStep
 port_step turn (token.name name) = if wants_name turn then TakesName name else Stops
-port_step turn (token.fixed sign.Comma) = if wants_name turn then Stops else PartsNames
-port_step turn (token.fixed sign.CloseParen) = if may_close turn then Closes else Stops
-port_step turn _ = Stops
+port_step turn one = sign_step turn one
 
 abbrev pub next_port : PortStep → ℕ → List Found → List Spot → (Turn → List Found → Reading (List Found)) → Reading (List Found)
 next_port (TakesName name) offset names spots more = more Named (names ++ found_at offset (Name (Declares sort.Input) name) ∷ [])
@@ -201,15 +205,40 @@ header_slots = slot.Fixed sign.Module ∷ slot.Name (Declares sort.Input) ∷ sl
 
 -- ---- the whole
 
+-- the header: the module's name, the names of the ports, and the tokens behind it
+pub record Header : Type 0 where
+  pub head : List Found
+  pub names : List Found
+  pub spots : List Spot
+
+abbrev pub with_semicolon : List Found → List Found → Result (List Spot) ℕ → Result Header ℕ
+with_semicolon head names (Ok spots) = Ok (record { head = head; names = names; spots = spots })
+with_semicolon head names (Err stuck) = Err stuck
+
+abbrev pub with_names : ℕ → List Found → Reading (List Found) → Result Header ℕ
+with_names end head (Ok names) = with_semicolon head names.0 (read_tokens end (token.fixed sign.Semicolon ∷ []) names.1)
+with_names end head (Err stuck) = Err stuck
+
+abbrev pub with_head : ℕ → Reading (List Found) → Result Header ℕ
+with_head end (Ok head) = with_names end head.0 (port_names end Opened [] head.1)
+with_head end (Err stuck) = Err stuck
+
+abbrev pub read_header : ℕ → List Spot → Result Header ℕ
+read_header end spots = with_head end (read_slots end header_slots [] spots)
+
+-- what comes behind the declarations of the ports
+abbrev pub ports_next : ℕ → List ℕ → List Port → List Spot → Result Parts Fault
+ports_next end name ports spots = items_outcome (suc (length spots)) end (module_of name ports []) spots
+
+-- what comes behind the header
+abbrev pub header_outcome : ℕ → Header → Result Parts Fault
+header_outcome end header =
+    unless_fault (twice_fault [] header.names)
+        (ports_outcome end header.names [] header.spots (ports_next end (name_in (values_of header.head))))
+
 -- what the tokens of a text that ends at this offset are
 unfoldable pub spots_outcome : ℕ → List Spot → Result Parts Fault
-spots_outcome end spots =
-    after (read_slots end header_slots [] spots)
-        (λ head. after (port_names end Opened [] head.1)
-        (λ names. after (read_tokens end (token.fixed sign.Semicolon ∷ []) names.1)
-        (λ behind. unless_fault (twice_fault [] names.0)
-            (ports_outcome end names.0 [] behind
-                (λ ports left. items_outcome (suc (length left)) end (module_of (name_in (values_of head.0)) ports []) left)))))
+spots_outcome end spots = after (read_header end spots) (header_outcome end)
 
 -- the module that a text spells, else the fault of the text
 unfoldable pub outcome_of : List ℕ → Result Parts Fault

@@ -1,3 +1,5 @@
 pub mod Found
 pub mod Readings
 pub mod Names
+pub mod Headers
+pub mod Outcomes

@@ -1,11 +1,22 @@
-// The header and the declarations of the ports.
+// The header.
+ghost use Rattle.std.specs.Prelude.{◌≡◌, ◌≤◌, [], ◌∷◌, length, IfOk};
+ghost use Rattle.std.specs.Option.{option_map};
+ghost use Rattle.vlog_tokens.specs.Tokens.{seen, spots_at, spots_of};
+ghost use Rattle.vlog_forms.specs.Items.{name_in};
+ghost use Rattle.vlog_forms.specs.Values as values;
+ghost use Rattle.vlog_forms.specs.Outcome.{may_close, port_names, port_step, read_header, sign_step, twice_fault, wants_name};
+ghost use Rattle.vlog_parse.specs.Found.{all_found};
+ghost use Rattle.vlog_parse.specs.Headers.{ReadsHeader, seen_step, turn_of};
+ghost use Rattle.vlog_parse.specs.Names.{seen_fault};
+ghost use Rattle.vlog_parse.specs.Readings.{ReadsTo};
+
 
 use crate::fault::Fault;
 use crate::found::{Found, push_found};
 use crate::names::NameSet;
 use crate::slots::read_slots;
 use crate::stop::Stop;
-use crate::token::expect_token;
+use crate::token::{expect_token, is_fixed};
 use std::alloc::{AllocError, Global};
 use vlog_forms::{Role, Slot, Value, VlogCause};
 use vlog_module::Sort;
@@ -23,7 +34,12 @@ pub(crate) fn read_header<'a>(
     bytes: &'a [u8],
     head: &mut Vec<Found<'a>>,
     names: &mut Vec<Found<'a>>,
-) -> Result<usize, Stop> {
+) -> Result<usize, Stop>
+    requires head { head.old.items ≡ [] }
+    requires names { names.old.items ≡ [] }
+    ensures reads { ReadsHeader (read_header (length bytes.now) (spots_of bytes.now)) bytes.now (all_found head.new.items) (all_found names.new.items) result }
+    ensures within { IfOk result (λ end. end ≤ length bytes.now) }
+{
     match read_slots(bytes, 0, &HEADER, head) {
         Err(stop) => Err(stop),
         Ok(end) => match read_names(bytes, end, names) {
@@ -61,7 +77,11 @@ fn read_names<'a>(
     bytes: &'a [u8],
     from: usize,
     names: &mut Vec<Found<'a>>,
-) -> Result<usize, Stop> {
+) -> Result<usize, Stop>
+    requires { from ≤ length bytes.now }
+    ensures reads { ReadsTo (port_names (length bytes.now) (turn_of Turn.Opened) (all_found names.old.items) (spots_at bytes.now from)) bytes.now (all_found names.new.items) result }
+    ensures within { IfOk result (λ end. end ≤ length bytes.now) }
+{
     let mut turn = Turn::Opened;
     let mut from = from;
     while let Some(spot) = next_token(bytes, from) {
@@ -84,7 +104,9 @@ fn read_names<'a>(
 }
 
 /// What a token is among the names of the ports.
-fn step_of<'a>(turn: Turn, token: Token<'a>) -> Step<'a> {
+fn step_of<'a>(turn: Turn, token: Token<'a>) -> Step<'a>
+    ensures { seen_step result ≡ port_step (turn_of turn) (seen token.entry) }
+{
     match token {
         Token::Name(name) => {
             if wants_name(turn) {
@@ -93,26 +115,39 @@ fn step_of<'a>(turn: Turn, token: Token<'a>) -> Step<'a> {
                 Step::Stops
             }
         }
-        Token::Fixed(Fixed::Comma) => {
-            if wants_name(turn) {
-                Step::Stops
-            } else {
-                Step::Parts
-            }
+        Token::Fixed(_) => sign_step(turn, token),
+        Token::Bit(_) => sign_step(turn, token),
+        Token::Word(_) => sign_step(turn, token),
+        Token::Number(_) => sign_step(turn, token),
+        Token::Stray => sign_step(turn, token),
+    }
+}
+
+/// What a token that is no name is among the names of the ports.
+fn sign_step<'a>(turn: Turn, token: Token<'a>) -> Step<'a>
+    ensures { seen_step result ≡ sign_step (turn_of turn) (seen token.entry) }
+{
+    if is_fixed(Fixed::Comma, token) {
+        if wants_name(turn) {
+            Step::Stops
+        } else {
+            Step::Parts
         }
-        Token::Fixed(Fixed::CloseParen) => {
-            if may_close(turn) {
-                Step::Closes
-            } else {
-                Step::Stops
-            }
+    } else if is_fixed(Fixed::CloseParen, token) {
+        if may_close(turn) {
+            Step::Closes
+        } else {
+            Step::Stops
         }
-        _ => Step::Stops,
+    } else {
+        Step::Stops
     }
 }
 
 /// Whether a name may follow.
-fn wants_name(turn: Turn) -> bool {
+fn wants_name(turn: Turn) -> bool
+    ensures { result ≡ wants_name (turn_of turn) }
+{
     match turn {
         Turn::Opened => true,
         Turn::Named => false,
@@ -121,7 +156,9 @@ fn wants_name(turn: Turn) -> bool {
 }
 
 /// Whether `)` may follow.
-fn may_close(turn: Turn) -> bool {
+fn may_close(turn: Turn) -> bool
+    ensures { result ≡ may_close (turn_of turn) }
+{
     match turn {
         Turn::Opened => true,
         Turn::Named => true,
@@ -133,7 +170,9 @@ fn may_close(turn: Turn) -> bool {
 pub(crate) fn twice_fault(
     alloc: Global,
     names: &[Found<'_>],
-) -> Result<Option<Fault>, AllocError> {
+) -> Result<Option<Fault>, AllocError>
+    ensures { IfOk result (λ fault. option_map seen_fault fault ≡ twice_fault [] (all_found names.now)) }
+{
     let mut before = NameSet::new(alloc);
     for one in names {
         let name = port_name(*one);
@@ -148,10 +187,18 @@ pub(crate) fn twice_fault(
     Ok(None)
 }
 
-/// The name that a value of PORTS is.
-pub(crate) fn port_name<'a>(one: Found<'a>) -> &'a [u8] {
+/// The name that a value of PORTS is; `x` where it is none.
+pub(crate) fn port_name<'a>(one: Found<'a>) -> &'a [u8]
+    ensures { result.now ≡ name_in (values.seen one.entry.value ∷ []) }
+{
     match one.value {
         Value::Name(_, name) => name,
-        _ => b"x",
+        Value::Edge(_) => b"x",
+        Value::Bit(_) => b"x",
+        Value::Word(_) => b"x",
+        Value::Index(_) => b"x",
+        Value::AtomBit(_) => b"x",
+        Value::AtomName(_) => b"x",
+        Value::AtomPart(_, _) => b"x",
     }
 }

@@ -1,4 +1,10 @@
 // Modules from text.
+ghost use Rattle.std.specs.Prelude.{◌≡◌, ℕ, ◌≤◌, ◌<◌, ◌+◌, ◌++◌, [], ◌∷◌, length, true, false, None, Ok, Err, IfOk, OnOk, MatchOption, MatchResult, All, bytes_eq};
+ghost use Rattle.vlog_tokens.specs.Tokens.{spots_at};
+ghost use Rattle.vlog_module.specs.WellFormed.{is_assigned, section_of};
+ghost use Rattle.vlog_forms.specs.Reading.{offset_of};
+ghost use Rattle.vlog_forms.specs.Outcome.{are_assigned, fault, is_end, is_output, outcome_of};
+ghost use Rattle.vlog_parse.specs.Outcomes.{Answers, RefusesAt};
 
 use crate::build::{item_of, name_at};
 use crate::check::name_fault;
@@ -14,7 +20,9 @@ use vlog_module::{Item, Module, Name, Port, Sort};
 use vlog_tokens::next_token;
 
 /// The module that a text spells, or the first fault of the text: its cause, and the offset of the token at fault.
-pub fn parse(alloc: Global, bytes: &[u8]) -> Result<Module, VlogFault> {
+pub fn parse(alloc: Global, bytes: &[u8]) -> Result<Module, VlogFault>
+    ensures outcome { Answers (outcome_of bytes.now) result }
+{
     match parse_module(alloc, bytes) {
         Ok(module) => Ok(module),
         Err(Refusal::Fault(fault)) => Err(VlogFault::At {
@@ -26,7 +34,9 @@ pub fn parse(alloc: Global, bytes: &[u8]) -> Result<Module, VlogFault> {
 }
 
 /// The module that a text spells, or why there is none.
-fn parse_module(alloc: Global, bytes: &[u8]) -> Result<Module, Refusal> {
+fn parse_module(alloc: Global, bytes: &[u8]) -> Result<Module, Refusal>
+    ensures { MatchResult result (λ parsed. outcome_of bytes.now ≡ Ok parsed) (λ refusal. RefusesAt (outcome_of bytes.now) refusal) }
+{
     let mut head = Vec::new(alloc);
     let mut names = Vec::new(alloc);
     let end = refused(read_header(bytes, &mut head, &mut names))?;
@@ -131,11 +141,10 @@ fn enter_port(
 }
 
 /// Whether a declaration is an output's.
-fn is_output(form: Form) -> bool {
-    match form {
-        Form::Output => true,
-        _ => false,
-    }
+fn is_output(form: Form) -> bool
+    ensures { result ≡ is_output form }
+{
+    matches!(form, Form::Output)
 }
 
 /// Where `endmodule` stands.
@@ -187,15 +196,17 @@ fn keep(items: &mut Vec<Item>, item: Item) -> Result<(), AllocError> {
 }
 
 /// Whether a form is `endmodule`.
-fn is_end(form: Form) -> bool {
-    match form {
-        Form::End => true,
-        _ => false,
-    }
+fn is_end(form: Form) -> bool
+    ensures { result ≡ is_end form }
+{
+    matches!(form, Form::End)
 }
 
 /// The offset of the next token, or the end of the text.
-fn token_offset(bytes: &[u8], from: usize) -> usize {
+fn token_offset(bytes: &[u8], from: usize) -> usize
+    requires { from ≤ length bytes.now }
+    ensures { result ≡ offset_of (length bytes.now) (spots_at bytes.now from) }
+{
     match next_token(bytes, from) {
         Some(spot) => spot.at,
         None => bytes.len(),
@@ -232,7 +243,9 @@ fn take_item(
 }
 
 /// The section of an item.
-fn section_of(item: &Item) -> u8 {
+fn section_of(item: &Item) -> u8
+    ensures { result ≡ section_of item.now }
+{
     match item {
         Item::Register { .. } => 2,
         Item::Word { .. } => 3,

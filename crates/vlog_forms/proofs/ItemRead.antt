@@ -105,7 +105,7 @@ item-rebuilt : (one : Item) → IsShaped one → is_item (item_form one) ≡ tru
 item-rebuilt one shaped is =
     sym (values-rebuilt (item_form one) (item_values one) is) ∙ ap item_values (item-back one shaped)
 
-form-is : (one : Item) → is_item (item_form one) ≡ true
+pub form-is : (one : Item) → is_item (item_form one) ≡ true
 form-is (item.Register name start) = refl
 form-is (item.Word name start) = refl
 form-is (item.Memory name) = refl
@@ -190,7 +190,7 @@ form-whole end one spots rest found reads shows =
     let left : whole.spots ≡ rest = cc in
     some.1 ∙ ap Ok (whole-same whole one found rest same values left)
 
-none-given : (one : Form) → is_item one ≡ true → given_count one ≡ 0
+pub none-given : (one : Form) → is_item one ≡ true → given_count one ≡ 0
 none-given form.Input is = absurd cc
 none-given form.Output is = absurd cc
 none-given form.Register is = refl

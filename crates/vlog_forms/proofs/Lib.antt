@@ -15,3 +15,4 @@ pub mod ItemRead
 pub mod ItemsRead
 pub mod HeaderRead
 pub mod Spelled
+pub mod PrintedTokens

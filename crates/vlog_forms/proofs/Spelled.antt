@@ -40,7 +40,7 @@ head-read end name spots tail stands =
     slots-read end header_slots [] (Name (Declares sort.Input) name ∷ []) spots tail (record { closed = refl; before = refl }) (tt, (refl, (tt, tt))) stands
 
 -- each item may follow those before it
-may-follow : (ports : List Port) (before items : List Item)
+pub may-follow : (ports : List Port) (before items : List Item)
     → ((i : ℕ) (one : Item) → slice_get (before ++ items) i ≡ Some one → IsAllowed (scope_of ports (take i (before ++ items))) one) → MayFollow ports before items
 unfolding MayFollow
 may-follow ports before [] allowed = tt

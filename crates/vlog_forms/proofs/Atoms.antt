@@ -11,6 +11,7 @@ use Rattle.vlog_forms.specs.Values.Value.{AnAtom}
 use Rattle.vlog_forms.specs.Items.{tokens_in}
 use Rattle.vlog_forms.specs.Reading.{Found, found_at, Reading, opens, read_tokens, with_index, close_part, index_part, read_part, behind_open, with_atom, with_part, atom_from, read_atom}
 use Rattle.vlog_forms.proofs.Tokens.{token-same, same-token}
+use Rattle.vlog_forms.proofs.Pairs.{ok_same, ok_first, ok_second}
 use Rattle.vlog_forms.proofs.Exact.{read_tokens-whole}
 use Rattle.vlog_forms.proofs.ValueKinds.{FitsAtom}
 
@@ -26,7 +27,7 @@ close_case : (k other : ℕ) (spots rest : List Spot) (reading : Result (List Sp
     → (k ≡ other) × (tokens_in spots ≡ token.fixed sign.CloseBracket ∷ tokens_in rest)
 close_case k other spots rest (Err stuck) stands reads = absurd cc
 close_case k other spots rest (Ok left) stands reads =
-    let same : left ≡ rest = cc in (cc, rw same at (stands left refl))
+    let same : left ≡ rest = ok_second reads in (ok_first reads, rw same at (stands left refl))
 
 close-stands : (end k other : ℕ) (spots rest : List Spot) → close_part end k spots ≡ Ok (other, rest)
     → (k ≡ other) × (tokens_in spots ≡ token.fixed sign.CloseBracket ∷ tokens_in rest)
@@ -73,9 +74,9 @@ part_step found offset name head (first ∷ spots) (Err stuck) after rest named 
 part_step found offset name head (first ∷ spots) (Ok part) after rest named opened stands reads =
     let bracket : first.token ≡ token.fixed sign.OpenBracket = open_case first spots opened in
     let there = stands part.0 part.1 refl in
-    let left : part.1 ≡ rest = cc in
+    let left : part.1 ≡ rest = ok_second reads in
     let behind : tokens_in spots ≡ token.number part.0 ∷ token.fixed sign.CloseBracket ∷ tokens_in rest = rw left at there.tokens in
-    record { offset = offset; one = atom.Part name part.0; gained = cc; tokens = cc; fits = there.small }
+    record { offset = offset; one = atom.Part name part.0; gained = sym (ok_first reads); tokens = cc; fits = there.small }
 
 name_case : (b : Bool) (end : ℕ) (found : List Found) (offset : ℕ) (name : List ℕ) (head : Spot) (spots : List Spot) (after : List Found) (rest : List Spot)
     → head.token ≡ token.name name → opens spots ≡ b
@@ -84,14 +85,14 @@ name_case : (b : Bool) (end : ℕ) (found : List Found) (offset : ℕ) (name : L
 name_case true end found offset name head spots after rest named opened reads =
     part_step found offset name head spots (read_part end (behind_open spots)) after rest named opened (λ k left. part-stands end k (behind_open spots) left) reads
 name_case false end found offset name head spots after rest named opened reads =
-    let left : spots ≡ rest = cc in
-    record { offset = offset; one = atom.Whole name; gained = cc; tokens = cc; fits = tt }
+    let left : spots ≡ rest = ok_second reads in
+    record { offset = offset; one = atom.Whole name; gained = sym (ok_first reads); tokens = cc; fits = tt }
 
 from-stands : (end : ℕ) (found : List Found) (head : Spot) (one : TokenValue) (spots : List Spot) (after : List Found) (rest : List Spot)
     → head.token ≡ one → atom_from end found head.offset one spots ≡ Ok (after, rest) → AtomStands found (head ∷ spots) after rest
 from-stands end found head (token.bit bit) spots after rest is reads =
-    let left : spots ≡ rest = cc in
-    record { offset = head.offset; one = atom.Bit bit; gained = cc; tokens = cc; fits = tt }
+    let left : spots ≡ rest = ok_second reads in
+    record { offset = head.offset; one = atom.Bit bit; gained = sym (ok_first reads); tokens = cc; fits = tt }
 from-stands end found head (token.name name) spots after rest is reads =
     name_case (opens spots) end found head.offset name head spots after rest is refl reads
 from-stands end found head one spots after rest is reads = absurd cc

@@ -69,6 +69,7 @@ later_case one (Err stuck) others some = (some.0, ap (or_further stuck) some.1)
 pub some-whole : (end : ℕ) (given : List Found) (one : Form) (forms : List Form) (spots : List Spot) (step : List Found × List Spot) → IsAmong one forms
     → read_slots end (slots_of one) given spots ≡ Ok step → SomeWhole (read_forms end given forms spots)
 unfolding read_forms
+some-whole end given one [] spots step among reads = elim among [ ]
 some-whole end given one (_ ∷ forms) spots step here reads =
     (record { form = one; found = step.0; spots = step.1 }, ap (λ reading. first_whole one reading (read_forms end given forms spots)) reads)
 some-whole end given one (other ∷ forms) spots step (later among) reads =

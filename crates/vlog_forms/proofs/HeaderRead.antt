@@ -216,13 +216,14 @@ abbrev AreFree : List (List ℕ) → List (List ℕ) → Type 0
 AreFree before [] = Unit {0}
 AreFree before (name ∷ names) = (list_any (λ other. bytes_eq other name) before ≡ false) × AreFree before names
 
+or_step : (a b c : Bool) → (a || b) ≡ false → (b ≡ false → c ≡ false) → (a || c) ≡ false
+or_step true b c free more = absurd cc
+or_step false b c free more = more free
+
 any_push : (before : List (List ℕ)) (name other : List ℕ) → list_any (λ each. bytes_eq each other) before ≡ false → bytes_eq name other ≡ false → list_any (λ each. bytes_eq each other) (before ++ name ∷ []) ≡ false
 any_push [] name other free apart = ap (λ b. b || false) apart
-any_push (first ∷ before) name other free apart = step (bytes_eq first other) free
-  where
-    step : (b : Bool) → (b || list_any (λ each. bytes_eq each other) before) ≡ false → (b || list_any (λ each. bytes_eq each other) (before ++ name ∷ [])) ≡ false
-    step true free = absurd cc
-    step false free = any_push before name other free apart
+any_push (first ∷ before) name other free apart =
+    or_step (bytes_eq first other) (list_any (λ each. bytes_eq each other) before) (list_any (λ each. bytes_eq each other) (before ++ name ∷ [])) free (λ rest. any_push before name other rest apart)
 
 free_push : (before : List (List ℕ)) (name : List ℕ) (names : List (List ℕ)) → AreFree before names → AllByRecursion (λ other. bytes_eq name other ≡ false) names → AreFree (before ++ name ∷ []) names
 free_push before name [] free apart = tt

@@ -21,6 +21,7 @@ use Rattle.vlog_forms.specs.Layout.{slots_of, filled, left_by}
 use Rattle.vlog_forms.specs.Items.{item_of, item_form, item_values, item_tokens, tokens_in, name_in, edge_in, bit_in, word_in, index_in, atom_in}
 use Rattle.vlog_forms.specs.Reading.{Found, values_of, Reading, read_slots, Whole, read_forms, all_forms}
 use Rattle.vlog_forms.proofs.ValueKinds.{Fits, FitsAtom}
+use Rattle.vlog_forms.proofs.Pairs.{ok_same, ok_first, ok_second}
 use Rattle.vlog_forms.proofs.SlotLists.{FitAll, FitsFirst, SlotsStand, slots-stand, SlotsRead, slots-read, IsSound}
 use Rattle.vlog_forms.proofs.Rebuilt.{rebuilt, rebuilt-fit, is_item, values-rebuilt, form-of, item-back}
 use Rattle.vlog_forms.proofs.Forms.{IsRead, forms-read, some-whole, among-all, form-sound, given_count}
@@ -84,7 +85,7 @@ are_indexless [] = true
 are_indexless (slot.Index limit ∷ slots) = false
 are_indexless (wanted ∷ slots) = are_indexless slots
 
-ranged-small : (slots : List Slot) (values : List Value) → are_indexless slots ≡ true → AreSmall values → AreRanged slots values
+pub ranged-small : (slots : List Slot) (values : List Value) → are_indexless slots ≡ true → AreSmall values → AreRanged slots values
 unfolding AreRanged are_indexless
 ranged-small [] values free small = tt
 ranged-small (slot.Name role ∷ slots) values free small = (tt, ranged-small slots (left_by (slot.Name role) values) free (small-rest values small))
@@ -185,9 +186,9 @@ form-whole end one spots rest found reads shows =
     let whole : Whole = some.0 in
     let is = forms-read end [] all_forms spots whole some.1 in
     let same : whole.form ≡ one = sym (whole-shape end spots whole some.1) ∙ shows in
-    let again : Ok (whole.found, whole.spots) ≡ Ok (found, rest) = sym is.reads ∙ ap (λ form. read_slots end (slots_of form) [] spots) same ∙ reads in
-    let values : whole.found ≡ found = cc in
-    let left : whole.spots ≡ rest = cc in
+    let again : ◌≡◌ {A = Reading (List Found)} (Ok (whole.found, whole.spots)) (Ok (found, rest)) = sym is.reads ∙ ap (λ form. read_slots end (slots_of form) [] spots) same ∙ reads in
+    let values : whole.found ≡ found = ok_first again in
+    let left : whole.spots ≡ rest = ok_second again in
     some.1 ∙ ap Ok (whole-same whole one found rest same values left)
 
 pub none-given : (one : Form) → is_item one ≡ true → given_count one ≡ 0

@@ -1,3 +1,4 @@
+pub mod Pairs
 pub mod Worked
 pub mod Tokens
 pub mod Exact

@@ -20,16 +20,19 @@ use Rattle.vlog_forms.specs.Printed.{token_text, bit_text, word_text, decimal_te
 abbrev pub plain : List ℕ → List TokenValue
 plain text = tokens_in (spots_from 0 zero text)
 
+blank_or : (b : Bool) (one other : ℕ) (first : TokenValue) (xs ys vs ws : List Spot) → tokens_in xs ≡ tokens_in ys → tokens_in vs ≡ tokens_in ws
+    → tokens_in (if b then xs else spot one first ∷ vs) ≡ tokens_in (if b then ys else spot other first ∷ ws)
+blank_or true one other first xs ys vs ws blank more = blank
+blank_or false one other first xs ys vs ws blank more = ap (λ tokens. first ∷ tokens) more
+
 spots-anywhere : (one other covered : ℕ) (bytes : List ℕ) → tokens_in (spots_from one covered bytes) ≡ tokens_in (spots_from other covered bytes)
 unfolding spots_from
 spots-anywhere one other covered [] = refl
 spots-anywhere one other (suc covered) (byte ∷ bytes) = spots-anywhere (one + 1) (other + 1) covered bytes
-spots-anywhere one other zero (byte ∷ bytes) = by (is_blank byte)
-  where
-    by : (b : Bool) → tokens_in (if b then spots_from (one + 1) zero bytes else spot one (front_token (byte ∷ bytes)) ∷ spots_from (one + 1) (front_length (byte ∷ bytes) - 1) bytes)
-        ≡ tokens_in (if b then spots_from (other + 1) zero bytes else spot other (front_token (byte ∷ bytes)) ∷ spots_from (other + 1) (front_length (byte ∷ bytes) - 1) bytes)
-    by true = spots-anywhere (one + 1) (other + 1) zero bytes
-    by false = ap (λ more. front_token (byte ∷ bytes) ∷ more) (spots-anywhere (one + 1) (other + 1) (front_length (byte ∷ bytes) - 1) bytes)
+spots-anywhere one other zero (byte ∷ bytes) =
+    blank_or (is_blank byte) one other (front_token (byte ∷ bytes)) (spots_from (one + 1) zero bytes) (spots_from (other + 1) zero bytes)
+        (spots_from (one + 1) (front_length (byte ∷ bytes) - 1) bytes) (spots_from (other + 1) (front_length (byte ∷ bytes) - 1) bytes)
+        (spots-anywhere (one + 1) (other + 1) zero bytes) (spots-anywhere (one + 1) (other + 1) (front_length (byte ∷ bytes) - 1) bytes)
 
 -- a blank before a text
 pub plain-blank : (byte : ℕ) (text : List ℕ) → is_blank byte ≡ true → plain (byte ∷ text) ≡ plain text
@@ -40,10 +43,10 @@ plain-blank byte text blank =
 
 -- a text that is one token at the front, before some rest
 pub record FrontIs (text rest : List ℕ) (one : TokenValue) : Type 0 where
-  some : 0 < length text
-  unblank : is_blank (byte_at text 0) ≡ false
-  token : front_token (text ++ rest) ≡ one
-  length : front_length (text ++ rest) ≡ Rattle.std.proofs.Common.length text
+  pub some : 0 < length text
+  pub unblank : is_blank (byte_at text 0) ≡ false
+  pub token : front_token (text ++ rest) ≡ one
+  pub length : front_length (text ++ rest) ≡ Rattle.std.proofs.Common.length text
 
 byte-front : (text rest : List ℕ) → 0 < length text → byte_at (text ++ rest) 0 ≡ byte_at text 0
 byte-front [] rest some = absurd (omega arith)
@@ -72,10 +75,10 @@ not_true : (b : Bool) → not b ≡ true → b ≡ false
 not_true true h = absurd cc
 not_true false h = refl
 
-no_name : (rest : List ℕ) → closes rest ≡ true → is_name_byte (byte_at rest 0) ≡ false
+pub no_name : (rest : List ℕ) → closes rest ≡ true → is_name_byte (byte_at rest 0) ≡ false
 no_name rest shut = not_true (is_name_byte (byte_at rest 0)) (and_parts (not (is_name_byte (byte_at rest 0))) (not (byte_at rest 0 == 39)) shut).0
 
-no_quote : (rest : List ℕ) → closes rest ≡ true → (byte_at rest 0 == 39) ≡ false
+pub no_quote : (rest : List ℕ) → closes rest ≡ true → (byte_at rest 0 == 39) ≡ false
 no_quote rest shut = not_true (byte_at rest 0 == 39) (and_parts (not (is_name_byte (byte_at rest 0))) (not (byte_at rest 0 == 39)) shut).1
 
 -- ---- names and reserved words

@@ -17,6 +17,7 @@ use Rattle.vlog_forms.specs.Layout.{takes_value, exact_tokens, first_tokens, slo
 use Rattle.vlog_forms.specs.Items.{tokens_in}
 use Rattle.vlog_forms.specs.Reading.{Found, found_at, values_of, Reading, with_value, single, read_single, read_tokens, behind_tokens, read_slot, read_slots, and_then}
 use Rattle.vlog_forms.proofs.Tokens.{IsReal}
+use Rattle.vlog_forms.proofs.Pairs.{ok_same, ok_first, ok_second}
 use Rattle.vlog_forms.proofs.Exact.{read_tokens-whole, read_tokens-exact, AreReal, Behind}
 use Rattle.vlog_forms.proofs.ValueKinds.{Fits, FitsAtom, single-fits, single-takes, Single, takes_atom}
 use Rattle.vlog_forms.proofs.Atoms.{AtomStands, atom-stands, AtomRead, atom-read, opens_next}
@@ -70,16 +71,16 @@ single_case : (wanted : Slot) (found : List Found) (first : Spot) (spots : List 
 single_case wanted found first spots after rest None takes is reads = absurd cc
 single_case wanted found first spots after rest (Some value) takes is reads =
     let fits = single-fits wanted first.token value is in
-    let left : spots ≡ rest = cc in
-    took takes (found_at first.offset value) cc (ap (λ tokens. tokens ++ tokens_in spots) (sym fits.1) ∙ ap (λ more. value_tokens value ++ tokens_in more) left) fits.0
+    let left : spots ≡ rest = ok_second reads in
+    took takes (found_at first.offset value) (sym (ok_first reads)) (ap (λ tokens. tokens ++ tokens_in spots) (sym fits.1) ∙ ap (λ more. value_tokens value ++ tokens_in more) left) fits.0
 
 exact_case : (wanted : Slot) (found : List Found) (spots : List Spot) (after : List Found) (rest : List Spot) (reading : Result (List Spot) ℕ)
     → takes_value wanted ≡ false → ((left : List Spot) → reading ≡ Ok left → tokens_in spots ≡ exact_tokens (values_of found) wanted ++ tokens_in left)
     → behind_tokens found reading ≡ Ok (after, rest) → SlotStands wanted found spots after rest
 exact_case wanted found spots after rest (Err stuck) takes stands reads = absurd cc
 exact_case wanted found spots after rest (Ok left) takes stands reads =
-    let same : left ≡ rest = cc in
-    passed takes cc (stands left refl ∙ ap (λ more. exact_tokens (values_of found) wanted ++ tokens_in more) same)
+    let same : left ≡ rest = ok_second reads in
+    passed takes (sym (ok_first reads)) (stands left refl ∙ ap (λ more. exact_tokens (values_of found) wanted ++ tokens_in more) same)
 
 single_stands : (end : ℕ) (wanted : Slot) (found : List Found) (spots : List Spot) (after : List Found) (rest : List Spot)
     → takes_value wanted ≡ true → read_single end wanted found spots ≡ Ok (after, rest) → SlotStands wanted found spots after rest
@@ -156,8 +157,8 @@ pub slots-stand : (end : ℕ) (slots : List Slot) (found : List Found) (spots : 
     → read_slots end slots found spots ≡ Ok (after, rest) → SlotsStand slots found spots after rest
 unfolding read_slots filled FitAll
 slots-stand end [] found spots after rest reads =
-    let same : spots ≡ rest = cc in
-    record { given = []; gained = let is : found ≡ after = cc in sym is ∙ sym (append-nil found); tokens = ap tokens_in same; fit = tt }
+    let same : spots ≡ rest = ok_second reads in
+    record { given = []; gained = sym (ok_first reads) ∙ sym (append-nil found); tokens = ap tokens_in same; fit = tt }
 slots-stand end (wanted ∷ slots) found spots after rest reads =
     stand_step wanted slots found spots after rest end (read_slot end wanted found spots)
         (λ middle left. slot-stands end wanted found spots middle left)

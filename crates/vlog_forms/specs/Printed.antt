@@ -73,10 +73,13 @@ item_line one = line_of (written (slots_of (item_form one)) [] (item_values one)
 abbrev pub port_line : Port → List ℕ
 port_line port = line_of (written (slots_of (port_form port.output)) (Name (Declares sort.Input) port.name ∷ []) [])
 
+-- a name behind a comma and a space
+abbrev pub next_name : Port → List ℕ
+next_name port = 44 ∷ 32 ∷ port.name
+
 -- names with a comma and a space between them
 abbrev pub more_names_text : List Port → List ℕ
-more_names_text [] = []
-more_names_text (port ∷ ports) = 44 ∷ 32 ∷ (port.name ++ more_names_text ports)
+more_names_text ports = flat_map next_name ports
 
 abbrev pub names_text : List Port → List ℕ
 names_text [] = []

@@ -8,14 +8,14 @@ mod fault;
 mod forms;
 mod found;
 mod header;
+mod modules;
 mod names;
-mod parse;
 mod slots;
 mod stop;
 mod token;
 
 pub use fault::VlogFault;
-pub use parse::parse;
+pub use modules::parse;
 
 #[cfg(test)]
 mod tests;

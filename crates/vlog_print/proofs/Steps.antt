@@ -1,7 +1,10 @@
 -- What slots add to a text, step by step.
 use Rattle.std.proofs.Common.{◌≡◌, ℕ, zero, suc, ◌<◌, ◌≤◌, ◌+◌, ◌-◌, Bool, true, false, List, [], ◌∷◌, ◌++◌, length, get_or, take, drop, map, refl, ap, sym, ◌∙◌, arith, append_assoc}
-use Rattle.std.proofs.lemmas.List.{append-nil, drop_more, take_more, get_or-map, length-map, take_all, drop_all}
-use Rattle.std.specs.Prelude.{if◌then◌else◌, flat_map}
+use Rattle.std.proofs.lemmas.Option.{get_or_from_slice_get}
+use Rattle.std.proofs.lemmas.List.{reverse-append, append-nil, drop_more, take_more, get_or-map, length-map, take_all, drop_all}
+use Rattle.std.specs.Prelude.{if◌then◌else◌, flat_map, slice_get, Some, reverse, Result, Ok, Err, OnOk, IfOk}
+use Rattle.vlog_module.specs.declared.atoms.Atom.{Atom}
+use Rattle.vlog_forms.specs.Values.Value.{AnAtom}
 use Rattle.vlog_tokens.specs.Fixed.{fixed_text}
 use Rattle.vlog_tokens.specs.declared.fixed.Fixed.{Fixed}
 use Rattle.vlog_tokens.specs.declared.fixed.Fixed.TheVariants as sign
@@ -11,49 +14,11 @@ use Rattle.vlog_forms.specs.declared.value.Value as read
 use Rattle.vlog_forms.specs.Values.{Value, seen, value_tokens, tokens_at}
 use Rattle.vlog_forms.specs.Layout.{takes_value, exact_tokens, first_tokens, more_slots, atom_slots, again_slots, first_again_slots}
 use Rattle.vlog_forms.specs.Printed.{decimal_text, space_text, tokens_text, written, line_of}
+use Rattle.vlog_forms.proofs.WrittenSlots.{written-passed, written-took, written-none}
 use Rattle.vlog_print.specs.Rest.{all_seen, with_rest}
 
 pub append_nothing : (text : List ℕ) → text ++ [] ≡ text
 append_nothing text = append-nil text
-
--- ---- what slots and values write, slot by slot
-
-space-takes : (one : Slot) → takes_value one ≡ true → space_text one ≡ []
-space-takes slot.Space takes = absurd cc
-space-takes (slot.Fixed fixed) takes = refl
-space-takes (slot.Literal number) takes = refl
-space-takes (slot.Again place) takes = refl
-space-takes (slot.AtomsAgain first n) takes = refl
-space-takes (slot.Atoms n) takes = refl
-space-takes (slot.Name role) takes = refl
-space-takes slot.Edge takes = refl
-space-takes slot.Bit takes = refl
-space-takes slot.Word takes = refl
-space-takes (slot.Index limit) takes = refl
-space-takes slot.Atom takes = refl
-
-written-passed : (one : Slot) (slots : List Slot) (before after : List Value) → takes_value one ≡ false
-    → written (one ∷ slots) before after ≡ (space_text one ++ tokens_text (exact_tokens before one)) ++ written slots before after
-unfolding written
-written-passed one slots before after takes =
-    ap (λ b. (space_text one ++ tokens_text (if b then first_tokens after else exact_tokens before one))
-        ++ written slots (if b then before ++ take 1 after else before) (if b then drop 1 after else after)) takes
-
-written-took : (one : Slot) (slots : List Slot) (before : List Value) (value : Value) (after : List Value) → takes_value one ≡ true
-    → written (one ∷ slots) before (value ∷ after) ≡ tokens_text (value_tokens value) ++ written slots (before ++ value ∷ []) after
-unfolding written
-written-took one slots before value after takes =
-    ap (λ b. (space_text one ++ tokens_text (if b then first_tokens (value ∷ after) else exact_tokens before one))
-        ++ written slots (if b then before ++ take 1 (value ∷ after) else before) (if b then drop 1 (value ∷ after) else value ∷ after)) takes
-    ∙ ap (λ space. (space ++ tokens_text (value_tokens value)) ++ written slots (before ++ value ∷ []) after) (space-takes one takes)
-
-written-none : (one : Slot) (slots : List Slot) (before : List Value) → takes_value one ≡ true → written (one ∷ slots) before [] ≡ written slots before []
-unfolding written
-written-none one slots before takes =
-    ap (λ b. (space_text one ++ tokens_text (if b then first_tokens [] else exact_tokens before one))
-        ++ written slots (if b then before ++ take 1 [] else before) (if b then drop 1 [] else [])) takes
-    ∙ ap (λ space. (space ++ []) ++ written slots (before ++ []) []) (space-takes one takes)
-    ∙ ap (λ all. written slots all []) (append-nil before)
 
 -- ---- a text with what is still to come
 
@@ -86,15 +51,16 @@ rest-literal text number more values next =
 pub rest-again : (text : List ℕ) (place : ℕ) (more : List Slot) (values : List read.Value) (next : ℕ) → with_rest text (slot.Again place ∷ more) values next ≡ with_rest (text ++ tokens_text (tokens_at (take next (all_seen values)) place)) more values next
 rest-again text place more values next = rest-passed text (slot.Again place) more values next refl
 
-pub rest-took : (text : List ℕ) (one : Slot) (more : List Slot) (values : List read.Value) (next : ℕ) (value : read.Value) → next < length values → value ≡ get_or values next value → takes_value one ≡ true
-    → with_rest text (one ∷ more) values next ≡ with_rest (text ++ tokens_text (value_tokens (seen value))) more values (next + 1)
+pub rest-took : (text : List ℕ) (one : Slot) (more : List Slot) (values : List read.Value) (next : ℕ) (default : read.Value) → next < length values → takes_value one ≡ true
+    → with_rest text (one ∷ more) values next ≡ with_rest (text ++ tokens_text (value_tokens (seen (get_or values next default)))) more values (next + 1)
 unfolding with_rest
-rest-took text one more values next value inside is takes =
+rest-took text one more values next default inside takes =
+    let value : read.Value = get_or values next default in
     let all : List Value = all_seen values in
     let before : List Value = take next all in
     let after : List Value = drop (next + 1) all in
     let within : next < length all = rw (length-map values seen) inside in
-    let here : get_or all next (seen value) ≡ seen value = get_or-map seen values next value (seen value) inside ∙ ap seen (sym is) in
+    let here : get_or all next (seen value) ≡ seen value = get_or-map seen values next default (seen value) inside in
     let cut : drop next all ≡ seen value ∷ after = drop_more all next (seen value) within ∙ ap (λ each. each ∷ after) here in
     let grown : take (next + 1) all ≡ before ++ seen value ∷ [] = take_more all next (seen value) within ∙ ap (λ each. before ++ each ∷ []) here in
     ap (λ tail. text ++ written (one ∷ more) before tail) cut
@@ -179,13 +145,13 @@ first_again-some text first count more values next some =
     ∙ ap (λ at. with_rest ((text ++ 123 ∷ []) ++ tokens_text (tokens_at (take next (all_seen values)) first)) (again_slots at (count - 1) ++ more) values next) place
 
 -- a value of a place that stands before
-pub tokens_at-place : (values : List read.Value) (next place : ℕ) (value : read.Value) → place < next → next ≤ length values → value ≡ get_or values place value
-    → tokens_at (take next (all_seen values)) place ≡ value_tokens (seen value)
-tokens_at-place [] next place value before within is = absurd (omega arith)
-tokens_at-place (first ∷ values) zero place value before within is = absurd (omega arith)
-tokens_at-place (first ∷ values) (suc next) zero value before within is = ap (λ one. value_tokens (seen one)) (sym is)
-tokens_at-place (first ∷ values) (suc next) (suc place) value before within is =
-    tokens_at-place values next place value (omega arith) (omega arith) is
+pub tokens_at-place : (values : List read.Value) (next place : ℕ) (default : read.Value) → place < next → next ≤ length values
+    → tokens_at (take next (all_seen values)) place ≡ value_tokens (seen (get_or values place default))
+tokens_at-place [] next place default before within = absurd (omega arith)
+tokens_at-place (first ∷ values) zero place default before within = absurd (omega arith)
+tokens_at-place (first ∷ values) (suc next) zero default before within = refl
+tokens_at-place (first ∷ values) (suc next) (suc place) default before within =
+    tokens_at-place values next place default (omega arith) (omega arith)
 
 -- no place before: a stray token, which has no text
 pub tokens_at-past : (values : List Value) (place : ℕ) → length values ≤ place → tokens_text (tokens_at values place) ≡ []
@@ -193,7 +159,28 @@ tokens_at-past [] place past = refl
 tokens_at-past (first ∷ values) zero past = absurd (omega arith)
 tokens_at-past (first ∷ values) (suc place) past = tokens_at-past values place (omega arith)
 
+-- atoms from the last one on
+pub atoms-step : (values more : List Value) (atoms : List Atom) (place : ℕ) (one : Atom) → place < length atoms → slice_get atoms place ≡ Some one → more ≡ values ++ AnAtom one ∷ []
+    → more ++ map AnAtom (reverse (take place atoms)) ≡ values ++ map AnAtom (reverse (take (place + 1) atoms))
+atoms-step values more atoms place one inside is pushed =
+    let here : get_or atoms place one ≡ one = get_or_from_slice_get atoms place one one is in
+    let grown : take (place + 1) atoms ≡ take place atoms ++ one ∷ [] = take_more atoms place one inside ∙ ap (λ each. take place atoms ++ each ∷ []) here in
+    let turned : reverse (take (place + 1) atoms) ≡ one ∷ reverse (take place atoms) = ap reverse grown ∙ reverse-append (take place atoms) (one ∷ []) in
+    ap (λ front. front ++ map AnAtom (reverse (take place atoms))) pushed
+    ∙ append_assoc values (AnAtom one ∷ []) (map AnAtom (reverse (take place atoms)))
+    ∙ ap (λ list. values ++ map AnAtom list) (sym turned)
+
 -- a line
 pub line-is : (out text : List ℕ) → ((out ++ 32 ∷ 32 ∷ []) ++ text) ++ 10 ∷ [] ≡ out ++ line_of text
 line-is out text =
     append_assoc (out ++ 32 ∷ 32 ∷ []) text (10 ∷ []) ∙ append_assoc out (32 ∷ 32 ∷ []) (text ++ 10 ∷ [])
+
+-- ---- answers
+
+pub on_ok : {A E : Type 0} (result : Result A E) (P Q : Type 0) → (P → Q) → OnOk result P → OnOk result Q
+on_ok (Ok given) P Q step holds = step holds
+on_ok (Err refused) P Q step holds = tt
+
+pub if_ok : {A E : Type 0} (result : Result A E) (P Q : A → Type 0) → ((given : A) → P given → Q given) → IfOk result P → IfOk result Q
+if_ok (Ok given) P Q step holds = step given holds
+if_ok (Err refused) P Q step holds = tt

@@ -2,7 +2,7 @@
 ghost use Rattle.std.specs.Prelude.{◌≡◌, ◌≤◌, ◌++◌, flat_map, length, take, drop, IfOk, OnOk};
 ghost use Rattle.vlog_forms.specs.Items.{IsSpelling};
 ghost use Rattle.vlog_forms.specs.Layout.{parts_of};
-ghost use Rattle.vlog_forms.specs.Printed.{item_line, line_of, more_names_text, names_text, port_line, printed, written};
+ghost use Rattle.vlog_forms.specs.Printed.{item_line, line_of, more_names_text, names_text, next_name, port_line, printed, written};
 ghost use Rattle.vlog_print.specs.Rest.{all_seen};
 
 use crate::bytes::push_text;
@@ -17,6 +17,7 @@ use vlog_module::{Item, Module, Port, Sort};
 #[tactic(auto, unfolding(vlog_forms::specs::Printed::printed))]
 pub fn print(alloc: Global, module: &Module) -> Result<Vec<u8>, AllocError>
     ensures text { IfOk result (λ text. text.items ≡ printed «module».now) }
+    ensures spelling { IfOk result (λ text. IsSpelling text.items «module».now) }
 {
     let mut out = Vec::new(alloc);
     push_text(&mut out, b"module ")?;
@@ -48,10 +49,17 @@ fn push_more_names(out: &mut Vec<u8>, ports: &[Port]) -> Result<(), AllocError>
     ensures { OnOk result (out.new.items ≡ out.old.items ++ more_names_text ports.now) }
 {
     for port in ports {
-        push_text(out, b", ")?;
-        push_text(out, port.name.bytes())?;
+        push_next_name(out, port)?;
     }
     Ok(())
+}
+
+/// Adds the name of a port behind a comma and a space.
+fn push_next_name(out: &mut Vec<u8>, port: &Port) -> Result<(), AllocError>
+    ensures { OnOk result (out.new.items ≡ out.old.items ++ next_name port.now) }
+{
+    push_text(out, b", ")?;
+    push_text(out, port.name.bytes())
 }
 
 /// Adds the declarations of ports.

@@ -10,6 +10,7 @@ use Rattle.vlog_module.specs.declared.item.Right.TheVariants.{Bit as RightBit, W
 use Rattle.vlog_module.specs.declared.item.Item.{Item}
 use Rattle.vlog_module.specs.declared.item.Item.TheVariants.{Register as RegisterItem, Word as WordItem, Memory as MemoryItem, Wire as WireItem, Assign, Flip, Read, Write, Start}
 use Rattle.vlog_module.specs.declared.modules.Port.{Port}
+use Rattle.vlog_module.specs.Maps.{value_in}
 use Rattle.vlog_module.specs.Names.{IsName}
 use Rattle.vlog_module.specs.Parts.{Parts}
 use Rattle.vlog_module.specs.Uses.{Use, uses_of, used_name}
@@ -67,8 +68,7 @@ scope_of ports items = record {
 
 -- what a name is declared as
 abbrev pub sort_in : List (List ℕ × Sort) → List ℕ → Option Sort
-sort_in [] name = None
-sort_in (other ∷ others) name = if bytes_eq other.0 name then Some other.1 else sort_in others name
+sort_in declared name = value_in declared name
 
 -- whether both are the same
 abbrev pub is_same_sort : Sort → Sort → Bool

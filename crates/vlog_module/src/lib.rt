@@ -14,7 +14,7 @@ mod sort;
 pub use atoms::{Atom, Atoms};
 pub use item::{Item, Lut, Right};
 pub use modules::{Module, Port};
-pub use name::{Name, is_name};
+pub use name::{Name, is_name, is_word};
 pub use sort::Sort;
 
 #[cfg(test)]

@@ -50,8 +50,8 @@ pub fn is_name(bytes: &[u8]) -> bool
     is_word(bytes) && !is_reserved(bytes)
 }
 
-/// Whether bytes are a letter or `_`, and then letters, digits and `_`.
-fn is_word(bytes: &[u8]) -> bool
+/// Whether bytes are a letter or `_`, and then letters, digits and `_`: a name or a reserved word.
+pub fn is_word(bytes: &[u8]) -> bool
     ensures { result ≡ is_word bytes.now }
 {
     match bytes {

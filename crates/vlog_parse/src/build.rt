@@ -209,7 +209,7 @@ fn atom_at(alloc: Global, values: &[Found<'_>], place: usize) -> Result<Atom, Al
 
 /// The atom that a value is; `1'b0` where it is none.
 fn atom_of(alloc: Global, value: Value<'_>) -> Result<Atom, AllocError>
-    requires { AreNamed (seen value.entry ∷ []) }
+    requires { AreNamed (seen value ∷ []) }
     ensures { IfOk result (λ atom. atom ≡ atom_in (seen value.entry ∷ [])) }
 {
     match value {

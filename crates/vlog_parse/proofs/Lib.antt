@@ -1,2 +1,4 @@
 pub mod Steps
 pub mod NameKeys
+pub mod ValuesAt
+pub mod Results

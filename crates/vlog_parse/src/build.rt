@@ -1,11 +1,11 @@
 // Items from values.
-ghost use Rattle.std.specs.Prelude.{◌≡◌, ◌+◌, ◌<◌, ◌^◌, [], ◌∷◌, reverse, IfOk};
+ghost use Rattle.std.specs.Prelude.{◌≡◌, ◌+◌, ◌<◌, ◌^◌, List, [], ◌∷◌, reverse, IfOk, MatchOption};
 ghost use Rattle.vlog_module.specs.Names.{IsName};
 ghost use Rattle.vlog_forms.specs.Items.{atom_in, atoms_in, behind, bit_in, edge_in, index_in, item_of, lut_in, name_in, word_in};
 ghost use Rattle.vlog_forms.specs.Reading.{values_of};
-ghost use Rattle.vlog_forms.specs.Values.{seen};
+ghost use Rattle.vlog_forms.specs.Values.{Value, seen};
 ghost use Rattle.vlog_parse.specs.Found.{all_found};
-ghost use Rattle.vlog_parse.specs.Names.{AreNamed};
+ghost use Rattle.vlog_parse.specs.Names.{AreNamed, IsNamed};
 
 use crate::found::Found;
 use std::alloc::{AllocError, Global};
@@ -195,22 +195,33 @@ fn atoms_at(
     Ok(atoms)
 }
 
+/// The value of a place, where there is one.
+fn value_at<'a>(values: &[Found<'a>], place: usize) -> Option<Value<'a>>
+    ensures { MatchOption result (behind place (values_of (all_found values.now)) ≡ [])
+        (λ value. (rest : List Value) × (behind place (values_of (all_found values.now)) ≡ seen value ∷ rest)) }
+{
+    if place < values.len() {
+        Some(values[place].value)
+    } else {
+        None
+    }
+}
+
 /// The atom of a place; `1'b0` where no atom stands there.
 fn atom_at(alloc: Global, values: &[Found<'_>], place: usize) -> Result<Atom, AllocError>
     requires { AreNamed (values_of (all_found values.now)) }
     ensures { IfOk result (λ atom. atom ≡ atom_in (behind place (values_of (all_found values.now)))) }
 {
-    if place < values.len() {
-        atom_of(alloc, values[place].value)
-    } else {
-        Ok(Atom::Bit(false))
+    match value_at(values, place) {
+        Some(value) => atom_of(alloc, value),
+        None => Ok(Atom::Bit(false)),
     }
 }
 
 /// The atom that a value is; `1'b0` where it is none.
 fn atom_of(alloc: Global, value: Value<'_>) -> Result<Atom, AllocError>
-    requires { AreNamed (seen value ∷ []) }
-    ensures { IfOk result (λ atom. atom ≡ atom_in (seen value.entry ∷ [])) }
+    requires { IsNamed (seen value) }
+    ensures { IfOk result (λ atom. (rest : List Value) → atom ≡ atom_in (seen value.entry ∷ rest)) }
 {
     match value {
         Value::AtomBit(bit) => Ok(Atom::Bit(bit)),
@@ -228,7 +239,11 @@ fn atom_of(alloc: Global, value: Value<'_>) -> Result<Atom, AllocError>
 }
 
 /// The name of a place; `x` where none stands there.
-pub(crate) fn name_at(alloc: Global, values: &[Found<'_>], place: usize) -> Result<Name, AllocError>
+pub(crate) fn name_at(
+    alloc: Global,
+    values: &[Found<'_>],
+    place: usize,
+) -> Result<Name, AllocError>
     requires { AreNamed (values_of (all_found values.now)) }
     ensures { IfOk result (λ name. name ≡ name_in (behind place (values_of (all_found values.now)))) }
 {
@@ -241,19 +256,28 @@ fn text_at<'a>(values: &[Found<'a>], place: usize) -> &'a [u8]
     ensures text { result.now ≡ name_in (behind place (values_of (all_found values.now))) }
     ensures named { IsName result.now }
 {
-    if place < values.len() {
-        match values[place].value {
-            Value::Name(_, name) => name,
-            Value::Edge(_) => b"x",
-            Value::Bit(_) => b"x",
-            Value::Word(_) => b"x",
-            Value::Index(_) => b"x",
-            Value::AtomBit(_) => b"x",
-            Value::AtomName(_) => b"x",
-            Value::AtomPart(_, _) => b"x",
-        }
-    } else {
-        b"x"
+    match value_at(values, place) {
+        Some(value) => text_of(value),
+        None => b"x",
+    }
+}
+
+/// The text of the name that a value is; `x` where it is none.
+#[tactic(auto, unfolding(vlog_module::specs::Names::is_name, vlog_module::specs::Names::reserved_words))]
+fn text_of<'a>(value: Value<'a>) -> &'a [u8]
+    requires { IsNamed (seen value) }
+    ensures text { (rest : List Value) → result.now ≡ name_in (seen value.entry ∷ rest) }
+    ensures named { IsName result.now }
+{
+    match value {
+        Value::Name(_, name) => name,
+        Value::Edge(_) => b"x",
+        Value::Bit(_) => b"x",
+        Value::Word(_) => b"x",
+        Value::Index(_) => b"x",
+        Value::AtomBit(_) => b"x",
+        Value::AtomName(_) => b"x",
+        Value::AtomPart(_, _) => b"x",
     }
 }
 
@@ -261,19 +285,25 @@ fn text_at<'a>(values: &[Found<'a>], place: usize) -> &'a [u8]
 fn edge_at(values: &[Found<'_>], place: usize) -> bool
     ensures { result ≡ edge_in (behind place (values_of (all_found values.now))) }
 {
-    if place < values.len() {
-        match values[place].value {
-            Value::Edge(falling) => falling,
-            Value::Name(_, _) => false,
-            Value::Bit(_) => false,
-            Value::Word(_) => false,
-            Value::Index(_) => false,
-            Value::AtomBit(_) => false,
-            Value::AtomName(_) => false,
-            Value::AtomPart(_, _) => false,
-        }
-    } else {
-        false
+    match value_at(values, place) {
+        Some(value) => edge_of(value),
+        None => false,
+    }
+}
+
+/// The edge that a value is; `posedge` where it is none.
+fn edge_of(value: Value<'_>) -> bool
+    ensures { (rest : List Value) → result ≡ edge_in (seen value.entry ∷ rest) }
+{
+    match value {
+        Value::Edge(falling) => falling,
+        Value::Name(_, _) => false,
+        Value::Bit(_) => false,
+        Value::Word(_) => false,
+        Value::Index(_) => false,
+        Value::AtomBit(_) => false,
+        Value::AtomName(_) => false,
+        Value::AtomPart(_, _) => false,
     }
 }
 
@@ -281,19 +311,25 @@ fn edge_at(values: &[Found<'_>], place: usize) -> bool
 fn bit_at(values: &[Found<'_>], place: usize) -> bool
     ensures { result ≡ bit_in (behind place (values_of (all_found values.now))) }
 {
-    if place < values.len() {
-        match values[place].value {
-            Value::Bit(bit) => bit,
-            Value::Name(_, _) => false,
-            Value::Edge(_) => false,
-            Value::Word(_) => false,
-            Value::Index(_) => false,
-            Value::AtomBit(_) => false,
-            Value::AtomName(_) => false,
-            Value::AtomPart(_, _) => false,
-        }
-    } else {
-        false
+    match value_at(values, place) {
+        Some(value) => bit_of(value),
+        None => false,
+    }
+}
+
+/// The bit that a value is; 0 where it is none.
+fn bit_of(value: Value<'_>) -> bool
+    ensures { (rest : List Value) → result ≡ bit_in (seen value.entry ∷ rest) }
+{
+    match value {
+        Value::Bit(bit) => bit,
+        Value::Name(_, _) => false,
+        Value::Edge(_) => false,
+        Value::Word(_) => false,
+        Value::Index(_) => false,
+        Value::AtomBit(_) => false,
+        Value::AtomName(_) => false,
+        Value::AtomPart(_, _) => false,
     }
 }
 
@@ -301,19 +337,25 @@ fn bit_at(values: &[Found<'_>], place: usize) -> bool
 fn word_at(values: &[Found<'_>], place: usize) -> u16
     ensures { result ≡ word_in (behind place (values_of (all_found values.now))) }
 {
-    if place < values.len() {
-        match values[place].value {
-            Value::Word(word) => word,
-            Value::Name(_, _) => 0,
-            Value::Edge(_) => 0,
-            Value::Bit(_) => 0,
-            Value::Index(_) => 0,
-            Value::AtomBit(_) => 0,
-            Value::AtomName(_) => 0,
-            Value::AtomPart(_, _) => 0,
-        }
-    } else {
-        0
+    match value_at(values, place) {
+        Some(value) => word_of(value),
+        None => 0,
+    }
+}
+
+/// The word that a value is; 0 where it is none.
+fn word_of(value: Value<'_>) -> u16
+    ensures { (rest : List Value) → result ≡ word_in (seen value.entry ∷ rest) }
+{
+    match value {
+        Value::Word(word) => word,
+        Value::Name(_, _) => 0,
+        Value::Edge(_) => 0,
+        Value::Bit(_) => 0,
+        Value::Index(_) => 0,
+        Value::AtomBit(_) => 0,
+        Value::AtomName(_) => 0,
+        Value::AtomPart(_, _) => 0,
     }
 }
 
@@ -321,18 +363,24 @@ fn word_at(values: &[Found<'_>], place: usize) -> u16
 fn index_at(values: &[Found<'_>], place: usize) -> u8
     ensures { result ≡ index_in (behind place (values_of (all_found values.now))) }
 {
-    if place < values.len() {
-        match values[place].value {
-            Value::Index(k) => k,
-            Value::Name(_, _) => 0,
-            Value::Edge(_) => 0,
-            Value::Bit(_) => 0,
-            Value::Word(_) => 0,
-            Value::AtomBit(_) => 0,
-            Value::AtomName(_) => 0,
-            Value::AtomPart(_, _) => 0,
-        }
-    } else {
-        0
+    match value_at(values, place) {
+        Some(value) => index_of(value),
+        None => 0,
+    }
+}
+
+/// The index that a value is; 0 where it is none.
+fn index_of(value: Value<'_>) -> u8
+    ensures { (rest : List Value) → result ≡ index_in (seen value.entry ∷ rest) }
+{
+    match value {
+        Value::Index(k) => k,
+        Value::Name(_, _) => 0,
+        Value::Edge(_) => 0,
+        Value::Bit(_) => 0,
+        Value::Word(_) => 0,
+        Value::AtomBit(_) => 0,
+        Value::AtomName(_) => 0,
+        Value::AtomPart(_, _) => 0,
     }
 }

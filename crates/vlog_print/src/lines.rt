@@ -1,6 +1,7 @@
 // A module line by line.
 ghost use Rattle.std.specs.Prelude.{◌≡◌, ◌≤◌, ◌++◌, flat_map, length, take, drop, IfOk, OnOk};
-ghost use Rattle.vlog_forms.specs.Items.{IsSpelling};
+ghost use Rattle.vlog_module.specs.WellFormed.{IsModule};
+ghost use Rattle.vlog_forms.specs.Items.{IsSpelling, port_form};
 ghost use Rattle.vlog_forms.specs.Layout.{parts_of};
 ghost use Rattle.vlog_forms.specs.Printed.{item_line, line_of, more_names_text, names_text, next_name, port_line, printed, written};
 ghost use Rattle.vlog_print.specs.Rest.{all_seen};
@@ -14,10 +15,17 @@ use vlog_module::{Item, Module, Port, Sort};
 
 /// The text of a module: the header, then each declaration of a port and each item on a line of its own behind two spaces,
 /// then `endmodule`. Every line ends with LF.
-#[tactic(auto, unfolding(vlog_forms::specs::Printed::printed))]
 pub fn print(alloc: Global, module: &Module) -> Result<Vec<u8>, AllocError>
     ensures text { IfOk result (λ text. text.items ≡ printed «module».now) }
     ensures spelling { IfOk result (λ text. IsSpelling text.items «module».now) }
+{
+    print_module(alloc, module)
+}
+
+/// The text of a module.
+#[tactic(auto, unfolding(vlog_forms::specs::Printed::printed))]
+fn print_module(alloc: Global, module: &Module) -> Result<Vec<u8>, AllocError>
+    ensures { IfOk result (λ text. (text.items ≡ printed «module».now) × IsModule «module».now) }
 {
     let mut out = Vec::new(alloc);
     push_text(&mut out, b"module ")?;
@@ -76,9 +84,15 @@ fn push_ports(out: &mut Vec<u8>, ports: &[Port]) -> Result<(), AllocError>
 fn push_port(out: &mut Vec<u8>, port: &Port) -> Result<(), AllocError>
     ensures { OnOk result (out.new.items ≡ out.old.items ++ port_line port.now) }
 {
-    let form = if port.output { Form::Output } else { Form::Input };
     let name = Value::Name(Role::Declares(Sort::Input), port.name.bytes());
-    push_line(out, slots(form), &[name], 1)
+    push_line(out, slots(port_form(port.output)), &[name], 1)
+}
+
+/// How a port is declared.
+fn port_form(output: bool) -> Form
+    ensures { result ≡ port_form output }
+{
+    if output { Form::Output } else { Form::Input }
 }
 
 /// Adds items.

@@ -1,4 +1,2 @@
-pub mod Steps
 pub mod NameKeys
 pub mod ValuesAt
-pub mod Results

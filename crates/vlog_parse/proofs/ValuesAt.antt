@@ -5,8 +5,8 @@ use Rattle.vlog_module.specs.declared.atoms.Atom.{Atom}
 use Rattle.vlog_forms.specs.Values.{Value, seen}
 use Rattle.vlog_forms.specs.Items.{behind, atoms_in, atom_in}
 use Rattle.vlog_forms.specs.Reading.{values_of}
-use Rattle.vlog_parse.specs.declared.found.Found as kept
-use Rattle.vlog_parse.specs.Found.{all_found}
+use Rattle.vlog_read.specs.declared.found.Found as kept
+use Rattle.vlog_read.specs.Found.{all_found}
 use Rattle.vlog_parse.specs.Names.{AreNamed, IsNamed}
 
 pub behind-some : (values : List kept.Found) (place : ℕ) (default : kept.Found) → place < length values

@@ -7,8 +7,8 @@ use Rattle.vlog_parse.specs.declared.header.Turn.{Turn}
 use Rattle.vlog_parse.specs.declared.header.Turn.TheVariants.{Opened, Named, Parted}
 use Rattle.vlog_parse.specs.declared.header.Step.{Step}
 use Rattle.vlog_parse.specs.declared.header.Step.TheVariants.{TakesName, Parts, Closes, Stops}
-use Rattle.vlog_parse.specs.declared.stop.Stop.{Stop}
-use Rattle.vlog_parse.specs.Readings.{StopsAt}
+use Rattle.vlog_read.specs.declared.stop.Stop.{Stop}
+use Rattle.vlog_read.specs.Readings.{StopsAt}
 
 abbrev pub turn_of : Turn → turn
 turn_of Opened = turn.Opened

@@ -4,10 +4,10 @@ ghost use Rattle.vlog_module.specs.Names.{IsName};
 ghost use Rattle.vlog_forms.specs.Items.{atom_in, atoms_in, behind, bit_in, edge_in, index_in, item_of, lut_in, name_in, word_in};
 ghost use Rattle.vlog_forms.specs.Reading.{values_of};
 ghost use Rattle.vlog_forms.specs.Values.{Value, seen};
-ghost use Rattle.vlog_parse.specs.Found.{all_found};
+ghost use Rattle.vlog_read.specs.Found.{all_found};
 ghost use Rattle.vlog_parse.specs.Names.{AreNamed, IsNamed};
 
-use crate::found::Found;
+use vlog_read::Found;
 use std::alloc::{AllocError, Global};
 use vlog_forms::{Form, Value};
 use vlog_module::{Atom, Atoms, Item, Lut, Name, Right};

@@ -6,11 +6,11 @@ ghost use Rattle.vlog_forms.specs.Items.{index_in};
 ghost use Rattle.vlog_forms.specs.Values.{seen};
 ghost use Rattle.vlog_forms.specs.Reading.{values_of};
 ghost use Rattle.vlog_forms.specs.Outcome.{name_fault, role_use, use_fault, value_uses};
-ghost use Rattle.vlog_parse.specs.Found.{all_found};
+ghost use Rattle.vlog_read.specs.Found.{all_found};
 ghost use Rattle.vlog_parse.specs.Names.{Holds, seen_fault};
 
 use crate::fault::Fault;
-use crate::found::Found;
+use vlog_read::Found;
 use crate::names::{Names, is_first, is_known};
 use std::alloc::{AllocError, Global};
 use vlog_forms::{Role, Value, VlogCause};

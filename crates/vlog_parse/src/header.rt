@@ -5,18 +5,18 @@ ghost use Rattle.vlog_tokens.specs.Tokens.{seen, spots_at, spots_of};
 ghost use Rattle.vlog_forms.specs.Items.{name_in};
 ghost use Rattle.vlog_forms.specs.Values as values;
 ghost use Rattle.vlog_forms.specs.Outcome.{may_close, port_names, port_step, read_header, sign_step, twice_fault, wants_name};
-ghost use Rattle.vlog_parse.specs.Found.{all_found};
+ghost use Rattle.vlog_read.specs.Found.{all_found};
 ghost use Rattle.vlog_parse.specs.Headers.{ReadsHeader, seen_step, turn_of};
 ghost use Rattle.vlog_parse.specs.Names.{seen_fault};
-ghost use Rattle.vlog_parse.specs.Readings.{ReadsTo};
+ghost use Rattle.vlog_read.specs.Readings.{ReadsTo};
 
 
 use crate::fault::Fault;
-use crate::found::{Found, push_found};
+use vlog_read::{Found, push_found};
 use crate::names::NameSet;
-use crate::slots::read_slots;
-use crate::stop::Stop;
-use crate::token::{expect_token, is_fixed};
+use vlog_read::read_slots;
+use vlog_read::Stop;
+use vlog_read::{expect_token, is_fixed};
 use std::alloc::{AllocError, Global};
 use vlog_forms::{Role, Slot, Value, VlogCause};
 use vlog_module::Sort;

@@ -2,9 +2,9 @@ use Rattle.std.proofs.Common.{◌≡◌, ap, sym, ◌∙◌, refl}
 use Rattle.std.specs.Prelude.{Result, Ok, Err, IfOk}
 use Rattle.vlog_forms.specs.Items.{atom_in}
 use Rattle.vlog_forms.specs.Reading.{values_of}
-use Rattle.vlog_parse.specs.Found.{all_found}
+use Rattle.vlog_read.specs.Found.{all_found}
 use Rattle.vlog_parse.proofs.ValuesAt.{named-first}
-use Rattle.vlog_parse.proofs.Results.{if_ok}
+use Rattle.vlog_read.proofs.Results.{if_ok}
 use Rattle.vlog_parse.proofs.build.atom_at.Goals as goal
 
 pub atom_of-requires : goal.atom_of-requires

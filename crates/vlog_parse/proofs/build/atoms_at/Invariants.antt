@@ -1,7 +1,7 @@
 use Rattle.std.proofs.Common.{◌≡◌, ◌≤◌, ◌++◌, reverse}
 use Rattle.vlog_forms.specs.Items.{atoms_in, behind}
 use Rattle.vlog_forms.specs.Reading.{values_of}
-use Rattle.vlog_parse.specs.Found.{all_found}
+use Rattle.vlog_read.specs.Found.{all_found}
 use Rattle.vlog_parse.proofs.build.atoms_at.Given as goal
 
 abbrev pub invariant-loop-left : goal.invariant-loop-left

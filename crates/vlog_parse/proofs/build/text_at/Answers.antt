@@ -2,7 +2,7 @@ use Rattle.std.proofs.Common.{◌≡◌, ap, sym, ◌∙◌, refl}
 use Rattle.vlog_module.specs.Names.{is_name, reserved_words}
 use Rattle.vlog_forms.specs.Items.{name_in}
 use Rattle.vlog_forms.specs.Reading.{values_of}
-use Rattle.vlog_parse.specs.Found.{all_found}
+use Rattle.vlog_read.specs.Found.{all_found}
 use Rattle.vlog_parse.proofs.ValuesAt.{named-first}
 use Rattle.vlog_parse.proofs.build.text_at.Goals as goal
 

@@ -2,20 +2,20 @@
 ghost use Rattle.std.specs.Prelude.{◌≡◌, ◌++◌, [], ◌∷◌, OnOk};
 ghost use Rattle.vlog_forms.specs.Values.{seen};
 ghost use Rattle.vlog_forms.specs.Reading.{found_at};
-ghost use Rattle.vlog_parse.specs.Found.{all_found};
+ghost use Rattle.vlog_read.specs.Found.{all_found};
 
 use std::alloc::AllocError;
 use vlog_forms::Value;
 
 /// A value, and the offset of its first token.
 #[derive(Clone, Copy, Debug)]
-pub(crate) struct Found<'a> {
+pub struct Found<'a> {
     pub at: usize,
     pub value: Value<'a>,
 }
 
 /// Adds a value.
-pub(crate) fn push_found<'a>(
+pub fn push_found<'a>(
     values: &mut Vec<Found<'a>>,
     at: usize,
     value: Value<'a>,

@@ -3,8 +3,8 @@ ghost use Rattle.std.specs.Prelude.{◌≡◌, ◌≤◌, length, IfOk, OnOk};
 ghost use Rattle.vlog_tokens.specs.Tokens.{spots_at};
 ghost use Rattle.vlog_forms.specs.Layout.{slots_of};
 ghost use Rattle.vlog_forms.specs.Reading.{all_forms, port_forms, read_forms, read_slots};
-ghost use Rattle.vlog_parse.specs.Found.{all_found};
-ghost use Rattle.vlog_parse.specs.Readings.{ReadsForm, ReadsTo, further};
+ghost use Rattle.vlog_read.specs.Found.{all_found};
+ghost use Rattle.vlog_read.specs.Readings.{ReadsForm, ReadsTo, further};
 
 use crate::found::Found;
 use crate::slots::read_slots;
@@ -14,13 +14,13 @@ use vlog_forms::{Form, slots};
 
 /// An item that is whole: its form, and the offset behind it.
 #[derive(Clone, Copy, Debug)]
-pub(crate) struct Whole {
+pub struct Whole {
     pub form: Form,
     pub end: usize,
 }
 
 /// All forms.
-pub(crate) fn all_forms() -> &'static [Form]
+pub fn all_forms() -> &'static [Form]
     ensures { result.now ≡ all_forms }
 {
     &[
@@ -44,14 +44,14 @@ pub(crate) fn all_forms() -> &'static [Form]
 }
 
 /// The forms of a port's declaration.
-pub(crate) fn port_forms() -> &'static [Form]
+pub fn port_forms() -> &'static [Form]
     ensures { result.now ≡ port_forms }
 {
     &[Form::Input, Form::Output]
 }
 
 /// Reads the form among these that is whole. Values that the forms repeat may be given.
-pub(crate) fn read_forms<'a>(
+pub fn read_forms<'a>(
     bytes: &'a [u8],
     from: usize,
     given: &[Found<'a>],

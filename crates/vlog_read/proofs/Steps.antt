@@ -1,18 +1,20 @@
 -- Readings one after another.
 use Rattle.std.proofs.Common.{◌≡◌, ℕ, zero, suc, ◌<◌, ◌≤◌, ◌+◌, ◌-◌, Bool, true, false, List, [], ◌∷◌, ◌++◌, length, get_or, map, refl, ap, sym, ◌∙◌, subst, arith}
-use Rattle.std.specs.Prelude.{Result, Ok, Err, if◌then◌else◌}
+use Rattle.std.specs.Prelude.{Result, Ok, Err, MatchResult, if◌then◌else◌}
 use Rattle.vlog_tokens.specs.declared.fixed.Fixed.{Fixed}
 use Rattle.vlog_tokens.specs.declared.fixed.Fixed.TheVariants as sign
 use Rattle.vlog_tokens.specs.Tokens.{TokenValue, Spot, spots_at}
 use Rattle.vlog_tokens.specs.Tokens.{TokenValue as token}
 use Rattle.vlog_forms.specs.declared.slot.Slot.{Slot}
 use Rattle.vlog_forms.specs.declared.slot.Slot.TheVariants as slot
-use Rattle.vlog_forms.specs.Values.{tokens_at, is_same_token}
-use Rattle.vlog_forms.specs.Layout.{exact_tokens, more_slots, atom_slots, again_slots, first_again_slots}
-use Rattle.vlog_forms.specs.Reading.{Found, values_of, Reading, read_tokens, behind_tokens, read_atom, read_slot, read_slots, and_then}
-use Rattle.vlog_parse.specs.declared.stop.Stop.{Stop}
-use Rattle.vlog_parse.specs.declared.stop.Stop.TheVariants.{Stuck, Memory}
-use Rattle.vlog_parse.specs.Readings.{StopsAt, ReadsTokens, ReadsTo, ReadsOver}
+use Rattle.vlog_forms.specs.Values.{seen, value_tokens, tokens_at, is_same_token}
+use Rattle.vlog_forms.specs.Layout.{parts_of, exact_tokens, more_slots, atom_slots, again_slots, first_again_slots}
+use Rattle.vlog_forms.specs.Reading.{Found, values_of, Reading, read_tokens, behind_tokens, read_single, read_atom, read_slot, read_slots, and_then}
+use Rattle.vlog_read.specs.declared.found.Found as kept
+use Rattle.vlog_read.specs.Found.{all_found}
+use Rattle.vlog_read.specs.declared.stop.Stop.{Stop}
+use Rattle.vlog_read.specs.declared.stop.Stop.TheVariants.{Stuck, Memory}
+use Rattle.vlog_read.specs.Readings.{StopsAt, ReadsTokens, ReadsTo, ReadsOver}
 
 -- ---- one reading behind another
 
@@ -125,3 +127,80 @@ tokens-stuck end one more (first ∷ spots) at reads = by (is_same_token one fir
     by : (b : Bool) → (if b then Ok spots else Err first.offset) ≡ Err at → (if b then read_tokens end more spots else Err first.offset) ≡ Err at
     by true is = absurd cc
     by false is = is
+
+-- ---- what the code gives
+
+-- tokens that keep no value
+pub stop-over : (reading : Result (List Spot) ℕ) (bytes : List ℕ) (found : List Found) (read : Result ℕ ℕ) (result : Result ℕ Stop) → ReadsTokens reading bytes read
+    → MatchResult read (λ end. result ≡ Ok end) (λ stuck. result ≡ Err (Stuck stuck)) → ReadsTo (behind_tokens found reading) bytes found result
+stop-over reading bytes found (Ok end) result reads is = subst (λ (r : Result ℕ Stop). ReadsTo (behind_tokens found reading) bytes found r) (sym is) (ap (behind_tokens found) reads)
+stop-over reading bytes found (Err at) result reads is = subst (λ (r : Result ℕ Stop). ReadsTo (behind_tokens found reading) bytes found r) (sym is) (ap (behind_tokens found) reads)
+
+pub over-stop : (reading : Reading (List Found)) (bytes : List ℕ) (found : List Found) (read : Result ℕ ℕ) (result : Result ℕ Stop) → ReadsOver reading bytes found read
+    → MatchResult read (λ end. result ≡ Ok end) (λ stuck. result ≡ Err (Stuck stuck)) → ReadsTo reading bytes found result
+over-stop reading bytes found (Ok end) result reads is = subst (λ (r : Result ℕ Stop). ReadsTo reading bytes found r) (sym is) reads
+over-stop reading bytes found (Err at) result reads is = subst (λ (r : Result ℕ Stop). ReadsTo reading bytes found r) (sym is) reads
+
+pub tokens-over : (reading : Result (List Spot) ℕ) (bytes : List ℕ) (found : List Found) (read : Result ℕ ℕ) → ReadsTokens reading bytes read → ReadsOver (behind_tokens found reading) bytes found read
+tokens-over reading bytes found (Ok end) reads = ap (behind_tokens found) reads
+tokens-over reading bytes found (Err at) reads = ap (behind_tokens found) reads
+
+pub tokens-along : (one other : Result (List Spot) ℕ) (bytes : List ℕ) (read : Result ℕ ℕ) → one ≡ other → ReadsTokens other bytes read → ReadsTokens one bytes read
+tokens-along one other bytes read same reads = subst (λ (r : Result (List Spot) ℕ). ReadsTokens r bytes read) (sym same) reads
+
+-- a sign alone
+pub fixed-one : (end : ℕ) (fixed : Fixed) (found : List Found) (spots : List Spot) → read_slots end (slot.Fixed fixed ∷ []) found spots ≡ behind_tokens found (read_tokens end (token.fixed fixed ∷ []) spots)
+fixed-one end fixed found spots = slots-one end (slot.Fixed fixed) found spots
+
+-- slots of one token
+abbrev pub is_single : Slot → Bool
+is_single (slot.Name role) = true
+is_single slot.Edge = true
+is_single slot.Bit = true
+is_single slot.Word = true
+is_single (slot.Index limit) = true
+is_single _ = false
+
+pub single-one : (end : ℕ) (one : Slot) (found : List Found) (spots : List Spot) → is_single one ≡ true → read_slots end (parts_of one) found spots ≡ read_single end one found spots
+single-one end (slot.Name role) found spots is = slots-one end (slot.Name role) found spots
+single-one end slot.Edge found spots is = slots-one end slot.Edge found spots
+single-one end slot.Bit found spots is = slots-one end slot.Bit found spots
+single-one end slot.Word found spots is = slots-one end slot.Word found spots
+single-one end (slot.Index limit) found spots is = slots-one end (slot.Index limit) found spots
+single-one end one found spots is = absurd cc
+
+-- values of places
+pub tokens_at-some : (values : List kept.Found) (place : ℕ) (default : kept.Found) → place < length values → tokens_at (values_of (all_found values)) place ≡ value_tokens (seen (get_or values place default).value)
+tokens_at-some [] place default within = absurd (omega arith)
+tokens_at-some (one ∷ values) zero default within = refl
+tokens_at-some (one ∷ values) (suc place) default within = tokens_at-some values place default (omega arith)
+
+pub tokens_at-none : (values : List kept.Found) (place : ℕ) → length values ≤ place → tokens_at (values_of (all_found values)) place ≡ token.stray ∷ []
+tokens_at-none [] place past = refl
+tokens_at-none (one ∷ values) zero past = absurd (omega arith)
+tokens_at-none (one ∷ values) (suc place) past = tokens_at-none values place (omega arith)
+
+-- more atoms
+pub more-zero : (count : ℕ) → count ≡ 0 → more_slots count ≡ slot.Fixed sign.CloseBrace ∷ []
+more-zero count none = ap more_slots none
+
+pub more-suc : (count : ℕ) → 0 < count → more_slots count ≡ slot.Fixed sign.Comma ∷ slot.Space ∷ slot.Atom ∷ more_slots (count - 1)
+more-suc count some = let one : count ≡ suc (count - 1) = omega arith in ap more_slots one
+
+pub atoms-zero : (count : ℕ) → count ≡ 0 → atom_slots count ≡ slot.Fixed sign.CloseBrace ∷ []
+atoms-zero count none = ap atom_slots none
+
+pub atoms-suc : (count : ℕ) → 0 < count → atom_slots count ≡ slot.Atom ∷ more_slots (count - 1)
+atoms-suc count some = let one : count ≡ suc (count - 1) = omega arith in ap atom_slots one
+
+pub again-zero : (first count : ℕ) → count ≡ 0 → again_slots first count ≡ slot.Fixed sign.CloseBrace ∷ []
+again-zero first count none = ap (again_slots first) none
+
+pub again-suc : (first count : ℕ) → 0 < count → again_slots first count ≡ slot.Fixed sign.Comma ∷ slot.Space ∷ slot.Again first ∷ again_slots (suc first) (count - 1)
+again-suc first count some = let one : count ≡ suc (count - 1) = omega arith in ap (again_slots first) one
+
+pub first-zero : (first count : ℕ) → count ≡ 0 → first_again_slots first count ≡ slot.Fixed sign.CloseBrace ∷ []
+first-zero first count none = ap (first_again_slots first) none
+
+pub first-suc : (first count : ℕ) → 0 < count → first_again_slots first count ≡ slot.Again first ∷ again_slots (suc first) (count - 1)
+first-suc first count some = let one : count ≡ suc (count - 1) = omega arith in ap (first_again_slots first) one

@@ -4,8 +4,8 @@ ghost use Rattle.vlog_tokens.specs.Tokens.{spots_at};
 ghost use Rattle.vlog_tokens.specs.Tokens.{TokenValue as token};
 ghost use Rattle.vlog_forms.specs.Values.{seen};
 ghost use Rattle.vlog_forms.specs.Reading.{atom_from, behind_open, close_part, found_at, opens, read_atom, read_part};
-ghost use Rattle.vlog_parse.specs.Found.{all_found};
-ghost use Rattle.vlog_parse.specs.Readings.{IsMemory, ReadsIndex, ReadsTo};
+ghost use Rattle.vlog_read.specs.Found.{all_found};
+ghost use Rattle.vlog_read.specs.Readings.{IsMemory, ReadsIndex, ReadsTo};
 
 use crate::found::{Found, push_found};
 use crate::stop::Stop;
@@ -14,7 +14,7 @@ use vlog_forms::Value;
 use vlog_tokens::{Fixed, Token, next_token};
 
 /// Reads an atom.
-pub(crate) fn read_atom<'a>(
+pub fn read_atom<'a>(
     bytes: &'a [u8],
     from: usize,
     values: &mut Vec<Found<'a>>,

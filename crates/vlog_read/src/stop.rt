@@ -4,7 +4,7 @@ use std::alloc::AllocError;
 
 /// Why a form isn't read to its end.
 #[derive(Clone, Copy, Debug)]
-pub(crate) enum Stop {
+pub enum Stop {
     /// The token at this offset can't go on, or the text ends there.
     Stuck(usize),
     /// There is no memory for a value.

@@ -3,9 +3,9 @@ use Rattle.std.specs.Prelude.{◌≡◌, ℕ, max, List, Result, Ok, Err}
 use Rattle.vlog_tokens.specs.Tokens.{Spot, spots_at}
 use Rattle.vlog_forms.specs.Reading.{Found, Reading}
 use Rattle.vlog_forms.specs.Reading as reading
-use Rattle.vlog_parse.specs.declared.forms.Whole.{Whole}
-use Rattle.vlog_parse.specs.declared.stop.Stop.{Stop}
-use Rattle.vlog_parse.specs.declared.stop.Stop.TheVariants.{Stuck, Memory}
+use Rattle.vlog_read.specs.declared.forms.Whole.{Whole}
+use Rattle.vlog_read.specs.declared.stop.Stop.{Stop}
+use Rattle.vlog_read.specs.declared.stop.Stop.TheVariants.{Stuck, Memory}
 
 -- where a reading stops for want of memory, nothing is said
 abbrev pub StopsAt : {A : Type 0} → Result A ℕ → Stop → Type 0
@@ -35,7 +35,6 @@ ReadsIndex reading bytes (Err at) = reading ≡ Err at
 abbrev pub ReadsOver : Reading (List Found) → List ℕ → List Found → Result ℕ ℕ → Type 0
 ReadsOver reading bytes found (Ok end) = reading ≡ Ok (found, spots_at bytes end)
 ReadsOver reading bytes found (Err at) = reading ≡ Err at
-
 -- a form is whole, with these values, up to an offset
 abbrev pub whole_of : Whole → List ℕ → List Found → reading.Whole
 whole_of whole bytes found = record { form = whole.form; found = found; spots = spots_at bytes whole.end }

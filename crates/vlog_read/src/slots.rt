@@ -7,8 +7,8 @@ ghost use Rattle.vlog_tokens.specs.Tokens.{TokenValue as value};
 ghost use Rattle.vlog_forms.specs.Layout.{again_slots, atom_slots, first_again_slots, more_slots, parts_of, takes_value};
 ghost use Rattle.vlog_forms.specs.Values.{edge_sign, seen, tokens_at, value_tokens};
 ghost use Rattle.vlog_forms.specs.Reading.{edge_of, read_single, read_slots, read_tokens, single, values_of};
-ghost use Rattle.vlog_parse.specs.Found.{all_found};
-ghost use Rattle.vlog_parse.specs.Readings.{ReadsOver, ReadsTo, ReadsTokens};
+ghost use Rattle.vlog_read.specs.Found.{all_found};
+ghost use Rattle.vlog_read.specs.Readings.{ReadsOver, ReadsTo, ReadsTokens};
 
 use crate::atom::read_atom;
 use crate::found::{Found, push_found};
@@ -18,7 +18,7 @@ use vlog_forms::{Role, Slot, Value};
 use vlog_tokens::{Fixed, Token, next_token};
 
 /// Reads slots one after another.
-pub(crate) fn read_slots<'a>(
+pub fn read_slots<'a>(
     bytes: &'a [u8],
     from: usize,
     slots: &[Slot],

@@ -4,12 +4,12 @@ ghost use Rattle.vlog_tokens.specs.Tokens.{seen, spots_at};
 ghost use Rattle.vlog_tokens.specs.Tokens.{TokenValue as value};
 ghost use Rattle.vlog_forms.specs.Values.{is_same_bit, is_same_token};
 ghost use Rattle.vlog_forms.specs.Reading.{read_tokens};
-ghost use Rattle.vlog_parse.specs.Readings.{ReadsTokens};
+ghost use Rattle.vlog_read.specs.Readings.{ReadsTokens};
 
 use vlog_tokens::{Fixed, Token, next_token};
 
 /// The offset behind a token that has to come next, or the offset at which another one stands.
-pub(crate) fn expect_token(bytes: &[u8], from: usize, wanted: Token<'_>) -> Result<usize, usize>
+pub fn expect_token(bytes: &[u8], from: usize, wanted: Token<'_>) -> Result<usize, usize>
     requires { from ≤ length bytes.now }
     ensures reads { ReadsTokens (read_tokens (length bytes.now) (seen wanted.entry ∷ []) (spots_at bytes.now from)) bytes.now result }
     ensures within { IfOk result (λ end. end ≤ length bytes.now) }
@@ -41,7 +41,7 @@ fn is_same_token(one: Token<'_>, other: Token<'_>) -> bool
 }
 
 /// Whether a token is this sign or reserved word.
-pub(crate) fn is_fixed(fixed: Fixed, token: Token<'_>) -> bool
+pub fn is_fixed(fixed: Fixed, token: Token<'_>) -> bool
     ensures { result ≡ is_same_token (value.fixed fixed) (seen token.entry) }
 {
     match token {

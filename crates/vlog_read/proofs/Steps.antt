@@ -1,5 +1,6 @@
 -- Readings one after another.
-use Rattle.std.proofs.Common.{◌≡◌, ℕ, zero, suc, ◌<◌, ◌≤◌, ◌+◌, ◌-◌, Bool, true, false, List, [], ◌∷◌, ◌++◌, length, get_or, map, refl, ap, sym, ◌∙◌, subst, arith}
+use Rattle.std.proofs.Common.{◌≡◌, ℕ, zero, suc, ◌<◌, ◌≤◌, ◌+◌, ◌-◌, Bool, true, false, List, [], ◌∷◌, ◌++◌, length, get_or, take, drop, map, refl, ap, sym, ◌∙◌, subst, arith}
+use Rattle.std.proofs.lemmas.List.{take_all}
 use Rattle.std.specs.Prelude.{Result, Ok, Err, MatchResult, if◌then◌else◌}
 use Rattle.vlog_tokens.specs.declared.fixed.Fixed.{Fixed}
 use Rattle.vlog_tokens.specs.declared.fixed.Fixed.TheVariants as sign
@@ -9,12 +10,14 @@ use Rattle.vlog_forms.specs.declared.slot.Slot.{Slot}
 use Rattle.vlog_forms.specs.declared.slot.Slot.TheVariants as slot
 use Rattle.vlog_forms.specs.Values.{seen, value_tokens, tokens_at, is_same_token}
 use Rattle.vlog_forms.specs.Layout.{parts_of, exact_tokens, more_slots, atom_slots, again_slots, first_again_slots}
-use Rattle.vlog_forms.specs.Reading.{Found, values_of, Reading, read_tokens, behind_tokens, read_single, read_atom, read_slot, read_slots, and_then}
+use Rattle.vlog_forms.specs.Reading.{Found, values_of, Reading, read_tokens, behind_tokens, read_single, read_atom, read_slot, read_slots, and_then, or_further}
+use Rattle.vlog_forms.specs.Reading as reading
+use Rattle.vlog_read.specs.declared.forms.Whole.{Whole}
 use Rattle.vlog_read.specs.declared.found.Found as kept
 use Rattle.vlog_read.specs.Found.{all_found}
 use Rattle.vlog_read.specs.declared.stop.Stop.{Stop}
 use Rattle.vlog_read.specs.declared.stop.Stop.TheVariants.{Stuck, Memory}
-use Rattle.vlog_read.specs.Readings.{StopsAt, ReadsTokens, ReadsTo, ReadsOver}
+use Rattle.vlog_read.specs.Readings.{StopsAt, ReadsTokens, ReadsTo, ReadsOver, ReadsForm, further}
 
 -- ---- one reading behind another
 
@@ -204,3 +207,27 @@ first-zero first count none = ap (first_again_slots first) none
 
 pub first-suc : (first count : ℕ) → 0 < count → first_again_slots first count ≡ slot.Again first ∷ again_slots (suc first) (count - 1)
 first-suc first count some = let one : count ≡ suc (count - 1) = omega arith in ap (first_again_slots first) one
+
+-- ---- lists and forms
+
+-- a list with an element at least
+pub cut : {A : Type 0} (list : List A) (default : A) → 1 ≤ length list → list ≡ get_or list 0 default ∷ take (length list - 1) (drop 1 list)
+cut [] default some = absurd (omega arith)
+cut (first ∷ list) default some =
+    let count : suc (length list) - 1 ≡ length list = omega arith in
+    ap (λ rest. first ∷ rest) (sym (ap (λ n. take n list) count ∙ take_all (length list) list (omega arith)))
+
+pub further-reads : (stuck : ℕ) (reading : Result reading.Whole ℕ) (bytes : List ℕ) (found : List Found) (read : Result Whole Stop) → ReadsForm reading bytes found read
+    → ReadsForm (or_further stuck reading) bytes found (further stuck read)
+further-reads stuck reading bytes found (Ok whole) reads = ap (or_further stuck) reads
+further-reads stuck reading bytes found (Err (Stuck other)) reads = ap (or_further stuck) reads
+further-reads stuck reading bytes found (Err (Memory refused)) reads = tt
+
+pub form-along : (one other : Result reading.Whole ℕ) (bytes : List ℕ) (found : List Found) (read : Result Whole Stop) → one ≡ other → ReadsForm other bytes found read → ReadsForm one bytes found read
+form-along one other bytes found read same reads = subst (λ (r : Result reading.Whole ℕ). ReadsForm r bytes found read) (sym same) reads
+
+pub form-result : (one : Result reading.Whole ℕ) (bytes : List ℕ) (found : List Found) (read other : Result Whole Stop) → read ≡ other → ReadsForm one bytes found other → ReadsForm one bytes found read
+form-result one bytes found read other same reads = subst (λ (r : Result Whole Stop). ReadsForm one bytes found r) (sym same) reads
+
+pub stops-along : {A : Type 0} (one other : Result A ℕ) (stop : Stop) → one ≡ other → StopsAt other stop → StopsAt one stop
+stops-along {A} one other stop same stops = subst (λ (r : Result A ℕ). StopsAt r stop) (sym same) stops

@@ -1,0 +1,38 @@
+// The forms.
+
+/// How an item is written.
+#[derive(Clone, Copy, Debug, PartialEq, Eq)]
+pub enum Form {
+    /// `input NAME;`
+    Input,
+    /// `output NAME;`
+    Output,
+    /// `reg NAME = BIT;`
+    Register,
+    /// `reg [15:0] NAME = WORD;`
+    Word,
+    /// `reg [15:0] NAME [0:255];`
+    Memory,
+    /// `wire NAME = BIT;`
+    WireBit,
+    /// `wire NAME = NAME;`
+    WireWhole,
+    /// `wire NAME = NAME[k];`
+    WirePart,
+    /// `wire NAME = WORD >> {ATOM, ATOM, ATOM, ATOM};`
+    WireLut,
+    /// `wire NAME = (a & b) | (a & c) | (b & c);`
+    WireMajority,
+    /// `assign NAME = ATOM;`
+    Assign,
+    /// `always @(EDGE NAME) if (ATOM) begin if (ATOM) NAME <= BIT; else NAME <= LUT; end`
+    Flip,
+    /// `always @(EDGE NAME) if (ATOM & ATOM) NAME <= NAME[ADDR];`
+    Read,
+    /// `always @(EDGE NAME) if (ATOM & ATOM) NAME[ADDR] <= (NAME[ADDR] & BITS16) | (BITS16 & ~BITS16);`
+    Write,
+    /// `initial NAME[k] = WORD;`
+    Start,
+    /// `endmodule`
+    End,
+}

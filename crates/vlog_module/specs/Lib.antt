@@ -1,0 +1,5 @@
+pub mod Maps
+pub mod Names
+pub mod Parts
+pub mod Uses
+pub mod WellFormed

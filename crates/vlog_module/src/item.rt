@@ -1,0 +1,100 @@
+// Items of a module, in the order of their sections.
+
+use crate::atoms::{Atom, Atoms};
+use crate::name::Name;
+
+/// A table of 16 bits, `WORD >> {in_3, in_2, in_1, in_0}`: bit `in_0 + 2 * in_1 + 4 * in_2 + 8 * in_3` of the word.
+#[derive(Drop)]
+pub struct Lut {
+    pub word: u16,
+    /// Four atoms, `in_0` first.
+    pub ins: Atoms,
+}
+
+/// The value of a wire.
+#[derive(Drop)]
+pub enum Right {
+    /// `1'b0` or `1'b1`.
+    Bit(bool),
+    /// An input, a register of one bit or an earlier wire.
+    Whole(Name),
+    /// Bit `k` of a register of 16 bits; bit 0 is the lowest.
+    Part { name: Name, k: u8 },
+    /// A table of four atoms.
+    Lut(Lut),
+    /// What two of three atoms have: `(a & b) | (a & c) | (b & c)`.
+    Majority { a: Atom, b: Atom, c: Atom },
+}
+
+/// An item. A module lists its items so that their sections, in the order below, don't fall.
+#[derive(Drop)]
+pub enum Item {
+    /// `reg NAME = BIT;`
+    Register {
+        name: Name,
+        start: bool,
+    },
+    /// `reg [15:0] NAME = WORD;`
+    Word {
+        name: Name,
+        start: u16,
+    },
+    /// `reg [15:0] NAME [0:255];`
+    Memory {
+        name: Name,
+    },
+    /// `wire NAME = RIGHT;`
+    Wire {
+        name: Name,
+        right: Right,
+    },
+    /// `assign NAME = ATOM;`, which gives an output its value.
+    Assign {
+        name: Name,
+        value: Atom,
+    },
+    /// `always @(EDGE clock) if (enable) begin if (reset) target <= set; else target <= lut; end`
+    Flip {
+        /// Whether the edge is `negedge`.
+        falling: bool,
+        clock: Name,
+        enable: Atom,
+        reset: Atom,
+        set: bool,
+        target: Name,
+        lut: Lut,
+    },
+    /// `always @(EDGE clock) if (clock_enable & enable) target <= memory[address];`
+    Read {
+        /// Whether the edge is `negedge`.
+        falling: bool,
+        clock: Name,
+        clock_enable: Atom,
+        enable: Atom,
+        target: Name,
+        memory: Name,
+        /// Eight atoms, the lowest bit of the address first.
+        address: Atoms,
+    },
+    /// `always @(EDGE clock) if (clock_enable & enable) memory[address] <= (memory[address] & mask) | (bits & ~mask);`
+    Write {
+        /// Whether the edge is `negedge`.
+        falling: bool,
+        clock: Name,
+        clock_enable: Atom,
+        enable: Atom,
+        memory: Name,
+        /// Eight atoms, the lowest bit of the address first.
+        address: Atoms,
+        /// Sixteen atoms, the lowest bit first; a bit of the word stays where its atom is 1.
+        mask: Atoms,
+        /// Sixteen atoms, the lowest bit first.
+        bits: Atoms,
+    },
+    /// `initial memory[k] = word;`
+    Start {
+        memory: Name,
+        k: u8,
+        word: u16,
+    },
+}

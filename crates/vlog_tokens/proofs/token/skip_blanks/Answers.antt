@@ -1,0 +1,15 @@
+use Rattle.std.proofs.Common.{◌≡◌, ◌∙◌, ap, sym, ◌+◌, drop, arith}
+use Rattle.std.specs.List.{position_or_len}
+use Rattle.std.specs.Prelude.{not}
+use Rattle.vlog_tokens.specs.Bytes.{is_blank, byte_at}
+use Rattle.vlog_tokens.specs.Tokens.{spots_at}
+use Rattle.vlog_tokens.proofs.Cuts.{spots_at-blanks, unblank_behind}
+use Rattle.vlog_tokens.proofs.token.skip_blanks.Goals as goal
+
+pub returns-clause-same : goal.returns-clause-same
+returns-clause-same c =
+    rw (c.blank_length.ensures.place, c.rest_from.ensures.rest) (spots_at-blanks c.args.bytes.now c.args.from)
+
+pub returns-clause-stops : goal.returns-clause-stops
+returns-clause-stops c =
+    rw (c.blank_length.ensures.place, c.rest_from.ensures.rest) (unblank_behind c.args.bytes.now c.args.from)

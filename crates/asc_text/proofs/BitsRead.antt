@@ -3,8 +3,8 @@ use Rattle.std.proofs.Common.{◌≡◌, ℕ, zero, suc, ◌-◌, ◌<◌, Bool,
 use Rattle.std.proofs.lemmas.Bool.{lt-ltb, eqb-true, eq-eqb, and_from, and_parts, or_cases, or_left, not_from_false, both_ways}
 use Rattle.std.specs.Prelude.{nat_lt}
 use Rattle.text_lines.specs.Lines.{line_at, trimmed}
-use Rattle.text_lines.specs.Places.{any_below}
-use Rattle.text_lines.proofs.Places.{any_below-none, any_below-at, any_below-place}
+use Rattle.place_search.specs.Places.{any_below}
+use Rattle.place_search.proofs.Places.{any_below-none, any_below-at, any_below-place}
 use Rattle.bit_plane.specs.Rows.{Rows, row_from}
 use Rattle.bit_plane.proofs.Made.{get_or-row_from}
 use Rattle.plane_map.specs.Layout.{kind_of, columns_of, columns_in, columns_at, grid_width, grid_height, cram_width, cram_height}

@@ -5,8 +5,8 @@ use Rattle.std.proofs.lemmas.Bool.{cases_eq, cases_lt, cases_Bool, and_parts, an
 use Rattle.std.proofs.lemmas.Bool.Decides.{nat_tests}
 use Rattle.std.proofs.lemmas.List.{get_or_past}
 use Rattle.text_lines.specs.Lines.{lines_of, line_at, trimmed}
-use Rattle.text_lines.specs.Places.{any_below, least_below, first_below, or_here, or_else}
-use Rattle.text_lines.proofs.Places.{any_below-at, any_below-place, least_below-first, first_below-sum}
+use Rattle.place_search.specs.Places.{any_below, least_below, first_below, or_here, or_else}
+use Rattle.place_search.proofs.Places.{any_below-at, any_below-place, least_below-first, first_below-sum}
 use Rattle.plane_map.specs.Layout.{kind_of, columns_of, columns_in, place_of, word_place_of, px_of, bank_of, ram_of, from_end, grid_height, cram_width, cram_height, bram_width, bram_height, IsTileBit, IsWordBit, IsExtraBit, IsInCram, IsInBram}
 use Rattle.plane_map.specs.declared.device.DeviceName.{DeviceName}
 use Rattle.plane_map.specs.declared.device.DeviceName.TheVariants.{K1, K8}
@@ -36,7 +36,7 @@ use Rattle.asc_text.specs.Faults.{cause_if, is_same_kind, kind_cause, tile_cause
 use Rattle.asc_text.specs.Meaning.{sets_place, is_set_before, sets_word_place, is_word_set_before, image_before, image_for, asc_image_of, AscMeans}
 use Rattle.asc_text.specs.Characters.{tile_statement, ram_statement, character_below, character_of, names_extra, is_named_extra, digit_bit_below, digit_bit_of, HasBits}
 use Rattle.asc_text.proofs.Owners.{is_same_place-same, is_same_place-self, is_owned-bit}
-use Rattle.asc_text.proofs.Ends.{place_bit-from}
+use Rattle.asc_text.proofs.PlanesFrom.{place_bit-planes_from}
 
 -- ---- tests and values
 
@@ -661,13 +661,13 @@ accepted_bits text device accepted =
       tiles = λ bit is.
           let at = place_of device bit in
           let inside = tile_in device bit is in
-          place_bit-from (cram_width device) (cram_height device) cram at.bank at.px at.py inside.bank_in inside.px_in inside.py_in ∙ tile_bits lines device bit accepted is;
+          place_bit-planes_from (cram_width device) (cram_height device) cram at.bank at.px at.py inside.bank_in inside.px_in inside.py_in ∙ tile_bits lines device bit accepted is;
       extras = λ at inside extra.
-          place_bit-from (cram_width device) (cram_height device) cram at.bank at.px at.py inside.bank_in inside.px_in inside.py_in ∙ extra_bits lines device at accepted extra;
+          place_bit-planes_from (cram_width device) (cram_height device) cram at.bank at.px at.py inside.bank_in inside.px_in inside.py_in ∙ extra_bits lines device at accepted extra;
       words = λ bit is.
           let at = word_place_of device bit in
           let inside = word_in device bit is in
-          place_bit-from (bram_width device) (bram_height device) bram at.bank at.px at.py inside.bank_in inside.px_in inside.py_in ∙ word_bits lines device bit accepted is;
+          place_bit-planes_from (bram_width device) (bram_height device) bram at.bank at.px at.py inside.bank_in inside.px_in inside.py_in ∙ word_bits lines device bit accepted is;
     }
 
 -- a line that has no fault has no cause

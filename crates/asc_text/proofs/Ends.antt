@@ -3,10 +3,9 @@ use Rattle.std.proofs.Common.{drop, ◌≡◌, ℕ, zero, suc, ◌+◌, ◌<◌,
 use Rattle.std.specs.Prelude.{Option, Some, None, unwrap_or, Result, Ok, Err, IfOk, IfErr, OnOk}
 use Rattle.std.proofs.lemmas.Bool.{cases_eq, cases_Bool}
 use Rattle.std.proofs.lemmas.List.{length-drop}
-use Rattle.bit_plane.specs.Rows.{Rows, IsGrid}
-use Rattle.bit_plane.proofs.Made.{IsGrid-rows_from, bit_at-rows_from}
+use Rattle.bit_plane.specs.Rows.{Rows}
 use Rattle.text_lines.specs.Lines.{lines_of, line_at}
-use Rattle.text_lines.proofs.Places.{first_below-none, first_below-first}
+use Rattle.place_search.proofs.Places.{first_below-none, first_below-first}
 use Rattle.plane_map.specs.Layout.{cram_width, cram_height, bram_width, bram_height}
 use Rattle.plane_map.specs.declared.device.DeviceName.{DeviceName}
 use Rattle.plane_map.specs.declared.tile.Place.{Place}
@@ -16,19 +15,19 @@ use Rattle.ice_image.specs.declared.any.AnyImage.{AnyImage}
 use Rattle.ice_image.specs.declared.settings.Settings.{Settings}
 use Rattle.ice_image.specs.declared.settings.Range.{Range}
 use Rattle.ice_image.specs.declared.settings.Range.TheVariants.{Low}
-use Rattle.ice_image.proofs.BankBits.{same_banks}
 use Rattle.asc_text.specs.declared.statement.Statement.{Statement}
 use Rattle.asc_text.specs.declared.fault.AscFault.{AscFault}
 use Rattle.asc_text.specs.declared.fault.AscFault.TheVariants.{At, Memory as OutOfMemory}
 use Rattle.asc_text.specs.declared.file.Symbol.{Symbol as NetName}
 use Rattle.asc_text.specs.declared.file.AscFile.{AscFile}
-use Rattle.asc_text.specs.declared.reading.Expected.{Expected}
-use Rattle.asc_text.specs.declared.reading.Expected.TheVariants.{Statement as AnyStatement, Row, Memory}
+use Rattle.asc_text.specs.declared.reading.reader.Expected.{Expected}
+use Rattle.asc_text.specs.declared.reading.reader.Expected.TheVariants.{Statement as AnyStatement, Row, Memory}
 use Rattle.asc_text.specs.Statements.{statement_in, begins_with_dot}
 use Rattle.asc_text.specs.Blocks.{depth_at}
 use Rattle.asc_text.specs.Faults.{cause_at, fault_at, fault_with, tile_named, asc_fault_of, Fault, Tells}
 use Rattle.asc_text.specs.Meaning.{AscMeans, asc_image_of, asc_symbols_of, image_for, image_before, settings_before, set_before, planes_from, is_set_before, is_word_set_before, comment_before, warm_boot_in, range_in}
-use Rattle.asc_text.specs.Reading.{ReaderState, begun, Finishes, Takes, TakesDotted, dotted_refusal, line_refusal, end_refusal, statement_of, settings_in}
+use Rattle.asc_text.specs.inside.Reading.{ReaderState, begun, Finishes, Takes, TakesDotted, dotted_refusal, line_refusal, end_refusal, statement_of, settings_in}
+use Rattle.asc_text.proofs.PlanesFrom.{planes_from-is}
 use Rattle.asc_text.proofs.HasRead.{HasRead, HasGiven, HasBits, HasImage, IsAt, device_known}
 use Rattle.asc_text.proofs.Given.{HasGiven-none}
 use Rattle.asc_text.proofs.CommentSteps.{HasComment-none}
@@ -154,28 +153,9 @@ end_accepted text s read none =
 
 -- ---- the meaning
 
-AreBanks-from : (width height : ℕ) (bits : Place → Bool) → AreBanks width height (planes_from width height bits)
-AreBanks-from width height bits = record { four = refl; grids = grid }
-  where
-    grid : (bank : ℕ) → bank < 4 → IsGrid width height (bank_rows (planes_from width height bits) bank)
-    grid zero within = IsGrid-rows_from width height (λ px py. bits (record { bank = 0; px = px; py = py }))
-    grid (suc zero) within = IsGrid-rows_from width height (λ px py. bits (record { bank = 1; px = px; py = py }))
-    grid (suc (suc zero)) within = IsGrid-rows_from width height (λ px py. bits (record { bank = 2; px = px; py = py }))
-    grid (suc (suc (suc zero))) within = IsGrid-rows_from width height (λ px py. bits (record { bank = 3; px = px; py = py }))
-    grid (suc (suc (suc (suc bank)))) within = absurd (omega arith)
-
-pub place_bit-from : (width height : ℕ) (bits : Place → Bool) (bank x y : ℕ) → bank < 4 → x < width → y < height → place_bit (planes_from width height bits) (record { bank = bank; px = x; py = y }) ≡ bits (record { bank = bank; px = x; py = y })
-place_bit-from width height bits zero x y within column row = bit_at-rows_from width height (λ px py. bits (record { bank = 0; px = px; py = py })) x y column row
-place_bit-from width height bits (suc zero) x y within column row = bit_at-rows_from width height (λ px py. bits (record { bank = 1; px = px; py = py })) x y column row
-place_bit-from width height bits (suc (suc zero)) x y within column row = bit_at-rows_from width height (λ px py. bits (record { bank = 2; px = px; py = py })) x y column row
-place_bit-from width height bits (suc (suc (suc zero))) x y within column row = bit_at-rows_from width height (λ px py. bits (record { bank = 3; px = px; py = py })) x y column row
-place_bit-from width height bits (suc (suc (suc (suc bank)))) x y within column row = absurd (omega arith)
-
 -- planes are those of their bits
 same_planes : (width height : ℕ) (planes : List Rows) (bits : Place → Bool) → AreBanks width height planes → ((at : Place) → place_bit planes at ≡ bits at) → planes ≡ planes_from width height bits
-same_planes width height planes bits banks same =
-    same_banks width height planes (planes_from width height bits) banks (AreBanks-from width height bits)
-    (λ at bank column row. same at ∙ sym (place_bit-from width height bits at.bank at.px at.py bank column row))
+same_planes width height planes bits banks same = sym (planes_from-is width height bits planes banks (λ at bank column row. sym (same at)))
 
 -- the settings are those that the lines set
 same_settings : (lines : List (List ℕ)) (n : ℕ) (s : ReaderState) → HasGiven lines n s → settings_in s ≡ settings_before lines n

@@ -5,17 +5,17 @@ use Rattle.std.proofs.lemmas.Bool.{cases_eq, eq-eqb, ne_eqb}
 use Rattle.std.proofs.lemmas.List.{get_or-replicate}
 use Rattle.std.proofs.Math.Bool.{or-false}
 use Rattle.text_lines.specs.Lines.{line_at}
-use Rattle.text_lines.specs.Places.{any_below, first_below, gathered_below, or_else}
-use Rattle.text_lines.proofs.Places.{or_else-none, any_below-more, first_below-more, gathered_below-more}
+use Rattle.place_search.specs.Places.{any_below, first_below, gathered_below, or_else}
+use Rattle.place_search.proofs.Places.{or_else-none, any_below-more, first_below-more, gathered_below-more}
 use Rattle.asc_text.specs.declared.statement.Statement.{Statement}
 use Rattle.asc_text.specs.declared.statement.Statement.TheVariants.{Comment, Device, WarmBoot, FrequencyRange, NoSleep, Tile, RamData, ExtraBit, Symbol}
 use Rattle.asc_text.specs.declared.fault.TileXy.{TileXy}
 use Rattle.asc_text.specs.declared.file.Symbol.{Symbol as NetName}
-use Rattle.asc_text.specs.TileSets.{has_tile}
+use Rattle.asc_text.specs.inside.TileSets.{has_tile}
 use Rattle.asc_text.specs.Blocks.{statement_at, device_in}
 use Rattle.asc_text.specs.Faults.{is_device, is_warm_boot, is_range, is_no_sleep, names_tile, names_ram}
 use Rattle.asc_text.specs.Meaning.{warm_boot_in, range_in, no_sleep_in, symbols_before, symbol_in}
-use Rattle.asc_text.specs.Reading.{ReaderState, begun, HasInserted}
+use Rattle.asc_text.specs.inside.Reading.{ReaderState, begun, HasInserted}
 use Rattle.asc_text.proofs.HasRead.{IsGiven, AreNamed, HasGiven, device_known}
 
 -- ---- steps

@@ -2,7 +2,7 @@
 use Rattle.std.proofs.Common.{◌≡◌, ℕ, ◌+◌, ◌-◌, ◌<◌, Bool, false, List}
 use Rattle.std.specs.Prelude.{Option, Some, None, is_some}
 use Rattle.text_lines.specs.Lines.{line_at}
-use Rattle.text_lines.specs.Places.{any_below, first_below, last_below}
+use Rattle.place_search.specs.Places.{any_below, first_below, last_below}
 use Rattle.plane_map.specs.declared.device.DeviceName.{DeviceName}
 use Rattle.plane_map.specs.declared.tile.Place.{Place}
 use Rattle.plane_map.specs.declared.tile.TileKind.TheVariants.{RamB}
@@ -12,14 +12,14 @@ use Rattle.ice_image.specs.declared.any.AnyImage.{AnyImage}
 use Rattle.ice_image.specs.declared.settings.Range.{Range}
 use Rattle.asc_text.specs.declared.statement.Statement.{Statement}
 use Rattle.asc_text.specs.declared.statement.Statement.TheVariants.{Tile, RamData}
-use Rattle.asc_text.specs.declared.reading.Expected.{Expected}
-use Rattle.asc_text.specs.declared.reading.Expected.TheVariants.{Statement as AnyStatement, Row, Memory}
+use Rattle.asc_text.specs.declared.reading.reader.Expected.{Expected}
+use Rattle.asc_text.specs.declared.reading.reader.Expected.TheVariants.{Statement as AnyStatement, Row, Memory}
 use Rattle.asc_text.specs.Statements.{statement_in}
-use Rattle.asc_text.specs.TileSets.{has_tile}
+use Rattle.asc_text.specs.inside.TileSets.{has_tile}
 use Rattle.asc_text.specs.Blocks.{depth_at, statement_at, dot_before, is_comment, device_in}
 use Rattle.asc_text.specs.Faults.{cause_at, is_in_comment, is_device, is_warm_boot, is_range, is_no_sleep, names_tile, names_ram}
 use Rattle.asc_text.specs.Meaning.{warm_boot_in, range_in, no_sleep_in, comment_before, is_that_line, is_set_before, is_word_set_before, symbols_before}
-use Rattle.asc_text.specs.Reading.{ReaderState, HasKind}
+use Rattle.asc_text.specs.inside.Reading.{ReaderState, HasKind}
 
 -- where a line of what is expected stands
 abbrev pub IsAt : List (List ℕ) → ℕ → ReaderState → Expected → Type 0

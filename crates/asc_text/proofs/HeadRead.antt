@@ -2,7 +2,7 @@
 use Rattle.std.proofs.Common.{◌≡◌, ℕ, Bool, true, false, not, ◌&&◌, List, [], ◌∷◌, ◌++◌, append_assoc, refl, sym, ap, ◌∙◌, arith, Option, Some, None}
 use Rattle.std.proofs.lemmas.List.Elements.{All-cons, All-nil}
 use Rattle.std.specs.Prelude.{unwrap_or}
-use Rattle.text_lines.specs.Places.{or_else}
+use Rattle.place_search.specs.Places.{or_else}
 use Rattle.text_lines.specs.Written.{IsPlain}
 use Rattle.plane_map.specs.Layout.{kind_of, grid_width, grid_height, cram_width, cram_height}
 use Rattle.plane_map.specs.declared.device.DeviceName.{DeviceName}
@@ -15,14 +15,14 @@ use Rattle.ice_image.specs.declared.settings.Range.TheVariants.{Low, Medium, Hig
 use Rattle.asc_text.specs.declared.statement.Statement.{Statement}
 use Rattle.asc_text.specs.declared.statement.Statement.TheVariants.{Comment, Device, WarmBoot, FrequencyRange, NoSleep, Tile, RamData, ExtraBit}
 use Rattle.asc_text.specs.Statements.{device_word, switch_word, range_word, comment_keyword, device_keyword, warm_boot_keyword, range_keyword, no_sleep_keyword}
-use Rattle.asc_text.specs.Blocks.{device_in}
+use Rattle.asc_text.specs.Blocks.{device_in, has_rows, is_comment}
 use Rattle.asc_text.specs.Extras.{is_owned}
 use Rattle.asc_text.specs.Faults.{is_warm_boot, is_range, is_no_sleep}
 use Rattle.asc_text.specs.Meaning.{warm_boot_in, range_in, no_sleep_in}
 use Rattle.asc_text.specs.Canonical.{with_word, warm_boot_lines, range_lines, no_sleep_lines}
-use Rattle.asc_text.proofs.PieceRead.{Piece}
-use Rattle.asc_text.proofs.PiecesRead.{all_lines, some_piece, some_piece-nothing, first_piece, some_statement, first_statement, some_piece-one, first_piece-append, cause_behind, IsFine, AreFine, AreFine-append}
-use Rattle.asc_text.proofs.Spelled.{device-spelled, warm_boot-spelled, medium-spelled, high-spelled, no_sleep-spelled}
+use Rattle.asc_text.proofs.PieceRead.{Piece, rows_below}
+use Rattle.asc_text.proofs.PiecesRead.{all_lines, some_piece, some_piece-nothing, first_piece, some_statement, first_statement, some_piece-one, first_piece-append, cause_behind, was_given, IsFine, AreFine, AreFine-append}
+use Rattle.asc_text.proofs.Spelled.{IsSpelled, device-spelled, warm_boot-spelled, medium-spelled, high-spelled, no_sleep-spelled}
 use Rattle.asc_text.proofs.PiecesWritten.{all_lines-append, gathered-none, append-none, first-none, AreFine-none, AreFine-one, Knows, Knows-more, kind_pieces, grid_pieces, row_pieces, all_tile_pieces, extra_pieces_if, extra_column, extra_row, extra_bank, all_extra_pieces}
 
 -- a statement to which no lines belong
@@ -87,67 +87,47 @@ head-lines device warm_boot range no_sleep =
 
 -- ---- they are right
 
+-- a statement to which no lines belong is right where its cause is none
+alone-fine : (past : List Piece) (statement : Statement) (head : List ℕ) → IsSpelled head statement → has_rows (Some statement) ≡ false → is_comment (Some statement) ≡ false
+    → cause_behind (first_statement device_in past) (was_given past statement) statement ≡ None → IsFine past (alone statement head)
+alone-fine past statement head spelled rowless calm none = record {
+  is = record { spells = spelled.spells; dot = spelled.dot; count = sym (ap rows_below rowless); calm = calm; plain = All-cons IsPlain head [] spelled.plain (All-nil IsPlain) };
+  cause = none;
+  rows = λ r within. absurd (omega arith);
+}
+
 -- the device is right behind the comment
 device-fine : (comment : Option (List (List ℕ))) (device : DeviceName) → IsFine (comment_pieces comment) (device_piece device)
 unfolding first_piece some_piece
-device-fine None device =
-    let spelled = device-spelled device in
-    record {
-      is = record { spells = spelled.spells; dot = spelled.dot; count = refl; calm = refl; plain = All-cons IsPlain (device_piece device).head [] spelled.plain (All-nil IsPlain) };
-      cause = refl;
-      rows = λ r within. absurd (omega arith);
-    }
-device-fine (Some lines) device =
-    let spelled = device-spelled device in
-    record {
-      is = record { spells = spelled.spells; dot = spelled.dot; count = refl; calm = refl; plain = All-cons IsPlain (device_piece device).head [] spelled.plain (All-nil IsPlain) };
-      cause = refl;
-      rows = λ r within. absurd (omega arith);
-    }
+device-fine None device = alone-fine [] (Device (Some device)) (device_piece device).head (device-spelled device) refl refl refl
+device-fine (Some lines) device = alone-fine (comment_pieces (Some lines)) (Device (Some device)) (device_piece device).head (device-spelled device) refl refl refl
 
--- warm boot is right behind the device
+-- so is a setting behind the device, where it wasn't given
+setting-fine : (device : DeviceName) (past : List Piece) (statement : Statement) (head : List ℕ) → Knows device past → IsSpelled head statement
+    → has_rows (Some statement) ≡ false → is_comment (Some statement) ≡ false → was_given past statement ≡ false → cause_behind (Some device) false statement ≡ None
+    → AreFine past (alone statement head ∷ [])
+setting-fine device past statement head knows spelled rowless calm new none =
+    AreFine-one past (alone statement head) (alone-fine past statement head spelled rowless calm ((λ i. cause_behind (knows i) (new i) statement) ∙ none))
+
+-- so is warm boot
 warm_boot-fine : (device : DeviceName) (past : List Piece) (warm_boot : Bool) → Knows device past → some_statement is_warm_boot past ≡ false → AreFine past (warm_boot_pieces warm_boot)
 warm_boot-fine device past true knows new = AreFine-none past
 warm_boot-fine device past false knows new =
-    let spelled = warm_boot-spelled in
-    let head = with_word warm_boot_keyword (switch_word false) in
-    AreFine-one past (alone (WarmBoot (Some false)) head) (record {
-      is = record { spells = spelled.spells; dot = spelled.dot; count = refl; calm = refl; plain = All-cons IsPlain head [] spelled.plain (All-nil IsPlain) };
-      cause = λ i. cause_behind (knows i) (new i) (WarmBoot (Some false));
-      rows = λ r within. absurd (omega arith);
-    })
+    setting-fine device past (WarmBoot (Some false)) (with_word warm_boot_keyword (switch_word false)) knows warm_boot-spelled refl refl new refl
 
 -- so is the range
 range-fine : (device : DeviceName) (past : List Piece) (range : Range) → Knows device past → some_statement is_range past ≡ false → AreFine past (range_pieces range)
 range-fine device past Low knows new = AreFine-none past
 range-fine device past Medium knows new =
-    let spelled = medium-spelled in
-    let head = with_word range_keyword (range_word Medium) in
-    AreFine-one past (alone (FrequencyRange (Some Medium)) head) (record {
-      is = record { spells = spelled.spells; dot = spelled.dot; count = refl; calm = refl; plain = All-cons IsPlain head [] spelled.plain (All-nil IsPlain) };
-      cause = λ i. cause_behind (knows i) (new i) (FrequencyRange (Some Medium));
-      rows = λ r within. absurd (omega arith);
-    })
+    setting-fine device past (FrequencyRange (Some Medium)) (with_word range_keyword (range_word Medium)) knows medium-spelled refl refl new refl
 range-fine device past High knows new =
-    let spelled = high-spelled in
-    let head = with_word range_keyword (range_word High) in
-    AreFine-one past (alone (FrequencyRange (Some High)) head) (record {
-      is = record { spells = spelled.spells; dot = spelled.dot; count = refl; calm = refl; plain = All-cons IsPlain head [] spelled.plain (All-nil IsPlain) };
-      cause = λ i. cause_behind (knows i) (new i) (FrequencyRange (Some High));
-      rows = λ r within. absurd (omega arith);
-    })
+    setting-fine device past (FrequencyRange (Some High)) (with_word range_keyword (range_word High)) knows high-spelled refl refl new refl
 
 -- so is the flash
 no_sleep-fine : (device : DeviceName) (past : List Piece) (no_sleep : Bool) → Knows device past → some_statement is_no_sleep past ≡ false → AreFine past (no_sleep_pieces no_sleep)
 no_sleep-fine device past false knows new = AreFine-none past
 no_sleep-fine device past true knows new =
-    let spelled = no_sleep-spelled in
-    let head = with_word no_sleep_keyword (switch_word true) in
-    AreFine-one past (alone (NoSleep (Some true)) head) (record {
-      is = record { spells = spelled.spells; dot = spelled.dot; count = refl; calm = refl; plain = All-cons IsPlain head [] spelled.plain (All-nil IsPlain) };
-      cause = λ i. cause_behind (knows i) (new i) (NoSleep (Some true));
-      rows = λ r within. absurd (omega arith);
-    })
+    setting-fine device past (NoSleep (Some true)) (with_word no_sleep_keyword (switch_word true)) knows no_sleep-spelled refl refl new refl
 
 -- a test that none of these pieces passes
 pub record FailsHead (test : Piece → Bool) (device : DeviceName) : Type 0 where

@@ -6,8 +6,8 @@ use Rattle.std.proofs.lemmas.List.{get_or_past}
 use Rattle.std.proofs.Math.Bool.{or-false}
 use Rattle.bit_plane.specs.Rows.{Rows, blank, bit_at}
 use Rattle.text_lines.specs.Lines.{line_at, trimmed}
-use Rattle.text_lines.specs.Places.{any_below}
-use Rattle.text_lines.proofs.Places.{any_below-more}
+use Rattle.place_search.specs.Places.{any_below}
+use Rattle.place_search.proofs.Places.{any_below-more}
 use Rattle.plane_map.specs.Layout.{cram_width, cram_height, bram_width, bram_height}
 use Rattle.plane_map.specs.declared.device.DeviceName.{DeviceName}
 use Rattle.plane_map.specs.declared.tile.Place.{Place}
@@ -17,7 +17,7 @@ use Rattle.ice_image.specs.declared.any.AnyImage.{AnyImage}
 use Rattle.ice_image.proofs.BankBits.{AreBanks-blank, place_bit-blank}
 use Rattle.asc_text.specs.Blocks.{depth_at, statement_over}
 use Rattle.asc_text.specs.Meaning.{is_set_before, is_word_set_before, sets_place, sets_word_place}
-use Rattle.asc_text.specs.Reading.{CramGains, BramGains, IsBlank}
+use Rattle.asc_text.specs.inside.Reading.{CramGains, BramGains, IsBlank}
 use Rattle.asc_text.proofs.HasRead.{SetsNone, HasImage}
 
 -- what a line sets

@@ -16,14 +16,14 @@ use Rattle.hex.specs.Hex.{is_hex_digit}
 use Rattle.asc_text.specs.declared.statement.Statement.TheVariants.{Tile, RamData}
 use Rattle.asc_text.specs.declared.fault.AscCause.{AscCause}
 use Rattle.asc_text.specs.declared.fault.AscCause.TheVariants.{Row as RowCause, Hex}
-use Rattle.asc_text.specs.declared.reading.Expected.{Expected}
-use Rattle.asc_text.specs.declared.reading.Expected.TheVariants.{Statement as AnyStatement, Row, Memory}
+use Rattle.asc_text.specs.declared.reading.reader.Expected.{Expected}
+use Rattle.asc_text.specs.declared.reading.reader.Expected.TheVariants.{Statement as AnyStatement, Row, Memory}
 use Rattle.asc_text.specs.Statements.{statement_in, begins_with_dot}
 use Rattle.asc_text.specs.Rows.{is_row, is_memory_line, memory_bytes}
-use Rattle.asc_text.specs.Gains.{row_sets, line_sets}
+use Rattle.asc_text.specs.inside.Gains.{row_sets, line_sets}
 use Rattle.asc_text.specs.Blocks.{depth_at, statement_over, statement_at, depth_after, has_rows}
 use Rattle.asc_text.specs.Faults.{cause_at, cause_if}
-use Rattle.asc_text.specs.Reading.{ReaderState, HasKind, CramGains, BramGains, TakesRow, TakesMemory, after_row, after_memory, after_text, with_line}
+use Rattle.asc_text.specs.inside.Reading.{ReaderState, HasKind, CramGains, BramGains, TakesRow, TakesMemory, after_row, after_memory, after_text, with_line}
 use Rattle.asc_text.proofs.Dotted.{none_without_dot}
 use Rattle.asc_text.proofs.HasRead.{HasRead, HasComment, HasImage, IsAt, device_known}
 use Rattle.asc_text.proofs.Given.{Follows, HasGiven-more}

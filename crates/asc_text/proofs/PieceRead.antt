@@ -5,7 +5,7 @@ use Rattle.std.proofs.lemmas.Bool.Decides.{nat_tests}
 use Rattle.std.specs.Prelude.{All}
 use Rattle.text_lines.specs.Lines.{line_at, trimmed}
 use Rattle.text_lines.specs.Written.{IsPlain}
-use Rattle.text_lines.specs.Places.{any_below}
+use Rattle.place_search.specs.Places.{any_below}
 use Rattle.plane_map.specs.declared.device.DeviceName.{DeviceName}
 use Rattle.plane_map.specs.declared.tile.Place.{Place}
 use Rattle.asc_text.specs.declared.statement.Statement.{Statement}

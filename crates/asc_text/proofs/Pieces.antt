@@ -3,9 +3,9 @@ use Rattle.std.proofs.Common.{◌≡◌, ℕ, ◌+◌, ◌-◌, ◌*◌, Bool, �
 use Rattle.std.proofs.lemmas.List.{map-append, take_more, take_all}
 use Rattle.std.proofs.lemmas.Grind.{flat_map-append}
 use Rattle.hex.specs.Hex.{encode_with, lower_digits, encode_lower}
-use Rattle.text_lines.specs.Places.{gathered_below}
+use Rattle.place_search.specs.Places.{gathered_below}
 use Rattle.text_lines.specs.Written.{text_of}
-use Rattle.text_lines.proofs.Places.{gathered_below-more, gathered_below-none}
+use Rattle.place_search.proofs.Places.{gathered_below-more, gathered_below-none}
 use Rattle.bit_plane.specs.Rows.{Rows, row_from, rows_from}
 use Rattle.plane_map.specs.Layout.{kind_of, columns_of, columns_at, columns_in}
 use Rattle.plane_map.specs.declared.device.DeviceName.{DeviceName}

@@ -6,9 +6,9 @@ use Rattle.std.proofs.lemmas.List.Elements.{All-cons, All-nil, All-append}
 use Rattle.std.specs.Prelude.{All, nat_lt}
 use Rattle.hex.specs.Hex.{IsBytes, encode_lower}
 use Rattle.text_lines.specs.Lines.{line_at, trimmed}
-use Rattle.text_lines.specs.Places.{any_below, gathered_below, or_else}
+use Rattle.place_search.specs.Places.{any_below, gathered_below, or_else}
 use Rattle.text_lines.specs.Written.{IsPlain}
-use Rattle.text_lines.proofs.Places.{any_below-none, any_below-at, any_below-place, gathered_below-same}
+use Rattle.place_search.proofs.Places.{any_below-none, any_below-at, any_below-place, gathered_below-same}
 use Rattle.bit_plane.specs.Rows.{Rows, row_from}
 use Rattle.bit_plane.proofs.Made.{length-row_from, length-rows_from, row_at-rows_from}
 use Rattle.plane_map.specs.Layout.{kind_of, columns_of, columns_in, columns_at, grid_width, grid_height, cram_width, cram_height}

@@ -5,7 +5,7 @@ use Rattle.std.proofs.lemmas.Bool.{lt-ltb}
 use Rattle.std.proofs.lemmas.Bool.Decides.{nat_tests}
 use Rattle.std.proofs.lemmas.List.{get_or_past}
 use Rattle.text_lines.specs.Lines.{line_at, trimmed}
-use Rattle.text_lines.specs.Places.{or_else}
+use Rattle.place_search.specs.Places.{or_else}
 use Rattle.plane_map.specs.Layout.{kind_of, columns_of, columns_at, grid_width, grid_height}
 use Rattle.plane_map.specs.declared.device.DeviceName.{DeviceName}
 use Rattle.plane_map.specs.declared.device.DeviceName.TheVariants.{K1, K8}
@@ -19,17 +19,17 @@ use Rattle.asc_text.specs.declared.statement.Statement.{Statement}
 use Rattle.asc_text.specs.declared.statement.Statement.TheVariants.{Comment, Device, WarmBoot, FrequencyRange, NoSleep, Tile, RamData, ExtraBit, Symbol}
 use Rattle.asc_text.specs.declared.fault.AscCause.{AscCause}
 use Rattle.asc_text.specs.declared.fault.AscCause.TheVariants.{Repeated, ExtraPlace, NoDevice}
-use Rattle.asc_text.specs.declared.reading.Expected.{Expected}
-use Rattle.asc_text.specs.declared.reading.Expected.TheVariants.{Statement as AnyStatement, Row, Memory}
+use Rattle.asc_text.specs.declared.reading.reader.Expected.{Expected}
+use Rattle.asc_text.specs.declared.reading.reader.Expected.TheVariants.{Statement as AnyStatement, Row, Memory}
 use Rattle.asc_text.specs.Statements.{statement_in}
-use Rattle.asc_text.specs.TileSets.{has_tile}
+use Rattle.asc_text.specs.inside.TileSets.{has_tile}
 use Rattle.asc_text.specs.Rows.{is_row, is_memory_line}
 use Rattle.asc_text.specs.Extras.{is_extra}
 use Rattle.asc_text.specs.Blocks.{statement_over, device_before}
 use Rattle.asc_text.specs.Faults.{cause_at, end_cause, statement_cause, is_repeated, missing_device, unknown_device, tile_cause, kind_cause, extra_cause, setting_cause, cause_if, tile_named, fault_at, fault_with}
-use Rattle.asc_text.specs.Reading.{ReaderState, statement_refusal, dotted_refusal, setting_refusal, tile_refusal, extra_refusal, line_refusal, end_refusal, statement_of}
+use Rattle.asc_text.specs.inside.Reading.{ReaderState, statement_refusal, dotted_refusal, setting_refusal, tile_refusal, extra_refusal, line_refusal, end_refusal, statement_of}
 use Rattle.asc_text.proofs.HasRead.{HasRead, HasGiven, HasComment, IsAt, device_known}
-use Rattle.text_lines.proofs.Places.{or_else-none}
+use Rattle.place_search.proofs.Places.{or_else-none}
 
 -- ---- the grid
 

@@ -5,9 +5,9 @@ use Rattle.std.proofs.lemmas.List.{length-append, get_or_at}
 use Rattle.std.proofs.lemmas.List.Elements.{All-nil, All-append}
 use Rattle.std.specs.Prelude.{All, unwrap_or}
 use Rattle.text_lines.specs.Lines.{lines_of, line_at}
-use Rattle.text_lines.specs.Places.{any_below, first_below}
+use Rattle.place_search.specs.Places.{any_below, first_below}
 use Rattle.text_lines.specs.Written.{text_of, IsPlain}
-use Rattle.text_lines.proofs.Places.{any_below-at, first_below-none, gathered_below-none}
+use Rattle.place_search.proofs.Places.{any_below-at, first_below-none, gathered_below-none}
 use Rattle.text_lines.proofs.Written.{lines_of-text_of}
 use Rattle.bit_plane.specs.Rows.{Rows, IsGrid, bit_at}
 use Rattle.bit_plane.proofs.Made.{IsGrid-rows_from, bit_at-rows_from}
@@ -26,6 +26,7 @@ use Rattle.asc_text.specs.Faults.{names_tile, names_ram, cause_at, fault_with, t
 use Rattle.asc_text.specs.Meaning.{is_set_before, is_word_set_before, comment_before, settings_before, planes_from, image_before, symbol_in, symbols_before, image_for, asc_image_of, asc_symbols_of, AscMeans}
 use Rattle.asc_text.specs.Canonical.{with_word, comment_lines, warm_boot_lines, range_lines, no_sleep_lines, all_tile_lines, all_extra_lines, canonical_lines, asc_text_of}
 use Rattle.asc_text.proofs.PieceRead.{Piece, Stands, piece_lines, piece_sets, piece_sets_word}
+use Rattle.asc_text.proofs.PlanesFrom.{planes_from-is}
 use Rattle.asc_text.proofs.PiecesRead.{all_lines, some_piece, some_piece-append, some_statement, first_statement, Holds, AreFine, AreFine-append, Stands-front, Stands-back, all_more}
 use Rattle.asc_text.proofs.PiecesWritten.{all_lines-append, append-none, Knows-more, all_tile_pieces, tile-lines, tiles-fine, all_extra_pieces, extra-lines, extras-fine}
 use Rattle.asc_text.proofs.HeadRead.{comment_pieces, warm_boot_pieces, range_pieces, no_sleep_pieces, head_pieces, head-lines, FailsHead, head-none, head-knows, head-fine, FailsPlaces, places-none, settings-read}
@@ -168,33 +169,6 @@ words-whole image at bank column row =
       | inr extra ↦ absurd (both_ways extras (extras-set_no_word image at) extra)
     ])
     (λ bit. or_left tiles extras (tiles-set_word_at image at (record { bank_in = bank; px_in = column; py_in = row }) bit))
-
--- planes from the bits of places are planes of that size
-AreBanks-planes_from : (width height : ℕ) (bits : Place → Bool) → AreBanks width height (planes_from width height bits)
-AreBanks-planes_from width height bits = record { four = refl; grids = each }
-  where
-    each : (bank : ℕ) → bank < 4 → IsGrid width height (bank_rows (planes_from width height bits) bank)
-    each zero within = IsGrid-rows_from width height (λ px py. bits (record { bank = 0; px = px; py = py }))
-    each (suc zero) within = IsGrid-rows_from width height (λ px py. bits (record { bank = 1; px = px; py = py }))
-    each (suc (suc zero)) within = IsGrid-rows_from width height (λ px py. bits (record { bank = 2; px = px; py = py }))
-    each (suc (suc (suc zero))) within = IsGrid-rows_from width height (λ px py. bits (record { bank = 3; px = px; py = py }))
-    each (suc (suc (suc (suc bank)))) within = absurd (omega arith)
-
--- with those bits
-bit_at-planes_from : (width height : ℕ) (bits : Place → Bool) (bank px py : ℕ) → bank < 4 → px < width → py < height
-    → bit_at (bank_rows (planes_from width height bits) bank) px py ≡ bits (record { bank = bank; px = px; py = py })
-bit_at-planes_from width height bits zero px py within column row = bit_at-rows_from width height (λ px py. bits (record { bank = 0; px = px; py = py })) px py column row
-bit_at-planes_from width height bits (suc zero) px py within column row = bit_at-rows_from width height (λ px py. bits (record { bank = 1; px = px; py = py })) px py column row
-bit_at-planes_from width height bits (suc (suc zero)) px py within column row = bit_at-rows_from width height (λ px py. bits (record { bank = 2; px = px; py = py })) px py column row
-bit_at-planes_from width height bits (suc (suc (suc zero))) px py within column row = bit_at-rows_from width height (λ px py. bits (record { bank = 3; px = px; py = py })) px py column row
-bit_at-planes_from width height bits (suc (suc (suc (suc bank)))) px py within column row = absurd (omega arith)
-
--- planes are those from their own bits
-planes_from-is : (width height : ℕ) (bits : Place → Bool) (planes : List Rows) → AreBanks width height planes
-    → ((at : Place) → at.bank < 4 → at.px < width → at.py < height → bits at ≡ place_bit planes at) → planes_from width height bits ≡ planes
-planes_from-is width height bits planes banks same =
-    same_banks width height (planes_from width height bits) planes (AreBanks-planes_from width height bits) banks (λ at bank column row.
-    bit_at-planes_from width height bits at.bank at.px at.py bank column row ∙ same at bank column row)
 
 -- ---- names
 

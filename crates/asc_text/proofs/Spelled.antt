@@ -8,9 +8,10 @@ use Rattle.std.proofs.lemmas.List.Sums.{AllPass-from_list_all}
 use Rattle.std.specs.List.{list_all}
 use Rattle.std.specs.Prelude.{All, decimal, nat_le}
 use Rattle.text_lines.specs.Lines.{trimmed, before_rest}
+use Rattle.text_lines.specs.declared.words.Separators.TheVariants.{Spaces}
 use Rattle.text_lines.specs.Words.{pieces_of, words_of, from_word, first_word, behind_word, numbers_of}
 use Rattle.text_lines.specs.Written.{IsPlain}
-use Rattle.text_lines.proofs.Spaced.{words_of-space, words_of-two, words_of-three}
+use Rattle.text_lines.proofs.Spaced.{words_of-separator, words_of-two, words_of-three}
 use Rattle.text_lines.proofs.Numbers.{numbers_of-two, numbers_of-three}
 use Rattle.text_lines.proofs.Decimals.{decimal-digits, decimal-word, decimal-plain, number_of-decimal}
 use Rattle.plane_map.specs.declared.device.DeviceName.{DeviceName}
@@ -103,16 +104,16 @@ no_sleep-spelled = record { spells = refl; dot = refl; plain = plain-literal (wi
 -- ---- statements of places
 
 -- two numbers behind a keyword
-two-numbers : (x y : ℕ) → x < 1000000000 → y < 1000000000 → numbers_of (words_of (32 ∷ (decimal x ++ (32 ∷ decimal y)))) ≡ Some (x ∷ y ∷ [])
+two-numbers : (x y : ℕ) → x < 1000000000 → y < 1000000000 → numbers_of (words_of Spaces (32 ∷ (decimal x ++ (32 ∷ decimal y)))) ≡ Some (x ∷ y ∷ [])
 two-numbers x y small_x small_y =
-    ap numbers_of (words_of-space (decimal x ++ (32 ∷ decimal y)) ∙ words_of-two (decimal x) (decimal y) (decimal-word x (omega arith)) (decimal-word y (omega arith)))
+    ap numbers_of (words_of-separator Spaces 32 (decimal x ++ (32 ∷ decimal y)) refl ∙ words_of-two Spaces (decimal x) (decimal y) (decimal-word Spaces x (omega arith)) (decimal-word Spaces y (omega arith)))
     ∙ numbers_of-two (decimal x) (decimal y) x y (number_of-decimal x small_x) (number_of-decimal y small_y)
 
 -- three numbers behind a keyword
 three-numbers : (x y z : ℕ) → x < 1000000000 → y < 1000000000 → z < 1000000000
-    → numbers_of (words_of (32 ∷ (decimal x ++ (32 ∷ (decimal y ++ (32 ∷ decimal z)))))) ≡ Some (x ∷ y ∷ z ∷ [])
+    → numbers_of (words_of Spaces (32 ∷ (decimal x ++ (32 ∷ (decimal y ++ (32 ∷ decimal z)))))) ≡ Some (x ∷ y ∷ z ∷ [])
 three-numbers x y z small_x small_y small_z =
-    ap numbers_of (words_of-space (decimal x ++ (32 ∷ (decimal y ++ (32 ∷ decimal z)))) ∙ words_of-three (decimal x) (decimal y) (decimal z) (decimal-word x (omega arith)) (decimal-word y (omega arith)) (decimal-word z (omega arith)))
+    ap numbers_of (words_of-separator Spaces 32 (decimal x ++ (32 ∷ (decimal y ++ (32 ∷ decimal z)))) refl ∙ words_of-three Spaces (decimal x) (decimal y) (decimal z) (decimal-word Spaces x (omega arith)) (decimal-word Spaces y (omega arith)) (decimal-word Spaces z (omega arith)))
     ∙ numbers_of-three (decimal x) (decimal y) (decimal z) x y z (number_of-decimal x small_x) (number_of-decimal y small_y) (number_of-decimal z small_z)
 
 -- a keyword and two numbers have no byte below the space
@@ -121,9 +122,9 @@ plain-grid keyword x y plain small_x small_y =
     plain-with_word (with_word keyword (decimal x)) (decimal y) (plain-with_word keyword (decimal x) (plain-literal keyword plain) (decimal-plain x (omega arith))) (decimal-plain y (omega arith))
 
 -- a line that nothing is trimmed from
-says-whole : (line : List ℕ) → trimmed line ≡ line → begins_with_dot line ≡ true → statement_in line ≡ spelled (first_word line) (behind_word line)
+says-whole : (line : List ℕ) → trimmed line ≡ line → begins_with_dot line ≡ true → statement_in line ≡ spelled (first_word Spaces line) (behind_word Spaces line)
 unfolding statement_in
-says-whole line whole dot = rw dot (ap (λ line. spelled (first_word line) (behind_word line)) whole)
+says-whole line whole dot = rw dot (ap (λ line. spelled (first_word Spaces line) (behind_word Spaces line)) whole)
 
 -- the statement of a tile
 pub tile-spelled : (kind : TileKind) (x y : ℕ) → x < 1000000000 → y < 1000000000 → IsSpelled (grid_line (tile_keyword kind) x y) (Tile kind x y)
@@ -163,7 +164,7 @@ pub extra-spelled : (at : Place) → at.bank < 1000000000 → at.px < 1000000000
 unfolding from_word
 extra-spelled at small_bank small_px small_py = record {
   spells = says-whole _ (trimmed-decimal (with_word (with_word extra_bit_keyword (decimal at.bank)) (decimal at.px)) at.py (omega arith)) refl
-      ∙ ap extra_bit_of_numbers (ap numbers_of (ap (λ line. words_of (32 ∷ line)) (append_assoc (decimal at.bank) (32 ∷ decimal at.px) (32 ∷ decimal at.py))) ∙ three-numbers at.bank at.px at.py small_bank small_px small_py);
+      ∙ ap extra_bit_of_numbers (ap numbers_of (ap (λ line. words_of Spaces (32 ∷ line)) (append_assoc (decimal at.bank) (32 ∷ decimal at.px) (32 ∷ decimal at.py))) ∙ three-numbers at.bank at.px at.py small_bank small_px small_py);
   dot = refl;
   plain = plain-with_word (with_word (with_word extra_bit_keyword (decimal at.bank)) (decimal at.px)) (decimal at.py)
       (plain-with_word (with_word extra_bit_keyword (decimal at.bank)) (decimal at.px)

@@ -5,11 +5,11 @@ use Rattle.std.proofs.lemmas.Bool.{cases_Bool}
 use Rattle.std.proofs.lemmas.List.Sums.{take_while-cons}
 use Rattle.text_lines.specs.Words.{from_word, first_word, behind_word}
 use Rattle.plane_map.specs.declared.tile.TileKind.TheVariants.{Io, Logic, RamB, RamT}
-use Rattle.asc_text.specs.declared.keyword.Keyword.{Keyword}
-use Rattle.asc_text.specs.declared.keyword.Keyword.TheVariants.{Comment, Device, WarmBoot, FrequencyRange, NoSleep, Tile, RamData, ExtraBit, Symbol}
+use Rattle.asc_text.specs.declared.reading.keyword.Keyword.{Keyword}
+use Rattle.asc_text.specs.declared.reading.keyword.Keyword.TheVariants.{Comment, Device, WarmBoot, FrequencyRange, NoSleep, Tile, RamData, ExtraBit, Symbol}
 use Rattle.asc_text.specs.declared.statement.Statement.{Statement}
 use Rattle.asc_text.specs.Statements.{comment_keyword, device_keyword, warm_boot_keyword, range_keyword, no_sleep_keyword, tile_keyword, ram_data_keyword, extra_bit_keyword, symbol_keyword, spelled}
-use Rattle.asc_text.specs.Keywords.{keyword_of, spelled_as}
+use Rattle.asc_text.specs.inside.Keywords.{keyword_of, spelled_as}
 
 -- the statement of a keyword, where there is one
 abbrev pub spelled_where : Option Keyword → List ℕ → Option Statement
@@ -70,24 +70,3 @@ spelled-is word behind = spelled_in-is entries word behind
 -- the same by what the keyword is known to be
 pub spelled_by_keyword : (word behind : List ℕ) (keyword : Option Keyword) → keyword ≡ keyword_of word → spelled word behind ≡ spelled_where keyword behind
 spelled_by_keyword word behind keyword is = sym (spelled-is word behind) ∙ ap (λ k. spelled_where k behind) (sym is)
-
--- a line from its first word on begins with no space
-first-of : (byte : ℕ) (bytes : List ℕ) → (byte == 32) ≡ false → take_while (λ byte. not (byte == 32)) (byte ∷ bytes) ≡ [] → byte ∷ bytes ≡ []
-first-of byte bytes other none =
-    let whole = sym (take_while-cons (λ (b : ℕ). not (b == 32)) byte bytes) ∙ none in
-    let cut : byte ∷ take_while (λ (b : ℕ). not (b == 32)) bytes ≡ [] = rw other at whole in
-    absurd (cc cut)
-
--- where there is no first word, nothing is left from it on
-from-no_word : (line : List ℕ) → first_word line ≡ [] → from_word line ≡ []
-unfolding from_word
-from-no_word [] none = refl
-from-no_word (byte ∷ bytes) none =
-    elim (cases_Bool (byte == 32)) [
-      | inl space ↦ rw space (from-no_word bytes (rw space at none))
-      | inr other ↦ rw other (first-of byte bytes other (rw other at none))
-    ]
-
--- nothing stands behind no word
-pub behind_no_word : (line : List ℕ) → first_word line ≡ [] → behind_word line ≡ []
-behind_no_word line none = rw (none, from-no_word line none) refl

@@ -2,7 +2,7 @@
 use Rattle.std.proofs.Common.{◌≡◌, ℕ, ◌+◌, Bool, true, false, not, List, refl, sym, ap, ◌∙◌, subst, arith}
 use Rattle.std.specs.Prelude.{Option, Some, None, is_some}
 use Rattle.text_lines.specs.Lines.{line_at}
-use Rattle.text_lines.specs.Places.{or_else}
+use Rattle.place_search.specs.Places.{or_else}
 use Rattle.plane_map.specs.Layout.{kind_of}
 use Rattle.plane_map.specs.declared.device.DeviceName.{DeviceName}
 use Rattle.plane_map.specs.declared.tile.TileKind.{TileKind}
@@ -13,14 +13,14 @@ use Rattle.ice_image.specs.declared.settings.Range.{Range}
 use Rattle.asc_text.specs.declared.statement.Statement.{Statement}
 use Rattle.asc_text.specs.declared.statement.Statement.TheVariants.{Comment, Device, WarmBoot, FrequencyRange, NoSleep, Tile, RamData, ExtraBit, Symbol}
 use Rattle.asc_text.specs.declared.fault.AscCause.TheVariants.{Repeated, Kind}
-use Rattle.asc_text.specs.declared.reading.Expected.{Expected}
-use Rattle.asc_text.specs.declared.reading.Expected.TheVariants.{Statement as AnyStatement}
+use Rattle.asc_text.specs.declared.reading.reader.Expected.{Expected}
+use Rattle.asc_text.specs.declared.reading.reader.Expected.TheVariants.{Statement as AnyStatement}
 use Rattle.asc_text.specs.Statements.{statement_in, begins_with_dot}
-use Rattle.asc_text.specs.TileSets.{has_tile}
+use Rattle.asc_text.specs.inside.TileSets.{has_tile}
 use Rattle.asc_text.specs.Extras.{is_same_place}
 use Rattle.asc_text.specs.Blocks.{depth_at, statement_over, statement_at, depth_after, has_rows, is_comment}
 use Rattle.asc_text.specs.Faults.{cause_at, cause_if, kind_cause, is_same_kind, unknown_device}
-use Rattle.asc_text.specs.Reading.{ReaderState, HasKind, IsBlank, TakesStatement, statement_refusal, setting_refusal, tile_refusal}
+use Rattle.asc_text.specs.inside.Reading.{ReaderState, HasKind, IsBlank, TakesStatement, statement_refusal, setting_refusal, tile_refusal}
 use Rattle.asc_text.proofs.HasRead.{HasRead, HasComment, HasImage, IsAt, device_known}
 use Rattle.asc_text.proofs.Given.{Follows, HasGiven-more}
 use Rattle.asc_text.proofs.CommentSteps.{comment-begins, comment-ends}

@@ -4,7 +4,7 @@ use Rattle.std.specs.Prelude.{set, replicate}
 use Rattle.std.proofs.lemmas.Bool.Decides.{nat_tests}
 use Rattle.std.proofs.lemmas.Grind.{common_steps}
 use Rattle.std.proofs.lemmas.List.{get_or-replicate}
-use Rattle.asc_text.specs.TileSets.{has_tile}
+use Rattle.asc_text.specs.inside.TileSets.{has_tile}
 
 -- no tile is among none
 pub has_tile-none : (x y : ℕ) → x < 34 → y < 34 → has_tile (replicate 1156 false) x y ≡ false

@@ -4,8 +4,8 @@ use Rattle.std.proofs.lemmas.Bool.{lt-ltb, and_from, and_parts, or_cases, or_rig
 use Rattle.std.proofs.lemmas.Bool.Decides.{nat_tests}
 use Rattle.std.specs.Prelude.{nat_lt}
 use Rattle.text_lines.specs.Lines.{line_at, trimmed}
-use Rattle.text_lines.specs.Places.{any_below, gathered_below}
-use Rattle.text_lines.proofs.Places.{any_below-none, any_below-at, any_below-place}
+use Rattle.place_search.specs.Places.{any_below, gathered_below}
+use Rattle.place_search.proofs.Places.{any_below-none, any_below-at, any_below-place}
 use Rattle.bit_plane.specs.Rows.{Rows}
 use Rattle.plane_map.specs.Layout.{kind_of, grid_width, grid_height, IsWordBit, IsInBram}
 use Rattle.plane_map.specs.declared.device.DeviceName.{DeviceName}

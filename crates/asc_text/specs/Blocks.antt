@@ -1,7 +1,7 @@
--- To which statement a line belongs, each line asked by its place. Indexes count from 0.
+-- Which statement a line belongs to. Indexes count from 0.
 use Rattle.std.specs.Prelude.{ℕ, zero, suc, ◌+◌, ◌-◌, Bool, true, false, List, ◌==◌, if◌then◌else◌, Option, Some, None}
 use Rattle.text_lines.specs.Lines.{line_at}
-use Rattle.text_lines.specs.Places.{last_below, first_below}
+use Rattle.place_search.specs.Places.{last_below, first_below}
 use Rattle.plane_map.specs.declared.device.DeviceName.{DeviceName}
 use Rattle.asc_text.specs.declared.statement.Statement.{Statement}
 use Rattle.asc_text.specs.declared.statement.Statement.TheVariants.{Comment, Device, Tile, RamData}
@@ -21,17 +21,16 @@ depth_after depth opens =
     else if depth == 16 then 0
     else depth + 1
 
--- How far a line stands below the statement whose sixteen lines it is among, whatever stands in it, and 0 where it is
--- among none.
+-- How far a line is below the statement whose sixteen lines it is among, whatever it says, and 0 where it is among none.
 unfoldable pub depth_at : List (List ℕ) → ℕ → ℕ
 depth_at lines zero = 0
 depth_at lines (suc n) = depth_after (depth_at lines n) (has_rows (statement_in (line_at lines n)))
 
--- what the statement says among whose sixteen lines a line is, or else the statement that it is itself
+-- the statement whose sixteen lines a line is among, or else the statement that the line is
 unfoldable pub statement_over : List (List ℕ) → ℕ → Option Statement
 statement_over lines n = statement_in (line_at lines (n - depth_at lines n))
 
--- what a line says that is a statement; one of the sixteen lines of another is none
+-- the statement that a line is, where it is not one of the sixteen lines of another
 unfoldable pub statement_at : List (List ℕ) → ℕ → Option Statement
 statement_at lines n = if depth_at lines n == 0 then statement_in (line_at lines n) else None
 

@@ -1,6 +1,6 @@
 -- The one text that is written for a configuration: a concatenation of lines.
 use Rattle.std.specs.Prelude.{ℕ, ◌+◌, ◌-◌, ◌*◌, ◌/◌, ◌%◌, Bool, true, false, not, ◌&&◌, List, [], ◌∷◌, ◌++◌, map, decimal, if◌then◌else◌, Option, Some, None}
-use Rattle.text_lines.specs.Places.{gathered_below}
+use Rattle.place_search.specs.Places.{gathered_below}
 use Rattle.text_lines.specs.Written.{text_of}
 use Rattle.bit_plane.specs.Rows.{Rows}
 use Rattle.hex.specs.Hex.{encode_lower}
@@ -16,7 +16,7 @@ use Rattle.ice_image.specs.declared.settings.Range.TheVariants.{Low, Medium, Hig
 use Rattle.asc_text.specs.Statements.{device_word, switch_word, range_word, comment_keyword, device_keyword, warm_boot_keyword, range_keyword, no_sleep_keyword, tile_keyword, ram_data_keyword, extra_bit_keyword}
 use Rattle.asc_text.specs.Extras.{is_owned}
 
--- a line and a word behind it, with a space between
+-- a line, a space and a word
 abbrev pub with_word : List ℕ → List ℕ → List ℕ
 with_word line word = line ++ 32 ∷ word
 
@@ -75,7 +75,7 @@ abbrev pub ram_lines : DeviceName → List Rows → ℕ → ℕ → List (List �
 ram_lines device bram x y =
     grid_line ram_data_keyword x y ∷ gathered_below 16 (λ row. memory_line device bram x y row ∷ [])
 
--- the tile at a place of the grid, and behind a lower tile its RAM's contents
+-- the tile at a place of the grid, and after a lower tile its RAM's contents
 abbrev pub lines_of_tile_at : Configuration → ℕ → ℕ → Option TileKind → List (List ℕ)
 lines_of_tile_at image x y None = []
 lines_of_tile_at image x y (Some Io) = tile_lines image.device image.cram x y Io
@@ -94,7 +94,7 @@ all_tile_lines image =
 abbrev pub extra_line : Place → List ℕ
 extra_line at = with_word (with_word (with_word extra_bit_keyword (decimal at.bank)) (decimal at.px)) (decimal at.py)
 
--- a set bit that is no tile's
+-- a set bit that belongs to no tile
 abbrev pub extra_lines_at : Configuration → Place → List (List ℕ)
 extra_lines_at image at = if place_bit image.cram at && not (is_owned image.device at) then extra_line at ∷ [] else []
 

@@ -2,7 +2,7 @@
 -- statement that names its tile or its RAM, or the statement of the extra bit.
 use Rattle.std.specs.Prelude.{◌≡◌, ℕ, ◌+◌, ◌/◌, ◌%◌, Bool, false, List, length, Option, Some, None}
 use Rattle.text_lines.specs.Lines.{lines_of, line_at, trimmed}
-use Rattle.text_lines.specs.Places.{any_below, least_below}
+use Rattle.place_search.specs.Places.{any_below, least_below}
 use Rattle.plane_map.specs.Layout.{place_of, word_place_of, IsTileBit, IsWordBit, IsExtraBit, IsInCram}
 use Rattle.plane_map.specs.declared.tile.Place.{Place}
 use Rattle.plane_map.specs.declared.tile.TileBit.{TileBit}

@@ -2,7 +2,7 @@
 use Rattle.std.specs.Prelude.{◌≡◌, ℕ, ◌+◌, Bool, true, false, not, ◌&&◌, List, length, nat_lt, nat_le, ◌==◌, if◌then◌else◌, Option, Some, None}
 use Rattle.std.specs.List.{list_all}
 use Rattle.text_lines.specs.Lines.{lines_of, line_at, trimmed}
-use Rattle.text_lines.specs.Places.{any_below, first_below, or_else}
+use Rattle.place_search.specs.Places.{any_below, first_below, or_else}
 use Rattle.plane_map.specs.Layout.{kind_of, columns_of}
 use Rattle.plane_map.specs.declared.device.DeviceName.{DeviceName}
 use Rattle.plane_map.specs.declared.tile.TileKind.{TileKind}
@@ -41,7 +41,7 @@ missing_device None (RamData x y) = Some NoDevice
 missing_device None (ExtraBit bank x y) = Some NoDevice
 missing_device device statement = None
 
--- another device than those that are known
+-- an unknown device
 abbrev pub unknown_device : Statement → Option AscCause
 unknown_device (Device None) = Some DeviceCause
 unknown_device statement = None
@@ -53,7 +53,7 @@ is_same_kind RamB RamB = true
 is_same_kind RamT RamT = true
 is_same_kind there kind = false
 
--- no tile stands at a place, or one of another kind
+-- there is no tile, or one of another kind
 abbrev pub kind_cause : Option TileKind → TileKind → Option AscCause
 kind_cause None kind = Some Coordinates
 kind_cause (Some there) kind = cause_if (not (is_same_kind there kind)) (Kind there)
@@ -104,12 +104,12 @@ is_repeated lines n (Tile kind x y) = stands_before lines n (names_tile x y)
 is_repeated lines n (RamData x y) = stands_before lines n (names_ram x y)
 is_repeated lines n statement = false
 
--- a place that isn't in the planes, or is a tile's
+-- a place outside the planes, or one that belongs to a tile
 abbrev pub extra_cause : Option DeviceName → Statement → Option AscCause
 extra_cause (Some device) (ExtraBit bank x y) = cause_if (not (is_extra device (record { bank = bank; px = x; py = y }))) ExtraPlace
 extra_cause device statement = None
 
--- another word than those that a setting has
+-- a word that is not a value of the setting
 abbrev pub setting_cause : Statement → Option AscCause
 setting_cause (WarmBoot None) = Some Setting
 setting_cause (FrequencyRange None) = Some Setting
@@ -133,7 +133,7 @@ statement_cause lines n (Some statement) =
 abbrev pub is_printable : ℕ → Bool
 is_printable byte = nat_le 0x20 byte && nat_le byte 0x7E
 
--- whether a line that is no statement belongs to a comment: the last statement before it begins one
+-- whether a line that is not a statement belongs to a comment: the last statement before it begins one
 abbrev pub is_in_comment : List (List ℕ) → Option ℕ → Bool
 is_in_comment lines None = false
 is_in_comment lines (Some place) = is_comment (statement_in (line_at lines place))
@@ -142,7 +142,7 @@ is_in_comment lines (Some place) = is_comment (statement_in (line_at lines place
 abbrev pub comment_cause : List ℕ → Option AscCause
 comment_cause line = cause_if (not (list_all is_printable line)) CommentByte
 
--- a line without a byte but blanks is passed over, and any other that belongs to nothing is stray
+-- a line of blanks alone is skipped, and any other that belongs to nothing is stray
 abbrev pub stray_cause : List ℕ → Option AscCause
 stray_cause line = cause_if (nat_lt 0 (length (trimmed line))) StrayData
 
@@ -168,7 +168,7 @@ tile_named (Some (Tile kind x y)) = Some (record { x = x; y = y })
 tile_named (Some (RamData x y)) = Some (record { x = x; y = y })
 tile_named statement = None
 
--- the line, counted from 1, the tile or RAM whose statement it is or whose rows it is among, and what is wrong
+-- the line, counted from 1, the tile or RAM that it belongs to, and what is wrong
 pub record Fault : Type 0 where
   pub line : ℕ
   pub tile : Option TileXy
@@ -186,7 +186,7 @@ fault_at lines n = fault_with (cause_at lines n) (n + 1) (tile_named (statement_
 unfoldable pub asc_fault_of : List ℕ → Option Fault
 asc_fault_of text = let lines = lines_of text in first_below (length lines + 1) (fault_at lines)
 
--- a fault that isn't want of memory is that one
+-- a fault other than out of memory is that one
 abbrev pub Tells : Option Fault → AscFault → Type 0
 Tells fault (At line tile cause) = fault ≡ Some (record { line = line; tile = tile; cause = cause })
 Tells fault (Memory e) = Unit {0}

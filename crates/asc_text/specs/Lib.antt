@@ -1,6 +1,4 @@
 pub mod Statements
-pub mod Keywords
-pub mod TileSets
 pub mod Rows
 pub mod Blocks
 pub mod Extras
@@ -8,5 +6,4 @@ pub mod Faults
 pub mod Meaning
 pub mod Characters
 pub mod Canonical
-pub mod Gains
-pub mod Reading
+pub mod inside

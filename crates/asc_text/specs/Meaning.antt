@@ -1,8 +1,8 @@
--- What a text without a faulty line configures. What the lines before a line say is a function of that line's index; for
--- the whole text the index is the number of its lines.
+-- The configuration that a text without a faulty line gives. What the lines before a line say is a function of that line's
+-- index; for the whole text the index is the number of its lines.
 use Rattle.std.specs.Prelude.{◌≡◌, ℕ, ◌+◌, ◌-◌, ◌*◌, Bool, false, not, ◌&&◌, List, [], ◌∷◌, length, nat_lt, ◌==◌, if◌then◌else◌, Option, Some, None, unwrap_or}
 use Rattle.text_lines.specs.Lines.{lines_of, line_at, trimmed}
-use Rattle.text_lines.specs.Places.{any_below, last_below, first_below, gathered_below}
+use Rattle.place_search.specs.Places.{any_below, last_below, first_below, gathered_below}
 use Rattle.bit_plane.specs.Rows.{Rows, rows_from}
 use Rattle.plane_map.specs.Layout.{columns_of, cram_width, cram_height, bram_width, bram_height}
 use Rattle.plane_map.specs.declared.device.DeviceName.{DeviceName}
@@ -52,7 +52,7 @@ abbrev pub is_that_line : Option ℕ → ℕ → Bool
 is_that_line None start = false
 is_that_line (Some place) start = place == start
 
--- a line of the comment that begins at that line; one without a byte is dropped
+-- a line of the comment that begins at that line; empty lines are dropped
 abbrev pub comment_line : List (List ℕ) → ℕ → ℕ → List (List ℕ)
 comment_line lines start n =
     let line = line_at lines n in

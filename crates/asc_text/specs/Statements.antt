@@ -1,6 +1,7 @@
 -- Statements: what a line that begins with a dot says. Blanks at its end don't count.
 use Rattle.std.specs.Prelude.{ℕ, Bool, true, false, List, [], ◌∷◌, drop, get_or, codes, bytes_eq, ◌==◌, if◌then◌else◌, Option, Some, None}
 use Rattle.text_lines.specs.Lines.{trimmed}
+use Rattle.text_lines.specs.declared.words.Separators.TheVariants.{Spaces}
 use Rattle.text_lines.specs.Words.{words_of, first_word, behind_word, number_of, numbers_of}
 use Rattle.plane_map.specs.declared.device.DeviceName.{DeviceName}
 use Rattle.plane_map.specs.declared.device.DeviceName.TheVariants.{K1, K8}
@@ -28,7 +29,7 @@ abbrev pub switch_word : Bool → List ℕ
 switch_word true = codes "enabled"
 switch_word false = codes "disabled"
 
--- whether a word switches on or off
+-- the switch that a word names
 abbrev pub switch_named : List ℕ → Option Bool
 switch_named word =
     if bytes_eq word (switch_word true) then Some true
@@ -80,7 +81,7 @@ extra_bit_keyword = codes ".extra_bit"
 abbrev pub symbol_keyword : List ℕ
 symbol_keyword = codes ".sym"
 
--- ---- statements by the words behind their keyword
+-- ---- statements by the words after their keyword
 
 -- `.device NAME`
 abbrev pub device_of_words : List (List ℕ) → Option Statement
@@ -125,7 +126,7 @@ symbol_of_parts None name = None
 
 -- what stands behind the first word and one space
 abbrev pub name_behind : List ℕ → List ℕ
-name_behind line = drop 1 (behind_word line)
+name_behind line = drop 1 (behind_word Spaces line)
 
 -- ---- statements
 
@@ -133,28 +134,28 @@ name_behind line = drop 1 (behind_word line)
 abbrev pub spelled : List ℕ → List ℕ → Option Statement
 spelled keyword behind =
     if bytes_eq keyword comment_keyword then Some Comment
-    else if bytes_eq keyword device_keyword then device_of_words (words_of behind)
-    else if bytes_eq keyword warm_boot_keyword then warm_boot_of_words (words_of behind)
-    else if bytes_eq keyword range_keyword then range_of_words (words_of behind)
-    else if bytes_eq keyword no_sleep_keyword then no_sleep_of_words (words_of behind)
-    else if bytes_eq keyword (tile_keyword Io) then tile_of_numbers Io (numbers_of (words_of behind))
-    else if bytes_eq keyword (tile_keyword Logic) then tile_of_numbers Logic (numbers_of (words_of behind))
-    else if bytes_eq keyword (tile_keyword RamB) then tile_of_numbers RamB (numbers_of (words_of behind))
-    else if bytes_eq keyword (tile_keyword RamT) then tile_of_numbers RamT (numbers_of (words_of behind))
-    else if bytes_eq keyword ram_data_keyword then ram_data_of_numbers (numbers_of (words_of behind))
-    else if bytes_eq keyword extra_bit_keyword then extra_bit_of_numbers (numbers_of (words_of behind))
-    else if bytes_eq keyword symbol_keyword then symbol_of_parts (number_of (first_word behind)) (name_behind behind)
+    else if bytes_eq keyword device_keyword then device_of_words (words_of Spaces behind)
+    else if bytes_eq keyword warm_boot_keyword then warm_boot_of_words (words_of Spaces behind)
+    else if bytes_eq keyword range_keyword then range_of_words (words_of Spaces behind)
+    else if bytes_eq keyword no_sleep_keyword then no_sleep_of_words (words_of Spaces behind)
+    else if bytes_eq keyword (tile_keyword Io) then tile_of_numbers Io (numbers_of (words_of Spaces behind))
+    else if bytes_eq keyword (tile_keyword Logic) then tile_of_numbers Logic (numbers_of (words_of Spaces behind))
+    else if bytes_eq keyword (tile_keyword RamB) then tile_of_numbers RamB (numbers_of (words_of Spaces behind))
+    else if bytes_eq keyword (tile_keyword RamT) then tile_of_numbers RamT (numbers_of (words_of Spaces behind))
+    else if bytes_eq keyword ram_data_keyword then ram_data_of_numbers (numbers_of (words_of Spaces behind))
+    else if bytes_eq keyword extra_bit_keyword then extra_bit_of_numbers (numbers_of (words_of Spaces behind))
+    else if bytes_eq keyword symbol_keyword then symbol_of_parts (number_of (first_word Spaces behind)) (name_behind behind)
     else None
 
 -- a line that begins with a dot is a statement
 abbrev pub begins_with_dot : List ℕ → Bool
 begins_with_dot line = get_or line 0 0 == 46
 
--- what a line says, where it is a statement and has the form of one
+-- the statement that a line is, where it is a valid one
 unfoldable pub statement_in : List ℕ → Option Statement
 statement_in line =
-    if begins_with_dot line then spelled (first_word (trimmed line)) (behind_word (trimmed line)) else None
+    if begins_with_dot line then spelled (first_word Spaces (trimmed line)) (behind_word Spaces (trimmed line)) else None
 
--- the name that a line gives to a net, where it does
+-- the name that a line gives to a net, where it gives one
 unfoldable pub name_in : List ℕ → List ℕ
-name_in line = name_behind (behind_word (trimmed line))
+name_in line = name_behind (behind_word Spaces (trimmed line))

@@ -1,4 +1,4 @@
-// Why a text isn't read.
+// Why a text is refused.
 ghost use Rattle.std.specs.Prelude.{◌≡◌};
 ghost use Rattle.asc_text.specs.declared.fault.AscFault.TheVariants.{Memory};
 
@@ -6,7 +6,7 @@ use plane_map::TileKind;
 use std::alloc::AllocError;
 use thiserror::Error;
 
-/// The tile that a statement names, by its two numbers; no tile need stand there.
+/// The column and the row of the grid that a statement names; there need not be a tile.
 #[derive(Clone, Copy, Debug, PartialEq, Eq)]
 pub struct TileXy {
     pub x: u32,
@@ -16,57 +16,69 @@ pub struct TileXy {
 /// What is wrong with a line.
 #[derive(Clone, Copy, Debug, PartialEq, Eq, Error)]
 pub enum AscCause {
-    /// No known statement, another number of words, or another word where a number belongs.
-    #[error("no statement is written so")]
+    /// An unknown keyword, a wrong number of words, or a word that is not a number where one is needed.
+    #[error("not a valid statement")]
     Statement,
-    /// A statement that needs the device before there is one, or a text without one.
-    #[error("no device is named before it")]
+    /// A statement that needs the device comes before it, or the text names none.
+    #[error("no device has been named")]
     NoDevice,
-    /// Another device than `1k` and `8k`.
-    #[error("no such device is known")]
+    /// A device other than `1k` and `8k`.
+    #[error("unknown device")]
     Device,
-    /// No tile stands there.
-    #[error("no tile stands there")]
+    /// There is no tile.
+    #[error("there is no tile")]
     Coordinates,
-    /// Another kind of tile stands there, which is the one that is expected.
-    #[error("a tile of the kind {expected:?} stands there")]
+    /// The tile there is of another kind, which is the one expected.
+    #[error("the tile there is of kind {expected:?}")]
     Kind { expected: TileKind },
-    /// In place of a row of a tile stands something else.
-    #[error("here belongs a row of 0 and 1")]
+    /// Not a row of the tile: as many characters `0` and `1` as it has columns.
+    #[error("expected a row of 0 and 1")]
     Row,
-    /// The same was given before.
-    #[error("the same was given before")]
+    /// The text has given the same before.
+    #[error("given before")]
     Repeated,
-    /// In place of a line of 64 hexadecimal digits stands something else.
-    #[error("here belong 64 hexadecimal digits")]
+    /// Not a line of 64 hexadecimal digits.
+    #[error("expected 64 hexadecimal digits")]
     Hex,
-    /// No place of the configuration planes, or the place of a tile's bit.
-    #[error("the place is outside of the planes, or a bit of a tile")]
+    /// A place outside the configuration planes, or of a bit that belongs to a tile.
+    #[error("the place is outside the planes or belongs to a tile")]
     ExtraPlace,
-    /// Another word than those that the setting has.
-    #[error("the setting has no such value")]
+    /// A word that is not a value of the setting.
+    #[error("unknown value of the setting")]
     Setting,
-    /// A line that isn't empty, begins with no dot, and is no row, memory line or line of a comment.
+    /// A line with something in it that is not a statement and does not belong to one.
     #[error("the line belongs to no statement")]
     StrayData,
-    /// A byte outside 0x20 to 0x7E in a line of a comment.
-    #[error("a byte of the comment is outside of 0x20 to 0x7E")]
+    /// A byte outside 0x20 to 0x7E in a comment.
+    #[error("the comment has a byte outside 0x20 to 0x7E")]
     CommentByte,
 }
 
-/// Why a text isn't read.
+impl AscCause {
+    /// The fault at a line and a tile.
+    pub(crate) fn at(self, line: u64, tile: Option<TileXy>) -> AscFault
+        ensures { result ≡ AscFault.At line tile self }
+    {
+        AscFault::At {
+            line,
+            tile,
+            cause: self,
+        }
+    }
+}
+
+/// Why a text is refused.
 #[derive(Clone, Copy, Debug, PartialEq, Eq, Error)]
 pub enum AscFault {
-    /// The first faulty line, counted from 1, the tile or RAM whose statement it is or whose rows it is among, and what
-    /// is wrong there. At the end, where a row, a memory line or the device is missing, the line is the number of lines
-    /// plus 1.
+    /// The first faulty line, counted from 1, the tile or RAM that it belongs to, and what is wrong there. Where something
+    /// is missing at the end of the text, the line is the number of lines plus 1.
     #[error("line {line}: {cause}")]
     At {
         line: u64,
         tile: Option<TileXy>,
         cause: AscCause,
     },
-    /// Out of memory. It may come in place of any other answer.
+    /// Out of memory, which may come instead of any other answer.
     #[error(transparent)]
     Memory(AllocError),
 }

@@ -1,10 +1,10 @@
-// What a text holds.
+// What a text gives.
 ghost use Rattle.std.specs.Prelude.{◌≡◌};
 
 use ice_image::AnyImage;
 use std::marker::Model;
 
-/// A string of bytes. Contracts see the list of them.
+/// A string of bytes; contracts see it as the list of its bytes.
 #[derive(Drop)]
 pub struct ByteText {
     bytes: Vec<u8>,
@@ -34,14 +34,14 @@ impl ByteText {
     }
 }
 
-/// A name of a net.
+/// A net and its name.
 #[derive(Drop)]
 pub struct Symbol {
     pub net: u32,
     pub name: ByteText,
 }
 
-/// What a text configures, and the names that it gives to nets, in its order.
+/// The configuration that a text describes, and the names of nets in the order of the text.
 #[derive(Drop)]
 pub struct AscFile {
     pub image: AnyImage,

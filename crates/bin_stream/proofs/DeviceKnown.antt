@@ -2,8 +2,8 @@
 use Rattle.std.proofs.Common.{◌≡◌, ℕ, zero, suc, ◌<◌, Bool, true, false, not, List, [], ◌∷◌, ◌++◌, length, take, slice_get, Option, Some, None, ◌==◌, ◌⊎◌, refl, sym, ap, ap₂, ◌∙◌, inl, inr, arith}
 use Rattle.std.proofs.lemmas.Bool.{cases_eq, and_parts, eqb-true, ne_eqb}
 use Rattle.std.proofs.lemmas.List.{take-append-le, length_push}
-use Rattle.text_lines.specs.Places.{first_below, any_below, or_else}
-use Rattle.text_lines.proofs.Places.{first_below-more, first_below-same, any_below-place}
+use Rattle.place_search.specs.Places.{first_below, any_below, or_else}
+use Rattle.place_search.proofs.Places.{first_below-more, first_below-same, any_below-place}
 use Rattle.plane_map.specs.declared.device.DeviceName.{DeviceName}
 use Rattle.bin_stream.specs.Commands.{Command, Cram, Bram, Short, Data, number_of, is_wake_up}
 use Rattle.bin_stream.specs.State.{device_in, device_after, device_with, width_after}

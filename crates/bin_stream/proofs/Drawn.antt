@@ -3,7 +3,7 @@ use Rattle.std.proofs.Common.{◌≡◌, ℕ, zero, suc, ◌+◌, ◌-◌, ◌*�
 use Rattle.std.specs.Prelude.{Option, Some, None, nat_lt, nat_le, ◌==◌}
 use Rattle.std.proofs.lemmas.Bool.{cases_eq, cases_lt, lt-ltb, le-ltb, le-leb, lt-leb, eq-eqb, ne_eqb, and_from, and_left, and_right}
 use Rattle.std.proofs.Math.Bool.{or-false}
-use Rattle.text_lines.specs.Places.{or_else}
+use Rattle.place_search.specs.Places.{or_else}
 use Rattle.bit_plane.specs.BitList.{bits_of, placed}
 use Rattle.bit_plane.specs.Rows.{Rows, IsGrid, bit_at, blank, flat, rows_of}
 use Rattle.bit_plane.proofs.Grids.{length-rows_of, bit_at-rows_of, same_grids, length-flat, rows_of-flat, rows_of-placed, IsGrid-rows_of}
@@ -23,7 +23,7 @@ use Rattle.bin_stream.specs.Meaning.{is_same_kind, gives, bit_given, plane_bit, 
 use Rattle.bin_stream.specs.Registers.{Fits, held_after, reached_in}
 use Rattle.bin_stream.specs.Step.{device_if, image_or_blank, with_rows, IsDrawnOn, IsDrawn, Holds}
 use Rattle.bin_stream.proofs.OneMore.{device_after-more, reached_in-more, plane_bit-more}
-use Rattle.text_lines.proofs.Places.{or_else-none}
+use Rattle.place_search.proofs.Places.{or_else-none}
 
 -- ---- planes by their bits
 

@@ -2,7 +2,7 @@
 use Rattle.std.proofs.Common.{◌≡◌, ℕ, ◌+◌, ◌*◌, ◌/◌, ◌%◌, ◌<◌, ◌≤◌, List, [], ◌∷◌, ◌++◌, length, take, drop, Option, Some, None, length-append, append_assoc, take-append-drop, refl, sym, ap, ap₂, ◌∙◌, subst, inl, inr, arith}
 use Rattle.std.proofs.lemmas.Bool.{cases_lt, cases_eq, lt-ltb, le-ltb, ne_eqb}
 use Rattle.std.proofs.lemmas.List.{take_at, drop_at, length-take-le}
-use Rattle.text_lines.specs.Places.{or_else}
+use Rattle.place_search.specs.Places.{or_else}
 use Rattle.bin_stream.specs.Commands.{Kind, Command, Cram, Bram, Short, Data, number_of, kind_number, spelling}
 use Rattle.bin_stream.specs.State.{size_after}
 use Rattle.bin_stream.specs.Refusals.{fault_at, fault_where, end_fault, body_fault, payload_fault, first_fault, short_cause, data_cause, data_kind, IsAllowedAfter}

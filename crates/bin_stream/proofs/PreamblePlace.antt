@@ -1,7 +1,7 @@
 -- What stands before the preamble, the preamble, and what stands behind it.
 use Rattle.std.proofs.Common.{◌≡◌, ℕ, zero, suc, ◌+◌, ◌<◌, Bool, true, false, List, ◌++◌, length, take, drop, ◌⊎◌, Option, Some, None, append_assoc, take-append-drop, drop-drop, refl, sym, ap, ap₂, ◌∙◌, inl, inr, arith}
 use Rattle.std.proofs.lemmas.Slice.Eq.{bytes_eq-Decides}
-use Rattle.text_lines.specs.Places.{least_below, or_here}
+use Rattle.place_search.specs.Places.{least_below, or_here}
 use Rattle.bin_stream.specs.Front.{preamble, preamble_place, is_preamble_at}
 
 -- an earlier place, or the place here where the test passes

@@ -1,7 +1,7 @@
 -- The definitions at small streams, worked out by hand.
 use Rattle.std.proofs.Common.{◌≡◌, [], ◌∷◌, refl}
 use Rattle.std.specs.Prelude.{Err}
-use Rattle.text_lines.specs.Places.{any_below, last_below, first_below, least_below}
+use Rattle.place_search.specs.Places.{any_below, last_below, first_below, least_below}
 use Rattle.bin_stream.specs.CheckValue.{doubled, power, powers_from, sum_of, check_value}
 use Rattle.bin_stream.specs.Commands.{spelled}
 use Rattle.bin_stream.specs.State.{last_of, width_after, device_after, covered}

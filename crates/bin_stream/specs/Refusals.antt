@@ -1,6 +1,6 @@
 -- What is wrong with a command, by the commands before it: the first cause that holds, in the format's order.
 use Rattle.std.specs.Prelude.{◌≡◌, ℕ, ◌+◌, ◌*◌, ◌/◌, ◌%◌, ◌<◌, Bool, true, false, not, ◌||◌, List, [], ◌∷◌, ◌++◌, length, take, drop, slice_get, nat_lt, ◌==◌, if◌then◌else◌, Option, Some, None}
-use Rattle.text_lines.specs.Places.{any_below, or_else}
+use Rattle.place_search.specs.Places.{any_below, or_else}
 use Rattle.bit_plane.specs.BitList.{bits_of}
 use Rattle.plane_map.specs.Layout.{cram_height}
 use Rattle.plane_map.specs.declared.device.DeviceName.{DeviceName}

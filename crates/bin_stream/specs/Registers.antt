@@ -1,6 +1,6 @@
 -- What a decoder keeps of the commands so far, and what a command does to it. Only contracts within this crate cite this.
 use Rattle.std.specs.Prelude.{◌≡◌, ℕ, ◌+◌, ◌*◌, ◌/◌, ◌%◌, ◌≤◌, Bool, false, not, ◌||◌, List, length, take, slice_get, nat_lt, ◌==◌, if◌then◌else◌, Option, Some, None, Result, Ok, Err}
-use Rattle.text_lines.specs.Places.{any_below, or_else}
+use Rattle.place_search.specs.Places.{any_below, or_else}
 use Rattle.bit_plane.specs.BitList.{bits_of}
 use Rattle.plane_map.specs.Layout.{cram_height}
 use Rattle.plane_map.specs.declared.device.DeviceName.{DeviceName}

@@ -1,6 +1,6 @@
 -- What holds behind a list of commands, by looking back in it.
 use Rattle.std.specs.Prelude.{ℕ, ◌+◌, ◌*◌, ◌/◌, Bool, false, List, length, take, drop, slice_get, ◌==◌, if◌then◌else◌, Option, Some, None}
-use Rattle.text_lines.specs.Places.{last_below, first_below}
+use Rattle.place_search.specs.Places.{last_below, first_below}
 use Rattle.plane_map.specs.Layout.{cram_width, cram_height, bram_width, bram_height}
 use Rattle.plane_map.specs.declared.device.DeviceName.{DeviceName}
 use Rattle.plane_map.specs.declared.device.DeviceName.TheVariants.{K1, K8}

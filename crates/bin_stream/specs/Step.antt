@@ -1,6 +1,6 @@
 -- What a step of a decoder does. Only contracts within this crate cite this.
 use Rattle.std.specs.Prelude.{◌≡◌, ℕ, ◌+◌, ◌*◌, ◌/◌, ◌%◌, ◌<◌, Bool, true, false, List, [], ◌∷◌, ◌++◌, length, drop, nat_lt, if◌then◌else◌, Option, Some, None}
-use Rattle.text_lines.specs.Places.{or_else}
+use Rattle.place_search.specs.Places.{or_else}
 use Rattle.bit_plane.specs.BitList.{bits_of, placed}
 use Rattle.bit_plane.specs.Rows.{Rows, rows_of}
 use Rattle.plane_map.specs.declared.device.DeviceName.{DeviceName}

@@ -1,6 +1,6 @@
 // The commands of a stream, one after the other.
 ghost use Rattle.std.specs.Prelude.{List, ◌≡◌, ◌+◌, ◌*◌, ◌/◌, ◌%◌, ◌<◌, ◌≤◌, ◌^◌, ◌==◌, ◌&&◌, None, Some, IfOk, IfErr, length, take, drop, get_or};
-ghost use Rattle.text_lines.specs.Places.{or_else};
+ghost use Rattle.place_search.specs.Places.{or_else};
 ghost use Rattle.bit_plane.specs.BitList.{bits_of};
 ghost use Rattle.bit_plane.specs.Rows.{rows_of};
 ghost use Rattle.plane_map.specs.Layout.{cram_width, cram_height, bram_width, bram_height};

@@ -1,6 +1,6 @@
 // What a decoder keeps of the commands so far.
 ghost use Rattle.std.specs.Prelude.{◌≡◌, ◌+◌, ◌*◌, ◌/◌, ◌%◌, ◌<◌, ◌≤◌, ◌^◌, ◌==◌, not, None, Some, IfOk, nat_lt};
-ghost use Rattle.text_lines.specs.Places.{or_else};
+ghost use Rattle.place_search.specs.Places.{or_else};
 ghost use Rattle.plane_map.specs.declared.device.DeviceName.{DeviceName as Name};
 ghost use Rattle.bin_stream.specs.Refusals.{cause_if, is_mode};
 ghost use Rattle.bin_stream.specs.State.{device_with};

@@ -1,5 +1,5 @@
 -- Decimal numbers as they are written, and read again.
-use Rattle.std.proofs.Common.{◌≡◌, ◌≢◌, ℕ, ◌+◌, ◌-◌, ◌*◌, ◌%◌, ◌^◌, ◌<◌, ◌≤◌, true, List, [], length, ap, ◌∙◌, arith}
+use Rattle.std.proofs.Common.{◌≡◌, ℕ, ◌+◌, ◌-◌, ◌*◌, ◌%◌, ◌^◌, ◌<◌, ◌≤◌, true, List, [], length, ap, ◌∙◌, arith}
 use Rattle.std.proofs.lemmas.Bool.{and_from, le-leb, lt-ltb}
 use Rattle.std.proofs.lemmas.Fmt.{decimal_by_steps, decimal_nonempty, length-decimal-le}
 use Rattle.std.proofs.lemmas.List.Elements.{All-cons, All-nil, All-push, All-weaker}
@@ -7,8 +7,9 @@ use Rattle.std.proofs.lemmas.List.Sums.{fold_push, list_all-from_AllPass}
 use Rattle.std.specs.Char.{is_ascii_digit}
 use Rattle.std.specs.Fmt.{decimal}
 use Rattle.std.specs.Prelude.{All, Some}
+use Rattle.text_lines.specs.declared.words.Separators.{Separators}
 use Rattle.text_lines.specs.Words.{digits_value, is_number, number_of}
-use Rattle.text_lines.proofs.Spaced.{IsWord}
+use Rattle.text_lines.proofs.Spaced.{IsWord, IsWord-high}
 
 -- digits that write a number
 record Writes (number : ℕ) (digits : List ℕ) : Type 0 where
@@ -36,11 +37,10 @@ pub decimal-value : (number : ℕ) → number < 2 ^ 64 → digits_value (decimal
 decimal-value number small = (decimal-writes number small).value
 
 -- a decimal number is a word
-pub decimal-word : (number : ℕ) → number < 2 ^ 64 → IsWord (decimal number)
-decimal-word number small = record {
-  some = decimal_nonempty number small;
-  free = All-weaker (λ byte. (48 ≤ byte) × (byte ≤ 57)) (λ byte. byte ≢ 32) (λ byte digit same. omega (arith, digit.0)) (decimal number) (decimal-digits number small);
-}
+pub decimal-word : (s : Separators) (number : ℕ) → number < 2 ^ 64 → IsWord s (decimal number)
+decimal-word s number small =
+    let high = All-weaker (λ byte. (48 ≤ byte) × (byte ≤ 57)) (λ byte. 32 < byte) (λ byte digit. omega (arith, digit.0)) (decimal number) (decimal-digits number small) in
+    IsWord-high s (decimal number) (decimal_nonempty number small) high
 
 -- a decimal number has no byte below the space
 pub decimal-plain : (number : ℕ) → number < 2 ^ 64 → All (λ byte. 32 ≤ byte) (decimal number)

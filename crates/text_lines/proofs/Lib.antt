@@ -2,7 +2,6 @@ pub mod Blanks
 pub mod Cuts
 pub mod Decimals
 pub mod Numbers
-pub mod Places
 pub mod Spaced
 pub mod Written
 mod Worked

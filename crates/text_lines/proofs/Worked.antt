@@ -1,7 +1,8 @@
 -- The definitions at small texts, worked out by hand.
 use Rattle.std.proofs.Common.{◌≡◌, [], ◌∷◌, refl}
 use Rattle.std.specs.Prelude.{codes, Some, None}
-use Rattle.text_lines.specs.Lines.{lines_of, trimmed}
+use Rattle.text_lines.specs.Lines.{lines_of, whole_lines_of, trimmed}
+use Rattle.text_lines.specs.declared.words.Separators.TheVariants.{Spaces, SpacesAndTabs}
 use Rattle.text_lines.specs.Words.{words_of, pieces_of, from_word, first_word, behind_word, number_of, numbers_of}
 
 -- an empty text has no line
@@ -39,6 +40,11 @@ lines_of_last_cr : lines_of (codes "a\rb\nc\r") ≡ codes "a\rb" ∷ codes "c\r"
 unfolding lines_of
 lines_of_last_cr = refl
 
+-- lines with their ends
+whole_lines_of_three : whole_lines_of (codes "a\r\n\nb\r") ≡ codes "a\r\n" ∷ codes "\n" ∷ codes "b\r" ∷ []
+unfolding whole_lines_of
+whole_lines_of_three = refl
+
 -- spaces and tabs at the end go, those before another byte stay
 trimmed_some : trimmed (codes " a \tb \t ") ≡ codes " a \tb"
 unfolding trimmed
@@ -55,33 +61,38 @@ unfolding trimmed
 trimmed_cr = refl
 
 -- an empty line has no word, nor has one of spaces
-words_of_nothing : words_of [] ≡ []
+words_of_nothing : words_of Spaces [] ≡ []
 unfolding words_of pieces_of
 words_of_nothing = refl
 
-words_of_spaces : words_of (codes "  ") ≡ []
+words_of_spaces : words_of Spaces (codes "  ") ≡ []
 unfolding words_of pieces_of
 words_of_spaces = refl
 
 -- several spaces part words as one does, and a tab is a byte of its word
-words_of_some : words_of (codes " a  b\tc ") ≡ codes "a" ∷ codes "b\tc" ∷ []
+words_of_some : words_of Spaces (codes " a  b\tc ") ≡ codes "a" ∷ codes "b\tc" ∷ []
 unfolding words_of pieces_of
 words_of_some = refl
 
+-- or parts words too
+words_of_tabs : words_of SpacesAndTabs (codes " a \tb\tc ") ≡ codes "a" ∷ codes "b" ∷ codes "c" ∷ []
+unfolding words_of pieces_of
+words_of_tabs = refl
+
 -- the first word, and what stands behind it with its spaces
-first_word_some : first_word (codes "  ab  c ") ≡ codes "ab"
+first_word_some : first_word Spaces (codes "  ab  c ") ≡ codes "ab"
 unfolding from_word
 first_word_some = refl
 
-behind_word_some : behind_word (codes "  ab  c ") ≡ codes "  c "
+behind_word_some : behind_word Spaces (codes "  ab  c ") ≡ codes "  c "
 unfolding from_word
 behind_word_some = refl
 
-first_word_none : first_word (codes "  ") ≡ []
+first_word_none : first_word Spaces (codes "  ") ≡ []
 unfolding from_word
 first_word_none = refl
 
-behind_word_none : behind_word (codes "  ") ≡ []
+behind_word_none : behind_word Spaces (codes "  ") ≡ []
 unfolding from_word
 behind_word_none = refl
 

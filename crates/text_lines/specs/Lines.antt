@@ -20,6 +20,13 @@ lines_of (byte ∷ bytes) =
     else if (byte == 13) && is_at_lf bytes then lines_of bytes
     else with_byte byte (lines_of bytes)
 
+-- the lines with their ends, which together are the text
+unfoldable pub whole_lines_of : List ℕ → List (List ℕ)
+whole_lines_of [] = []
+whole_lines_of (byte ∷ bytes) =
+    if byte == 10 then (byte ∷ []) ∷ whole_lines_of bytes
+    else with_byte byte (whole_lines_of bytes)
+
 -- the line of an index, counted from 0, and an empty one past the last
 abbrev pub line_at : List (List ℕ) → ℕ → List ℕ
 line_at lines index = get_or lines index []

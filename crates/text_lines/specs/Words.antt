@@ -1,30 +1,38 @@
--- Words and decimal numbers. Spaces alone part words: a tab is a byte of its word.
+-- Words and decimal numbers.
 use Rattle.std.specs.Prelude.{ℕ, ◌+◌, ◌-◌, ◌*◌, Bool, not, ◌&&◌, List, [], ◌∷◌, length, fold, filter, take_while, drop, nat_lt, nat_le, ◌==◌, if◌then◌else◌, Option, Some, None}
 use Rattle.std.specs.List.{list_all}
 use Rattle.std.specs.Char.{is_ascii_digit}
-use Rattle.text_lines.specs.Lines.{with_byte}
+use Rattle.text_lines.specs.declared.words.Separators.{Separators}
+use Rattle.text_lines.specs.declared.words.Separators.TheVariants.{Spaces, SpacesAndTabs}
+use Rattle.text_lines.specs.Lines.{with_byte, is_blank}
 
--- the pieces between single spaces; two spaces in a row have an empty piece between them
-unfoldable pub pieces_of : List ℕ → List (List ℕ)
-pieces_of [] = [] ∷ []
-pieces_of (byte ∷ bytes) = if byte == 32 then [] ∷ pieces_of bytes else with_byte byte (pieces_of bytes)
+-- whether a byte parts words: a space does, and a tab where it is to
+abbrev pub is_separator : Separators → ℕ → Bool
+is_separator Spaces byte = byte == 32
+is_separator SpacesAndTabs byte = is_blank byte
 
--- the words, which one or more spaces part
-unfoldable pub words_of : List ℕ → List (List ℕ)
-words_of line = filter (λ piece. nat_lt 0 (length piece)) (pieces_of line)
+-- the pieces between single separators; two separators in a row have an empty piece between them
+unfoldable pub pieces_of : Separators → List ℕ → List (List ℕ)
+pieces_of separators [] = [] ∷ []
+pieces_of separators (byte ∷ bytes) =
+    if is_separator separators byte then [] ∷ pieces_of separators bytes else with_byte byte (pieces_of separators bytes)
+
+-- the words, which one or more separators part
+unfoldable pub words_of : Separators → List ℕ → List (List ℕ)
+words_of separators line = filter (λ piece. nat_lt 0 (length piece)) (pieces_of separators line)
 
 -- a line from its first word on
-unfoldable pub from_word : List ℕ → List ℕ
-from_word [] = []
-from_word (byte ∷ bytes) = if byte == 32 then from_word bytes else byte ∷ bytes
+unfoldable pub from_word : Separators → List ℕ → List ℕ
+from_word separators [] = []
+from_word separators (byte ∷ bytes) = if is_separator separators byte then from_word separators bytes else byte ∷ bytes
 
 -- the first word, and nothing where there is none
-abbrev pub first_word : List ℕ → List ℕ
-first_word line = take_while (λ byte. not (byte == 32)) (from_word line)
+abbrev pub first_word : Separators → List ℕ → List ℕ
+first_word separators line = take_while (λ byte. not (is_separator separators byte)) (from_word separators line)
 
--- what stands behind the first word, spaces and all
-abbrev pub behind_word : List ℕ → List ℕ
-behind_word line = drop (length (first_word line)) (from_word line)
+-- what stands behind the first word, separators and all
+abbrev pub behind_word : Separators → List ℕ → List ℕ
+behind_word separators line = drop (length (first_word separators line)) (from_word separators line)
 
 -- the number that decimal digits write
 abbrev pub digits_value : List ℕ → ℕ

@@ -1,15 +1,15 @@
 //! Lines, words and decimal numbers of a text in bytes.
 //!
 //! A line ends with LF, the last one perhaps with the end of the text; a CR just before LF belongs to the end, and any
-//! other CR is a byte of its line. One or more spaces part words, and a tab is a byte of its word. A number is one to nine
+//! other CR is a byte of its line. Spaces part words, and tabs too where the caller asks for it. A number is one to nine
 //! decimal digits. Nothing here takes memory: lines and words are parts of the text itself.
 #![tactic(auto)]
 
 mod lines;
 mod words;
 
-pub use lines::{first_line, trimmed};
-pub use words::{number, one_word, split_word, three_numbers, two_numbers};
+pub use lines::{FirstLine, first_line, trimmed};
+pub use words::{Separators, number, one_word, split_word, three_numbers, two_numbers};
 
 #[cfg(test)]
 mod tests;

@@ -1,22 +1,43 @@
 // Lines from the front of a text, and blanks at the end of a line.
-ghost use Rattle.std.specs.Prelude.{◌≡◌, ◌∷◌, [], ◌<◌, ◌-◌, ◌==◌, length, take, get_or, position, MatchOption, if◌then◌else◌};
+ghost use Rattle.std.specs.Prelude.{◌≡◌, ◌∷◌, ◌++◌, [], ◌<◌, ◌-◌, ◌==◌, length, take, get_or, position, IfSome, MatchOption, if◌then◌else◌};
 ghost use Rattle.std.specs.List.{position_or_len};
-ghost use Rattle.text_lines.specs.Lines.{is_blank, lines_of, trimmed};
+ghost use Rattle.text_lines.specs.Lines.{is_blank, lines_of, trimmed, whole_lines_of};
 
-/// The first line, without its end, and the text after it: none of an empty text.
-pub fn first_line(text: &[u8]) -> Option<(&[u8], &[u8])>
+/// The first line of a text, and what follows it.
+#[derive(Clone, Copy, Debug, PartialEq, Eq)]
+pub struct FirstLine<'a> {
+    /// The line without its end.
+    pub content: &'a [u8],
+    /// The line with its end, LF or CR LF, where it has one.
+    pub whole: &'a [u8],
+    /// The text after the line and its end.
+    pub rest: &'a [u8],
+}
+
+/// The first line: none of an empty text.
+pub fn first_line<'a>(text: &'a [u8]) -> Option<FirstLine<'a>>
     ensures lines { MatchOption result (text.now ≡ [])
-        (λ found. lines_of text.now ≡ found.0.now ∷ lines_of found.1.now) }
-    ensures shorter { MatchOption result (text.now ≡ []) (λ found. length found.1.now < length text.now) }
+        (λ line. lines_of text.now ≡ line.content.now ∷ lines_of line.rest.now) }
+    ensures whole_lines { IfSome result (λ line. whole_lines_of text.now ≡ line.whole.now ∷ whole_lines_of line.rest.now) }
+    ensures parts { IfSome result (λ line. text.now ≡ line.whole.now ++ line.rest.now) }
+    ensures shorter { IfSome result (λ line. length line.rest.now < length text.now) }
 {
     if text.is_empty() {
         return None;
     }
-    let end = length_before(text, b'\n');
+    let end = length_before_lf(text);
     if end < text.len() {
-        Some((without_cr(&text[..end]), &text[end + 1..]))
+        Some(FirstLine {
+            content: without_cr(&text[..end]),
+            whole: &text[..end + 1],
+            rest: &text[end + 1..],
+        })
     } else {
-        Some((text, &[]))
+        Some(FirstLine {
+            content: text,
+            whole: text,
+            rest: &[],
+        })
     }
 }
 
@@ -31,6 +52,13 @@ pub fn trimmed(line: &[u8]) -> &[u8]
     &line[..end]
 }
 
+/// Whether the byte is a space or a tab.
+pub(crate) fn is_blank(byte: u8) -> bool
+    ensures { result ≡ is_blank byte }
+{
+    byte == b' ' || byte == b'\t'
+}
+
 /// A line that LF ended, without the CR that belongs to its end.
 fn without_cr(line: &[u8]) -> &[u8]
     ensures { result.now ≡ (if get_or line.now (length line.now - 1) 0 == 13
@@ -42,26 +70,19 @@ fn without_cr(line: &[u8]) -> &[u8]
     }
 }
 
-/// Whether the byte is a space or a tab.
-fn is_blank(byte: u8) -> bool
-    ensures { result ≡ is_blank byte }
+/// How many bytes stand before the first LF, or in all where there is none.
+fn length_before_lf(text: &[u8]) -> usize
+    ensures { result ≡ position_or_len (λ byte. byte == 10) text.now }
 {
-    byte == b' ' || byte == b'\t'
-}
-
-/// How many bytes stand before the first separator, or in all where there is none.
-pub(crate) fn length_before(text: &[u8], separator: u8) -> usize
-    ensures { result ≡ position_or_len (λ byte. byte == separator) text.now }
-{
-    match first_place(text, separator) {
+    match first_lf(text) {
         Some(place) => place,
         None => text.len(),
     }
 }
 
-/// Where the first separator stands.
-fn first_place(text: &[u8], separator: u8) -> Option<usize>
-    ensures { result ≡ position (λ byte. byte == separator) text.now }
+/// Where the first LF stands.
+fn first_lf(text: &[u8]) -> Option<usize>
+    ensures { result ≡ position (λ byte. byte == 10) text.now }
 {
-    text.iter().position(|byte| *byte == separator)
+    text.iter().position(|byte| *byte == b'\n')
 }

@@ -2,25 +2,24 @@ use super::*;
 
 #[test]
 fn takes_the_first_line(rt: HostRuntime) {
-    for (text, line, rest) in [
-        ("one", "one", ""),
-        ("one\n", "one", ""),
-        ("one\ntwo\n", "one", "two\n"),
-        ("\ntwo", "", "two"),
-        ("one\r\n\n", "one", "\n"),
-        ("\r\n", "", ""),
-        ("one\r\r\n", "one\r", ""),
-        ("one\rtwo\n", "one\rtwo", ""),
-        ("one\r", "one\r", ""),
+    for (text, content, whole) in [
+        ("one", "one", "one"),
+        ("one\n", "one", "one\n"),
+        ("one\ntwo\n", "one", "one\n"),
+        ("\ntwo", "", "\n"),
+        ("one\r\n\n", "one", "one\r\n"),
+        ("\r\n", "", "\r\n"),
+        ("one\r\r\n", "one\r", "one\r\r\n"),
+        ("one\rtwo\n", "one\rtwo", "one\rtwo\n"),
+        ("one\r", "one\r", "one\r"),
     ] {
-        let found = first_line(text.as_bytes());
-        assert_eq!(rt;
-            found,
-            Some((line.as_bytes(), rest.as_bytes())),
-            "of {text:?}"
-        );
+        let is = match first_line(text.as_bytes()) {
+            Some(line) => line.content == content.as_bytes() && line.whole == whole.as_bytes(),
+            None => false,
+        };
+        assert!(rt; is, "of {text:?}");
     }
-    assert_eq!(rt; first_line(b""), None);
+    assert!(rt; first_line(b"").is_none());
 }
 
 #[test]
@@ -28,7 +27,6 @@ fn drops_the_blanks_at_the_end(rt: HostRuntime) {
     for (line, kept) in [
         ("", ""),
         (" \t ", ""),
-        ("a", "a"),
         ("a b \t", "a b"),
         ("\ta", "\ta"),
         ("a \r", "a \r"),
@@ -39,61 +37,40 @@ fn drops_the_blanks_at_the_end(rt: HostRuntime) {
 
 #[test]
 fn splits_behind_the_first_word(rt: HostRuntime) {
-    for (line, word, behind) in [
-        ("a bc d", "a", " bc d"),
-        ("  a", "a", ""),
-        ("a  ", "a", "  "),
-        ("a\tb c", "a\tb", " c"),
+    let (spaces, both) = (Separators::Spaces, Separators::SpacesAndTabs);
+    for (separators, line, word, behind) in [
+        (spaces, "a bc d", "a", " bc d"),
+        (spaces, "  a", "a", ""),
+        (spaces, "a\tb  c", "a\tb", "  c"),
+        (both, "a\tb  c", "a", "\tb  c"),
+        (both, "\t a \tb", "a", " \tb"),
     ] {
-        let found = split_word(line.as_bytes());
+        let found = split_word(separators, line.as_bytes());
         assert_eq!(rt;
             found,
             Some((word.as_bytes(), behind.as_bytes())),
             "of {line:?}"
         );
     }
-    for line in ["", "   "] {
-        assert_eq!(rt; split_word(line.as_bytes()), None, "of {line:?}");
-    }
+    assert!(rt; split_word(Separators::Spaces, b"   ").is_none());
+    assert!(rt; split_word(Separators::SpacesAndTabs, b" \t").is_none());
 }
 
 #[test]
-fn takes_exactly_one_word(rt: HostRuntime) {
-    for (line, word) in [("384", "384"), ("  a ", "a"), ("a\tb", "a\tb")] {
-        let found = one_word(line.as_bytes());
-        assert_eq!(rt; found, Some(word.as_bytes()), "of {line:?}");
-    }
-    for line in ["", "  ", "a b"] {
-        assert_eq!(rt; one_word(line.as_bytes()), None, "of {line:?}");
-    }
-}
-
-#[test]
-fn takes_exactly_two_numbers(rt: HostRuntime) {
-    for (line, numbers) in [
-        (" 1 16", Some((1, 16))),
-        ("007  0 ", Some((7, 0))),
-        ("1", None),
-        ("1 2 3", None),
-        ("1 x", None),
-        ("x 1", None),
-        ("", None),
-    ] {
-        assert_eq!(rt; two_numbers(line.as_bytes()), numbers, "of {line:?}");
-    }
-}
-
-#[test]
-fn takes_exactly_three_numbers(rt: HostRuntime) {
-    for (line, numbers) in [
-        (" 1 16 2", Some((1, 16, 2))),
-        ("1 2", None),
-        ("1 2 3 4", None),
-        ("1 2 1000000000", None),
-        ("x 2 3", None),
-    ] {
-        assert_eq!(rt; three_numbers(line.as_bytes()), numbers, "of {line:?}");
-    }
+fn reads_the_only_words(rt: HostRuntime) {
+    let spaces = Separators::Spaces;
+    assert!(rt; one_word(spaces, b"  a\tb ") == Some(b"a\tb"));
+    assert!(rt; one_word(spaces, b"a b").is_none());
+    assert!(rt; one_word(Separators::SpacesAndTabs, b"a\tb").is_none());
+    assert_eq!(rt; two_numbers(spaces, b"007  0 "), Some((7, 0)));
+    assert_eq!(rt;
+        two_numbers(Separators::SpacesAndTabs, b"1\t16"),
+        Some((1, 16))
+    );
+    assert_eq!(rt; two_numbers(spaces, b"1\t16"), None);
+    assert_eq!(rt; two_numbers(spaces, b"1 2 3"), None);
+    assert_eq!(rt; three_numbers(spaces, b" 1 16 2"), Some((1, 16, 2)));
+    assert_eq!(rt; three_numbers(spaces, b"1 2 1000000000"), None);
 }
 
 #[test]

@@ -1,91 +1,129 @@
 // Words of a line, and the numbers that they write.
-ghost use Rattle.std.specs.Prelude.{◌≡◌, List, ◌∷◌, [], ℕ, ◌<◌, ◌^◌, ◌≢◌, ◌==◌, not, length, position, true, IfSome, MatchOption};
+ghost use Rattle.std.specs.Prelude.{◌≡◌, List, ◌∷◌, [], ℕ, ◌<◌, ◌^◌, ◌≢◌, not, length, position, true, IfSome, MatchOption};
 ghost use Rattle.std.specs.Char.{is_ascii_digit};
-ghost use Rattle.std.specs.List.{list_all};
-ghost use Rattle.text_lines.specs.Words.{behind_word, digits_value, first_word, from_word, is_number, number_of, numbers_of, with_number, words_of};
+ghost use Rattle.std.specs.List.{list_all, position_or_len};
+ghost use Rattle.text_lines.specs.Words.{behind_word, digits_value, first_word, from_word, is_number, is_separator, number_of, numbers_of, with_number, words_of};
 
-use crate::lines::length_before;
+use crate::lines::is_blank;
 
-/// The first word, and what stands behind it, spaces and all: none where there is no word.
-pub fn split_word(line: &[u8]) -> Option<(&[u8], &[u8])>
-    ensures words { MatchOption result (words_of line.now ≡ [])
-        (λ found. words_of line.now ≡ found.0.now ∷ words_of found.1.now) }
-    ensures places { MatchOption result (first_word line.now ≡ [])
-        (λ found. (found.0.now ≡ first_word line.now) × (found.1.now ≡ behind_word line.now)) }
+/// The bytes that part words; one or more of them stand between two words.
+#[derive(Clone, Copy, Debug, PartialEq, Eq)]
+pub enum Separators {
+    /// Spaces alone: a tab is a byte of its word.
+    Spaces,
+    /// Spaces and tabs.
+    SpacesAndTabs,
+}
+
+impl Separators {
+    /// Whether the byte is one of them.
+    fn has(self, byte: u8) -> bool
+        ensures { result ≡ is_separator self byte }
+    {
+        match self {
+            Separators::Spaces => byte == b' ',
+            Separators::SpacesAndTabs => is_blank(byte),
+        }
+    }
+}
+
+/// The first word, and what stands behind it, separators and all: none where there is no word.
+pub fn split_word(separators: Separators, line: &[u8]) -> Option<(&[u8], &[u8])>
+    ensures words { MatchOption result (words_of separators line.now ≡ [])
+        (λ found. words_of separators line.now ≡ found.0.now ∷ words_of separators found.1.now) }
+    ensures places { MatchOption result (first_word separators line.now ≡ [])
+        (λ found. (found.0.now ≡ first_word separators line.now) × (found.1.now ≡ behind_word separators line.now)) }
     ensures shorter { IfSome result (λ found. length found.1.now < length line.now) }
 {
-    let line = from_word(line);
+    let line = from_word(separators, line);
     if line.is_empty() {
         return None;
     }
-    let end = length_before(line, b' ');
+    let end = length_of_word(separators, line);
     Some((&line[..end], &line[end..]))
 }
 
 /// The word of a line that has exactly one.
-pub fn one_word(line: &[u8]) -> Option<&[u8]>
-    ensures { MatchOption result (length (words_of line.now) ≢ 1) (λ word. words_of line.now ≡ word.now ∷ []) }
+pub fn one_word(separators: Separators, line: &[u8]) -> Option<&[u8]>
+    ensures { MatchOption result (length (words_of separators line.now) ≢ 1) (λ word. words_of separators line.now ≡ word.now ∷ []) }
 {
-    let (word, behind) = split_word(line)?;
-    match split_word(behind) {
+    let (word, behind) = split_word(separators, line)?;
+    match split_word(separators, behind) {
         None => Some(word),
         Some(_) => None,
     }
 }
 
 /// The numbers of a line of exactly two words, where each of them writes one.
-pub fn two_numbers(line: &[u8]) -> Option<(u32, u32)>
-    ensures { MatchOption result ((x y : ℕ) → numbers_of (words_of line.now) ≢ Some (x ∷ y ∷ []))
-        (λ found. numbers_of (words_of line.now) ≡ Some (found.0 ∷ found.1 ∷ [])) }
+pub fn two_numbers(separators: Separators, line: &[u8]) -> Option<(u32, u32)>
+    ensures { MatchOption result ((x y : ℕ) → numbers_of (words_of separators line.now) ≢ Some (x ∷ y ∷ []))
+        (λ found. numbers_of (words_of separators line.now) ≡ Some (found.0 ∷ found.1 ∷ [])) }
 {
-    let (first, behind) = split_number(line)?;
-    let second = one_number(behind)?;
+    let (first, behind) = split_number(separators, line)?;
+    let second = one_number(separators, behind)?;
     Some((first, second))
 }
 
 /// The numbers of a line of exactly three words, where each of them writes one.
-pub fn three_numbers(line: &[u8]) -> Option<(u32, u32, u32)>
-    ensures { MatchOption result ((x y z : ℕ) → numbers_of (words_of line.now) ≢ Some (x ∷ y ∷ z ∷ []))
-        (λ found. numbers_of (words_of line.now) ≡ Some (found.0 ∷ found.1 ∷ found.2 ∷ [])) }
+pub fn three_numbers(separators: Separators, line: &[u8]) -> Option<(u32, u32, u32)>
+    ensures { MatchOption result ((x y z : ℕ) → numbers_of (words_of separators line.now) ≢ Some (x ∷ y ∷ z ∷ []))
+        (λ found. numbers_of (words_of separators line.now) ≡ Some (found.0 ∷ found.1 ∷ found.2 ∷ [])) }
 {
-    let (first, behind) = split_number(line)?;
-    let (second, third) = two_numbers(behind)?;
+    let (first, behind) = split_number(separators, line)?;
+    let (second, third) = two_numbers(separators, behind)?;
     Some((first, second, third))
 }
 
 /// The number of the first word, and what stands behind that word.
-fn split_number(line: &[u8]) -> Option<(u32, &[u8])>
-    ensures { MatchOption result ((x : ℕ) (xs : List ℕ) → numbers_of (words_of line.now) ≢ Some (x ∷ xs))
-        (λ found. numbers_of (words_of line.now) ≡ with_number (Some found.0) (numbers_of (words_of found.1.now))) }
+fn split_number(separators: Separators, line: &[u8]) -> Option<(u32, &[u8])>
+    ensures { MatchOption result ((x : ℕ) (xs : List ℕ) → numbers_of (words_of separators line.now) ≢ Some (x ∷ xs))
+        (λ found. numbers_of (words_of separators line.now) ≡ with_number (Some found.0) (numbers_of (words_of separators found.1.now))) }
 {
-    let (word, behind) = split_word(line)?;
+    let (word, behind) = split_word(separators, line)?;
     let first = number(word)?;
     Some((first, behind))
 }
 
 /// The number of a line of exactly one word, where it writes one.
-fn one_number(line: &[u8]) -> Option<u32>
-    ensures { MatchOption result ((x : ℕ) → numbers_of (words_of line.now) ≢ Some (x ∷ []))
-        (λ found. numbers_of (words_of line.now) ≡ Some (found ∷ [])) }
+fn one_number(separators: Separators, line: &[u8]) -> Option<u32>
+    ensures { MatchOption result ((x : ℕ) → numbers_of (words_of separators line.now) ≢ Some (x ∷ []))
+        (λ found. numbers_of (words_of separators line.now) ≡ Some (found ∷ [])) }
 {
-    number(one_word(line)?)
+    number(one_word(separators, line)?)
 }
 
 /// The line from its first word on.
-fn from_word(line: &[u8]) -> &[u8]
-    ensures { result.now ≡ from_word line.now }
+fn from_word(separators: Separators, line: &[u8]) -> &[u8]
+    ensures { result.now ≡ from_word separators line.now }
 {
-    match first_place_of_word(line) {
+    match first_place_of_word(separators, line) {
         Some(place) => &line[place..],
         None => &[],
     }
 }
 
-/// Where the first byte stands that is no space.
-fn first_place_of_word(line: &[u8]) -> Option<usize>
-    ensures { result ≡ position (λ byte. not (byte == 32)) line.now }
+/// Where the first byte stands that is no separator.
+fn first_place_of_word(separators: Separators, line: &[u8]) -> Option<usize>
+    ensures { result ≡ position (λ byte. not (is_separator separators byte)) line.now }
 {
-    line.iter().position(|byte| *byte != b' ')
+    line.iter().position(|byte| !separators.has(*byte))
+}
+
+/// How many bytes stand before the first separator, or in all where there is none.
+fn length_of_word(separators: Separators, line: &[u8]) -> usize
+    ensures { result ≡ position_or_len (is_separator separators) line.now }
+{
+    match first_separator(separators, line) {
+        Some(place) => place,
+        None => line.len(),
+    }
+}
+
+/// Where the first separator stands.
+fn first_separator(separators: Separators, line: &[u8]) -> Option<usize>
+    ensures { result ≡ position (is_separator separators) line.now }
+{
+    line.iter().position(|byte| separators.has(*byte))
 }
 
 /// The number that a word of one to nine decimal digits writes, the most significant first: none of any other word.

@@ -1,116 +1,39 @@
-// How the lines that follow a statement are taken: rows of a tile, and lines of a RAM's contents.
-ghost use Rattle.std.specs.Prelude.{◌≡◌, ◌<◌, true, None, IfOk, IfErr, OnOk};
-ghost use Rattle.plane_map.specs.Layout.{columns_of};
-ghost use Rattle.asc_text.specs.Rows.{is_row};
-ghost use Rattle.asc_text.specs.Gains.{row_sets, line_sets};
-ghost use Rattle.asc_text.specs.Reading.{state_of, HasKind, Reports, row_refusal, memory_refusal, TakesRow, TakesMemory, CramGains, BramGains, after_row, after_memory};
+// The lines that follow the statement of a tile, of the contents of a RAM, or of a comment.
+ghost use Rattle.std.specs.Prelude.{◌≡◌, ◌==◌, ◌||◌, true, false, MatchOption};
+ghost use Rattle.std.specs.List.{list_all};
+ghost use Rattle.asc_text.specs.Faults.{is_printable};
+ghost use Rattle.asc_text.specs.Rows.{is_memory_line, is_row, memory_bytes};
 
-use crate::fault::AscCause;
-use crate::planes;
-use crate::reading::{Expected, Reader, Refusal};
-use crate::rows::{is_row, memory_bytes};
-use ice_image::AnyImage;
-use plane_map::{TileKind, tile_width};
+/// Whether the line is a row of a tile with that many columns.
+#[tactic(auto, unfolding(crate::specs::Rows::is_row))]
+pub(crate) fn is_row(line: &[u8], width: usize) -> bool
+    ensures { result ≡ is_row width line.now }
+{
+    line.len() == width && are_bits(line)
+}
 
-impl Reader {
-    /// Takes a row of a tile, without the blanks at its end.
-    pub(super) fn accept_row(
-        &mut self,
-        kind: TileKind,
-        x: u8,
-        y: u8,
-        row: u8,
-        line: &[u8],
-    ) -> Result<(), Refusal>
-        requires there { HasKind self.old.image x y kind }
-        requires row { row < 16 }
-        ensures taken { IfOk result (λ _. TakesRow (state_of self.old) kind x y row line.now (state_of self.new)) }
-        ensures accepted { OnOk result (row_refusal kind line.now ≡ None) }
-        ensures refused { IfErr result (Reports (row_refusal kind line.now)) }
-    {
-        if !is_row(line, tile_width(kind)) {
-            return Err(Refusal::Cause(AscCause::Row));
-        }
-        put_row(&mut self.image, kind, x, y, row, line);
-        self.expected = after_row(kind, x, y, row);
-        Ok(())
-    }
+/// Whether each byte is the character `0` or `1`.
+fn are_bits(line: &[u8]) -> bool
+    ensures { result ≡ list_all (λ byte. (byte == 48) || (byte == 49)) line.now }
+{
+    line.iter().all(|byte| *byte == b'0' || *byte == b'1')
+}
 
-    /// Takes a line of the contents of a RAM, without the blanks at its end.
-    pub(super) fn accept_memory(
-        &mut self,
-        x: u8,
-        y: u8,
-        row: u8,
-        line: &[u8],
-    ) -> Result<(), Refusal>
-        requires there { HasKind self.old.image x y TileKind.RamB }
-        requires row { row < 16 }
-        ensures taken { IfOk result (λ _. TakesMemory (state_of self.old) x y row line.now (state_of self.new)) }
-        ensures accepted { OnOk result (memory_refusal line.now ≡ None) }
-        ensures refused { IfErr result (Reports (memory_refusal line.now)) }
-    {
-        match memory_bytes(line) {
-            Some(bytes) => {
-                put_memory_line(&mut self.image, x, y, row, &bytes);
-                self.expected = after_memory(x, y, row);
-                Ok(())
-            }
-            None => Err(Refusal::Cause(AscCause::Hex)),
-        }
+/// The bytes that 64 hexadecimal digits write, the high digit of each byte first.
+pub(crate) fn memory_bytes(line: &[u8]) -> Option<[u8; 32]>
+    ensures { MatchOption result (is_memory_line line.now ≡ false)
+        (λ bytes. (is_memory_line line.now ≡ true) × (memory_bytes line.now ≡ bytes)) }
+{
+    let mut bytes = [0; 32];
+    match hex::decode_to_slice(line, &mut bytes) {
+        Ok(()) => Some(bytes),
+        Err(_) => None,
     }
 }
 
-/// Sets the bits of a row of a tile, where there is an image.
-fn put_row(image: &mut Option<AnyImage>, kind: TileKind, x: u8, y: u8, row: u8, line: &[u8])
-    requires there { HasKind image.old x y kind }
-    requires row { row < 16 }
-    requires line { is_row (columns_of kind) line.now ≡ true }
-    ensures { CramGains image.old image.new (λ device. row_sets device x y row line.now (columns_of kind)) }
+/// Whether each byte is a printable ASCII character or a space.
+pub(crate) fn is_printable(line: &[u8]) -> bool
+    ensures { result ≡ list_all is_printable line.now }
 {
-    match image {
-        Some(image) => planes::put_row(image, kind, x, y, row, line),
-        None => {}
-    }
-}
-
-/// Sets the bits of sixteen words of a RAM, where there is an image.
-fn put_memory_line(image: &mut Option<AnyImage>, x: u8, y: u8, row: u8, bytes: &[u8; 32])
-    requires there { HasKind image.old x y TileKind.RamB }
-    requires row { row < 16 }
-    ensures { BramGains image.old image.new (λ device. line_sets device x y row bytes.now 16) }
-{
-    match image {
-        Some(image) => planes::put_memory_line(image, x, y, row, bytes),
-        None => {}
-    }
-}
-
-/// What follows a row of a tile.
-fn after_row(kind: TileKind, x: u8, y: u8, row: u8) -> Expected
-    requires { row < 16 }
-    ensures { result ≡ after_row kind x y row }
-{
-    if row == 15 {
-        Expected::Statement
-    } else {
-        Expected::Row {
-            kind,
-            x,
-            y,
-            row: row + 1,
-        }
-    }
-}
-
-/// What follows a line of the contents of a RAM.
-fn after_memory(x: u8, y: u8, row: u8) -> Expected
-    requires { row < 16 }
-    ensures { result ≡ after_memory x y row }
-{
-    if row == 15 {
-        Expected::Statement
-    } else {
-        Expected::Memory { x, y, row: row + 1 }
-    }
+    line.iter().all(|byte| matches!(byte, 0x20..=0x7E))
 }

@@ -1,5 +1,5 @@
 use Rattle.std.proofs.Common.{◌≡◌, true, length, sym, rules, arith}
-use Rattle.text_lines.proofs.Places.{least_below-first, least_below-none}
+use Rattle.place_search.proofs.Places.{least_below-first, least_below-none}
 use Rattle.bin_stream.specs.Front.{is_preamble_at, preamble_place}
 use Rattle.bin_stream.proofs.front.preamble_place.Goals as goal
 

@@ -1,0 +1,259 @@
+-- What the reader keeps between the lines of a text, and what a line makes of it. What a text means stands in
+-- `Meaning` and `Faults`.
+use Rattle.std.specs.Prelude.{◌≡◌, ℕ, ◌+◌, ◌<◌, Bool, true, false, not, ◌&&◌, ◌||◌, List, [], ◌∷◌, ◌++◌, length, nat_lt, ◌==◌, if◌then◌else◌, Option, Some, None, is_some, unwrap_or, replicate}
+use Rattle.std.specs.Bool.{MatchBool}
+use Rattle.text_lines.specs.Lines.{trimmed}
+use Rattle.place_search.specs.Places.{or_else}
+use Rattle.plane_map.specs.Layout.{kind_of, columns_of, cram_width, cram_height, bram_width, bram_height}
+use Rattle.plane_map.specs.declared.device.DeviceName.{DeviceName}
+use Rattle.plane_map.specs.declared.tile.Place.{Place}
+use Rattle.plane_map.specs.declared.tile.TileKind.{TileKind}
+use Rattle.plane_map.specs.declared.tile.TileKind.TheVariants.{RamB}
+use Rattle.ice_image.specs.Configuration.{blank_image}
+use Rattle.ice_image.specs.Either.{configuration_of, device_of}
+use Rattle.ice_image.specs.declared.any.AnyImage.{AnyImage}
+use Rattle.ice_image.specs.declared.settings.Settings.{Settings}
+use Rattle.ice_image.specs.declared.settings.Range.{Range}
+use Rattle.ice_image.specs.declared.settings.Range.TheVariants.{Low}
+use Rattle.asc_text.specs.declared.statement.Statement.{Statement}
+use Rattle.asc_text.specs.declared.statement.Statement.TheVariants.{Comment, Device, WarmBoot, FrequencyRange, NoSleep, Tile, RamData, ExtraBit, Symbol}
+use Rattle.asc_text.specs.declared.fault.TileXy.{TileXy}
+use Rattle.asc_text.specs.declared.fault.AscCause.{AscCause}
+use Rattle.asc_text.specs.declared.fault.AscCause.TheVariants.{Statement as StatementCause, NoDevice, Row as RowCause, Repeated, Hex, ExtraPlace, Setting}
+use Rattle.asc_text.specs.declared.fault.AscFault.{AscFault}
+use Rattle.asc_text.specs.declared.fault.AscFault.TheVariants.{At, Memory as OutOfMemory}
+use Rattle.asc_text.specs.declared.file.Symbol.{Symbol as NetName}
+use Rattle.asc_text.specs.declared.reading.reader.Reader.{Reader}
+use Rattle.asc_text.specs.declared.reading.reader.Expected.{Expected}
+use Rattle.asc_text.specs.declared.reading.reader.Expected.TheVariants.{Statement as AnyStatement, Row, Memory}
+use Rattle.asc_text.specs.declared.reading.reader.Refusal.{Refusal}
+use Rattle.asc_text.specs.declared.reading.reader.Refusal.TheVariants.{Cause, Memory as NoMemory}
+use Rattle.asc_text.specs.Statements.{statement_in, begins_with_dot, name_in}
+use Rattle.asc_text.specs.inside.TileSets.{has_tile}
+use Rattle.asc_text.specs.Rows.{is_row, is_memory_line, memory_bytes}
+use Rattle.asc_text.specs.Extras.{is_same_place, is_extra}
+use Rattle.asc_text.specs.Faults.{cause_if, unknown_device, kind_cause, comment_cause, stray_cause}
+use Rattle.asc_text.specs.inside.Gains.{Gains, row_sets, line_sets}
+
+-- ---- what is kept
+
+pub record ReaderState : Type 0 where
+  pub warm_boot : Option Bool
+  pub range : Option Range
+  pub no_sleep : Option Bool
+  pub comment : Option (List (List ℕ))
+  pub in_comment : Bool
+  pub image : Option AnyImage
+  pub tiles : List Bool
+  pub rams : List Bool
+  pub symbols : List NetName
+  pub expected : Expected
+
+abbrev pub state_of : Reader → ReaderState
+state_of reader = record {
+  warm_boot = reader.warm_boot;
+  range = reader.range;
+  no_sleep = reader.no_sleep;
+  comment = reader.comment;
+  in_comment = reader.in_comment;
+  image = reader.image;
+  tiles = reader.tiles;
+  rams = reader.rams;
+  symbols = reader.symbols.items;
+  expected = reader.expected;
+}
+
+-- what is kept before the first line
+abbrev pub begun : ReaderState
+begun = record {
+  warm_boot = None;
+  range = None;
+  no_sleep = None;
+  comment = None;
+  in_comment = false;
+  image = None;
+  tiles = replicate 1156 false;
+  rams = replicate 1156 false;
+  symbols = [];
+  expected = AnyStatement;
+}
+
+-- rows of a tile that the device has
+abbrev pub HasKind : Option AnyImage → ℕ → ℕ → TileKind → Type 0
+HasKind None x y kind = ⊥
+HasKind (Some image) x y kind = kind_of (device_of image) x y ≡ Some kind
+
+-- rows are expected of a tile that the device has, and contents of a RAM at its lower tile
+abbrev pub IsReady : Option AnyImage → Expected → Type 0
+IsReady image AnyStatement = Unit {0}
+IsReady image (Row kind x y row) = HasKind image x y kind × (row < 16)
+IsReady image (Memory x y row) = HasKind image x y RamB × (row < 16)
+
+-- ---- what is wrong
+
+-- a cause that is told is that one
+abbrev pub Reports : Option AscCause → Refusal → Type 0
+Reports cause (Cause told) = cause ≡ Some told
+Reports cause (NoMemory e) = Unit {0}
+
+-- a refusal as the fault of a line and a tile
+abbrev pub located : Refusal → ℕ → Option TileXy → AscFault
+located (Cause cause) line tile = At line tile cause
+located (NoMemory e) line tile = OutOfMemory e
+
+-- what is wrong with a setting that was given before or that has no value
+abbrev pub setting_refusal : Bool → Bool → Option AscCause
+setting_refusal was_given has_value = or_else (cause_if was_given Repeated) (cause_if (not has_value) Setting)
+
+-- what is wrong with the tile of a statement
+abbrev pub tile_refusal : Option AnyImage → TileKind → ℕ → ℕ → Option AscCause
+tile_refusal None kind x y = Some NoDevice
+tile_refusal (Some image) kind x y = kind_cause (kind_of (device_of image) x y) kind
+
+-- what is wrong with the place of an extra bit
+abbrev pub extra_refusal : Option AnyImage → ℕ → ℕ → ℕ → Option AscCause
+extra_refusal None bank x y = Some NoDevice
+extra_refusal (Some image) bank x y = cause_if (not (is_extra (device_of image) (record { bank = bank; px = x; py = y }))) ExtraPlace
+
+-- what is wrong with a statement
+abbrev pub statement_refusal : ReaderState → Statement → Option AscCause
+statement_refusal s Comment = None
+statement_refusal s (Device device) = or_else (unknown_device (Device device)) (cause_if (is_some s.image) Repeated)
+statement_refusal s (WarmBoot setting) = setting_refusal (is_some s.warm_boot) (is_some setting)
+statement_refusal s (FrequencyRange setting) = setting_refusal (is_some s.range) (is_some setting)
+statement_refusal s (NoSleep setting) = setting_refusal (is_some s.no_sleep) (is_some setting)
+statement_refusal s (Tile kind x y) = or_else (tile_refusal s.image kind x y) (cause_if (has_tile s.tiles x y) Repeated)
+statement_refusal s (RamData x y) = or_else (tile_refusal s.image RamB x y) (cause_if (has_tile s.rams x y) Repeated)
+statement_refusal s (ExtraBit bank x y) = extra_refusal s.image bank x y
+statement_refusal s (Symbol net) = None
+
+-- the same for a line that may not be a valid statement
+abbrev pub dotted_refusal : ReaderState → Option Statement → Option AscCause
+dotted_refusal s None = Some StatementCause
+dotted_refusal s (Some statement) = statement_refusal s statement
+
+-- what is wrong with a line that is not a statement
+abbrev pub text_refusal : Bool → List ℕ → Option AscCause
+text_refusal in_comment line = if in_comment then comment_cause line else stray_cause line
+
+-- what is wrong with a row of a tile
+abbrev pub row_refusal : TileKind → List ℕ → Option AscCause
+row_refusal kind line = cause_if (not (is_row (columns_of kind) line)) RowCause
+
+-- what is wrong with a line of a RAM's contents
+abbrev pub memory_refusal : List ℕ → Option AscCause
+memory_refusal line = cause_if (not (is_memory_line line)) Hex
+
+-- what is wrong with a line
+abbrev pub line_refusal : ReaderState → Expected → List ℕ → Option AscCause
+line_refusal s AnyStatement line = if begins_with_dot line then dotted_refusal s (statement_in line) else text_refusal s.in_comment line
+line_refusal s (Row kind x y row) line = row_refusal kind (trimmed line)
+line_refusal s (Memory x y row) line = memory_refusal (trimmed line)
+
+-- what is wrong where the text ends
+abbrev pub end_refusal : ReaderState → Expected → Option AscCause
+end_refusal s AnyStatement = cause_if (not (is_some s.image)) NoDevice
+end_refusal s (Row kind x y row) = Some RowCause
+end_refusal s (Memory x y row) = Some Hex
+
+-- the statement that a line is, or among whose sixteen lines it is
+abbrev pub statement_of : Expected → List ℕ → Option Statement
+statement_of AnyStatement line = statement_in line
+statement_of (Row kind x y row) line = Some (Tile kind x y)
+statement_of (Memory x y row) line = Some (RamData x y)
+
+-- ---- what a line changes that is not refused
+
+-- the image with more bits of its configuration planes
+pub record GainsCram (before after : AnyImage) (is_set : DeviceName → Place → Bool) : Type 0 where
+  pub device : device_of after ≡ device_of before
+  pub rest : configuration_of after ≡ record (configuration_of before) { cram = (configuration_of after).cram }
+  pub bits : Gains (cram_width (device_of before)) (cram_height (device_of before)) (is_set (device_of before)) (configuration_of before).cram (configuration_of after).cram
+
+-- the image with more bits of its RAM planes
+pub record GainsBram (before after : AnyImage) (is_set : DeviceName → Place → Bool) : Type 0 where
+  pub device : device_of after ≡ device_of before
+  pub rest : configuration_of after ≡ record (configuration_of before) { bram = (configuration_of after).bram }
+  pub bits : Gains (bram_width (device_of before)) (bram_height (device_of before)) (is_set (device_of before)) (configuration_of before).bram (configuration_of after).bram
+
+-- both where there is an image
+abbrev pub CramGains : Option AnyImage → Option AnyImage → (DeviceName → Place → Bool) → Type 0
+CramGains (Some before) (Some after) is_set = GainsCram before after is_set
+CramGains (Some before) None is_set = ⊥
+CramGains None after is_set = ⊥
+
+abbrev pub BramGains : Option AnyImage → Option AnyImage → (DeviceName → Place → Bool) → Type 0
+BramGains (Some before) (Some after) is_set = GainsBram before after is_set
+BramGains (Some before) None is_set = ⊥
+BramGains None after is_set = ⊥
+
+-- an image of a device with all bits 0
+abbrev pub IsBlank : Option DeviceName → Option AnyImage → Type 0
+IsBlank (Some device) (Some image) = (device_of image ≡ device) × (configuration_of image ≡ blank_image device)
+IsBlank (Some device) None = ⊥
+IsBlank None image = ⊥
+
+-- the tiles with one more
+abbrev pub HasInserted : ℕ → ℕ → List Bool → List Bool → Type 0
+HasInserted x y before after = (v w : ℕ) → v < 34 → w < 34 → has_tile after v w ≡ (has_tile before v w || ((v == x) && (w == y)))
+
+-- the comment with one more line, where there is one
+abbrev pub with_line : Option (List (List ℕ)) → List ℕ → Option (List (List ℕ))
+with_line None line = None
+with_line (Some lines) line = Some (lines ++ line ∷ [])
+
+-- an empty line is dropped
+abbrev pub after_text : ReaderState → List ℕ → ReaderState
+after_text s line = record s { comment = if s.in_comment && nat_lt 0 (length line) then with_line s.comment line else s.comment }
+
+-- what follows a line of sixteen
+abbrev pub after_row : TileKind → ℕ → ℕ → ℕ → Expected
+after_row kind x y row = if row == 15 then AnyStatement else Row kind x y (row + 1)
+
+abbrev pub after_memory : ℕ → ℕ → ℕ → Expected
+after_memory x y row = if row == 15 then AnyStatement else Memory x y (row + 1)
+
+-- what a statement changes
+abbrev pub TakesStatement : ReaderState → Statement → List ℕ → ReaderState → Type 0
+TakesStatement s Comment line new = new ≡ record s { comment = Some []; in_comment = true }
+TakesStatement s (Device device) line new = (new ≡ record s { image = new.image }) × IsBlank device new.image
+TakesStatement s (WarmBoot setting) line new = new ≡ record s { warm_boot = setting }
+TakesStatement s (FrequencyRange setting) line new = new ≡ record s { range = setting }
+TakesStatement s (NoSleep setting) line new = new ≡ record s { no_sleep = setting }
+TakesStatement s (Tile kind x y) line new = (new ≡ record s { tiles = new.tiles; expected = Row kind x y 0 }) × HasInserted x y s.tiles new.tiles
+TakesStatement s (RamData x y) line new = (new ≡ record s { rams = new.rams; expected = Memory x y 0 }) × HasInserted x y s.rams new.rams
+TakesStatement s (ExtraBit bank x y) line new = (new ≡ record s { image = new.image })
+    × CramGains s.image new.image (λ device. is_same_place (record { bank = bank; px = x; py = y }))
+TakesStatement s (Symbol net) line new = new ≡ record s { symbols = s.symbols ++ record { net = net; name = name_in line } ∷ [] }
+
+-- a line that isn't of this form is refused
+abbrev pub TakesDotted : ReaderState → Option Statement → List ℕ → ReaderState → Type 0
+TakesDotted s None line new = ⊥
+TakesDotted s (Some statement) line new = TakesStatement (record s { in_comment = false }) statement line new
+
+-- what a row of a tile changes
+abbrev pub TakesRow : ReaderState → TileKind → ℕ → ℕ → ℕ → List ℕ → ReaderState → Type 0
+TakesRow s kind x y row line new = (new ≡ record s { image = new.image; expected = after_row kind x y row })
+    × CramGains s.image new.image (λ device. row_sets device x y row line (columns_of kind))
+
+-- what a line of a RAM's contents changes
+abbrev pub TakesMemory : ReaderState → ℕ → ℕ → ℕ → List ℕ → ReaderState → Type 0
+TakesMemory s x y row line new = (new ≡ record s { image = new.image; expected = after_memory x y row })
+    × BramGains s.image new.image (λ device. line_sets device x y row (memory_bytes line) 16)
+
+-- what a line changes
+abbrev pub Takes : ReaderState → Expected → List ℕ → ReaderState → Type 0
+Takes s AnyStatement line new = MatchBool (begins_with_dot line) (TakesDotted s (statement_in line) line new) (new ≡ after_text s line)
+Takes s (Row kind x y row) line new = TakesRow s kind x y row (trimmed line) new
+Takes s (Memory x y row) line new = TakesMemory s x y row (trimmed line) new
+
+-- ---- the end
+
+-- the settings that were read, the usual ones where none was given
+abbrev pub settings_in : ReaderState → Settings
+settings_in s = record { range = unwrap_or s.range Low; warm_boot = unwrap_or s.warm_boot true; no_sleep = unwrap_or s.no_sleep false }
+
+-- the image that was read, with the comment and the settings
+abbrev pub Finishes : ReaderState → Option AnyImage → AnyImage → Type 0
+Finishes s None after = ⊥
+Finishes s (Some image) after = configuration_of after ≡ record (configuration_of image) { settings = settings_in s; comment = s.comment }

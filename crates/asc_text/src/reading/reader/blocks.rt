@@ -1,0 +1,116 @@
+// What the sixteen lines below a statement change: rows of a tile, and lines of a RAM's contents.
+ghost use Rattle.std.specs.Prelude.{◌≡◌, ◌<◌, true, Some, None, IfOk, IfErr, OnOk};
+ghost use Rattle.plane_map.specs.Layout.{columns_of};
+ghost use Rattle.asc_text.specs.Rows.{is_row};
+ghost use Rattle.asc_text.specs.inside.Gains.{row_sets, line_sets};
+ghost use Rattle.asc_text.specs.inside.Reading.{state_of, HasKind, row_refusal, memory_refusal, TakesRow, TakesMemory, CramGains, BramGains, after_row, after_memory};
+
+use crate::fault::AscCause;
+use crate::reading::planes;
+use crate::reading::reader::{Expected, Reader};
+use crate::reading::rows::{is_row, memory_bytes};
+use ice_image::AnyImage;
+use plane_map::{TileKind, tile_width};
+
+impl Reader {
+    /// Takes a row of a tile, without the blanks at its end.
+    pub(super) fn accept_row(
+        &mut self,
+        kind: TileKind,
+        x: u8,
+        y: u8,
+        row: u8,
+        line: &[u8],
+    ) -> Result<(), AscCause>
+        requires there { HasKind self.old.image x y kind }
+        requires row { row < 16 }
+        ensures taken { IfOk result (λ _. TakesRow (state_of self.old) kind x y row line.now (state_of self.new)) }
+        ensures accepted { OnOk result (row_refusal kind line.now ≡ None) }
+        ensures refused { IfErr result (λ cause. row_refusal kind line.now ≡ Some cause) }
+    {
+        if !is_row(line, tile_width(kind)) {
+            return Err(AscCause::Row);
+        }
+        set_row(&mut self.image, kind, x, y, row, line);
+        self.expected = after_row(kind, x, y, row);
+        Ok(())
+    }
+
+    /// Takes a line of the contents of a RAM, without the blanks at its end.
+    pub(super) fn accept_memory(
+        &mut self,
+        x: u8,
+        y: u8,
+        row: u8,
+        line: &[u8],
+    ) -> Result<(), AscCause>
+        requires there { HasKind self.old.image x y TileKind.RamB }
+        requires row { row < 16 }
+        ensures taken { IfOk result (λ _. TakesMemory (state_of self.old) x y row line.now (state_of self.new)) }
+        ensures accepted { OnOk result (memory_refusal line.now ≡ None) }
+        ensures refused { IfErr result (λ cause. memory_refusal line.now ≡ Some cause) }
+    {
+        match memory_bytes(line) {
+            Some(bytes) => {
+                set_memory_line(&mut self.image, x, y, row, &bytes);
+                self.expected = after_memory(x, y, row);
+                Ok(())
+            }
+            None => Err(AscCause::Hex),
+        }
+    }
+}
+
+/// Sets the bits of a row of a tile, where there is an image.
+fn set_row(image: &mut Option<AnyImage>, kind: TileKind, x: u8, y: u8, row: u8, line: &[u8])
+    requires there { HasKind image.old x y kind }
+    requires row { row < 16 }
+    requires line { is_row (columns_of kind) line.now ≡ true }
+    ensures { CramGains image.old image.new (λ device. row_sets device x y row line.now (columns_of kind)) }
+{
+    match image {
+        Some(image) => planes::set_row(image, kind, x, y, row, line),
+        None => {}
+    }
+}
+
+/// Sets the bits of sixteen words of a RAM, where there is an image.
+fn set_memory_line(image: &mut Option<AnyImage>, x: u8, y: u8, row: u8, bytes: &[u8; 32])
+    requires there { HasKind image.old x y TileKind.RamB }
+    requires row { row < 16 }
+    ensures { BramGains image.old image.new (λ device. line_sets device x y row bytes.now 16) }
+{
+    match image {
+        Some(image) => planes::set_memory_line(image, x, y, row, bytes),
+        None => {}
+    }
+}
+
+/// What follows a row of a tile.
+fn after_row(kind: TileKind, x: u8, y: u8, row: u8) -> Expected
+    requires { row < 16 }
+    ensures { result ≡ after_row kind x y row }
+{
+    if row == 15 {
+        Expected::Statement
+    } else {
+        Expected::Row {
+            kind,
+            x,
+            y,
+            row: row + 1,
+        }
+    }
+}
+
+/// What follows a line of the contents of a RAM.
+fn after_memory(x: u8, y: u8, row: u8) -> Expected
+    requires { row < 16 }
+    ensures { result ≡ after_memory x y row }
+{
+    if row == 15 {
+        Expected::Statement
+    } else {
+        Expected::Memory { x, y, row: row + 1 }
+    }
+}

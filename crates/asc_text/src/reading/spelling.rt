@@ -1,0 +1,222 @@
+// How statements are spelled.
+ghost use Rattle.std.specs.Prelude.{◌≡◌, drop};
+ghost use Rattle.text_lines.specs.declared.words.Separators.TheVariants.{Spaces};
+ghost use Rattle.text_lines.specs.Words.{first_word, behind_word, number_of, numbers_of, words_of};
+ghost use Rattle.asc_text.specs.inside.Keywords.{spelled_as};
+ghost use Rattle.asc_text.specs.Statements.{begins_with_dot, device_named, device_of_words, extra_bit_of_numbers, name_behind, name_in, no_sleep_of_words, ram_data_of_numbers, range_named, range_of_words, spelled, statement_in, switch_named, symbol_of_parts, tile_of_numbers, warm_boot_of_words};
+
+use crate::reading::keyword::{Keyword, keyword_of};
+use crate::statement::Statement;
+use ice_image::Range;
+use plane_map::{DeviceName, TileKind};
+use text_lines::{Separators, number, one_word, split_word, three_numbers, trimmed, two_numbers};
+
+/// Whether the line begins with a dot.
+pub(crate) fn begins_with_dot(line: &[u8]) -> bool
+    ensures { result ≡ begins_with_dot line.now }
+{
+    matches!(line, [b'.', ..])
+}
+
+/// The statement that the line is: none where it is not a valid one.
+#[tactic(auto, unfolding(crate::specs::Statements::statement_in))]
+pub(crate) fn statement_in(line: &[u8]) -> Option<Statement>
+    ensures { result ≡ statement_in line.now }
+{
+    if !begins_with_dot(line) {
+        return None;
+    }
+    match split_word(Separators::Spaces, trimmed(line)) {
+        None => None,
+        Some((keyword, behind)) => spelled(keyword, behind),
+    }
+}
+
+/// The name that the line gives to a net.
+#[tactic(auto, unfolding(crate::specs::Statements::name_in))]
+pub(crate) fn name_in(line: &[u8]) -> &[u8]
+    ensures { result.now ≡ name_in line.now }
+{
+    after_space(behind_word(behind_word(trimmed(line))))
+}
+
+/// The statement of a keyword and of what stands behind it.
+#[tactic(auto, using(crate::proofs::Spellings::spelled_by_keyword))]
+fn spelled(keyword: &[u8], behind: &[u8]) -> Option<Statement>
+    ensures { result ≡ spelled keyword.now behind.now }
+{
+    match keyword_of(keyword) {
+        None => None,
+        Some(keyword) => spelled_as(keyword, behind),
+    }
+}
+
+/// The statement of a known keyword and of what stands behind it.
+fn spelled_as(keyword: Keyword, behind: &[u8]) -> Option<Statement>
+    ensures { result ≡ spelled_as keyword behind.now }
+{
+    match keyword {
+        Keyword::Comment => Some(Statement::Comment),
+        Keyword::Device => device_of(behind),
+        Keyword::WarmBoot => warm_boot_of(behind),
+        Keyword::FrequencyRange => range_of(behind),
+        Keyword::NoSleep => no_sleep_of(behind),
+        Keyword::Tile(kind) => tile_of(kind, behind),
+        Keyword::RamData => ram_data_of(behind),
+        Keyword::ExtraBit => extra_bit_of(behind),
+        Keyword::Symbol => symbol_of(behind),
+    }
+}
+
+/// `.device` with what stands behind it.
+fn device_of(behind: &[u8]) -> Option<Statement>
+    ensures { result ≡ device_of_words (words_of Spaces behind.now) }
+{
+    match one_word(Separators::Spaces, behind) {
+        None => None,
+        Some(word) => Some(Statement::Device(device_named(word))),
+    }
+}
+
+/// `.warmboot` with what stands behind it.
+fn warm_boot_of(behind: &[u8]) -> Option<Statement>
+    ensures { result ≡ warm_boot_of_words (words_of Spaces behind.now) }
+{
+    match one_word(Separators::Spaces, behind) {
+        None => None,
+        Some(word) => Some(Statement::WarmBoot(switch_named(word))),
+    }
+}
+
+/// `.freqrange` with what stands behind it.
+fn range_of(behind: &[u8]) -> Option<Statement>
+    ensures { result ≡ range_of_words (words_of Spaces behind.now) }
+{
+    match one_word(Separators::Spaces, behind) {
+        None => None,
+        Some(word) => Some(Statement::FrequencyRange(range_named(word))),
+    }
+}
+
+/// `.nosleep` with what stands behind it.
+fn no_sleep_of(behind: &[u8]) -> Option<Statement>
+    ensures { result ≡ no_sleep_of_words (words_of Spaces behind.now) }
+{
+    match one_word(Separators::Spaces, behind) {
+        None => None,
+        Some(word) => Some(Statement::NoSleep(switch_named(word))),
+    }
+}
+
+/// The keyword of a kind of tile with what stands behind it.
+fn tile_of(kind: TileKind, behind: &[u8]) -> Option<Statement>
+    ensures { result ≡ tile_of_numbers kind (numbers_of (words_of Spaces behind.now)) }
+{
+    match two_numbers(Separators::Spaces, behind) {
+        None => None,
+        Some((x, y)) => Some(Statement::Tile { kind, x, y }),
+    }
+}
+
+/// `.ram_data` with what stands behind it.
+fn ram_data_of(behind: &[u8]) -> Option<Statement>
+    ensures { result ≡ ram_data_of_numbers (numbers_of (words_of Spaces behind.now)) }
+{
+    match two_numbers(Separators::Spaces, behind) {
+        None => None,
+        Some((x, y)) => Some(Statement::RamData { x, y }),
+    }
+}
+
+/// `.extra_bit` with what stands behind it.
+fn extra_bit_of(behind: &[u8]) -> Option<Statement>
+    ensures { result ≡ extra_bit_of_numbers (numbers_of (words_of Spaces behind.now)) }
+{
+    match three_numbers(Separators::Spaces, behind) {
+        None => None,
+        Some((bank, x, y)) => Some(Statement::ExtraBit { bank, x, y }),
+    }
+}
+
+/// `.sym` with what stands behind it.
+#[tactic(auto, unfolding(text_lines::specs::Words::number_of))]
+fn symbol_of(behind: &[u8]) -> Option<Statement>
+    ensures { result ≡ symbol_of_parts (number_of (first_word Spaces behind.now)) (name_behind behind.now) }
+{
+    match split_word(Separators::Spaces, behind) {
+        None => None,
+        Some((word, rest)) => named(number(word), after_space(rest)),
+    }
+}
+
+/// The statement of a net's number and of its name.
+fn named(net: Option<u32>, name: &[u8]) -> Option<Statement>
+    ensures { result ≡ symbol_of_parts net name.now }
+{
+    match (net, name) {
+        (Some(net), [_, ..]) => Some(Statement::Symbol { net }),
+        _ => None,
+    }
+}
+
+/// What stands behind one space.
+fn after_space(rest: &[u8]) -> &[u8]
+    ensures { result.now ≡ drop 1 rest.now }
+{
+    match rest {
+        [] => &[],
+        [_, name @ ..] => name,
+    }
+}
+
+/// What stands behind the first word.
+#[tactic(auto, using(text_lines::proofs::Spaced::behind_no_word))]
+fn behind_word(line: &[u8]) -> &[u8]
+    ensures { result.now ≡ behind_word Spaces line.now }
+{
+    match split_word(Separators::Spaces, line) {
+        None => &[],
+        Some((_, behind)) => behind,
+    }
+}
+
+/// The device that a word names.
+fn device_named(word: &[u8]) -> Option<DeviceName>
+    ensures { result ≡ device_named word.now }
+{
+    if word == b"1k".as_slice() {
+        Some(DeviceName::K1)
+    } else if word == b"8k".as_slice() {
+        Some(DeviceName::K8)
+    } else {
+        None
+    }
+}
+
+/// The switch that a word names.
+fn switch_named(word: &[u8]) -> Option<bool>
+    ensures { result ≡ switch_named word.now }
+{
+    if word == b"enabled".as_slice() {
+        Some(true)
+    } else if word == b"disabled".as_slice() {
+        Some(false)
+    } else {
+        None
+    }
+}
+
+/// The range that a word names.
+fn range_named(word: &[u8]) -> Option<Range>
+    ensures { result ≡ range_named word.now }
+{
+    if word == b"low".as_slice() {
+        Some(Range::Low)
+    } else if word == b"medium".as_slice() {
+        Some(Range::Medium)
+    } else if word == b"high".as_slice() {
+        Some(Range::High)
+    } else {
+        None
+    }
+}

@@ -1,0 +1,31 @@
+// A text read line by line.
+ghost use Rattle.std.specs.Prelude.{◌≡◌, None, IfOk, IfErr, OnOk};
+ghost use Rattle.ice_image.specs.Either.{configuration_of};
+ghost use Rattle.asc_text.specs.Faults.{asc_fault_of, Tells};
+ghost use Rattle.asc_text.specs.Meaning.{AscMeans};
+ghost use Rattle.asc_text.specs.Characters.{HasBits};
+
+use crate::fault::AscFault;
+use crate::file::AscFile;
+use crate::reading::reader::Reader;
+use std::alloc::Global;
+use text_lines::first_line;
+
+/// The configuration and the names that a text gives, or its first faulty line.
+pub fn read(alloc: Global, bytes: &[u8]) -> Result<AscFile, AscFault>
+    ensures means { IfOk result (λ file. AscMeans bytes.now (configuration_of file.image) file.symbols.items) }
+    // Each bit is the character, the digit or the statement that stands for it.
+    ensures bits { IfOk result (λ file. HasBits bytes.now (configuration_of file.image)) }
+    ensures accepted { OnOk result (asc_fault_of bytes.now ≡ None) }
+    ensures refused { IfErr result (Tells (asc_fault_of bytes.now)) }
+{
+    let mut reader = Reader::new(alloc)?;
+    let mut left = bytes;
+    let mut count = 0;
+    while let Some(line) = first_line(left) {
+        reader.accept(count + 1, line.content)?;
+        count += 1;
+        left = line.rest;
+    }
+    reader.finish(count + 1)
+}

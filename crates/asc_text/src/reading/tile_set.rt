@@ -1,0 +1,62 @@
+// Which tiles of a grid were named.
+ghost use Rattle.std.specs.Prelude.{◌≡◌, ℕ, ◌+◌, ◌*◌, ◌<◌, ◌==◌, ◌&&◌, ◌||◌, true, false, replicate, set, length, IfOk};
+ghost use Rattle.asc_text.specs.inside.TileSets.{has_tile};
+
+use std::alloc::{AllocError, Global};
+use std::marker::Model;
+
+/// A set of tiles of a grid of 34 by 34. Contracts see a flag for each tile, row of the grid by row of the grid.
+#[derive(Drop)]
+pub(crate) struct TileSet {
+    flags: Vec<bool>,
+}
+
+impl Model for TileSet {
+    ghost use Rattle.std.specs.Prelude.{◌≡◌, List, Bool, length};
+
+    ghost Value = { List Bool };
+
+    ghost view = { λ tiles. tiles.flags.items };
+
+    ghost invariant = { λ tiles. length tiles.flags.items ≡ 1156 };
+}
+
+impl TileSet {
+    /// No tile.
+    pub(crate) fn new(alloc: Global) -> Result<TileSet, AllocError>
+        ensures { IfOk result (λ set. set ≡ replicate 1156 false) }
+    {
+        Ok(TileSet {
+            flags: vec![in alloc; false; 1156]?,
+        })
+    }
+
+    /// Whether the tile is among them.
+    pub(crate) fn has(&self, x: u32, y: u32) -> bool
+        requires column { x < 34 }
+        requires row { y < 34 }
+        ensures { result ≡ has_tile self.now x y }
+    {
+        self.flags[index_of(x, y)]
+    }
+
+    /// Adds the tile.
+    pub(crate) fn insert(&mut self, x: u32, y: u32)
+        requires column { x < 34 }
+        requires row { y < 34 }
+        ensures flags { self.new ≡ set self.old (34 * y + x) true }
+        ensures tiles { (v w : ℕ) → v < 34 → w < 34 → has_tile self.new v w ≡ (has_tile self.old v w || ((v == x) && (w == y))) }
+    {
+        self.flags[index_of(x, y)] = true;
+    }
+}
+
+/// The index of the flag of a tile.
+fn index_of(x: u32, y: u32) -> usize
+    requires column { x < 34 }
+    requires row { y < 34 }
+    ensures place { result ≡ 34 * y + x }
+    ensures inside { result < 1156 }
+{
+    (34 * y + x) as usize
+}

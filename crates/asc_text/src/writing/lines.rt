@@ -1,0 +1,65 @@
+// Lines that are appended to a text, whole or word by word.
+ghost use Rattle.std.specs.Prelude.{◌≡◌, [], ◌∷◌, ◌++◌, OnOk, decimal};
+ghost use Rattle.text_lines.specs.Written.{text_of};
+ghost use Rattle.asc_text.specs.Canonical.{grid_line};
+
+use itoa::Buffer;
+use std::alloc::AllocError;
+
+/// Appends a line.
+#[tactic(auto, unfolding(text_lines::specs::Written::text_of))]
+pub(crate) fn append_line(text: &mut Vec<u8>, line: &[u8]) -> Result<(), AllocError>
+    ensures { OnOk result (text.new.items ≡ text.old.items ++ text_of (line.now ∷ [])) }
+{
+    text.extend_from_slice(line)?;
+    end_line(text)
+}
+
+/// Appends a line of a keyword and a word.
+#[tactic(auto, unfolding(text_lines::specs::Written::text_of))]
+pub(crate) fn append_setting(
+    text: &mut Vec<u8>,
+    keyword: &[u8],
+    word: &[u8],
+) -> Result<(), AllocError>
+    ensures { OnOk result (text.new.items ≡ text.old.items ++ text_of ((keyword.now ++ 32 ∷ word.now) ∷ [])) }
+{
+    text.extend_from_slice(keyword)?;
+    text.push(b' ')?;
+    text.extend_from_slice(word)?;
+    end_line(text)
+}
+
+/// Appends a line of a keyword and a place of the grid.
+#[tactic(auto, unfolding(text_lines::specs::Written::text_of))]
+pub(crate) fn append_grid_line(
+    text: &mut Vec<u8>,
+    keyword: &[u8],
+    x: u8,
+    y: u8,
+) -> Result<(), AllocError>
+    ensures { OnOk result (text.new.items ≡ text.old.items ++ text_of (grid_line keyword.now x y ∷ [])) }
+{
+    text.extend_from_slice(keyword)?;
+    append_number(text, u32::from(x))?;
+    append_number(text, u32::from(y))?;
+    end_line(text)
+}
+
+/// Appends a space and a number.
+pub(crate) fn append_number(text: &mut Vec<u8>, number: u32) -> Result<(), AllocError>
+    ensures { OnOk result (text.new.items ≡ text.old.items ++ 32 ∷ decimal number) }
+{
+    let mut digits = Buffer::new();
+    text.push(b' ')?;
+    text.extend_from_slice(digits.format(number).as_bytes())?;
+    Ok(())
+}
+
+/// Ends a line.
+pub(crate) fn end_line(text: &mut Vec<u8>) -> Result<(), AllocError>
+    ensures { OnOk result (text.new.items ≡ text.old.items ++ 10 ∷ []) }
+{
+    text.push(b'\n')?;
+    Ok(())
+}

@@ -1,0 +1,166 @@
+// The lines of the tiles, and of the contents of the RAMs.
+ghost use Rattle.std.specs.Prelude.{◌≡◌, ◌<◌, [], ◌∷◌, ◌++◌, Some, OnOk};
+ghost use Rattle.place_search.specs.Places.{gathered_below};
+ghost use Rattle.text_lines.specs.Written.{text_of};
+ghost use Rattle.bit_plane.specs.Rows.{row_from};
+ghost use Rattle.hex.specs.Hex.{encode_lower};
+ghost use Rattle.plane_map.specs.Layout.{kind_of, columns_at, grid_width, grid_height};
+ghost use Rattle.ice_image.specs.Configuration.{place_bit};
+ghost use Rattle.ice_image.specs.Contents.{tile_place};
+ghost use Rattle.asc_text.specs.Statements.{tile_keyword as keyword_of};
+ghost use Rattle.asc_text.specs.Canonical.{bit_character as character_of, all_tile_lines, lines_of_tile_at, tile_lines, row_line, ram_lines, memory_line, two_bytes};
+
+use crate::writing::lines::{append_grid_line, end_line};
+use ice_image::Image;
+use plane_map::{Device, TileBit, TileKind, kind_at, tile_width};
+use std::alloc::AllocError;
+
+/// Appends all tiles, row of the grid by row of the grid.
+#[tactic(auto, using(crate::proofs::Pieces::joined), unfolding(place_search::specs::Places::gathered_below))]
+pub(crate) fn append_tiles<D: Device>(
+    text: &mut Vec<u8>,
+    image: &Image<D>,
+) -> Result<(), AllocError>
+    requires { image.now.device ≡ D.NAME }
+    ensures { OnOk result (text.new.items ≡ text.old.items ++ text_of (all_tile_lines image.now)) }
+{
+    for y in 0..D::GRID_H {
+        append_grid_row(text, image, y as u8)?;
+    }
+    Ok(())
+}
+
+/// Appends the tiles of a row of the grid.
+#[tactic(auto, using(crate::proofs::Pieces::joined), unfolding(place_search::specs::Places::gathered_below))]
+fn append_grid_row<D: Device>(text: &mut Vec<u8>, image: &Image<D>, y: u8) -> Result<(), AllocError>
+    requires { image.now.device ≡ D.NAME }
+    ensures { OnOk result (text.new.items ≡ text.old.items ++ text_of (gathered_below (grid_width image.now.device) (λ x. lines_of_tile_at image.now x y (kind_of image.now.device x y)))) }
+{
+    for x in 0..D::GRID_W {
+        append_place(text, image, x as u8, y)?;
+    }
+    Ok(())
+}
+
+/// Appends the tile at a place of the grid, and behind a lower tile its RAM's contents.
+fn append_place<D: Device>(
+    text: &mut Vec<u8>,
+    image: &Image<D>,
+    x: u8,
+    y: u8,
+) -> Result<(), AllocError>
+    requires { image.now.device ≡ D.NAME }
+    ensures { OnOk result (text.new.items ≡ text.old.items ++ text_of (lines_of_tile_at image.now x y (kind_of image.now.device x y))) }
+{
+    match kind_at::<D>(u32::from(x), u32::from(y)) {
+        None => Ok(()),
+        Some(TileKind::RamB) => {
+            append_tile(text, image, TileKind::RamB, x, y)?;
+            append_ram(text, image, x, y)
+        }
+        Some(kind) => append_tile(text, image, kind, x, y),
+    }
+}
+
+/// The keyword of a tile's statement.
+fn tile_keyword(kind: TileKind) -> &'static [u8]
+    ensures { result.now ≡ keyword_of kind }
+{
+    match kind {
+        TileKind::Io => b".io_tile",
+        TileKind::Logic => b".logic_tile",
+        TileKind::RamB => b".ramb_tile",
+        TileKind::RamT => b".ramt_tile",
+    }
+}
+
+/// Appends a tile's statement and its sixteen rows.
+fn append_tile<D: Device>(
+    text: &mut Vec<u8>,
+    image: &Image<D>,
+    kind: TileKind,
+    x: u8,
+    y: u8,
+) -> Result<(), AllocError>
+    requires { kind_of D.NAME x y ≡ Some kind }
+    ensures { OnOk result (text.new.items ≡ text.old.items ++ text_of (tile_lines D.NAME image.now.cram x y kind)) }
+{
+    append_grid_line(text, tile_keyword(kind), x, y)?;
+    let width = tile_width(kind) as u8;
+    for row in 0..16 {
+        append_row(text, image, x, y, row, width)?;
+    }
+    Ok(())
+}
+
+/// Appends a row of a tile, column 0 first.
+fn append_row<D: Device>(
+    text: &mut Vec<u8>,
+    image: &Image<D>,
+    x: u8,
+    y: u8,
+    row: u8,
+    width: u8,
+) -> Result<(), AllocError>
+    requires row { row < 16 }
+    requires width { columns_at D.NAME x y ≡ width }
+    ensures { OnOk result (text.new.items ≡ text.old.items ++ text_of (row_line (row_from width (λ col. place_bit image.now.cram (tile_place D.NAME x y row col))) ∷ [])) }
+{
+    for col in 0..width {
+        text.push(bit_character(image.tile_bit(TileBit { x, y, row, col })))?;
+    }
+    end_line(text)
+}
+
+/// The character of a bit.
+fn bit_character(bit: bool) -> u8
+    ensures { result ≡ character_of bit }
+{
+    if bit { b'1' } else { b'0' }
+}
+
+/// Appends the contents of the RAM whose lower tile is at a place.
+#[tactic(auto, using(crate::proofs::Pieces::joined), unfolding(place_search::specs::Places::gathered_below))]
+fn append_ram<D: Device>(
+    text: &mut Vec<u8>,
+    image: &Image<D>,
+    x: u8,
+    y: u8,
+) -> Result<(), AllocError>
+    requires { kind_of D.NAME x y ≡ Some TileKind.RamB }
+    ensures { OnOk result (text.new.items ≡ text.old.items ++ text_of (ram_lines D.NAME image.now.bram x y)) }
+{
+    append_grid_line(text, b".ram_data", x, y)?;
+    for row in 0..16 {
+        append_memory_line(text, image, x, y, row)?;
+    }
+    Ok(())
+}
+
+/// Appends sixteen words of a RAM, the first of them at the right.
+fn append_memory_line<D: Device>(
+    text: &mut Vec<u8>,
+    image: &Image<D>,
+    x: u8,
+    y: u8,
+    row: u8,
+) -> Result<(), AllocError>
+    requires row { row < 16 }
+    requires lower { kind_of D.NAME x y ≡ Some TileKind.RamB }
+    ensures { OnOk result (text.new.items ≡ text.old.items ++ text_of (memory_line D.NAME image.now.bram x y row ∷ [])) }
+{
+    for place in 0..16 {
+        append_digits(text, image.ram_word(x, y, 16 * row + 15 - place))?;
+    }
+    end_line(text)
+}
+
+/// Appends the four hexadecimal digits of a word, the highest first.
+fn append_digits(text: &mut Vec<u8>, word: u16) -> Result<(), AllocError>
+    ensures { OnOk result (text.new.items ≡ text.old.items ++ encode_lower (two_bytes word)) }
+{
+    let mut digits = [0; 4];
+    hex::encode_to_slice(word.to_be_bytes(), &mut digits).unwrap();
+    text.extend_from_slice(&digits)?;
+    Ok(())
+}

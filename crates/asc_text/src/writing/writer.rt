@@ -1,0 +1,120 @@
+// The canonical text of an image.
+ghost use Rattle.std.specs.Prelude.{◌≡◌, ◌≤◌, ◌^◌, [], ◌∷◌, ◌++◌, IfOk, IfSome, OnOk, All, option_copied};
+ghost use Rattle.text_lines.specs.Written.{text_of};
+ghost use Rattle.ice_image.specs.Either.{configuration_of};
+ghost use Rattle.ice_image.specs.CommentLines.{IsCommentLine};
+ghost use Rattle.asc_text.specs.Statements.{device_word, device_keyword, comment_keyword};
+ghost use Rattle.asc_text.specs.Canonical.{asc_text_of, comment_lines, with_word, warm_boot_lines, range_lines, no_sleep_lines};
+ghost use Rattle.asc_text.specs.Meaning.{AscMeans};
+
+use crate::writing::extras::append_extra_bits;
+use crate::writing::lines::{append_line, append_setting};
+use crate::writing::tiles::append_tiles;
+use ice_image::{AnyImage, Comment, Image, Range};
+use plane_map::{Device, DeviceName};
+use std::alloc::{AllocError, Global};
+
+/// The canonical text of an image; `read` gives that image back, and no names.
+pub fn write(alloc: Global, image: &AnyImage) -> Result<Vec<u8>, AllocError>
+    ensures text { IfOk result (λ text. text.items ≡ asc_text_of (configuration_of image.now)) }
+    ensures means { IfOk result (λ text. AscMeans text.items (configuration_of image.now) []) }
+{
+    match image {
+        AnyImage::K1(image) => text_of_image(alloc, image),
+        AnyImage::K8(image) => text_of_image(alloc, image),
+    }
+}
+
+/// The canonical text of an image of a device.
+fn text_of_image<D: Device>(alloc: Global, image: &Image<D>) -> Result<Vec<u8>, AllocError>
+    ensures text { IfOk result (λ text. text.items ≡ asc_text_of image.now) }
+    ensures means { IfOk result (λ text. AscMeans text.items image.now []) }
+{
+    let device = image.device();
+    let mut text = Vec::with_capacity(alloc, usual_len(device))?;
+    let settings = image.settings();
+    append_comment(&mut text, image.comment())?;
+    append_device(&mut text, device)?;
+    append_warm_boot(&mut text, settings.warm_boot)?;
+    append_range(&mut text, settings.range)?;
+    append_no_sleep(&mut text, settings.no_sleep)?;
+    append_tiles(&mut text, image)?;
+    append_extra_bits(&mut text, image, alloc)?;
+    Ok(text)
+}
+
+/// Room enough for a text with a short comment and few extra bits.
+fn usual_len(device: DeviceName) -> usize
+    ensures { result ≤ 2 ^ 20 }
+{
+    match device {
+        DeviceName::K1 => 1 << 18,
+        DeviceName::K8 => 1 << 20,
+    }
+}
+
+/// Appends the comment, where there is one.
+fn append_comment<'a>(text: &mut Vec<u8>, comment: Option<&'a Comment>) -> Result<(), AllocError>
+    ensures text { OnOk result (text.new.items ≡ text.old.items ++ text_of (comment_lines (option_copied comment.entry))) }
+    ensures lines { OnOk result (IfSome (option_copied comment.entry) (All IsCommentLine)) }
+{
+    match comment {
+        None => Ok(()),
+        Some(comment) => append_comment_lines(text, comment),
+    }
+}
+
+/// Appends a comment.
+fn append_comment_lines(text: &mut Vec<u8>, comment: &Comment) -> Result<(), AllocError>
+    ensures text { OnOk result (text.new.items ≡ text.old.items ++ text_of (comment_keyword ∷ comment.now)) }
+    ensures lines { OnOk result (All IsCommentLine comment.now) }
+{
+    append_line(text, b".comment")?;
+    for place in 0..comment.len() {
+        append_line(text, comment.line(place))?;
+    }
+    Ok(())
+}
+
+/// Appends the device.
+fn append_device(text: &mut Vec<u8>, device: DeviceName) -> Result<(), AllocError>
+    ensures { OnOk result (text.new.items ≡ text.old.items ++ text_of (with_word device_keyword (device_word device) ∷ [])) }
+{
+    match device {
+        DeviceName::K1 => append_setting(text, b".device", b"1k"),
+        DeviceName::K8 => append_setting(text, b".device", b"8k"),
+    }
+}
+
+/// Appends warm boot, where it is disabled.
+fn append_warm_boot(text: &mut Vec<u8>, warm_boot: bool) -> Result<(), AllocError>
+    ensures { OnOk result (text.new.items ≡ text.old.items ++ text_of (warm_boot_lines warm_boot)) }
+{
+    if warm_boot {
+        Ok(())
+    } else {
+        append_setting(text, b".warmboot", b"disabled")
+    }
+}
+
+/// Appends the range, where it isn't low.
+fn append_range(text: &mut Vec<u8>, range: Range) -> Result<(), AllocError>
+    ensures { OnOk result (text.new.items ≡ text.old.items ++ text_of (range_lines range)) }
+{
+    match range {
+        Range::Low => Ok(()),
+        Range::Medium => append_setting(text, b".freqrange", b"medium"),
+        Range::High => append_setting(text, b".freqrange", b"high"),
+    }
+}
+
+/// Appends no sleep, where it is enabled.
+fn append_no_sleep(text: &mut Vec<u8>, no_sleep: bool) -> Result<(), AllocError>
+    ensures { OnOk result (text.new.items ≡ text.old.items ++ text_of (no_sleep_lines no_sleep)) }
+{
+    if no_sleep {
+        append_setting(text, b".nosleep", b"enabled")
+    } else {
+        Ok(())
+    }
+}

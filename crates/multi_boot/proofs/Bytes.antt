@@ -1,14 +1,15 @@
 -- What the bytes of a boot file are, one image after the other.
-use Rattle.std.proofs.Common.{◌≡◌, ℕ, zero, suc, ◌+◌, ◌-◌, ◌/◌, ◌%◌, ◌==◌, ◌<◌, ◌≤◌, Bool, true, false, ◌&&◌, List, [], ◌∷◌, ◌++◌, length, get_or, take, replicate, refl, sym, ap, ◌∙◌, subst, inl, inr, arith, length-append}
+use Rattle.std.proofs.Common.{◌≡◌, ℕ, zero, suc, ◌+◌, ◌-◌, ◌*◌, ◌/◌, ◌%◌, ◌==◌, ◌<◌, ◌≤◌, Bool, true, false, ◌&&◌, List, [], ◌∷◌, ◌++◌, length, get_or, take, replicate, refl, sym, ap, ◌∙◌, subst, inl, inr, arith, length-append}
 use Rattle.std.proofs.Math.Bool.{and-false}
-use Rattle.std.specs.Prelude.{Option, Some, None, find, map, nat_lt, nat_le, if◌then◌else◌}
+use Rattle.std.specs.Prelude.{Option, Some, None, Vec, find, map, nat_lt, nat_le, if◌then◌else◌}
+use Rattle.std.specs.declared.alloc.Global.{Global}
 use Rattle.std.specs.List.{range_with_len}
 use Rattle.std.proofs.lemmas.Bool.{cases_lt, lt-ltb, le-ltb, le-leb, lt-leb, and_from}
-use Rattle.std.proofs.lemmas.List.{get_or_append_left, get_or-append_right, get_or-replicate, take_all, length-replicate}
+use Rattle.std.proofs.lemmas.List.{get_or_append_left, get_or-append_right, get_or-map, get_or-replicate, length-map, take_all, length-replicate}
 use Rattle.std.proofs.lemmas.Bool.Decides.{nat_tests}
 use Rattle.std.proofs.lemmas.List.FromFn.{fill_by_all}
 use Rattle.multi_boot.specs.declared.options.Options.{Options}
-use Rattle.multi_boot.specs.BootFile.{HasBytes, boot_byte, boot_file, image_at, image_byte, lies_in, place_of, end_of, start_of, boot_length, header, header_byte, image_booted}
+use Rattle.multi_boot.specs.BootFile.{HasBytes, boot_byte, boot_file, image_at, image_byte, lies_in, place_of, end_of, start_of, boot_length, bytes_of, header, header_at, header_byte, image_booted}
 use Rattle.multi_boot.proofs.Found.{find-none, find-first}
 use Rattle.multi_boot.proofs.Order.{place-start, place-later, place-rises, start-first}
 
@@ -67,7 +68,7 @@ HasBytes-append : (byte : ℕ → ℕ) (size more_size : ℕ) (file more : List 
 HasBytes-append byte size more_size file more has e follows = record {
   size_is = omega (arith, length-append file more, has.size_is);
   bytes_are = λ offset within. elim (cases_lt offset size) [
-    inl less ↦ get_or_append_left file more offset 0 (omega (arith, has.size_is)) ∙ has.bytes_are offset less
+    inl less ↦ get_or_append_left file more 0 offset (omega (arith, has.size_is)) ∙ has.bytes_are offset less
     | inr over ↦
       let here : size + (offset - size) ≡ offset = omega arith in
       get_or-append_right file more offset 0 (omega (arith, has.size_is)) ∙ subst (λ n. get_or more (offset - n) 0 ≡ byte offset) (sym has.size_is)
@@ -83,9 +84,9 @@ HasBytes-gap images options index place file e has =
     let above : start_of images options index ≤ place = omega (arith, place-start images options index) in
     let whole : take place file ≡ file = take_all place file (omega (arith, has.size_is)) in
     rw whole (HasBytes-append (boot_byte images options) (start_of images options index) place file (replicate (place - length file) 255) has
-    (omega (arith, length-replicate (place - length file) 255, has.size_is))
+    (omega (arith, length-replicate {A = ℕ} (place - length file) 255, has.size_is))
     (λ k within.
-      let few : k < place - length file = omega (arith, length-replicate (place - length file) 255) in
+      let few : k < place - length file = omega (arith, length-replicate {A = ℕ} (place - length file) 255) in
       get_or-replicate (place - length file) k 255 0 few
       ∙ sym (boot_byte-gap images options (start_of images options index + k) index (omega arith) (omega (arith, has.size_is)))))
 
@@ -123,3 +124,33 @@ pub boot_file-is : (images : List (List ℕ)) (options : Options) (file : List �
     → file ≡ boot_file images options
 unfolding boot_file
 boot_file-is images options file has = fill_by_all (boot_byte images options) file (boot_length images options) 0 has.size_is has.bytes_are
+
+-- ---- the headers
+
+-- no bytes
+pub HasBytes-none : (byte : ℕ → ℕ) → HasBytes byte 0 []
+HasBytes-none byte = record { size_is = refl; bytes_are = λ offset within. absurd (omega arith) }
+
+-- one header more
+pub HasBytes-header : (count : ℕ) (place : ℕ → ℕ) (options : Options) (index : ℕ) (file more : List ℕ)
+    → HasBytes (header_byte count place options) (32 * index) file → more ≡ header_at count place options index
+    → HasBytes (header_byte count place options) (32 * (index + 1)) (file ++ more)
+HasBytes-header count place options index file more has is =
+    let size : length more ≡ 32 = ap length is in
+    HasBytes-append (header_byte count place options) (32 * index) (32 * (index + 1)) file more has (omega arith)
+    (λ k few.
+      let row : (32 * index + k) / 32 ≡ index = omega arith in
+      let column : (32 * index + k) % 32 ≡ k = omega arith in
+      rw (row, column) (ap (λ bytes. get_or bytes k 0) is))
+
+-- ---- the images
+
+-- the bytes of an image that is given
+pub image_at-is : (images : Vec (Vec ℕ Global) Global) (index : ℕ) (image : Vec ℕ Global) → index < length images.items → image ≡ get_or images.items index image
+    → image_at (bytes_of images) index ≡ image.items
+image_at-is images index image within is =
+    get_or-map (λ (vec : Vec ℕ Global). vec.items) images.items index image [] within ∙ sym (ap (λ (vec : Vec ℕ Global). vec.items) is)
+
+-- how many images there are
+pub length-bytes_of : (images : Vec (Vec ℕ Global) Global) → length (bytes_of images) ≡ length images.items
+length-bytes_of images = length-map images.items (λ (vec : Vec ℕ Global). vec.items)

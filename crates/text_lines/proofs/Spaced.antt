@@ -8,7 +8,7 @@ use Rattle.std.specs.Prelude.{Some, None, All, position}
 use Rattle.std.specs.List.{position_or_len}
 use Rattle.text_lines.specs.Lines.{with_byte}
 use Rattle.text_lines.specs.declared.words.Separators.{Separators}
-use Rattle.text_lines.specs.declared.words.Separators.TheVariants.{Spaces, SpacesAndTabs}
+use Rattle.text_lines.specs.declared.words.Separators.TheVariants.{Spaces, SpacesAndTabs, Whitespace}
 use Rattle.text_lines.specs.Words.{is_separator, pieces_of, words_of, from_word, first_word, behind_word}
 use Rattle.text_lines.proofs.Cuts.{end-within, fail_before, cut_at, passes_at_end, position_or_len-none}
 
@@ -29,11 +29,14 @@ end_of s line = position_or_len (is_separator s) line
 high-inner : (s : Separators) (byte : ℕ) → 32 < byte → is_separator s byte ≡ false
 high-inner Spaces byte high = ne_eqb byte 32 (λ same. omega arith)
 high-inner SpacesAndTabs byte high = rw (ne_eqb byte 32 (λ same. omega arith), ne_eqb byte 9 (λ same. omega arith)) refl
+high-inner Whitespace byte high =
+    rw (ne_eqb byte 32 (λ same. omega arith), ne_eqb byte 9 (λ same. omega arith), ne_eqb byte 13 (λ same. omega arith)) refl
 
 -- a space is one
 pub space-parts : (s : Separators) → is_separator s 32 ≡ true
 space-parts Spaces = refl
 space-parts SpacesAndTabs = refl
+space-parts Whitespace = refl
 
 -- bytes above the space are a word
 pub IsWord-high : (s : Separators) (word : List ℕ) → 0 < length word → All (λ byte. 32 < byte) word → IsWord s word

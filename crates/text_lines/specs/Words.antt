@@ -1,15 +1,16 @@
 -- Words and decimal numbers.
-use Rattle.std.specs.Prelude.{ℕ, ◌+◌, ◌-◌, ◌*◌, Bool, not, ◌&&◌, List, [], ◌∷◌, length, fold, filter, take_while, drop, nat_lt, nat_le, ◌==◌, if◌then◌else◌, Option, Some, None}
+use Rattle.std.specs.Prelude.{ℕ, ◌+◌, ◌-◌, ◌*◌, Bool, not, ◌&&◌, ◌||◌, List, [], ◌∷◌, length, fold, filter, take_while, drop, nat_lt, nat_le, ◌==◌, if◌then◌else◌, Option, Some, None}
 use Rattle.std.specs.List.{list_all}
 use Rattle.std.specs.Char.{is_ascii_digit}
 use Rattle.text_lines.specs.declared.words.Separators.{Separators}
-use Rattle.text_lines.specs.declared.words.Separators.TheVariants.{Spaces, SpacesAndTabs}
+use Rattle.text_lines.specs.declared.words.Separators.TheVariants.{Spaces, SpacesAndTabs, Whitespace}
 use Rattle.text_lines.specs.Lines.{with_byte, is_blank}
 
--- whether a byte parts words: a space does, and a tab where it is to
+-- whether a byte parts words: a space does, and a tab and a CR where they are to
 abbrev pub is_separator : Separators → ℕ → Bool
 is_separator Spaces byte = byte == 32
 is_separator SpacesAndTabs byte = is_blank byte
+is_separator Whitespace byte = is_blank byte || (byte == 13)
 
 -- the pieces between single separators; two separators in a row have an empty piece between them
 unfoldable pub pieces_of : Separators → List ℕ → List (List ℕ)

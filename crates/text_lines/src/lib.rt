@@ -1,7 +1,7 @@
 //! Lines, words and decimal numbers of a text in bytes.
 //!
 //! A line ends with LF, the last one perhaps with the end of the text; a CR just before LF belongs to the end, and any
-//! other CR is a byte of its line. Spaces part words, and tabs too where the caller asks for it. A number is one to nine
+//! other CR is a byte of its line. Spaces part words, and tabs and CRs too where the caller asks for it. A number is one to nine
 //! decimal digits. Nothing here takes memory: lines and words are parts of the text itself.
 #![tactic(auto)]
 

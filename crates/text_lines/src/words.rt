@@ -13,6 +13,8 @@ pub enum Separators {
     Spaces,
     /// Spaces and tabs.
     SpacesAndTabs,
+    /// Spaces, tabs and CR.
+    Whitespace,
 }
 
 impl Separators {
@@ -23,6 +25,7 @@ impl Separators {
         match self {
             Separators::Spaces => byte == b' ',
             Separators::SpacesAndTabs => is_blank(byte),
+            Separators::Whitespace => is_blank(byte) || byte == b'\r',
         }
     }
 }

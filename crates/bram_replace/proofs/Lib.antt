@@ -1,0 +1,12 @@
+pub mod Searches
+pub mod Made
+pub mod Same
+pub mod Packing
+pub mod HexWords
+pub mod HexLines
+pub mod Memory
+pub mod Repeats
+pub mod Rows
+pub mod Statements
+pub mod Rams
+pub mod Steps

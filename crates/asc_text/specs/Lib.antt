@@ -1,3 +1,4 @@
+pub mod Terms
 pub mod Statements
 pub mod Rows
 pub mod Blocks

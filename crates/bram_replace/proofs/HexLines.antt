@@ -14,17 +14,16 @@ use Rattle.bram_replace.specs.Collected.{Holds}
 
 -- ---- lengths
 
-first_length : List (List ℕ) → ℕ
+abbrev first_length : List (List ℕ) → ℕ
 first_length [] = 0
 first_length (line ∷ lines) = length line
 
 first_length-more : (byte : ℕ) (lines : List (List ℕ)) → first_length (with_byte byte lines) ≡ suc (first_length lines)
-unfolding first_length
 first_length-more byte [] = refl
 first_length-more byte (line ∷ lines) = refl
 
 content-first : (text : List ℕ) → first_length (lines_of text) ≤ first_length (whole_lines_of text)
-unfolding lines_of whole_lines_of first_length
+unfolding lines_of whole_lines_of
 content-first [] = omega arith
 content-first (byte ∷ bytes) =
     let later = content-first bytes in
@@ -38,9 +37,8 @@ content-first (byte ∷ bytes) =
 
 -- a line without its end is no longer than with it
 pub content-within : (text content whole : List ℕ) (lines wholes : List (List ℕ)) → lines_of text ≡ content ∷ lines → whole_lines_of text ≡ whole ∷ wholes → length content ≤ length whole
-unfolding first_length
 content-within text content whole lines wholes is are =
-    let both : first_length (content ∷ lines) ≤ first_length (whole ∷ wholes) = rw (← is, ← are) (content-first text) in both
+    subst (λ ws. length content ≤ first_length ws) are (subst (λ ls. first_length ls ≤ first_length (whole_lines_of text)) is (content-first text))
 
 before_comment-few : (line : List ℕ) → length (before_comment line) ≤ length line
 unfolding before_comment

@@ -1,5 +1,5 @@
 -- Words of hexadecimal digits, one after the other.
-use Rattle.std.proofs.Common.{◌≡◌, ◌≢◌, ℕ, zero, suc, ◌+◌, ◌-◌, ◌*◌, ◌<◌, ◌≤◌, Bool, true, false, not, ◌&&◌, ◌||◌, ◌==◌, cond, List, [], ◌∷◌, ◌++◌, length, get_or, take, drop, refl, sym, ap, ap₂, ◌∙◌, subst, inl, inr, arith, append-nil, append_assoc, length-append, add-one}
+use Rattle.std.proofs.Common.{◌≡◌, ◌≢◌, ℕ, zero, suc, ◌+◌, ◌-◌, ◌*◌, ◌<◌, ◌≤◌, Bool, true, false, not, ◌&&◌, ◌||◌, ◌==◌, cond, List, [], ◌∷◌, ◌++◌, length, get_or, take, drop, refl, sym, ap, ap₂, ◌∙◌, subst, inl, inr, arith, take_while, append-nil, append_assoc, length-append, length-drop, add-one}
 use Rattle.std.specs.Prelude.{Option, Some, None, Result, Ok, Err, filter, flat_map, reverse, nat_lt, nat_le, unwrap_or, is_some, if◌then◌else◌, OnOk, IfErr}
 use Rattle.std.specs.List.{list_all, list_any}
 use Rattle.std.proofs.lemmas.Bool.{cases_lt, cases_Bool, and_parts, false≢true, eqb-true, ltb-false, lt-ltb, le-ltb, lt-leb, le-leb, or_right}
@@ -10,12 +10,13 @@ use Rattle.std.proofs.lemmas.List.Folds.{list_any-append, list_all-append}
 use Rattle.std.proofs.lemmas.Grind.{flat_map-append}
 use Rattle.std.specs.Option.{option_map_or}
 use Rattle.hex.specs.Hex.{is_hex_digit, hex_digit_value}
-use Rattle.text_lines.specs.Words.{words_of}
+use Rattle.text_lines.specs.Words.{words_of, first_word, behind_word, from_word, is_separator}
+use Rattle.text_lines.proofs.Spaced.{length-from_word}
 use Rattle.text_lines.specs.declared.words.Separators.TheVariants.{Whitespace}
 use Rattle.bram_replace.specs.declared.fault.HexFault.{HexFault}
 use Rattle.bram_replace.specs.declared.fault.HexFault.TheVariants.{Digit, Width, Depth, Memory}
 use Rattle.bram_replace.specs.HexText.{before_comment, begins_comment, bits_in, byte_bits, digit_bits, digits_in, digits_set, is_misfit, is_word, words_cause, TellsHex}
-use Rattle.bram_replace.specs.Collected.{Holds, digits_known}
+use Rattle.bram_replace.specs.Collected.{Holds, IsWidth, digits_known}
 
 -- ---- up to a comment
 
@@ -26,7 +27,8 @@ before_comment-more line i within apart is =
     let cut = drop_more line i 0 within in
     let apart_cut : begins_comment (get_or line i 0 ∷ drop (i + 1) line) ≡ false = subst (λ xs. begins_comment xs ≡ false) cut apart in
     let here : before_comment (drop i line) ≡ get_or line i 0 ∷ before_comment (drop (i + 1) line) = ap before_comment cut ∙ rw apart_cut refl in
-    is ∙ ap (λ xs. take i line ++ xs) here ∙ sym (rw take_more line i 0 within (append_assoc (take i line) (get_or line i 0 ∷ []) (before_comment (drop (i + 1) line))))
+    is ∙ ap (λ xs. take i line ++ xs) here ∙ sym (append_assoc (take i line) (get_or line i 0 ∷ []) (before_comment (drop (i + 1) line)))
+    ∙ ap (λ xs. xs ++ before_comment (drop (i + 1) line)) (sym (take_more line i 0 within))
 
 pub before_comment-here : (line : List ℕ) (i : ℕ) → i < length line → begins_comment (drop i line) ≡ true
     → before_comment line ≡ take i line ++ before_comment (drop i line) → take i line ≡ before_comment line
@@ -102,19 +104,24 @@ bits_in-more word i some within =
     let cut : drop (i - 1) word ≡ get_or word (i - 1) 0 ∷ drop i word = subst (λ n. drop (i - 1) word ≡ get_or word (i - 1) 0 ∷ drop n word) next (drop_more word (i - 1) 0 (omega arith)) in
     ap (λ xs. flat_map byte_bits (reverse xs)) cut ∙ flat_map-turned (get_or word (i - 1) 0) (drop i word)
 
+-- from the first byte on these are all
+pub bits_in-all : (word : List ℕ) (i : ℕ) → i ≡ 0 → flat_map byte_bits (reverse (drop i word)) ≡ bits_in word
+unfolding bits_in
+bits_in-all word i first = rw first refl
+
 -- ---- a word more
 
 digits_set-more : (words : List (List ℕ)) (word : List ℕ) (others : List (List ℕ)) → digits_set (words ++ word ∷ others) ≡ digits_set (words ++ word ∷ [])
 digits_set-more [] word others = refl
 digits_set-more (first ∷ words) word others = refl
 
-or_parts : (a b : Bool) → (a || b) ≡ false → (a ≡ false) × (b ≡ false)
-or_parts true b no = absurd (false≢true (sym no))
-or_parts false b no = (refl, no)
+pub or_parts : (a b : Bool) → (a || b) ≡ false → (a ≡ false) × (b ≡ false)
+or_parts true b never = absurd (false≢true (sym never))
+or_parts false b never = (refl, never)
 
 not_false : (a : Bool) → not a ≡ false → a ≡ true
-not_false true no = refl
-not_false false no = absurd (false≢true (sym no))
+not_false true never = refl
+not_false false never = absurd (false≢true (sym never))
 
 -- a word that fits has as many digits as the others
 pub misfit-parts : (digits : ℕ) (word : List ℕ) → is_misfit digits word ≡ false → (length (digits_in word) ≡ digits) × (length (digits_in word) ≤ 64)
@@ -136,8 +143,7 @@ Holds-more words word digits bits new holds some fits is = record {
   digits_are = Holds-digits words word fits;
   bits_are = is ∙ ap (λ xs. xs ++ bits_in word) holds.bits_are ∙ sym (flat_map-append bits_in words (word ∷ []) ∙ ap (λ xs. flat_map bits_in words ++ xs) (append-nil (bits_in word)));
   fit = Holds-fit words word holds.fit fits;
-  range = λ count e. let same : length (digits_in word) ≡ count = cc in
-      (omega arith, omega (arith, (misfit-parts (digits_set (words ++ word ∷ [])) word fits).1));
+  range = (some, (misfit-parts (digits_set (words ++ word ∷ [])) word fits).1);
 }
 
 -- ---- whether a word fits, as it is tested
@@ -148,7 +154,7 @@ digits_set-known (first ∷ words) word = refl
 
 misfit-test : (digits set : ℕ) → (not (digits == set) || nat_lt 64 digits) ≡ not (nat_le digits 64 && (digits == set))
 misfit-test digits set = elim (cases_lt 64 digits) [
-      | inl more ↦ rw (lt-ltb 64 digits more, lt-leb 64 digits more) (or-true (not (digits == set)))
+      | inl more ↦ rw (lt-ltb 64 digits more, lt-leb digits 64 more) (or-true (not (digits == set)))
       | inr few ↦ rw (le-ltb 64 digits few, le-leb digits 64 few) (or-false (not (digits == set)))
     ]
 
@@ -231,3 +237,32 @@ Went-refused words all rest more word digits bits number told went e good refuse
     tells-width (is_misfit (digits_set ((words ++ went.front) ++ word ∷ [])) word) number (words_cause (digits_set (words ++ all)) all number) told
     (refused (words ++ went.front) went.holds)
     (cause-width words all more word number went.front (went.cut ∙ ap (λ ws. went.front ++ ws) e) good)
+
+-- no words
+pub Holds-none : (digits : Option ℕ) (bits : List Bool) → digits ≡ None → bits ≡ [] → Holds [] digits bits
+Holds-none digits bits none empty = record {
+  digits_are = none;
+  bits_are = empty;
+  fit = refl;
+  range = subst IsWidth (sym none) tt;
+}
+
+-- the first word of a line, and the others
+pub first-written : (all more : List (List ℕ)) (word : List ℕ) → all ≡ word ∷ more → list_all is_word all ≡ true → is_word word ≡ true
+first-written all more word e good = (and_parts (is_word word) (list_all is_word more) (ap (list_all is_word) (sym e) ∙ good)).0
+
+pub rest-written : (all more : List (List ℕ)) (word : List ℕ) → all ≡ word ∷ more → list_all is_word all ≡ true → list_all is_word more ≡ true
+rest-written all more word e good = (and_parts (is_word word) (list_all is_word more) (ap (list_all is_word) (sym e) ∙ good)).1
+
+take_while-few : (test : ℕ → Bool) (bytes : List ℕ) → length (take_while test bytes) ≤ length bytes
+take_while-few test [] = omega arith
+take_while-few test (byte ∷ bytes) = elim (test byte) as (λ yes. length (cond yes (byte ∷ take_while test bytes) []) ≤ suc (length bytes)) [
+      | true ↦ omega (arith, take_while-few test bytes)
+      | false ↦ omega arith
+    ]
+
+-- a word and what stands behind it are no longer than the line
+pub word-room : (line word behind : List ℕ) → word ≡ first_word Whitespace line → behind ≡ behind_word Whitespace line → length word + length behind ≤ length line
+word-room line word behind is rest =
+    let start = from_word Whitespace line in
+    omega (arith, ap length is, ap length rest, length-drop (length (first_word Whitespace line)) start, take_while-few (λ byte. not (is_separator Whitespace byte)) start, length-from_word Whitespace line)

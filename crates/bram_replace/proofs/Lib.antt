@@ -9,4 +9,5 @@ pub mod Repeats
 pub mod Rows
 pub mod Statements
 pub mod Rams
+pub mod Putting
 pub mod Steps

@@ -12,14 +12,10 @@ use Rattle.bram_replace.specs.HexText.{Contents, bits_in, digits_in, digits_set,
 use Rattle.bram_replace.specs.Collected.{Holds, IsMemory, digits_known, memory_of}
 use Rattle.bram_replace.specs.Columns.{bit_in, column_bit, column_count, width_of}
 use Rattle.bram_replace.specs.Packed.{packed}
-use Rattle.bram_replace.proofs.HexWords.{length-bits_in, misfit-parts}
+use Rattle.bram_replace.proofs.HexWords.{length-bits_in, misfit-parts, or_parts}
 use Rattle.bram_replace.proofs.Packing.{packed-same}
 
 -- ---- what words leave
-
-or_parts : (a b : Bool) → (if a then true else b) ≡ false → (a ≡ false) × (b ≡ false)
-or_parts true b no = absurd (false≢true (sym no))
-or_parts false b no = (refl, no)
 
 -- words of that many digits each
 length-words : (digits : ℕ) (words : List (List ℕ)) → list_any (is_misfit digits) words ≡ false → length (flat_map bits_in words) ≡ 4 * digits * length words
@@ -50,7 +46,7 @@ pub words-count : (words : List (List ℕ)) (count : ℕ) (bits : List Bool) →
 words-count words count bits holds =
     let set = known-set words count holds.digits_are in
     let fit : list_any (is_misfit count) words ≡ false = subst (λ n. list_any (is_misfit n) words ≡ false) set holds.fit in
-    let some : 0 < 4 * count = omega (arith, (holds.range count refl).0) in
+    let some : 0 < 4 * count = omega (arith, holds.range.0) in
     ap (λ n. n / (4 * count)) (ap length holds.bits_are ∙ length-words count words fit) ∙ mul-div_cancel_left (length words) some
 
 -- what is seen of the bits is what the words say
@@ -97,6 +93,15 @@ bit-within digits bits column word some within few =
     let high : (row + 1) * width ≤ count * width = mul-le (row + 1) width count width low (omega arith) in
     let product : (row + 1) * width ≡ row * width + width = omega arith in
     omega (arith, high, product, mod_below column width wide, div-mul-le_self (length bits) width)
+
+-- all in the range of numbers
+pub word-fits : (digits : ℕ) (bits : List Bool) (column word : ℕ) → 0 < digits → column < column_count (memory_of digits bits) → word < 256
+    → 256 * (column / (4 * digits)) + word < length bits
+word-fits digits bits column word some within few =
+    let count = length bits / (4 * digits) in
+    let wide : 1 ≤ 4 * digits = omega arith in
+    let more : count * 1 ≤ count * (4 * digits) = mul-le count 1 count (4 * digits) (omega arith) wide in
+    omega (arith, word-within digits bits column word some within few, more, div-mul-le_self (length bits) (4 * digits))
 
 -- a bit of a column is this one
 pub column_bit-is : (digits : ℕ) (bits : List Bool) (column word : ℕ) → 0 < digits → column < column_count (memory_of digits bits) → word < 256

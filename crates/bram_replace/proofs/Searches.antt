@@ -27,8 +27,8 @@ first_below-clear (suc n) k given none within =
 -- ---- whether any place passes
 
 or_parts : (a b : Bool) → (a || b) ≡ false → (a ≡ false) × (b ≡ false)
-or_parts true b no = absurd (false≢true (sym no))
-or_parts false b no = (refl, no)
+or_parts true b never = absurd (false≢true (sym never))
+or_parts false b never = (refl, never)
 
 -- where none is said to pass none does
 pub any_below-clear : (n k : ℕ) (test : ℕ → Bool) → any_below n test ≡ false → k < n → test k ≡ false

@@ -12,8 +12,7 @@ use Rattle.text_lines.proofs.Blanks.{dot-trimmed}
 use Rattle.plane_map.specs.Layout.{columns_of}
 use Rattle.plane_map.specs.declared.tile.TileKind.{TileKind}
 use Rattle.plane_map.specs.declared.tile.TileKind.TheVariants.{Io, Logic, RamB, RamT}
-use Rattle.asc_text.specs.declared.statement.Statement.{Statement}
-use Rattle.asc_text.specs.declared.statement.Statement.TheVariants.{Comment, Device, WarmBoot, FrequencyRange, NoSleep, Tile, RamData, ExtraBit, Symbol}
+use Rattle.asc_text.specs.Terms.{Statement, Comment, Device, WarmBoot, FrequencyRange, NoSleep, Tile, RamData, ExtraBit, Symbol}
 use Rattle.asc_text.specs.declared.fault.TileXy.{TileXy}
 use Rattle.asc_text.specs.declared.fault.AscCause.{AscCause}
 use Rattle.asc_text.specs.declared.fault.AscCause.TheVariants.{Row, Hex}
@@ -29,16 +28,16 @@ use Rattle.bram_replace.proofs.Searches.{first_below-clear}
 
 -- one of two that is a RAM's is the other where the first isn't
 not_first : (test : Bool) (first other : Option Statement) → is_ram_data first ≡ false → is_ram_data (if test then first else other) ≡ true → is_ram_data other ≡ true
-not_first true first other no is = absurd (false≢true (sym no ∙ is))
-not_first false first other no is = is
+not_first true first other never is = absurd (false≢true (sym never ∙ is))
+not_first false first other never is = is
 
 not_other : (test : Bool) (first other : Option Statement) → is_ram_data other ≡ false → is_ram_data (if test then first else other) ≡ true → test ≡ true
-not_other true first other no is = refl
-not_other false first other no is = absurd (false≢true (sym no ∙ is))
+not_other true first other never is = refl
+not_other false first other never is = absurd (false≢true (sym never ∙ is))
 
 neither : (test : Bool) (first other : Option Statement) → is_ram_data first ≡ false → is_ram_data other ≡ false → is_ram_data (if test then first else other) ≡ false
-neither true first other no none = no
-neither false first other no none = none
+neither true first other never none = never
+neither false first other never none = none
 
 no_device : (words : List (List ℕ)) → is_ram_data (device_of_words words) ≡ false
 no_device [] = refl
@@ -246,8 +245,8 @@ dotless [] all dot = absurd (omega arith)
 dotless (byte ∷ bytes) all dot =
     let parts = and_parts ((byte == 48) || (byte == 49)) (list_all (λ byte. (byte == 48) || (byte == 49)) bytes) all in
     let here : byte ≡ 46 = dot in
-    let no : ((byte == 48) || (byte == 49)) ≡ false = rw here refl in
-    false≢true (sym no ∙ parts.0)
+    let never : ((byte == 48) || (byte == 49)) ≡ false = rw here refl in
+    false≢true (sym never ∙ parts.0)
 
 -- a row of a tile doesn't begin with a dot
 row-dotless : (kind : TileKind) (line : List ℕ) → is_row (columns_of kind) (trimmed line) ≡ true → begins_with_dot line ≡ true → ⊥
@@ -292,17 +291,17 @@ ram-begins text n none within outside is =
 
 -- a line that doesn't look like one isn't
 pub ram-not : (lines : List (List ℕ)) (n : ℕ) → is_ram_line (line_at lines n) ≡ false → is_ram_data (statement_in (line_at lines n)) ≡ false
-ram-not lines n no =
+ram-not lines n never =
     elim (cases_Bool (is_ram_data (statement_in (line_at lines n)))) [
-      | inl is ↦ absurd (false≢true (sym no ∙ ram_line-from (line_at lines n) is))
+      | inl is ↦ absurd (false≢true (sym never ∙ ram_line-from (line_at lines n) is))
       | inr other ↦ other
     ]
 
 pub ram-not-at : (lines : List (List ℕ)) (n : ℕ) → is_ram_data (statement_in (line_at lines n)) ≡ false → is_ram_data (statement_at lines n) ≡ false
 unfolding statement_at
-ram-not-at lines n no =
+ram-not-at lines n never =
     elim (cases_Bool (depth_at lines n == 0)) [
-      | inl flat ↦ rw flat no
+      | inl flat ↦ rw flat never
       | inr deep ↦ rw deep refl
     ]
 
@@ -395,7 +394,7 @@ ram_row (Some (ExtraBit bank x y)) line is none = absurd (false≢true is)
 ram_row (Some (Symbol net)) line is none = absurd (false≢true is)
 
 -- an empty line is no line of a RAM
-no_empty : is_memory_line (trimmed []) ≡ false
+pub no_empty : is_memory_line (trimmed []) ≡ false
 unfolding is_memory_line trimmed
 no_empty = refl
 

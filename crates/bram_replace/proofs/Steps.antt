@@ -56,8 +56,8 @@ unfolding line_after
 line_after-outside from to text n outside = rw outside refl
 
 count-same : (from : Contents) (lines : List (List ℕ)) (n column : ℕ) → is_ram_data (statement_at lines n) ≡ false → count_before from lines (n + 1) column ≡ count_before from lines n column
-count-same from lines n column no =
-    let none : found_at from lines column n ≡ [] = rw no refl in
+count-same from lines n column never =
+    let none : found_at from lines column n ≡ [] = rw never refl in
     ap length (gathered_below-more n (found_at from lines column) ∙ ap (λ xs. gathered_below n (found_at from lines column) ++ xs) none ∙ append-nil (gathered_below n (found_at from lines column)))
 
 -- what the first line of those that are left is
@@ -78,9 +78,9 @@ first from to text left out found content whole rest p lines wholes =
 pub Progress-line : (from to : Contents) (text left out found content whole rest new : List ℕ) → Progress from to text left out found
     → lines_of left ≡ content ∷ lines_of rest → whole_lines_of left ≡ whole ∷ whole_lines_of rest → is_ram_line content ≡ false → new ≡ out ++ whole
     → Progress from to text rest new found
-Progress-line from to text left out found content whole rest new p lines wholes no is =
+Progress-line from to text left out found content whole rest new p lines wholes never is =
     let line = first from to text left out found content whole rest p lines wholes in
-    let other = ram-not (lines_of text) p.n (subst (λ l. is_ram_line l ≡ false) (sym line.content_is) no) in
+    let other = ram-not (lines_of text) p.n (subst (λ l. is_ram_line l ≡ false) (sym line.content_is) never) in
     record {
       n = p.n + 1;
       within = omega (arith, line.there);

@@ -9,12 +9,17 @@ abbrev pub digits_known : List (List ℕ) → Option ℕ
 digits_known [] = None
 digits_known (word ∷ words) = Some (length (digits_in word))
 
+-- a number of digits that a word may have, where one is known
+abbrev pub IsWidth : Option ℕ → Type 0
+IsWidth None = Unit {0}
+IsWidth (Some count) = (0 < count) × (count ≤ 64)
+
 -- the words stand for these digits and bits
 pub record Holds (words : List (List ℕ)) (digits : Option ℕ) (bits : List Bool) : Type 0 where
   pub digits_are : digits ≡ digits_known words
   pub bits_are : bits ≡ flat_map bits_in words
   pub fit : list_any (is_misfit (digits_set words)) words ≡ false
-  pub range : (count : ℕ) → digits ≡ Some count → (0 < count) × (count ≤ 64)
+  pub range : IsWidth digits
 
 -- the words in a list of bits
 abbrev pub memory_of : ℕ → List Bool → Contents

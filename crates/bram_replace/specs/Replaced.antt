@@ -6,8 +6,7 @@ use Rattle.place_search.specs.Places.{any_below, gathered_below, or_else}
 use Rattle.text_lines.specs.Lines.{lines_of, whole_lines_of, line_at, trimmed}
 use Rattle.hex.specs.Hex.{encode_lower}
 use Rattle.bit_plane.specs.BitList.{word_of}
-use Rattle.asc_text.specs.declared.statement.Statement.{Statement}
-use Rattle.asc_text.specs.declared.statement.Statement.TheVariants.{RamData}
+use Rattle.asc_text.specs.Terms.{Statement, RamData}
 use Rattle.asc_text.specs.declared.fault.AscFault.TheVariants.{At}
 use Rattle.asc_text.specs.Rows.{memory_bit}
 use Rattle.asc_text.specs.Blocks.{depth_at, statement_over, statement_at}

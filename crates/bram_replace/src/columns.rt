@@ -1,10 +1,10 @@
 // Columns of 256 bits, and where a column stands among those of a file.
-ghost use Rattle.std.specs.Prelude.{◌≡◌, ◌≤◌, ◌<◌, ◌+◌, ◌-◌, ◌*◌, ◌^◌, ℕ, Bool, None, length, get_or, IfOk, OnOk, IfErr, IfSome};
+ghost use Rattle.std.specs.Prelude.{◌≡◌, ◌≤◌, ◌<◌, ◌+◌, ◌-◌, ◌*◌, ◌^◌, ℕ, Bool, List, Some, None, false, cond, length, get_or, IfOk, OnOk, IfErr, IfSome};
 ghost use Rattle.std.specs.Ordering.{nat_cmp};
 ghost use Rattle.std.specs.Cmp.Lexicographic.{slice_cmp};
-ghost use Rattle.std.specs.BTreeMap.{get};
-ghost use Rattle.bram_replace.specs.Columns.{column_count, column_from, match_of, same_fault};
-ghost use Rattle.bram_replace.specs.Packed.{Finds, earlier, packed, word_from};
+ghost use Rattle.std.specs.BTreeMap.{get, is_at};
+ghost use Rattle.bram_replace.specs.Columns.{column_bit, column_count, column_from, match_of, same_fault};
+ghost use Rattle.bram_replace.specs.Packed.{Finds, earlier, first_repeat, packed, repeat_told, word_from};
 
 use std::alloc::{AllocError, Global};
 use std::collections::BTreeMap;
@@ -38,7 +38,9 @@ pub(crate) fn word_of(bits: &[bool], first: usize, step: usize, count: usize) ->
 {
     let mut word = 0;
     for place in (0..count).rev() {
-        word = 2 * word + u64::from(bits[first + place * step]);
+        let at = first + place * step;
+        let bit = u64::from(bits[at]);
+        word = 2 * word + bit;
     }
     word
 }
@@ -62,6 +64,51 @@ impl Repeat {
     }
 }
 
+/// Where each of some columns was first, and the earliest column that was repeated.
+#[derive(Drop)]
+struct FirstPlaces {
+    places: BTreeMap<Column, u32>,
+    repeat: Option<Repeat>,
+}
+
+impl FirstPlaces {
+    ghost use Rattle.bram_replace.specs.HexText.{Contents};
+
+    /// Takes the next column, which has that place.
+    fn accept(&mut self, column: Column, place: u32) -> Result<(), AllocError>
+        ensures finds { (file : Contents) → column ≡ packed (column_bit file place)
+            → Finds file place (get (slice_cmp nat_cmp) self.old.places)
+            → OnOk result (Finds file (place + 1) (get (slice_cmp nat_cmp) self.new.places)) }
+        ensures repeats { (file : Contents) → column ≡ packed (column_bit file place)
+            → Finds file place (get (slice_cmp nat_cmp) self.old.places)
+            → repeat_told self.old.repeat ≡ first_repeat file place
+            → OnOk result (repeat_told self.new.repeat ≡ first_repeat file (place + 1)) }
+    {
+        match self.places.get(&column) {
+            Some(first) => {
+                let here = Repeat {
+                    first: *first,
+                    second: place,
+                };
+                self.repeat = Some(here.or_earlier(self.repeat));
+                Ok(())
+            }
+            None => insert(&mut self.places, column, place),
+        }
+    }
+}
+
+/// Gives a new column its place.
+fn insert(places: &mut BTreeMap<Column, u32>, column: Column, place: u32) -> Result<(), AllocError>
+    ensures { OnOk result ((key : List ℕ) → get (slice_cmp nat_cmp) places.new key
+        ≡ cond (is_at (slice_cmp nat_cmp column) key) (Some place) (get (slice_cmp nat_cmp) places.old key)) }
+{
+    match places.insert(column, place) {
+        Ok(_) => Ok(()),
+        Err(e) => Err(AllocError::from(e)),
+    }
+}
+
 /// The columns of a file, to be looked up.
 #[derive(Drop)]
 pub(crate) struct Columns<'a> {
@@ -80,18 +127,14 @@ impl<'a> Columns<'a> {
         ensures accepted { OnOk result (same_fault file.now ≡ None) }
         ensures refused { IfErr result (TellsBram (same_fault file.now)) }
     {
-        let mut places = BTreeMap::new(alloc);
-        let mut repeat = None;
+        let mut first = FirstPlaces {
+            places: BTreeMap::new(alloc),
+            repeat: None,
+        };
         for place in 0..file.column_count() {
-            let column = file.column(place);
-            match places.get(&column).copied() {
-                Some(first) => {
-                    let here = Repeat { first, second: place as u32 };
-                    repeat = Some(here.or_earlier(repeat));
-                }
-                None => insert(&mut places, column, place as u32)?,
-            }
+            first.accept(file.column(place), place as u32)?;
         }
+        let FirstPlaces { places, repeat } = first;
         match repeat {
             Some(Repeat { first, second }) => Err(BramFault::SameColumns { first, second }),
             None => Ok(Columns { file, places }),
@@ -113,14 +156,5 @@ impl<'a> Columns<'a> {
             Some(place) => Some(*place as usize),
             None => None,
         }
-    }
-}
-
-/// Gives a new column its place.
-fn insert(places: &mut BTreeMap<Column, u32>, column: Column, place: u32) -> Result<(), AllocError>
-{
-    match places.insert(column, place) {
-        Ok(_) => Ok(()),
-        Err(e) => Err(AllocError::from(e)),
     }
 }

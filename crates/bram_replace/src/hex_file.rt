@@ -38,7 +38,7 @@ impl Model for HexFile {
 
 impl HexFile {
     ghost use Rattle.bram_replace.specs.HexText.{bits_in, contents_of, depth_cause, digits_set, hex_fault_of, TellsHex};
-    ghost use Rattle.bram_replace.specs.Collected.{Holds};
+    ghost use Rattle.bram_replace.specs.Collected.{Holds, IsWidth};
     ghost use Rattle.bram_replace.specs.Columns.{column_at, column_bit, column_count};
     ghost use Rattle.bram_replace.specs.Packed.{packed};
 
@@ -63,7 +63,8 @@ impl HexFile {
 
     /// The file of all words of a text.
     fn of(words: Words) -> Result<HexFile, HexFault>
-        requires { length words.bits.items ≤ 2 ^ 26 }
+        requires width { IsWidth words.digits }
+        requires room { length words.bits.items ≤ 2 ^ 26 }
         ensures read { (all : List (List ℕ)) → Holds all words.digits words.bits.items
             → IfOk result (λ file. file ≡ record { digits = digits_set all; words = map bits_in all }) }
         ensures accepted { (all : List (List ℕ)) → Holds all words.digits words.bits.items → OnOk result (depth_cause (length all) ≡ None) }
@@ -110,7 +111,8 @@ impl HexFile {
         ensures { result ≡ column_bit self.now column word }
     {
         let width = DIGIT_BITS * self.digits;
-        self.bits[(BLOCK_WORDS * (column / width) + word) * width + column % width]
+        let bits = self.bits.as_slice();
+        bits[(BLOCK_WORDS * (column / width) + word) * width + column % width]
     }
 
     /// A column, to be looked up.

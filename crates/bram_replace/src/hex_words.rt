@@ -46,9 +46,24 @@ impl Words {
             → IfErr result (TellsHex (words_cause (digits_set (words ++ words_of Whitespace line.now)) (words_of Whitespace line.now) number)) }
         ensures room { OnOk result (length self.new.bits.items ≤ length self.old.bits.items + 4 * length line.now) }
     {
-        if !are_words(line) {
-            return Err(HexFault::Digit { line: number });
+        if are_words(line) {
+            self.take_words(number, line)
+        } else {
+            Err(HexFault::Digit { line: number })
         }
+    }
+
+    /// Takes the words of a line, each of them written in digits.
+    fn take_words(&mut self, number: u64, line: &[u8]) -> Result<(), HexFault>
+        requires { list_all is_word (words_of Whitespace line.now) ≡ true }
+        ensures taken { (words : List (List ℕ)) → Holds words self.old.digits self.old.bits.items
+            → OnOk result (Holds (words ++ words_of Whitespace line.now) self.new.digits self.new.bits.items) }
+        ensures accepted { (words : List (List ℕ)) → Holds words self.old.digits self.old.bits.items
+            → OnOk result (words_cause (digits_set (words ++ words_of Whitespace line.now)) (words_of Whitespace line.now) number ≡ None) }
+        ensures refused { (words : List (List ℕ)) → Holds words self.old.digits self.old.bits.items
+            → IfErr result (TellsHex (words_cause (digits_set (words ++ words_of Whitespace line.now)) (words_of Whitespace line.now) number)) }
+        ensures room { OnOk result (length self.new.bits.items ≤ length self.old.bits.items + 4 * length line.now) }
+    {
         let mut rest = line;
         while let Some((word, behind)) = split_word(Separators::Whitespace, rest) {
             self.take_word(number, word)?;
@@ -69,12 +84,13 @@ impl Words {
         ensures room { OnOk result (length self.new.bits.items ≤ length self.old.bits.items + 4 * length word.now) }
     {
         let digits = digit_count(word);
-        if !self.has_width(digits) {
-            return Err(HexFault::Width { line: number });
+        if self.has_width(digits) {
+            self.digits = Some(digits);
+            push_bits(&mut self.bits, word)?;
+            Ok(())
+        } else {
+            Err(HexFault::Width { line: number })
         }
-        self.digits = Some(digits);
-        push_bits(&mut self.bits, word)?;
-        Ok(())
     }
 
     /// Whether a next word may have that many digits.

@@ -1,18 +1,18 @@
 // One RAM of a text: sixteen lines of sixteen words of sixteen bits.
-ghost use Rattle.std.specs.Prelude.{◌≡◌, ◌≤◌, ◌<◌, ◌+◌, ◌*◌, ◌^◌, ◌++◌, ◌/◌, ◌%◌, ◌==◌, ℕ, true, length, get_or, drop, IfOk, OnOk, if◌then◌else◌};
+ghost use Rattle.std.specs.Prelude.{◌≡◌, ◌≢◌, ◌≤◌, ◌<◌, [], ◌∷◌, ◌+◌, ◌*◌, ◌^◌, ◌++◌, ◌/◌, ◌%◌, ◌==◌, ℕ, true, length, get_or, drop, IfOk, OnOk, if◌then◌else◌};
 ghost use Rattle.hex.specs.Hex.{encode_lower};
 ghost use Rattle.text_lines.specs.Lines.{line_at, lines_of, whole_lines_of};
 ghost use Rattle.place_search.specs.Places.{gathered_below};
 ghost use Rattle.asc_text.specs.Canonical.{two_bytes};
 ghost use Rattle.asc_text.specs.Rows.{is_memory_line, memory_bit, memory_bytes};
 ghost use Rattle.bram_replace.specs.Columns.{column_bit, column_count};
-ghost use Rattle.bram_replace.specs.Replaced.{bits_after, bits_found, changes, digits_with, memory_line_with, ram_bits};
+ghost use Rattle.bram_replace.specs.Replaced.{bit_found, bits_after, bits_found, changes, digits_with, memory_line_with, ram_bits};
 ghost use Rattle.bram_replace.specs.Rams.{AreAlike, BeginsWithRam, listed};
 
 use crate::columns::{Columns, column_of, word_of};
 use crate::hex_file::HexFile;
 use std::alloc::AllocError;
-use text_lines::{first_line, trimmed};
+use text_lines::{FirstLine, first_line, trimmed};
 
 /// How many lines a RAM has, how many words a line and how many bits a word.
 const SIXTEEN: usize = 16;
@@ -34,12 +34,23 @@ pub(crate) fn ram_bits(text: &[u8]) -> RamBits
     let mut bits = [false; 4096];
     let mut left = text;
     for row in 0..SIXTEEN {
-        if let Some(line) = first_line(left) {
-            put_line(&mut bits, row, trimmed(line.content));
-            left = line.rest;
-        }
+        let line = next_line(left);
+        put_line(&mut bits, row, trimmed(line.content));
+        left = line.rest;
     }
     bits
+}
+
+/// The first line of a text that isn't at its end.
+fn next_line(text: &[u8]) -> FirstLine<'_>
+    requires { text.now ≢ [] }
+    ensures lines { lines_of text.now ≡ result.content.now ∷ lines_of result.rest.now }
+    ensures whole_lines { whole_lines_of text.now ≡ result.whole.now ∷ whole_lines_of result.rest.now }
+{
+    match first_line(text) {
+        Some(line) => line,
+        None => unreachable!(),
+    }
 }
 
 /// Gives the words of a line those of a memory line.
@@ -98,12 +109,32 @@ pub(crate) fn replace_columns(
         → get_or found.new column 0 ≡ get_or found.old column 0 + length (bits_found columns.now.file.now (listed bits.old) column) }
 {
     for bit in 0..SIXTEEN {
-        let column = column_of(bits.as_slice(), bit, SIXTEEN);
-        if let Some(place) = columns.place(column) {
-            found[place] += 1;
-            put_column(bits, bit, to, place);
-        }
+        replace_column(bits, bit, columns, to, found);
     }
+}
+
+/// Replaces one column of a RAM, where it is a column of the first file, and counts it there.
+fn replace_column(
+    bits: &mut RamBits,
+    bit: usize,
+    columns: &Columns,
+    to: &HexFile,
+    found: &mut [u32],
+)
+    requires bit { bit < 16 }
+    requires counts { length found.old ≡ column_count columns.now.file.now }
+    requires same { column_count to.now ≡ column_count columns.now.file.now }
+    requires room { (column : ℕ) → get_or found.old column 0 < 2 ^ 31 + 16 }
+    ensures bits { AreAlike 256 (listed bits.new)
+        (λ word place. if place == bit then bits_after columns.now.file.now to.now (listed bits.old) word place else listed bits.old word place) }
+    ensures found { (column : ℕ) → column < column_count columns.now.file.now
+        → get_or found.new column 0 ≡ get_or found.old column 0 + length (bit_found columns.now.file.now (listed bits.old) column bit) }
+{
+    let Some(place) = columns.place(column_of(bits.as_slice(), bit, SIXTEEN)) else {
+        return;
+    };
+    found[place] += 1;
+    put_column(bits, bit, to, place);
 }
 
 /// Gives a bit of each word of a RAM that of a column.
@@ -133,10 +164,9 @@ pub(crate) fn append_lines<'a>(
 {
     let mut left = text;
     for row in 0..SIXTEEN {
-        if let Some(line) = first_line(left) {
-            append_line(bytes, line.whole, old, new, row)?;
-            left = line.rest;
-        }
+        let line = next_line(left);
+        append_line(bytes, line.whole, old, new, row)?;
+        left = line.rest;
     }
     Ok(left)
 }

@@ -1,5 +1,5 @@
 // RAMs replaced in a whole text.
-ghost use Rattle.std.specs.Prelude.{◌≡◌, ◌<◌, ◌+◌, ◌^◌, ◌++◌, ℕ, None, length, get_or, drop, bytes_eq, IfOk, OnOk, IfErr};
+ghost use Rattle.std.specs.Prelude.{◌≡◌, ◌<◌, ◌+◌, ◌^◌, ◌++◌, ◌==◌, ◌&&◌, ℕ, None, length, get_or, drop, bytes_eq, IfOk, OnOk, IfErr};
 ghost use Rattle.place_search.specs.Places.{gathered_below};
 ghost use Rattle.text_lines.specs.Lines.{line_at, lines_of, whole_lines_of};
 ghost use Rattle.text_lines.specs.Words.{first_word};
@@ -39,13 +39,20 @@ pub fn replace(
     ensures accepted { OnOk result (bram_fault asc.now from.now to.now ≡ None) }
     ensures refused { IfErr result (TellsBram (bram_fault asc.now from.now to.now)) }
 {
-    if from.digits() != to.digits() || from.word_count() != to.word_count() {
+    if !have_one_shape(from, to) {
         return Err(BramFault::Shape);
     }
     let columns = Columns::of(alloc, from)?;
     check_text(alloc, asc)?;
     let answer = replace_rams(alloc, asc, &columns, to)?;
     Ok(answer)
+}
+
+/// Whether two files have the same numbers of digits and of words.
+fn have_one_shape(from: &HexFile, to: &HexFile) -> bool
+    ensures { result ≡ ((from.now.digits == to.now.digits) && (length from.now.words == length to.now.words)) }
+{
+    from.digits() == to.digits() && from.word_count() == to.word_count()
 }
 
 /// Whether the text can be read.
@@ -78,9 +85,10 @@ fn replace_rams(
     while let Some(line) = first_line(left) {
         bytes.extend_from_slice(line.whole)?;
         left = line.rest;
-        if is_ram_data(line.content) {
-            left = replace_ram(left, columns, to, &mut bytes, &mut found)?;
+        if !is_ram_data(line.content) {
+            continue;
         }
+        left = replace_ram(left, columns, to, &mut bytes, &mut found)?;
     }
     Ok(Replaced { bytes, found })
 }

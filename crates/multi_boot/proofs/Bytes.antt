@@ -1,5 +1,5 @@
 -- What the bytes of a boot file are, one image after the other.
-use Rattle.std.proofs.Common.{◌≡◌, ℕ, zero, suc, ◌+◌, ◌-◌, ◌*◌, ◌/◌, ◌%◌, ◌==◌, ◌<◌, ◌≤◌, Bool, true, false, ◌&&◌, List, [], ◌∷◌, ◌++◌, length, get_or, take, replicate, refl, sym, ap, ◌∙◌, subst, inl, inr, arith, length-append}
+use Rattle.std.proofs.Common.{◌≡◌, ℕ, zero, suc, ◌+◌, ◌-◌, ◌*◌, ◌/◌, ◌%◌, ◌==◌, ◌<◌, ◌≤◌, Bool, true, false, ◌&&◌, List, [], ◌∷◌, ◌++◌, length, get_or, take, replicate, refl, sym, ap, ◌∙◌, subst, inl, inr, arith, length-append, add-one}
 use Rattle.std.proofs.Math.Bool.{and-false}
 use Rattle.std.specs.Prelude.{Option, Some, None, Vec, find, map, nat_lt, nat_le, if◌then◌else◌}
 use Rattle.std.specs.declared.alloc.Global.{Global}
@@ -29,9 +29,9 @@ lies_in-within images options offset index from to =
 found-none : (images : List (List ℕ)) (options : Options) (offset index : ℕ) → start_of images options index ≤ offset → offset < place_of images options index
     → find (lies_in images options offset) (range_with_len 0 (length images)) ≡ None
 found-none images options offset index from to = find-none (lies_in images options offset) 0 (length images) (λ k within. elim (cases_lt k index) [
-    inl less ↦ lies_in-behind images options offset (0 + k) (omega (arith, place-later images options (0 + k) index (omega arith)))
-    | inr more ↦ lies_in-ahead images options offset (0 + k) (omega (arith, place-rises images options index (0 + k) (omega arith)))
-    ])
+  | inl less ↦ lies_in-behind images options offset (0 + k) (omega (arith, place-later images options (0 + k) index (omega arith)))
+  | inr more ↦ lies_in-ahead images options offset (0 + k) (omega (arith, place-rises images options index (0 + k) (omega arith)))
+])
 
 -- an offset in an image lies in no earlier one
 found-first : (images : List (List ℕ)) (options : Options) (offset index : ℕ) → index < length images → place_of images options index ≤ offset → offset < end_of images options index
@@ -68,27 +68,26 @@ HasBytes-append : (byte : ℕ → ℕ) (size more_size : ℕ) (file more : List 
 HasBytes-append byte size more_size file more has e follows = record {
   size_is = omega (arith, length-append file more, has.size_is);
   bytes_are = λ offset within. elim (cases_lt offset size) [
-    inl less ↦ get_or_append_left file more 0 offset (omega (arith, has.size_is)) ∙ has.bytes_are offset less
+    | inl less ↦ get_or_append_left file more 0 offset (omega (arith, has.size_is)) ∙ has.bytes_are offset less
     | inr over ↦
-      let here : size + (offset - size) ≡ offset = omega arith in
-      get_or-append_right file more offset 0 (omega (arith, has.size_is)) ∙ subst (λ n. get_or more (offset - n) 0 ≡ byte offset) (sym has.size_is)
-      (follows (offset - size) (omega arith) ∙ ap byte here)
-    ];
+        let here : size + (offset - size) ≡ offset = omega arith in
+        get_or-append_right file more size offset 0 has.size_is over ∙ follows (offset - size) (omega (arith, e)) ∙ ap byte here
+  ];
 }
 
 -- FF up to an image
-pub HasBytes-gap : (images : List (List ℕ)) (options : Options) (index place : ℕ) (file : List ℕ) → place ≡ place_of images options index
+pub HasBytes-gap : (images : List (List ℕ)) (options : Options) (index place size : ℕ) (file : List ℕ) → place ≡ place_of images options index → size ≡ length file
     → HasBytes (boot_byte images options) (start_of images options index) file
-    → HasBytes (boot_byte images options) place (take place file ++ replicate (place - length file) 255)
-HasBytes-gap images options index place file e has =
+    → HasBytes (boot_byte images options) place (take place file ++ replicate (place - size) 255)
+HasBytes-gap images options index place size file e same has =
     let above : start_of images options index ≤ place = omega (arith, place-start images options index) in
     let whole : take place file ≡ file = take_all place file (omega (arith, has.size_is)) in
-    rw whole (HasBytes-append (boot_byte images options) (start_of images options index) place file (replicate (place - length file) 255) has
+    rw (whole, same) (HasBytes-append (boot_byte images options) (start_of images options index) place file (replicate (place - length file) 255) has
     (omega (arith, length-replicate {A = ℕ} (place - length file) 255, has.size_is))
     (λ k within.
-      let few : k < place - length file = omega (arith, length-replicate {A = ℕ} (place - length file) 255) in
-      get_or-replicate (place - length file) k 255 0 few
-      ∙ sym (boot_byte-gap images options (start_of images options index + k) index (omega arith) (omega (arith, has.size_is)))))
+    let few : k < place - length file = omega (arith, length-replicate {A = ℕ} (place - length file) 255) in
+    get_or-replicate (place - length file) k 255 0 few
+    ∙ sym (boot_byte-gap images options (start_of images options index + k) index (omega arith) (omega (arith, has.size_is)))))
 
 -- and the image
 pub HasBytes-image : (images : List (List ℕ)) (options : Options) (index place : ℕ) (file image : List ℕ) → place ≡ place_of images options index → index < length images
@@ -98,8 +97,8 @@ HasBytes-image images options index place file image at within e has =
     HasBytes-append (boot_byte images options) place (end_of images options index) file image has
     (omega (arith, ap length e))
     (λ k few.
-      let here : place + k - place_of images options index ≡ k = omega arith in
-      sym (boot_byte-image images options (place + k) index within (omega arith) (omega (arith, ap length e)) ∙ rw (here, e) refl))
+    let here : place + k - place_of images options index ≡ k = omega arith in
+    sym (boot_byte-image images options (place + k) index within (omega arith) (omega (arith, ap length e)) ∙ rw (here, e) refl))
 
 -- a header boots an image that is there
 image_booted-within : (count : ℕ) (options : Options) (index : ℕ) → options.power_on < count → image_booted count options index < count
@@ -128,8 +127,8 @@ boot_file-is images options file has = fill_by_all (boot_byte images options) fi
 -- ---- the headers
 
 -- no bytes
-pub HasBytes-none : (byte : ℕ → ℕ) → HasBytes byte 0 []
-HasBytes-none byte = record { size_is = refl; bytes_are = λ offset within. absurd (omega arith) }
+pub HasBytes-none : (byte : ℕ → ℕ) (file : List ℕ) → file ≡ [] → HasBytes byte 0 file
+HasBytes-none byte file empty = record { size_is = ap length empty; bytes_are = λ offset within. absurd (omega arith) }
 
 -- one header more
 pub HasBytes-header : (count : ℕ) (place : ℕ → ℕ) (options : Options) (index : ℕ) (file more : List ℕ)
@@ -139,9 +138,9 @@ HasBytes-header count place options index file more has is =
     let size : length more ≡ 32 = ap length is in
     HasBytes-append (header_byte count place options) (32 * index) (32 * (index + 1)) file more has (omega arith)
     (λ k few.
-      let row : (32 * index + k) / 32 ≡ index = omega arith in
-      let column : (32 * index + k) % 32 ≡ k = omega arith in
-      rw (row, column) (ap (λ bytes. get_or bytes k 0) is))
+    let row : (32 * index + k) / 32 ≡ index = omega arith in
+    let column : (32 * index + k) % 32 ≡ k = omega arith in
+    rw (row, column) (ap (λ bytes. get_or bytes k 0) is))
 
 -- ---- the images
 
@@ -154,3 +153,12 @@ image_at-is images index image within is =
 -- how many images there are
 pub length-bytes_of : (images : Vec (Vec ℕ Global) Global) → length (bytes_of images) ≡ length images.items
 length-bytes_of images = length-map images.items (λ (vec : Vec ℕ Global). vec.items)
+
+-- at the end all images are in it
+pub start-all : (images : List (List ℕ)) (options : Options) (count : ℕ) → count ≡ length images → 0 < count → start_of images options count ≡ boot_length images options
+start-all images options zero e some = absurd (omega arith)
+start-all images options (suc count) e some = let last : length images - 1 ≡ count = omega arith in rw last refl
+
+-- where the next image may begin
+pub start-more : (images : List (List ℕ)) (options : Options) (index : ℕ) → start_of images options (index + 1) ≡ end_of images options index
+start-more images options index = rw add-one refl

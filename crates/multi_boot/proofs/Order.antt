@@ -24,16 +24,16 @@ place-start images options (suc index) = aligned-above options.align _
 pub place-later : (images : List (List ℕ)) (options : Options) (earlier later : ℕ) → earlier < later → end_of images options earlier ≤ start_of images options later
 place-later images options earlier zero below = absurd (omega arith)
 place-later images options earlier (suc later) below = elim (cases_lt earlier later) [
-    inl less ↦ omega (arith, place-later images options earlier later less, place-start images options later)
-    | inr more ↦ let e : earlier ≡ later = omega arith in subst (λ n. end_of images options earlier ≤ end_of images options n) e (omega arith)
-    ]
+  | inl less ↦ omega (arith, place-later images options earlier later less, place-start images options later)
+  | inr more ↦ let e : earlier ≡ later = omega arith in subst (λ n. end_of images options earlier ≤ end_of images options n) e (omega arith)
+]
 
 -- places rise
 pub place-rises : (images : List (List ℕ)) (options : Options) (earlier later : ℕ) → earlier ≤ later → place_of images options earlier ≤ place_of images options later
 place-rises images options earlier later upto = elim (cases_lt earlier later) [
-    inl less ↦ omega (arith, place-later images options earlier later less, place-start images options later)
-    | inr more ↦ let e : earlier ≡ later = omega arith in subst (λ n. place_of images options earlier ≤ place_of images options n) e (omega arith)
-    ]
+  | inl less ↦ omega (arith, place-later images options earlier later less, place-start images options later)
+  | inr more ↦ let e : earlier ≡ later = omega arith in subst (λ n. place_of images options earlier ≤ place_of images options n) e (omega arith)
+]
 
 -- and behind the headers
 pub start-first : (images : List (List ℕ)) (options : Options) (index : ℕ) → 160 ≤ start_of images options index

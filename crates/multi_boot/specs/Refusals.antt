@@ -18,7 +18,7 @@ check_fault count options =
     if count == 0 then Some NoImage
     else if nat_lt 4 count then Some (TooMany count)
     else option_or (align_fault options.align)
-        (if nat_lt options.power_on count then None else Some (PowerOn options.power_on))
+    (if nat_lt options.power_on count then None else Some (PowerOn options.power_on))
 
 -- the first image whose address doesn't fit three bytes
 abbrev pub address_fault : List (List ℕ) → Options → Option MultiFault

@@ -1,8 +1,8 @@
 // Why images aren't joined.
-ghost use Rattle.std.specs.Prelude.{◌≡◌};
+ghost use Rattle.std.specs.Prelude.{◌≡◌, alloc_error};
 ghost use Rattle.multi_boot.specs.declared.fault.MultiFault.TheVariants.{Memory};
 
-use std::alloc::AllocError;
+use std::alloc::{AllocError, AllocFailed};
 
 /// Why images aren't joined; an earlier one goes before a later one.
 #[derive(Clone, Copy, Debug, PartialEq, Eq)]
@@ -26,5 +26,13 @@ impl From<AllocError> for MultiFault {
 
     fn from(e: AllocError) -> MultiFault {
         MultiFault::Memory(e)
+    }
+}
+
+impl<T: Drop> From<AllocFailed<T>> for MultiFault {
+    ghost from_gives = { λ _ fault. fault ≡ Memory alloc_error };
+
+    fn from(e: AllocFailed<T>) -> MultiFault {
+        MultiFault::Memory(AllocError::from(e))
     }
 }

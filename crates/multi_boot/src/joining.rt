@@ -1,5 +1,5 @@
 // Images joined to a boot file.
-ghost use Rattle.std.specs.Prelude.{◌≡◌, ◌<◌, ◌≤◌, ◌+◌, ◌*◌, ◌^◌, ℕ, None, length, get_or, IfOk, OnOk, IfErr, unwrap_or};
+ghost use Rattle.std.specs.Prelude.{◌≡◌, ◌<◌, ◌≤◌, ◌+◌, ◌*◌, ◌^◌, ◌&&◌, ◌==◌, ℕ, None, length, get_or, IfOk, OnOk, IfErr, unwrap_or};
 ghost use Rattle.std.specs.Result.{result_err};
 ghost use Rattle.multi_boot.specs.BootFile.{HasBytes, boot_byte, boot_file, bytes_of, header_byte, image_booted, place_of, start_of};
 ghost use Rattle.multi_boot.specs.Refusals.{Tells, check_fault, join_fault};
@@ -30,8 +30,12 @@ pub fn check(count: usize, options: Options) -> Result<(), MultiFault>
     if count > MOST_IMAGES {
         return Err(MultiFault::TooMany { n: count as u64 });
     }
-    if let Some(align) = options.align && align > MOST_ALIGNMENT {
-        return Err(MultiFault::Align { n: u64::from(align) });
+    if let Some(align) = options.align
+        && align > MOST_ALIGNMENT
+    {
+        return Err(MultiFault::Align {
+            n: u64::from(align),
+        });
     }
     if options.power_on as usize >= count {
         return Err(MultiFault::PowerOn {
@@ -42,18 +46,15 @@ pub fn check(count: usize, options: Options) -> Result<(), MultiFault>
 }
 
 /// The boot file of one to four images: five headers, then the images at their places, with FF between.
-pub fn join(
-    alloc: Global,
-    images: &Vec<Vec<u8>>,
-    options: Options,
-) -> Result<Vec<u8>, MultiFault>
+pub fn join(alloc: Global, images: &Vec<Vec<u8>>, options: Options) -> Result<Vec<u8>, MultiFault>
     ensures joined { IfOk result (λ file. file.items ≡ boot_file (bytes_of images.now) options) }
     ensures accepted { OnOk result (join_fault (bytes_of images.now) options ≡ None) }
     ensures refused { IfErr result (Tells (join_fault (bytes_of images.now) options)) }
 {
     check(images.len(), options)?;
-    let places = places(alloc, images, options)?;
-    let mut file = headers(alloc, places.as_slice(), options)?;
+    let found = places(alloc, images, options)?;
+    let places = found.as_slice();
+    let mut file = headers(alloc, places, options)?;
     for (index, image) in images.iter().enumerate() {
         file.resize(places[index] as usize, 0xFF)?;
         file.extend_from_slice(image)?;
@@ -71,7 +72,7 @@ fn headers(alloc: Global, places: &[u32], options: Options) -> Result<Vec<u8>, A
     let mut file = Vec::new(alloc);
     for index in 0..HEADER_COUNT {
         let address = places[image_booted(places.len(), options, index)];
-        let header = header(options.cold && index == 0, address);
+        let header = header(is_cold(options, index), address);
         file.extend_from_slice(&header)?;
     }
     Ok(file)
@@ -90,4 +91,11 @@ fn image_booted(count: usize, options: Options, header: usize) -> usize
     } else {
         0
     }
+}
+
+/// Whether a header has the mode of cold boot: the first one alone.
+fn is_cold(options: Options, header: usize) -> bool
+    ensures { result ≡ (options.cold && (header == 0)) }
+{
+    options.cold && header == 0
 }

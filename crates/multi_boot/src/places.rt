@@ -5,7 +5,7 @@ ghost use Rattle.multi_boot.specs.Refusals.{Tells, address_fault, align_fault};
 
 use crate::fault::MultiFault;
 use crate::options::Options;
-use std::alloc::{AllocError, Global};
+use std::alloc::Global;
 
 /// How many bytes all headers have.
 const HEADERS_SIZE: usize = 160;
@@ -31,9 +31,11 @@ pub(crate) fn places(
     let mut place = first_place(options);
     for (index, image) in images.iter().enumerate() {
         if place >= ADDRESS_LIMIT {
-            return Err(MultiFault::Address { index: index as u64 });
+            return Err(MultiFault::Address {
+                index: index as u64,
+            });
         }
-        places.push(place as u32).map_err(AllocError::from)?;
+        places.push(place as u32)?;
         place = place_after(options.align, place, image.len());
     }
     Ok(places)

@@ -1,5 +1,4 @@
 use super::*;
-
 use std::alloc::{AllocError, Global};
 
 /// No options.
@@ -78,11 +77,19 @@ fn refusal(alloc: Global, count: u8, options: Options) -> Option<MultiFault> {
 
 #[test]
 fn joins_two_images(rt: HostRuntime) -> Result<(), AllocError> {
-    let second = Options { power_on: 1, align: Some(8), ..PLAIN };
+    let second = Options {
+        power_on: 1,
+        align: Some(8),
+        ..PLAIN
+    };
     let file = two_images_at_256(rt.alloc(), 0x00, [0x01, 0x00])?;
     assert_eq!(rt; file.len(), 257);
     assert!(rt; joins_to(rt.alloc(), second, &file));
-    let cold = Options { cold: true, align: Some(8), ..PLAIN };
+    let cold = Options {
+        cold: true,
+        align: Some(8),
+        ..PLAIN
+    };
     let file = two_images_at_256(rt.alloc(), 0x10, [0x00, 0xA0])?;
     assert!(rt; joins_to(rt.alloc(), cold, &file));
     Ok(())
@@ -101,8 +108,16 @@ fn aligns_images(rt: HostRuntime) {
         (1, None, true, 163),
         (2, Some(5), true, 193),
     ] {
-        let options = Options { align, align_first, ..PLAIN };
-        assert_eq!(rt; end(rt.alloc(), count, options), Some(size), "{count} at {align:?}");
+        let options = Options {
+            align,
+            align_first,
+            ..PLAIN
+        };
+        assert_eq!(rt;
+            end(rt.alloc(), count, options),
+            Some(size),
+            "{count} at {align:?}"
+        );
     }
 }
 
@@ -119,8 +134,16 @@ fn refuses_images(rt: HostRuntime) {
         (2, 0, Some(24), MultiFault::Address { index: 1 }),
         (3, 0, Some(23), MultiFault::Address { index: 2 }),
     ] {
-        let options = Options { power_on, align, ..PLAIN };
-        assert_eq!(rt; refusal(rt.alloc(), count, options), Some(fault), "{count} images");
+        let options = Options {
+            power_on,
+            align,
+            ..PLAIN
+        };
+        assert_eq!(rt;
+            refusal(rt.alloc(), count, options),
+            Some(fault),
+            "{count} images"
+        );
     }
 }
 
@@ -134,7 +157,11 @@ fn checks_numbers_alone(rt: HostRuntime) {
         (4, 4, Some(25), Err(MultiFault::Align { n: 25 })),
         (4, 4, Some(24), Err(MultiFault::PowerOn { index: 4 })),
     ] {
-        let options = Options { power_on, align, ..PLAIN };
+        let options = Options {
+            power_on,
+            align,
+            ..PLAIN
+        };
         assert_eq!(rt; check(count, options), answer, "{count} images");
     }
 }

@@ -8,6 +8,7 @@ use Rattle.std.proofs.lemmas.Bool.Decides.{nat_tests}
 use Rattle.std.proofs.lemmas.List.{take_more, take_all, drop_all, drop_more, reverse-append}
 use Rattle.std.proofs.lemmas.List.Folds.{list_any-append, list_all-append}
 use Rattle.std.proofs.lemmas.Grind.{flat_map-append}
+use Rattle.std.proofs.lemmas.List.Sums.{take_while-cons}
 use Rattle.std.specs.Option.{option_map_or}
 use Rattle.hex.specs.Hex.{is_hex_digit, hex_digit_value}
 use Rattle.text_lines.specs.Words.{words_of, first_word, behind_word, from_word, is_separator}
@@ -164,6 +165,12 @@ misfit-is words word digits bits holds =
     ap (λ n. is_misfit n word) (digits_set-known words word ∙ ap (λ d. unwrap_or d (length (digits_in word))) (sym holds.digits_are))
     ∙ misfit-test (length (digits_in word)) (unwrap_or digits (length (digits_in word)))
 
+-- a word that is tested so fits
+pub fits-from : (words : List (List ℕ)) (word : List ℕ) (digits : Option ℕ) (bits : List Bool) (count : ℕ) (wide : Bool) → Holds words digits bits → count ≡ length (digits_in word)
+    → wide ≡ (nat_le count 64 && (count == unwrap_or digits count)) → wide ≡ true → is_misfit (digits_set (words ++ word ∷ [])) word ≡ false
+fits-from words word digits bits count wide holds is tested yes =
+    misfit-is words word digits bits holds ∙ ap (λ n. not (nat_le n 64 && (n == unwrap_or digits n))) (sym is) ∙ ap not (sym tested ∙ yes)
+
 -- ---- the words of a line
 
 -- of the words of a line the front was taken, behind words from earlier lines
@@ -256,10 +263,11 @@ rest-written all more word e good = (and_parts (is_word word) (list_all is_word 
 
 take_while-few : (test : ℕ → Bool) (bytes : List ℕ) → length (take_while test bytes) ≤ length bytes
 take_while-few test [] = omega arith
-take_while-few test (byte ∷ bytes) = elim (test byte) as (λ yes. length (cond yes (byte ∷ take_while test bytes) []) ≤ suc (length bytes)) [
+take_while-few test (byte ∷ bytes) =
+    rw (take_while-cons test byte bytes) (elim (test byte) as (λ yes. length (cond yes (byte ∷ take_while test bytes) []) ≤ suc (length bytes)) [
       | true ↦ omega (arith, take_while-few test bytes)
       | false ↦ omega arith
-    ]
+    ])
 
 -- a word and what stands behind it are no longer than the line
 pub word-room : (line word behind : List ℕ) → word ≡ first_word Whitespace line → behind ≡ behind_word Whitespace line → length word + length behind ≤ length line

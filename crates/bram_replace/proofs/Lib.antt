@@ -1,4 +1,3 @@
-pub mod Searches
 pub mod Made
 pub mod Same
 pub mod Packing
@@ -7,7 +6,6 @@ pub mod HexLines
 pub mod Memory
 pub mod Repeats
 pub mod Rows
-pub mod Statements
 pub mod Rams
 pub mod Putting
 pub mod Steps

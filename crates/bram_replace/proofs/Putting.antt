@@ -14,13 +14,14 @@ use Rattle.bram_replace.specs.HexText.{Contents}
 use Rattle.bram_replace.specs.Columns.{column_at, column_bit, column_count, column_from, is_same, match_of, same_fault}
 use Rattle.bram_replace.specs.Packed.{word_from, packed}
 use Rattle.bram_replace.specs.Replaced.{RamBits, ram_bits, ram_column, bit_from, bits_after, bit_found, word_with}
-use Rattle.bram_replace.specs.Rams.{AreAlike, BeginsWithRam, listed}
+use Rattle.asc_text.specs.Rams.{BeginsWithRam}
+use Rattle.bram_replace.specs.Rams.{AreAlike, listed}
 use Rattle.bram_replace.proofs.HexLines.{cut, content-within}
 use Rattle.bram_replace.proofs.Made.{column_from-same}
 use Rattle.bram_replace.proofs.Packing.{word_from-same}
 use Rattle.bram_replace.proofs.Rows.{listed-set}
 use Rattle.bram_replace.proofs.Same.{match-only, match-none, match-within}
-use Rattle.bram_replace.proofs.Statements.{no_empty}
+use Rattle.asc_text.proofs.RamLines.{no_empty}
 
 -- ---- one word
 

@@ -17,7 +17,7 @@ use Rattle.bram_replace.specs.HexText.{Contents}
 use Rattle.bram_replace.specs.Columns.{column_at, column_bit, column_count, column_from, is_same, is_repeat, repeat_fault, same_fault, match_of}
 use Rattle.bram_replace.specs.Packed.{packed, Finds, earlier, repeat_told, repeat_among, first_repeat}
 use Rattle.bram_replace.specs.Replaced.{TellsBram}
-use Rattle.bram_replace.proofs.Searches.{IsLeast, first_below-clear, least_below-clear, least_below-place}
+use Rattle.place_search.proofs.Found.{IsLeast, first_below-clear, least_below-clear, least_below-place}
 use Rattle.bram_replace.proofs.Same.{is_same-equal, is_same-from, is_same-refl, map-none}
 use Rattle.bram_replace.proofs.Packing.{packed-decides}
 

@@ -8,7 +8,7 @@ use Rattle.bram_replace.specs.declared.fault.BramFault.TheVariants.{SameColumns}
 use Rattle.place_search.specs.Places.{least_below}
 use Rattle.bram_replace.specs.HexText.{Contents}
 use Rattle.bram_replace.specs.Columns.{column_at, column_count, is_same, is_same_bit, is_repeat, repeat_fault, same_fault, match_of}
-use Rattle.bram_replace.proofs.Searches.{first_below-clear, least_below-clear, least_below-place}
+use Rattle.place_search.proofs.Found.{first_below-clear, least_below-clear, least_below-place}
 
 -- ---- equal bits and columns
 

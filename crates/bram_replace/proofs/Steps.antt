@@ -12,10 +12,10 @@ use Rattle.asc_text.specs.Blocks.{depth_at, statement_at}
 use Rattle.asc_text.specs.Faults.{asc_fault_of}
 use Rattle.bram_replace.specs.HexText.{Contents}
 use Rattle.bram_replace.specs.Columns.{column_count}
-use Rattle.bram_replace.specs.Replaced.{RamBits, ram_bits, bits_after, bits_found, memory_line_with, is_ram_data, is_in_ram, line_after, replaced, found_at, count_before, found_in}
-use Rattle.bram_replace.specs.Rams.{BeginsWithRam, is_ram_line}
+use Rattle.bram_replace.specs.Replaced.{RamBits, ram_bits, bits_after, bits_found, memory_line_with, line_after, replaced, found_at, count_before, found_in}
+use Rattle.asc_text.specs.Rams.{BeginsWithRam, is_ram_data, is_in_ram, is_ram_line}
 use Rattle.bram_replace.proofs.HexLines.{cut, cut-end}
-use Rattle.bram_replace.proofs.Statements.{ram-begins, ram-not, ram-not-at, outside-more, at-flat, row-of, row-end, row-in, row-below, row-none, rows-within, begins}
+use Rattle.asc_text.proofs.RamLines.{ram-begins, ram-not, ram-not-at, outside-more, at-flat, row-of, row-end, row-in, row-below, row-none, rows-within, begins}
 use Rattle.bram_replace.proofs.Rams.{count-few}
 
 -- so many lines were taken, and no line of a RAM comes next

@@ -6,10 +6,10 @@ use Rattle.place_search.specs.Places.{any_below, gathered_below, or_else}
 use Rattle.text_lines.specs.Lines.{lines_of, whole_lines_of, line_at, trimmed}
 use Rattle.hex.specs.Hex.{encode_lower}
 use Rattle.bit_plane.specs.BitList.{word_of}
-use Rattle.asc_text.specs.Terms.{Statement, RamData}
 use Rattle.asc_text.specs.declared.fault.AscFault.TheVariants.{At}
 use Rattle.asc_text.specs.Rows.{memory_bit}
-use Rattle.asc_text.specs.Blocks.{depth_at, statement_over, statement_at}
+use Rattle.asc_text.specs.Blocks.{depth_at, statement_at}
+use Rattle.asc_text.specs.Rams.{is_ram_data, is_in_ram, below_statement}
 use Rattle.asc_text.specs.Faults.{Fault, asc_fault_of}
 use Rattle.asc_text.specs.Canonical.{two_bytes}
 use Rattle.bram_replace.specs.declared.fault.BramFault.{BramFault}
@@ -69,18 +69,6 @@ memory_line_with before after row whole =
     if changes before after row then digits_with after row ++ drop 64 whole else whole
 
 -- ---- the whole text
-
-abbrev pub is_ram_data : Option Statement → Bool
-is_ram_data (Some (RamData x y)) = true
-is_ram_data statement = false
-
--- whether a line is one of the sixteen below the statement of a RAM
-abbrev pub is_in_ram : List (List ℕ) → ℕ → Bool
-is_in_ram lines n = nat_lt 0 (depth_at lines n) && is_ram_data (statement_over lines n)
-
--- the lines below the statement among whose sixteen lines a line is
-abbrev pub below_statement : List (List ℕ) → ℕ → List (List ℕ)
-below_statement lines n = drop (n - depth_at lines n + 1) lines
 
 -- a line afterwards, with its end: only the lines of a RAM change
 unfoldable pub line_after : Contents → Contents → List ℕ → ℕ → List ℕ

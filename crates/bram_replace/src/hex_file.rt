@@ -112,7 +112,9 @@ impl HexFile {
     {
         let width = DIGIT_BITS * self.digits;
         let bits = self.bits.as_slice();
-        bits[(BLOCK_WORDS * (column / width) + word) * width + column % width]
+        let row = BLOCK_WORDS * (column / width) + word;
+        let at = row * width + column % width;
+        bits[at]
     }
 
     /// A column, to be looked up.

@@ -7,7 +7,8 @@ ghost use Rattle.asc_text.specs.Canonical.{two_bytes};
 ghost use Rattle.asc_text.specs.Rows.{is_memory_line, memory_bit, memory_bytes};
 ghost use Rattle.bram_replace.specs.Columns.{column_bit, column_count};
 ghost use Rattle.bram_replace.specs.Replaced.{bit_found, bits_after, bits_found, changes, digits_with, memory_line_with, ram_bits};
-ghost use Rattle.bram_replace.specs.Rams.{AreAlike, BeginsWithRam, listed};
+ghost use Rattle.asc_text.specs.Rams.{BeginsWithRam};
+ghost use Rattle.bram_replace.specs.Rams.{AreAlike, listed};
 
 use crate::columns::{Columns, column_of, word_of};
 use crate::hex_file::HexFile;

@@ -6,7 +6,7 @@ ghost use Rattle.text_lines.specs.Words.{first_word};
 ghost use Rattle.asc_text.specs.Faults.{asc_fault_of};
 ghost use Rattle.asc_text.specs.Statements.{ram_data_keyword};
 ghost use Rattle.bram_replace.specs.Columns.{column_count};
-ghost use Rattle.bram_replace.specs.Rams.{BeginsWithRam, is_ram_line};
+ghost use Rattle.asc_text.specs.Rams.{BeginsWithRam, is_ram_line};
 ghost use Rattle.bram_replace.specs.Replaced.{bits_after, bits_found, bram_fault, found_in, memory_line_with, ram_bits, replaced, text_fault, TellsBram};
 
 use crate::columns::Columns;

@@ -1,4 +1,4 @@
-use Rattle.std.proofs.Common.{◌≡◌, ℕ, ◌+◌, ◌-◌, ◌*◌, ◌^◌, ◌<◌, false, get_or, length, sym, ap, ◌∙◌, subst, arith}
+use Rattle.std.proofs.Common.{◌≡◌, ℕ, ◌+◌, ◌-◌, ◌*◌, ◌^◌, ◌<◌, false, get_or, length, sym, ap, ap₂, ◌∙◌, subst, arith}
 use Rattle.std.specs.Prelude.{map}
 use Rattle.std.specs.List.{range_with_len}
 use Rattle.bit_plane.specs.BitList.{word_of}
@@ -36,3 +36,13 @@ pub loop-place-preserved : goal.loop-place-preserved
 loop-place-preserved c =
     let bit = λ (place : ℕ). get_or c.args.bits.now (c.args.first + place * c.args.step) false in
     word_from-next bit c.loop-place.place c.args.count c.loop-place.word c.from-bit.result (omega arith) (omega arith) c.loop-place.invariant (c.from-bit.ensures ∙ bool_byte-is _)
+
+pub returns-clause-small : goal.returns-clause-small
+returns-clause-small c =
+    let bit = λ (place : ℕ). get_or c.args.bits.now (c.args.first + place * c.args.step) false in
+    let count = c.args.count in
+    let first : c.loop-place.place ≡ 0 = omega arith in
+    let all : count - c.loop-place.place ≡ count = omega arith in
+    let is : c.loop-place.word ≡ word_of (map bit (range_with_len 0 count)) =
+        c.loop-place.invariant ∙ ap₂ (λ from size. word_of (map bit (range_with_len from size))) first all in
+    subst (λ word. word < 2 ^ count) (sym is) (word_from-lt bit 0 count)

@@ -12,7 +12,8 @@ use Rattle.text_lines.proofs.Blanks.{dot-trimmed}
 use Rattle.plane_map.specs.Layout.{columns_of}
 use Rattle.plane_map.specs.declared.tile.TileKind.{TileKind}
 use Rattle.plane_map.specs.declared.tile.TileKind.TheVariants.{Io, Logic, RamB, RamT}
-use Rattle.asc_text.specs.Terms.{Statement, Comment, Device, WarmBoot, FrequencyRange, NoSleep, Tile, RamData, ExtraBit, Symbol}
+use Rattle.asc_text.specs.declared.statement.Statement.{Statement}
+use Rattle.asc_text.specs.declared.statement.Statement.TheVariants.{Comment, Device, WarmBoot, FrequencyRange, NoSleep, Tile, RamData, ExtraBit, Symbol}
 use Rattle.asc_text.specs.declared.fault.TileXy.{TileXy}
 use Rattle.asc_text.specs.declared.fault.AscCause.{AscCause}
 use Rattle.asc_text.specs.declared.fault.AscCause.TheVariants.{Row, Hex}
@@ -20,9 +21,8 @@ use Rattle.asc_text.specs.Statements.{begins_with_dot, statement_in, spelled, co
 use Rattle.asc_text.specs.Rows.{is_row, is_memory_line}
 use Rattle.asc_text.specs.Blocks.{has_rows, depth_after, depth_at, statement_over, statement_at}
 use Rattle.asc_text.specs.Faults.{Fault, asc_fault_of, fault_at, fault_with, cause_at, cause_if, row_cause, statement_cause, tile_named}
-use Rattle.bram_replace.specs.Replaced.{is_ram_data, is_in_ram, below_statement}
-use Rattle.bram_replace.specs.Rams.{is_ram_line, BeginsWithRam}
-use Rattle.bram_replace.proofs.Searches.{first_below-clear}
+use Rattle.asc_text.specs.Rams.{is_ram_data, is_in_ram, below_statement, is_ram_line, BeginsWithRam}
+use Rattle.place_search.proofs.Found.{first_below-clear}
 
 -- ---- the words of a statement
 

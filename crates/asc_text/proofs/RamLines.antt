@@ -201,10 +201,10 @@ opened : (lines : List (List ℕ)) (n : ℕ) → depth_at lines n ≡ 0 → 0 < 
 opened lines n flat deep = opened-inner (has_rows (statement_in (line_at lines n))) (depth_at lines (suc n)) (after-flat lines n flat) deep
 
 -- a line below a statement: that one has lines below it, and stands at most sixteen lines before
-record IsBelow (lines : List (List ℕ)) (n : ℕ) : Type 0 where
-  rows : has_rows (statement_over lines n) ≡ true
-  within : depth_at lines n ≤ n
-  few : depth_at lines n ≤ 16
+pub record IsBelow (lines : List (List ℕ)) (n : ℕ) : Type 0 where
+  pub rows : has_rows (statement_over lines n) ≡ true
+  pub within : depth_at lines n ≤ n
+  pub few : depth_at lines n ≤ 16
 
 below-opened : (lines : List (List ℕ)) (n : ℕ) (opens : Bool) → has_rows (statement_in (line_at lines n)) ≡ opens → depth_at lines (suc n) ≡ (if opens then 1 else 0)
     → 0 < depth_at lines (suc n) → IsBelow lines (suc n)

@@ -168,8 +168,8 @@ misfit-is words word digits bits holds =
 -- a word that is tested so fits
 pub fits-from : (words : List (List ℕ)) (word : List ℕ) (digits : Option ℕ) (bits : List Bool) (count : ℕ) (wide : Bool) → Holds words digits bits → count ≡ length (digits_in word)
     → wide ≡ (nat_le count 64 && (count == unwrap_or digits count)) → wide ≡ true → is_misfit (digits_set (words ++ word ∷ [])) word ≡ false
-fits-from words word digits bits count wide holds is tested yes =
-    misfit-is words word digits bits holds ∙ ap (λ n. not (nat_le n 64 && (n == unwrap_or digits n))) (sym is) ∙ ap not (sym tested ∙ yes)
+fits-from words word digits bits count wide holds is tested holds_so =
+    misfit-is words word digits bits holds ∙ ap (λ n. not (nat_le n 64 && (n == unwrap_or digits n))) (sym is) ∙ ap not (sym tested ∙ holds_so)
 
 -- ---- the words of a line
 
@@ -264,7 +264,7 @@ rest-written all more word e good = (and_parts (is_word word) (list_all is_word 
 take_while-few : (test : ℕ → Bool) (bytes : List ℕ) → length (take_while test bytes) ≤ length bytes
 take_while-few test [] = omega arith
 take_while-few test (byte ∷ bytes) =
-    rw (take_while-cons test byte bytes) (elim (test byte) as (λ yes. length (cond yes (byte ∷ take_while test bytes) []) ≤ suc (length bytes)) [
+    rw (take_while-cons test byte bytes) (elim (test byte) as (λ holds_so. length (cond holds_so (byte ∷ take_while test bytes) []) ≤ suc (length bytes)) [
       | true ↦ omega (arith, take_while-few test bytes)
       | false ↦ omega arith
     ])

@@ -9,3 +9,4 @@ pub mod Rows
 pub mod Rams
 pub mod Putting
 pub mod Steps
+pub mod Refused

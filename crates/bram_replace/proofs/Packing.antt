@@ -112,5 +112,5 @@ pub packed-decides : (f g : ℕ → Bool) → bytes_eq (packed f) (packed g) ≡
 packed-decides f g =
     let decides = bytes_eq-Decides (packed f) (packed g) in
     both_ways (bytes_eq (packed f) (packed g)) (is_same (column_from f) (column_from g))
-    (λ yes. is_same-from (column_from f) (column_from g) (column_from-same f g (λ word within. packed-at f g word (decides.0 yes) within)))
-    (λ yes. decides.1 (packed-same f g (λ word within. made-at f g 256 word (is_same-equal (column_from f) (column_from g) yes) within)))
+    (λ holds_so. is_same-from (column_from f) (column_from g) (column_from-same f g (λ word within. packed-at f g word (decides.0 holds_so) within)))
+    (λ holds_so. decides.1 (packed-same f g (λ word within. made-at f g 256 word (is_same-equal (column_from f) (column_from g) holds_so) within)))

@@ -160,7 +160,7 @@ column-put bits start to column bit word value size low few is there w place wit
     ]
 
 pub column-begun : (start : List Bool) (to : Contents) (column bit w place : ℕ) → listed start w place ≡ (if nat_lt w 0 && (place == bit) then column_bit to column w else listed start w place)
-column-begun start to column bit w place = refl
+column-begun start to column bit w place = rw (le-ltb w 0 (omega arith)) refl
 
 pub column-ended : (bits start : List Bool) (to : Contents) (column bit word : ℕ) → word ≡ 256
     → ((w place : ℕ) → w < 256 → place < 16 → listed bits w place ≡ (if nat_lt w word && (place == bit) then column_bit to column w else listed start w place))
@@ -208,9 +208,9 @@ put-count file bits found bit place column none size some within =
     let only = match-only file (ram_column (listed bits) bit) place column none (sym some) within in
     elim (cases_eq place column) [
       | inl same ↦
-          let yes : is_same (column_at file column) (ram_column (listed bits) bit) ≡ true = only ∙ eq-eqb place column same in
+          let holds_so : is_same (column_at file column) (ram_column (listed bits) bit) ≡ true = only ∙ eq-eqb place column same in
           let inside : place < length found = omega (arith, match-within file (ram_column (listed bits) bit) place (sym some)) in
-          rw yes (subst (λ k. get_or (set found place (get_or found place 0 + 1)) k 0 ≡ get_or found k 0 + 1) same (get_or-set_same found place (get_or found place 0 + 1) 0 inside))
+          rw holds_so (subst (λ k. get_or (set found place (get_or found place 0 + 1)) k 0 ≡ get_or found k 0 + 1) same (get_or-set_same found place (get_or found place 0 + 1) 0 inside))
       | inr apart ↦
           let not_so : is_same (column_at file column) (ram_column (listed bits) bit) ≡ false = only ∙ ne_eqb place column apart in
           rw not_so (get_or-set_other found place column (get_or found place 0 + 1) 0 (λ e. apart (sym e)) ∙ omega arith)

@@ -89,7 +89,10 @@ begins : (file : Contents) (place column : ℕ) → column < place → is_same (
     → repeat_among file (place + 1) column ≡ Some (SameColumns column place)
 begins file place column below equal none =
     let passes : is_repeat file column place ≡ true = rw (lt-ltb column place below, equal) refl in
-    ap (option_map (SameColumns column)) (least_below-more place (is_repeat file column) ∙ rw passes (or_here-true (least_below place (is_repeat file column)) place (map-none column (least_below place (is_repeat file column)) none)))
+    let more : least_below (place + 1) (is_repeat file column) ≡ or_here (least_below place (is_repeat file column)) (is_repeat file column place) place = least_below-more place (is_repeat file column) in
+    let first : or_here (least_below place (is_repeat file column)) (is_repeat file column place) place ≡ Some place =
+        ap (λ passes. or_here (least_below place (is_repeat file column)) passes place) passes ∙ or_here-true (least_below place (is_repeat file column)) place (map-none column (least_below place (is_repeat file column)) none) in
+    ap (option_map (SameColumns column)) (more ∙ first)
 
 -- the last column isn't repeated
 last-none : (file : Contents) (place : ℕ) → repeat_among file (place + 1) place ≡ None

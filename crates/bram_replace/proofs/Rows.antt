@@ -2,6 +2,7 @@
 use Rattle.std.proofs.Common.{◌≡◌, ◌≢◌, ℕ, zero, suc, ◌+◌, ◌-◌, ◌*◌, ◌/◌, ◌%◌, ◌^◌, ◌<◌, ◌≤◌, Bool, true, false, not, ◌&&◌, ◌==◌, List, [], ◌∷◌, ◌++◌, length, get_or, set, drop, refl, sym, ap, ap₂, ◌∙◌, subst, inl, inr, ◌⊎◌, arith, append-nil, append_assoc}
 use Rattle.std.specs.Prelude.{Option, Some, None, map, if◌then◌else◌}
 use Rattle.std.specs.List.{range_with_len}
+use mathlib.Core.Bool.{beq}
 use Rattle.std.proofs.lemmas.Bool.{cases_lt, cases_eq, cases_Bool, false≢true, eq-eqb, ne_eqb, eqb-true}
 use Rattle.std.proofs.lemmas.List.{get_or-set_same, get_or-set_other}
 use Rattle.place_search.specs.Places.{any_below, gathered_below}
@@ -76,6 +77,20 @@ changes-no old new row same =
       (λ bit low.
         let equal = same (16 * (16 * row + index) + bit) (omega arith) (omega arith) in
         ap not (ap (λ b. is_same_bit b (listed new (16 * row + index) bit)) equal ∙ is_same_bit-refl (listed new (16 * row + index) bit))))
+
+-- a line that changes, in two parts
+pub line-changed : (before after : RamBits) (row : ℕ) (whole old middle new : List ℕ) → changes before after row ≡ true → middle ≡ old ++ digits_with after row → new ≡ middle ++ drop 64 whole
+    → new ≡ old ++ memory_line_with before after row whole
+line-changed before after row whole old middle new changed first second =
+    second ∙ ap (λ text. text ++ drop 64 whole) first ∙ append_assoc old (digits_with after row) (drop 64 whole)
+    ∙ ap (λ changed. old ++ (if changed then digits_with after row ++ drop 64 whole else whole)) (sym changed)
+
+-- two bits that aren't equal
+pub differ : (bit other : Bool) → not (beq bit other) ≡ true → is_same_bit bit other ≡ false
+differ true true apart = absurd (false≢true apart)
+differ true false apart = refl
+differ false true apart = refl
+differ false false apart = absurd (false≢true apart)
 
 -- ---- digits
 

@@ -13,7 +13,7 @@ use Rattle.asc_text.specs.Faults.{asc_fault_of}
 use Rattle.bram_replace.specs.HexText.{Contents}
 use Rattle.bram_replace.specs.Columns.{column_count}
 use Rattle.bram_replace.specs.Replaced.{RamBits, ram_bits, bits_after, bits_found, memory_line_with, line_after, replaced, found_at, count_before, found_in}
-use Rattle.asc_text.specs.Rams.{BeginsWithRam, is_ram_data, is_in_ram, is_ram_line}
+use Rattle.asc_text.specs.Rams.{BeginsWithRam, below_statement, is_ram_data, is_in_ram, is_ram_line}
 use Rattle.bram_replace.proofs.HexLines.{cut, cut-end}
 use Rattle.asc_text.proofs.RamLines.{ram-begins, ram-not, ram-not-at, outside-more, at-flat, row-of, row-end, row-in, row-below, row-none, rows-within, begins}
 use Rattle.bram_replace.proofs.Rams.{count-few}
@@ -101,17 +101,17 @@ record IsRamAt (text rest : List ℕ) (n : ℕ) : Type 0 where
 
 ram-at : (from to : Contents) (text left out found content whole rest : List ℕ) → asc_fault_of text ≡ None → (p : Progress from to text left out found)
     → lines_of left ≡ content ∷ lines_of rest → whole_lines_of left ≡ whole ∷ whole_lines_of rest → is_ram_line content ≡ true → IsRamAt text rest p.n
-ram-at from to text left out found content whole rest none p lines wholes yes =
+ram-at from to text left out found content whole rest none p lines wholes holds_so =
     let line = first from to text left out found content whole rest p lines wholes in
-    let found = ram-begins text p.n none line.there p.outside (subst (λ l. is_ram_line l ≡ true) (sym line.content_is) yes) in
+    let found = ram-begins text p.n none line.there p.outside (subst (λ l. is_ram_line l ≡ true) (sym line.content_is) holds_so) in
     record { flat = found.0; is = found.1 }
 
 -- its lines follow
 pub ram-begins-next : (from to : Contents) (text left out found content whole rest : List ℕ) → asc_fault_of text ≡ None → Progress from to text left out found
     → lines_of left ≡ content ∷ lines_of rest → whole_lines_of left ≡ whole ∷ whole_lines_of rest → is_ram_line content ≡ true → BeginsWithRam (lines_of rest)
-ram-begins-next from to text left out found content whole rest none p lines wholes yes =
+ram-begins-next from to text left out found content whole rest none p lines wholes holds_so =
     let line = first from to text left out found content whole rest p lines wholes in
-    let ram = ram-at from to text left out found content whole rest none p lines wholes yes in
+    let ram = ram-at from to text left out found content whole rest none p lines wholes holds_so in
     subst BeginsWithRam (sym line.lines) (begins text p.n none line.there ram.flat ram.is)
 
 -- and each count has room for it
@@ -122,14 +122,23 @@ room from to text left out found none p column =
       | inr past ↦ omega (arith, get_or_past found column 0 (omega (arith, p.size)))
     ]
 
+-- a line of a RAM, from the lines below its statement and its place among them
+line_after-inside : (from to : Contents) (text : List ℕ) (n row : ℕ) (below : List (List ℕ)) → is_in_ram (lines_of text) n ≡ true → below_statement (lines_of text) n ≡ below → depth_at (lines_of text) n - 1 ≡ row
+    → line_after from to text n ≡ memory_line_with (ram_bits below) (bits_after from to (ram_bits below)) row (line_at (whole_lines_of text) n)
+unfolding line_after
+line_after-inside from to text n row below inside is place =
+    let whole = line_at (whole_lines_of text) n in
+    let before = ram_bits (below_statement (lines_of text) n) in
+    ap (λ inside. if inside then memory_line_with before (bits_after from to before) (depth_at (lines_of text) n - 1) whole else whole) inside
+    ∙ ap₂ (λ below row. memory_line_with (ram_bits below) (bits_after from to (ram_bits below)) row whole) is place
+
 line_after-row : (from to : Contents) (text : List ℕ) (n row : ℕ) → depth_at (lines_of text) n ≡ 0 → is_ram_data (statement_in (line_at (lines_of text) n)) ≡ true → row < 16
     → line_after from to text (n + 1 + row)
     ≡ memory_line_with (ram_bits (drop (n + 1) (lines_of text))) (bits_after from to (ram_bits (drop (n + 1) (lines_of text)))) row (line_at (whole_lines_of text) (n + 1 + row))
-unfolding line_after
 line_after-row from to text n row flat is few =
     let lines = lines_of text in
     let depth : depth_at lines (n + 1 + row) - 1 ≡ row = omega (arith, (row-of lines n row flat is few).depth) in
-    rw (row-in lines n row flat is few, row-below lines n row flat is few, depth) refl
+    line_after-inside from to text (n + 1 + row) row (drop (n + 1) lines) (row-in lines n row flat is few) (row-below lines n row flat is few) depth
 
 count-ram : (from : Contents) (lines : List (List ℕ)) (n column : ℕ) → depth_at lines n ≡ 0 → is_ram_data (statement_in (line_at lines n)) ≡ true
     → count_before from lines (n + 1 + 16) column ≡ count_before from lines n column + length (bits_found from (ram_bits (drop (n + 1) lines)) column)
@@ -147,11 +156,11 @@ pub Progress-ram : (from to : Contents) (text left out found content whole rest 
     → ((column : ℕ) → column < column_count from → get_or counts column 0 ≡ get_or found column 0 + length (bits_found from (ram_bits (lines_of rest)) column))
     → length counts ≡ length found → lines_of after ≡ drop 16 (lines_of rest) → whole_lines_of after ≡ drop 16 (whole_lines_of rest)
     → Progress from to text after new counts
-Progress-ram from to text left out found content whole rest middle after new counts none p lines wholes yes is appended counted size next next_wholes =
+Progress-ram from to text left out found content whole rest middle after new counts none p lines wholes holds_so is appended counted size next next_wholes =
     let n = p.n in
     let all = lines_of text in
     let line = first from to text left out found content whole rest p lines wholes in
-    let ram = ram-at from to text left out found content whole rest none p lines wholes yes in
+    let ram = ram-at from to text left out found content whole rest none p lines wholes holds_so in
     let given = line_after from to text in
     let rows : gathered_below 16 (λ row. given (n + 1 + row))
         ≡ gathered_below 16 (λ row. memory_line_with (ram_bits (lines_of rest)) (bits_after from to (ram_bits (lines_of rest))) row (line_at (whole_lines_of rest) row)) =

@@ -188,7 +188,8 @@ fn append_line(
         return bytes.extend_from_slice(whole);
     }
     append_digits(bytes, new, row)?;
-    bytes.extend_from_slice(&whole[LINE_DIGITS..])
+    bytes.extend_from_slice(&whole[LINE_DIGITS..])?;
+    Ok(())
 }
 
 /// Whether a word of a line changes.

@@ -63,7 +63,7 @@ fn check_text(alloc: Global, asc: &[u8]) -> Result<(), BramFault>
     match asc_text::read(alloc, asc) {
         Ok(_) => Ok(()),
         Err(AscFault::Memory(e)) => Err(BramFault::Memory(e)),
-        Err(fault) => Err(BramFault::Asc(fault)),
+        Err(AscFault::At { line, tile, cause }) => Err(BramFault::Asc(AscFault::At { line, tile, cause })),
     }
 }
 

@@ -84,8 +84,9 @@ fn image_booted(count: usize, options: Options, header: usize) -> usize
     ensures is { result ≡ image_booted count options header }
     ensures within { result < count }
 {
+    let power_on = options.power_on as usize;
     if header == 0 {
-        options.power_on as usize
+        power_on
     } else if header <= count {
         header - 1
     } else {

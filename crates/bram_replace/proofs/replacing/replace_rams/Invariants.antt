@@ -1,4 +1,5 @@
 use Rattle.std.proofs.Common.{length}
+use Rattle.text_lines.specs.Lines.{lines_of}
 use Rattle.bram_replace.proofs.Steps.{Progress}
 use Rattle.bram_replace.proofs.replacing.replace_rams.Given as goal
 
@@ -6,4 +7,4 @@ abbrev pub invariant-loop-line : goal.invariant-loop-line
 invariant-loop-line l = Progress l.columns.file.now l.to l.asc l.left l.bytes.items l.found.items
 
 abbrev pub decreases-loop-line : goal.decreases-loop-line
-decreases-loop-line l = length l.left
+decreases-loop-line l = length (lines_of l.left)

@@ -85,7 +85,7 @@ spelled-keyword word behind is =
     let words = words_of Spaces behind in
     let numbers = numbers_of words in
     let last = neither (bytes_eq word extra_bit_keyword) (extra_bit_of_numbers numbers) _ (no_extra_bit numbers)
-        (neither (bytes_eq word symbol_keyword) (symbol_of_parts (number_of (first_word Spaces behind)) (name_behind behind)) None (no_symbol (number_of (first_word Spaces behind)) (name_behind behind)) refl) in
+    (neither (bytes_eq word symbol_keyword) (symbol_of_parts (number_of (first_word Spaces behind)) (name_behind behind)) None (no_symbol (number_of (first_word Spaces behind)) (name_behind behind)) refl) in
     not_other (bytes_eq word ram_data_keyword) (ram_data_of_numbers numbers) _ last
     (not_first (bytes_eq word (tile_keyword RamT)) (tile_of_numbers RamT numbers) _ (no_tile RamT numbers)
     (not_first (bytes_eq word (tile_keyword RamB)) (tile_of_numbers RamB numbers) _ (no_tile RamB numbers)
@@ -122,7 +122,7 @@ ram_line-is line is some =
     let parts = and_parts (begins_with_dot line) (bytes_eq (first_word Spaces (trimmed line)) ram_data_keyword) is in
     let word = (bytes_eq-Decides (first_word Spaces (trimmed line)) ram_data_keyword).0 parts.1 in
     let spelled_so : statement_in line ≡ ram_data_of_numbers (numbers_of (words_of Spaces (behind_word Spaces (trimmed line)))) =
-        rw parts.0 (ap (λ w. spelled w (behind_word Spaces (trimmed line))) word) in
+    rw parts.0 (ap (λ w. spelled w (behind_word Spaces (trimmed line))) word) in
     rw spelled_so (ram_or_none (numbers_of (words_of Spaces (behind_word Spaces (trimmed line)))) (λ none. some (spelled_so ∙ none)))
 
 -- ---- lines of a text without a fault
@@ -308,21 +308,21 @@ ram-not-at lines n never =
 -- behind a line outside of RAMs that is no statement of one, the next is outside too
 pub outside-more : (lines : List (List ℕ)) (n : ℕ) → is_in_ram lines n ≡ false → is_ram_data (statement_in (line_at lines n)) ≡ false → is_in_ram lines (n + 1) ≡ false
 outside-more lines n outside other = rw add-one (elim (cases_lt 0 (depth_at lines (suc n))) [
-      | inl deep ↦ rw (lt-ltb 0 (depth_at lines (suc n)) deep) (elim (cases_lt 0 (depth_at lines n)) [
-          | inl inside ↦
-              let before : is_ram_data (statement_over lines n) ≡ false = rw (lt-ltb 0 (depth_at lines n) inside) at outside in
-              elim (cases_lt (depth_at lines n) 16) [
-                | inl inner ↦ ap is_ram_data (over-inner lines n (after-inner lines n inside inner)) ∙ before
-                | inr over ↦
-                    let last : depth_at lines n ≡ 16 = omega (arith, (below lines n inside).few) in
-                    absurd (omega (arith, after-last lines n last))
-              ]
-          | inr flat ↦
-              let zero_depth : depth_at lines n ≡ 0 = omega arith in
-              ap is_ram_data (over-flat lines n (opened lines n zero_depth deep)) ∙ other
-        ])
-      | inr flat ↦ rw (le-ltb 0 (depth_at lines (suc n)) flat) refl
-    ])
+  | inl deep ↦ rw (lt-ltb 0 (depth_at lines (suc n)) deep) (elim (cases_lt 0 (depth_at lines n)) [
+    | inl inside ↦
+        let before : is_ram_data (statement_over lines n) ≡ false = rw (lt-ltb 0 (depth_at lines n) inside) at outside in
+        elim (cases_lt (depth_at lines n) 16) [
+          | inl inner ↦ ap is_ram_data (over-inner lines n (after-inner lines n inside inner)) ∙ before
+          | inr over ↦
+              let last : depth_at lines n ≡ 16 = omega (arith, (below lines n inside).few) in
+              absurd (omega (arith, after-last lines n last))
+        ]
+    | inr flat ↦
+        let zero_depth : depth_at lines n ≡ 0 = omega arith in
+        ap is_ram_data (over-flat lines n (opened lines n zero_depth deep)) ∙ other
+  ])
+  | inr flat ↦ rw (le-ltb 0 (depth_at lines (suc n)) flat) refl
+])
 
 -- ---- the sixteen lines of a RAM
 

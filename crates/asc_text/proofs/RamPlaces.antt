@@ -127,10 +127,10 @@ apart x y (Some (Tile kind v w)) in_x in_y grid other = refl
 apart x y (Some (RamData v w)) in_x in_y grid other =
     let in_grid_too = grid v w refl in
     let differs : 34 * y + x ≢ 34 * w + v = λ e.
-        let row : w ≡ y = omega (arith, in_grid_too.0) in
-        let column : v ≡ x = omega arith in
-        let yes : ((v == x) && (w == y)) ≡ true = rw (eq-eqb v x column, eq-eqb w y row) refl in
-        false≢true (sym other ∙ yes) in
+    let row : w ≡ y = omega (arith, in_grid_too.0) in
+    let column : v ≡ x = omega arith in
+    let yes : ((v == x) && (w == y)) ≡ true = rw (eq-eqb v x column, eq-eqb w y row) refl in
+    false≢true (sym other ∙ yes) in
     rw (ne_eqb (34 * y + x) (34 * w + v) differs) refl
 apart x y (Some (ExtraBit bank v w)) in_x in_y grid other = refl
 apart x y (Some (Symbol net)) in_x in_y grid other = refl
@@ -176,8 +176,8 @@ apart-more text n (Some (RamData x y)) none within is before =
     let lines = lines_of text in
     let new = new-at text n x y none within is in
     let never : list_any (eqb (34 * y + x)) (ram_places lines n) ≡ false = any-none (34 * y + x) n (λ k. ram_place (statement_at lines k)) (λ k below.
-        apart x y (statement_at lines k) new.column new.row
-        (λ v w there. let other = new-at text k v w none (omega arith) there in (other.column, other.row)) (new.first k below)) in
+    apart x y (statement_at lines k) new.column new.row
+    (λ v w there. let other = new-at text k v w none (omega arith) there in (other.column, other.row)) (new.first k below)) in
     record {
       distinct = IsDistinct-push nat_eq_equiv (ram_places lines n) (34 * y + x) before.distinct never;
       few = λ q any. few-push (ram_places lines n) (34 * y + x) q before.few (omega (arith, new.column, new.row)) any;
@@ -194,4 +194,3 @@ pub few-rams : (text : List ℕ) (n : ℕ) → asc_fault_of text ≡ None → n 
 few-rams text n none within =
     let places = all-apart text n none within in
     length-le_from_distinct_below (ram_places (lines_of text) n) 1156 places.distinct places.few
-

@@ -30,9 +30,9 @@ content-first (byte ∷ bytes) =
     elim (cases_Bool (byte == 10)) [
       | inl lf ↦ rw lf (omega arith)
       | inr other ↦ rw (other, first_length-more byte (whole_lines_of bytes)) (elim (cases_Bool ((byte == 13) && is_at_lf bytes)) [
-          | inl cr ↦ rw cr (omega (arith, later))
-          | inr inner ↦ rw (inner, first_length-more byte (lines_of bytes)) (omega (arith, later))
-        ])
+        | inl cr ↦ rw cr (omega (arith, later))
+        | inr inner ↦ rw (inner, first_length-more byte (lines_of bytes)) (omega (arith, later))
+      ])
     ]
 
 -- a line without its end is no longer than with it
@@ -108,7 +108,7 @@ ReadSoFar-more text line count digits next bits new read at taken accepted = rec
     | inr more ↦
         let e : count ≡ k = omega arith in
         subst (λ n. line_cause (lines_of text) n ≡ None) e (cause-is text line count at ∙ accepted (words_before (lines_of text) count) read.holds)
-    ];
+  ];
 }
 
 tells-carried : (fault other : Option HexFault) (told : HexFault) → TellsHex fault told → ((f : HexFault) → fault ≡ Some f → other ≡ Some f) → TellsHex other told
@@ -127,7 +127,7 @@ first_fault text line count digits bits told read within at refused =
     tells-carried (words_cause (digits_set (words_before (lines_of text) count ++ words_in line)) (words_in line) (count + 1)) (hex_fault_of text) told
     (refused (words_before (lines_of text) count) read.holds)
     (λ f is. ap (λ o. or_else o (depth_cause (length (all_words text))))
-      (first_below-first (length (lines_of text)) count (line_cause (lines_of text)) f within read.fine (cause-is text line count at ∙ is)))
+    (first_below-first (length (lines_of text)) count (line_cause (lines_of text)) f within read.fine (cause-is text line count at ∙ is)))
 
 -- at the end the number of words decides
 pub end_fault : (text : List ℕ) (digits : Option ℕ) (bits : List Bool) → ReadSoFar text (length (lines_of text)) digits bits → hex_fault_of text ≡ depth_cause (length (all_words text))

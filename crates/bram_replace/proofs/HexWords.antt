@@ -80,16 +80,16 @@ length-bits_in word = length-turned word
 pub digits-few : (word : List ℕ) → length (digits_in word) ≤ length word
 digits-few [] = omega arith
 digits-few (byte ∷ bytes) = elim (is_hex_digit byte) as (λ is. length (cond is (byte ∷ digits_in bytes) (digits_in bytes)) ≤ length (byte ∷ bytes)) [
-      | true ↦ omega (arith, digits-few bytes)
-      | false ↦ omega (arith, digits-few bytes)
-    ]
+  | true ↦ omega (arith, digits-few bytes)
+  | false ↦ omega (arith, digits-few bytes)
+]
 
 some-among : (word : List ℕ) → list_any is_hex_digit word ≡ true → 0 < length (digits_in word)
 some-among [] some = absurd (false≢true some)
 some-among (byte ∷ bytes) some = elim (cases_Bool (is_hex_digit byte)) [
-      | inl is ↦ rw is (omega arith)
-      | inr is ↦ let later : list_any is_hex_digit bytes ≡ true = rw is at some in rw is (some-among bytes later)
-    ]
+  | inl is ↦ rw is (omega arith)
+  | inr is ↦ let later : list_any is_hex_digit bytes ≡ true = rw is at some in rw is (some-among bytes later)
+]
 
 -- a word has a digit
 pub digits-some : (word : List ℕ) → is_word word ≡ true → 0 < length (digits_in word)
@@ -155,9 +155,9 @@ digits_set-known (first ∷ words) word = refl
 
 misfit-test : (digits set : ℕ) → (not (digits == set) || nat_lt 64 digits) ≡ not (nat_le digits 64 && (digits == set))
 misfit-test digits set = elim (cases_lt 64 digits) [
-      | inl more ↦ rw (lt-ltb 64 digits more, lt-leb digits 64 more) (or-true (not (digits == set)))
-      | inr few ↦ rw (le-ltb 64 digits few, le-leb digits 64 few) (or-false (not (digits == set)))
-    ]
+  | inl more ↦ rw (lt-ltb 64 digits more, lt-leb digits 64 more) (or-true (not (digits == set)))
+  | inr few ↦ rw (le-ltb 64 digits few, le-leb digits 64 few) (or-false (not (digits == set)))
+]
 
 pub misfit-is : (words : List (List ℕ)) (word : List ℕ) (digits : Option ℕ) (bits : List Bool) → Holds words digits bits
     → is_misfit (digits_set (words ++ word ∷ [])) word ≡ not (nat_le (length (digits_in word)) 64 && (length (digits_in word) == unwrap_or digits (length (digits_in word))))
@@ -205,7 +205,7 @@ pub cause-none : (words all : List (List ℕ)) (digits : Option ℕ) (bits : Lis
     → words_cause (digits_set (words ++ all)) all number ≡ None
 cause-none words all digits bits number holds good =
     let fit = or_parts (list_any (is_misfit (digits_set (words ++ all))) words) (list_any (is_misfit (digits_set (words ++ all))) all)
-        (sym (list_any-append (is_misfit (digits_set (words ++ all))) words all) ∙ holds.fit) in
+    (sym (list_any-append (is_misfit (digits_set (words ++ all))) words all) ∙ holds.fit) in
     rw (good, fit.1) refl
 
 -- a word that isn't written in digits

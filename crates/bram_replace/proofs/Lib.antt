@@ -9,4 +9,3 @@ pub mod Rows
 pub mod Rams
 pub mod Putting
 pub mod Steps
-pub mod Refused

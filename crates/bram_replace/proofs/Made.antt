@@ -11,7 +11,7 @@ map-range-same f g from zero same = refl
 map-range-same f g from (suc n) same =
     let here : f from ≡ g from = let e : from + 0 ≡ from = omega arith in subst (λ k. f k ≡ g k) e (same 0 (omega arith)) in
     let later : (k : ℕ) → k < n → f (from + 1 + k) ≡ g (from + 1 + k) = λ k within.
-        let e : from + (k + 1) ≡ from + 1 + k = omega arith in subst (λ k. f k ≡ g k) e (same (k + 1) (omega arith)) in
+    let e : from + (k + 1) ≡ from + 1 + k = omega arith in subst (λ k. f k ≡ g k) e (same (k + 1) (omega arith)) in
     ap₂ (λ x xs. x ∷ xs) here (map-range-same f g (from + 1) n later)
 
 pub made-same : {X : Type 0} (f g : ℕ → X) (n : ℕ) → ((k : ℕ) → k < n → f k ≡ g k) → map f (range_with_len 0 n) ≡ map g (range_with_len 0 n)

@@ -56,7 +56,7 @@ memory-words words count bits holds =
     let set = known-set words count holds.digits_are in
     let fit : list_any (is_misfit count) words ≡ false = subst (λ n. list_any (is_misfit n) words ≡ false) set holds.fit in
     let rows : rows_of (4 * count) (length bits / (4 * count)) bits ≡ map bits_in words =
-        ap₂ (λ height xs. rows_of (4 * count) height xs) (words-count words count bits holds) holds.bits_are ∙ rows-words count words fit in
+    ap₂ (λ height xs. rows_of (4 * count) height xs) (words-count words count bits holds) holds.bits_are ∙ rows-words count words fit in
     ap₂ (λ n ws. let c : Contents = record { digits = n; words = ws } in c) (sym set) rows
 
 -- no words are no blocks
@@ -116,8 +116,8 @@ pub column-is : (digits : ℕ) (bits : List Bool) (column : ℕ) → 0 < digits 
 column-is digits bits column some within =
     packed-same (λ place. get_or bits (256 * (column / (4 * digits)) * (4 * digits) + column % (4 * digits) + place * (4 * digits)) false) (column_bit (memory_of digits bits) column)
     (λ word few.
-      let here : 256 * (column / (4 * digits)) * (4 * digits) + column % (4 * digits) + word * (4 * digits) ≡ (256 * (column / (4 * digits)) + word) * (4 * digits) + column % (4 * digits) = omega arith in
-      ap (λ n. get_or bits n false) here ∙ column_bit-is digits bits column word some within few)
+    let here : 256 * (column / (4 * digits)) * (4 * digits) + column % (4 * digits) + word * (4 * digits) ≡ (256 * (column / (4 * digits)) + word) * (4 * digits) + column % (4 * digits) = omega arith in
+    ap (λ n. get_or bits n false) here ∙ column_bit-is digits bits column word some within few)
 
 -- the last bit of a column is there
 pub column-within : (digits : ℕ) (bits : List Bool) (column : ℕ) → 0 < digits → column < column_count (memory_of digits bits)

@@ -62,7 +62,7 @@ word_from-at count f g k same within =
     let fs = map f (range_with_len 0 count) in
     let gs = map g (range_with_len 0 count) in
     let lists : fs ≡ gs =
-        sym (word_bits-word_of fs) ∙ ap₂ (λ n word. word_bits n word) (length-map-range_with_len f 0 count ∙ sym (length-map-range_with_len g 0 count)) same ∙ word_bits-word_of gs in
+    sym (word_bits-word_of fs) ∙ ap₂ (λ n word. word_bits n word) (length-map-range_with_len f 0 count ∙ sym (length-map-range_with_len g 0 count)) same ∙ word_bits-word_of gs in
     made-at f g count k lists within
 
 -- ---- equal columns
@@ -71,25 +71,25 @@ pub packed-same : (f g : ℕ → Bool) → ((word : ℕ) → word < 256 → f wo
 unfolding packed
 packed-same f g same =
     let quarter : (from : ℕ) → from + 64 ≤ 256 → word_from 64 (λ place. f (from + place)) ≡ word_from 64 (λ place. g (from + place)) =
-        λ from within. word_from-same 64 (λ place. f (from + place)) (λ place. g (from + place)) (λ k few. same (from + k) (omega arith)) in
+    λ from within. word_from-same 64 (λ place. f (from + place)) (λ place. g (from + place)) (λ k few. same (from + k) (omega arith)) in
     rw (quarter 0 (omega arith), quarter 64 (omega arith), quarter 128 (omega arith), quarter 192 (omega arith)) refl
 
 packed-at : (f g : ℕ → Bool) (word : ℕ) → packed f ≡ packed g → word < 256 → f word ≡ g word
 unfolding packed
 packed-at f g word same within =
     let quarter : (from : ℕ) → word_from 64 (λ place. f (from + place)) ≡ word_from 64 (λ place. g (from + place)) → from ≤ word → word < from + 64 → f word ≡ g word =
-        λ from e low high.
-        let here : from + (word - from) ≡ word = omega arith in
-        subst (λ k. f k ≡ g k) here (word_from-at 64 (λ place. f (from + place)) (λ place. g (from + place)) (word - from) e (omega arith)) in
+    λ from e low high.
+    let here : from + (word - from) ≡ word = omega arith in
+    subst (λ k. f k ≡ g k) here (word_from-at 64 (λ place. f (from + place)) (λ place. g (from + place)) (word - from) e (omega arith)) in
     elim (cases_lt word 64) [
       | inl a ↦ quarter 0 (cc) (omega arith) (omega arith)
       | inr b ↦ elim (cases_lt word 128) [
-          | inl c ↦ quarter 64 (cc) (omega arith) (omega arith)
-          | inr d ↦ elim (cases_lt word 192) [
-              | inl e ↦ quarter 128 (cc) (omega arith) (omega arith)
-              | inr f ↦ quarter 192 (cc) (omega arith) (omega arith)
-            ]
+        | inl c ↦ quarter 64 (cc) (omega arith) (omega arith)
+        | inr d ↦ elim (cases_lt word 192) [
+          | inl e ↦ quarter 128 (cc) (omega arith) (omega arith)
+          | inr f ↦ quarter 192 (cc) (omega arith) (omega arith)
         ]
+      ]
     ]
 
 -- four numbers of 64 bits each
@@ -99,12 +99,12 @@ pub packed-quarters : (bits : List Bool) (first step a b c d : ℕ) → a ≡ wo
 unfolding packed
 packed-quarters bits first step a b c d is_a is_b is_c is_d =
     let part : (from word : ℕ) → word ≡ word_from 64 (λ place. get_or bits (first + from * step + place * step) false)
-        → word ≡ word_from 64 (λ place. get_or bits (first + (from + place) * step) false) = λ from word is.
-        is ∙ word_from-same 64 (λ place. get_or bits (first + from * step + place * step) false) (λ place. get_or bits (first + (from + place) * step) false)
-        (λ k few. let here : first + from * step + k * step ≡ first + (from + k) * step = omega arith in ap (λ n. get_or bits n false) here) in
+    → word ≡ word_from 64 (λ place. get_or bits (first + (from + place) * step) false) = λ from word is.
+    is ∙ word_from-same 64 (λ place. get_or bits (first + from * step + place * step) false) (λ place. get_or bits (first + (from + place) * step) false)
+    (λ k few. let here : first + from * step + k * step ≡ first + (from + k) * step = omega arith in ap (λ n. get_or bits n false) here) in
     let start : a ≡ word_from 64 (λ place. get_or bits (first + (0 + place) * step) false) =
-        is_a ∙ word_from-same 64 (λ place. get_or bits (first + place * step) false) (λ place. get_or bits (first + (0 + place) * step) false)
-        (λ k few. let here : first + k * step ≡ first + (0 + k) * step = omega arith in ap (λ n. get_or bits n false) here) in
+    is_a ∙ word_from-same 64 (λ place. get_or bits (first + place * step) false) (λ place. get_or bits (first + (0 + place) * step) false)
+    (λ k few. let here : first + k * step ≡ first + (0 + k) * step = omega arith in ap (λ n. get_or bits n false) here) in
     rw (start, part 64 b is_b, part 128 c is_c, part 192 d is_d) refl
 
 -- the test of numbers is that of bits

@@ -154,9 +154,9 @@ column-put bits start to column bit word value size low few is there w place wit
             | inr apart ↦ rw (ne_eqb place bit apart) (there w place within below ∙ rw (least) refl)
           ])
       | inr other ↦ elim (cases_lt w word) [
-          | inl before ↦ rw (ne_eqb w word other, lt-ltb w (word + 1) (omega arith)) (there w place within below ∙ rw (lt-ltb w word before) refl)
-          | inr after ↦ rw (ne_eqb w word other, le-ltb w (word + 1) (omega arith)) (there w place within below ∙ rw (le-ltb w word after) refl)
-        ]
+        | inl before ↦ rw (ne_eqb w word other, lt-ltb w (word + 1) (omega arith)) (there w place within below ∙ rw (lt-ltb w word before) refl)
+        | inr after ↦ rw (ne_eqb w word other, le-ltb w (word + 1) (omega arith)) (there w place within below ∙ rw (le-ltb w word after) refl)
+      ]
     ]
 
 pub column-begun : (start : List Bool) (to : Contents) (column bit w place : ℕ) → listed start w place ≡ (if nat_lt w 0 && (place == bit) then column_bit to column w else listed start w place)
@@ -233,9 +233,9 @@ bits-more from to bits new start bit low there here word place few within =
           let old : (w : ℕ) → w < 256 → listed bits w place ≡ listed start w place = λ w small. there w place small within ∙ rw (le-ltb place bit (omega arith)) refl in
           rw (eq-eqb place bit same, lt-ltb place (bit + 1) (omega arith)) (after-alike from to (listed bits) (listed start) word place old few)
       | inr apart ↦ elim (cases_lt place bit) [
-          | inl before ↦ rw (ne_eqb place bit apart, lt-ltb place (bit + 1) (omega arith)) (there word place few within ∙ rw (lt-ltb place bit before) refl)
-          | inr after ↦ rw (ne_eqb place bit apart, le-ltb place (bit + 1) (omega arith)) (there word place few within ∙ rw (le-ltb place bit after) refl)
-        ]
+        | inl before ↦ rw (ne_eqb place bit apart, lt-ltb place (bit + 1) (omega arith)) (there word place few within ∙ rw (lt-ltb place bit before) refl)
+        | inr after ↦ rw (ne_eqb place bit apart, le-ltb place (bit + 1) (omega arith)) (there word place few within ∙ rw (le-ltb place bit after) refl)
+      ]
     ]
 
 pub bits-ended : (from to : Contents) (bits start : List Bool) (bit : ℕ) → bit ≡ 16
@@ -250,7 +250,7 @@ pub counts-more : (from : Contents) (bits start : List Bool) (to : Contents) (bi
     → count ≡ first + length (gathered_below (bit + 1) (bit_found from (listed start) column))
 counts-more from bits start to bit column before count first low there so_far next =
     let same : ram_column (listed bits) bit ≡ ram_column (listed start) bit =
-        column_from-same (λ w. listed bits w bit) (λ w. listed start w bit) (λ w few. there w bit few low ∙ rw (le-ltb bit bit (omega arith)) refl) in
+    column_from-same (λ w. listed bits w bit) (λ w. listed start w bit) (λ w few. there w bit few low ∙ rw (le-ltb bit bit (omega arith)) refl) in
     let found : bit_found from (listed bits) column bit ≡ bit_found from (listed start) column bit = ap (λ other. if is_same (column_at from column) other then bit ∷ [] else []) same in
     let more = ap length (gathered_below-more bit (bit_found from (listed start) column)) ∙ length-append (gathered_below bit (bit_found from (listed start) column)) (bit_found from (listed start) column bit) in
     omega (arith, so_far, next, ap length found, more)

@@ -16,7 +16,7 @@ use Rattle.bram_replace.specs.Replaced.{bits_found, bit_found, found_at, count_b
 few-found : (from : Contents) (bits : RamBits) (column : ℕ) → length (bits_found from bits column) ≤ 16
 few-found from bits column =
     let few : (bit : ℕ) → length (bit_found from bits column bit) ≤ 1 = λ bit.
-        elim (is_same (column_at from column) (ram_column bits bit)) as (λ is. length (if is then bit ∷ [] else []) ≤ 1) [ true ↦ omega arith | false ↦ omega arith ] in
+    elim (is_same (column_at from column) (ram_column bits bit)) as (λ is. length (if is then bit ∷ [] else []) ≤ 1) [ true ↦ omega arith | false ↦ omega arith ] in
     omega (arith, length-gathered_below 16 1 (bit_found from bits column) few)
 
 found-line : (from : Contents) (lines : List (List ℕ)) (n column : ℕ) → length (found_at from lines column n) ≤ 16 * length (ram_place (statement_at lines n))
@@ -30,9 +30,13 @@ count-rams : (from : Contents) (lines : List (List ℕ)) (n column : ℕ) → co
 unfolding gathered_below
 count-rams from lines zero column = omega arith
 count-rams from lines (suc n) column =
-    omega (arith, count-rams from lines n column, found-line from lines n column,
-    length-append (gathered_below n (found_at from lines column)) (found_at from lines column n),
-    length-append (ram_places lines n) (ram_place (statement_at lines n)))
+    omega (
+      arith,
+      count-rams from lines n column,
+      found-line from lines n column,
+      length-append (gathered_below n (found_at from lines column)) (found_at from lines column n),
+      length-append (ram_places lines n) (ram_place (statement_at lines n)),
+    )
 
 -- a count has room for another RAM
 pub count-few : (from : Contents) (text : List ℕ) (n column : ℕ) → asc_fault_of text ≡ None → n ≤ length (lines_of text) → count_before from (lines_of text) n column ≤ 18496

@@ -65,10 +65,10 @@ pub Finds-known : (file : Contents) (place first : ℕ) (found : List ℕ → Op
 Finds-known file place first found finds some bit =
     let test = tests file bit in
     finds bit ∙ sym (least_below-more place test ∙ or_here-some (least_below place test) (test place) place (λ equal none.
-      let same = is_same-equal (column_at file place) (column_from bit) equal in
-      let here : least_below place test ≡ Some first = ap (λ bits. least_below place (λ column. is_same (column_at file column) bits)) (sym same) ∙ sym (finds (column_bit file place)) ∙ some in
-      let clash : None ≡ Some first = sym none ∙ here in
-      absurd cc))
+    let same = is_same-equal (column_at file place) (column_from bit) equal in
+    let here : least_below place test ≡ Some first = ap (λ bits. least_below place (λ column. is_same (column_at file column) bits)) (sym same) ∙ sym (finds (column_bit file place)) ∙ some in
+    let clash : None ≡ Some first = sym none ∙ here in
+    absurd cc))
 
 -- ---- repeats
 
@@ -91,7 +91,7 @@ begins file place column below equal none =
     let passes : is_repeat file column place ≡ true = rw (lt-ltb column place below, equal) refl in
     let more : least_below (place + 1) (is_repeat file column) ≡ or_here (least_below place (is_repeat file column)) (is_repeat file column place) place = least_below-more place (is_repeat file column) in
     let first : or_here (least_below place (is_repeat file column)) (is_repeat file column place) place ≡ Some place =
-        ap (λ passes. or_here (least_below place (is_repeat file column)) passes place) passes ∙ or_here-true (least_below place (is_repeat file column)) place (map-none column (least_below place (is_repeat file column)) none) in
+    ap (λ passes. or_here (least_below place (is_repeat file column)) passes place) passes ∙ or_here-true (least_below place (is_repeat file column)) place (map-none column (least_below place (is_repeat file column)) none) in
     ap (option_map (SameColumns column)) (more ∙ first)
 
 -- the last column isn't repeated

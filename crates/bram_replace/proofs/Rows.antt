@@ -35,7 +35,7 @@ changes-same : (before old after new : RamBits) (row : ℕ) → AreAlike 256 bef
 changes-same before old after new row olds news within =
     any_below-same 16 (λ index. any_below 16 (λ bit. not (is_same_bit (before (16 * row + index) bit) (after (16 * row + index) bit)))) (λ index. any_below 16 (λ bit. not (is_same_bit (old (16 * row + index) bit) (new (16 * row + index) bit))))
     (λ index few. any_below-same 16 (λ bit. not (is_same_bit (before (16 * row + index) bit) (after (16 * row + index) bit))) (λ bit. not (is_same_bit (old (16 * row + index) bit) (new (16 * row + index) bit)))
-      (λ bit low. ap₂ (λ a b. not (is_same_bit a b)) (olds (16 * row + index) bit (omega arith) low) (news (16 * row + index) bit (omega arith) low)))
+    (λ bit low. ap₂ (λ a b. not (is_same_bit a b)) (olds (16 * row + index) bit (omega arith) low) (news (16 * row + index) bit (omega arith) low)))
 
 word-same : (bits others : RamBits) (word : ℕ) → AreAlike 256 bits others → word < 256 → word_with bits word ≡ word_with others word
 word-same bits others word alike few = ap word_of (made-same (bits word) (others word) 16 (λ bit within. alike word bit few within))
@@ -74,9 +74,9 @@ pub changes-no : (old new : List Bool) (row : ℕ) → ((place : ℕ) → 256 * 
 changes-no old new row same =
     any_below-none 16 (λ index. any_below 16 (λ bit. not (is_same_bit (listed old (16 * row + index) bit) (listed new (16 * row + index) bit))))
     (λ index few. any_below-none 16 (λ bit. not (is_same_bit (listed old (16 * row + index) bit) (listed new (16 * row + index) bit)))
-      (λ bit low.
-        let equal = same (16 * (16 * row + index) + bit) (omega arith) (omega arith) in
-        ap not (ap (λ b. is_same_bit b (listed new (16 * row + index) bit)) equal ∙ is_same_bit-refl (listed new (16 * row + index) bit))))
+    (λ bit low.
+    let equal = same (16 * (16 * row + index) + bit) (omega arith) (omega arith) in
+    ap not (ap (λ b. is_same_bit b (listed new (16 * row + index) bit)) equal ∙ is_same_bit-refl (listed new (16 * row + index) bit))))
 
 -- a line that changes, in two parts
 pub line-changed : (before after : RamBits) (row : ℕ) (whole old middle new : List ℕ) → changes before after row ≡ true → middle ≡ old ++ digits_with after row → new ≡ middle ++ drop 64 whole
@@ -131,13 +131,13 @@ pub listed-set : (bits : List Bool) (word bit at place : ℕ) (value : Bool) →
 listed-set bits word bit at place value within low few =
     elim (cases_eq word at) [
       | inl same ↦ elim (cases_eq bit place) [
-          | inl equal ↦
-              let e : 16 * word + bit ≡ 16 * at + place = omega arith in
-              rw (eq-eqb word at same, eq-eqb bit place equal, e) (get_or-set_same bits (16 * at + place) value false within)
-          | inr apart ↦
-              let other : 16 * word + bit ≢ 16 * at + place = λ e. apart (omega arith) in
-              rw (eq-eqb word at same, ne_eqb bit place apart) (get_or-set_other bits (16 * at + place) (16 * word + bit) value false other)
-        ]
+        | inl equal ↦
+            let e : 16 * word + bit ≡ 16 * at + place = omega arith in
+            rw (eq-eqb word at same, eq-eqb bit place equal, e) (get_or-set_same bits (16 * at + place) value false within)
+        | inr apart ↦
+            let other : 16 * word + bit ≢ 16 * at + place = λ e. apart (omega arith) in
+            rw (eq-eqb word at same, ne_eqb bit place apart) (get_or-set_other bits (16 * at + place) (16 * word + bit) value false other)
+      ]
       | inr apart ↦
           let other : 16 * word + bit ≢ 16 * at + place = λ e. apart (omega arith) in
           rw (ne_eqb word at apart) (get_or-set_other bits (16 * at + place) (16 * word + bit) value false other)

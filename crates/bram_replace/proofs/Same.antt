@@ -56,9 +56,9 @@ one_column file first second none in_first in_second e =
     elim (cases_eq first second) [
       | inl same ↦ same
       | inr apart ↦ elim (cases_lt first second) [
-          | inl less ↦ absurd (false≢true (sym (different file first second none less in_second) ∙ is_same-from (column_at file first) (column_at file second) e))
-          | inr more ↦ absurd (false≢true (sym (different file second first none (omega arith) in_first) ∙ is_same-from (column_at file second) (column_at file first) (sym e)))
-        ]
+        | inl less ↦ absurd (false≢true (sym (different file first second none less in_second) ∙ is_same-from (column_at file first) (column_at file second) e))
+        | inr more ↦ absurd (false≢true (sym (different file second first none (omega arith) in_first) ∙ is_same-from (column_at file second) (column_at file first) (sym e)))
+      ]
     ]
 
 -- the column that is found is the only one that is equal
@@ -71,9 +71,9 @@ match-only file bits place column none found within =
     elim (cases_eq place column) [
       | inl same ↦ rw (eq-eqb place column same) (subst (λ k. is_same (column_at file k) bits ≡ true) same least.passes)
       | inr apart ↦ rw (ne_eqb place column apart) (elim (cases_Bool (is_same (column_at file column) bits)) [
-          | inl is ↦ absurd (apart (one_column file place column none least.within within (equal ∙ sym (is_same-equal (column_at file column) bits is))))
-          | inr is ↦ is
-        ])
+        | inl is ↦ absurd (apart (one_column file place column none least.within within (equal ∙ sym (is_same-equal (column_at file column) bits is))))
+        | inr is ↦ is
+      ])
     ]
 
 -- where none is found none is equal

@@ -163,11 +163,11 @@ Progress-ram from to text left out found content whole rest middle after new cou
     let ram = ram-at from to text left out found content whole rest none p lines wholes holds_so in
     let given = line_after from to text in
     let rows : gathered_below 16 (λ row. given (n + 1 + row))
-        ≡ gathered_below 16 (λ row. memory_line_with (ram_bits (lines_of rest)) (bits_after from to (ram_bits (lines_of rest))) row (line_at (whole_lines_of rest) row)) =
-        gathered_below-same 16 (λ row. given (n + 1 + row)) (λ row. memory_line_with (ram_bits (lines_of rest)) (bits_after from to (ram_bits (lines_of rest))) row (line_at (whole_lines_of rest) row))
-        (λ row few. line_after-row from to text n row ram.flat ram.is few
-          ∙ ap₂ (λ ls ws. memory_line_with (ram_bits ls) (bits_after from to (ram_bits ls)) row ws) (sym line.lines)
-            (sym (ap (λ ws. line_at ws row) line.wholes ∙ get_or-drop (n + 1) (whole_lines_of text) row []))) in
+    ≡ gathered_below 16 (λ row. memory_line_with (ram_bits (lines_of rest)) (bits_after from to (ram_bits (lines_of rest))) row (line_at (whole_lines_of rest) row)) =
+    gathered_below-same 16 (λ row. given (n + 1 + row)) (λ row. memory_line_with (ram_bits (lines_of rest)) (bits_after from to (ram_bits (lines_of rest))) row (line_at (whole_lines_of rest) row))
+    (λ row few. line_after-row from to text n row ram.flat ram.is few
+    ∙ ap₂ (λ ls ws. memory_line_with (ram_bits ls) (bits_after from to (ram_bits ls)) row ws) (sym line.lines)
+    (sym (ap (λ ws. line_at ws row) line.wholes ∙ get_or-drop (n + 1) (whole_lines_of text) row []))) in
     let end : n + 17 ≡ n + 1 + 16 = omega arith in
     record {
       n = n + 1 + 16;

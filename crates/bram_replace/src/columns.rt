@@ -6,11 +6,10 @@ ghost use Rattle.std.specs.BTreeMap.{get, is_at};
 ghost use Rattle.bram_replace.specs.Columns.{column_bit, column_count, column_from, match_of, same_fault};
 ghost use Rattle.bram_replace.specs.Packed.{Finds, earlier, first_repeat, packed, repeat_told, word_from};
 
-use std::alloc::{AllocError, Global};
-use std::collections::BTreeMap;
-
 use crate::fault::BramFault;
 use crate::hex_file::HexFile;
+use std::alloc::{AllocError, Global};
+use std::collections::BTreeMap;
 
 /// 256 bits as four numbers, which are quick to compare: bit i is bit i % 64 of number i / 64.
 pub(crate) type Column = [u64; 4];

@@ -63,7 +63,11 @@ fn check_text(alloc: Global, asc: &[u8]) -> Result<(), BramFault>
     match asc_text::read(alloc, asc) {
         Ok(_) => Ok(()),
         Err(AscFault::Memory(e)) => Err(BramFault::Memory(e)),
-        Err(AscFault::At { line, tile, cause }) => Err(BramFault::Asc(AscFault::At { line, tile, cause })),
+        Err(AscFault::At { line, tile, cause }) => Err(BramFault::Asc(AscFault::At {
+            line,
+            tile,
+            cause,
+        })),
     }
 }
 

@@ -1,10 +1,10 @@
 use super::*;
-
 use asc_text::{AscCause, AscFault, TileXy};
 use std::alloc::{AllocError, Global};
 
 /// The lines of a RAM whose word a is the digit a mod 16, and of one whose word a is 15 less that digit.
 const RISING: &str = "000f000e000d000c000b000a0009000800070006000500040003000200010000";
+
 const FALLING: &str = "0000000100020003000400050006000700080009000a000b000c000d000e000f";
 
 /// Texts of lines without their ends.
@@ -69,8 +69,7 @@ fn gives(alloc: Global, asc: &Text, expected: &Text, found: &[u32]) -> Result<bo
     let to = file(alloc, false)?;
     Ok(match replace(alloc, &asc.bytes, &from, &to) {
         Ok(answer) => {
-            answer.bytes.as_slice() == expected.bytes.as_slice()
-                && answer.found.as_slice() == found
+            answer.bytes.as_slice() == expected.bytes.as_slice() && answer.found.as_slice() == found
         }
         Err(_) => false,
     })
@@ -89,7 +88,11 @@ fn replaces_the_columns_of_a_ram(rt: HostRuntime) -> Result<(), AllocError> {
             let asc = ram_text(rt.alloc(), before, end)?;
             let expected = ram_text(rt.alloc(), after, end)?;
             let found = [1, 1, 1, 1];
-            assert_eq!(rt; gives(rt.alloc(), &asc, &expected, &found), Ok(true), "{end:?}");
+            assert_eq!(rt;
+                gives(rt.alloc(), &asc, &expected, &found),
+                Ok(true),
+                "{end:?}"
+            );
         }
     }
     Ok(())
@@ -169,7 +172,12 @@ fn refuses_files_of_words(rt: HostRuntime) {
 }
 
 /// What replacing answers other than a text.
-fn refusal(alloc: Global, asc: &str, from: &[u8], to: &[u8]) -> Result<Option<BramFault>, HexFault> {
+fn refusal(
+    alloc: Global,
+    asc: &str,
+    from: &[u8],
+    to: &[u8],
+) -> Result<Option<BramFault>, HexFault> {
     let from = read(alloc, from)?;
     let to = read(alloc, to)?;
     Ok(match replace(alloc, asc.as_bytes(), &from, &to) {
@@ -205,7 +213,11 @@ fn refuses_to_replace(rt: HostRuntime) -> Result<(), AllocError> {
         (".device 5k", &rising, &zeros.bytes, device),
         (".device 1k\n.ram_data 3 1", &rising, &rising, hex),
     ] {
-        assert_eq!(rt; refusal(rt.alloc(), asc, from, to), Ok(Some(fault)), "of {asc:?}");
+        assert_eq!(rt;
+            refusal(rt.alloc(), asc, from, to),
+            Ok(Some(fault)),
+            "of {asc:?}"
+        );
     }
     Ok(())
 }

@@ -44,5 +44,5 @@ returns-clause-small c =
     let first : c.loop-place.place ≡ 0 = omega arith in
     let all : count - c.loop-place.place ≡ count = omega arith in
     let is : c.loop-place.word ≡ word_of (map bit (range_with_len 0 count)) =
-        c.loop-place.invariant ∙ ap₂ (λ from size. word_of (map bit (range_with_len from size))) first all in
+    c.loop-place.invariant ∙ ap₂ (λ from size. word_of (map bit (range_with_len from size))) first all in
     subst (λ word. word < 2 ^ count) (sym is) (word_from-lt bit 0 count)

@@ -17,5 +17,5 @@ loop-place-preserved c =
     digits-more c.args.bytes.now.items c.loop-place.bytes.items c.append_word.new.bytes.items c.loop-place.place
     (λ place. two_bytes (word_with (listed bits) (16 * c.args.row + (15 - place)))) c.loop-place.invariant
     (c.in_ok-append_word.ensures ∙ ap (λ word. c.loop-place.bytes.items ++ encode_lower (two_bytes word))
-      (word-listed bits (16 * c.args.row + (15 - c.loop-place.place)) c.word_of-word.result
-      (c.word_of-word.ensures.is ∙ ap (λ bs. word_from 16 (λ place. get_or bs (16 * (16 * c.args.row + (15 - c.loop-place.place)) + place * 1) false)) c.as_slice.ensures)))
+    (word-listed bits (16 * c.args.row + (15 - c.loop-place.place)) c.word_of-word.result
+    (c.word_of-word.ensures.is ∙ ap (λ bs. word_from 16 (λ place. get_or bs (16 * (16 * c.args.row + (15 - c.loop-place.place)) + place * 1) false)) c.as_slice.ensures)))

@@ -29,7 +29,7 @@ loop-row-preserved c =
       written = appended-more c.args.bytes.now.items c.loop-row.bytes.items c.append_line.new.bytes.items row
           (λ row. memory_line_with (listed c.args.old.now) (listed c.args.new.now) row (line_at (whole_lines_of text) row)) i.written
           (c.in_ok-append_line.ensures ∙ ap (λ whole. c.loop-row.bytes.items ++ memory_line_with (listed c.args.old.now) (listed c.args.new.now) row whole)
-            (sym (next-whole text left line.whole.now line.rest.now row i.wholes c.next_line-line.ensures.whole_lines)));
+          (sym (next-whole text left line.whole.now line.rest.now row i.wholes c.next_line-line.ensures.whole_lines)));
       lines = next-lines text left line.content.now line.rest.now row i.lines c.next_line-line.ensures.lines;
       wholes = next-wholes text left line.whole.now line.rest.now row i.wholes c.next_line-line.ensures.whole_lines;
     }

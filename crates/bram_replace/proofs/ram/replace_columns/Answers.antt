@@ -32,7 +32,7 @@ loop-bit-preserved c =
       room = λ column. elim (cases_lt column (column_count from)) [
         | inl few ↦ omega (arith, i.room column, c.replace_column.ensures.found column few, count-one from (listed bits) column bit)
         | inr past ↦ omega (arith, get_or_past c.replace_column.new.found column 0 (omega (arith, c.requires.counts)))
-        ];
+      ];
     }
 
 pub returns-clause-bits : goal.returns-clause-bits

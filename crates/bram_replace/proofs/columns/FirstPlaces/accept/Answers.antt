@@ -25,7 +25,7 @@ returns-in-None-clause-finds c file is finds =
     let old = get (slice_cmp nat_cmp) c.args.self.now.places in
     let new = get (slice_cmp nat_cmp) c.insert.new.places in
     on_ok_weaker c.insert.result (λ updates. Finds-inserted file c.args.place old new finds (ap old (sym is) ∙ sym c.in-None.ensures.value)
-      (λ key. updates key ∙ ap (λ column. cond (is_at (slice_cmp nat_cmp column) key) (Some c.args.place) (old key)) is)) c.insert.ensures
+    (λ key. updates key ∙ ap (λ column. cond (is_at (slice_cmp nat_cmp column) key) (Some c.args.place) (old key)) is)) c.insert.ensures
 
 pub returns-in-None-clause-repeats : goal.returns-in-None-clause-repeats
 returns-in-None-clause-repeats c file is finds told =

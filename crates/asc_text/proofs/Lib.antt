@@ -28,3 +28,5 @@ mod Worked
 pub mod Lists
 pub mod Pieces
 pub mod SetExtras
+pub mod RamLines
+pub mod RamPlaces

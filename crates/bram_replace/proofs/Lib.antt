@@ -1,0 +1,11 @@
+pub mod Made
+pub mod Same
+pub mod Packing
+pub mod HexWords
+pub mod HexLines
+pub mod Memory
+pub mod Repeats
+pub mod Rows
+pub mod Rams
+pub mod Putting
+pub mod Steps

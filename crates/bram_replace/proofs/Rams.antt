@@ -1,0 +1,43 @@
+-- How often a column is found: there is room for the count of each.
+use Rattle.std.proofs.Common.{◌≡◌, ℕ, zero, suc, ◌+◌, ◌*◌, ◌<◌, ◌≤◌, Bool, true, false, List, [], ◌∷◌, length, drop, refl, ap, arith, inl, inr, length-append}
+use Rattle.std.specs.Prelude.{None, if◌then◌else◌}
+use Rattle.std.proofs.lemmas.Bool.{cases_Bool}
+use Rattle.place_search.specs.Places.{gathered_below}
+use Rattle.place_search.proofs.Found.{length-gathered_below}
+use Rattle.text_lines.specs.Lines.{lines_of}
+use Rattle.asc_text.specs.Blocks.{statement_at}
+use Rattle.asc_text.specs.Faults.{asc_fault_of}
+use Rattle.asc_text.specs.Rams.{is_ram_data}
+use Rattle.asc_text.proofs.RamPlaces.{ram_place, ram_places, ram_place-one, few-rams}
+use Rattle.bram_replace.specs.HexText.{Contents}
+use Rattle.bram_replace.specs.Columns.{column_at, is_same}
+use Rattle.bram_replace.specs.Replaced.{bits_found, bit_found, found_at, count_before, ram_bits, ram_column, RamBits}
+
+few-found : (from : Contents) (bits : RamBits) (column : ℕ) → length (bits_found from bits column) ≤ 16
+few-found from bits column =
+    let few : (bit : ℕ) → length (bit_found from bits column bit) ≤ 1 = λ bit.
+    elim (is_same (column_at from column) (ram_column bits bit)) as (λ is. length (if is then bit ∷ [] else []) ≤ 1) [ true ↦ omega arith | false ↦ omega arith ] in
+    omega (arith, length-gathered_below 16 1 (bit_found from bits column) few)
+
+found-line : (from : Contents) (lines : List (List ℕ)) (n column : ℕ) → length (found_at from lines column n) ≤ 16 * length (ram_place (statement_at lines n))
+found-line from lines n column =
+    elim (cases_Bool (is_ram_data (statement_at lines n))) [
+      | inl is ↦ rw is (omega (arith, few-found from (ram_bits (drop (n + 1) lines)) column, ram_place-one (statement_at lines n) is))
+      | inr other ↦ rw other (omega arith)
+    ]
+
+count-rams : (from : Contents) (lines : List (List ℕ)) (n column : ℕ) → count_before from lines n column ≤ 16 * length (ram_places lines n)
+unfolding gathered_below
+count-rams from lines zero column = omega arith
+count-rams from lines (suc n) column =
+    omega (
+      arith,
+      count-rams from lines n column,
+      found-line from lines n column,
+      length-append (gathered_below n (found_at from lines column)) (found_at from lines column n),
+      length-append (ram_places lines n) (ram_place (statement_at lines n)),
+    )
+
+-- a count has room for another RAM
+pub count-few : (from : Contents) (text : List ℕ) (n column : ℕ) → asc_fault_of text ≡ None → n ≤ length (lines_of text) → count_before from (lines_of text) n column ≤ 18496
+count-few from text n column none within = omega (arith, count-rams from (lines_of text) n column, few-rams text n none within)

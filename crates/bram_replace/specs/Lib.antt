@@ -1,0 +1,6 @@
+pub mod HexText
+pub mod Collected
+pub mod Columns
+pub mod Packed
+pub mod Replaced
+pub mod Rams

@@ -1,0 +1,20 @@
+//! The contents of RAMs replaced in a text.
+//!
+//! A design is made with known contents of its RAMs, and other contents are put into the finished text later. Both are
+//! given as files of hexadecimal words. A RAM of the text may hold any bits of any block of 256 words, so each bit of its
+//! words is a column of 256 bits that is looked up among the columns of the first file.
+#![tactic(auto)]
+
+mod columns;
+mod fault;
+mod hex_file;
+mod hex_words;
+mod ram;
+mod replacing;
+
+pub use fault::{BramFault, HexFault};
+pub use hex_file::HexFile;
+pub use replacing::{Replaced, replace};
+
+#[cfg(test)]
+mod tests;

@@ -1,0 +1,140 @@
+// RAMs replaced in a whole text.
+ghost use Rattle.std.specs.Prelude.{◌≡◌, ◌<◌, ◌+◌, ◌^◌, ◌++◌, ◌==◌, ◌&&◌, ℕ, None, length, get_or, drop, bytes_eq, IfOk, OnOk, IfErr};
+ghost use Rattle.place_search.specs.Places.{gathered_below};
+ghost use Rattle.text_lines.specs.Lines.{line_at, lines_of, whole_lines_of};
+ghost use Rattle.text_lines.specs.Words.{first_word};
+ghost use Rattle.asc_text.specs.Faults.{asc_fault_of};
+ghost use Rattle.asc_text.specs.Statements.{ram_data_keyword};
+ghost use Rattle.bram_replace.specs.Columns.{column_count};
+ghost use Rattle.asc_text.specs.Rams.{BeginsWithRam, is_ram_line};
+ghost use Rattle.bram_replace.specs.Replaced.{bits_after, bits_found, bram_fault, found_in, memory_line_with, ram_bits, replaced, text_fault, TellsBram};
+
+use crate::columns::Columns;
+use crate::fault::BramFault;
+use crate::hex_file::HexFile;
+use crate::ram::{append_lines, ram_bits, replace_columns};
+use asc_text::AscFault;
+use std::alloc::{AllocError, Global};
+use text_lines::{Separators, first_line, split_word, trimmed};
+
+/// A text with other contents of its RAMs.
+#[derive(Drop)]
+pub struct Replaced {
+    /// The text.
+    pub bytes: Vec<u8>,
+    /// For each column of the first file, to how many bit columns of RAMs it was equal.
+    pub found: Vec<u32>,
+}
+
+/// The text in which each bit column of a RAM that is equal to a column of `from` is the column of that number of `to`.
+/// Everything else passes unchanged, line ends among it.
+pub fn replace(
+    alloc: Global,
+    asc: &[u8],
+    from: &HexFile,
+    to: &HexFile,
+) -> Result<Replaced, BramFault>
+    ensures bytes { IfOk result (λ answer. answer.bytes.items ≡ replaced asc.now from.now to.now) }
+    ensures found { IfOk result (λ answer. answer.found.items ≡ found_in asc.now from.now) }
+    ensures accepted { OnOk result (bram_fault asc.now from.now to.now ≡ None) }
+    ensures refused { IfErr result (TellsBram (bram_fault asc.now from.now to.now)) }
+{
+    if !have_one_shape(from, to) {
+        return Err(BramFault::Shape);
+    }
+    let columns = Columns::of(alloc, from)?;
+    check_text(alloc, asc)?;
+    let answer = replace_rams(alloc, asc, &columns, to)?;
+    Ok(answer)
+}
+
+/// Whether two files have the same numbers of digits and of words.
+fn have_one_shape(from: &HexFile, to: &HexFile) -> bool
+    ensures { result ≡ ((from.now.digits == to.now.digits) && (length from.now.words == length to.now.words)) }
+{
+    from.digits() == to.digits() && from.word_count() == to.word_count()
+}
+
+/// Whether the text can be read.
+fn check_text(alloc: Global, asc: &[u8]) -> Result<(), BramFault>
+    ensures accepted { OnOk result (asc_fault_of asc.now ≡ None) }
+    ensures refused { IfErr result (TellsBram (text_fault (asc_fault_of asc.now))) }
+{
+    match asc_text::read(alloc, asc) {
+        Ok(_) => Ok(()),
+        Err(AscFault::Memory(e)) => Err(BramFault::Memory(e)),
+        Err(AscFault::At { line, tile, cause }) => Err(BramFault::Asc(AscFault::At {
+            line,
+            tile,
+            cause,
+        })),
+    }
+}
+
+/// Replaces the RAMs of a text that can be read.
+fn replace_rams(
+    alloc: Global,
+    asc: &[u8],
+    columns: &Columns,
+    to: &HexFile,
+) -> Result<Replaced, AllocError>
+    requires accepted { asc_fault_of asc.now ≡ None }
+    requires same { column_count to.now ≡ column_count columns.now.file.now }
+    ensures bytes { IfOk result (λ answer. answer.bytes.items ≡ replaced asc.now columns.now.file.now to.now) }
+    ensures found { IfOk result (λ answer. answer.found.items ≡ found_in asc.now columns.now.file.now) }
+{
+    let mut bytes = Vec::new(alloc);
+    let mut found = vec![in alloc; 0; columns.count()]?;
+    let mut left = asc;
+    while let Some(line) = first_line(left) {
+        bytes.extend_from_slice(line.whole)?;
+        left = line.rest;
+        if !is_ram_data(line.content) {
+            continue;
+        }
+        left = replace_ram(left, columns, to, &mut bytes, &mut found)?;
+    }
+    Ok(Replaced { bytes, found })
+}
+
+/// Whether the line is the statement of a RAM's contents, in a text that can be read.
+fn is_ram_data(line: &[u8]) -> bool
+    ensures { result ≡ is_ram_line line.now }
+{
+    matches!(line, [b'.', ..]) && has_ram_keyword(trimmed(line))
+}
+
+/// Whether the first word is that of the statement of a RAM's contents.
+fn has_ram_keyword(line: &[u8]) -> bool
+    ensures { result ≡ bytes_eq (first_word Separators.Spaces line.now) ram_data_keyword }
+{
+    match split_word(Separators::Spaces, line) {
+        None => false,
+        Some((word, _)) => word == b".ram_data".as_slice(),
+    }
+}
+
+/// Replaces the RAM whose lines begin the text, and gives the text behind them.
+fn replace_ram<'a>(
+    text: &'a [u8],
+    columns: &Columns,
+    to: &HexFile,
+    bytes: &mut Vec<u8>,
+    found: &mut [u32],
+) -> Result<&'a [u8], AllocError>
+    requires begins { BeginsWithRam (lines_of text.now) }
+    requires counts { length found.old ≡ column_count columns.now.file.now }
+    requires same { column_count to.now ≡ column_count columns.now.file.now }
+    requires room { (column : ℕ) → get_or found.old column 0 < 2 ^ 31 }
+    ensures bytes { OnOk result (let before = ram_bits (lines_of text.now) in bytes.new.items ≡ bytes.old.items
+        ++ gathered_below 16 (λ row. memory_line_with before (bits_after columns.now.file.now to.now before) row (line_at (whole_lines_of text.now) row))) }
+    ensures found { (column : ℕ) → column < column_count columns.now.file.now → get_or found.new column 0
+        ≡ get_or found.old column 0 + length (bits_found columns.now.file.now (ram_bits (lines_of text.now)) column) }
+    ensures lines { IfOk result (λ left. lines_of left.now ≡ drop 16 (lines_of text.now)) }
+    ensures whole_lines { IfOk result (λ left. whole_lines_of left.now ≡ drop 16 (whole_lines_of text.now)) }
+{
+    let old = ram_bits(text);
+    let mut new = old;
+    replace_columns(&mut new, columns, to, found);
+    append_lines(bytes, text, &old, &new)
+}

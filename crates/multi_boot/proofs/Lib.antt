@@ -1,0 +1,4 @@
+pub mod Found
+pub mod Order
+pub mod Bytes
+pub mod Placing

@@ -1,0 +1,2 @@
+pub mod BootFile
+pub mod Refusals

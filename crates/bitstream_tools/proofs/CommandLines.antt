@@ -1,12 +1,18 @@
 -- The command lines of the tools: they are simple, and what is found in the words is the task.
-use Rattle.std.proofs.Common.{◌≡◌, ◌∙◌, Bool, true, false, ℕ, List, codes, refl, sym, ap, ap₂, subst}
-use Rattle.std.specs.Prelude.{Option, None, Some, option_map, if◌then◌else◌}
+use Rattle.std.proofs.Common.{◌≡◌, ◌∙◌, ◌<◌, ◌^◌, ◌+◌, ◌++◌, [], ◌∷◌, zero, suc, arith, length, Bool, true, false, ℕ, List, codes, refl, sym, ap, ap₂, subst}
+use Rattle.std.specs.Prelude.{Option, None, Some, map, option_map, slice_get, slice_index_or, if◌then◌else◌}
 use Rattle.std.specs.Borrow.{Bor}
 use Rattle.clap.specs.Words.{App, Row, Text, first_of, is_simple_and_free, matches_of}
 use Rattle.clap.proofs.OnLiterals.{clap_on_literals}
-use Rattle.tool_run.specs.Needs.{text_of}
+use Rattle.tool_run.specs.Needs.{IsFile, IsSound, Need, text_of}
 use Rattle.tool_run.specs.Tasks.{Task, Done, asks_for_help, at_once, helped, not_taken}
-use Rattle.tool_words.specs.Commands.{has_flag, is_taken}
+use Rattle.tool_words.specs.Commands.{has_flag, is_taken, values_of}
+use Rattle.std.proofs.lemmas.List.{map_push}
+use Rattle.multi_boot.specs.declared.options.Options.{Options}
+use Rattle.multi_boot.specs.declared.fault.MultiFault.{MultiFault}
+use Rattle.multi_boot.specs.Refusals.{check_fault}
+use Rattle.bitstream_tools.specs.declared.multi.MultiRequest.{MultiRequest}
+use Rattle.bitstream_tools.specs.Multi.{icemulti_command, icemulti_name, icemulti_task, icemulti_task_by, icemulti_task_for, icemulti_task_of, icemulti_usage, image_need, join_task, options_in}
 use Rattle.bitstream_tools.specs.declared.pack.Request.{Request}
 use Rattle.bitstream_tools.specs.Unpack.{iceunpack_command, iceunpack_name, iceunpack_task, iceunpack_task_by, iceunpack_usage, unpack_task}
 use Rattle.bitstream_tools.specs.Pack.{icepack_command, icepack_name, icepack_task, icepack_task_by, icepack_task_for, icepack_task_of, icepack_usage}
@@ -87,3 +93,62 @@ helped-speaker name help words task speaks = by_case (asks_for_help words)
     by_case : (asks : Bool) → (if asks then at_once name None (Done help) else task).speaker ≡ name
     by_case true = refl
     by_case false = speaks
+
+-- ---- icemulti
+
+pub icemulti-is_simple : is_simple_and_free icemulti_command ≡ true
+unfolding clap_on_literals
+icemulti-is_simple = refl
+
+checked-speaker : (images : List Need) (options : Options) (output : Option Text) (fault : Option MultiFault) → (join_task images options output fault).speaker ≡ icemulti_name
+checked-speaker images options output None = refl
+checked-speaker images options output (Some fault) = refl
+
+multi-speaker : (images : List Need) (output : Option Text) (options : Option Options) → (icemulti_task_of images output options).speaker ≡ icemulti_name
+multi-speaker images output None = refl
+multi-speaker images output (Some options) = checked-speaker images options output (check_fault (length images) options)
+
+pub icemulti-speaker : (words : List Text) → (icemulti_task words).speaker ≡ icemulti_name
+unfolding icemulti_task
+icemulti-speaker words = by_case (is_taken icemulti_command words)
+  where
+    rows : List Row
+    rows = matches_of icemulti_command words
+
+    by_case : (taken : Bool) → (if taken then icemulti_task_by rows else not_taken icemulti_name icemulti_usage).speaker ≡ icemulti_name
+    by_case true = multi-speaker (map image_need (values_of (codes "image") rows)) (first_of (codes "output") rows) (options_in rows)
+    by_case false = refl
+
+pub icemulti-found : (words : List Text) (app : App) (rows : List Row) (request : Option MultiRequest) → app ≡ icemulti_command → true ≡ is_taken app words → rows ≡ matches_of app words
+    → icemulti_task_for request ≡ icemulti_task_by rows → icemulti_task words ≡ icemulti_task_for request
+unfolding icemulti_task
+icemulti-found words app rows request same taken found asked =
+    let here : rows ≡ matches_of icemulti_command words = found ∙ ap (λ a. matches_of a words) same in
+    taken_task (is_taken icemulti_command words) (icemulti_task_by (matches_of icemulti_command words)) (not_taken icemulti_name icemulti_usage) (taken ∙ ap (λ a. is_taken a words) same)
+    ∙ ap icemulti_task_by (sym here) ∙ sym asked
+
+pub icemulti-missed : (words : List Text) (app : App) → app ≡ icemulti_command → false ≡ is_taken app words → icemulti_task words ≡ not_taken icemulti_name icemulti_usage
+unfolding icemulti_task
+icemulti-missed words app same missed = missed_task (is_taken icemulti_command words) (icemulti_task_by (matches_of icemulti_command words)) (not_taken icemulti_name icemulti_usage) (missed ∙ ap (λ a. is_taken a words) same)
+  where
+    missed_task : (taken : Bool) (found other : Task) → false ≡ taken → (if taken then found else other) ≡ other
+    missed_task true found other e = absurd cc
+    missed_task false found other e = refl
+
+-- images are files, each within its limit
+pub images-sound : (names : List Text) → IsSound (map image_need names)
+images-sound names = record { last = λ k lt. file names k (omega (arith, lt)); limits = λ k d lt. small names k d lt }
+  where
+    file : (names : List Text) (k : ℕ) → k < length (map image_need names) → IsFile (slice_get (map image_need names) k)
+    file [] k lt = absurd (omega arith)
+    file (name ∷ names) zero lt = refl
+    file (name ∷ names) (suc k) lt = file names k (omega arith)
+
+    small : (names : List Text) (k : ℕ) (d : Need) → k < length (map image_need names) → (slice_index_or (map image_need names) k d).limit < 2 ^ 32
+    small [] k d lt = absurd (omega arith)
+    small (name ∷ names) zero d lt = omega arith
+    small (name ∷ names) (suc k) d lt = small names k d (omega arith)
+
+-- one more image
+pub image-pushed : (loads : List Need) (names : List Text) (name : Text) → loads ≡ map image_need names → loads ++ image_need name ∷ [] ≡ map image_need (names ++ name ∷ [])
+image-pushed loads names name same = ap (λ l. l ++ image_need name ∷ []) same ∙ sym (map_push image_need names name)

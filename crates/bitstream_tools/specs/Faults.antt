@@ -7,6 +7,8 @@ use Rattle.bin_stream.specs.declared.fault.BinCause.TheVariants.{NoPreamble, Tru
 use Rattle.asc_text.specs.declared.fault.TileXy.{TileXy}
 use Rattle.asc_text.specs.declared.fault.AscCause.{AscCause}
 use Rattle.asc_text.specs.declared.fault.AscCause.TheVariants.{Statement, NoDevice, Device, Coordinates, Kind, Row, Repeated, Hex, ExtraPlace, Setting, StrayData, CommentByte}
+use Rattle.multi_boot.specs.declared.fault.MultiFault.{MultiFault}
+use Rattle.multi_boot.specs.declared.fault.MultiFault.TheVariants.{NoImage, TooMany, Align, PowerOn, Address, Memory as OutOfMemory}
 use Rattle.tool_run.specs.Lines.{four_digits}
 
 -- ---- a fault of a text
@@ -59,3 +61,13 @@ bin_cause_text StreamDevice = codes "NoDevice"
 
 abbrev pub bin_fault_text : ℕ → BinCause → List ℕ
 bin_fault_text offset cause = codes "offset " ++ decimal offset ++ codes ": " ++ bin_cause_text cause
+
+-- ---- a fault of images that are joined
+
+abbrev pub multi_fault_text : MultiFault → List ℕ
+multi_fault_text NoImage = codes "NoImage"
+multi_fault_text (TooMany n) = codes "TooMany " ++ decimal n
+multi_fault_text (Align n) = codes "Align " ++ decimal n
+multi_fault_text (PowerOn index) = codes "PowerOn " ++ decimal index
+multi_fault_text (Address index) = codes "Address " ++ decimal index
+multi_fault_text (OutOfMemory e) = codes "out of memory"

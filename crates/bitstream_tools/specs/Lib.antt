@@ -1,3 +1,4 @@
 pub mod Faults
 pub mod Pack
 pub mod Unpack
+pub mod Multi

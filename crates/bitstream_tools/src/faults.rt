@@ -1,10 +1,11 @@
 // What a tool says of a fault.
 ghost use Rattle.std.specs.Prelude.{◌≡◌, ◌++◌, codes};
 ghost use Rattle.tool_run.specs.Lines.{phrase_text, refusal_text};
-ghost use Rattle.bitstream_tools.specs.Faults.{asc_cause_text, asc_fault_text, bin_cause_text, bin_fault_text, kind_name};
+ghost use Rattle.bitstream_tools.specs.Faults.{asc_cause_text, asc_fault_text, bin_cause_text, bin_fault_text, kind_name, multi_fault_text};
 
 use asc_text::{AscCause, TileXy};
 use bin_stream::BinCause;
+use multi_boot::MultiFault;
 use plane_map::TileKind;
 use tool_run::{Number, Phrase, Refusal, decimal, text};
 
@@ -91,6 +92,26 @@ pub(crate) fn bin_refusal(offset: u64, cause: BinCause) -> Refusal
     Refusal {
         first: decimal("offset ", offset),
         second: bin_cause(cause),
+        third: text(""),
+        fourth: text(""),
+    }
+}
+
+/// Why images aren't joined.
+pub(crate) fn multi_refusal(fault: MultiFault) -> Refusal
+    ensures { refusal_text result ≡ multi_fault_text fault }
+{
+    let phrase = match fault {
+        MultiFault::NoImage => text("NoImage"),
+        MultiFault::TooMany { n } => decimal("TooMany ", n),
+        MultiFault::Align { n } => decimal("Align ", n),
+        MultiFault::PowerOn { index } => decimal("PowerOn ", index),
+        MultiFault::Address { index } => decimal("Address ", index),
+        MultiFault::Memory(_) => text("out of memory"),
+    };
+    Refusal {
+        first: phrase,
+        second: text(""),
         third: text(""),
         fourth: text(""),
     }

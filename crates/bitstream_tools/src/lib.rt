@@ -1,4 +1,4 @@
-//! The tools that read and write bitstreams: `icepack` and `iceunpack`.
+//! The tools that read and write bitstreams: `icepack`, `iceunpack` and `icemulti`.
 //!
 //! Each tool is one module, with its command line, its usage line and what it makes of what it loads. The function that
 //! runs it has one clause: a run does the task that the words ask for.
@@ -6,8 +6,10 @@
 
 mod faults;
 mod first;
+mod multi;
 mod pack;
 mod unpack;
 
+pub use multi::{ICEMULTI_HELP, ICEMULTI_USAGE, run_icemulti};
 pub use pack::{ICEPACK_HELP, ICEPACK_USAGE, run_icepack};
 pub use unpack::{ICEUNPACK_HELP, ICEUNPACK_USAGE, run_iceunpack};

@@ -57,7 +57,7 @@ impl Tool for Pack {
 
     ghost answer_of = { λ tool texts. pack_answer tool.no_sleep texts };
 
-    fn answer(&self, alloc: Global, loaded: &[Vec<u8>]) -> Result<Vec<u8>, Stop> {
+    fn answer(&self, alloc: Global, loaded: &Vec<Vec<u8>>) -> Result<Vec<u8>, Stop> {
         packed(alloc, first(loaded), self.no_sleep)
     }
 }

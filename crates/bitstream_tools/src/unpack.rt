@@ -48,7 +48,7 @@ impl Tool for Unpack {
 
     ghost answer_of = { λ _ texts. unpack_answer texts };
 
-    fn answer(&self, alloc: Global, loaded: &[Vec<u8>]) -> Result<Vec<u8>, Stop> {
+    fn answer(&self, alloc: Global, loaded: &Vec<Vec<u8>>) -> Result<Vec<u8>, Stop> {
         match unpack(alloc, first(loaded)) {
             Ok(text) => Ok(text),
             Err(BinFault::At { offset, cause }) => Err(Stop::Refused(bin_refusal(offset, cause))),

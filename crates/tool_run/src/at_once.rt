@@ -26,7 +26,7 @@ impl Tool for AtOnce {
 
     ghost answer_of = { λ tool texts. at_once_answer tool };
 
-    fn answer(&self, alloc: Global, _loaded: &[Vec<u8>]) -> Result<Vec<u8>, Stop> {
+    fn answer(&self, alloc: Global, _loaded: &Vec<Vec<u8>>) -> Result<Vec<u8>, Stop> {
         match *self {
             AtOnce::Tells(text) => Ok(Vec::from_slice(alloc, text.as_bytes())?),
             AtOnce::Refuses(refusal) => Err(Stop::Refused(refusal)),

@@ -57,7 +57,7 @@ fn conclude<T: Tool, F: Files, O: Sink, E: Sink>(
     alloc: Global,
     tool: &T,
     job: &Job<'_>,
-    loaded: &[Vec<u8>],
+    loaded: &Vec<Vec<u8>>,
     files: &mut F,
     output: &mut O,
     errors: &mut E,
@@ -65,14 +65,14 @@ fn conclude<T: Tool, F: Files, O: Sink, E: Sink>(
     ensures statuses { (result ≡ 0) ⊎ (result ≡ 1) ⊎ (result ≡ 2) ⊎ (result ≡ 4) ⊎ (result ≡ 5) }
     ensures whole { result ≡ 0 → (bytes : List ℕ)
         × Delivers (text_of job.now.target) bytes (F.contents files.old) (F.contents files.new) (O.held output.old) (O.held output.new)
-        × (T.answer_of tool.now (map vec_items loaded.now) ≡ Done bytes) }
+        × (T.answer_of tool.now (map vec_items loaded.now.items) ≡ Done bytes) }
     ensures silent { result ≡ 0 → errors.new ≡ errors.old }
     ensures refused { (result ≡ 1) ⊎ (result ≡ 2) → (said : List ℕ)
-        × RefusesWith (T.answer_of tool.now (map vec_items loaded.now)) result said
+        × RefusesWith (T.answer_of tool.now (map vec_items loaded.now.items)) result said
         × Writes (line_of job.now.speaker.now said) (E.held errors.old) (E.held errors.new) (E.faults errors.old) (E.faults errors.new) }
     ensures part { result ≡ 4 → (bytes : List ℕ)
         × DeliversPart (text_of job.now.target) bytes (F.contents files.old) (F.contents files.new) (O.held output.old) (O.held output.new)
-        × (T.answer_of tool.now (map vec_items loaded.now) ≡ Done bytes) }
+        × (T.answer_of tool.now (map vec_items loaded.now.items) ≡ Done bytes) }
     ensures rose { result ≡ 4 → TargetRose (text_of job.now.target) (F.store_faults files.old) (F.store_faults files.new) (O.faults output.old) (O.faults output.new) }
     ensures target_line { result ≡ 4 → Writes (line_of job.now.speaker.now (write_failed (text_of job.now.target)))
         (E.held errors.old) (E.held errors.new) (E.faults errors.old) (E.faults errors.new) }

@@ -33,7 +33,7 @@ pub trait Tool {
     ghost answer_of: { Self → List (List ℕ) → Answer };
 
     /// The bytes for the target, or why there are none.
-    fn answer(&self, alloc: Global, loaded: &[Vec<u8>]) -> Result<Vec<u8>, Stop>
-        ensures bytes { IfOk result (λ bytes. answer_of self.now (map vec_items loaded.now) ≡ Done bytes.items) }
-        ensures stops { IfErr result (StopsWith (answer_of self.now (map vec_items loaded.now))) };
+    fn answer(&self, alloc: Global, loaded: &Vec<Vec<u8>>) -> Result<Vec<u8>, Stop>
+        ensures bytes { IfOk result (λ bytes. answer_of self.now (map vec_items loaded.now.items) ≡ Done bytes.items) }
+        ensures stops { IfErr result (StopsWith (answer_of self.now (map vec_items loaded.now.items))) };
 }

@@ -22,12 +22,12 @@ returns-in-Ok g c =
     let left = I.left c.args.input.now in
     let l = c.in-Ok.ensures in
     let k = c.conclude.ensures in
-    let texts = map vec_items c.deref.result.now in
+    let texts = map vec_items c.load_all.new.texts.items in
     let answer = task.answer texts in
     let status = c.conclude.result in
     let says : List ℕ → Type 0 = λ line. Writes line (g.E.Sink.held c.args.errors.now) (g.E.Sink.held c.conclude.new.errors) (g.E.Sink.faults c.args.errors.now) (g.E.Sink.faults c.conclude.new.errors) in
     let gives : WhereTold contents left task.needs (λ known text. loaded known text task.needs ≡ Ok texts) =
-    λ known text told. loaded-is (loaded known text task.needs) (map vec_items c.new-loaded.result.items) texts (ap (map vec_items) c.new-loaded.ensures.items) (rw c.deref.ensures.value (l.bytes known text told)) in
+    λ known text told. loaded-is (loaded known text task.needs) (map vec_items c.new-loaded.result.items) texts (ap (map vec_items) c.new-loaded.ensures.items) (l.bytes known text told) in
     record {
       statuses = concluded-small status k.statuses;
       whole = λ zero_is.

@@ -1,0 +1,104 @@
+-- `icemulti`: several bitstreams in one boot file.
+use Rattle.std.specs.Prelude.{ℕ, Bool, true, false, not, ◌&&◌, ◌==◌, List, [], ◌∷◌, codes, length, map, nat_le, if◌then◌else◌, Option, None, Some, option_map}
+use Rattle.clap.specs.Words.{App, Row, Text, first_of, matches_of}
+use Rattle.text_lines.specs.Words.{number_of}
+use Rattle.multi_boot.specs.declared.options.Options.{Options}
+use Rattle.multi_boot.specs.declared.fault.MultiFault.{MultiFault}
+use Rattle.multi_boot.specs.BootFile.{boot_file}
+use Rattle.multi_boot.specs.Refusals.{check_fault, join_fault}
+use Rattle.tool_run.specs.Needs.{IsSound, Need, need_of, text_of}
+use Rattle.tool_run.specs.Tasks.{Answer, Done, Refused, Task, at_once, helped, not_taken}
+use Rattle.tool_words.specs.Commands.{command, flag, has_flag, is_taken, several, short_option, values_of}
+use Rattle.bitstream_tools.specs.declared.multi.MultiRequest.{MultiRequest}
+use Rattle.bitstream_tools.specs.declared.multi.TheConstants.{ICEMULTI_HELP}
+use Rattle.bitstream_tools.specs.Faults.{multi_fault_text}
+use Rattle.bitstream_tools.specs.Pack.{text_limit}
+
+abbrev pub icemulti_name : List ℕ
+icemulti_name = codes "icemulti"
+
+abbrev pub icemulti_usage : List ℕ
+icemulti_usage = codes "icemulti [-c] [-p N] [-a N] [-A N] [-o OUTPUT] [IMAGE ...]"
+
+abbrev pub icemulti_command : App
+icemulti_command = command icemulti_name (
+  flag (codes "cold") 99 ∷ short_option (codes "power_on") 112 ∷ short_option (codes "align") 97 ∷ short_option (codes "align_all") 65
+  ∷ short_option (codes "output") 111 ∷ several (codes "image") ∷ []
+)
+
+-- ---- options
+
+-- the number of one to three decimal digits
+unfoldable pub short_number : Text → Option ℕ
+short_number text = if nat_le (length text) 3 then number_of text else None
+
+-- the number of an option that may be missing: nothing where it isn't written so
+abbrev pub number_given : Option Text → Option (Option ℕ)
+number_given None = Some None
+number_given (Some text) = option_map Some (short_number text)
+
+-- `-a` aligns all images except the first, `-A` the first too, and only one of them may be there
+abbrev pub aligned_by : Options → Option (Option ℕ) → Option (Option ℕ) → Option Options
+aligned_by options (Some None) (Some None) = Some options
+aligned_by options (Some (Some n)) (Some None) = Some (record options { align = Some n })
+aligned_by options (Some None) (Some (Some n)) = Some (record options { align = Some n; align_first = true })
+aligned_by options (Some (Some m)) (Some (Some n)) = None
+aligned_by options None all = None
+aligned_by options (Some align) None = None
+
+-- `-p` chooses the image of power-on; with `-c` the pins do, and it may only be 0
+abbrev pub powered_by : Bool → Option (Option ℕ) → Option Options
+powered_by cold None = None
+powered_by cold (Some None) = Some (record { cold = cold; power_on = 0; align = None; align_first = false })
+powered_by cold (Some (Some n)) = if cold && not (n == 0) then None else Some (record { cold = cold; power_on = n; align = None; align_first = false })
+
+abbrev pub options_by : Option Options → Option (Option ℕ) → Option (Option ℕ) → Option Options
+options_by None align all = None
+options_by (Some options) align all = aligned_by options align all
+
+abbrev pub options_in : List Row → Option Options
+options_in rows = options_by (powered_by (has_flag (codes "cold") rows) (number_given (first_of (codes "power_on") rows)))
+    (number_given (first_of (codes "align") rows)) (number_given (first_of (codes "align_all") rows))
+
+-- ---- the task
+
+abbrev pub joined : List (List ℕ) → Options → Option MultiFault → Answer
+joined images options None = Done (boot_file images options)
+joined images options (Some fault) = Refused (multi_fault_text fault)
+
+abbrev pub join_answer : Options → List (List ℕ) → Answer
+join_answer options images = joined images options (join_fault images options)
+
+abbrev pub image_need : Text → Need
+image_need name = record { name = Some name; limit = text_limit }
+
+-- what the number of images and the options refuse by themselves is refused before anything is read
+abbrev pub join_task : List Need → Options → Option Text → Option MultiFault → Task
+join_task images options output None = record { speaker = icemulti_name; needs = images; target = output; answer = join_answer options }
+join_task images options output (Some fault) = at_once icemulti_name None (Refused (multi_fault_text fault))
+
+abbrev pub icemulti_task_of : List Need → Option Text → Option Options → Task
+icemulti_task_of images output None = not_taken icemulti_name icemulti_usage
+icemulti_task_of images output (Some options) = join_task images options output (check_fault (length images) options)
+
+abbrev pub icemulti_task_by : List Row → Task
+icemulti_task_by rows = icemulti_task_of (map image_need (values_of (codes "image") rows)) (first_of (codes "output") rows) (options_in rows)
+
+-- what the words of `icemulti` ask for
+unfoldable pub icemulti_task : List Text → Task
+icemulti_task words =
+    if is_taken icemulti_command words then icemulti_task_by (matches_of icemulti_command words)
+    else not_taken icemulti_name icemulti_usage
+
+abbrev pub icemulti_outcome : List Text → Task
+icemulti_outcome words = helped icemulti_name ICEMULTI_HELP.now words (icemulti_task words)
+
+-- the same by the request that was found in the words, where they are taken
+abbrev pub icemulti_task_for : Option MultiRequest → Task
+icemulti_task_for None = not_taken icemulti_name icemulti_usage
+icemulti_task_for (Some request) = icemulti_task_of (map need_of request.loads.items) (text_of request.output) (Some request.options)
+
+-- each image is a file that may be loaded
+abbrev pub LoadsFiles : Option MultiRequest → Type 0
+LoadsFiles None = Unit {0}
+LoadsFiles (Some request) = IsSound (map need_of request.loads.items)

@@ -9,7 +9,9 @@ mod lines;
 mod words;
 
 pub use lines::{FirstLine, first_line, trimmed};
-pub use words::{Separators, number, one_word, split_word, three_numbers, two_numbers};
+pub use words::{
+    Separators, four_numbers, number, one_number, one_word, split_word, three_numbers, two_numbers,
+};
 
 #[cfg(test)]
 mod tests;

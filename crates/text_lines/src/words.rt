@@ -77,6 +77,16 @@ pub fn three_numbers(separators: Separators, line: &[u8]) -> Option<(u32, u32, u
     Some((first, second, third))
 }
 
+/// The numbers of a line of exactly four words, where each of them writes one.
+pub fn four_numbers(separators: Separators, line: &[u8]) -> Option<(u32, u32, u32, u32)>
+    ensures { MatchOption result ((w x y z : ℕ) → numbers_of (words_of separators line.now) ≢ Some (w ∷ x ∷ y ∷ z ∷ []))
+        (λ found. numbers_of (words_of separators line.now) ≡ Some (found.0 ∷ found.1 ∷ found.2 ∷ found.3 ∷ [])) }
+{
+    let (first, behind) = split_number(separators, line)?;
+    let (second, third, fourth) = three_numbers(separators, behind)?;
+    Some((first, second, third, fourth))
+}
+
 /// The number of the first word, and what stands behind that word.
 fn split_number(separators: Separators, line: &[u8]) -> Option<(u32, &[u8])>
     ensures { MatchOption result ((x : ℕ) (xs : List ℕ) → numbers_of (words_of separators line.now) ≢ Some (x ∷ xs))
@@ -88,7 +98,7 @@ fn split_number(separators: Separators, line: &[u8]) -> Option<(u32, &[u8])>
 }
 
 /// The number of a line of exactly one word, where it writes one.
-fn one_number(separators: Separators, line: &[u8]) -> Option<u32>
+pub fn one_number(separators: Separators, line: &[u8]) -> Option<u32>
     ensures { MatchOption result ((x : ℕ) → numbers_of (words_of separators line.now) ≢ Some (x ∷ []))
         (λ found. numbers_of (words_of separators line.now) ≡ Some (found ∷ [])) }
 {

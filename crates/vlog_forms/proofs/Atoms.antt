@@ -33,7 +33,7 @@ close-stands : (end k other : ℕ) (spots rest : List Spot) → close_part end k
     → (k ≡ other) × (tokens_in spots ≡ token.fixed sign.CloseBracket ∷ tokens_in rest)
 close-stands end k other spots rest reads =
     close_case k other spots rest (read_tokens end (token.fixed sign.CloseBracket ∷ []) spots)
-        (λ left. read_tokens-whole end (token.fixed sign.CloseBracket ∷ []) spots left) reads
+    (λ left. read_tokens-whole end (token.fixed sign.CloseBracket ∷ []) spots left) reads
 
 index_case : (b : Bool) (end k other offset : ℕ) (spots rest : List Spot) → nat_le k 15 ≡ b
     → (if b then close_part end k spots else Err offset) ≡ Ok (other, rest)
@@ -131,7 +131,7 @@ atom-read end found (atom.Whole name) (head ∷ spots) tail fits stands closed =
     let left : tokens_in spots ≡ tail = cc in
     let shut : opens spots ≡ false = opens-tokens spots ∙ ap opens_next left ∙ closed in
     let chosen : atom_from end found head.offset (token.name name) spots ≡ with_atom found head.offset (atom.Whole name) spots
-        = ap (λ b. if b then with_part found head.offset name (read_part end (behind_open spots)) else with_atom found head.offset (atom.Whole name) spots) shut in
+    = ap (λ b. if b then with_part found head.offset name (read_part end (behind_open spots)) else with_atom found head.offset (atom.Whole name) spots) shut in
     record { offset = head.offset; rest = spots; reads = ap (λ one. atom_from end found head.offset one spots) is ∙ chosen; left = left }
 atom-read end found (atom.Part name k) (head ∷ bracket ∷ number ∷ close ∷ spots) tail fits stands closed =
     let is : head.token ≡ token.name name = cc in
@@ -142,10 +142,10 @@ atom-read end found (atom.Part name k) (head ∷ bracket ∷ number ∷ close �
     let opened : opens (bracket ∷ number ∷ close ∷ spots) ≡ true = rw open_is (same-token (token.fixed sign.OpenBracket) tt) in
     let closes : is_same_token (token.fixed sign.CloseBracket) close.token ≡ true = rw close_is (same-token (token.fixed sign.CloseBracket) tt) in
     let part : read_part end (number ∷ close ∷ spots) ≡ Ok (k, spots) =
-        ap (λ one. index_part end number.offset one (close ∷ spots)) number_is
-        ∙ ap (λ b. if b then close_part end k (close ∷ spots) else Err number.offset) fits
-        ∙ ap (λ b. with_index k (if b then Ok spots else Err close.offset)) closes in
+    ap (λ one. index_part end number.offset one (close ∷ spots)) number_is
+    ∙ ap (λ b. if b then close_part end k (close ∷ spots) else Err number.offset) fits
+    ∙ ap (λ b. with_index k (if b then Ok spots else Err close.offset)) closes in
     let chosen : atom_from end found head.offset (token.name name) (bracket ∷ number ∷ close ∷ spots) ≡ with_part found head.offset name (read_part end (number ∷ close ∷ spots))
-        = ap (λ b. if b then with_part found head.offset name (read_part end (number ∷ close ∷ spots)) else with_atom found head.offset (atom.Whole name) (bracket ∷ number ∷ close ∷ spots)) opened in
+    = ap (λ b. if b then with_part found head.offset name (read_part end (number ∷ close ∷ spots)) else with_atom found head.offset (atom.Whole name) (bracket ∷ number ∷ close ∷ spots)) opened in
     record { offset = head.offset; rest = spots; reads = ap (λ one. atom_from end found head.offset one (bracket ∷ number ∷ close ∷ spots)) is ∙ chosen ∙ ap (with_part found head.offset name) part; left = left }
 atom-read end found (atom.Part name k) spots tail fits stands closed = absurd cc

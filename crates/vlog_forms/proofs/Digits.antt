@@ -50,13 +50,13 @@ word_text-front w rest small =
     let s1 : h1 < 16 = low_digit (w / 16) in
     let s0 : h0 < 16 = low_digit w in
     let hex : (((is_hex_digit (hex_digit h3) && is_hex_digit (hex_digit h2)) && is_hex_digit (hex_digit h1)) && is_hex_digit (hex_digit h0)) ≡ true
-        = four (is_hex_digit (hex_digit h3)) (is_hex_digit (hex_digit h2)) (is_hex_digit (hex_digit h1)) (is_hex_digit (hex_digit h0)) (hex-is h3 s3) (hex-is h2 s2) (hex-is h1 s1) (hex-is h0 s0) in
+    = four (is_hex_digit (hex_digit h3)) (is_hex_digit (hex_digit h2)) (is_hex_digit (hex_digit h1)) (is_hex_digit (hex_digit h0)) (hex-is h3 s3) (hex-is h2 s2) (hex-is h1 s1) (hex-is h0 s0) in
     let value : 256 * (16 * hex_value (hex_digit h3) + hex_value (hex_digit h2)) + (16 * hex_value (hex_digit h1) + hex_value (hex_digit h0)) ≡ w
-        = ap (λ n. 256 * (16 * n + hex_value (hex_digit h2)) + (16 * hex_value (hex_digit h1) + hex_value (hex_digit h0))) (hex-back h3 s3)
-        ∙ ap (λ n. 256 * (16 * h3 + n) + (16 * hex_value (hex_digit h1) + hex_value (hex_digit h0))) (hex-back h2 s2)
-        ∙ ap (λ n. 256 * (16 * h3 + h2) + (16 * n + hex_value (hex_digit h0))) (hex-back h1 s1)
-        ∙ ap (λ n. 256 * (16 * h3 + h2) + (16 * h1 + n)) (hex-back h0 s0)
-        ∙ digits_sum w small in
+    = ap (λ n. 256 * (16 * n + hex_value (hex_digit h2)) + (16 * hex_value (hex_digit h1) + hex_value (hex_digit h0))) (hex-back h3 s3)
+    ∙ ap (λ n. 256 * (16 * h3 + n) + (16 * hex_value (hex_digit h1) + hex_value (hex_digit h0))) (hex-back h2 s2)
+    ∙ ap (λ n. 256 * (16 * h3 + h2) + (16 * n + hex_value (hex_digit h0))) (hex-back h1 s1)
+    ∙ ap (λ n. 256 * (16 * h3 + h2) + (16 * h1 + n)) (hex-back h0 s0)
+    ∙ digits_sum w small in
     record {
       some = omega arith;
       unblank = refl;
@@ -106,16 +106,17 @@ unfolding front_token front_length digits_token digits_length
 number_is bytes digit quote six =
     let bit : is_bit_text bytes ≡ false = bit_apart (byte_at bytes 0 == 49) (byte_at bytes 1 == 39) (byte_at bytes 2 == 98) ((byte_at bytes 3 == 48) || (byte_at bytes 3 == 49)) quote in
     let word : is_word_text bytes ≡ false = word_apart (byte_at bytes 0 == 49) (byte_at bytes 1 == 54) (byte_at bytes 2 == 39) (byte_at bytes 3 == 104)
-        (is_hex_digit (byte_at bytes 4)) (is_hex_digit (byte_at bytes 5)) (is_hex_digit (byte_at bytes 6)) (is_hex_digit (byte_at bytes 7)) six in
-    let letter : is_letter (byte_at bytes 0) ≡ false = digit_letter (byte_at bytes 0) digit in
-    (ap (λ b. if b then name_or_word (take (name_length bytes) bytes) else if is_digit (byte_at bytes 0) then digits_token bytes else sign_token bytes) letter
-        ∙ ap (λ b. if b then digits_token bytes else sign_token bytes) digit
-        ∙ ap (λ b. if b then token.bit (byte_at bytes 3 == 49) else if is_word_text bytes then token.word (word_value bytes) else token.number (number_value bytes)) bit
-        ∙ ap (λ b. if b then token.word (word_value bytes) else token.number (number_value bytes)) word,
-     ap (λ b. if b then name_length bytes else if is_digit (byte_at bytes 0) then digits_length bytes else sign_length bytes) letter
-        ∙ ap (λ b. if b then digits_length bytes else sign_length bytes) digit
-        ∙ ap (λ b. if b then 4 else if is_word_text bytes then 8 else number_length bytes) bit
-        ∙ ap (λ b. if b then 8 else number_length bytes) word)
+    (is_hex_digit (byte_at bytes 4)) (is_hex_digit (byte_at bytes 5)) (is_hex_digit (byte_at bytes 6)) (is_hex_digit (byte_at bytes 7)) six in
+    let letter : is_letter (byte_at bytes 0) ≡ false = digit_letter (byte_at bytes 0) digit in (
+      ap (λ b. if b then name_or_word (take (name_length bytes) bytes) else if is_digit (byte_at bytes 0) then digits_token bytes else sign_token bytes) letter
+          ∙ ap (λ b. if b then digits_token bytes else sign_token bytes) digit
+          ∙ ap (λ b. if b then token.bit (byte_at bytes 3 == 49) else if is_word_text bytes then token.word (word_value bytes) else token.number (number_value bytes)) bit
+          ∙ ap (λ b. if b then token.word (word_value bytes) else token.number (number_value bytes)) word,
+      ap (λ b. if b then name_length bytes else if is_digit (byte_at bytes 0) then digits_length bytes else sign_length bytes) letter
+          ∙ ap (λ b. if b then digits_length bytes else sign_length bytes) digit
+          ∙ ap (λ b. if b then 4 else if is_word_text bytes then 8 else number_length bytes) bit
+          ∙ ap (λ b. if b then 8 else number_length bytes) word,
+    )
 
 and_left : (a b : Bool) → a ≡ false → (a && b) ≡ false
 and_left true b none = absurd cc

@@ -40,10 +40,10 @@ declared : (end : ℕ) (one : Form) (given : Found) (name : List ℕ) (spots : L
 unfolding slots_of FitAll
 declared end form.Input given name spots tail is which stands =
     slots-read end (slots_of form.Input) (given ∷ []) [] spots tail (form-sound form.Input) (tt, (tt, (tt, (tt, tt))))
-        (stands ∙ ap (λ v. filled (slots_of form.Input) (v ∷ []) [] ++ tail) (sym is))
+    (stands ∙ ap (λ v. filled (slots_of form.Input) (v ∷ []) [] ++ tail) (sym is))
 declared end form.Output given name spots tail is which stands =
     slots-read end (slots_of form.Output) (given ∷ []) [] spots tail (form-sound form.Output) (tt, (tt, (tt, (tt, tt))))
-        (stands ∙ ap (λ v. filled (slots_of form.Output) (v ∷ []) [] ++ tail) (sym is))
+    (stands ∙ ap (λ v. filled (slots_of form.Output) (v ∷ []) [] ++ tail) (sym is))
 declared end one given name spots tail is (inl which) stands = absurd cc
 declared end one given name spots tail is (inr which) stands = absurd cc
 
@@ -105,14 +105,15 @@ ports-spelled end (one ∷ names) before (port ∷ ports) spots tail next are st
     let read = port_case port.output end one port.name spots port more refl are.0 there in
     let named : name_in (one.value ∷ []) ≡ port.name = ap (λ v. name_in (v ∷ [])) are.0 in
     let here : List Port = before ++ port ∷ [] in
-    let behind = ports-spelled end names here ports read.whole.spots tail next are.1 read.left in
-    (behind.0,
-     ap (λ reading. after reading (λ whole. ports_outcome end names (before ++ port_of (name_in (one.value ∷ [])) (is_output whole.form) ∷ []) whole.spots next)) read.reads
-        ∙ ap (λ name. ports_outcome end names (before ++ port_of name (is_output read.whole.form) ∷ []) read.whole.spots next) named
-        ∙ ap (λ output. ports_outcome end names (before ++ port_of port.name output ∷ []) read.whole.spots next) read.is
-        ∙ behind.1
-        ∙ ap (λ all. next all behind.0) (append_assoc before (port ∷ []) ports),
-     behind.2)
+    let behind = ports-spelled end names here ports read.whole.spots tail next are.1 read.left in (
+      behind.0,
+      ap (λ reading. after reading (λ whole. ports_outcome end names (before ++ port_of (name_in (one.value ∷ [])) (is_output whole.form) ∷ []) whole.spots next)) read.reads
+          ∙ ap (λ name. ports_outcome end names (before ++ port_of name (is_output read.whole.form) ∷ []) read.whole.spots next) named
+          ∙ ap (λ output. ports_outcome end names (before ++ port_of port.name output ∷ []) read.whole.spots next) read.is
+          ∙ behind.1
+          ∙ ap (λ all. next all behind.0) (append_assoc before (port ∷ []) ports),
+      behind.2,
+    )
 
 -- ---- the names of the ports
 

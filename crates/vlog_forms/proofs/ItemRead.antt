@@ -142,12 +142,12 @@ read-shape-of end one spots rest found is reads =
     let stands = slots-stand end (slots_of one) [] spots found rest reads in
     let same : found ≡ stands.given = stands.gained in
     let kept : item_values (item_of one (values_of found)) ≡ values_of found
-        = values-rebuilt one (values_of found) is ∙ rebuilt-fit (slots_of one) (values_of found) (subst (λ (f : List Found). FitAll (slots_of one) (values_of f)) (sym same) stands.fit) in
+    = values-rebuilt one (values_of found) is ∙ rebuilt-fit (slots_of one) (values_of found) (subst (λ (f : List Found). FitAll (slots_of one) (values_of f)) (sym same) stands.fit) in
     let named : item_form (item_of one (values_of found)) ≡ one = form-of one (values_of found) is in
     let tokens : tokens_in spots ≡ item_tokens (item_of one (values_of found)) ++ tokens_in rest
-        = stands.tokens ∙ ap (λ f. filled (slots_of one) [] (values_of f) ++ tokens_in rest) (sym same)
-        ∙ ap (λ v. filled (slots_of one) [] v ++ tokens_in rest) (sym kept)
-        ∙ ap (λ form. filled (slots_of form) [] (item_values (item_of one (values_of found))) ++ tokens_in rest) (sym named) in
+    = stands.tokens ∙ ap (λ f. filled (slots_of one) [] (values_of f) ++ tokens_in rest) (sym same)
+    ∙ ap (λ v. filled (slots_of one) [] v ++ tokens_in rest) (sym kept)
+    ∙ ap (λ form. filled (slots_of form) [] (item_values (item_of one (values_of found))) ++ tokens_in rest) (sym named) in
     (tokens, ap shape tokens ∙ item-shape (item_of one (values_of found)) (tokens_in rest) ∙ named, kept)
 
 -- the shape of what a form reads is the form

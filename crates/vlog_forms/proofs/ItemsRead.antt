@@ -175,7 +175,7 @@ items-spelled (suc most) end name ports before (one ∷ items) spots some follow
     let regroup : next ++ items ≡ before ++ one ∷ items = append_assoc before (one ∷ []) items in
     ap (λ reading. after reading (item_outcome (items_outcome most end) m offset)) read.reads
     ∙ ap (λ b. if b then ending m offset read.rest else unless_fault (item_fault (scope_of ports before) offset (item_of (item_form one) (values_of read.found)) read.found)
-            (items_outcome most end (with_item m (item_of (item_form one) (values_of read.found))) read.rest)) (item-not_end one)
+    (items_outcome most end (with_item m (item_of (item_form one) (values_of read.found))) read.rest)) (item-not_end one)
     ∙ ap (λ each. unless_fault (item_fault (scope_of ports before) offset each read.found) (items_outcome most end (with_item m each) read.rest)) back
     ∙ ap (λ none. unless_fault none (items_outcome most end (with_item m one) read.rest)) (item-none (scope_of ports before) offset one read.found allowed read.values)
     ∙ items-spelled most end name ports next items read.rest (omega arith) follow.1 (ap (are_assigned ports) regroup ∙ assigned) read.left

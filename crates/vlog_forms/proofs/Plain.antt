@@ -31,8 +31,8 @@ spots-anywhere one other covered [] = refl
 spots-anywhere one other (suc covered) (byte ∷ bytes) = spots-anywhere (one + 1) (other + 1) covered bytes
 spots-anywhere one other zero (byte ∷ bytes) =
     blank_or (is_blank byte) one other (front_token (byte ∷ bytes)) (spots_from (one + 1) zero bytes) (spots_from (other + 1) zero bytes)
-        (spots_from (one + 1) (front_length (byte ∷ bytes) - 1) bytes) (spots_from (other + 1) (front_length (byte ∷ bytes) - 1) bytes)
-        (spots-anywhere (one + 1) (other + 1) zero bytes) (spots-anywhere (one + 1) (other + 1) (front_length (byte ∷ bytes) - 1) bytes)
+    (spots_from (one + 1) (front_length (byte ∷ bytes) - 1) bytes) (spots_from (other + 1) (front_length (byte ∷ bytes) - 1) bytes)
+    (spots-anywhere (one + 1) (other + 1) zero bytes) (spots-anywhere (one + 1) (other + 1) (front_length (byte ∷ bytes) - 1) bytes)
 
 -- a blank before a text
 pub plain-blank : (byte : ℕ) (text : List ℕ) → is_blank byte ≡ true → plain (byte ∷ text) ≡ plain text

@@ -60,21 +60,24 @@ role-name role.Starts name k named = named
 writable : (values : List Value) → All HasName (uses_in values) → All IsInRange (uses_in values) → AreNumbers values → AreWritable values
 writable [] named ranged small = tt
 writable (Name one name ∷ values) named ranged small =
-    let used : Use = role_use one name (index_in values) in
-    (role-name one name (index_in values) (All-head HasName used (uses_in values) named),
-     writable values (All-tail HasName used (uses_in values) named) (All-tail IsInRange used (uses_in values) ranged) small)
+    let used : Use = role_use one name (index_in values) in (
+      role-name one name (index_in values) (All-head HasName used (uses_in values) named),
+      writable values (All-tail HasName used (uses_in values) named) (All-tail IsInRange used (uses_in values) ranged) small,
+    )
 writable (Edge falling ∷ values) named ranged small = (tt, writable values named ranged small)
 writable (Bit bit ∷ values) named ranged small = (tt, writable values named ranged small)
 writable (Word word ∷ values) named ranged small = (small.0, writable values named ranged small.1)
 writable (Index k ∷ values) named ranged small = (small.0, writable values named ranged small.1)
 writable (AnAtom (atom.Bit bit) ∷ values) named ranged small = (tt, writable values named ranged small)
-writable (AnAtom (atom.Whole name) ∷ values) named ranged small =
-    (All-head HasName (Reads name) (uses_in values) named,
-     writable values (All-tail HasName (Reads name) (uses_in values) named) (All-tail IsInRange (Reads name) (uses_in values) ranged) small)
+writable (AnAtom (atom.Whole name) ∷ values) named ranged small = (
+  All-head HasName (Reads name) (uses_in values) named,
+  writable values (All-tail HasName (Reads name) (uses_in values) named) (All-tail IsInRange (Reads name) (uses_in values) ranged) small,
+)
 writable (AnAtom (atom.Part name k) ∷ values) named ranged small =
-    let bound : k ≤ 15 = All-head IsInRange (ReadsBit name k) (uses_in values) ranged in
-    ((All-head HasName (ReadsBit name k) (uses_in values) named, omega arith),
-     writable values (All-tail HasName (ReadsBit name k) (uses_in values) named) (All-tail IsInRange (ReadsBit name k) (uses_in values) ranged) small)
+    let bound : k ≤ 15 = All-head IsInRange (ReadsBit name k) (uses_in values) ranged in (
+      (All-head HasName (ReadsBit name k) (uses_in values) named, omega arith),
+      writable values (All-tail HasName (ReadsBit name k) (uses_in values) named) (All-tail IsInRange (ReadsBit name k) (uses_in values) ranged) small,
+    )
 
 atoms-numbers : (list : List Atom) (values : List Value) → AreNumbers values → AreNumbers (map AnAtom list ++ values)
 atoms-numbers [] values small = small
@@ -140,9 +143,9 @@ item-plain scope one rest allowed =
     let ranged : All IsInRange (uses_in (item_values one)) = subst (All IsInRange) (sym uses) allowed.in_range in
     let before : are_before 0 (slots_of form) ≡ true = ap (λ n. are_before n (slots_of form)) (sym (none-given form (form-is one))) ∙ (form-sound form).before in
     line-plain (written (slots_of form) [] (item_values one)) rest (item_tokens one)
-        (plain-written (slots_of form) [] (item_values one) (10 ∷ rest) (form-shut form) before tt
-            (writable (item_values one) named ranged (item-numbers one allowed.shaped allowed.in_range))
-            (item-fits one allowed.shaped (item-ranged one allowed.in_range)) refl)
+    (plain-written (slots_of form) [] (item_values one) (10 ∷ rest) (form-shut form) before tt
+    (writable (item_values one) named ranged (item-numbers one allowed.shaped allowed.in_range))
+    (item-fits one allowed.shaped (item-ranged one allowed.in_range)) refl)
 
 items-plain : (ports : List Port) (before items : List Item) (rest : List ℕ) → MayFollow ports before items → plain (flat_map item_line items ++ rest) ≡ flat_map item_tokens items ++ plain rest
 unfolding MayFollow
@@ -165,8 +168,8 @@ port-before false = (form-sound form.Input).before
 port-plain : (port : Port) (rest : List ℕ) → IsName port.name → plain (port_line port ++ rest) ≡ port_tokens port ++ plain rest
 port-plain port rest named =
     line-plain (written (slots_of (port_form port.output)) (Name (role.Declares sort.Input) port.name ∷ []) []) rest (port_tokens port)
-        (plain-written (slots_of (port_form port.output)) (Name (role.Declares sort.Input) port.name ∷ []) [] (10 ∷ rest)
-            (form-shut (port_form port.output)) (port-before port.output) (named, tt) tt (port-fits port.output) refl)
+    (plain-written (slots_of (port_form port.output)) (Name (role.Declares sort.Input) port.name ∷ []) [] (10 ∷ rest)
+    (form-shut (port_form port.output)) (port-before port.output) (named, tt) tt (port-fits port.output) refl)
 
 ports-plain : (ports : List Port) (rest : List ℕ) → All (λ port. IsName port.name) ports → plain (flat_map port_line ports ++ rest) ≡ flat_map port_tokens ports ++ plain rest
 ports-plain [] rest named = refl
@@ -187,12 +190,12 @@ more-plain [] rest named shut = refl
 more-plain (port ∷ ports) rest named shut =
     let behind : List ℕ = more_names_text ports ++ rest in
     let comma : plain (44 ∷ 32 ∷ ((port.name ++ more_names_text ports) ++ rest)) ≡ token.fixed sign.Comma ∷ plain (32 ∷ ((port.name ++ more_names_text ports) ++ rest))
-        = plain-front (44 ∷ []) (32 ∷ ((port.name ++ more_names_text ports) ++ rest)) (token.fixed sign.Comma) (fixed-front sign.Comma (32 ∷ ((port.name ++ more_names_text ports) ++ rest)) (λ h. absurd cc)) in
+    = plain-front (44 ∷ []) (32 ∷ ((port.name ++ more_names_text ports) ++ rest)) (token.fixed sign.Comma) (fixed-front sign.Comma (32 ∷ ((port.name ++ more_names_text ports) ++ rest)) (λ h. absurd cc)) in
     let name : plain (port.name ++ behind) ≡ token.name port.name ∷ plain behind
-        = plain-front port.name behind (token.name port.name) (name-front port.name behind (All-head (λ each. IsName each.name) port ports named) (more-closes ports rest shut)) in
+    = plain-front port.name behind (token.name port.name) (name-front port.name behind (All-head (λ each. IsName each.name) port ports named) (more-closes ports rest shut)) in
     comma ∙ ap (λ more. token.fixed sign.Comma ∷ more)
-        (plain-blank 32 ((port.name ++ more_names_text ports) ++ rest) refl ∙ ap plain (append_assoc port.name (more_names_text ports) rest) ∙ name
-        ∙ ap (λ more. token.name port.name ∷ more) (more-plain ports rest (All-tail (λ each. IsName each.name) port ports named) shut))
+    (plain-blank 32 ((port.name ++ more_names_text ports) ++ rest) refl ∙ ap plain (append_assoc port.name (more_names_text ports) rest) ∙ name
+    ∙ ap (λ more. token.name port.name ∷ more) (more-plain ports rest (All-tail (λ each. IsName each.name) port ports named) shut))
 
 names-plain : (ports : List Port) (rest : List ℕ) → All (λ port. IsName port.name) ports → closes rest ≡ true → plain (names_text ports ++ rest) ≡ names_tokens ports ++ plain rest
 names-plain [] rest named shut = refl
@@ -217,28 +220,28 @@ printed-plain m well =
     let last : List TokenValue = flat_map item_tokens m.items ++ token.fixed sign.Endmodule ∷ [] in
     let body : List TokenValue = flat_map port_tokens m.ports ++ last in
     let first : plain (codes "module " ++ (m.name ++ (codes " (" ++ behind))) ≡ token.fixed sign.Module ∷ plain (m.name ++ (codes " (" ++ behind))
-        = plain-front (codes "module") (32 ∷ (m.name ++ (codes " (" ++ behind))) (token.fixed sign.Module) (fixed-front sign.Module (32 ∷ (m.name ++ (codes " (" ++ behind))) (λ h. refl))
-        ∙ ap (λ more. token.fixed sign.Module ∷ more) (plain-blank 32 (m.name ++ (codes " (" ++ behind)) refl) in
+    = plain-front (codes "module") (32 ∷ (m.name ++ (codes " (" ++ behind))) (token.fixed sign.Module) (fixed-front sign.Module (32 ∷ (m.name ++ (codes " (" ++ behind))) (λ h. refl))
+    ∙ ap (λ more. token.fixed sign.Module ∷ more) (plain-blank 32 (m.name ++ (codes " (" ++ behind)) refl) in
     let name : plain (m.name ++ (codes " (" ++ behind)) ≡ token.name m.name ∷ plain (40 ∷ behind)
-        = plain-front m.name (codes " (" ++ behind) (token.name m.name) (name-front m.name (codes " (" ++ behind) well.named refl)
-        ∙ ap (λ more. token.name m.name ∷ more) (plain-blank 32 (40 ∷ behind) refl) in
+    = plain-front m.name (codes " (" ++ behind) (token.name m.name) (name-front m.name (codes " (" ++ behind) well.named refl)
+    ∙ ap (λ more. token.name m.name ∷ more) (plain-blank 32 (40 ∷ behind) refl) in
     let open_sign : plain (40 ∷ behind) ≡ token.fixed sign.OpenParen ∷ plain behind
-        = plain-front (40 ∷ []) behind (token.fixed sign.OpenParen) (fixed-front sign.OpenParen behind (λ h. absurd cc)) in
+    = plain-front (40 ∷ []) behind (token.fixed sign.OpenParen) (fixed-front sign.OpenParen behind (λ h. absurd cc)) in
     let names : plain behind ≡ names_tokens m.ports ++ plain (codes ");\n" ++ ports) = names-plain m.ports (codes ");\n" ++ ports) well.begun.named refl in
     let close : plain (codes ");\n" ++ ports) ≡ token.fixed sign.CloseParen ∷ plain (59 ∷ 10 ∷ ports)
-        = plain-front (41 ∷ []) (59 ∷ 10 ∷ ports) (token.fixed sign.CloseParen) (fixed-front sign.CloseParen (59 ∷ 10 ∷ ports) (λ h. absurd cc)) in
+    = plain-front (41 ∷ []) (59 ∷ 10 ∷ ports) (token.fixed sign.CloseParen) (fixed-front sign.CloseParen (59 ∷ 10 ∷ ports) (λ h. absurd cc)) in
     let semicolon : plain (59 ∷ 10 ∷ ports) ≡ token.fixed sign.Semicolon ∷ plain ports
-        = plain-front (59 ∷ []) (10 ∷ ports) (token.fixed sign.Semicolon) (fixed-front sign.Semicolon (10 ∷ ports) (λ h. absurd cc))
-        ∙ ap (λ more. token.fixed sign.Semicolon ∷ more) (plain-blank 10 ports refl) in
+    = plain-front (59 ∷ []) (10 ∷ ports) (token.fixed sign.Semicolon) (fixed-front sign.Semicolon (10 ∷ ports) (λ h. absurd cc))
+    ∙ ap (λ more. token.fixed sign.Semicolon ∷ more) (plain-blank 10 ports refl) in
     let follow : MayFollow m.ports [] m.items = may-follow m.ports [] m.items well.begun.allowed in
     let rest : plain ports ≡ body
-        = ports-plain m.ports items well.begun.named
-        ∙ ap (λ more. flat_map port_tokens m.ports ++ more) (items-plain m.ports [] m.items (codes "endmodule\n") follow ∙ ap (λ more. flat_map item_tokens m.items ++ more) last-plain) in
+    = ports-plain m.ports items well.begun.named
+    ∙ ap (λ more. flat_map port_tokens m.ports ++ more) (items-plain m.ports [] m.items (codes "endmodule\n") follow ∙ ap (λ more. flat_map item_tokens m.items ++ more) last-plain) in
     let tail : plain (codes ");\n" ++ ports) ≡ token.fixed sign.CloseParen ∷ token.fixed sign.Semicolon ∷ body
-        = close ∙ ap (λ more. token.fixed sign.CloseParen ∷ more) (semicolon ∙ ap (λ more. token.fixed sign.Semicolon ∷ more) rest) in
+    = close ∙ ap (λ more. token.fixed sign.CloseParen ∷ more) (semicolon ∙ ap (λ more. token.fixed sign.Semicolon ∷ more) rest) in
     first ∙ ap (λ more. token.fixed sign.Module ∷ more) (name ∙ ap (λ more. token.name m.name ∷ more) (open_sign ∙ ap (λ more. token.fixed sign.OpenParen ∷ more)
-        (names ∙ ap (λ more. names_tokens m.ports ++ more) tail
-        ∙ sym (append_assoc (names_tokens m.ports) (token.fixed sign.CloseParen ∷ token.fixed sign.Semicolon ∷ []) body))))
+    (names ∙ ap (λ more. names_tokens m.ports ++ more) tail
+    ∙ sym (append_assoc (names_tokens m.ports) (token.fixed sign.CloseParen ∷ token.fixed sign.Semicolon ∷ []) body))))
 
 -- what is printed of a well-formed module spells it
 pub printed-spells : (m : Parts) → IsModule m → IsSpelling (printed m) m

@@ -51,7 +51,7 @@ clocked_shape tokens =
 unfoldable pub shape : List TokenValue → Form
 shape tokens =
     if is_at sign.Reg tokens 0 then
-        (if is_at sign.OpenBracket tokens 1 then (if is_at sign.Equals tokens 7 then form.Word else form.Memory) else form.Register)
+    (if is_at sign.OpenBracket tokens 1 then (if is_at sign.Equals tokens 7 then form.Word else form.Memory) else form.Register)
     else if is_at sign.Wire tokens 0 then wire_shape (drop 3 tokens)
     else if is_at sign.Assign tokens 0 then form.Assign
     else if is_at sign.Always tokens 0 then clocked_shape (behind_atom (drop 8 tokens))
@@ -120,7 +120,7 @@ write-item falling clock one other target values tail =
 
 lut-item : (slots : List Slot) (name : List ℕ) (word : ℕ) (values : List Value) (tail : List TokenValue)
     → shape (filled (slot.Fixed sign.Wire ∷ slot.Space ∷ slot.Name (role.Declares sort.Wire) ∷ slot.Space ∷ slot.Fixed sign.Equals ∷ slot.Space ∷ slot.Word ∷ slots) []
-        (Name (role.Declares sort.Wire) name ∷ Word word ∷ values) ++ tail) ≡ form.WireLut
+    (Name (role.Declares sort.Wire) name ∷ Word word ∷ values) ++ tail) ≡ form.WireLut
 unfolding shape filled
 lut-item slots name word values tail = refl
 

@@ -29,14 +29,14 @@ pub filled-took : (wanted : Slot) (slots : List Slot) (before : List Value) (val
 unfolding filled
 filled-took wanted slots before value after takes =
     ap (λ b. (if b then first_tokens (value ∷ after) else exact_tokens before wanted)
-        ++ filled slots (if b then before ++ take 1 (value ∷ after) else before) (if b then drop 1 (value ∷ after) else value ∷ after)) takes
+    ++ filled slots (if b then before ++ take 1 (value ∷ after) else before) (if b then drop 1 (value ∷ after) else value ∷ after)) takes
 
 pub filled-passed : (wanted : Slot) (slots : List Slot) (before after : List Value) → takes_value wanted ≡ false
     → filled (wanted ∷ slots) before after ≡ exact_tokens before wanted ++ filled slots before after
 unfolding filled
 filled-passed wanted slots before after takes =
     ap (λ b. (if b then first_tokens after else exact_tokens before wanted)
-        ++ filled slots (if b then before ++ take 1 after else before) (if b then drop 1 after else after)) takes
+    ++ filled slots (if b then before ++ take 1 after else before) (if b then drop 1 after else after)) takes
 
 -- values are of the kinds that slots take, one for each that takes one
 abbrev pub FitsFirst : Bool → Slot → List Value → Type 0
@@ -92,7 +92,7 @@ exact_stands : (end : ℕ) (wanted : Slot) (found : List Found) (spots : List Sp
     → takes_value wanted ≡ false → behind_tokens found (read_tokens end (exact_tokens (values_of found) wanted) spots) ≡ Ok (after, rest) → SlotStands wanted found spots after rest
 exact_stands end wanted found spots after rest takes reads =
     exact_case wanted found spots after rest (read_tokens end (exact_tokens (values_of found) wanted) spots) takes
-        (λ left. read_tokens-whole end (exact_tokens (values_of found) wanted) spots left) reads
+    (λ left. read_tokens-whole end (exact_tokens (values_of found) wanted) spots left) reads
 
 atom_stands : (end : ℕ) (found : List Found) (spots : List Spot) (after : List Found) (rest : List Spot) → AtomStands found spots after rest → SlotStands slot.Atom found spots after rest
 atom_stands end found spots after rest stands = took refl (found_at stands.offset (AnAtom stands.one)) stands.gained stands.tokens stands.fits
@@ -125,23 +125,23 @@ after_slot wanted slots found middle spots left after rest (took takes one is to
   given = one ∷ more.given;
   gained = more.gained ∙ ap (λ before. before ++ more.given) is ∙ append_assoc found (one ∷ []) more.given;
   tokens =
-    let values : values_of middle ≡ values_of found ++ one.value ∷ [] = ap values_of is ∙ map-append (λ (each : Found). each.value) found (one ∷ []) in
-    let behind : tokens_in left ≡ filled slots (values_of found ++ one.value ∷ []) (values_of more.given) ++ tokens_in rest
-        = more.tokens ∙ ap (λ before. filled slots before (values_of more.given) ++ tokens_in rest) values in
-    tokens ∙ ap (λ more. value_tokens one.value ++ more) behind
-    ∙ sym (append_assoc (value_tokens one.value) (filled slots (values_of found ++ one.value ∷ []) (values_of more.given)) (tokens_in rest))
-    ∙ ap (λ all. all ++ tokens_in rest) (sym (filled-took wanted slots (values_of found) one.value (values_of more.given) takes));
+      let values : values_of middle ≡ values_of found ++ one.value ∷ [] = ap values_of is ∙ map-append (λ (each : Found). each.value) found (one ∷ []) in
+      let behind : tokens_in left ≡ filled slots (values_of found ++ one.value ∷ []) (values_of more.given) ++ tokens_in rest
+      = more.tokens ∙ ap (λ before. filled slots before (values_of more.given) ++ tokens_in rest) values in
+      tokens ∙ ap (λ more. value_tokens one.value ++ more) behind
+      ∙ sym (append_assoc (value_tokens one.value) (filled slots (values_of found ++ one.value ∷ []) (values_of more.given)) (tokens_in rest))
+      ∙ ap (λ all. all ++ tokens_in rest) (sym (filled-took wanted slots (values_of found) one.value (values_of more.given) takes));
   fit = FitAll-took wanted slots one.value (values_of more.given) takes fits more.fit;
 }
 after_slot wanted slots found middle spots left after rest (passed takes is tokens) more = record {
   given = more.given;
   gained = more.gained ∙ ap (λ before. before ++ more.given) is;
   tokens =
-    let behind : tokens_in left ≡ filled slots (values_of found) (values_of more.given) ++ tokens_in rest
-        = more.tokens ∙ ap (λ before. filled slots (values_of before) (values_of more.given) ++ tokens_in rest) is in
-    tokens ∙ ap (λ more. exact_tokens (values_of found) wanted ++ more) behind
-    ∙ sym (append_assoc (exact_tokens (values_of found) wanted) (filled slots (values_of found) (values_of more.given)) (tokens_in rest))
-    ∙ ap (λ all. all ++ tokens_in rest) (sym (filled-passed wanted slots (values_of found) (values_of more.given) takes));
+      let behind : tokens_in left ≡ filled slots (values_of found) (values_of more.given) ++ tokens_in rest
+      = more.tokens ∙ ap (λ before. filled slots (values_of before) (values_of more.given) ++ tokens_in rest) is in
+      tokens ∙ ap (λ more. exact_tokens (values_of found) wanted ++ more) behind
+      ∙ sym (append_assoc (exact_tokens (values_of found) wanted) (filled slots (values_of found) (values_of more.given)) (tokens_in rest))
+      ∙ ap (λ all. all ++ tokens_in rest) (sym (filled-passed wanted slots (values_of found) (values_of more.given) takes));
   fit = FitAll-passed wanted slots (values_of more.given) takes more.fit;
 }
 
@@ -161,8 +161,8 @@ slots-stand end [] found spots after rest reads =
     record { given = []; gained = sym (ok_first reads) ∙ sym (append-nil found); tokens = ap tokens_in same; fit = tt }
 slots-stand end (wanted ∷ slots) found spots after rest reads =
     stand_step wanted slots found spots after rest end (read_slot end wanted found spots)
-        (λ middle left. slot-stands end wanted found spots middle left)
-        (λ middle left. slots-stand end slots middle left after rest) reads
+    (λ middle left. slot-stands end wanted found spots middle left)
+    (λ middle left. slots-stand end slots middle left after rest) reads
 
 -- ---- what stands there is read
 
@@ -360,17 +360,17 @@ read_took end wanted slots found value values spots tail takes sound fits fit st
     let middle : List TokenValue = filled slots before values ++ tail in
     let first = first-sound (length found) wanted slots sound in
     let there : tokens_in spots ≡ value_tokens value ++ middle =
-        stands ∙ ap (λ all. all ++ tail) (filled-took wanted slots (values_of found) value values takes)
-        ∙ append_assoc (value_tokens value) (filled slots before values) tail in
+    stands ∙ ap (λ all. all ++ tail) (filled-took wanted slots (values_of found) value values takes)
+    ∙ append_assoc (value_tokens value) (filled slots before values) tail in
     let taken : TakenRead (read_slot end wanted found spots) found value middle =
-        slot_taken end wanted found value spots middle takes fits (λ atom. closed-next slots before values tail (first.shut atom)) there in
+    slot_taken end wanted found value spots middle takes fits (λ atom. closed-next slots before values tail (first.shut atom)) there in
     read_step_took end wanted slots found value values spots middle tail taken
-        (λ offset left is.
-            let grown : values_of (found ++ found_at offset value ∷ []) ≡ before = map-append (λ (each : Found). each.value) found (found_at offset value ∷ []) in
-            let count : length (found ++ found_at offset value ∷ []) ≡ suc (length found) = omega (arith, length-append found (found_at offset value ∷ [])) in
-            let behind : IsSound (suc (length found)) slots = subst (λ (b : Bool). IsSound (if b then suc (length found) else length found) slots) takes first.more in
-            more (found ++ found_at offset value ∷ []) values left (subst (λ (n : ℕ). IsSound n slots) (sym count) behind) fit
-                (is ∙ ap (λ front. filled slots front values ++ tail) (sym grown)))
+    (λ offset left is.
+    let grown : values_of (found ++ found_at offset value ∷ []) ≡ before = map-append (λ (each : Found). each.value) found (found_at offset value ∷ []) in
+    let count : length (found ++ found_at offset value ∷ []) ≡ suc (length found) = omega (arith, length-append found (found_at offset value ∷ [])) in
+    let behind : IsSound (suc (length found)) slots = subst (λ (b : Bool). IsSound (if b then suc (length found) else length found) slots) takes first.more in
+    more (found ++ found_at offset value ∷ []) values left (subst (λ (n : ℕ). IsSound n slots) (sym count) behind) fit
+    (is ∙ ap (λ front. filled slots front values ++ tail) (sym grown)))
 
 read_passed : (end : ℕ) (wanted : Slot) (slots : List Slot) (found : List Found) (values : List Value) (spots : List Spot) (tail : List TokenValue)
     → takes_value wanted ≡ false → IsSound (length found) (wanted ∷ slots) → FitAll slots values
@@ -380,14 +380,14 @@ read_passed end wanted slots found values spots tail takes sound fit stands more
     let middle : List TokenValue = filled slots (values_of found) values ++ tail in
     let first = first-sound (length found) wanted slots sound in
     let there : tokens_in spots ≡ exact_tokens (values_of found) wanted ++ middle =
-        stands ∙ ap (λ all. all ++ tail) (filled-passed wanted slots (values_of found) values takes)
-        ∙ append_assoc (exact_tokens (values_of found) wanted) (filled slots (values_of found) values) tail in
+    stands ∙ ap (λ all. all ++ tail) (filled-passed wanted slots (values_of found) values takes)
+    ∙ append_assoc (exact_tokens (values_of found) wanted) (filled slots (values_of found) values) tail in
     let count : length (values_of found) ≡ length found = length-map found (λ (each : Found). each.value) in
     let known : is_before (length (values_of found)) wanted ≡ true = ap (λ n. is_before n wanted) count ∙ first.known in
     let behind : IsSound (length found) slots = subst (λ (b : Bool). IsSound (if b then suc (length found) else length found) slots) takes first.more in
     read_step_passed end wanted slots found values spots middle tail
-        (slot_passed end wanted found spots middle takes (exact-real (values_of found) wanted known) there)
-        (λ left is. more found values left behind fit is)
+    (slot_passed end wanted found spots middle takes (exact-real (values_of found) wanted known) there)
+    (λ left is. more found values left behind fit is)
 
 read_case : (b : Bool) (end : ℕ) (wanted : Slot) (slots : List Slot) (found : List Found) (values : List Value) (spots : List Spot) (tail : List TokenValue)
     → takes_value wanted ≡ b → IsSound (length found) (wanted ∷ slots) → FitAll (wanted ∷ slots) values
@@ -418,4 +418,4 @@ slots-read end [] found [] spots tail sound fit stands = record {
 slots-read end [] found (value ∷ values) spots tail sound fit stands = absurd fit
 slots-read end (wanted ∷ slots) found values spots tail sound fit stands =
     read_case (takes_value wanted) end wanted slots found values spots tail refl sound fit stands
-        (λ next some left. slots-read end slots next some left tail)
+    (λ next some left. slots-read end slots next some left tail)

@@ -47,10 +47,11 @@ may-follow ports before [] allowed = tt
 may-follow ports before (one ∷ items) allowed =
     let here : slice_get (before ++ one ∷ items) (length before) ≡ Some one = at_push before one items in
     let front : take (length before) (before ++ one ∷ items) ≡ before = take_at before (one ∷ items) (length before) refl in
-    let regroup : (before ++ one ∷ []) ++ items ≡ before ++ one ∷ items = append_assoc before (one ∷ []) items in
-    (subst (λ (list : List Item). IsAllowed (scope_of ports list) one) front (allowed (length before) one here),
-     may-follow ports (before ++ one ∷ []) items
-        (λ i each is. subst (λ (list : List Item). IsAllowed (scope_of ports (take i list)) each) (sym regroup) (allowed i each (ap (λ list. slice_get list i) (sym regroup) ∙ is))))
+    let regroup : (before ++ one ∷ []) ++ items ≡ before ++ one ∷ items = append_assoc before (one ∷ []) items in (
+      subst (λ (list : List Item). IsAllowed (scope_of ports list) one) front (allowed (length before) one here),
+      may-follow ports (before ++ one ∷ []) items
+          (λ i each is. subst (λ (list : List Item). IsAllowed (scope_of ports (take i list)) each) (sym regroup) (allowed i each (ap (λ list. slice_get list i) (sym regroup) ∙ is))),
+    )
   where
     at_push : (before : List Item) (one : Item) (items : List Item) → slice_get (before ++ one ∷ items) (length before) ≡ Some one
     at_push [] one items = refl
@@ -61,12 +62,13 @@ assigned : (ports all : List Port) (items : List Item) → All (λ port. IsTrue 
 assigned [] all items complete = refl
 assigned (port ∷ ports) all items complete =
     both (not port.output || is_assigned items port.name) (are_assigned ports items)
-        (step port.output (is_assigned items port.name) (All-head (λ each. IsTrue each.output → IsTrue (is_assigned items each.name)) port ports complete))
-        (assigned ports all items (All-tail (λ each. IsTrue each.output → IsTrue (is_assigned items each.name)) port ports complete))
+    (step port.output (is_assigned items port.name) (All-head (λ each. IsTrue each.output → IsTrue (is_assigned items each.name)) port ports complete))
+    (assigned ports all items (All-tail (λ each. IsTrue each.output → IsTrue (is_assigned items each.name)) port ports complete))
   where
     step : (a b : Bool) → (a ≡ true → b ≡ true) → (not a || b) ≡ true
     step true b h = h refl
     step false b h = refl
+
     both : (a b : Bool) → a ≡ true → b ≡ true → (a && b) ≡ true
     both true b h k = k
     both false b h k = absurd cc
@@ -109,8 +111,8 @@ spots-spelled end m spots stands well =
     let body : List TokenValue = flat_map port_tokens m.ports ++ last in
     let behind : List TokenValue = names_tokens m.ports ++ token.fixed sign.CloseParen ∷ token.fixed sign.Semicolon ∷ body in
     let there : tokens_in spots ≡ token.fixed sign.Module ∷ token.name m.name ∷ token.fixed sign.OpenParen ∷ behind
-        = stands ∙ ap (λ more. token.fixed sign.Module ∷ token.name m.name ∷ token.fixed sign.OpenParen ∷ more)
-            (append_assoc (names_tokens m.ports) (token.fixed sign.CloseParen ∷ token.fixed sign.Semicolon ∷ []) body) in
+    = stands ∙ ap (λ more. token.fixed sign.Module ∷ token.name m.name ∷ token.fixed sign.OpenParen ∷ more)
+    (append_assoc (names_tokens m.ports) (token.fixed sign.CloseParen ∷ token.fixed sign.Semicolon ∷ []) body) in
     let head = head-read end m.name spots behind there in
     let names = names-read end m.ports head.rest (token.fixed sign.Semicolon ∷ body) head.left in
     let semicolon = read_tokens-exact end (token.fixed sign.Semicolon ∷ []) names.rest body (tt, tt) names.left in
@@ -120,12 +122,12 @@ spots-spelled end m spots stands well =
     let rest : List Spot = ports.0 in
     let count : length (tokens_in rest) ≡ length rest = length-map rest (λ (each : Spot). each.token) in
     let all : length (tokens_in rest) ≡ length (flat_map item_tokens m.items) + 1
-        = ap length ports.2 ∙ length-append (flat_map item_tokens m.items) (token.fixed sign.Endmodule ∷ []) in
+    = ap length ports.2 ∙ length-append (flat_map item_tokens m.items) (token.fixed sign.Endmodule ∷ []) in
     let enough : length m.items < suc (length rest) = omega (arith, items-some m.items, count, all) in
     let follow : MayFollow m.ports [] m.items = may-follow m.ports [] m.items well.begun.allowed in
     let done : are_assigned m.ports m.items ≡ true = assigned m.ports m.ports m.items well.complete in
     let ends : items_outcome (suc (length rest)) end (module_of m.name m.ports []) rest ≡ Ok (module_of m.name m.ports m.items)
-        = items-spelled (suc (length rest)) end m.name m.ports [] m.items rest enough follow done ports.2 in
+    = items-spelled (suc (length rest)) end m.name m.ports [] m.items rest enough follow done ports.2 in
     ap (λ reading. after (with_head end reading) (header_outcome end)) head.reads
     ∙ ap (λ reading. after (with_names end head.given reading) (header_outcome end)) names.reads
     ∙ ap (λ reading. after (with_semicolon head.given names.names reading) (header_outcome end)) semicolon.1

@@ -72,20 +72,20 @@ uses-of-values (item.Assign name one) =
     ap (λ more. Assigns sort.Output name ∷ more) (atom-next one [] ∙ append-nil (atom_uses one))
 uses-of-values (item.Flip falling clock enable reset set target lut) =
     ap (λ more. Takes sort.Input clock ∷ more)
-        (two-next enable reset (value.Name (role.Assigns sort.Register) target ∷ value.Bit set ∷ lut_values lut) (Assigns sort.Register target ∷ lut_uses lut)
-            (ap (λ more. Assigns sort.Register target ∷ more) (list-last lut.ins)))
+    (two-next enable reset (value.Name (role.Assigns sort.Register) target ∷ value.Bit set ∷ lut_values lut) (Assigns sort.Register target ∷ lut_uses lut)
+    (ap (λ more. Assigns sort.Register target ∷ more) (list-last lut.ins)))
 uses-of-values (item.Read falling clock clock_enable enable target memory address) =
     ap (λ more. Takes sort.Input clock ∷ more)
-        (two-next clock_enable enable (value.Name (role.Assigns sort.Word) target ∷ value.Name (role.Takes sort.Memory) memory ∷ atoms_values address) (Assigns sort.Word target ∷ Takes sort.Memory memory ∷ atoms_uses address)
-            (ap (λ more. Assigns sort.Word target ∷ Takes sort.Memory memory ∷ more) (list-last address)))
+    (two-next clock_enable enable (value.Name (role.Assigns sort.Word) target ∷ value.Name (role.Takes sort.Memory) memory ∷ atoms_values address) (Assigns sort.Word target ∷ Takes sort.Memory memory ∷ atoms_uses address)
+    (ap (λ more. Assigns sort.Word target ∷ Takes sort.Memory memory ∷ more) (list-last address)))
 uses-of-values (item.Write falling clock clock_enable enable memory address mask bits) =
     let behind : uses_in (atoms_values address ++ (atoms_values mask ++ atoms_values bits)) ≡ atoms_uses address ++ (atoms_uses mask ++ atoms_uses bits)
-        = list-next address (atoms_values mask ++ atoms_values bits)
-        ∙ ap (λ more. atoms_uses address ++ more) (list-next mask (atoms_values bits) ∙ ap (λ more. atoms_uses mask ++ more) (list-last bits)) in
+    = list-next address (atoms_values mask ++ atoms_values bits)
+    ∙ ap (λ more. atoms_uses address ++ more) (list-next mask (atoms_values bits) ∙ ap (λ more. atoms_uses mask ++ more) (list-last bits)) in
     let all : uses_in (value.AnAtom clock_enable ∷ value.AnAtom enable ∷ value.Name (role.Assigns sort.Memory) memory ∷ (atoms_values address ++ (atoms_values mask ++ atoms_values bits)))
-        ≡ (atom_uses clock_enable ++ atom_uses enable) ++ (Assigns sort.Memory memory ∷ (atoms_uses address ++ (atoms_uses mask ++ atoms_uses bits)))
-        = two-next clock_enable enable (value.Name (role.Assigns sort.Memory) memory ∷ (atoms_values address ++ (atoms_values mask ++ atoms_values bits)))
-            (Assigns sort.Memory memory ∷ (atoms_uses address ++ (atoms_uses mask ++ atoms_uses bits))) (ap (λ more. Assigns sort.Memory memory ∷ more) behind) in
+    ≡ (atom_uses clock_enable ++ atom_uses enable) ++ (Assigns sort.Memory memory ∷ (atoms_uses address ++ (atoms_uses mask ++ atoms_uses bits)))
+    = two-next clock_enable enable (value.Name (role.Assigns sort.Memory) memory ∷ (atoms_values address ++ (atoms_values mask ++ atoms_values bits)))
+    (Assigns sort.Memory memory ∷ (atoms_uses address ++ (atoms_uses mask ++ atoms_uses bits))) (ap (λ more. Assigns sort.Memory memory ∷ more) behind) in
     ap (λ more. Takes sort.Input clock ∷ more) (all ∙ regroup (atom_uses clock_enable ++ atom_uses enable) (Assigns sort.Memory memory) (atoms_uses address) (atoms_uses mask) (atoms_uses bits))
   where
     regroup : (front : List Use) (one : Use) (a b c : List Use) → front ++ (one ∷ (a ++ (b ++ c))) ≡ ((front ++ (one ∷ a)) ++ b) ++ c

@@ -42,21 +42,21 @@ pub written-passed : (one : Slot) (slots : List Slot) (before after : List Value
 unfolding written
 written-passed one slots before after takes =
     ap (λ b. (space_text one ++ tokens_text (if b then first_tokens after else exact_tokens before one))
-        ++ written slots (if b then before ++ take 1 after else before) (if b then drop 1 after else after)) takes
+    ++ written slots (if b then before ++ take 1 after else before) (if b then drop 1 after else after)) takes
 
 pub written-took : (one : Slot) (slots : List Slot) (before : List Value) (value : Value) (after : List Value) → takes_value one ≡ true
     → written (one ∷ slots) before (value ∷ after) ≡ tokens_text (value_tokens value) ++ written slots (before ++ value ∷ []) after
 unfolding written
 written-took one slots before value after takes =
     ap (λ b. (space_text one ++ tokens_text (if b then first_tokens (value ∷ after) else exact_tokens before one))
-        ++ written slots (if b then before ++ take 1 (value ∷ after) else before) (if b then drop 1 (value ∷ after) else value ∷ after)) takes
+    ++ written slots (if b then before ++ take 1 (value ∷ after) else before) (if b then drop 1 (value ∷ after) else value ∷ after)) takes
     ∙ ap (λ space. (space ++ tokens_text (value_tokens value)) ++ written slots (before ++ value ∷ []) after) (space-takes one takes)
 
 pub written-none : (one : Slot) (slots : List Slot) (before : List Value) → takes_value one ≡ true → written (one ∷ slots) before [] ≡ written slots before []
 unfolding written
 written-none one slots before takes =
     ap (λ b. (space_text one ++ tokens_text (if b then first_tokens [] else exact_tokens before one))
-        ++ written slots (if b then before ++ take 1 [] else before) (if b then drop 1 [] else [])) takes
+    ++ written slots (if b then before ++ take 1 [] else before) (if b then drop 1 [] else [])) takes
     ∙ ap (λ space. (space ++ []) ++ written slots (before ++ []) []) (space-takes one takes)
     ∙ ap (λ all. written slots all []) (append-nil before)
 
@@ -103,11 +103,11 @@ part-plain name k rest named small =
     let close : plain (93 ∷ rest) ≡ token.fixed sign.CloseBracket ∷ plain rest = plain-front (93 ∷ []) rest (token.fixed sign.CloseBracket) (fixed-front sign.CloseBracket rest (λ h. absurd cc)) in
     let number : plain (decimal_text k ++ 93 ∷ rest) ≡ token.number k ∷ plain (93 ∷ rest) = plain-front (decimal_text k) (93 ∷ rest) (token.number k) (number-front k (93 ∷ rest) small refl) in
     let bracket : plain (91 ∷ (decimal_text k ++ 93 ∷ rest)) ≡ token.fixed sign.OpenBracket ∷ plain (decimal_text k ++ 93 ∷ rest)
-        = plain-front (91 ∷ []) (decimal_text k ++ 93 ∷ rest) (token.fixed sign.OpenBracket) (fixed-front sign.OpenBracket (decimal_text k ++ 93 ∷ rest) (λ h. absurd cc)) in
+    = plain-front (91 ∷ []) (decimal_text k ++ 93 ∷ rest) (token.fixed sign.OpenBracket) (fixed-front sign.OpenBracket (decimal_text k ++ 93 ∷ rest) (λ h. absurd cc)) in
     let first : plain (name ++ (91 ∷ (decimal_text k ++ 93 ∷ rest))) ≡ token.name name ∷ plain (91 ∷ (decimal_text k ++ 93 ∷ rest))
-        = plain-front name (91 ∷ (decimal_text k ++ 93 ∷ rest)) (token.name name) (name-front name (91 ∷ (decimal_text k ++ 93 ∷ rest)) named refl) in
+    = plain-front name (91 ∷ (decimal_text k ++ 93 ∷ rest)) (token.name name) (name-front name (91 ∷ (decimal_text k ++ 93 ∷ rest)) named refl) in
     let regroup : tokens_text (value_tokens (AnAtom (atom.Part name k))) ++ rest ≡ name ++ (91 ∷ (decimal_text k ++ 93 ∷ rest))
-        = append_assoc name (91 ∷ (decimal_text k ++ (93 ∷ []))) rest ∙ ap (λ more. name ++ (91 ∷ more)) (append_assoc (decimal_text k) (93 ∷ []) rest) in
+    = append_assoc name (91 ∷ (decimal_text k ++ (93 ∷ []))) rest ∙ ap (λ more. name ++ (91 ∷ more)) (append_assoc (decimal_text k) (93 ∷ []) rest) in
     ap plain regroup ∙ first ∙ ap (λ more. token.name name ∷ more) (bracket ∙ ap (λ more. token.fixed sign.OpenBracket ∷ more) (number ∙ ap (λ more. token.number k ∷ more) close))
 
 value-plain : (value : Value) (rest : List ℕ) → IsWritable value → closes rest ≡ true → plain (tokens_text (value_tokens value) ++ rest) ≡ value_tokens value ++ plain rest
@@ -177,7 +177,7 @@ written-closes (slot.Space ∷ slots) before after rest shut closed = refl
 written-closes (slot.Fixed fixed ∷ slots) before after rest shut closed =
     let text : List ℕ = written slots before after in
     let flat : ((fixed_text fixed ++ []) ++ text) ++ rest ≡ fixed_text fixed ++ (text ++ rest)
-        = ap (λ front. (front ++ text) ++ rest) (append-nil (fixed_text fixed)) ∙ append_assoc (fixed_text fixed) text rest in
+    = ap (λ front. (front ++ text) ++ rest) (append-nil (fixed_text fixed)) ∙ append_assoc (fixed_text fixed) text rest in
     ap closes flat ∙ sign-closes fixed (text ++ rest) shut
 written-closes (one ∷ slots) before after rest shut closed = absurd cc
 
@@ -250,7 +250,7 @@ took_case one slots before value after rest takes parts proper fine others fit c
     let count : suc (length before) ≡ length here = omega (arith, length-append before (value ∷ [])) in
     let places : are_before (suc (length before)) slots ≡ true = ap (λ b. are_before (if b then suc (length before) else length before) slots) (sym takes) ∙ parts.before in
     let behind : plain (text ++ rest) ≡ filled slots here after ++ plain rest
-        = more here after (ap (λ n. are_before n slots) (sym count) ∙ places) (push-writable before value proper fine) others fit in
+    = more here after (ap (λ n. are_before n slots) (sym count) ∙ places) (push-writable before value proper fine) others fit in
     ap (λ all. plain (all ++ rest)) (written-took one slots before value after takes)
     ∙ ap plain (append_assoc front text rest)
     ∙ value-plain value (text ++ rest) fine shut
@@ -294,5 +294,5 @@ unfolding written filled are_shut
 plain-written [] before after rest shut known proper others fit closed = refl
 plain-written (one ∷ slots) before after rest shut known proper others fit closed =
     slot_case (takes_value one) one slots before after rest refl (shut-parts one slots (length before) shut known) proper others fit closed
-        (λ first second places fine good fits. plain-written slots first second rest
-            (and_parts ((if needs_close one then begins_shut slots else true) && small_literal one) (are_shut slots) shut).1 places fine good fits closed)
+    (λ first second places fine good fits. plain-written slots first second rest
+    (and_parts ((if needs_close one then begins_shut slots else true) && small_literal one) (are_shut slots) shut).1 places fine good fits closed)

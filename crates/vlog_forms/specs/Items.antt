@@ -166,11 +166,11 @@ item_of form.WireMajority v =
 item_of form.Assign v = item.Assign (name_in v) (atom_in (behind 1 v))
 item_of form.Flip v =
     item.Flip (edge_in v) (name_in (behind 1 v)) (atom_in (behind 2 v)) (atom_in (behind 3 v)) (bit_in (behind 5 v))
-        (name_in (behind 4 v)) (lut_in (behind 6 v))
+    (name_in (behind 4 v)) (lut_in (behind 6 v))
 item_of form.Read v =
     item.Read (edge_in v) (name_in (behind 1 v)) (atom_in (behind 2 v)) (atom_in (behind 3 v)) (name_in (behind 4 v))
-        (name_in (behind 5 v)) (reverse (atoms_in 8 (behind 6 v)))
+    (name_in (behind 5 v)) (reverse (atoms_in 8 (behind 6 v)))
 item_of form.Write v =
     item.Write (edge_in v) (name_in (behind 1 v)) (atom_in (behind 2 v)) (atom_in (behind 3 v)) (name_in (behind 4 v))
-        (reverse (atoms_in 8 (behind 5 v))) (reverse (atoms_in 16 (behind 13 v))) (reverse (atoms_in 16 (behind 29 v)))
+    (reverse (atoms_in 8 (behind 5 v))) (reverse (atoms_in 16 (behind 13 v))) (reverse (atoms_in 16 (behind 29 v)))
 item_of _ v = item.Start (name_in v) (index_in (behind 1 v)) (word_in (behind 2 v))

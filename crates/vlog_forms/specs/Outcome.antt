@@ -118,8 +118,8 @@ abbrev pub item_outcome : (Parts → List Spot → Result Parts Fault) → Parts
 item_outcome more m offset whole =
     if is_end whole.form then ending m offset whole.spots
     else
-        let one = item_of whole.form (values_of whole.found) in
-        unless_fault (item_fault (scope_of m.ports m.items) offset one whole.found) (more (with_item m one) whole.spots)
+    let one = item_of whole.form (values_of whole.found) in
+    unless_fault (item_fault (scope_of m.ports m.items) offset one whole.found) (more (with_item m one) whole.spots)
 
 -- Items one after another, so many at most, behind a module so far.
 unfoldable pub items_outcome : ℕ → ℕ → Parts → List Spot → Result Parts Fault
@@ -139,7 +139,7 @@ unfoldable pub ports_outcome : ℕ → List Found → List Port → List Spot �
 ports_outcome end [] ports spots next = next ports spots
 ports_outcome end (name ∷ names) ports spots next =
     after (read_forms end (name ∷ []) port_forms spots)
-        (λ whole. ports_outcome end names (ports ++ port_of (name_in (name.value ∷ [])) (is_output whole.form) ∷ []) whole.spots next)
+    (λ whole. ports_outcome end names (ports ++ port_of (name_in (name.value ∷ [])) (is_output whole.form) ∷ []) whole.spots next)
 
 -- ---- the header
 
@@ -234,7 +234,7 @@ ports_next end name ports spots = items_outcome (suc (length spots)) end (module
 abbrev pub header_outcome : ℕ → Header → Result Parts Fault
 header_outcome end header =
     unless_fault (twice_fault [] header.names)
-        (ports_outcome end header.names [] header.spots (ports_next end (name_in (values_of header.head))))
+    (ports_outcome end header.names [] header.spots (ports_next end (name_in (values_of header.head))))
 
 -- what the tokens of a text that ends at this offset are
 unfoldable pub spots_outcome : ℕ → List Spot → Result Parts Fault

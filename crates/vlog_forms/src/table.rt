@@ -300,8 +300,6 @@ pub fn slots(form: Form) -> &'static [Slot]
             Slot::Word,
             Slot::Fixed(Fixed::Semicolon),
         ],
-        Form::End => &[
-            Slot::Fixed(Fixed::Endmodule),
-        ],
+        Form::End => &[Slot::Fixed(Fixed::Endmodule)],
     }
 }

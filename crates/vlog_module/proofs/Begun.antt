@@ -21,8 +21,9 @@ old-or-last [] y (suc i) z at = cc
 old-or-last (x ∷ xs) y zero z at = inl (record { here = at; before = refl })
 old-or-last (x ∷ xs) y (suc i) z at =
     elim (old-or-last xs y i z at) [
-      inl old ↦ inl (record { here = old.here; before = ap (λ rest. x ∷ rest) old.before })
-    | inr last ↦ inr (record { here = last.here; before = ap (λ rest. x ∷ rest) last.before }) ]
+      | inl old ↦ inl (record { here = old.here; before = ap (λ rest. x ∷ rest) old.before })
+      | inr last ↦ inr (record { here = last.here; before = ap (λ rest. x ∷ rest) last.before })
+    ]
 
 -- no items
 pub IsBegun-empty : (ports : List Port) → All (λ port. IsName port.name) ports → IsDistinct bytes_eq (map (λ port. port.name) ports) → IsBegun ports []
@@ -31,10 +32,11 @@ IsBegun-empty ports named apart = record { named = named; apart = apart; allowed
 -- one more item
 pub IsBegun-push : (ports : List Port) (items : List Item) (item : Item) → IsBegun ports items → IsAllowed (scope_of ports items) item → IsBegun ports (items ++ item ∷ [])
 IsBegun-push ports items item begun next = record {
-    named = begun.named;
-    apart = begun.apart;
-    allowed = λ i other at.
-        elim (old-or-last items item i other at) [
-          inl old ↦ rw old.before (begun.allowed i other old.here)
-        | inr last ↦ rw (last.before, last.here) next ];
+  named = begun.named;
+  apart = begun.apart;
+  allowed = λ i other at.
+      elim (old-or-last items item i other at) [
+        | inl old ↦ rw old.before (begun.allowed i other old.here)
+        | inr last ↦ rw (last.before, last.here) next
+      ];
 }

@@ -74,11 +74,7 @@ fn write_slot(
 }
 
 /// Adds the next value, where there is one.
-fn write_next(
-    out: &mut Vec<u8>,
-    values: &[Value<'_>],
-    next: usize,
-) -> Result<usize, AllocError>
+fn write_next(out: &mut Vec<u8>, values: &[Value<'_>], next: usize) -> Result<usize, AllocError>
     requires { next ≤ length values.now }
     ensures within { IfOk result (λ behind. behind ≤ length values.now) }
     ensures text { IfOk result (λ behind. (slot : Slot) (more : List Slot) → takes_value slot ≡ true →

@@ -191,11 +191,7 @@ fn push_atom<'a>(values: &mut Vec<Value<'a>>, atom: &'a Atom) -> Result<(), Allo
 }
 
 /// Adds a name in a role.
-fn push_name<'a>(
-    values: &mut Vec<Value<'a>>,
-    role: Role,
-    name: &'a Name,
-) -> Result<(), AllocError>
+fn push_name<'a>(values: &mut Vec<Value<'a>>, role: Role, name: &'a Name) -> Result<(), AllocError>
     ensures { OnOk result (all_seen values.new.items ≡ all_seen values.old.items ++ value.Name role name.now ∷ []) }
 {
     push(values, Value::Name(role, name.bytes()))

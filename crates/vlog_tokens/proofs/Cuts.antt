@@ -48,8 +48,8 @@ spots_from-token offset (byte ∷ bytes) some unblank =
     let rest : drop (front_length (byte ∷ bytes)) (byte ∷ bytes) ≡ drop n bytes = ap (λ k. drop k (byte ∷ bytes)) whole in
     let first : spots_from offset zero (byte ∷ bytes) ≡ spot offset (front_token (byte ∷ bytes)) ∷ spots_from (offset + 1) n bytes = rw unblank refl in
     first ∙ ap (λ spots. spot offset (front_token (byte ∷ bytes)) ∷ spots) (spots_from-covered (offset + 1) n bytes
-        ∙ ap (λ at. spots_from at zero (drop n bytes)) far
-        ∙ ap (λ left. spots_from (offset + front_length (byte ∷ bytes)) zero left) (sym rest))
+    ∙ ap (λ at. spots_from at zero (drop n bytes)) far
+    ∙ ap (λ left. spots_from (offset + front_length (byte ∷ bytes)) zero left) (sym rest))
 
 -- the blanks from an offset on may be left out
 pub spots_at-blanks : (bytes : List ℕ) (from : ℕ) → spots_at bytes from ≡ spots_at bytes (from + position_or_len (λ byte. not (is_blank byte)) (drop from bytes))

@@ -37,7 +37,7 @@ bit_within bytes passes =
 word_within : (bytes : List ℕ) → is_word_text bytes ≡ true → 8 ≤ length bytes
 word_within bytes passes =
     present bytes 7 (hex_nonzero (byte_at bytes 7) (and_right ((byte_at bytes 0 == 49) && (byte_at bytes 1 == 54) && (byte_at bytes 2 == 39) && (byte_at bytes 3 == 104)
-        && is_hex_digit (byte_at bytes 4) && is_hex_digit (byte_at bytes 5) && is_hex_digit (byte_at bytes 6)) (is_hex_digit (byte_at bytes 7)) passes))
+    && is_hex_digit (byte_at bytes 4) && is_hex_digit (byte_at bytes 5) && is_hex_digit (byte_at bytes 6)) (is_hex_digit (byte_at bytes 7)) passes))
 
 number_case : (a b : Bool) (n : ℕ) → 0 < n → (a ≡ true → 1 < n) → (b ≡ true → 2 < n) → (0 < (if not a then 1 else if not b then 2 else 3)) × ((if not a then 1 else if not b then 2 else 3) ≤ n)
 number_case true true n some one two = (omega arith, two refl)
@@ -47,8 +47,8 @@ number_case false b n some one two = (omega arith, some)
 pub number_within : (bytes : List ℕ) → 0 < length bytes → IsWithin (number_length bytes) bytes
 number_within bytes some =
     number_case (is_digit (byte_at bytes 1)) (is_digit (byte_at bytes 2)) (length bytes) some
-        (λ passes. present bytes 1 (digit_nonzero (byte_at bytes 1) passes))
-        (λ passes. present bytes 2 (digit_nonzero (byte_at bytes 2) passes))
+    (λ passes. present bytes 1 (digit_nonzero (byte_at bytes 1) passes))
+    (λ passes. present bytes 2 (digit_nonzero (byte_at bytes 2) passes))
 
 digits_case : (a b : Bool) (k n : ℕ) → (a ≡ true → 4 ≤ n) → (b ≡ true → 8 ≤ n) → (0 < k) × (k ≤ n) → (0 < (if a then 4 else if b then 8 else k)) × ((if a then 4 else if b then 8 else k) ≤ n)
 digits_case true b k n four eight number = (omega arith, four refl)
@@ -74,4 +74,4 @@ unfolding front_length
 front_within [] some = absurd (omega arith)
 front_within (byte ∷ bytes) some =
     front_case (is_letter byte) (is_digit byte) (name_length (byte ∷ bytes)) (digits_length (byte ∷ bytes)) (sign_length (byte ∷ bytes)) (length (byte ∷ bytes))
-        (name_within byte bytes) (digits_within (byte ∷ bytes) some) (sign_within (byte ∷ bytes) some)
+    (name_within byte bytes) (digits_within (byte ∷ bytes) some) (sign_within (byte ∷ bytes) some)

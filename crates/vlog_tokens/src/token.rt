@@ -151,8 +151,10 @@ fn is_word_text(bytes: &[u8]) -> bool
 fn word_value(bytes: &[u8]) -> u16
     ensures { result ≡ word_value bytes.now }
 {
-    let high = 16 * u16::from(hex_value(byte_at(bytes, 4))) + u16::from(hex_value(byte_at(bytes, 5)));
-    let low = 16 * u16::from(hex_value(byte_at(bytes, 6))) + u16::from(hex_value(byte_at(bytes, 7)));
+    let high = 16 * u16::from(hex_value(byte_at(bytes, 4)))
+        + u16::from(hex_value(byte_at(bytes, 5)));
+    let low = 16 * u16::from(hex_value(byte_at(bytes, 6)))
+        + u16::from(hex_value(byte_at(bytes, 7)));
     256 * high + low
 }
 
@@ -179,6 +181,7 @@ fn number_value(bytes: &[u8]) -> u16
     } else if !is_digit(byte_at(bytes, 2)) {
         10 * first + u16::from(digit_value(byte_at(bytes, 1)))
     } else {
-        10 * (10 * first + u16::from(digit_value(byte_at(bytes, 1)))) + u16::from(digit_value(byte_at(bytes, 2)))
+        10 * (10 * first + u16::from(digit_value(byte_at(bytes, 1))))
+            + u16::from(digit_value(byte_at(bytes, 2)))
     }
 }

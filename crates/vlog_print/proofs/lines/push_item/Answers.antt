@@ -12,8 +12,8 @@ unfolding slots_of
 returns c =
     let old = c.args.out.now.items in
     on_ok c.push_line.result _ _ (λ pushed.
-        pushed
-        ∙ ap (λ slots. old ++ line_of (written (flat_map parts_of slots) [] (all_seen c.deref.result.now))) c.slots.ensures
-        ∙ ap (λ form. old ++ line_of (written (flat_map parts_of (table form)) [] (all_seen c.deref.result.now))) c.item_form.ensures
-        ∙ ap (λ values. old ++ line_of (written (flat_map parts_of (table (item_form c.args.item.now))) [] (all_seen values))) c.deref.ensures.value
-        ∙ ap (λ values. old ++ line_of (written (flat_map parts_of (table (item_form c.args.item.now))) [] values)) c.in_ok-values.ensures) c.push_line.ensures
+    pushed
+    ∙ ap (λ slots. old ++ line_of (written (flat_map parts_of slots) [] (all_seen c.deref.result.now))) c.slots.ensures
+    ∙ ap (λ form. old ++ line_of (written (flat_map parts_of (table form)) [] (all_seen c.deref.result.now))) c.item_form.ensures
+    ∙ ap (λ values. old ++ line_of (written (flat_map parts_of (table (item_form c.args.item.now))) [] (all_seen values))) c.deref.ensures.value
+    ∙ ap (λ values. old ++ line_of (written (flat_map parts_of (table (item_form c.args.item.now))) [] values)) c.in_ok-values.ensures) c.push_line.ensures

@@ -10,5 +10,5 @@ unfolding with_rest
 returns c =
     let text = written (flat_map parts_of c.args.slots.now) (take c.args.next (all_seen c.args.values.now)) (drop c.args.next (all_seen c.args.values.now)) in
     on_ok c.push_text-2.result _ _ (λ pushed.
-        pushed ∙ ap (λ all. all ++ 10 ∷ []) (c.in_ok-write_slots.ensures ∙ ap (λ front. front ++ text) c.in_ok-push_text.ensures)
-        ∙ line-is c.args.out.now.items text) c.push_text-2.ensures
+    pushed ∙ ap (λ all. all ++ 10 ∷ []) (c.in_ok-write_slots.ensures ∙ ap (λ front. front ++ text) c.in_ok-push_text.ensures)
+    ∙ line-is c.args.out.now.items text) c.push_text-2.ensures

@@ -14,7 +14,7 @@ unfolding slots_of
 returns c =
     let old = c.args.out.now.items in
     on_ok c.push_line.result _ _ (λ pushed.
-        pushed
-        ∙ ap (λ slots. old ++ line_of (written (flat_map parts_of slots) (Name (role.Declares sort.Input) c.bytes.result.now ∷ []) [])) c.slots.ensures
-        ∙ ap (λ form. old ++ line_of (written (flat_map parts_of (table form)) (Name (role.Declares sort.Input) c.bytes.result.now ∷ []) [])) c.port_form.ensures
-        ∙ ap (λ name. old ++ line_of (written (flat_map parts_of (table (port_form c.args.port.now.output))) (Name (role.Declares sort.Input) name ∷ []) [])) c.bytes.ensures.bytes) c.push_line.ensures
+    pushed
+    ∙ ap (λ slots. old ++ line_of (written (flat_map parts_of slots) (Name (role.Declares sort.Input) c.bytes.result.now ∷ []) [])) c.slots.ensures
+    ∙ ap (λ form. old ++ line_of (written (flat_map parts_of (table form)) (Name (role.Declares sort.Input) c.bytes.result.now ∷ []) [])) c.port_form.ensures
+    ∙ ap (λ name. old ++ line_of (written (flat_map parts_of (table (port_form c.args.port.now.output))) (Name (role.Declares sort.Input) name ∷ []) [])) c.bytes.ensures.bytes) c.push_line.ensures

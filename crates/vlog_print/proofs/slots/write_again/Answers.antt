@@ -11,7 +11,7 @@ use Rattle.vlog_print.proofs.slots.write_again.Goals as goal
 pub returns-then-place-next : goal.returns-then-place-next
 returns-then-place-next c =
     subst (λ t. OnOk c.write_value.result (c.write_value.new.out.items ≡ c.args.out.now.items ++ tokens_text t))
-        (sym (tokens_at-place c.args.values.now c.args.next c.args.place _ c.if-place-next.true c.requires)) c.write_value.ensures
+    (sym (tokens_at-place c.args.values.now c.args.next c.args.place _ c.if-place-next.true c.requires)) c.write_value.ensures
 
 pub returns-else-place-next : goal.returns-else-place-next
 returns-else-place-next c =

@@ -13,4 +13,4 @@ returns-clause-spots c =
     let inside : c.skip_blanks-at.result < length c.args.bytes.now = omega arith in
     c.skip_blanks-at.ensures.same
     ∙ (rw (c.front_token-length.ensures.token, c.front_token-length.ensures.length, c.rest_from.ensures.rest)
-        (spots_at-token c.args.bytes.now c.skip_blanks-at.result inside (c.skip_blanks-at.ensures.stops inside)))
+    (spots_at-token c.args.bytes.now c.skip_blanks-at.result inside (c.skip_blanks-at.ensures.stops inside)))

@@ -22,9 +22,9 @@ icemulti_usage = codes "icemulti [-c] [-p N] [-a N] [-A N] [-o OUTPUT] [IMAGE ..
 
 abbrev pub icemulti_command : App
 icemulti_command = command icemulti_name (
-  flag (codes "cold") 99 ∷ short_option (codes "power_on") 112 ∷ short_option (codes "align") 97 ∷ short_option (codes "align_all") 65
-  ∷ short_option (codes "output") 111 ∷ several (codes "image") ∷ []
-)
+    flag (codes "cold") 99 ∷ short_option (codes "power_on") 112 ∷ short_option (codes "align") 97 ∷ short_option (codes "align_all") 65
+    ∷ short_option (codes "output") 111 ∷ several (codes "image") ∷ []
+    )
 
 -- ---- options
 

@@ -161,10 +161,7 @@ fn loads_of<'a>(alloc: Global, images: &[&'a str]) -> Result<Vec<Load<'a>>, Allo
 }
 
 // The loads of the images that were found, if there were any.
-fn loads_found<'a>(
-    alloc: Global,
-    images: Option<&[&'a str]>,
-) -> Result<Vec<Load<'a>>, AllocError>
+fn loads_found<'a>(alloc: Global, images: Option<&[&'a str]>) -> Result<Vec<Load<'a>>, AllocError>
     ensures { IfOk result (λ loads. map need_of loads.items ≡ map image_need (unwrap_or (option_map (λ names. map (λ name. name.now) names.now) images.entry) [])) }
 {
     match images {

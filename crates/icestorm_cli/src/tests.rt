@@ -13,6 +13,9 @@ const DEVICE: &[u8] = b".device 1k\n";
 
 const ICEPACK_USAGE: &str = "icepack: usage: icepack [-u] [-s] [INPUT [OUTPUT]]\n";
 
+const ICEMULTI_USAGE: &str =
+    "icemulti: usage: icemulti [-c] [-p N] [-a N] [-A N] [-o OUTPUT] [IMAGE ...]\n";
+
 const USAGE: &str = "icestorm: usage: TOOL ...\n";
 
 /// Files and streams for a run.
@@ -127,7 +130,50 @@ fn tells_why_nothing_is_done(rt: HostRuntime) -> Result<(), Fail> {
         (["icepack", "--help", "a"].as_slice(), "", 2, ICEPACK_USAGE),
         (["--help", "icepack"].as_slice(), "", 2, USAGE),
         ([].as_slice(), "", 2, USAGE),
-        (["icemulti"].as_slice(), "", 2, USAGE),
+        (["icebram"].as_slice(), "", 2, USAGE),
+        (["icemulti"].as_slice(), "", 1, "icemulti: NoImage\n"),
+        (
+            ["icemulti", "-a", "25", "A"].as_slice(),
+            "",
+            1,
+            "icemulti: Align 25\n",
+        ),
+        (
+            ["icemulti", "A", "A", "A", "A", "A"].as_slice(),
+            "",
+            1,
+            "icemulti: TooMany 5\n",
+        ),
+        (
+            ["icemulti", "-p2", "A", "B"].as_slice(),
+            "",
+            1,
+            "icemulti: PowerOn 2\n",
+        ),
+        (
+            ["icemulti", "A"].as_slice(),
+            "",
+            3,
+            "icemulti: read failed: A\n",
+        ),
+        (
+            ["icemulti", "-c", "-p1", "A", "B"].as_slice(),
+            "",
+            2,
+            ICEMULTI_USAGE,
+        ),
+        (
+            ["icemulti", "-a", "8", "-A", "8", "A"].as_slice(),
+            "",
+            2,
+            ICEMULTI_USAGE,
+        ),
+        (
+            ["icemulti", "-p", "1000", "A"].as_slice(),
+            "",
+            2,
+            ICEMULTI_USAGE,
+        ),
         (
             ["iceunpack", "-x"].as_slice(),
             "",
@@ -266,5 +312,45 @@ fn takes_the_options_of_icepack(rt: HostRuntime) -> Result<(), Fail> {
     assert_eq!(rt; bad.run(alloc, &["icepack", "-u"])?, 1);
     let line = b"icepack: offset 0: NoPreamble\n";
     assert_eq!(rt; bad.errors.bytes(), line.as_slice());
+    Ok(())
+}
+
+/// A stage with the two files `A` of three bytes and `B` of one.
+fn on_images(alloc: Global) -> Result<Stage, AllocError> {
+    let mut stage = Stage::on_input(alloc, b"", 0)?;
+    let mut files = Vec::new(alloc);
+    for (name, bytes) in [("A", [1, 2, 3].as_slice()), ("B", [4].as_slice())] {
+        files.push(NamedFile {
+            name: String::from_str(alloc, name)?,
+            bytes: bytes.to_vec(alloc)?,
+        })?;
+    }
+    stage.files = MemFiles::new(alloc, files, "out", 1_000, 10_000, Vec::new(alloc))?;
+    Ok(stage)
+}
+
+#[test]
+fn joins_images_to_a_boot_file(rt: HostRuntime) -> Result<(), Fail> {
+    let alloc = rt.alloc();
+    let mut stage = on_images(alloc)?;
+    assert_eq!(rt;
+        stage.run(alloc, &["icemulti", "-p1", "-a", "8", "A", "B"])?,
+        0
+    );
+    let file = stage.output.bytes();
+    assert_eq!(rt; file.len(), 257);
+    assert_eq!(rt; file.get(6..12), Some([0, 0x44, 3, 0, 1, 0].as_slice()));
+    assert_eq!(rt; file.get(160..164), Some([1, 2, 3, 0xFF].as_slice()));
+    assert_eq!(rt; file.get(255..257), Some([0xFF, 4].as_slice()));
+    let mut cold = on_images(alloc)?;
+    let words = ["icemulti", "A", "-o", "out", "-c", "B", "-a8"];
+    assert_eq!(rt; cold.run(alloc, &words)?, 0);
+    assert_eq!(rt; cold.output.bytes(), b"".as_slice());
+    let stored = cold.files.bytes_of("out");
+    assert_eq!(rt; stored.map(|bytes| bytes.len()), Some(257));
+    assert_eq!(rt;
+        stored.and_then(|bytes| bytes.get(6..12)),
+        Some([0x10, 0x44, 3, 0, 0, 0xA0].as_slice())
+    );
     Ok(())
 }

@@ -9,6 +9,8 @@ pub enum Tool {
     Icepack,
     /// Bitstream to text.
     Iceunpack,
+    /// Bitstreams to a boot file.
+    Icemulti,
 }
 
 /// The version of the program.
@@ -26,6 +28,7 @@ Usage: icestorm TOOL ...
 Tools:
   icepack      packs a text (.asc) into a bitstream (.bin)
   iceunpack    unpacks a bitstream (.bin) into a text (.asc)
+  icemulti     joins up to four bitstreams to one boot file
 
 Example: icestorm icepack blink.asc blink.bin
 
@@ -52,6 +55,7 @@ fn tool_named(word: &str) -> Option<Tool>
     match word {
         "icepack" => Some(Tool::Icepack),
         "iceunpack" => Some(Tool::Iceunpack),
+        "icemulti" => Some(Tool::Icemulti),
         _ => None,
     }
 }

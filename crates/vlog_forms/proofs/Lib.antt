@@ -17,3 +17,5 @@ pub mod ItemsRead
 pub mod HeaderRead
 pub mod Spelled
 pub mod PrintedTokens
+pub mod Sound
+pub mod Allowed

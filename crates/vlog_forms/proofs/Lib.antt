@@ -19,3 +19,4 @@ pub mod Spelled
 pub mod PrintedTokens
 pub mod Sound
 pub mod Allowed
+pub mod Whole

@@ -1,7 +1,7 @@
 -- A text of which the outcome is a module spells the module.
 use Rattle.std.proofs.Common.{◌≡◌, ℕ, zero, suc, ◌<◌, ◌≤◌, ◌+◌, Bool, true, false, not, ◌&&◌, ◌||◌, List, [], ◌∷◌, ◌++◌, length, take, map, refl, ap, sym, ◌∙◌, subst, append_assoc, arith}
 use Rattle.std.proofs.lemmas.Cmp.{nat_list_eq_equiv}
-use Rattle.std.proofs.lemmas.List.{append-nil}
+use Rattle.std.proofs.lemmas.List.{append-nil, length-append, length-map}
 use Rattle.std.proofs.lemmas.List.Elements.{All-nil, All-cons}
 use Rattle.std.proofs.lemmas.Map.Keys.{IsDistinct-push}
 use Rattle.std.specs.Prelude.{Result, Ok, Err, Option, Some, None, if◌then◌else◌, flat_map, slice_get, bytes_eq, All, IsTrue}
@@ -15,6 +15,7 @@ use Rattle.vlog_module.specs.declared.item.Item.{Item}
 use Rattle.vlog_module.specs.declared.modules.Port.{Port}
 use Rattle.vlog_module.specs.Names.{IsName}
 use Rattle.vlog_module.specs.Parts.{Parts}
+use Rattle.vlog_module.specs.Uses.{uses_of}
 use Rattle.vlog_module.specs.WellFormed.{scope_of, is_assigned, IsAllowed, IsBegun, IsComplete, IsModule}
 use Rattle.vlog_forms.specs.declared.form.Form.{Form}
 use Rattle.vlog_forms.specs.declared.form.Form.TheVariants as form
@@ -27,7 +28,7 @@ use Rattle.vlog_forms.specs.Values.Value.{Name}
 use Rattle.vlog_forms.specs.Layout.{slots_of, filled}
 use Rattle.vlog_forms.specs.Items.{item_of, item_tokens, port_form, port_tokens, more_names, names_tokens, module_tokens, tokens_in, name_in, IsSpelling}
 use Rattle.vlog_forms.specs.Reading.{Found, found_at, values_of, offset_of, Reading, read_slots, read_tokens, behind_tokens, and_then, Whole, first_whole, read_forms, port_forms, all_forms}
-use Rattle.vlog_forms.specs.Outcome.{Fault, fault, after, unless_fault, item_fault, are_assigned, at_end, ending, is_end, module_of, with_item, item_outcome, items_outcome, is_output, port_of, ports_outcome, Turn, wants_name, may_close, PortStep, sign_step, port_step, next_port, port_names, twice_fault, header_slots, Header, with_head, with_names, with_semicolon, ports_next, header_outcome, spots_outcome, outcome_of}
+use Rattle.vlog_forms.specs.Outcome.{Fault, fault, after, unless_fault, item_fault, are_assigned, at_end, ending, is_end, module_of, with_item, item_outcome, items_outcome, is_output, port_of, ports_outcome, uses_in, Turn, wants_name, may_close, PortStep, sign_step, port_step, next_port, port_names, twice_fault, header_slots, Header, with_head, with_names, with_semicolon, read_header, ports_next, header_outcome, spots_outcome, outcome_of}
 use Rattle.vlog_forms.specs.Outcome.Turn.{Opened, Named, Parted}
 use Rattle.vlog_forms.specs.Outcome.PortStep.{TakesName, PartsNames, Closes, Stops}
 use Rattle.vlog_forms.proofs.Tokens.{token-same}
@@ -35,11 +36,13 @@ use Rattle.vlog_forms.proofs.Pairs.{ok_same, ok_first, ok_second}
 use Rattle.vlog_forms.proofs.Exact.{read_tokens-whole}
 use Rattle.vlog_forms.proofs.SlotLists.{FitAll, SlotsStand, slots-stand}
 use Rattle.vlog_forms.proofs.Forms.{forms-read}
-use Rattle.vlog_forms.proofs.Rebuilt.{is_item}
+use Rattle.vlog_forms.proofs.Rebuilt.{is_item, rebuilt-fit, values-rebuilt}
+use Rattle.vlog_forms.proofs.Uses.{uses-of-values}
+use Rattle.vlog_forms.proofs.Spelled.{form-some}
 use Rattle.vlog_forms.proofs.ItemRead.{read-shape-of}
 use Rattle.vlog_forms.proofs.ItemsRead.{MayFollow}
 use Rattle.vlog_forms.proofs.HeaderRead.{NamesOf, port_name}
-use Rattle.vlog_forms.proofs.Sound.{IsSoundToken, AreSoundTokens, sound-parts, AreSoundValues, slots-sound, spots-sound}
+use Rattle.vlog_forms.proofs.Sound.{IsSoundToken, AreSoundTokens, sound-parts, IsSoundValue, AreSoundValues, slots-sound, spots-sound}
 use Rattle.vlog_forms.proofs.Allowed.{item-allowed}
 
 unless_parts : {A : Type 0} (one : Option Fault) (next : Result A Fault) (whole : A) → unless_fault one next ≡ Ok whole → (one ≡ None) × (next ≡ Ok whole)
@@ -96,6 +99,37 @@ no-port end one spots step is more reads = absurd cc
 is-item : (b : Bool) (end : ℕ) (one : Form) (spots : List Spot) (step : List Found × List Spot) → is_item one ≡ b → is_end one ≡ false → read_slots end (slots_of one) [] spots ≡ Ok step → is_item one ≡ true
 is-item true end one spots step is more reads = is
 is-item false end one spots step is more reads = absurd (no-port end one spots step is more reads)
+
+-- a form that is whole: what it declares and reads, and that it has a token at least
+pub record WholeStands (spots : List Spot) (one : Whole) : Type 0 where
+  pub values : AreSoundValues (values_of one.found)
+  pub left : AreSoundTokens (tokens_in one.spots)
+  pub uses : is_end one.form ≡ false → uses_of (item_of one.form (values_of one.found)) ≡ uses_in (values_of one.found)
+  pub shorter : length one.spots < length spots
+
+pub whole-stands : (end : ℕ) (spots : List Spot) (one : Whole) → AreSoundTokens (tokens_in spots) → read_forms end [] all_forms spots ≡ Ok one → WholeStands spots one
+whole-stands end spots one sound is =
+    let v : List Value = values_of one.found in
+    let read = forms-read end [] all_forms spots one is in
+    let stands = slots-stand end (slots_of one.form) [] spots one.found one.spots read.reads in
+    let fit : FitAll (slots_of one.form) v = subst (λ (f : List Found). FitAll (slots_of one.form) (values_of f)) (sym stands.gained) stands.fit in
+    let good = slots-sound end (slots_of one.form) [] spots one.found one.spots sound read.reads in
+    let made : List TokenValue = filled (slots_of one.form) [] (values_of stands.given) in
+    record {
+      values = subst (λ (f : List Found). AreSoundValues (values_of f)) (sym good.gained) good.values;
+      left = good.left;
+      uses = λ ends.
+          let item : is_item one.form ≡ true = is-item (is_item one.form) end one.form spots (one.found, one.spots) refl ends read.reads in
+          sym (uses-of-values (item_of one.form v)) ∙ ap uses_in (values-rebuilt one.form v item ∙ rebuilt-fit (slots_of one.form) v fit);
+      shorter = omega (
+          arith,
+          length-map spots (λ (each : Spot). each.token),
+          length-map one.spots (λ (each : Spot). each.token),
+          ap length stands.tokens,
+          length-append made (tokens_in one.spots),
+          form-some one.form (values_of stands.given),
+      );
+    }
 
 -- what stands behind an item
 abbrev StandsBehind : ℕ → ℕ → Parts → Type 0
@@ -442,6 +476,25 @@ names-apart before (one ∷ names) (port ∷ ports) are apart none =
     let more : IsDistinct bytes_eq (before ++ name ∷ []) = IsDistinct-push nat_list_eq_equiv before name apart (any-turned name before ∙ parts.0) in
     let all : IsDistinct bytes_eq ((before ++ name ∷ []) ++ map port_name ports) = names-apart (before ++ name ∷ []) names ports are.1 more parts.1 in
     subst (IsDistinct bytes_eq) (append_assoc before (name ∷ []) (map port_name ports) ∙ ap (λ n. before ++ n ∷ map port_name ports) named) all
+
+-- the values of the names are sound
+more-sound : (names : List Found) → AreNames names → AreSoundTokens (found_more names) → AreSoundValues (values_of names)
+more-sound [] are sound = tt
+more-sound (one ∷ names) are sound = (subst IsSoundValue (sym are.0) sound.1.0, more-sound names are.1 sound.1.1)
+
+names-sound : (names : List Found) → AreNames names → AreSoundTokens (turn_tokens Opened names) → AreSoundValues (values_of names)
+names-sound [] are sound = tt
+names-sound (one ∷ names) are sound = (subst IsSoundValue (sym are.0) sound.0, more-sound names are.1 sound.1)
+
+pub listed-sound : (end : ℕ) (spots : List Spot) (names : List Found) (rest : List Spot) → AreSoundTokens (tokens_in spots) → port_names end Opened [] spots ≡ Ok (names, rest)
+    → AreSoundValues (values_of names) × AreSoundTokens (tokens_in rest)
+listed-sound end spots names rest sound reads =
+    let list = names-stand end Opened [] spots names rest reads in
+    let are : AreNames names = subst AreNames (sym list.gained) list.names in
+    let is : tokens_in spots ≡ turn_tokens Opened names ++ token.fixed sign.CloseParen ∷ tokens_in rest
+    = list.tokens ∙ ap (λ each. turn_tokens Opened each ++ token.fixed sign.CloseParen ∷ tokens_in rest) (sym list.gained) in
+    let good = sound-parts (turn_tokens Opened names) (token.fixed sign.CloseParen ∷ tokens_in rest) (subst AreSoundTokens is sound) in
+    (names-sound names are good.0, good.1.1)
 
 -- ---- the whole
 

@@ -1,0 +1,3 @@
+pub mod Turns
+pub mod ItemSteps
+pub mod PortSteps

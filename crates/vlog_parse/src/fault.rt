@@ -1,4 +1,5 @@
 // Why a text is refused.
+ghost use Rattle.std.specs.Prelude.{◌≡◌};
 ghost use Rattle.vlog_parse.specs.Answers.{refusal_of};
 
 use std::alloc::AllocError;

@@ -1,0 +1,42 @@
+-- Declarations of ports one after another.
+use Rattle.std.proofs.Common.{◌≡◌, ℕ, List, [], ◌∷◌, ◌++◌, refl, ap, sym, ◌∙◌, subst}
+use Rattle.std.specs.Prelude.{Result, Ok, Err}
+use Rattle.vlog_tokens.specs.Tokens.{Spot}
+use Rattle.vlog_module.specs.declared.modules.Port.{Port}
+use Rattle.vlog_module.specs.declared.atoms.Atom.TheVariants as atom
+use Rattle.vlog_module.specs.Names.{IsName, is_name, reserved_words}
+use Rattle.vlog_module.specs.Parts.{Parts}
+use Rattle.vlog_forms.specs.declared.fault.VlogCause.TheVariants.{Syntax}
+use Rattle.vlog_forms.specs.Values.{Value}
+use Rattle.vlog_forms.specs.Values.Value.{Name, Edge, Bit, Word, Index, AnAtom}
+use Rattle.vlog_forms.specs.Items.{name_in}
+use Rattle.vlog_forms.specs.Reading.{Found, Whole, read_forms, port_forms}
+use Rattle.vlog_forms.specs.Outcome.{Fault, fault, after, is_output, port_of, ports_outcome}
+use Rattle.vlog_build.specs.Named.{IsNamed}
+
+-- the name of a value, or `x`, is a name
+pub value-named : (value : Value) → IsNamed value → IsName (name_in (value ∷ []))
+unfolding is_name reserved_words
+value-named (Name role name) named = named
+value-named (Edge falling) named = refl
+value-named (Bit bit) named = refl
+value-named (Word word) named = refl
+value-named (Index k) named = refl
+value-named (AnAtom one) named = refl
+
+pub ports-none : (end : ℕ) (ports : List Port) (spots : List Spot) (next : List Port → List Spot → Result Parts Fault) → ports_outcome end [] ports spots next ≡ next ports spots
+unfolding ports_outcome
+ports-none end ports spots next = refl
+
+pub ports-stuck : (end : ℕ) (one : Found) (names : List Found) (ports : List Port) (spots : List Spot) (next : List Port → List Spot → Result Parts Fault) (stuck : ℕ)
+    → read_forms end (one ∷ []) port_forms spots ≡ Err stuck → ports_outcome end (one ∷ names) ports spots next ≡ Err (fault stuck Syntax)
+unfolding ports_outcome
+ports-stuck end one names ports spots next stuck is =
+    ap (λ reading. after reading (λ whole. ports_outcome end names (ports ++ port_of (name_in (one.value ∷ [])) (is_output whole.form) ∷ []) whole.spots next)) is
+
+pub ports-next : (end : ℕ) (one : Found) (names : List Found) (ports : List Port) (spots : List Spot) (next : List Port → List Spot → Result Parts Fault) (whole : Whole)
+    → read_forms end (one ∷ []) port_forms spots ≡ Ok whole
+    → ports_outcome end (one ∷ names) ports spots next ≡ ports_outcome end names (ports ++ port_of (name_in (one.value ∷ [])) (is_output whole.form) ∷ []) whole.spots next
+unfolding ports_outcome
+ports-next end one names ports spots next whole is =
+    ap (λ reading. after reading (λ whole. ports_outcome end names (ports ++ port_of (name_in (one.value ∷ [])) (is_output whole.form) ∷ []) whole.spots next)) is

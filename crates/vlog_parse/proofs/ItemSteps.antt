@@ -4,6 +4,7 @@ use Rattle.std.specs.Prelude.{Result, Ok, Err, Option, Some, None, if◌then◌e
 use Rattle.vlog_tokens.specs.Tokens.{Spot, spots_at}
 use Rattle.vlog_module.specs.Parts.{Parts}
 use Rattle.vlog_module.specs.WellFormed.{scope_of}
+use Rattle.vlog_forms.specs.declared.form.Form.{Form}
 use Rattle.vlog_forms.specs.Items.{item_of, tokens_in}
 use Rattle.vlog_forms.specs.Reading.{values_of, offset_of, Whole, read_forms, all_forms}
 use Rattle.vlog_forms.specs.Outcome.{Fault, after, unless_fault, item_fault, ending, is_end, with_item, item_outcome, items_outcome}
@@ -11,7 +12,9 @@ use Rattle.vlog_forms.proofs.Sound.{AreSoundTokens, spots_at-sound}
 use Rattle.vlog_forms.proofs.Whole.{WholeStands, whole-stands}
 use Rattle.vlog_parse.specs.declared.fault.Refusal.{Refusal}
 use Rattle.vlog_parse.specs.Answers.{RefusesAt}
-use Rattle.vlog_parse.specs.Steps.{items_from}
+use Rattle.vlog_parse.specs.declared.items.Step.{Step}
+use Rattle.vlog_parse.specs.declared.items.Step.TheVariants as step
+use Rattle.vlog_parse.specs.Steps.{IsAt, IsBehind, items_from}
 
 -- ---- what is behind doesn't ask how many items there may be at most
 
@@ -60,3 +63,13 @@ items-behind bytes m from end shorter =
 -- a refusal of an outcome that another one is
 pub refuses-same : {A : Type 0} (one other : Result A Fault) (refusal : Refusal) → one ≡ other → RefusesAt other refusal → RefusesAt one refusal
 refuses-same one other refusal is refuses = subst (λ (outcome : Result _ Fault). RefusesAt outcome refusal) (sym is) refuses
+
+-- ---- a form that is whole
+
+pub form-stands : (bytes : List ℕ) (from : ℕ) (forms : List Form) (one : Whole) → forms ≡ all_forms → read_forms (length bytes) [] forms (spots_at bytes from) ≡ Ok one → WholeStands (spots_at bytes from) one
+form-stands bytes from forms one all is =
+    whole-stands (length bytes) (spots_at bytes from) one (spots_at-sound bytes from) (ap (λ list. read_forms (length bytes) [] list (spots_at bytes from)) (sym all) ∙ is)
+
+pub step-behind : (bytes : List ℕ) (from end : ℕ) (step : Step) → IsAt end step → end ≤ length bytes → length (spots_at bytes end) < length (spots_at bytes from) → IsBehind bytes from step
+step-behind bytes from end (step.Next behind) at within shorter = let same : behind ≡ end = at in rw same (within, shorter)
+step-behind bytes from end step.Done at within shorter = tt

@@ -1,5 +1,5 @@
 -- Declarations of ports one after another.
-use Rattle.std.proofs.Common.{◌≡◌, ℕ, List, [], ◌∷◌, ◌++◌, refl, ap, sym, ◌∙◌, subst}
+use Rattle.std.proofs.Common.{◌≡◌, ℕ, Bool, List, [], ◌∷◌, ◌++◌, refl, ap, sym, ◌∙◌, subst}
 use Rattle.std.specs.Prelude.{Result, Ok, Err}
 use Rattle.vlog_tokens.specs.Tokens.{Spot}
 use Rattle.vlog_module.specs.declared.modules.Port.{Port}
@@ -7,12 +7,17 @@ use Rattle.vlog_module.specs.declared.atoms.Atom.TheVariants as atom
 use Rattle.vlog_module.specs.Names.{IsName, is_name, reserved_words}
 use Rattle.vlog_module.specs.Parts.{Parts}
 use Rattle.vlog_forms.specs.declared.fault.VlogCause.TheVariants.{Syntax}
+use Rattle.vlog_forms.specs.declared.form.Form.{Form}
 use Rattle.vlog_forms.specs.Values.{Value}
 use Rattle.vlog_forms.specs.Values.Value.{Name, Edge, Bit, Word, Index, AnAtom}
 use Rattle.vlog_forms.specs.Items.{name_in}
 use Rattle.vlog_forms.specs.Reading.{Found, Whole, read_forms, port_forms}
 use Rattle.vlog_forms.specs.Outcome.{Fault, fault, after, is_output, port_of, ports_outcome}
+use Rattle.vlog_read.specs.declared.stop.Stop.{Stop}
+use Rattle.vlog_read.specs.declared.stop.Stop.TheVariants as stop
+use Rattle.vlog_read.specs.Readings.{StopsAt}
 use Rattle.vlog_build.specs.Named.{IsNamed}
+use Rattle.vlog_parse.specs.Answers.{RefusesAt, refusal_of}
 
 -- the name of a value, or `x`, is a name
 pub value-named : (value : Value) → IsNamed value → IsName (name_in (value ∷ []))
@@ -40,3 +45,18 @@ pub ports-next : (end : ℕ) (one : Found) (names : List Found) (ports : List Po
 unfolding ports_outcome
 ports-next end one names ports spots next whole is =
     ap (λ reading. after reading (λ whole. ports_outcome end names (ports ++ port_of (name_in (one.value ∷ [])) (is_output whole.form) ∷ []) whole.spots next)) is
+
+pub port-refused : (end : ℕ) (one : Found) (names : List Found) (ports : List Port) (spots : List Spot) (next : List Port → List Spot → Result Parts Fault) (forms : List Form) (why : Stop)
+    → forms ≡ port_forms → StopsAt (read_forms end (one ∷ []) forms spots) why → RefusesAt (ports_outcome end (one ∷ names) ports spots next) (refusal_of why)
+port-refused end one names ports spots next forms (stop.Stuck stuck) all stops =
+    ports-stuck end one names ports spots next stuck (ap (λ list. read_forms end (one ∷ []) list spots) (sym all) ∙ stops)
+port-refused end one names ports spots next forms (stop.Memory refused) all stops = tt
+
+pub port-declared : (end : ℕ) (one : Found) (names : List Found) (ports after : List Port) (spots : List Spot) (next : List Port → List Spot → Result Parts Fault) (forms : List Form) (whole : Whole) (name : List ℕ) (output : Bool)
+    → forms ≡ port_forms → read_forms end (one ∷ []) forms spots ≡ Ok whole → name ≡ name_in (one.value ∷ []) → output ≡ is_output whole.form → after ≡ ports ++ port_of name output ∷ []
+    → ports_outcome end (one ∷ names) ports spots next ≡ ports_outcome end names after whole.spots next
+port-declared end one names ports after spots next forms whole name output all is named declared grown =
+    ports-next end one names ports spots next whole (ap (λ list. read_forms end (one ∷ []) list spots) (sym all) ∙ is)
+    ∙ ap (λ n. ports_outcome end names (ports ++ port_of n (is_output whole.form) ∷ []) whole.spots next) (sym named)
+    ∙ ap (λ o. ports_outcome end names (ports ++ port_of name o ∷ []) whole.spots next) (sym declared)
+    ∙ ap (λ list. ports_outcome end names list whole.spots next) (sym grown)

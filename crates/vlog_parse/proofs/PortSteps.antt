@@ -1,5 +1,5 @@
 -- Declarations of ports one after another.
-use Rattle.std.proofs.Common.{◌≡◌, ℕ, Bool, List, [], ◌∷◌, ◌++◌, refl, ap, sym, ◌∙◌, subst}
+use Rattle.std.proofs.Common.{◌≡◌, ℕ, zero, suc, ◌+◌, ◌<◌, Bool, List, [], ◌∷◌, ◌++◌, length, get_or, drop, refl, ap, sym, ◌∙◌, subst, add-one, drop-cons, arith}
 use Rattle.std.specs.Prelude.{Result, Ok, Err}
 use Rattle.vlog_tokens.specs.Tokens.{Spot}
 use Rattle.vlog_module.specs.declared.modules.Port.{Port}
@@ -8,15 +8,17 @@ use Rattle.vlog_module.specs.Names.{IsName, is_name, reserved_words}
 use Rattle.vlog_module.specs.Parts.{Parts}
 use Rattle.vlog_forms.specs.declared.fault.VlogCause.TheVariants.{Syntax}
 use Rattle.vlog_forms.specs.declared.form.Form.{Form}
-use Rattle.vlog_forms.specs.Values.{Value}
+use Rattle.vlog_forms.specs.Values.{Value, seen}
 use Rattle.vlog_forms.specs.Values.Value.{Name, Edge, Bit, Word, Index, AnAtom}
 use Rattle.vlog_forms.specs.Items.{name_in}
-use Rattle.vlog_forms.specs.Reading.{Found, Whole, read_forms, port_forms}
+use Rattle.vlog_forms.specs.Reading.{Found, found_at, values_of, Whole, read_forms, port_forms}
 use Rattle.vlog_forms.specs.Outcome.{Fault, fault, after, is_output, port_of, ports_outcome}
 use Rattle.vlog_read.specs.declared.stop.Stop.{Stop}
 use Rattle.vlog_read.specs.declared.stop.Stop.TheVariants as stop
 use Rattle.vlog_read.specs.Readings.{StopsAt}
-use Rattle.vlog_build.specs.Named.{IsNamed}
+use Rattle.vlog_read.specs.declared.found.Found as kept
+use Rattle.vlog_read.specs.Found.{all_found}
+use Rattle.vlog_build.specs.Named.{IsNamed, AreNamed}
 use Rattle.vlog_parse.specs.Answers.{RefusesAt, refusal_of}
 
 -- the name of a value, or `x`, is a name
@@ -60,3 +62,14 @@ port-declared end one names ports after spots next forms whole name output all i
     ∙ ap (λ n. ports_outcome end names (ports ++ port_of n (is_output whole.form) ∷ []) whole.spots next) (sym named)
     ∙ ap (λ o. ports_outcome end names (ports ++ port_of name o ∷ []) whole.spots next) (sym declared)
     ∙ ap (λ list. ports_outcome end names list whole.spots next) (sym grown)
+
+-- ---- the names one after another
+
+pub named-at : (names : List kept.Found) (i : ℕ) (default : kept.Found) → AreNamed (values_of (all_found names)) → i < length names → IsNamed (seen (get_or names i default).value)
+named-at [] i default named within = absurd (omega arith)
+named-at (one ∷ names) zero default named within = named.0
+named-at (one ∷ names) (suc i) default named within = named-at names i default named.1 (omega arith)
+
+pub found-at : (names : List kept.Found) (i : ℕ) (default : kept.Found) → i < length names
+    → all_found (drop i names) ≡ found_at (get_or names i default).at (seen (get_or names i default).value) ∷ all_found (drop (i + 1) names)
+found-at names i default within = let parts : drop i names ≡ get_or names i default ∷ drop (i + 1) names = rw (add-one, drop-cons names i default) refl in ap all_found parts

@@ -1,5 +1,30 @@
+ghost use Rattle.vlog_parse.specs.Answers.{Takes};
+
 use super::*;
 use std::alloc::{AllocError, Global};
+
+/// What the printed text of a module is read as: the module.
+fn read_again(alloc: Global, module: &Module) -> Result<Module, VlogFault>
+    ensures { Takes «module».now result }
+{
+    match print(alloc, module) {
+        Ok(text) => parse(alloc, &text),
+        Err(refused) => Err(VlogFault::Memory(refused)),
+    }
+}
+
+/// Whether a text is a module, and its printed text too.
+fn is_read_again(alloc: Global, text: &str) -> Result<bool, AllocError> {
+    match parse(alloc, text.as_bytes()) {
+        Ok(parsed) => match read_again(alloc, &parsed) {
+            Ok(_) => Ok(true),
+            Err(VlogFault::At { .. }) => Ok(false),
+            Err(VlogFault::Memory(refused)) => Err(refused),
+        },
+        Err(VlogFault::At { .. }) => Ok(false),
+        Err(VlogFault::Memory(refused)) => Err(refused),
+    }
+}
 
 /// The fault of a text; none where it is a module.
 fn fault_of(alloc: Global, text: &str) -> Result<Option<(u64, VlogCause)>, AllocError> {
@@ -49,6 +74,11 @@ const ALL: &str = "module all (c, d, q);
   initial m[255] = 16'h0000;
 endmodule
 ";
+
+#[test]
+fn reads_what_it_prints(rt: HostRuntime) {
+    assert!(rt; is_read_again(rt.alloc(), "module m(a)\t;\r\ninput a;wire x=a;endmodule") == Ok(true));
+}
 
 #[test]
 fn prints_what_it_parses(rt: HostRuntime) {

@@ -17,3 +17,6 @@ pub mod ItemsRead
 pub mod HeaderRead
 pub mod Spelled
 pub mod PrintedTokens
+pub mod Sound
+pub mod Allowed
+pub mod Whole

@@ -79,7 +79,7 @@ fixed-some fixed slots before after =
     let made : filled (slot.Fixed fixed ∷ slots) before after ≡ token.fixed fixed ∷ filled slots before after = filled-passed (slot.Fixed fixed) slots before after refl in
     omega (arith, ap length made)
 
-form-some : (one : Form) (values : List Value) → 0 < length (filled (slots_of one) [] values)
+pub form-some : (one : Form) (values : List Value) → 0 < length (filled (slots_of one) [] values)
 unfolding slots_of
 form-some form.Input values = fixed-some sign.Input (drop 1 (slots_of form.Input)) [] values
 form-some form.Output values = fixed-some sign.Output (drop 1 (slots_of form.Output)) [] values

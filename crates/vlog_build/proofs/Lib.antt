@@ -1,0 +1,3 @@
+pub mod ValuesAt
+pub mod Named
+pub mod Made

@@ -1,0 +1,23 @@
+-- Names, sorts and words that are kept, each once.
+use Rattle.std.specs.Prelude.{ℕ, Bool, ◌&&◌, ◌==◌, List, [], ◌∷◌, ◌++◌, Option, Some, None, is_some, bytes_eq, if◌then◌else◌}
+use Rattle.std.specs.List.{list_any}
+use Rattle.vlog_module.specs.declared.sort.Sort.{Sort}
+use Rattle.vlog_module.specs.WellFormed.{sort_in}
+
+-- whether a name is among others
+abbrev pub has_name : List (List ℕ) → List ℕ → Bool
+has_name names name = list_any (λ other. bytes_eq other name) names
+
+-- names with one more, where it isn't there
+abbrev pub with_name : List (List ℕ) → List ℕ → List (List ℕ)
+with_name names name = if has_name names name then names else names ++ name ∷ []
+
+-- whether the word of a memory is among others
+abbrev pub has_word : List (List ℕ × ℕ) → List ℕ → ℕ → Bool
+has_word words memory place = list_any (λ other. bytes_eq other.0 memory && (other.1 == place)) words
+
+abbrev pub with_word : List (List ℕ × ℕ) → List ℕ → ℕ → List (List ℕ × ℕ)
+with_word words memory place = if has_word words memory place then words else words ++ (memory, place) ∷ []
+
+abbrev pub with_sort : List (List ℕ × Sort) → List ℕ → Sort → List (List ℕ × Sort)
+with_sort declared name sort = if is_some (sort_in declared name) then declared else declared ++ (name, sort) ∷ []

@@ -1,0 +1,13 @@
+//! The names of a module so far, and the first name of an item that may not stand there.
+//!
+//! Names are borrowed from the text. A look-up of a name takes the same time however many names there are.
+#![tactic(auto)]
+
+mod faults;
+mod names;
+mod set;
+mod sorts;
+mod words;
+
+pub use faults::{Fault, name_fault, text_of, twice_fault};
+pub use names::Names;

@@ -1,0 +1,4 @@
+pub mod Turns
+pub mod ItemSteps
+pub mod PortSteps
+pub mod Outcomes

@@ -1,0 +1,112 @@
+// The form that comes next.
+ghost use Rattle.std.specs.Prelude.{◌≡◌, ◌≤◌, length, IfOk, OnOk};
+ghost use Rattle.vlog_tokens.specs.Tokens.{spots_at};
+ghost use Rattle.vlog_forms.specs.Layout.{slots_of};
+ghost use Rattle.vlog_forms.specs.Reading.{all_forms, port_forms, read_forms, read_slots};
+ghost use Rattle.vlog_read.specs.Found.{all_found};
+ghost use Rattle.vlog_read.specs.Readings.{ReadsForm, ReadsTo, further};
+
+use crate::found::Found;
+use crate::slots::read_slots;
+use crate::stop::Stop;
+use std::alloc::AllocError;
+use vlog_forms::{Form, slots};
+
+/// An item that is whole: its form, and the offset behind it.
+#[derive(Clone, Copy, Debug)]
+pub struct Whole {
+    pub form: Form,
+    pub end: usize,
+}
+
+/// All forms.
+pub fn all_forms() -> &'static [Form]
+    ensures { result.now ≡ all_forms }
+{
+    &[
+        Form::Input,
+        Form::Output,
+        Form::Register,
+        Form::Word,
+        Form::Memory,
+        Form::WireBit,
+        Form::WireWhole,
+        Form::WirePart,
+        Form::WireLut,
+        Form::WireMajority,
+        Form::Assign,
+        Form::Flip,
+        Form::Read,
+        Form::Write,
+        Form::Start,
+        Form::End,
+    ]
+}
+
+/// The forms of a port's declaration.
+pub fn port_forms() -> &'static [Form]
+    ensures { result.now ≡ port_forms }
+{
+    &[Form::Input, Form::Output]
+}
+
+/// Reads the form among these that is whole. Values that the forms repeat may be given.
+pub fn read_forms<'a>(
+    bytes: &'a [u8],
+    from: usize,
+    given: &[Found<'a>],
+    forms: &[Form],
+    values: &mut Vec<Found<'a>>,
+) -> Result<Whole, Stop>
+    requires { from ≤ length bytes.now }
+    ensures reads { ReadsForm (read_forms (length bytes.now) (all_found given.now) forms.now (spots_at bytes.now from)) bytes.now (all_found values.new.items) result }
+    ensures within { IfOk result (λ whole. whole.end ≤ length bytes.now) }
+{
+    match forms {
+        [] => Err(Stop::Stuck(0)),
+        [form, rest @ ..] => match read_form(bytes, from, given, *form, values) {
+            Ok(end) => Ok(Whole { form: *form, end }),
+            Err(Stop::Memory(refused)) => Err(Stop::Memory(refused)),
+            Err(Stop::Stuck(stuck)) => {
+                further(stuck, read_forms(bytes, from, given, rest, values))
+            }
+        },
+    }
+}
+
+/// Reads a form behind the values that are given.
+fn read_form<'a>(
+    bytes: &'a [u8],
+    from: usize,
+    given: &[Found<'a>],
+    form: Form,
+    values: &mut Vec<Found<'a>>,
+) -> Result<usize, Stop>
+    requires { from ≤ length bytes.now }
+    ensures reads { ReadsTo (read_slots (length bytes.now) (slots_of form) (all_found given.now) (spots_at bytes.now from)) bytes.now (all_found values.new.items) result }
+    ensures within { IfOk result (λ end. end ≤ length bytes.now) }
+{
+    match start_with(values, given) {
+        Err(refused) => Err(Stop::Memory(refused)),
+        Ok(()) => read_slots(bytes, from, slots(form), values),
+    }
+}
+
+/// Leaves exactly these values.
+fn start_with<'a>(values: &mut Vec<Found<'a>>, given: &[Found<'a>]) -> Result<(), AllocError>
+    ensures { OnOk result (values.new.items ≡ given.now) }
+{
+    values.clear();
+    values.extend_from_slice(given)
+}
+
+/// The reading of the forms that are left, where one that was tried is stuck at an offset.
+fn further(stuck: usize, others: Result<Whole, Stop>) -> Result<Whole, Stop>
+    ensures { result ≡ further stuck others }
+{
+    match others {
+        Ok(whole) => Ok(whole),
+        Err(Stop::Memory(refused)) => Err(Stop::Memory(refused)),
+        Err(Stop::Stuck(other)) => Err(Stop::Stuck(stuck.max(other))),
+    }
+}

@@ -1,0 +1,18 @@
+//! Readings of a text of the Verilog subset, form by form.
+//!
+//! A reading begins at an offset of the text. It gives the offset behind what it read, or the offset of the token that can't go
+//! on. The values of a form are kept with the offsets of their first tokens.
+#![tactic(auto)]
+
+mod atom;
+mod forms;
+mod found;
+mod slots;
+mod stop;
+mod token;
+
+pub use forms::{Whole, all_forms, port_forms, read_forms};
+pub use found::{Found, push_found};
+pub use slots::read_slots;
+pub use stop::Stop;
+pub use token::{expect_token, is_fixed};

@@ -1,0 +1,43 @@
+use super::*;
+
+/// A letter for the sort of a token.
+fn sort_of(token: Token<'_>) -> char {
+    match token {
+        Token::Fixed(_) => 'f',
+        Token::Name(_) => 'n',
+        Token::Bit(_) => 'b',
+        Token::Word(_) => 'w',
+        Token::Number(_) => 'd',
+        Token::Stray => 'x',
+    }
+}
+
+/// The first token of a text: its sort, where it begins and where it ends.
+fn first_token(text: &str) -> Option<(char, usize, usize)> {
+    let spot = next_token(text.as_bytes(), 0)?;
+    Some((sort_of(spot.token), spot.at, spot.end))
+}
+
+#[test]
+fn takes_the_longest_token(rt: HostRuntime) {
+    for (text, sort, at, end) in [
+        (" \t\r\nabc_1'", 'n', 4, 9),
+        ("wire1", 'n', 0, 5),
+        ("wire 1", 'f', 0, 4),
+        ("_", 'n', 0, 1),
+        ("1234", 'd', 0, 3),
+        ("1'b01", 'b', 0, 4),
+        ("1'b2", 'd', 0, 1),
+        ("16'h12aFe", 'w', 0, 8),
+        ("16'h12ag", 'd', 0, 2),
+        ("<=", 'f', 0, 2),
+        ("<", 'x', 0, 1),
+        (">>>", 'f', 0, 2),
+        ("=<", 'f', 0, 1),
+        ("/", 'x', 0, 1),
+        ("\u{c}a", 'x', 0, 1),
+    ] {
+        assert_eq!(rt; first_token(text), Some((sort, at, end)), "of {text:?}");
+    }
+    assert!(rt; first_token(" \n").is_none());
+}

@@ -6,6 +6,7 @@ mod failing;
 mod joining;
 mod packing;
 mod refusing;
+mod replacing;
 mod unpacking;
 
 use crate::running::run;

@@ -6,7 +6,7 @@ use std::alloc::{AllocError, Global};
 /// A command line, and the first line that it writes.
 type Told = (&'static [&'static str], &'static str);
 
-static TOLD: [Told; 5] = [
+static TOLD: [Told; 6] = [
     (
         &["--help"],
         "icestorm: the bitstream tools of Project IceStorm for the iCE40 HX1K and HX8K.\n",
@@ -23,6 +23,10 @@ static TOLD: [Told; 5] = [
     (
         &["icemulti", "--help"],
         "icemulti: joins up to four bitstreams (.bin) to one boot file.\n",
+    ),
+    (
+        &["icebram", "--help"],
+        "icebram: replaces the contents of RAMs in a text (.asc), without a new routing.\n",
     ),
 ];
 

@@ -10,12 +10,14 @@ const ICEUNPACK_USAGE: &str = "iceunpack: usage: iceunpack [INPUT [OUTPUT]]\n";
 const ICEMULTI_USAGE: &str =
     "icemulti: usage: icemulti [-c] [-p N] [-a N] [-A N] [-o OUTPUT] [IMAGE ...]\n";
 
+const ICEBRAM_USAGE: &str = "icebram: usage: icebram FROM TO\n";
+
 const USAGE: &str = "icestorm: usage: TOOL ...\n";
 
 /// A command line, its status and its line.
 type Refused = (&'static [&'static str], u8, &'static str);
 
-static NOT_TAKEN: [Refused; 13] = [
+static NOT_TAKEN: [Refused; 15] = [
     (&["icepack", "a", "b", "c"], 2, ICEPACK_USAGE),
     (&["icepack", "-x"], 2, ICEPACK_USAGE),
     (&["icepack", "-u", "-s"], 2, ICEPACK_USAGE),
@@ -26,12 +28,14 @@ static NOT_TAKEN: [Refused; 13] = [
     (&["icemulti", "-a", "8", "-A", "8", "A"], 2, ICEMULTI_USAGE),
     (&["icemulti", "-p", "1000", "A"], 2, ICEMULTI_USAGE),
     (&["--help", "icepack"], 2, USAGE),
-    (&["icebram"], 2, USAGE),
+    (&["icebram"], 2, ICEBRAM_USAGE),
+    (&["icebram", "A"], 2, ICEBRAM_USAGE),
+    (&["icebram", "A", "B", "C"], 2, ICEBRAM_USAGE),
     (&["icebox"], 2, USAGE),
     (&[], 2, USAGE),
 ];
 
-static REFUSED: [Refused; 9] = [
+static REFUSED: [Refused; 10] = [
     (&["icepack"], 1, "icepack: line 1: NoDevice\n"),
     (&["icepack", "-u"], 1, "icepack: offset 0: NoPreamble\n"),
     (&["icepack", "nofile"], 3, "icepack: read failed: nofile\n"),
@@ -45,6 +49,7 @@ static REFUSED: [Refused; 9] = [
     ),
     (&["icemulti", "-p2", "A", "B"], 1, "icemulti: PowerOn 2\n"),
     (&["icemulti", "A"], 3, "icemulti: read failed: A\n"),
+    (&["icebram", "A", "B"], 3, "icebram: read failed: A\n"),
 ];
 
 /// Whether a command line is refused so, with an empty input and without files.

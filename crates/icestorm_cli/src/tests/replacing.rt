@@ -1,0 +1,149 @@
+// Contents of RAMs replaced.
+
+use super::{Stage, file};
+use std::alloc::{AllocError, Global};
+
+/// Words that rise and fall, one in each digit.
+const RISING: &str = "0 1 2 3 4 5 6 7 8 9 a b c d e f\n";
+
+const FALLING: &str = "f e d c b a 9 8 7 6 5 4 3 2 1 0\n";
+
+/// A RAM's line of sixteen words that rise, and of words that fall.
+const RISING_LINE: &str = "000f000e000d000c000b000a0009000800070006000500040003000200010000\n";
+
+const FALLING_LINE: &str = "0000000100020003000400050006000700080009000a000b000c000d000e000f\n";
+
+/// A text, and how many times it comes.
+type Lines = (&'static str, usize);
+
+/// The bytes of lines.
+fn lines(alloc: Global, lines: Lines) -> Result<Vec<u8>, AllocError> {
+    let mut bytes = Vec::new(alloc);
+    for _ in 0..lines.1 {
+        bytes.extend_from_slice(lines.0.as_bytes())?;
+    }
+    Ok(bytes)
+}
+
+/// A stage with that input and the two files.
+fn on_words(alloc: Global, from: Lines, to: Lines, input: &[u8]) -> Result<Stage, AllocError> {
+    let mut files = Vec::new(alloc);
+    files.push(file(alloc, "from", lines(alloc, from)?)?)?;
+    files.push(file(alloc, "to", lines(alloc, to)?)?)?;
+    Stage::on_input(alloc, input, 0)?.with_files(alloc, files, 0)
+}
+
+/// A text of two RAMs of such lines.
+fn text_of(alloc: Global, line: &'static str) -> Result<Vec<u8>, AllocError> {
+    let mut text = b".device 1k\n.ram_data 3 1\n".to_vec(alloc)?;
+    text.extend_from_slice(&lines(alloc, (line, 16))?)?;
+    text.extend_from_slice(b".ram_data 10 15\n")?;
+    text.extend_from_slice(&lines(alloc, (line, 16))?)?;
+    Ok(text)
+}
+
+/// Whether these words of a command line replace the contents of a text so.
+fn replaces(alloc: Global, input: &[u8], output: &[u8]) -> Result<bool, AllocError> {
+    let mut stage = on_words(alloc, (RISING, 16), (FALLING, 16), input)?;
+    let ends = stage.ends(alloc, &["icebram", "from", "to"], 0, "")?;
+    Ok(ends && stage.output.bytes() == output)
+}
+
+/// Whether each RAM's words that rise become words that fall.
+fn replaces_rising(alloc: Global) -> Result<bool, AllocError> {
+    let output = text_of(alloc, FALLING_LINE)?;
+    replaces(alloc, &text_of(alloc, RISING_LINE)?, &output)
+}
+
+/// Whether a text passes in which no column of the first file is.
+fn passes_falling(alloc: Global) -> Result<bool, AllocError> {
+    let text = lines(alloc, (".device 1k\n\n", 1))?;
+    replaces(alloc, &text, &text)
+}
+
+#[test]
+fn replaces_what_is_found(rt: HostRuntime) {
+    assert!(rt; replaces_rising(rt.alloc()) == Ok(true));
+    assert!(rt; passes_falling(rt.alloc()) == Ok(true));
+}
+
+/// Two files of words, a text, and the line that refuses them.
+type Refused = (Lines, Lines, &'static str, &'static str);
+
+static REFUSED: [Refused; 12] = [
+    (
+        ("0 g\n", 1),
+        ("g\n", 1),
+        "",
+        "icebram: from line 1: Digit\n",
+    ),
+    (
+        ("0\n00\n", 1),
+        ("g\n", 1),
+        "",
+        "icebram: from line 2: Width\n",
+    ),
+    (("0\n", 255), ("g\n", 1), "", "icebram: from: Depth\n"),
+    (
+        (RISING, 16),
+        ("0\n\n/\n", 1),
+        "",
+        "icebram: to line 3: Digit\n",
+    ),
+    (
+        (RISING, 16),
+        ("0\n00\n", 1),
+        "",
+        "icebram: to line 2: Width\n",
+    ),
+    (("0\n", 256), ("", 0), "", "icebram: to: Depth\n"),
+    (("0\n", 256), ("00\n", 256), "", "icebram: Shape\n"),
+    ((RISING, 16), (RISING, 32), "", "icebram: Shape\n"),
+    (("0\n", 256), (RISING, 16), "", "icebram: SameColumns 0 1\n"),
+    (
+        (RISING, 16),
+        (FALLING, 16),
+        "",
+        "icebram: line 1: NoDevice\n",
+    ),
+    (
+        (RISING, 16),
+        (FALLING, 16),
+        ".device 5k\n",
+        "icebram: line 1: Device\n",
+    ),
+    (
+        (RISING, 16),
+        (FALLING, 16),
+        ".device 1k\n.ram_data 3 1\n0\n",
+        "icebram: line 3: tile 3 1: Hex\n",
+    ),
+];
+
+fn is_refused(alloc: Global, refused: &Refused) -> Result<bool, AllocError> {
+    let mut stage = on_words(alloc, refused.0, refused.1, refused.2.as_bytes())?;
+    stage.refuses(alloc, &["icebram", "from", "to"], 1, refused.3)
+}
+
+#[test]
+fn tells_why_nothing_is_replaced(rt: HostRuntime) {
+    for refused in &REFUSED {
+        assert!(rt;
+            is_refused(rt.alloc(), refused) == Ok(true),
+            "of {:?}",
+            refused.3
+        );
+    }
+}
+
+/// Whether all files are loaded before the first one is judged, and none past its limit.
+fn loads_first(alloc: Global) -> Result<bool, AllocError> {
+    let mut stage = on_words(alloc, ("g\n", 1), ("0", 16_777_217), b"")?;
+    let line = "icebram: too long: to limit 16777216\n";
+    stage.refuses(alloc, &["icebram", "from", "to"], 6, line)
+}
+
+#[test]
+fn loads_before_it_judges(rt: HostRuntime) {
+    assert!(rt; loads_first(rt.alloc()) == Ok(true));
+}

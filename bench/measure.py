@@ -89,31 +89,35 @@ def line_of(program, tool, name, words, source, work):
     return "%s %s" % (head, measure(own, stock, source, work)), True
 
 
-def write_words(path, words):
-    """Writes a file of memory words of sixteen bits."""
+def write_words(path, blocks):
+    """Writes a file of 256 memory words, of which each has sixteen bits of each block, the first block's at the right."""
     with open(path, "w") as file:
-        file.write("".join("%04x\n" % word for word in words))
+        for word in zip(*blocks):
+            file.write("".join("%04x" % part for part in reversed(word)) + "\n")
 
 
 def with_known_rams(text, work):
     """The text with words of the first file in its first eight RAMs, the first file and the second one, or nothing where
-    it has fewer RAMs. They are pseudo-random from a fixed seed."""
+    it has fewer RAMs. They are pseudo-random from a fixed seed. The tiles of the RAMs are cleared, so that none of them is
+    in a narrow mode, whose words the stock tool looks for in another order."""
     with open(text) as file:
         lines = file.read().split("\n")
     rams = [number for number, line in enumerate(lines) if line.startswith(".ram_data")][:8]
     if len(rams) < 8:
         return None
+    for number, line in enumerate(lines):
+        if line.startswith((".ramb_tile", ".ramt_tile")):
+            lines[number + 1:number + 17] = 16 * [42 * "0"]
     rng = random.Random(8)
-    words = [rng.getrandbits(16) for _ in range(8 * 256)]
-    for block, ram in enumerate(rams):
+    blocks, others = ([[rng.getrandbits(16) for _ in range(256)] for _ in rams] for _ in range(2))
+    for words, ram in zip(blocks, rams):
         for row in range(16):
-            first = 256 * block + 16 * row
-            lines[ram + 1 + row] = "".join("%04x" % word for word in reversed(words[first:first + 16]))
+            lines[ram + 1 + row] = "".join("%04x" % word for word in reversed(words[16 * row:16 * row + 16]))
     known, first_file, second_file = (os.path.join(work, name) for name in ("known.asc", "from.hex", "to.hex"))
     with open(known, "w") as file:
         file.write("\n".join(lines))
-    write_words(first_file, words)
-    write_words(second_file, [rng.getrandbits(16) for _ in words])
+    write_words(first_file, blocks)
+    write_words(second_file, others)
     return known, first_file, second_file
 
 

@@ -44,7 +44,8 @@ Each bit column of a RAM in the text that is equal to a column of FROM becomes
 the same column of TO. Where none is equal, nothing changes: the output is the
 input, and the exit status is still 0. Only RAMs of 256 words of 16 bits keep
 their words in this order. In the narrow modes (512, 1024 or 2048 words) words
-lie in another order, so nothing is found there.
+lie in another order, so nothing is found there. yosys takes such a mode for a
+memory of more than 256 words.
 
 Example: icebram random.hex firmware.hex <routed.asc >loaded.asc
 

@@ -3,12 +3,12 @@
 use super::{Stage, file};
 use std::alloc::{AllocError, Global};
 
-/// Words that rise and fall, one in each digit.
+/// Sixteen words of one digit that rise, and that fall.
 const RISING: &str = "0 1 2 3 4 5 6 7 8 9 a b c d e f\n";
 
 const FALLING: &str = "f e d c b a 9 8 7 6 5 4 3 2 1 0\n";
 
-/// A RAM's line of sixteen words that rise, and of words that fall.
+/// A RAM's line of sixteen words that rise, and of sixteen that fall.
 const RISING_LINE: &str = "000f000e000d000c000b000a0009000800070006000500040003000200010000\n";
 
 const FALLING_LINE: &str = "0000000100020003000400050006000700080009000a000b000c000d000e000f\n";
@@ -42,7 +42,7 @@ fn text_of(alloc: Global, line: &'static str) -> Result<Vec<u8>, AllocError> {
     Ok(text)
 }
 
-/// Whether these words of a command line replace the contents of a text so.
+/// Whether a text becomes that one where words that rise become words that fall.
 fn replaces(alloc: Global, input: &[u8], output: &[u8]) -> Result<bool, AllocError> {
     let mut stage = on_words(alloc, (RISING, 16), (FALLING, 16), input)?;
     let ends = stage.ends(alloc, &["icebram", "from", "to"], 0, "")?;
@@ -55,8 +55,8 @@ fn replaces_rising(alloc: Global) -> Result<bool, AllocError> {
     replaces(alloc, &text_of(alloc, RISING_LINE)?, &output)
 }
 
-/// Whether a text passes in which no column of the first file is.
-fn passes_falling(alloc: Global) -> Result<bool, AllocError> {
+/// Whether a text without RAMs passes.
+fn passes_without_rams(alloc: Global) -> Result<bool, AllocError> {
     let text = lines(alloc, (".device 1k\n\n", 1))?;
     replaces(alloc, &text, &text)
 }
@@ -64,7 +64,7 @@ fn passes_falling(alloc: Global) -> Result<bool, AllocError> {
 #[test]
 fn replaces_what_is_found(rt: HostRuntime) {
     assert!(rt; replaces_rising(rt.alloc()) == Ok(true));
-    assert!(rt; passes_falling(rt.alloc()) == Ok(true));
+    assert!(rt; passes_without_rams(rt.alloc()) == Ok(true));
 }
 
 /// Two files of words, a text, and the line that refuses them.

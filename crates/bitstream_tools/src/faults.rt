@@ -118,21 +118,27 @@ pub(crate) fn multi_refusal(fault: MultiFault) -> Refusal
     }
 }
 
+// A refusal of a file of that name: where, and the cause.
+fn file_refusal(name: &'static str, place: Phrase, cause: &'static str) -> Refusal
+    ensures { refusal_text result ≡ name.now ++ phrase_text place ++ cause.now }
+{
+    Refusal {
+        first: text(name),
+        second: place,
+        third: text(cause),
+        fourth: text(""),
+    }
+}
+
 /// Why a file of words of that name isn't read.
 pub(crate) fn hex_refusal(name: &'static str, fault: HexFault) -> Refusal
     ensures { refusal_text result ≡ hex_fault_text name.now fault }
 {
-    let (second, third) = match fault {
-        HexFault::Digit { line } => (decimal(" line ", line), text(": Digit")),
-        HexFault::Width { line } => (decimal(" line ", line), text(": Width")),
-        HexFault::Depth => (text(": Depth"), text("")),
-        HexFault::Memory(_) => (text(": out of memory"), text("")),
-    };
-    Refusal {
-        first: text(name),
-        second,
-        third,
-        fourth: text(""),
+    match fault {
+        HexFault::Digit { line } => file_refusal(name, decimal(" line ", line), ": Digit"),
+        HexFault::Width { line } => file_refusal(name, decimal(" line ", line), ": Width"),
+        HexFault::Depth => file_refusal(name, text(": Depth"), ""),
+        HexFault::Memory(_) => file_refusal(name, text(": out of memory"), ""),
     }
 }
 

@@ -138,7 +138,7 @@ fn tells_why_nothing_is_replaced(rt: HostRuntime) {
 
 /// Whether all files are loaded before the first one is judged, and none past its limit.
 fn loads_first(alloc: Global) -> Result<bool, AllocError> {
-    let mut stage = on_words(alloc, ("g\n", 1), ("0", 16_777_217), b"")?;
+    let mut stage = on_words(alloc, ("g\n", 1), (RISING, 524_289), b"")?;
     let line = "icebram: too long: to limit 16777216\n";
     stage.refuses(alloc, &["icebram", "from", "to"], 6, line)
 }

@@ -15,7 +15,54 @@ use std::alloc::{AllocError, Global};
 
 const DEVICE: &[u8] = b".device 1k\n";
 
-/// Files and streams for a run.
+/// What a run begins with.
+#[derive(Clone, Copy)]
+struct Setup<'a> {
+    /// Files by their names. `out` may be stored.
+    files: &'a [(&'a str, &'a [u8])],
+    /// How many bytes `out` takes.
+    room: usize,
+    input: &'a [u8],
+    /// The read of the input that fails, from 1, and none where it is 0.
+    failing_read: u64,
+    /// The write of standard output that fails. Each has at most 10,000 bytes.
+    failing_write: u64,
+    /// The write of standard error that fails. Each has at most 7 bytes.
+    failing_line: u64,
+}
+
+/// No files, an empty input, and nothing that fails.
+const PLAIN: Setup<'static> = Setup {
+    files: &[],
+    room: 0,
+    input: b"",
+    failing_read: 0,
+    failing_write: 0,
+    failing_line: 0,
+};
+
+/// What a run leaves: its status, what it wrote, and the bytes of the file `out`.
+#[derive(Drop)]
+struct Ended {
+    status: u8,
+    output: Vec<u8>,
+    errors: Vec<u8>,
+    stored: Vec<u8>,
+}
+
+impl Ended {
+    /// Whether a run ended with that status and that line on standard error.
+    fn says(&self, status: u8, line: &str) -> bool {
+        self.status == status && self.errors.as_slice() == line.as_bytes()
+    }
+
+    /// Whether it ended so, and wrote nothing to standard output.
+    fn refuses(&self, status: u8, line: &str) -> bool {
+        self.says(status, line) && self.output.is_empty()
+    }
+}
+
+/// Files and streams of a run.
 #[derive(Drop)]
 struct Stage {
     files: MemFiles,
@@ -25,33 +72,22 @@ struct Stage {
 }
 
 impl Stage {
-    /// A stage without files, on which that read of the input fails.
-    fn on_input(alloc: Global, text: &[u8], failing_read: u64) -> Result<Stage, AllocError> {
+    fn new(alloc: Global, setup: Setup<'_>) -> Result<Stage, AllocError> {
         Ok(Stage {
-            files: MemFiles::new(alloc, Vec::new(alloc), "out", 0, 1, Vec::new(alloc))?,
-            input: MemSource::new(text.to_vec(alloc)?, 65_536, [failing_read].to_vec(alloc)?),
-            output: MemSink::new(alloc, 1_000_000, 140_000, Vec::new(alloc))?,
-            errors: MemSink::new(alloc, 100, 100, Vec::new(alloc))?,
+            files: files_of(alloc, setup)?,
+            input: MemSource::new(
+                setup.input.to_vec(alloc)?,
+                65_536,
+                [setup.failing_read].to_vec(alloc)?,
+            ),
+            output: sink(alloc, 1_000_000, 10_000, setup.failing_write)?,
+            errors: sink(alloc, 100, 7, setup.failing_line)?,
         })
-    }
-
-    /// The same with these files, of which `out` may be stored and has that room.
-    fn with_files(
-        mut self,
-        alloc: Global,
-        files: Vec<NamedFile>,
-        room: usize,
-    ) -> Result<Stage, AllocError> {
-        self.files = MemFiles::new(alloc, files, "out", room, 10_000, Vec::new(alloc))?;
-        Ok(self)
     }
 
     /// The status of these words.
     fn run(&mut self, alloc: Global, words: &[&str]) -> Result<u8, AllocError> {
-        let mut line = Vec::new(alloc);
-        for word in words {
-            line.push(String::from_str(alloc, word)?)?;
-        }
+        let line = line_of(alloc, words)?;
         Ok(run(
             alloc,
             &line,
@@ -62,55 +98,70 @@ impl Stage {
         ))
     }
 
-    /// Whether these words end with that status and that line on standard error.
-    fn ends(
-        &mut self,
-        alloc: Global,
-        words: &[&str],
-        status: u8,
-        line: &str,
-    ) -> Result<bool, AllocError> {
-        let ended = self.run(alloc, words)?;
-        Ok(ended == status && self.errors.bytes() == line.as_bytes())
-    }
-
-    /// Whether these words end so, and write nothing to standard output.
-    fn refuses(
-        &mut self,
-        alloc: Global,
-        words: &[&str],
-        status: u8,
-        line: &str,
-    ) -> Result<bool, AllocError> {
-        let ends = self.ends(alloc, words, status, line)?;
-        Ok(ends && self.output.bytes().is_empty())
+    /// What is left where that is the status.
+    fn ended(&self, alloc: Global, status: u8) -> Result<Ended, AllocError> {
+        Ok(Ended {
+            status,
+            output: self.output.bytes().to_vec(alloc)?,
+            errors: self.errors.bytes().to_vec(alloc)?,
+            stored: self.files.bytes_of("out").unwrap_or(&[]).to_vec(alloc)?,
+        })
     }
 }
 
-/// A file.
-fn file(alloc: Global, name: &str, bytes: Vec<u8>) -> Result<NamedFile, AllocError> {
-    Ok(NamedFile {
-        name: String::from_str(alloc, name)?,
-        bytes,
-    })
-}
-
-/// A stage with an empty input and one file, whose file `out` has that room.
-fn on_file(alloc: Global, name: &str, bytes: Vec<u8>, room: usize) -> Result<Stage, AllocError> {
+/// The files of a run.
+fn files_of(alloc: Global, setup: Setup<'_>) -> Result<MemFiles, AllocError> {
     let mut files = Vec::new(alloc);
-    files.push(file(alloc, name, bytes)?)?;
-    Stage::on_input(alloc, b"", 0)?.with_files(alloc, files, room)
+    for (name, bytes) in setup.files {
+        files.push(NamedFile {
+            name: String::from_str(alloc, name)?,
+            bytes: bytes.to_vec(alloc)?,
+        })?;
+    }
+    MemFiles::new(alloc, files, "out", setup.room, 10_000, Vec::new(alloc))
+}
+
+/// A sink with that room, which takes so many bytes at a time, and of which that write fails.
+fn sink(alloc: Global, room: usize, most: usize, failing: u64) -> Result<MemSink, AllocError>
+    requires { 1 ≤ most }
+{
+    MemSink::new(alloc, room, most, [failing].to_vec(alloc)?)
+}
+
+/// A command line.
+fn line_of(alloc: Global, words: &[&str]) -> Result<Vec<String>, AllocError> {
+    let mut line = Vec::new(alloc);
+    for word in words {
+        line.push(String::from_str(alloc, word)?)?;
+    }
+    Ok(line)
+}
+
+/// What a run of these words leaves.
+fn ended(alloc: Global, setup: Setup<'_>, words: &[&str]) -> Result<Ended, AllocError> {
+    let mut stage = Stage::new(alloc, setup)?;
+    let status = stage.run(alloc, words)?;
+    stage.ended(alloc, status)
+}
+
+/// Whether these words end with that status and that line, and write nothing to standard output.
+fn refuses(
+    alloc: Global,
+    setup: Setup<'_>,
+    words: &[&str],
+    status: u8,
+    line: &str,
+) -> Result<bool, AllocError> {
+    Ok(ended(alloc, setup, words)?.refuses(status, line))
 }
 
 /// The bytes that a tool writes to standard output for an input, or nothing where it is refused.
 fn made(alloc: Global, words: &[&str], input: &[u8]) -> Result<Vec<u8>, AllocError> {
-    let mut stage = Stage::on_input(alloc, input, 0)?;
-    stage.run(alloc, words)?;
-    stage.output.bytes().to_vec(alloc)
+    let Ended { output, .. } = ended(alloc, Setup { input, ..PLAIN }, words)?;
+    Ok(output)
 }
 
 /// Whether a tool refuses an input with that line.
 fn is_refused(alloc: Global, words: &[&str], input: &[u8], line: &str) -> Result<bool, AllocError> {
-    let mut stage = Stage::on_input(alloc, input, 0)?;
-    stage.refuses(alloc, words, 1, line)
+    refuses(alloc, Setup { input, ..PLAIN }, words, 1, line)
 }

@@ -1,6 +1,6 @@
 // Help and version, and the options of icepack.
 
-use super::{DEVICE, Stage, made};
+use super::{DEVICE, PLAIN, Setup, ended, made};
 use std::alloc::{AllocError, Global};
 
 /// A command line, and the first line that it writes.
@@ -32,9 +32,12 @@ static TOLD: [Told; 6] = [
 
 /// Whether a command line writes that first, and reads nothing: a read of the input would fail.
 fn is_told(alloc: Global, told: &Told) -> Result<bool, AllocError> {
-    let mut stage = Stage::on_input(alloc, b"", 1)?;
-    let ends = stage.ends(alloc, told.0, 0, "")?;
-    Ok(ends && stage.output.bytes().starts_with(told.1.as_bytes()))
+    let setup = Setup {
+        failing_read: 1,
+        ..PLAIN
+    };
+    let ended = ended(alloc, setup, told.0)?;
+    Ok(ended.says(0, "") && ended.output.starts_with(told.1.as_bytes()))
 }
 
 #[test]

@@ -1,15 +1,14 @@
 // Images joined to boot files.
 
-use super::{Stage, file};
+use super::{PLAIN, Setup, ended, refuses};
 use std::alloc::{AllocError, Global};
 
-/// A stage with the two files `A` of three bytes and `B` of one.
-fn on_images(alloc: Global) -> Result<Stage, AllocError> {
-    let mut files = Vec::new(alloc);
-    files.push(file(alloc, "A", [1, 2, 3].to_vec(alloc)?)?)?;
-    files.push(file(alloc, "B", [4].to_vec(alloc)?)?)?;
-    Stage::on_input(alloc, b"", 0)?.with_files(alloc, files, 1_000)
-}
+/// The two files `A` of three bytes and `B` of one.
+const IMAGES: Setup<'static> = Setup {
+    files: &[("A", &[1, 2, 3]), ("B", &[4])],
+    room: 1_000,
+    ..PLAIN
+};
 
 /// The header that sends the device to an address, with the mode of a start by the pins or not.
 fn header(mode: u8, address: [u8; 3]) -> [u8; 32] {
@@ -33,9 +32,9 @@ fn boot_file(alloc: Global, mode: u8, start: [u8; 3]) -> Result<Vec<u8>, AllocEr
 
 /// Whether the images are joined so on standard output.
 fn joins(alloc: Global, words: &[&str], mode: u8, start: [u8; 3]) -> Result<bool, AllocError> {
-    let mut stage = on_images(alloc)?;
-    let ends = stage.ends(alloc, words, 0, "")?;
-    Ok(ends && stage.output.bytes() == boot_file(alloc, mode, start)?.as_slice())
+    let file = boot_file(alloc, mode, start)?;
+    let ended = ended(alloc, IMAGES, words)?;
+    Ok(ended.says(0, "") && ended.output.as_slice() == file.as_slice())
 }
 
 #[test]
@@ -48,11 +47,10 @@ fn joins_images_to_a_boot_file(rt: HostRuntime) {
 
 /// Whether the boot file is stored in the file that is named among the images.
 fn stores(alloc: Global) -> Result<bool, AllocError> {
-    let mut stage = on_images(alloc)?;
-    let words = ["icemulti", "A", "-o", "out", "-c", "B", "-a8"];
-    let stored = stage.refuses(alloc, &words, 0, "")?;
     let file = boot_file(alloc, 0x10, [0, 0, 0xA0])?;
-    Ok(stored && stage.files.bytes_of("out") == Some(file.as_slice()))
+    let words = ["icemulti", "A", "-o", "out", "-c", "B", "-a8"];
+    let ended = ended(alloc, IMAGES, &words)?;
+    Ok(ended.refuses(0, "") && ended.stored.as_slice() == file.as_slice())
 }
 
 #[test]
@@ -60,13 +58,9 @@ fn stores_a_boot_file(rt: HostRuntime) {
     assert!(rt; stores(rt.alloc()) == Ok(true));
 }
 
-/// Whether images are refused whose places are too late.
-fn refuses_late_images(alloc: Global) -> Result<bool, AllocError> {
-    let words = ["icemulti", "-a", "24", "A", "B"];
-    on_images(alloc)?.refuses(alloc, &words, 1, "icemulti: Address 1\n")
-}
-
 #[test]
 fn refuses_an_image_past_the_addresses(rt: HostRuntime) {
-    assert!(rt; refuses_late_images(rt.alloc()) == Ok(true));
+    let words = ["icemulti", "-a", "24", "A", "B"];
+    let line = "icemulti: Address 1\n";
+    assert!(rt; refuses(rt.alloc(), IMAGES, &words, 1, line) == Ok(true));
 }

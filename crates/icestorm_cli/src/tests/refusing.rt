@@ -1,6 +1,6 @@
 // Command lines that end with a line on standard error and nothing else.
 
-use super::Stage;
+use super::{PLAIN, refuses};
 use std::alloc::{AllocError, Global};
 
 const ICEPACK_USAGE: &str = "icepack: usage: icepack [-u] [-s] [INPUT [OUTPUT]]\n";
@@ -54,8 +54,7 @@ static REFUSED: [Refused; 10] = [
 
 /// Whether a command line is refused so, with an empty input and without files.
 fn is_refused(alloc: Global, refused: &Refused) -> Result<bool, AllocError> {
-    let mut stage = Stage::on_input(alloc, b"", 0)?;
-    stage.refuses(alloc, refused.0, refused.1, refused.2)
+    refuses(alloc, PLAIN, refused.0, refused.1, refused.2)
 }
 
 #[test]

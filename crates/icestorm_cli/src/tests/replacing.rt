@@ -1,6 +1,6 @@
 // Contents of RAMs replaced.
 
-use super::{Stage, file};
+use super::{Ended, PLAIN, Setup, ended};
 use std::alloc::{AllocError, Global};
 
 /// Sixteen words of one digit that rise, and that fall.
@@ -25,12 +25,16 @@ fn lines(alloc: Global, lines: Lines) -> Result<Vec<u8>, AllocError> {
     Ok(bytes)
 }
 
-/// A stage with that input and the two files.
-fn on_words(alloc: Global, from: Lines, to: Lines, input: &[u8]) -> Result<Stage, AllocError> {
-    let mut files = Vec::new(alloc);
-    files.push(file(alloc, "from", lines(alloc, from)?)?)?;
-    files.push(file(alloc, "to", lines(alloc, to)?)?)?;
-    Stage::on_input(alloc, input, 0)?.with_files(alloc, files, 0)
+/// What a run over the two files and that input leaves.
+fn replaced(alloc: Global, from: Lines, to: Lines, input: &[u8]) -> Result<Ended, AllocError> {
+    let from = lines(alloc, from)?;
+    let to = lines(alloc, to)?;
+    let setup = Setup {
+        files: &[("from", from.as_slice()), ("to", to.as_slice())],
+        input,
+        ..PLAIN
+    };
+    ended(alloc, setup, &["icebram", "from", "to"])
 }
 
 /// A text of two RAMs of such lines.
@@ -44,9 +48,8 @@ fn text_of(alloc: Global, line: &'static str) -> Result<Vec<u8>, AllocError> {
 
 /// Whether a text becomes that one where words that rise become words that fall.
 fn replaces(alloc: Global, input: &[u8], output: &[u8]) -> Result<bool, AllocError> {
-    let mut stage = on_words(alloc, (RISING, 16), (FALLING, 16), input)?;
-    let ends = stage.ends(alloc, &["icebram", "from", "to"], 0, "")?;
-    Ok(ends && stage.output.bytes() == output)
+    let ended = replaced(alloc, (RISING, 16), (FALLING, 16), input)?;
+    Ok(ended.says(0, "") && ended.output.as_slice() == output)
 }
 
 /// Whether each RAM's words that rise become words that fall.
@@ -121,8 +124,8 @@ static REFUSED: [Refused; 12] = [
 ];
 
 fn is_refused(alloc: Global, refused: &Refused) -> Result<bool, AllocError> {
-    let mut stage = on_words(alloc, refused.0, refused.1, refused.2.as_bytes())?;
-    stage.refuses(alloc, &["icebram", "from", "to"], 1, refused.3)
+    let ended = replaced(alloc, refused.0, refused.1, refused.2.as_bytes())?;
+    Ok(ended.refuses(1, refused.3))
 }
 
 #[test]
@@ -138,9 +141,8 @@ fn tells_why_nothing_is_replaced(rt: HostRuntime) {
 
 /// Whether all files are loaded before the first one is judged, and none past its limit.
 fn loads_first(alloc: Global) -> Result<bool, AllocError> {
-    let mut stage = on_words(alloc, ("g\n", 1), (RISING, 524_289), b"")?;
-    let line = "icebram: too long: to limit 16777216\n";
-    stage.refuses(alloc, &["icebram", "from", "to"], 6, line)
+    let ended = replaced(alloc, ("g\n", 1), (RISING, 524_289), b"")?;
+    Ok(ended.refuses(6, "icebram: too long: to limit 16777216\n"))
 }
 
 #[test]

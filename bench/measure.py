@@ -6,7 +6,8 @@ Usage: measure.py PROGRAM WORK TEXT...     PROGRAM is this project's, WORK a fol
 Each text is packed, and the bitstream that this project makes of it is unpacked, by both. Then four times the last text's
 bitstream is joined to a boot file, and eight RAMs of the last text get other contents, where it has so many.
 
-Wall times are medians of 20 rounds of 5 runs each, by hyperfine or, where that isn't installed, by a loop here. In each
+Wall times are medians of 20 rounds of 5 runs each, by hyperfine or, where that isn't installed and for a tool that reads
+standard input, by a loop here. In each
 round the tools take turns, and the first one is another than in the last round. The ratio is this project's time by the
 stock tool's, the median over the rounds, with the middle half of the rounds behind it. The peak memory is the greatest
 of 20 runs, by GNU time or, where that isn't installed, as the system tells it of a child, which is never less than what
@@ -34,9 +35,9 @@ def run(command, source, **options):
 
 def wall_times(command, source, work):
     """The seconds of each run."""
-    if shutil.which("hyperfine"):
+    if source == os.devnull and shutil.which("hyperfine"):
         report = os.path.join(work, "times.json")
-        subprocess.run(["hyperfine", "-N", "--style", "none", "--warmup", "1", "--runs", str(RUNS), "--input", source,
+        subprocess.run(["hyperfine", "-N", "--style", "none", "--warmup", "1", "--runs", str(RUNS),
                         "--export-json", report, shlex.join(command)], check=True, stderr=subprocess.DEVNULL)
         with open(report) as file:
             return json.load(file)["results"][0]["times"]

@@ -18,9 +18,12 @@ const DEVICE: &[u8] = b".device 1k\n";
 /// What a run begins with.
 #[derive(Clone, Copy)]
 struct Setup<'a> {
-    /// Files by their names. `out` may be stored.
-    files: &'a [(&'a str, &'a [u8])],
-    /// How many bytes `out` takes.
+    /// The names and the bytes of two files, of which one without a name isn't there.
+    first_name: &'a str,
+    first: &'a [u8],
+    second_name: &'a str,
+    second: &'a [u8],
+    /// How many bytes the file `out` takes.
     room: usize,
     input: &'a [u8],
     /// The read of the input that fails, from 1, and none where it is 0.
@@ -33,7 +36,10 @@ struct Setup<'a> {
 
 /// No files, an empty input, and nothing that fails.
 const PLAIN: Setup<'static> = Setup {
-    files: &[],
+    first_name: "",
+    first: b"",
+    second_name: "",
+    second: b"",
     room: 0,
     input: b"",
     failing_read: 0,
@@ -99,7 +105,7 @@ impl Stage {
     }
 
     /// What is left where that is the status.
-    fn ended(&self, alloc: Global, status: u8) -> Result<Ended, AllocError> {
+    fn left(&self, alloc: Global, status: u8) -> Result<Ended, AllocError> {
         Ok(Ended {
             status,
             output: self.output.bytes().to_vec(alloc)?,
@@ -109,15 +115,27 @@ impl Stage {
     }
 }
 
-/// The files of a run.
-fn files_of(alloc: Global, setup: Setup<'_>) -> Result<MemFiles, AllocError> {
-    let mut files = Vec::new(alloc);
-    for (name, bytes) in setup.files {
+/// One more file, if it has a name.
+fn push_file(
+    alloc: Global,
+    files: &mut Vec<NamedFile>,
+    name: &str,
+    bytes: &[u8],
+) -> Result<(), AllocError> {
+    if !name.is_empty() {
         files.push(NamedFile {
             name: String::from_str(alloc, name)?,
             bytes: bytes.to_vec(alloc)?,
         })?;
     }
+    Ok(())
+}
+
+/// The files of a run.
+fn files_of(alloc: Global, setup: Setup<'_>) -> Result<MemFiles, AllocError> {
+    let mut files = Vec::new(alloc);
+    push_file(alloc, &mut files, setup.first_name, setup.first)?;
+    push_file(alloc, &mut files, setup.second_name, setup.second)?;
     MemFiles::new(alloc, files, "out", setup.room, 10_000, Vec::new(alloc))
 }
 
@@ -138,10 +156,10 @@ fn line_of(alloc: Global, words: &[&str]) -> Result<Vec<String>, AllocError> {
 }
 
 /// What a run of these words leaves.
-fn ended(alloc: Global, setup: Setup<'_>, words: &[&str]) -> Result<Ended, AllocError> {
+fn outcome(alloc: Global, setup: Setup<'_>, words: &[&str]) -> Result<Ended, AllocError> {
     let mut stage = Stage::new(alloc, setup)?;
     let status = stage.run(alloc, words)?;
-    stage.ended(alloc, status)
+    stage.left(alloc, status)
 }
 
 /// Whether these words end with that status and that line, and write nothing to standard output.
@@ -152,12 +170,12 @@ fn refuses(
     status: u8,
     line: &str,
 ) -> Result<bool, AllocError> {
-    Ok(ended(alloc, setup, words)?.refuses(status, line))
+    Ok(outcome(alloc, setup, words)?.refuses(status, line))
 }
 
 /// The bytes that a tool writes to standard output for an input, or nothing where it is refused.
 fn made(alloc: Global, words: &[&str], input: &[u8]) -> Result<Vec<u8>, AllocError> {
-    let Ended { output, .. } = ended(alloc, Setup { input, ..PLAIN }, words)?;
+    let Ended { output, .. } = outcome(alloc, Setup { input, ..PLAIN }, words)?;
     Ok(output)
 }
 

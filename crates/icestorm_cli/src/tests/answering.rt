@@ -1,6 +1,6 @@
 // Help and version, and the options of icepack.
 
-use super::{DEVICE, PLAIN, Setup, ended, made};
+use super::{DEVICE, PLAIN, Setup, made, outcome};
 use std::alloc::{AllocError, Global};
 
 /// A command line, and the first line that it writes.
@@ -36,7 +36,7 @@ fn is_told(alloc: Global, told: &Told) -> Result<bool, AllocError> {
         failing_read: 1,
         ..PLAIN
     };
-    let ended = ended(alloc, setup, told.0)?;
+    let ended = outcome(alloc, setup, told.0)?;
     Ok(ended.says(0, "") && ended.output.starts_with(told.1.as_bytes()))
 }
 

@@ -1,6 +1,6 @@
 // Reads and writes that fail, and inputs past their limits.
 
-use super::{DEVICE, PLAIN, Setup, ended, made, refuses};
+use super::{DEVICE, PLAIN, Setup, made, outcome, refuses};
 use std::alloc::{AllocError, Global};
 
 /// The least text, of which the second read fails.
@@ -26,7 +26,7 @@ const FULL: Setup<'static> = Setup {
 /// Whether standard output took the first 20,000 bytes of the stream.
 fn takes_a_part(alloc: Global) -> Result<bool, AllocError> {
     let whole = made(alloc, &["icepack"], DEVICE)?;
-    let ended = ended(alloc, FULL, &["icepack"])?;
+    let ended = outcome(alloc, FULL, &["icepack"])?;
     let says = ended.says(4, "icepack: write failed: standard output\n");
     Ok(says && Some(ended.output.as_slice()) == whole.get(..20_000))
 }
@@ -39,12 +39,13 @@ fn leaves_what_standard_output_took(rt: HostRuntime) {
 /// Whether that many bytes of the stream come into a file with that room, with that status and that line.
 fn stores(alloc: Global, room: usize, status: u8, line: &str) -> Result<bool, AllocError> {
     let setup = Setup {
-        files: &[("in", DEVICE)],
+        first_name: "in",
+        first: DEVICE,
         room,
         ..PLAIN
     };
     let whole = made(alloc, &["icepack"], DEVICE)?;
-    let ended = ended(alloc, setup, &["icepack", "in", "out"])?;
+    let ended = outcome(alloc, setup, &["icepack", "in", "out"])?;
     Ok(ended.refuses(status, line) && Some(ended.stored.as_slice()) == whole.get(..room))
 }
 
@@ -65,7 +66,8 @@ fn refuses_zeros(
 ) -> Result<bool, AllocError> {
     let zeros = vec![in alloc; b'0'; len]?;
     let setup = Setup {
-        files: &[("in", zeros.as_slice())],
+        first_name: "in",
+        first: zeros.as_slice(),
         ..PLAIN
     };
     refuses(alloc, setup, &[tool, "in"], status, line)

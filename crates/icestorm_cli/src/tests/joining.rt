@@ -1,11 +1,14 @@
 // Images joined to boot files.
 
-use super::{PLAIN, Setup, ended, refuses};
+use super::{PLAIN, Setup, outcome, refuses};
 use std::alloc::{AllocError, Global};
 
 /// The two files `A` of three bytes and `B` of one.
 const IMAGES: Setup<'static> = Setup {
-    files: &[("A", &[1, 2, 3]), ("B", &[4])],
+    first_name: "A",
+    first: &[1, 2, 3],
+    second_name: "B",
+    second: &[4],
     room: 1_000,
     ..PLAIN
 };
@@ -33,7 +36,7 @@ fn boot_file(alloc: Global, mode: u8, start: [u8; 3]) -> Result<Vec<u8>, AllocEr
 /// Whether the images are joined so on standard output.
 fn joins(alloc: Global, words: &[&str], mode: u8, start: [u8; 3]) -> Result<bool, AllocError> {
     let file = boot_file(alloc, mode, start)?;
-    let ended = ended(alloc, IMAGES, words)?;
+    let ended = outcome(alloc, IMAGES, words)?;
     Ok(ended.says(0, "") && ended.output.as_slice() == file.as_slice())
 }
 
@@ -49,7 +52,7 @@ fn joins_images_to_a_boot_file(rt: HostRuntime) {
 fn stores(alloc: Global) -> Result<bool, AllocError> {
     let file = boot_file(alloc, 0x10, [0, 0, 0xA0])?;
     let words = ["icemulti", "A", "-o", "out", "-c", "B", "-a8"];
-    let ended = ended(alloc, IMAGES, &words)?;
+    let ended = outcome(alloc, IMAGES, &words)?;
     Ok(ended.refuses(0, "") && ended.stored.as_slice() == file.as_slice())
 }
 

@@ -1,6 +1,6 @@
 // Contents of RAMs replaced.
 
-use super::{Ended, PLAIN, Setup, ended};
+use super::{Ended, PLAIN, Setup, outcome};
 use std::alloc::{AllocError, Global};
 
 /// Sixteen words of one digit that rise, and that fall.
@@ -25,16 +25,24 @@ fn lines(alloc: Global, lines: Lines) -> Result<Vec<u8>, AllocError> {
     Ok(bytes)
 }
 
+/// The two files of words and an input.
+fn setup_of<'a>(from: &'a [u8], to: &'a [u8], input: &'a [u8]) -> Setup<'a> {
+    Setup {
+        first_name: "from",
+        first: from,
+        second_name: "to",
+        second: to,
+        input,
+        ..PLAIN
+    }
+}
+
 /// What a run over the two files and that input leaves.
 fn replaced(alloc: Global, from: Lines, to: Lines, input: &[u8]) -> Result<Ended, AllocError> {
     let from = lines(alloc, from)?;
     let to = lines(alloc, to)?;
-    let setup = Setup {
-        files: &[("from", from.as_slice()), ("to", to.as_slice())],
-        input,
-        ..PLAIN
-    };
-    ended(alloc, setup, &["icebram", "from", "to"])
+    let words = ["icebram", "from", "to"];
+    outcome(alloc, setup_of(&from, &to, input), &words)
 }
 
 /// A text of two RAMs of such lines.

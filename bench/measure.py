@@ -1,11 +1,13 @@
 #!/usr/bin/env python3
-"""Measures this project's icepack and iceunpack and the stock ones side by side, for bench/run.
+"""Measures this project's tools and the stock ones side by side, for bench/run.
 
 Usage: measure.py PROGRAM WORK TEXT...     PROGRAM is this project's, WORK a folder for files that aren't kept
 
-Each text is packed, and the bitstream that this project makes of it is unpacked, by both.
+Each text is packed, and the bitstream that this project makes of it is unpacked, by both. Then four times the last text's
+bitstream is joined to a boot file, and eight RAMs of the last text get other contents, where it has so many.
 
-Wall times are medians of 20 rounds of 5 runs each, by hyperfine or, where that isn't installed, by a loop here. In each
+Wall times are medians of 20 rounds of 5 runs each, by hyperfine or, where that isn't installed and for a tool that reads
+standard input, by a loop here. In each
 round the tools take turns, and the first one is another than in the last round. The ratio is this project's time by the
 stock tool's, the median over the rounds, with the middle half of the rounds behind it. The peak memory is the greatest
 of 20 runs, by GNU time or, where that isn't installed, as the system tells it of a child, which is never less than what
@@ -13,6 +15,7 @@ this script takes itself.
 """
 import json
 import os
+import random
 import shlex
 import shutil
 import subprocess
@@ -24,9 +27,15 @@ ROUNDS, RUNS = 20, 5
 GNU_TIME = "/usr/bin/time"
 
 
-def wall_times(command, work):
+def run(command, source, **options):
+    """A run with that file as its standard input, whose standard output isn't kept."""
+    with open(source) as file:
+        return subprocess.run(command, stdin=file, stdout=subprocess.DEVNULL, **options)
+
+
+def wall_times(command, source, work):
     """The seconds of each run."""
-    if shutil.which("hyperfine"):
+    if source == os.devnull and shutil.which("hyperfine"):
         report = os.path.join(work, "times.json")
         subprocess.run(["hyperfine", "-N", "--style", "none", "--warmup", "1", "--runs", str(RUNS),
                         "--export-json", report, shlex.join(command)], check=True, stderr=subprocess.DEVNULL)
@@ -35,47 +44,100 @@ def wall_times(command, work):
     times = []
     for _ in range(RUNS + 1):
         start = time.perf_counter()
-        subprocess.run(command, check=True)
+        run(command, source, check=True)
         times.append(time.perf_counter() - start)
     return times[1:]
 
 
-def peak_memory(command, work):
+def peak_memory(command, source, work):
     """KiB of a run at its peak."""
     if os.access(GNU_TIME, os.X_OK):
         report = os.path.join(work, "memory")
-        subprocess.run([GNU_TIME, "-f", "%M", "-o", report] + command, check=True)
+        run([GNU_TIME, "-f", "%M", "-o", report] + command, source, check=True)
         with open(report) as file:
             return int(file.read())
-    _, status, usage = os.wait4(os.posix_spawnp(command[0], command, os.environ), 0)
+    streams = [(os.POSIX_SPAWN_OPEN, 0, source, os.O_RDONLY, 0), (os.POSIX_SPAWN_OPEN, 1, os.devnull, os.O_WRONLY, 0)]
+    _, status, usage = os.wait4(os.posix_spawnp(command[0], command, os.environ, file_actions=streams), 0)
     if status != 0:
         raise subprocess.CalledProcessError(status, command)
     return usage.ru_maxrss
 
 
-def measure(own, stock, work):
+def measure(own, stock, source, work):
     """The part of the table's line behind the text's name."""
     times, memory = ([], []), [0, 0]
     for number in range(ROUNDS):
         for which in (0, 1) if number % 2 == 0 else (1, 0):
             command = (own, stock)[which]
-            times[which].append(wall_times(command, work))
-            memory[which] = max(memory[which], peak_memory(command, work))
+            times[which].append(wall_times(command, source, work))
+            memory[which] = max(memory[which], peak_memory(command, source, work))
     low, ratio, high = quantiles([median(a) / median(b) for a, b in zip(*times)], n=4)
     ours, theirs = (1000 * median(sum(rounds, [])) for rounds in times)
     return "%9.2f %9.2f %6.2f (%.2f to %.2f) %9d %9d %6.2f" % (
         ours, theirs, ratio, low, high, memory[0], memory[1], memory[0] / memory[1])
 
 
-def line_of(program, tool, source, work):
-    """The table's line of a tool and its input, and whether both take that."""
-    head = "%-10s %-13s" % (tool, os.path.basename(source))
-    own = [program, tool, source, os.path.join(work, "own.out")]
-    stock = [tool, source, os.path.join(work, "stock.out")]
-    refusing = [command[0] for command in (own, stock) if subprocess.run(command).returncode != 0]
+def line_of(program, tool, name, words, source, work):
+    """The table's line of a tool with these words behind its own and that standard input, and whether both take them.
+    `OUTPUT` among the words is a file that each of them writes."""
+    head = "%-10s %-13s" % (tool, name)
+    own, stock = ([os.path.join(work, output) if word == "OUTPUT" else word for word in words]
+                  for output in ("own.out", "stock.out"))
+    own, stock = [program, tool] + own, [tool] + stock
+    refusing = [command[0] for command in (own, stock) if run(command, source, stderr=subprocess.DEVNULL).returncode != 0]
     if refusing:
         return "%s refused by %s" % (head, " and ".join(refusing)), False
-    return "%s %s" % (head, measure(own, stock, work)), True
+    return "%s %s" % (head, measure(own, stock, source, work)), True
+
+
+def write_words(path, blocks):
+    """Writes a file of 256 memory words, of which each has sixteen bits of each block, the first block's at the right."""
+    with open(path, "w") as file:
+        for word in zip(*blocks):
+            file.write("".join("%04x" % part for part in reversed(word)) + "\n")
+
+
+def with_known_rams(text, work):
+    """The text with words of the first file in its first eight RAMs, the first file and the second one, or nothing where
+    it has fewer RAMs. They are pseudo-random from a fixed seed. The tiles of the RAMs are cleared, so that none of them is
+    in a narrow mode, whose words the stock tool looks for in another order."""
+    with open(text) as file:
+        lines = file.read().split("\n")
+    rams = [number for number, line in enumerate(lines) if line.startswith(".ram_data")][:8]
+    if len(rams) < 8:
+        return None
+    for number, line in enumerate(lines):
+        if line.startswith((".ramb_tile", ".ramt_tile")):
+            lines[number + 1:number + 17] = 16 * [42 * "0"]
+    rng = random.Random(8)
+    blocks, others = ([[rng.getrandbits(16) for _ in range(256)] for _ in rams] for _ in range(2))
+    for words, ram in zip(blocks, rams):
+        for row in range(16):
+            lines[ram + 1 + row] = "".join("%04x" % word for word in reversed(words[16 * row:16 * row + 16]))
+    known, first_file, second_file = (os.path.join(work, name) for name in ("known.asc", "from.hex", "to.hex"))
+    with open(known, "w") as file:
+        file.write("\n".join(lines))
+    write_words(first_file, blocks)
+    write_words(second_file, others)
+    return known, first_file, second_file
+
+
+def lines_of_text(program, text, work):
+    """What is measured of each text: the tool, the input's name, the words and the standard input."""
+    stream = os.path.join(work, os.path.splitext(os.path.basename(text))[0] + ".bin")
+    yield "icepack", os.path.basename(text), [text, "OUTPUT"], os.devnull
+    if subprocess.run([program, "icepack", text, stream], stderr=subprocess.DEVNULL).returncode == 0:
+        yield "iceunpack", os.path.basename(stream), [stream, "OUTPUT"], os.devnull
+
+
+def lines_of_last(text, work):
+    """What is measured of the last text alone."""
+    stream = os.path.join(work, os.path.splitext(os.path.basename(text))[0] + ".bin")
+    if os.path.exists(stream):
+        yield "icemulti", "4 times that", ["-o", "OUTPUT"] + 4 * [stream], os.devnull
+    known = with_known_rams(text, work)
+    if known:
+        yield "icebram", "8 known RAMs", list(known[1:]), known[0]
 
 
 def main(words):
@@ -85,16 +147,13 @@ def main(words):
     status = 0
     heads = ("tool", "input", "ours ms", "stock ms", "ratio", "", "ours KiB", "stock KiB", "ratio")
     print("%-10s %-13s %9s %9s %6s %14s %9s %9s %6s" % heads)
-    for text in texts:
-        stream = os.path.join(work, os.path.splitext(os.path.basename(text))[0] + ".bin")
-        inputs = [("icepack", text)]
-        if subprocess.run([program, "icepack", text, stream], stderr=subprocess.DEVNULL).returncode == 0:
-            inputs.append(("iceunpack", stream))
-        for tool, source in inputs:
-            line, taken = line_of(program, tool, source, work)
-            print(line, flush=True)
-            if not taken:
-                status = 1
+    lines = [line for text in texts for line in lines_of_text(program, text, work)]
+    lines += lines_of_last(texts[-1], work)
+    for tool, name, arguments, source in lines:
+        line, taken = line_of(program, tool, name, arguments, source, work)
+        print(line, flush=True)
+        if not taken:
+            status = 1
     return status
 
 

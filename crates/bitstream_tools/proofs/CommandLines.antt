@@ -14,6 +14,8 @@ use Rattle.multi_boot.specs.Refusals.{check_fault}
 use Rattle.bitstream_tools.specs.declared.multi.MultiRequest.{MultiRequest}
 use Rattle.bitstream_tools.specs.Multi.{icemulti_command, icemulti_name, icemulti_task, icemulti_task_by, icemulti_task_for, icemulti_task_of, icemulti_usage, image_need, join_task, options_in}
 use Rattle.bitstream_tools.specs.declared.pack.Request.{Request}
+use Rattle.bitstream_tools.specs.declared.bram.WordFiles.{WordFiles}
+use Rattle.bitstream_tools.specs.Bram.{icebram_command, icebram_name, icebram_task, icebram_task_by, icebram_task_for, icebram_task_of, icebram_usage}
 use Rattle.bitstream_tools.specs.Unpack.{iceunpack_command, iceunpack_name, iceunpack_task, iceunpack_task_by, iceunpack_usage, unpack_task}
 use Rattle.bitstream_tools.specs.Pack.{icepack_command, icepack_name, icepack_task, icepack_task_by, icepack_task_for, icepack_task_of, icepack_usage}
 
@@ -152,3 +154,37 @@ images-sound names = record { last = λ k lt. file names k (omega (arith, lt)); 
 -- one more image
 pub image-pushed : (loads : List Need) (names : List Text) (name : Text) → loads ≡ map image_need names → loads ++ image_need name ∷ [] ≡ map image_need (names ++ name ∷ [])
 image-pushed loads names name same = ap (λ l. l ++ image_need name ∷ []) same ∙ sym (map_push image_need names name)
+
+-- ---- icebram
+
+pub icebram-is_simple : is_simple_and_free icebram_command ≡ true
+unfolding clap_on_literals
+icebram-is_simple = refl
+
+both-speaker : (from to : Option Text) → (icebram_task_of from to).speaker ≡ icebram_name
+both-speaker (Some from) (Some to) = refl
+both-speaker (Some from) None = refl
+both-speaker None to = refl
+
+pub icebram-speaker : (words : List Text) → (icebram_task words).speaker ≡ icebram_name
+unfolding icebram_task
+icebram-speaker words = by_case (is_taken icebram_command words)
+  where
+    rows : List Row
+    rows = matches_of icebram_command words
+
+    by_case : (taken : Bool) → (if taken then icebram_task_by rows else not_taken icebram_name icebram_usage).speaker ≡ icebram_name
+    by_case true = both-speaker (first_of (codes "from") rows) (first_of (codes "to") rows)
+    by_case false = refl
+
+pub icebram-found : (words : List Text) (app : App) (rows : List Row) (from to : Option (Bor (List ℕ))) (files : Option WordFiles)
+    → app ≡ icebram_command → true ≡ is_taken app words → rows ≡ matches_of app words
+    → option_map (λ t. t.now) from ≡ first_of (codes "from") rows → option_map (λ t. t.now) to ≡ first_of (codes "to") rows
+    → icebram_task_for files ≡ icebram_task_of (text_of from) (text_of to) → icebram_task words ≡ icebram_task_for files
+unfolding icebram_task
+icebram-found words app rows from to files same taken found from_is to_is asked =
+    let here : rows ≡ matches_of icebram_command words = found ∙ ap (λ a. matches_of a words) same in
+    taken_task (is_taken icebram_command words) (icebram_task_by (matches_of icebram_command words)) (not_taken icebram_name icebram_usage) (taken ∙ ap (λ a. is_taken a words) same)
+    ∙ ap icebram_task_by (sym here)
+    ∙ ap₂ icebram_task_of (sym from_is ∙ text_of-map from) (sym to_is ∙ text_of-map to)
+    ∙ sym asked

@@ -1,4 +1,5 @@
+pub mod Bram
 pub mod Faults
+pub mod Multi
 pub mod Pack
 pub mod Unpack
-pub mod Multi

@@ -1,10 +1,11 @@
 // What a tool says of a fault.
 ghost use Rattle.std.specs.Prelude.{◌≡◌, ◌++◌, codes};
 ghost use Rattle.tool_run.specs.Lines.{phrase_text, refusal_text};
-ghost use Rattle.bitstream_tools.specs.Faults.{asc_cause_text, asc_fault_text, bin_cause_text, bin_fault_text, kind_name, multi_fault_text};
+ghost use Rattle.bitstream_tools.specs.Faults.{asc_cause_text, asc_fault_text, bin_cause_text, bin_fault_text, bram_fault_text, hex_fault_text, kind_name, multi_fault_text};
 
-use asc_text::{AscCause, TileXy};
+use asc_text::{AscCause, AscFault, TileXy};
 use bin_stream::BinCause;
+use bram_replace::{BramFault, HexFault};
 use multi_boot::MultiFault;
 use plane_map::TileKind;
 use tool_run::{Number, Phrase, Refusal, decimal, text};
@@ -114,5 +115,57 @@ pub(crate) fn multi_refusal(fault: MultiFault) -> Refusal
         second: text(""),
         third: text(""),
         fourth: text(""),
+    }
+}
+
+// A refusal of a file of that name: where, and the cause.
+fn file_refusal(name: &'static str, place: Phrase, cause: &'static str) -> Refusal
+    ensures { refusal_text result ≡ name.now ++ phrase_text place ++ cause.now }
+{
+    Refusal {
+        first: text(name),
+        second: place,
+        third: text(cause),
+        fourth: text(""),
+    }
+}
+
+/// Why a file of words of that name isn't read.
+pub(crate) fn hex_refusal(name: &'static str, fault: HexFault) -> Refusal
+    ensures { refusal_text result ≡ hex_fault_text name.now fault }
+{
+    match fault {
+        HexFault::Digit { line } => file_refusal(name, decimal(" line ", line), ": Digit"),
+        HexFault::Width { line } => file_refusal(name, decimal(" line ", line), ": Width"),
+        HexFault::Depth => file_refusal(name, text(": Depth"), ""),
+        HexFault::Memory(_) => file_refusal(name, text(": out of memory"), ""),
+    }
+}
+
+// Why the contents of RAMs aren't replaced, where it isn't the text.
+fn plain_refusal(first: Phrase, second: Phrase) -> Refusal
+    ensures { refusal_text result ≡ phrase_text first ++ phrase_text second }
+{
+    Refusal {
+        first,
+        second,
+        third: text(""),
+        fourth: text(""),
+    }
+}
+
+/// Why the contents of RAMs aren't replaced.
+pub(crate) fn bram_refusal(fault: BramFault) -> Refusal
+    ensures { refusal_text result ≡ bram_fault_text fault }
+{
+    match fault {
+        BramFault::Shape => plain_refusal(text("Shape"), text("")),
+        BramFault::SameColumns { first, second } => plain_refusal(
+            decimal("SameColumns ", u64::from(first)),
+            decimal(" ", u64::from(second)),
+        ),
+        BramFault::Asc(AscFault::At { line, tile, cause }) => asc_refusal(line, tile, cause),
+        BramFault::Asc(AscFault::Memory(_)) => plain_refusal(text("out of memory"), text("")),
+        BramFault::Memory(_) => plain_refusal(text("out of memory"), text("")),
     }
 }

@@ -1,24 +1,74 @@
 // Whole runs over files and streams in memory.
 ghost use Rattle.std.specs.Prelude.{◌≤◌};
 
+mod answering;
+mod failing;
+mod joining;
 mod packing;
+mod refusing;
+mod replacing;
 mod unpacking;
 
 use crate::running::run;
 use ice_io::{MemFiles, MemSink, MemSource, NamedFile};
 use std::alloc::{AllocError, Global};
-use std::test::Fail;
 
 const DEVICE: &[u8] = b".device 1k\n";
 
-const ICEPACK_USAGE: &str = "icepack: usage: icepack [-u] [-s] [INPUT [OUTPUT]]\n";
+/// What a run begins with.
+#[derive(Clone, Copy)]
+struct Setup<'a> {
+    /// The names and the bytes of two files, of which one without a name isn't there.
+    first_name: &'a str,
+    first: &'a [u8],
+    second_name: &'a str,
+    second: &'a [u8],
+    /// How many bytes the file `out` takes.
+    room: usize,
+    input: &'a [u8],
+    /// The read of the input that fails, from 1, and none where it is 0.
+    failing_read: u64,
+    /// The write of standard output that fails. Each has at most 10,000 bytes.
+    failing_write: u64,
+    /// The write of standard error that fails. Each has at most 7 bytes.
+    failing_line: u64,
+}
 
-const ICEMULTI_USAGE: &str =
-    "icemulti: usage: icemulti [-c] [-p N] [-a N] [-A N] [-o OUTPUT] [IMAGE ...]\n";
+/// No files, an empty input, and nothing that fails.
+const PLAIN: Setup<'static> = Setup {
+    first_name: "",
+    first: b"",
+    second_name: "",
+    second: b"",
+    room: 0,
+    input: b"",
+    failing_read: 0,
+    failing_write: 0,
+    failing_line: 0,
+};
 
-const USAGE: &str = "icestorm: usage: TOOL ...\n";
+/// What a run leaves: its status, what it wrote, and the bytes of the file `out`.
+#[derive(Drop)]
+struct Ended {
+    status: u8,
+    output: Vec<u8>,
+    errors: Vec<u8>,
+    stored: Vec<u8>,
+}
 
-/// Files and streams for a run.
+impl Ended {
+    /// Whether a run ended with that status and that line on standard error.
+    fn says(&self, status: u8, line: &str) -> bool {
+        self.status == status && self.errors.as_slice() == line.as_bytes()
+    }
+
+    /// Whether it ended so, and wrote nothing to standard output.
+    fn refuses(&self, status: u8, line: &str) -> bool {
+        self.says(status, line) && self.output.is_empty()
+    }
+}
+
+/// Files and streams of a run.
 #[derive(Drop)]
 struct Stage {
     files: MemFiles,
@@ -28,40 +78,22 @@ struct Stage {
 }
 
 impl Stage {
-    /// A stage without files, on which that read of the input fails.
-    fn on_input(alloc: Global, text: &[u8], failing_read: u64) -> Result<Stage, AllocError> {
+    fn new(alloc: Global, setup: Setup<'_>) -> Result<Stage, AllocError> {
         Ok(Stage {
-            files: MemFiles::new(alloc, Vec::new(alloc), "out", 0, 1, Vec::new(alloc))?,
-            input: MemSource::new(text.to_vec(alloc)?, 65_536, [failing_read].to_vec(alloc)?),
-            output: MemSink::new(alloc, 140_000, 140_000, Vec::new(alloc))?,
-            errors: MemSink::new(alloc, 100, 100, Vec::new(alloc))?,
+            files: files_of(alloc, setup)?,
+            input: MemSource::new(
+                setup.input.to_vec(alloc)?,
+                65_536,
+                [setup.failing_read].to_vec(alloc)?,
+            ),
+            output: sink(alloc, 1_000_000, 10_000, setup.failing_write)?,
+            errors: sink(alloc, 100, 7, setup.failing_line)?,
         })
-    }
-
-    /// A stage with an empty input and one file, whose file `out` has that room.
-    fn on_file(
-        alloc: Global,
-        name: &str,
-        bytes: Vec<u8>,
-        room: usize,
-    ) -> Result<Stage, AllocError> {
-        let mut stage = Stage::on_input(alloc, b"", 0)?;
-        let file = NamedFile {
-            name: String::from_str(alloc, name)?,
-            bytes,
-        };
-        let mut files = Vec::new(alloc);
-        files.push(file)?;
-        stage.files = MemFiles::new(alloc, files, "out", room, 10_000, Vec::new(alloc))?;
-        Ok(stage)
     }
 
     /// The status of these words.
     fn run(&mut self, alloc: Global, words: &[&str]) -> Result<u8, AllocError> {
-        let mut line = Vec::new(alloc);
-        for word in words {
-            line.push(String::from_str(alloc, word)?)?;
-        }
+        let line = line_of(alloc, words)?;
         Ok(run(
             alloc,
             &line,
@@ -71,286 +103,83 @@ impl Stage {
             &mut self.errors,
         ))
     }
-}
 
-/// The text of a tile whose row 0 has a 1 in column 0, and no other.
-fn text_with_bit(alloc: Global) -> Result<Vec<u8>, AllocError> {
-    let mut text = DEVICE.to_vec(alloc)?;
-    text.extend_from_slice(b".logic_tile 1 1\n")?;
-    for row in 0..16 {
-        text.push(if row == 0 { b'1' } else { b'0' })?;
-        text.extend_from_slice(&[b'0'; 53])?;
-        text.push(b'\n')?;
+    /// What is left where that is the status.
+    fn left(&self, alloc: Global, status: u8) -> Result<Ended, AllocError> {
+        Ok(Ended {
+            status,
+            output: self.output.bytes().to_vec(alloc)?,
+            errors: self.errors.bytes().to_vec(alloc)?,
+            stored: self.files.bytes_of("out").unwrap_or(&[]).to_vec(alloc)?,
+        })
     }
-    Ok(text)
 }
 
-#[test]
-fn packs_standard_input(rt: HostRuntime) -> Result<(), Fail> {
-    let alloc = rt.alloc();
-    for (text, byte) in [(DEVICE.to_vec(alloc)?, 0), (text_with_bit(alloc)?, 0x20)] {
-        let mut stage = Stage::on_input(alloc, &text, 0)?;
-        assert_eq!(rt; stage.run(alloc, &["icepack"])?, 0);
-        let stream = stage.output.bytes();
-        assert_eq!(rt; stream.len(), 32_216);
-        assert!(rt; stream.starts_with(&[0x7E, 0xAA, 0x99, 0x7E]));
-        assert_eq!(rt; stream.get(690), Some(&byte));
-        assert_eq!(rt; stage.errors.bytes(), b"".as_slice());
-    }
-    Ok(())
-}
-
-#[test]
-fn tells_why_nothing_is_done(rt: HostRuntime) -> Result<(), Fail> {
-    let alloc = rt.alloc();
-    let faulty = ".device 1k\n.io_tile 1 0\n";
-    for (words, text, status, line) in [
-        (
-            ["icepack"].as_slice(),
-            faulty,
-            1,
-            "icepack: line 3: tile 1 0: Row\n",
-        ),
-        (
-            ["icepack", "nofile"].as_slice(),
-            "",
-            3,
-            "icepack: read failed: nofile\n",
-        ),
-        (["icepack", "a", "b", "c"].as_slice(), "", 2, ICEPACK_USAGE),
-        (
-            ["icepack", "-"].as_slice(),
-            "",
-            3,
-            "icepack: read failed: -\n",
-        ),
-        (["icepack", "-x"].as_slice(), "", 2, ICEPACK_USAGE),
-        (["icepack", "-u", "-s"].as_slice(), "", 2, ICEPACK_USAGE),
-        (["icepack", "-s", "-s"].as_slice(), "", 2, ICEPACK_USAGE),
-        (["icepack", "--help", "a"].as_slice(), "", 2, ICEPACK_USAGE),
-        (["--help", "icepack"].as_slice(), "", 2, USAGE),
-        ([].as_slice(), "", 2, USAGE),
-        (["icebram"].as_slice(), "", 2, USAGE),
-        (["icemulti"].as_slice(), "", 1, "icemulti: NoImage\n"),
-        (
-            ["icemulti", "-a", "25", "A"].as_slice(),
-            "",
-            1,
-            "icemulti: Align 25\n",
-        ),
-        (
-            ["icemulti", "A", "A", "A", "A", "A"].as_slice(),
-            "",
-            1,
-            "icemulti: TooMany 5\n",
-        ),
-        (
-            ["icemulti", "-p2", "A", "B"].as_slice(),
-            "",
-            1,
-            "icemulti: PowerOn 2\n",
-        ),
-        (
-            ["icemulti", "A"].as_slice(),
-            "",
-            3,
-            "icemulti: read failed: A\n",
-        ),
-        (
-            ["icemulti", "-c", "-p1", "A", "B"].as_slice(),
-            "",
-            2,
-            ICEMULTI_USAGE,
-        ),
-        (
-            ["icemulti", "-a", "8", "-A", "8", "A"].as_slice(),
-            "",
-            2,
-            ICEMULTI_USAGE,
-        ),
-        (
-            ["icemulti", "-p", "1000", "A"].as_slice(),
-            "",
-            2,
-            ICEMULTI_USAGE,
-        ),
-        (
-            ["iceunpack", "-x"].as_slice(),
-            "",
-            2,
-            "iceunpack: usage: iceunpack [INPUT [OUTPUT]]\n",
-        ),
-    ] {
-        let mut stage = Stage::on_input(alloc, text.as_bytes(), 0)?;
-        assert_eq!(rt; stage.run(alloc, words)?, status, "of {words:?}");
-        assert_eq!(rt; stage.errors.bytes(), line.as_bytes(), "of {words:?}");
-        assert_eq!(rt; stage.output.bytes(), b"".as_slice(), "of {words:?}");
-    }
-    Ok(())
-}
-
-#[test]
-fn writes_nothing_where_a_read_fails(rt: HostRuntime) -> Result<(), Fail> {
-    let alloc = rt.alloc();
-    let mut stage = Stage::on_input(alloc, DEVICE, 2)?;
-    assert_eq!(rt; stage.run(alloc, &["icepack"])?, 3);
-    assert_eq!(rt; stage.output.bytes(), b"".as_slice());
-    let line = b"icepack: read failed: standard input\n";
-    assert_eq!(rt; stage.errors.bytes(), line.as_slice());
-    Ok(())
-}
-
-#[test]
-fn leaves_what_standard_output_took(rt: HostRuntime) -> Result<(), Fail> {
-    let alloc = rt.alloc();
-    let text = b".comment\n.device 1k\n";
-    let mut whole = Stage::on_input(alloc, text, 0)?;
-    assert_eq!(rt; whole.run(alloc, &["icepack"])?, 0);
-    let mut stage = Stage::on_input(alloc, text, 0)?;
-    stage.output = MemSink::new(alloc, 40_000, 10_000, [3].to_vec(alloc)?)?;
-    assert_eq!(rt; stage.run(alloc, &["icepack"])?, 4);
-    assert_eq!(rt;
-        Some(stage.output.bytes()),
-        whole.output.bytes().get(..20_000)
-    );
-    let line = b"icepack: write failed: standard output\n";
-    assert_eq!(rt; stage.errors.bytes(), line.as_slice());
-    Ok(())
-}
-
-#[test]
-fn stores_what_a_file_takes(rt: HostRuntime) -> Result<(), Fail> {
-    let alloc = rt.alloc();
-    let mut whole = Stage::on_input(alloc, DEVICE, 0)?;
-    assert_eq!(rt; whole.run(alloc, &["icepack"])?, 0);
-    let stream = whole.output.bytes();
-    for (room, status, line) in [(5, 4, "icepack: write failed: out\n"), (32_216, 0, "")] {
-        let mut stage = Stage::on_file(alloc, "in", DEVICE.to_vec(alloc)?, room)?;
-        assert_eq!(rt; stage.run(alloc, &["icepack", "in", "out"])?, status);
-        assert_eq!(rt; stage.files.bytes_of("out"), stream.get(..room));
-        assert_eq!(rt; stage.files.bytes_of("in"), Some(DEVICE));
-        assert_eq!(rt; stage.output.bytes(), b"".as_slice());
-        assert_eq!(rt; stage.errors.bytes(), line.as_bytes());
-    }
-    Ok(())
-}
-
-#[test]
-fn refuses_more_than_the_limit(rt: HostRuntime) -> Result<(), Fail> {
-    let alloc = rt.alloc();
-    for (len, status, line) in [
-        (16_777_216, 1, "icepack: line 1: StrayData\n"),
-        (16_777_217, 6, "icepack: too long: in limit 16777216\n"),
-    ] {
-        let mut stage = Stage::on_file(alloc, "in", vec![in alloc; b'0'; len]?, 0)?;
-        assert_eq!(rt; stage.run(alloc, &["icepack", "in"])?, status);
-        assert_eq!(rt; stage.errors.bytes(), line.as_bytes());
-        assert_eq!(rt; stage.output.bytes(), b"".as_slice());
-    }
-    let long = vec![in alloc; b'0'; 16_777_217]?;
-    let mut stage = Stage::on_input(alloc, &long, 0)?;
-    assert_eq!(rt; stage.run(alloc, &["icepack"])?, 6);
-    let line = b"icepack: too long: standard input limit 16777216\n";
-    assert_eq!(rt; stage.errors.bytes(), line.as_slice());
-    Ok(())
-}
-
-#[test]
-fn keeps_the_status_where_the_line_is_cut(rt: HostRuntime) -> Result<(), Fail> {
-    let alloc = rt.alloc();
-    let mut stage = Stage::on_input(alloc, b"", 0)?;
-    stage.errors = MemSink::new(alloc, 100, 7, [4].to_vec(alloc)?)?;
-    assert_eq!(rt; stage.run(alloc, &["icepack"])?, 1);
-    assert_eq!(rt; stage.errors.bytes(), b"icepack: line ".as_slice());
-    Ok(())
-}
-
-#[test]
-fn writes_help_and_version(rt: HostRuntime) -> Result<(), Fail> {
-    let alloc = rt.alloc();
-    for (words, first_line) in [
-        (
-            ["--help"].as_slice(),
-            "icestorm: the bitstream tools of Project IceStorm for the iCE40 HX1K and HX8K.\n",
-        ),
-        (["--version"].as_slice(), "icestorm 0.1.0\n"),
-        (
-            ["icepack", "--help"].as_slice(),
-            "icepack: packs a text (.asc) into a bitstream (.bin) for an iCE40 HX1K or HX8K.\n",
-        ),
-        (
-            ["iceunpack", "--help"].as_slice(),
-            "iceunpack: unpacks a bitstream (.bin) of an iCE40 HX1K or HX8K to a text (.asc).\n",
-        ),
-    ] {
-        let mut stage = Stage::on_input(alloc, b"", 1)?;
-        assert_eq!(rt; stage.run(alloc, words)?, 0, "of {words:?}");
-        assert!(rt;
-            stage.output.bytes().starts_with(first_line.as_bytes()),
-            "of {words:?}"
-        );
-        assert_eq!(rt; stage.errors.bytes(), b"".as_slice(), "of {words:?}");
-    }
-    Ok(())
-}
-
-#[test]
-fn takes_the_options_of_icepack(rt: HostRuntime) -> Result<(), Fail> {
-    let alloc = rt.alloc();
-    let mut awake = Stage::on_input(alloc, DEVICE, 0)?;
-    assert_eq!(rt; awake.run(alloc, &["icepack", "-s"])?, 0);
-    assert_eq!(rt; awake.output.bytes().get(10), Some(&0x21));
-    let mut back = Stage::on_input(alloc, awake.output.bytes(), 0)?;
-    back.output = MemSink::new(alloc, 1_000_000, 100_000, Vec::new(alloc))?;
-    assert_eq!(rt; back.run(alloc, &["icepack", "-u"])?, 0);
-    assert!(rt;
-        back.output
-            .bytes()
-            .starts_with(b".device 1k\n.nosleep enabled\n")
-    );
-    let mut bad = Stage::on_input(alloc, b"", 0)?;
-    assert_eq!(rt; bad.run(alloc, &["icepack", "-u"])?, 1);
-    let line = b"icepack: offset 0: NoPreamble\n";
-    assert_eq!(rt; bad.errors.bytes(), line.as_slice());
-    Ok(())
-}
-
-/// A stage with the two files `A` of three bytes and `B` of one.
-fn on_images(alloc: Global) -> Result<Stage, AllocError> {
-    let mut stage = Stage::on_input(alloc, b"", 0)?;
-    let mut files = Vec::new(alloc);
-    for (name, bytes) in [("A", [1, 2, 3].as_slice()), ("B", [4].as_slice())] {
+/// One more file, if it has a name.
+fn push_file(
+    alloc: Global,
+    files: &mut Vec<NamedFile>,
+    name: &str,
+    bytes: &[u8],
+) -> Result<(), AllocError> {
+    if !name.is_empty() {
         files.push(NamedFile {
             name: String::from_str(alloc, name)?,
             bytes: bytes.to_vec(alloc)?,
         })?;
     }
-    stage.files = MemFiles::new(alloc, files, "out", 1_000, 10_000, Vec::new(alloc))?;
-    Ok(stage)
+    Ok(())
 }
 
-#[test]
-fn joins_images_to_a_boot_file(rt: HostRuntime) -> Result<(), Fail> {
-    let alloc = rt.alloc();
-    let mut stage = on_images(alloc)?;
-    assert_eq!(rt;
-        stage.run(alloc, &["icemulti", "-p1", "-a", "8", "A", "B"])?,
-        0
-    );
-    let file = stage.output.bytes();
-    assert_eq!(rt; file.len(), 257);
-    assert_eq!(rt; file.get(6..12), Some([0, 0x44, 3, 0, 1, 0].as_slice()));
-    assert_eq!(rt; file.get(160..164), Some([1, 2, 3, 0xFF].as_slice()));
-    assert_eq!(rt; file.get(255..257), Some([0xFF, 4].as_slice()));
-    let mut cold = on_images(alloc)?;
-    let words = ["icemulti", "A", "-o", "out", "-c", "B", "-a8"];
-    assert_eq!(rt; cold.run(alloc, &words)?, 0);
-    assert_eq!(rt; cold.output.bytes(), b"".as_slice());
-    let stored = cold.files.bytes_of("out");
-    assert_eq!(rt; stored.map(|bytes| bytes.len()), Some(257));
-    assert_eq!(rt;
-        stored.and_then(|bytes| bytes.get(6..12)),
-        Some([0x10, 0x44, 3, 0, 0, 0xA0].as_slice())
-    );
-    Ok(())
+/// The files of a run.
+fn files_of(alloc: Global, setup: Setup<'_>) -> Result<MemFiles, AllocError> {
+    let mut files = Vec::new(alloc);
+    push_file(alloc, &mut files, setup.first_name, setup.first)?;
+    push_file(alloc, &mut files, setup.second_name, setup.second)?;
+    MemFiles::new(alloc, files, "out", setup.room, 10_000, Vec::new(alloc))
+}
+
+/// A sink with that room, which takes so many bytes at a time, and of which that write fails.
+fn sink(alloc: Global, room: usize, most: usize, failing: u64) -> Result<MemSink, AllocError>
+    requires { 1 ≤ most }
+{
+    MemSink::new(alloc, room, most, [failing].to_vec(alloc)?)
+}
+
+/// A command line.
+fn line_of(alloc: Global, words: &[&str]) -> Result<Vec<String>, AllocError> {
+    let mut line = Vec::new(alloc);
+    for word in words {
+        line.push(String::from_str(alloc, word)?)?;
+    }
+    Ok(line)
+}
+
+/// What a run of these words leaves.
+fn outcome(alloc: Global, setup: Setup<'_>, words: &[&str]) -> Result<Ended, AllocError> {
+    let mut stage = Stage::new(alloc, setup)?;
+    let status = stage.run(alloc, words)?;
+    stage.left(alloc, status)
+}
+
+/// Whether these words end with that status and that line, and write nothing to standard output.
+fn refuses(
+    alloc: Global,
+    setup: Setup<'_>,
+    words: &[&str],
+    status: u8,
+    line: &str,
+) -> Result<bool, AllocError> {
+    Ok(outcome(alloc, setup, words)?.refuses(status, line))
+}
+
+/// The bytes that a tool writes to standard output for an input, or nothing where it is refused.
+fn made(alloc: Global, words: &[&str], input: &[u8]) -> Result<Vec<u8>, AllocError> {
+    let Ended { output, .. } = outcome(alloc, Setup { input, ..PLAIN }, words)?;
+    Ok(output)
+}
+
+/// Whether a tool refuses an input with that line.
+fn is_refused(alloc: Global, words: &[&str], input: &[u8], line: &str) -> Result<bool, AllocError> {
+    refuses(alloc, Setup { input, ..PLAIN }, words, 1, line)
 }

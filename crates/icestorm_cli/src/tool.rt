@@ -11,6 +11,8 @@ pub enum Tool {
     Iceunpack,
     /// Bitstreams to a boot file.
     Icemulti,
+    /// Other contents of RAMs in a text.
+    Icebram,
 }
 
 /// The version of the program.
@@ -29,6 +31,7 @@ Tools:
   icepack      packs a text (.asc) into a bitstream (.bin)
   iceunpack    unpacks a bitstream (.bin) into a text (.asc)
   icemulti     joins up to four bitstreams to one boot file
+  icebram      replaces the contents of RAMs in a text, without a new routing
 
 Example: icestorm icepack blink.asc blink.bin
 
@@ -56,6 +59,7 @@ fn tool_named(word: &str) -> Option<Tool>
         "icepack" => Some(Tool::Icepack),
         "iceunpack" => Some(Tool::Iceunpack),
         "icemulti" => Some(Tool::Icemulti),
+        "icebram" => Some(Tool::Icebram),
         _ => None,
     }
 }

@@ -1,0 +1,86 @@
+-- `icebram`: a text with other contents of its RAMs.
+use Rattle.std.specs.Prelude.{◌≡◌, ℕ, List, [], ◌∷◌, codes, get_or, if◌then◌else◌, Option, None, Some, option_map}
+use Rattle.clap.specs.Words.{App, Row, Text, first_of, matches_of}
+use Rattle.place_search.specs.Places.{or_else}
+use Rattle.bram_replace.specs.HexText.{contents_of, hex_fault_of}
+use Rattle.bram_replace.specs.Replaced.{bram_fault, replaced}
+use Rattle.tool_run.specs.Lines.{refusal_text}
+use Rattle.tool_run.specs.Needs.{Need}
+use Rattle.tool_run.specs.Tasks.{Answer, Done, Refused, Task, helped, not_taken}
+use Rattle.tool_run.specs.declared.tool.Stop.{Stop}
+use Rattle.tool_run.specs.declared.tool.Stop.TheVariants.{Refused as StopsRefused, NotTaken as StopsUntaken, Memory}
+use Rattle.tool_words.specs.Commands.{command, is_taken, required}
+use Rattle.bitstream_tools.specs.declared.bram.WordFiles.{WordFiles}
+use Rattle.bitstream_tools.specs.declared.bram.TheConstants.{ICEBRAM_HELP}
+use Rattle.bitstream_tools.specs.Faults.{bram_fault_text, hex_fault_text}
+use Rattle.bitstream_tools.specs.Pack.{text_limit}
+
+-- ---- what is made of the two files of words and of the text
+
+-- why nothing is replaced: the first file is read before the second one, and both before the text
+abbrev pub why_not : List ℕ → List ℕ → List ℕ → Option (List ℕ)
+why_not from to text =
+    or_else (option_map (hex_fault_text (codes "from")) (hex_fault_of from))
+    (or_else (option_map (hex_fault_text (codes "to")) (hex_fault_of to))
+    (option_map bram_fault_text (bram_fault text (contents_of from) (contents_of to))))
+
+-- bytes, where there is no reason against them
+abbrev pub unless : Option (List ℕ) → List ℕ → Answer
+unless None bytes = Done bytes
+unless (Some why) bytes = Refused why
+
+abbrev pub replaced_answer : List ℕ → List ℕ → List ℕ → Answer
+replaced_answer from to text = unless (why_not from to text) (replaced text (contents_of from) (contents_of to))
+
+abbrev pub icebram_answer : List (List ℕ) → Answer
+icebram_answer texts = replaced_answer (get_or texts 0 []) (get_or texts 1 []) (get_or texts 2 [])
+
+-- a stop tells that reason, or that there is no memory
+abbrev pub TellsWhy : Option (List ℕ) → Stop → Type 0
+TellsWhy why (StopsRefused refusal) = why ≡ Some (refusal_text refusal)
+TellsWhy why (StopsUntaken refusal) = ⊥
+TellsWhy why Memory = Unit {0}
+
+-- ---- the task
+
+abbrev pub icebram_name : List ℕ
+icebram_name = codes "icebram"
+
+abbrev pub icebram_usage : List ℕ
+icebram_usage = codes "icebram FROM TO"
+
+abbrev pub icebram_command : App
+icebram_command = command icebram_name (required (codes "from") ∷ required (codes "to") ∷ [])
+
+-- the two files of words, and the text from standard input
+abbrev pub replace_needs : Text → Text → List Need
+replace_needs from to =
+    record { name = Some from; limit = text_limit } ∷ record { name = Some to; limit = text_limit }
+    ∷ record { name = None; limit = text_limit } ∷ []
+
+abbrev pub replace_task : Text → Text → Task
+replace_task from to = record { speaker = icebram_name; needs = replace_needs from to; target = None; answer = icebram_answer }
+
+-- both files have to be named
+abbrev pub icebram_task_of : Option Text → Option Text → Task
+icebram_task_of (Some from) (Some to) = replace_task from to
+icebram_task_of (Some from) None = not_taken icebram_name icebram_usage
+icebram_task_of None to = not_taken icebram_name icebram_usage
+
+abbrev pub icebram_task_by : List Row → Task
+icebram_task_by rows = icebram_task_of (first_of (codes "from") rows) (first_of (codes "to") rows)
+
+-- what the words of `icebram` ask for
+unfoldable pub icebram_task : List Text → Task
+icebram_task words =
+    if is_taken icebram_command words then icebram_task_by (matches_of icebram_command words)
+    else not_taken icebram_name icebram_usage
+
+-- the same by the files that were found in the words, where they are taken
+abbrev pub icebram_task_for : Option WordFiles → Task
+icebram_task_for None = not_taken icebram_name icebram_usage
+icebram_task_for (Some files) = replace_task files.from.now files.to.now
+
+-- what the words of `icebram` ask for, its help among that
+abbrev pub icebram_outcome : List Text → Task
+icebram_outcome words = helped icebram_name ICEBRAM_HELP.now words (icebram_task words)

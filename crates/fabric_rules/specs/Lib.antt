@@ -9,6 +9,6 @@ pub mod Fabric
 pub mod Drivers
 pub mod Values
 pub mod Steps
--- pub mod Wiring
--- pub mod Clocks
--- pub mod Faults
+pub mod Wiring
+pub mod Clocks
+pub mod Faults

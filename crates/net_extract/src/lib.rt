@@ -1,0 +1,11 @@
+//! The links of a chip database that an image sets, and what they make of its nets: the classes of joined nets, and the nets
+//! that are read.
+//!
+//! [`links`] finds them. The calls of [`Links`] take no memory.
+#![tactic(auto)]
+
+mod classes;
+mod fault;
+mod on;
+
+pub use fault::LinkFault;

@@ -84,10 +84,12 @@ pub leads-none : (links : List OnLink) (parents : List ℕ) → LeadsTo (λ net.
 leads-none links parents leads =
     leads-same (λ net. net) (class_of (ends_of (drop (length links) links))) parents (λ net. rw (drop_all (length links) links (omega arith)) (class_of-none net)) leads
 
-pub leads-more : (links : List OnLink) (link : OnLink) (i : ℕ) (parents : List ℕ) → 0 < i → i ≤ length links → link ≡ get_or links (i - 1) link
-    → LeadsTo (merged (class_of (ends_of (drop i links))) link.src link.dst) parents → LeadsTo (class_of (ends_of (drop (i - 1) links))) parents
-leads-more links link i parents some within is leads =
+pub leads-more : (links : List OnLink) (d : OnLink) (i : ℕ) (parents : List ℕ) → 0 < i → i ≤ length links
+    → LeadsTo (merged (class_of (ends_of (drop i links))) (get_or links (i - 1) d).src (get_or links (i - 1) d).dst) parents
+    → LeadsTo (class_of (ends_of (drop (i - 1) links))) parents
+leads-more links d i parents some within leads =
+    let link = get_or links (i - 1) d in
     let up : i - 1 + 1 ≡ i = omega arith in
-    let split : drop (i - 1) links ≡ link ∷ drop i links = drop_more links (i - 1) link (omega arith) ∙ rw (up, ← is) refl in
+    let split : drop (i - 1) links ≡ link ∷ drop i links = drop_more links (i - 1) d (omega arith) ∙ rw up refl in
     leads-same (merged (class_of (ends_of (drop i links))) link.src link.dst) (class_of (ends_of (drop (i - 1) links))) parents
     (λ net. ap (λ rest. class_of (ends_of rest) net) split ∙ class_of-more (ends_of (drop i links)) link.src link.dst net) leads

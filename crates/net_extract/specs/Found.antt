@@ -28,6 +28,6 @@ pub record IsBelow (nets : ℕ) (link : OnLink) : Type 0 where
 abbrev pub comes_from : ℕ → OnLink → Bool
 comes_from net link = link.src == net
 
--- whether a link goes to the net
-abbrev pub goes_to : ℕ → OnLink → Bool
-goes_to net link = link.dst == net
+-- whether a link has the net at one of its ends
+abbrev pub touches : ℕ → OnLink → Bool
+touches net link = (link.src == net) || (link.dst == net)

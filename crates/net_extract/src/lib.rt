@@ -7,5 +7,6 @@
 mod classes;
 mod fault;
 mod on;
+mod reads;
 
 pub use fault::LinkFault;

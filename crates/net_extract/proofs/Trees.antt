@@ -12,31 +12,31 @@ use Rattle.net_extract.proofs.Joined.{class_of-none, class_of-more}
 pub forest-set : (parents : List ℕ) (at new : ℕ) → IsForest parents → at < length parents → new ≤ at → IsForest (set parents at new)
 forest-set parents at new forest inside le = record {
   above = λ net within.
-    elim (cases_eq net at) [
-      | inl here ↦ rw (here, get_or-set_same parents at new 0 inside) le
-      | inr other ↦ rw (get_or-set_other parents at net new 0 other) (forest.above net (subst (λ n. net < n) (length-set parents at new) within))
-    ];
-  }
+      elim (cases_eq net at) [
+        | inl here ↦ rw (here, get_or-set_same parents at new 0 inside) le
+        | inr other ↦ rw (get_or-set_other parents at net new 0 other) (forest.above net (subst (λ n. net < n) (length-set parents at new) within))
+      ];
+}
 
 pub leads-set : (class : ℕ → ℕ) (parents : List ℕ) (at new : ℕ) → LeadsTo class parents → at < length parents → class new ≡ class at → (new ≡ at → class at ≡ at) → LeadsTo class (set parents at new)
 leads-set class parents at new leads inside same root = record {
   along = λ net within.
-    elim (cases_eq net at) [
-      | inl here ↦ rw (here, get_or-set_same parents at new 0 inside) same
-      | inr other ↦ rw (get_or-set_other parents at net new 0 other) (leads.along net (subst (λ n. net < n) (length-set parents at new) within))
-    ];
+      elim (cases_eq net at) [
+        | inl here ↦ rw (here, get_or-set_same parents at new 0 inside) same
+        | inr other ↦ rw (get_or-set_other parents at net new 0 other) (leads.along net (subst (λ n. net < n) (length-set parents at new) within))
+      ];
   roots = λ net within.
-    elim (cases_eq net at) [
-      | inl here ↦ rw (here, get_or-set_same parents at new 0 inside) root
-      | inr other ↦ rw (get_or-set_other parents at net new 0 other) (leads.roots net (subst (λ n. net < n) (length-set parents at new) within))
-    ];
-  }
+      elim (cases_eq net at) [
+        | inl here ↦ rw (here, get_or-set_same parents at new 0 inside) root
+        | inr other ↦ rw (get_or-set_other parents at net new 0 other) (leads.roots net (subst (λ n. net < n) (length-set parents at new) within))
+      ];
+}
 
 pub leads-same : (class other : ℕ → ℕ) (parents : List ℕ) → ((net : ℕ) → other net ≡ class net) → LeadsTo class parents → LeadsTo other parents
 leads-same class other parents same leads = record {
   along = λ net within. same _ ∙ leads.along net within ∙ sym (same net);
   roots = λ net within root. same net ∙ leads.roots net within root;
-  }
+}
 
 -- the greater of two roots gets the lesser one as its parent
 abbrev joined_at : (ℕ → ℕ) → ℕ → ℕ → ℕ → ℕ
@@ -54,22 +54,22 @@ joined-other class low high net is other = rw (is, ne_eqb net high other) refl
 leads-joined : (class : ℕ → ℕ) (parents : List ℕ) (low high : ℕ) → LeadsTo class parents → high < length parents → class low ≡ low → class high ≡ high → LeadsTo (joined_at class low high) (set parents high low)
 leads-joined class parents low high leads inside low_is high_is = record {
   along = λ net within.
-    elim (cases_eq net high) [
-      | inl here ↦ rw (here, get_or-set_same parents high low 0 inside) (joined-high class low high low_is high_is)
-      | inr other ↦
-          rw (get_or-set_other parents high net low 0 other)
-          (ap (λ name. cond (eqb name high) low name) (leads.along net (subst (λ n. net < n) (length-set parents high low) within)))
-    ];
+      elim (cases_eq net high) [
+        | inl here ↦ rw (here, get_or-set_same parents high low 0 inside) (joined-high class low high low_is high_is)
+        | inr other ↦
+            rw (get_or-set_other parents high net low 0 other)
+            (ap (λ name. cond (eqb name high) low name) (leads.along net (subst (λ n. net < n) (length-set parents high low) within)))
+      ];
   roots = λ net within root.
-    elim (cases_eq net high) [
-      | inl here ↦
-          let same : low ≡ high = sym (get_or-set_same parents high low 0 inside) ∙ subst (λ n. get_or (set parents high low) n 0 ≡ n) here root in
-          rw here (joined-root class low high high_is same)
-      | inr other ↦
-          joined-other class low high net
-          (leads.roots net (subst (λ n. net < n) (length-set parents high low) within) (sym (get_or-set_other parents high net low 0 other) ∙ root)) other
-    ];
-  }
+      elim (cases_eq net high) [
+        | inl here ↦
+            let same : low ≡ high = sym (get_or-set_same parents high low 0 inside) ∙ subst (λ n. get_or (set parents high low) n 0 ≡ n) here root in
+            rw here (joined-root class low high high_is same)
+        | inr other ↦
+            joined-other class low high net
+            (leads.roots net (subst (λ n. net < n) (length-set parents high low) within) (sym (get_or-set_other parents high net low 0 other) ∙ root)) other
+      ];
+}
 
 -- the classes of two nets are one where the greater root has the lesser as its parent
 pub leads-merged : (class : ℕ → ℕ) (parents : List ℕ) (a b low high : ℕ) → LeadsTo class parents → high < length parents → class low ≡ low → class high ≡ high

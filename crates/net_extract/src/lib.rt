@@ -5,8 +5,12 @@
 #![tactic(auto)]
 
 mod classes;
+mod extract;
 mod fault;
+mod kept;
 mod on;
 mod reads;
 
+pub use extract::links;
 pub use fault::LinkFault;
+pub use kept::Links;

@@ -36,7 +36,12 @@ fn place_of(place: usize) -> Result<u32, AllocError>
 }
 
 /// The links that are on, in their order.
-pub(crate) fn all_on(alloc: Global, db: &ChipDb, image: &AnyImage, links: &[LinkLine]) -> Result<Vec<OnLink>, AllocError>
+pub(crate) fn all_on(
+    alloc: Global,
+    db: &ChipDb,
+    image: &AnyImage,
+    links: &[LinkLine],
+) -> Result<Vec<OnLink>, AllocError>
     requires device { db.now.chip.device ≡ (configuration_of image.now).device }
     requires fit { All (IsLink db.now.chip) (link_lines db.now.bits links.now) }
     ensures { IfOk result (λ on. on.items ≡ links_on (configuration_of image.now) (link_lines db.now.bits links.now)) }

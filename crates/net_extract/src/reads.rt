@@ -47,7 +47,12 @@ fn no_marks(alloc: Global, nets: u32) -> Result<Vec<bool>, AllocError>
 }
 
 /// Whether each net is the source of one of the buffers, or an end of one of the routings.
-pub(crate) fn reads(alloc: Global, nets: u32, buffers: &[OnLink], routings: &[OnLink]) -> Result<Vec<bool>, AllocError>
+pub(crate) fn reads(
+    alloc: Global,
+    nets: u32,
+    buffers: &[OnLink],
+    routings: &[OnLink],
+) -> Result<Vec<bool>, AllocError>
     requires buffers { All (IsBelow nets) buffers.now }
     requires routings { All (IsBelow nets) routings.now }
     ensures length { IfOk result (λ reads. length reads.items ≡ nets) }

@@ -12,4 +12,4 @@ loop-i-preserved c = record {
   forest = c.join.ensures.forest;
   joined = leads-more c.args.links.now _ c.loop-i.i c.join.new.parents c.loop-i-test.true c.loop-i.auto.i
       (c.join.ensures.merged (class_of (ends_of (drop c.loop-i.i c.args.links.now))) c.loop-i.invariant.joined);
-  }
+}

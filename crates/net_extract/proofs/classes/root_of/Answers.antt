@@ -16,9 +16,9 @@ loop-parents-preserved c =
       inside = omega (arith, i.inside, length-set parents at next);
       below = omega (arith, i.below);
       class = λ class leads.
-        let now = i.kept class leads in
-        now.along above (omega (arith, i.inside)) ∙ now.along at i.inside ∙ i.class class leads;
+          let now = i.kept class leads in
+          now.along above (omega (arith, i.inside)) ∙ now.along at i.inside ∙ i.class class leads;
       kept = λ class leads.
-        let now = i.kept class leads in
-        leads-set class parents at next now i.inside (now.along above (omega (arith, i.inside)) ∙ now.along at i.inside) (λ same. absurd (omega (arith, c.loop-parents-test.true)));
+          let now = i.kept class leads in
+          leads-set class parents at next now i.inside (now.along above (omega (arith, i.inside)) ∙ now.along at i.inside) (λ same. absurd (omega (arith, c.loop-parents-test.true)));
     }

@@ -120,9 +120,9 @@ type Net = (u32, bool);
 fn are_nets(db: &ChipDb, links: &Links, nets: &[Net]) -> bool
     requires { length links.now.classes ≡ db.now.chip.nets }
 {
-    for (net, expected) in nets.iter().enumerate() {
-        let net = net as u32;
-        if net >= db.net_count() || (links.class_of(net), links.is_read(net)) != *expected {
+    for net in 0..db.net_count() {
+        let found = (links.class_of(net), links.is_read(net));
+        if nets.get(net as usize) != Some(&found) {
             return false;
         }
     }

@@ -1,4 +1,4 @@
--- Joined nets: the Boolean rule, chains and classes say the same.
+-- Classes of joined nets, one routing after the other.
 use Rattle.std.proofs.Common.{◌≡◌, ℕ, zero, suc, ◌+◌, ◌<◌, ◌≤◌, Bool, true, false, cond, eqb, ◌||◌, ◌&&◌, ◌⊎◌, inl, inr, List, [], ◌∷◌, length, get_or, refl, sym, ap, ◌∙◌, subst, arith, min, max}
 use Rattle.std.specs.Prelude.{Contains, unwrap_or, Option, Some, None}
 use Rattle.std.proofs.lemmas.Bool.Decides.{nat_tests}
@@ -90,10 +90,6 @@ unfolding named merged
 class_of-more joins a b net =
     rw (class_of-named ((a, b) ∷ joins) net, class_of-named joins a, class_of-named joins b, class_of-named joins net) refl
 
--- a class is named by a net that isn't greater
-pub class_of-le : (joins : List (ℕ × ℕ)) (net : ℕ) → class_of joins net ≤ net
-class_of-le joins net = rw (class_of-named joins net) (named-le joins net)
-
 -- ---- nets that no routing has
 
 -- no routing has a net that isn't below the bound
@@ -113,84 +109,3 @@ named-outside nets (join ∷ joins) net below out =
 
 pub class_of-outside : (nets : ℕ) (joins : List (ℕ × ℕ)) (net : ℕ) → AreBelow nets joins → nets ≤ net → class_of joins net ≡ net
 class_of-outside nets joins net below out = class_of-named joins net ∙ named-outside nets joins net below out
-
--- ---- chains
-
-Contains-cons : (join : ℕ × ℕ) (joins : List (ℕ × ℕ)) (pair : ℕ × ℕ) → Contains joins pair → Contains (join ∷ joins) pair
-Contains-cons join joins pair (k, inside, is) = (suc k, omega arith, is)
-
--- a chain by the later routings
-chain-more : (join : ℕ × ℕ) (joins : List (ℕ × ℕ)) (a b : ℕ) → AreJoined joins a b → AreJoined (join ∷ joins) a b
-chain-more join joins _ _ (itself net) = itself net
-chain-more join joins _ _ (further a next b step rest) =
-    let more : IsJoin (join ∷ joins) a next =
-    elim step [
-      | inl way ↦ inl (Contains-cons join joins (a, next) way)
-      | inr way ↦ inr (Contains-cons join joins (next, a) way)
-    ] in
-    further a next b more (chain-more join joins next b rest)
-
--- a chain after a chain
-chain-then : (joins : List (ℕ × ℕ)) (a b c : ℕ) → AreJoined joins a b → AreJoined joins b c → AreJoined joins a c
-chain-then joins _ _ c (itself net) more = more
-chain-then joins _ _ c (further a next b step rest) more = further a next c step (chain-then joins next b c rest more)
-
--- nets that are joined by the rule have a chain
-pub chain-from : (joins : List (ℕ × ℕ)) (a b : ℕ) → is_joined joins a b ≡ true → AreJoined joins a b
-unfolding is_joined
-chain-from [] a b is = subst (AreJoined [] a) (eqb-true a b is) (itself a)
-chain-from (join ∷ joins) a b is =
-    let first : IsJoin (join ∷ joins) join.0 join.1 = inl (0, omega arith, refl) in
-    let back : IsJoin (join ∷ joins) join.1 join.0 = inr (0, omega arith, refl) in
-    elim (or_cases (is_joined joins a b) _ is) [
-      | inl apart ↦ chain-more join joins a b (chain-from joins a b apart)
-      | inr through ↦
-          elim (or_cases (is_joined joins a join.0 && is_joined joins join.1 b) _ through) [
-            | inl way ↦
-                let parts = and_parts (is_joined joins a join.0) (is_joined joins join.1 b) way in
-                chain-then (join ∷ joins) a join.0 b (chain-more join joins a join.0 (chain-from joins a join.0 parts.0))
-                (further join.0 join.1 b first (chain-more join joins join.1 b (chain-from joins join.1 b parts.1)))
-            | inr way ↦
-                let parts = and_parts (is_joined joins a join.1) (is_joined joins join.0 b) way in
-                chain-then (join ∷ joins) a join.1 b (chain-more join joins a join.1 (chain-from joins a join.1 parts.0))
-                (further join.1 join.0 b back (chain-more join joins join.0 b (chain-from joins join.0 b parts.1)))
-          ]
-    ]
-
-one-ends : (x y : ℕ) → one (min x y) (max x y) x ≡ one (min x y) (max x y) y
-one-ends x y = grind (arith, nat_tests)
-
--- the two nets of a routing have one name
-named-join : (joins : List (ℕ × ℕ)) (a b : ℕ) → Contains joins (a, b) → named joins a ≡ named joins b
-unfolding named merged
-named-join [] a b (k, inside, is) = absurd (omega arith)
-named-join (join ∷ joins) a b (zero, inside, is) =
-    let a_is : join.0 ≡ a = ap (λ pair. pair.0) is in
-    let b_is : join.1 ≡ b = ap (λ pair. pair.1) is in
-    rw (← a_is, ← b_is) (one-ends (named joins join.0) (named joins join.1))
-named-join (join ∷ joins) a b (suc k, inside, is) =
-    let same : named joins a ≡ named joins b = named-join joins a b (k, omega arith, is) in
-    ap (λ name. one (min (named joins join.0) (named joins join.1)) (max (named joins join.0) (named joins join.1)) name) same
-
--- the nets of a chain have one name
-named-chain : (joins : List (ℕ × ℕ)) (a b : ℕ) → AreJoined joins a b → named joins a ≡ named joins b
-named-chain joins _ _ (itself net) = refl
-named-chain joins _ _ (further a next b step rest) =
-    let same : named joins a ≡ named joins next =
-    elim step [
-      | inl way ↦ named-join joins a next way
-      | inr way ↦ sym (named-join joins next a way)
-    ] in
-    same ∙ named-chain joins next b rest
-
--- nets that have a chain are joined by the rule
-pub chain-tells : (joins : List (ℕ × ℕ)) (a b : ℕ) → AreJoined joins a b → is_joined joins a b ≡ true
-chain-tells joins a b chain = is_joined-named joins a b ∙ eq-eqb (named joins a) (named joins b) (named-chain joins a b chain)
-
--- the class of a net is the least net that has a chain to it
-pub class_of-least : (joins : List (ℕ × ℕ)) (net : ℕ) → IsClassOf joins net (class_of joins net)
-class_of-least joins net = record {
-  joined = chain-from joins net (class_of joins net)
-      (rw (class_of-named joins net) (is_joined-named joins net (named joins net) ∙ eq-eqb (named joins net) (named joins (named joins net)) (sym (named-itself joins net))));
-  least = λ other chain. omega (arith, class_of-named joins net, named-chain joins net other chain, named-le joins other);
-}

@@ -40,8 +40,8 @@ turn_at fabric class = turn_of (drivers_of fabric class)
 
 -- the chain from a class comes to an end
 pub data LeadsTo (fabric : Fabric) : ℕ → ClockEnd → Type 0 where
-  ends_here : (class : ℕ) (end : ClockEnd) → turn_at fabric class ≡ ends end → LeadsTo fabric class end
-  goes_on : (class net : ℕ) (end : ClockEnd) → turn_at fabric class ≡ goes_to net
+  ends_here : {class : ℕ} {end : ClockEnd} → turn_at fabric class ≡ ends end → LeadsTo fabric class end
+  goes_on : {class : ℕ} {end : ClockEnd} (net : ℕ) → turn_at fabric class ≡ goes_to net
       → LeadsTo fabric (class_of fabric.joins net) end → LeadsTo fabric class end
 
 -- where a chain ends, by what it does at a class and where it ends from another class on

@@ -1,4 +1,5 @@
 pub mod Tests
 pub mod Joins
 pub mod Cycles
+pub mod Order
 pub mod Worked

@@ -2,4 +2,5 @@ pub mod Tests
 pub mod Joins
 pub mod Cycles
 pub mod Order
+pub mod Ordered
 pub mod Worked

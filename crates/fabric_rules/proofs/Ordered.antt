@@ -112,7 +112,7 @@ ready-sound wiring listed class within passes = record {
     | inl done ↦ done
     | inr fresh ↦
         let kept : not (is_left wiring listed other) ≡ true = each-so (wiring.reads class) (λ k. not (is_left wiring listed k)) other (and-right _ _ passes) reads in
-        absurd (cc (left-from wiring listed other drives fresh, not-true _ kept))
+        absurd (cc (left-from wiring listed other drives fresh, not-true (is_left wiring listed other) kept))
   ];
 }
 
@@ -210,3 +210,59 @@ module _ (wiring : Wiring) (open_ : (class : ℕ) → class < wiring.count → l
   search_all : (n : ℕ) → n ≤ wiring.count → Search n
   search_all zero within = none (λ class below. absurd (omega arith))
   search_all (suc n) within = search_more n (omega arith) (search_all n (omega arith))
+
+-- ---- the order
+
+module _ (wiring : Wiring) (bounded : IsBounded wiring) (open_ : (class : ℕ) → class < wiring.count → leads_below wiring wiring.count class class ≡ false) where
+  -- a class that leads to no other that is left can be written
+  last-ready : (listed : ℕ → Bool) (class : ℕ) → IsLast wiring wiring.count (is_left wiring listed) class → IsReady wiring listed class
+  last-ready listed class last = record {
+    within = last.within;
+    driven = left-driven wiring listed class last.passes;
+    unlisted = left-fresh wiring listed class last.passes;
+    inputs = λ other reads drives. elim (cases_Bool (listed other)) [
+      | inl done ↦ done
+      | inr fresh ↦
+          let apart = last.last other (bounded.driven other drives) (left-from wiring listed other drives fresh) in
+          absurd (cc (apart, leads_below-step wiring wiring.count class other reads))
+    ];
+  }
+
+  -- all is listed where nothing is left
+  none-left : (before : List ℕ) → ((class : ℕ) → class < wiring.count → is_left wiring (has before) class ≡ false) → Continues wiring before []
+  none-left before clear = whole (λ class within driven. elim (cases_Bool (has before class)) [
+    | inl listed ↦ listed
+    | inr fresh ↦ absurd (cc (left-from wiring (has before) class driven fresh, clear class within))
+  ])
+
+  -- what is left once one more is listed
+  still-left : (class : ℕ) (before : List ℕ) (other : ℕ) → is_left wiring (has (class ∷ before)) other ≡ true → is_left wiring (has before) other ≡ true
+  still-left class before other left =
+      left-from wiring (has before) other (left-driven wiring (has (class ∷ before)) other left)
+      (false_from_ne_true _ (λ listed. absurd (cc (has-behind class before other listed, left-fresh wiring (has (class ∷ before)) other left))))
+
+  gone-left : (class : ℕ) (before : List ℕ) → is_left wiring (has (class ∷ before)) class ≡ false
+  gone-left class before = false_from_ne_true _ (λ left. absurd (cc (has-first class before, left-fresh wiring (has (class ∷ before)) class left)))
+
+  order-from : (most : ℕ) (before : List ℕ) → count_below wiring.count (is_left wiring (has before)) ≤ most → (order : List ℕ) × Continues wiring before order
+  order-from zero before few =
+      ([], none-left before (λ class within. count_below-none wiring.count class (is_left wiring (has before)) (omega arith) within))
+  order-from (suc most) before few =
+      elim (search_all wiring open_ (is_left wiring (has before)) wiring.count (omega arith)) [
+        | none all ↦ ([], none-left before all)
+        | some class last ↦
+            let least = least_by wiring (has before) class _ (last-ready (has before) class last) refl in
+            let ready = least.1.ready in
+            let fewer = count_below-lt wiring.count least.0 (is_left wiring (has before)) (is_left wiring (has (least.0 ∷ before)))
+                  (still-left least.0 before) ready.within (left-from wiring (has before) least.0 ready.driven ready.unlisted) (gone-left least.0 before) in
+            let rest = order-from most (least.0 ∷ before) (omega arith) in
+            (least.0 ∷ rest.0, next least.1 rest.1)
+      ]
+
+-- a wiring without a cycle has a write order
+pub write_order-there : (wiring : Wiring) → IsBounded wiring → ((class : ℕ) → class < wiring.count → is_on_cycle wiring class ≡ false)
+    → (order : List ℕ) × IsWriteOrder wiring order
+unfolding is_on_cycle
+write_order-there wiring bounded open_ =
+    let found = order-from wiring bounded open_ (count_below wiring.count (is_left wiring (has []))) [] (omega arith) in
+    (found.0, continues-order wiring found.0 found.1)

@@ -3,4 +3,5 @@ pub mod Joins
 pub mod Cycles
 pub mod Order
 pub mod Ordered
+pub mod Settled
 pub mod Worked

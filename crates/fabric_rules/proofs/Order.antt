@@ -11,6 +11,10 @@ use Rattle.fabric_rules.proofs.Cycles.{IsBounded, leads_below-then, leads_below-
 
 -- ---- numbers in lists
 
+pub has-none : (n : ℕ) → has [] n ≡ true → ⊥
+unfolding has
+has-none n found = cc
+
 pub has-first : (first : ℕ) (rest : List ℕ) → has (first ∷ rest) first ≡ true
 unfolding has
 has-first first rest = rw (eq-eqb first first refl) refl

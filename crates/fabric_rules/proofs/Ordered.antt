@@ -111,7 +111,8 @@ ready-sound wiring listed class within passes = record {
   inputs = λ other reads drives. elim (cases_Bool (listed other)) [
     | inl done ↦ done
     | inr fresh ↦
-        let kept : not (is_left wiring listed other) ≡ true = each-so (wiring.reads class) (λ k. not (is_left wiring listed k)) other (and-right _ _ passes) reads in
+        let none_left : each (wiring.reads class) (λ k. not (is_left wiring listed k)) ≡ true = and-right (is_left wiring listed class) _ passes in
+        let kept : not (is_left wiring listed other) ≡ true = each-so (wiring.reads class) (λ k. not (is_left wiring listed k)) other none_left reads in
         absurd (cc (left-from wiring listed other drives fresh, not-true (is_left wiring listed other) kept))
   ];
 }

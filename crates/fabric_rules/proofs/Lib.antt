@@ -4,4 +4,5 @@ pub mod Cycles
 pub mod Order
 pub mod Ordered
 pub mod Settled
+pub mod Facts
 pub mod Worked

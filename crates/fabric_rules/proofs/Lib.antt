@@ -5,4 +5,5 @@ pub mod Order
 pub mod Ordered
 pub mod Settled
 pub mod Facts
+pub mod OneValue
 pub mod Worked

@@ -6,4 +6,5 @@ pub mod Ordered
 pub mod Settled
 pub mod Facts
 pub mod OneValue
+pub mod Taken
 pub mod Worked

@@ -7,4 +7,5 @@ pub mod Settled
 pub mod Facts
 pub mod OneValue
 pub mod Taken
+pub mod Chains
 pub mod Worked

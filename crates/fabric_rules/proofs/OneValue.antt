@@ -41,10 +41,10 @@ each_below-at (suc n) k given d within =
     ]
 
 -- the first of those that pass
-record IsFirst {A : Type 0} (test : A → Bool) (list : List A) (first : A) (rest : List A) : Type 0 where
-  is : filter test list ≡ first ∷ rest
-  passes : test first ≡ true
-  there : Contains list first
+pub record IsFirst {A : Type 0} (test : A → Bool) (list : List A) (first : A) (rest : List A) : Type 0 where
+  pub is : filter test list ≡ first ∷ rest
+  pub passes : test first ≡ true
+  pub there : Contains list first
 
 first-behind : {A : Type 0} (test : A → Bool) (head : A) (list : List A) → test head ≡ false
     → (first : A) × (rest : List A) × IsFirst test list first rest → (first : A) × (rest : List A) × IsFirst test (head ∷ list) first rest
@@ -94,6 +94,14 @@ any-none test (head ∷ list) first rest none some =
       | inr away ↦ any-none test list first rest (rw away at none) (rw away at some)
     ]
 
+none-passes : {A : Type 0} (test : A → Bool) (list : List A) → list_any test list ≡ false → filter test list ≡ []
+none-passes test [] none = refl
+none-passes test (head ∷ list) none =
+    elim (cases_Bool (test head)) [
+      | inl here ↦ let never : true ≡ false = rw here at none in absurd cc
+      | inr away ↦ rw away (none-passes test list (rw away at none))
+    ]
+
 -- ---- a fabric whose nets are all below their number
 
 pub record IsWithin (fabric : Fabric) : Type 0 where
@@ -119,18 +127,23 @@ module _ (fabric : Fabric) where
   -- ---- drivers of a class
 
   -- a class with a driver has a first one
-  first-driver : (class : ℕ) → is_driven fabric class ≡ true
+  pub first-driver : (class : ℕ) → is_driven fabric class ≡ true
       → (first : Drive) × (rest : List Drive) × IsFirst (is_driver_of fabric class) (drives_of fabric) first rest
   unfolding is_driven
   first-driver class driven = any-first (is_driver_of fabric class) (drives_of fabric) driven
 
-  first-is : (class : ℕ) (first : Drive) (rest : List Drive) → IsFirst (is_driver_of fabric class) (drives_of fabric) first rest
+  pub first-is : (class : ℕ) (first : Drive) (rest : List Drive) → IsFirst (is_driver_of fabric class) (drives_of fabric) first rest
       → drivers_of fabric class ≡ first ∷ rest
   unfolding drivers_of
   first-is class first rest is = is.is
 
+  -- a class without a driver has none
+  pub none-driven : (class : ℕ) → is_driven fabric class ≡ false → drivers_of fabric class ≡ []
+  unfolding is_driven drivers_of
+  none-driven class away = none-passes (is_driver_of fabric class) (drives_of fabric) away
+
   -- its net is of the class
-  first-class : (class : ℕ) (first : Drive) (rest : List Drive) → IsFirst (is_driver_of fabric class) (drives_of fabric) first rest
+  pub first-class : (class : ℕ) (first : Drive) (rest : List Drive) → IsFirst (is_driver_of fabric class) (drives_of fabric) first rest
       → class_of fabric.joins first.net ≡ class
   first-class class first rest is = eqb-true _ _ is.passes
 
@@ -156,7 +169,7 @@ module _ (fabric : Fabric) where
       ]
 
   -- what the first driver of a class reads is what the class depends on
-  first-reads : (class : ℕ) (first : Drive) (rest : List Drive) → drivers_of fabric class ≡ first ∷ rest
+  pub first-reads : (class : ℕ) (first : Drive) (rest : List Drive) → drivers_of fabric class ≡ first ∷ rest
       → (net : ℕ) → has (nets_read first.rule) net ≡ true → depends (wiring_of fabric) class (class_of fabric.joins net) ≡ true
   unfolding wiring_of
   first-reads class first rest is net reads =
@@ -164,16 +177,16 @@ module _ (fabric : Fabric) where
             (class_of fabric.joins net) (has-map (class_of fabric.joins) (nets_read first.rule) net reads) in
       subst (λ drives. has (flat_map (λ drive. map (class_of fabric.joins) (nets_read drive.rule)) drives) (class_of fabric.joins net) ≡ true) (sym is) among
 
-  driven-is : (class : ℕ) → (wiring_of fabric).driven class ≡ is_driven fabric class
+  pub driven-is : (class : ℕ) → (wiring_of fabric).driven class ≡ is_driven fabric class
   unfolding wiring_of
   driven-is class = refl
 
-  count-is : (wiring_of fabric).count ≡ fabric.nets
+  pub count-is : (wiring_of fabric).count ≡ fabric.nets
   unfolding wiring_of
   count-is = refl
 
   module _ (within : IsWithin fabric) where
-    driven-below : (class : ℕ) → is_driven fabric class ≡ true → class < fabric.nets
+    pub driven-below : (class : ℕ) → is_driven fabric class ≡ true → class < fabric.nets
     driven-below class driven =
         let found = first-driver class driven in
         let low = within.drives found.0 found.2.there in
@@ -213,7 +226,7 @@ module _ (fabric : Fabric) where
       joined-bit v same (further {a} {b} (inr back) rest) = sym (same b a back) ∙ joined-bit v same rest
 
       -- the bit of a class, and 0 where it has no driver
-      class_bit : List Bool → ℕ → Bool
+      pub class_bit : List Bool → ℕ → Bool
       class_bit v class = cond (is_driven fabric class) (bit_in v class) false
 
       class-still : (v : List Bool) (class : ℕ) → is_driven fabric class ≡ false → class_bit v class ≡ false
@@ -221,7 +234,7 @@ module _ (fabric : Fabric) where
       class-still v class still = rw still refl
 
       module _ (v : List Bool) (is : IsConsistent fabric state pins v) where
-        net-bit : (net : ℕ) → bit_in v net ≡ class_bit v (class_of fabric.joins net)
+        pub net-bit : (net : ℕ) → bit_in v net ≡ class_bit v (class_of fabric.joins net)
         unfolding class_bit
         net-bit net =
             elim (cases_Bool (is_driven fabric (class_of fabric.joins net))) [

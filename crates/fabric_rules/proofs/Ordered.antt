@@ -79,10 +79,10 @@ each-from (first ∷ rest) test all =
     and-both _ _ (all first (has-first first rest)) (each-from rest test (λ n found. all n (has-behind first rest n found)))
 
 -- a class with a driver that isn't listed
-is_left : Wiring → (ℕ → Bool) → ℕ → Bool
+pub is_left : Wiring → (ℕ → Bool) → ℕ → Bool
 is_left wiring listed class = wiring.driven class && not (listed class)
 
-left-from : (wiring : Wiring) (listed : ℕ → Bool) (class : ℕ) → wiring.driven class ≡ true → listed class ≡ false → is_left wiring listed class ≡ true
+pub left-from : (wiring : Wiring) (listed : ℕ → Bool) (class : ℕ) → wiring.driven class ≡ true → listed class ≡ false → is_left wiring listed class ≡ true
 unfolding is_left
 left-from wiring listed class driven fresh = and-both _ _ driven (ap not fresh)
 
@@ -212,6 +212,15 @@ module _ (wiring : Wiring) (open_ : (class : ℕ) → class < wiring.count → l
   search_all zero within = none (λ class below. absurd (omega arith))
   search_all (suc n) within = search_more n (omega arith) (search_all n (omega arith))
 
+-- what is left once one more is listed
+pub still-left : (wiring : Wiring) (class : ℕ) (before : List ℕ) (other : ℕ) → is_left wiring (has (class ∷ before)) other ≡ true → is_left wiring (has before) other ≡ true
+still-left wiring class before other left =
+    left-from wiring (has before) other (left-driven wiring (has (class ∷ before)) other left)
+    (false_from_ne_true _ (λ listed. absurd (cc (has-behind class before other listed, left-fresh wiring (has (class ∷ before)) other left))))
+
+pub gone-left : (wiring : Wiring) (class : ℕ) (before : List ℕ) → is_left wiring (has (class ∷ before)) class ≡ false
+gone-left wiring class before = false_from_ne_true _ (λ left. absurd (cc (has-first class before, left-fresh wiring (has (class ∷ before)) class left)))
+
 -- ---- the order
 
 module _ (wiring : Wiring) (bounded : IsBounded wiring) (open_ : (class : ℕ) → class < wiring.count → leads_below wiring wiring.count class class ≡ false) where
@@ -236,15 +245,6 @@ module _ (wiring : Wiring) (bounded : IsBounded wiring) (open_ : (class : ℕ) �
     | inr fresh ↦ absurd (cc (left-from wiring (has before) class driven fresh, clear class within))
   ])
 
-  -- what is left once one more is listed
-  still-left : (class : ℕ) (before : List ℕ) (other : ℕ) → is_left wiring (has (class ∷ before)) other ≡ true → is_left wiring (has before) other ≡ true
-  still-left class before other left =
-      left-from wiring (has before) other (left-driven wiring (has (class ∷ before)) other left)
-      (false_from_ne_true _ (λ listed. absurd (cc (has-behind class before other listed, left-fresh wiring (has (class ∷ before)) other left))))
-
-  gone-left : (class : ℕ) (before : List ℕ) → is_left wiring (has (class ∷ before)) class ≡ false
-  gone-left class before = false_from_ne_true _ (λ left. absurd (cc (has-first class before, left-fresh wiring (has (class ∷ before)) class left)))
-
   order-from : (most : ℕ) (before : List ℕ) → count_below wiring.count (is_left wiring (has before)) ≤ most → (order : List ℕ) × Continues wiring before order
   order-from zero before few =
       ([], none-left before (λ class within. count_below-none wiring.count class (is_left wiring (has before)) (omega arith) within))
@@ -255,7 +255,7 @@ module _ (wiring : Wiring) (bounded : IsBounded wiring) (open_ : (class : ℕ) �
             let least = least_by wiring (has before) class _ (last-ready (has before) class last) refl in
             let ready = least.1.ready in
             let fewer = count_below-lt wiring.count least.0 (is_left wiring (has before)) (is_left wiring (has (least.0 ∷ before)))
-                  (still-left least.0 before) ready.within (left-from wiring (has before) least.0 ready.driven ready.unlisted) (gone-left least.0 before) in
+                  (still-left wiring least.0 before) ready.within (left-from wiring (has before) least.0 ready.driven ready.unlisted) (gone-left wiring least.0 before) in
             let rest = order-from most (least.0 ∷ before) (omega arith) in
             (least.0 ∷ rest.0, next least.1 rest.1)
       ]

@@ -49,15 +49,15 @@ abbrev pub end_by : (ℕ → ClockEnd) → Turn → ClockEnd
 end_by later (ends end) = end
 end_by later (goes_to net) = later net
 
--- Where the chain from a class ends that goes on so often at most. One that goes on as often as there are nets comes back to
--- a class, and counts as another end: a fabric with such a cycle isn't taken.
+-- Where the chain from a class ends that comes to so many classes at most. One that comes to more classes than there are nets
+-- comes back to a class, and counts as another end: a fabric with such a cycle isn't taken.
 unfoldable pub end_within : Fabric → ℕ → ℕ → ClockEnd
 end_within fabric zero class = other
-end_within fabric (suc turns) class = end_by (λ net. end_within fabric turns (class_of fabric.joins net)) (turn_at fabric class)
+end_within fabric (suc more) class = end_by (λ net. end_within fabric more (class_of fabric.joins net)) (turn_at fabric class)
 
 -- where the clock of a net comes from
 unfoldable pub clock_end : Fabric → ℕ → ClockEnd
-clock_end fabric net = end_within fabric fabric.nets (class_of fabric.joins net)
+clock_end fabric net = end_within fabric (suc fabric.nets) (class_of fabric.joins net)
 
 -- ---- users
 

@@ -17,7 +17,7 @@ use Rattle.fabric_rules.proofs.Cycles.{IsBounded}
 use Rattle.fabric_rules.proofs.Order.{has-none, has-first, has-cases, Continues, order-continues}
 use Rattle.fabric_rules.proofs.Order.Continues.{whole, next}
 use Rattle.fabric_rules.proofs.Ordered.{count_below, count_below-lt, is_left, left-from, still-left, gone-left}
-use Rattle.fabric_rules.proofs.OneValue.{IsWithin, wiring-bounded, first-driver, first-is, first-class, first-reads, driven-is, count-is, driven-below, net-bit, none-driven}
+use Rattle.fabric_rules.proofs.OneValue.{IsWithin, wiring-bounded, first-driver, first-is, first-class, first-reads, driven-is, count-is, net-bit, none-driven, class_bit, class-still}
 
 -- ---- one end
 
@@ -166,7 +166,62 @@ module _ (fabric : Fabric) where
 -- ---- the value of a clock
 
 -- the value of the end of a chain: that of its pin, and 0 where it is still
-pub end_value : List Bool → ClockEnd → Bool → Type 0
-end_value pins (at_pin place) bit = bit ≡ get_or pins place false
-end_value pins still bit = bit ≡ false
-end_value pins other bit = Unit {0}
+abbrev pub HasEndValue : List Bool → ClockEnd → Bool → Type 0
+HasEndValue pins (at_pin place) bit = bit ≡ get_or pins place false
+HasEndValue pins still bit = bit ≡ false
+HasEndValue pins other bit = Unit {0}
+
+module _ (fabric : Fabric) (within : IsWithin fabric) (state : State) (pins v : List Bool) (is : IsConsistent fabric state pins v) where
+  -- a driver at which a chain ends
+  rule-end : (rule : Rule) (end : ClockEnd) (bit : Bool) → turn_by rule ≡ ends end
+      → bit ≡ value_of (is_connected fabric) state pins (bit_in v) rule → HasEndValue pins end bit
+  unfolding value_of
+  rule-end (pin_bit place) end bit turn value =
+      let at : at_pin place ≡ end = cc in subst (λ e. HasEndValue pins e bit) at value
+  rule-end (sent_back source) end bit turn value = let at : other ≡ end = cc in subst (λ e. HasEndValue pins e bit) at tt
+  rule-end (lut_entry lc) end bit turn value = let at : other ≡ end = cc in subst (λ e. HasEndValue pins e bit) at tt
+  rule-end (flip_bit place) end bit turn value = let at : other ≡ end = cc in subst (λ e. HasEndValue pins e bit) at tt
+  rule-end (carry_out lc) end bit turn value = let at : other ≡ end = cc in subst (λ e. HasEndValue pins e bit) at tt
+  rule-end one end bit turn value = let at : other ≡ end = cc in subst (λ e. HasEndValue pins e bit) at tt
+  rule-end (register_bit ram place) end bit turn value = let at : other ≡ end = cc in subst (λ e. HasEndValue pins e bit) at tt
+  rule-end (copied source) end bit turn value = absurd cc
+
+  copied-value : (rule : Rule) (net : ℕ) → rule ≡ copied net → value_of (is_connected fabric) state pins (bit_in v) rule ≡ bit_in v net
+  unfolding value_of
+  copied-value rule net same = ap (λ r. value_of (is_connected fabric) state pins (bit_in v) r) same
+
+  -- the bit of a class is that of its first driver
+  first-value : (class : ℕ) (driven : is_driven fabric class ≡ true)
+      → class_bit fabric within state pins v class ≡ value_of (is_connected fabric) state pins (bit_in v) (first-driver fabric class driven).0.rule
+  first-value class driven =
+      let found = first-driver fabric class driven in
+      ap (class_bit fabric within state pins v) (sym (first-class fabric class found.0 found.1 found.2))
+      ∙ (sym (net-bit fabric within state pins v is found.0.net) ∙ is.driven found.0 found.2.there)
+
+  chain-value : {class : ℕ} {end : ClockEnd} → LeadsTo fabric class end → HasEndValue pins end (class_bit fabric within state pins v class)
+  chain-value {class} {end} (ends_here turn) =
+      elim (cases_Bool (is_driven fabric class)) [
+        | inl driven ↦
+            let found = first-driver fabric class driven in
+            let rule : turn_by found.0.rule ≡ ends end = sym (turn-first fabric class found.0 found.1 (first-is fabric class found.0 found.1 found.2)) ∙ turn in
+            rule-end found.0.rule end (class_bit fabric within state pins v class) rule (first-value class driven)
+        | inr away ↦
+            let turns : ends still ≡ ends end = sym (turn-still fabric class away) ∙ turn in
+            let at : still ≡ end = cc in
+            subst (λ e. HasEndValue pins e (class_bit fabric within state pins v class)) at (class-still fabric within state pins v class away)
+      ]
+  chain-value {class} {end} (goes_on net turn rest) =
+      elim (cases_Bool (is_driven fabric class)) [
+        | inl driven ↦
+            let found = first-driver fabric class driven in
+            let rule : found.0.rule ≡ copied net =
+                  goes-copied fabric found.0.rule net (sym (turn-first fabric class found.0 found.1 (first-is fabric class found.0 found.1 found.2)) ∙ turn) in
+            let same : class_bit fabric within state pins v class ≡ class_bit fabric within state pins v (class_of fabric.joins net) =
+                  first-value class driven ∙ (copied-value found.0.rule net rule ∙ net-bit fabric within state pins v is net) in
+            subst (HasEndValue pins end) (sym same) (chain-value rest)
+        | inr away ↦ let never : ends still ≡ goes_to net = sym (turn-still fabric class away) ∙ turn in absurd cc
+      ]
+
+  -- a net has the value of the end of its chain
+  pub clock-value : (net : ℕ) (end : ClockEnd) → LeadsTo fabric (class_of fabric.joins net) end → HasEndValue pins end (bit_in v net)
+  clock-value net end leads = subst (HasEndValue pins end) (sym (net-bit fabric within state pins v is net)) (chain-value leads)

@@ -229,7 +229,7 @@ module _ (fabric : Fabric) where
       pub class_bit : List Bool → ℕ → Bool
       class_bit v class = cond (is_driven fabric class) (bit_in v class) false
 
-      class-still : (v : List Bool) (class : ℕ) → is_driven fabric class ≡ false → class_bit v class ≡ false
+      pub class-still : (v : List Bool) (class : ℕ) → is_driven fabric class ≡ false → class_bit v class ≡ false
       unfolding class_bit
       class-still v class still = rw still refl
 

@@ -1,11 +1,10 @@
 -- Clock chains: where the search for the end of a chain comes to is its end, and a net has the value of the end of its chain.
-use Rattle.std.proofs.Common.{◌≡◌, ℕ, zero, suc, ◌+◌, ◌<◌, ◌≤◌, Bool, true, false, ◌⊎◌, List, [], ◌∷◌, ◌++◌, length, get_or, refl, sym, ap, ◌∙◌, subst, arith, inl, inr}
-use Rattle.std.specs.Prelude.{Contains, Option, Some, None, ◌==◌}
-use Rattle.std.proofs.lemmas.Bool.{cases_lt, cases_Bool, false_from_ne_true}
+use Rattle.std.proofs.Common.{◌≡◌, ℕ, zero, suc, ◌+◌, ◌<◌, ◌≤◌, Bool, true, false, List, [], ◌∷◌, length, get_or, refl, sym, ap, ◌∙◌, subst, arith, inl, inr}
+use Rattle.std.proofs.lemmas.Bool.{cases_Bool}
 use Rattle.bit_plane.specs.BitList.{bit_value}
 use Rattle.fabric_rules.specs.Joins.{class_of}
 use Rattle.fabric_rules.specs.Fabric.{Fabric}
-use Rattle.fabric_rules.specs.Drivers.{Rule, Drive, drives_of, drivers_of, is_driven, is_driver_of, nets_read}
+use Rattle.fabric_rules.specs.Drivers.{Rule, Drive, drivers_of, is_driven, nets_read}
 use Rattle.fabric_rules.specs.Drivers.Rule.{pin_bit, sent_back, lut_entry, flip_bit, carry_out, one, register_bit, copied}
 use Rattle.fabric_rules.specs.Values.{State, value_of, bit_in, is_connected, IsConsistent}
 use Rattle.fabric_rules.specs.Wiring.{Wiring, wiring_of, has, depends, IsReady, IsWriteOrder}
@@ -13,7 +12,6 @@ use Rattle.fabric_rules.specs.Clocks.{ClockEnd, Turn, LeadsTo, turn_by, turn_of,
 use Rattle.fabric_rules.specs.Clocks.ClockEnd.{at_pin, still, other}
 use Rattle.fabric_rules.specs.Clocks.Turn.{ends, goes_to}
 use Rattle.fabric_rules.specs.Clocks.LeadsTo.{ends_here, goes_on}
-use Rattle.fabric_rules.proofs.Cycles.{IsBounded}
 use Rattle.fabric_rules.proofs.Order.{has-none, has-first, has-cases, Continues, order-continues}
 use Rattle.fabric_rules.proofs.Order.Continues.{whole, next}
 use Rattle.fabric_rules.proofs.Ordered.{count_below, count_below-lt, is_left, left-from, still-left, gone-left}
@@ -45,9 +43,12 @@ module _ (wiring : Wiring) where
   continues-few (whole all) = omega arith
   continues-few {before} (next {class} {rest} least more) =
       let ready = least.ready in
-      omega (arith, continues-few more,
+      omega (
+        arith,
+        continues-few more,
         count_below-lt wiring.count class (is_left wiring (has before)) (is_left wiring (has (class ∷ before)))
-        (still-left wiring class before) ready.within (left-from wiring (has before) class ready.driven ready.unlisted) (gone-left wiring class before))
+            (still-left wiring class before) ready.within (left-from wiring (has before) class ready.driven ready.unlisted) (gone-left wiring class before),
+      )
 
   pub order-few : (order : List ℕ) → IsWriteOrder wiring order → length order ≤ wiring.count
   order-few order is = omega (arith, continues-few (order-continues wiring order is), count_below-le_all wiring.count (is_left wiring (has [])))
@@ -215,9 +216,9 @@ module _ (fabric : Fabric) (within : IsWithin fabric) (state : State) (pins v : 
         | inl driven ↦
             let found = first-driver fabric class driven in
             let rule : found.0.rule ≡ copied net =
-                  goes-copied fabric found.0.rule net (sym (turn-first fabric class found.0 found.1 (first-is fabric class found.0 found.1 found.2)) ∙ turn) in
+            goes-copied fabric found.0.rule net (sym (turn-first fabric class found.0 found.1 (first-is fabric class found.0 found.1 found.2)) ∙ turn) in
             let same : class_bit fabric within state pins v class ≡ class_bit fabric within state pins v (class_of fabric.joins net) =
-                  first-value class driven ∙ (copied-value found.0.rule net rule ∙ net-bit fabric within state pins v is net) in
+            first-value class driven ∙ (copied-value found.0.rule net rule ∙ net-bit fabric within state pins v is net) in
             subst (HasEndValue pins end) (sym same) (chain-value rest)
         | inr away ↦ let never : ends still ≡ goes_to net = sym (turn-still fabric class away) ∙ turn in absurd cc
       ]

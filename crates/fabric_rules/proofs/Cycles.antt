@@ -1,7 +1,7 @@
 -- A class passes the test for cycles exactly where it lies on one.
-use Rattle.std.proofs.Common.{◌≡◌, ℕ, zero, suc, ◌+◌, ◌<◌, ◌≤◌, Bool, true, false, ◌||◌, ◌&&◌, ◌⊎◌, inl, inr, List, [], ◌∷◌, ◌++◌, refl, sym, ap, ◌∙◌, subst, arith}
+use Rattle.std.proofs.Common.{◌≡◌, ℕ, zero, suc, ◌<◌, true, inl, inr, List, [], ◌∷◌, ◌++◌, subst, arith}
 use Rattle.std.proofs.lemmas.Bool.{cases_lt}
-use Rattle.fabric_rules.specs.Wiring.{Wiring, has, depends, IsPath, IsCycle, leads_below, is_on_cycle}
+use Rattle.fabric_rules.specs.Wiring.{Wiring, depends, IsPath, IsCycle, leads_below, is_on_cycle}
 use Rattle.fabric_rules.proofs.Tests.{or-cases, or-left, or-right, and-left, and-right, and-both}
 
 -- classes that have a driver, or depend on any, are below the bound

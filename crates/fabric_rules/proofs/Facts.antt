@@ -1,11 +1,10 @@
 -- The value of each driver looks at no other nets than those that it reads.
-use Rattle.std.proofs.Common.{◌≡◌, ℕ, zero, suc, ◌+◌, ◌*◌, Bool, true, false, cond, ◌||◌, ◌&&◌, List, [], ◌∷◌, ◌++◌, map, get_or, refl, sym, ap, ◌∙◌, subst, eq-eqb, inl, inr}
-use Rattle.std.specs.Prelude.{◌==◌, flat_map, option_to_list, Option, Some, None, if◌then◌else◌}
-use Rattle.bit_plane.specs.BitList.{bit_value, word_bits}
+use Rattle.std.proofs.Common.{◌≡◌, ℕ, zero, suc, Bool, true, false, List, [], ◌∷◌, ◌++◌, map, get_or, refl, subst, inl, inr}
+use Rattle.std.specs.Prelude.{flat_map, option_to_list, Option, Some, None}
 use Rattle.fabric_rules.specs.declared.cell.Lc.{Lc}
 use Rattle.fabric_rules.specs.Drivers.{Rule, nets_read}
 use Rattle.fabric_rules.specs.Drivers.Rule.{pin_bit, sent_back, lut_entry, flip_bit, carry_out, one, register_bit, copied}
-use Rattle.fabric_rules.specs.Values.{State, input_value, input_or_0, cell_input, entry_number, lut_value, majority, carry_value, value_of}
+use Rattle.fabric_rules.specs.Values.{State, input_value, cell_input, lut_value, carry_value, value_of}
 use Rattle.fabric_rules.specs.Wiring.{has}
 use Rattle.fabric_rules.proofs.Order.{has-first, has-behind, has-cases, has-none}
 

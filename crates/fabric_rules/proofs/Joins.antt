@@ -1,9 +1,9 @@
 -- Joined nets and their classes.
-use Rattle.std.proofs.Common.{◌≡◌, ℕ, zero, suc, ◌+◌, ◌<◌, ◌≤◌, Bool, true, false, ◌||◌, ◌&&◌, ◌⊎◌, inl, inr, List, [], ◌∷◌, length, refl, sym, ap, ◌∙◌, subst, arith, eq-eqb}
-use Rattle.std.specs.Prelude.{Contains, slice_index_or, ◌==◌, unwrap_or, Option, Some, None, ◌↔◌}
+use Rattle.std.proofs.Common.{◌≡◌, ℕ, zero, suc, ◌≤◌, true, false, ◌&&◌, inl, inr, List, [], ◌∷◌, refl, sym, ap, ◌∙◌, subst, arith, eq-eqb}
+use Rattle.std.specs.Prelude.{Contains, unwrap_or, Option, Some, None}
 use Rattle.std.proofs.lemmas.Bool.{eqb-true, cases_lt}
 use Rattle.place_search.specs.Places.{least_below}
-use Rattle.place_search.proofs.Found.{IsLeast, least_below-place, least_below-clear}
+use Rattle.place_search.proofs.Found.{least_below-place, least_below-clear}
 use Rattle.fabric_rules.specs.Joins.{IsJoin, AreJoined, IsClassOf, is_joined, class_of}
 use Rattle.fabric_rules.specs.Joins.AreJoined.{itself, further}
 use Rattle.fabric_rules.proofs.Tests.{or-cases, or-left, or-right, and-left, and-right, and-both}

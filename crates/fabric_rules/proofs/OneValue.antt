@@ -1,20 +1,20 @@
 -- A fabric without two drivers of a class and without a cycle has, for each state and all values of its input pins, exactly one
 -- list of net values that is consistent.
-use Rattle.std.proofs.Common.{◌≡◌, ℕ, zero, suc, ◌+◌, ◌<◌, ◌≤◌, Bool, true, false, cond, ◌||◌, ◌⊎◌, List, [], ◌∷◌, ◌++◌, map, length, get_or, refl, sym, ap, ◌∙◌, subst, arith, eq-eqb, inl, inr}
-use Rattle.std.specs.Prelude.{◌==◌, Contains, slice_index_or, filter, flat_map, Option, Some, None}
+use Rattle.std.proofs.Common.{◌≡◌, ℕ, zero, suc, ◌<◌, ◌≤◌, Bool, true, false, cond, List, [], ◌∷◌, ◌++◌, map, length, get_or, refl, sym, ap, ◌∙◌, subst, arith, eq-eqb, inl, inr}
+use Rattle.std.specs.Prelude.{Contains, filter, flat_map}
 use Rattle.std.specs.List.{list_any}
-use Rattle.std.proofs.lemmas.Bool.{cases_lt, cases_Bool, eqb-true, false_from_ne_true}
+use Rattle.std.proofs.lemmas.Bool.{cases_lt, cases_Bool, eqb-true}
 use Rattle.std.proofs.lemmas.List.{ext_get_or, get_or_past, get_or_append_left, length-append}
 use Rattle.std.proofs.Math.Seq.{get_or-append_seam}
 use Rattle.place_search.specs.Places.{gathered_below}
 use Rattle.fabric_rules.specs.Tiles.{each_below}
-use Rattle.fabric_rules.specs.Joins.{AreJoined, IsJoin, class_of}
+use Rattle.fabric_rules.specs.Joins.{AreJoined, class_of}
 use Rattle.fabric_rules.specs.Joins.AreJoined.{itself, further}
 use Rattle.fabric_rules.specs.Fabric.{Fabric}
 use Rattle.fabric_rules.specs.Drivers.{Drive, is_driver_of, drives_of, drivers_of, is_driven, nets_read}
 use Rattle.fabric_rules.specs.Values.{State, value_of, bit_in, is_connected, IsConsistent}
-use Rattle.fabric_rules.specs.Wiring.{Wiring, wiring_of, has, depends, is_on_cycle, IsWriteOrder}
-use Rattle.fabric_rules.proofs.Joins.{class_of-is, class_of-joined, class_of-class, class_of-le}
+use Rattle.fabric_rules.specs.Wiring.{wiring_of, has, depends, IsWriteOrder}
+use Rattle.fabric_rules.proofs.Joins.{class_of-is, class_of-joined, class_of-le}
 use Rattle.fabric_rules.proofs.Cycles.{IsBounded}
 use Rattle.fabric_rules.proofs.Order.{has-none}
 use Rattle.fabric_rules.proofs.Facts.{has-left, has-map, value-same}
@@ -48,12 +48,15 @@ pub record IsFirst {A : Type 0} (test : A → Bool) (list : List A) (first : A) 
 
 first-behind : {A : Type 0} (test : A → Bool) (head : A) (list : List A) → test head ≡ false
     → (first : A) × (rest : List A) × IsFirst test list first rest → (first : A) × (rest : List A) × IsFirst test (head ∷ list) first rest
-first-behind test head list away found =
-    (found.0, found.1, record {
-      is = rw away found.2.is;
-      passes = found.2.passes;
-      there = (suc found.2.there.0, omega (arith, found.2.there.1), found.2.there.2);
-    })
+first-behind test head list away found = (
+  found.0,
+  found.1,
+  record {
+    is = rw away found.2.is;
+    passes = found.2.passes;
+    there = (suc found.2.there.0, omega (arith, found.2.there.1), found.2.there.2);
+  },
+)
 
 any-first : {A : Type 0} (test : A → Bool) (list : List A) → list_any test list ≡ true → (first : A) × (rest : List A) × IsFirst test list first rest
 any-first test [] some = absurd cc
@@ -79,7 +82,7 @@ any-has test [] item (k, within, here) passes = absurd (omega (arith, within))
 any-has test (head ∷ list) item (zero, within, here) passes = let found : test head ≡ true = ap test here ∙ passes in rw found refl
 any-has test (head ∷ list) item (suc k, within, here) passes =
     let rest = any-has test list item (k, omega (arith, within), here) passes in
-    elim (cases_Bool (test head)) [ | inl found ↦ rw found refl | inr away ↦ rw away rest ]
+    elim (cases_Bool (test head)) [ inl found ↦ rw found refl | inr away ↦ rw away rest ]
 
 only-one : {A : Type 0} (first : A) (rest : List A) (item : A) → length (first ∷ rest) ≤ 1 → Contains (first ∷ rest) item → first ≡ item
 only-one first [] item few (zero, within, here) = here
@@ -174,7 +177,7 @@ module _ (fabric : Fabric) where
   unfolding wiring_of
   first-reads class first rest is net reads =
       let among = has-left (map (class_of fabric.joins) (nets_read first.rule)) (flat_map (λ drive. map (class_of fabric.joins) (nets_read drive.rule)) rest)
-            (class_of fabric.joins net) (has-map (class_of fabric.joins) (nets_read first.rule) net reads) in
+      (class_of fabric.joins net) (has-map (class_of fabric.joins) (nets_read first.rule) net reads) in
       subst (λ drives. has (flat_map (λ drive. map (class_of fabric.joins) (nets_read drive.rule)) drives) (class_of fabric.joins net) ≡ true) (sym is) among
 
   pub driven-is : (class : ℕ) → (wiring_of fabric).driven class ≡ is_driven fabric class
@@ -203,7 +206,7 @@ module _ (fabric : Fabric) where
       -- the value that the rule of a class gives, by its first driver
       rule-value : (class : ℕ) (value : ℕ → Bool) (first : Drive) (rest : List Drive) → drivers_of fabric class ≡ first ∷ rest
           → rules_of fabric state pins class value
-            ≡ value_of (is_connected fabric) state pins (λ net. value (class_of fabric.joins net)) first.rule
+          ≡ value_of (is_connected fabric) state pins (λ net. value (class_of fabric.joins net)) first.rule
       unfolding rules_of first_value
       rule-value class value first rest is = rw is refl
 
@@ -213,7 +216,7 @@ module _ (fabric : Fabric) where
           let is = first-is class found.0 found.1 found.2 in
           rule-value class one found.0 found.1 is
           ∙ (value-same (is_connected fabric) (λ net. one (class_of fabric.joins net)) (λ net. two (class_of fabric.joins net)) state pins found.0.rule
-              (λ net reads. same (class_of fabric.joins net) (first-reads class found.0 found.1 is net reads))
+          (λ net reads. same (class_of fabric.joins net) (first-reads class found.0 found.1 is net reads))
           ∙ sym (rule-value class two found.0 found.1 is))
 
       -- ---- from values of nets to values of classes
@@ -240,23 +243,23 @@ module _ (fabric : Fabric) where
             elim (cases_Bool (is_driven fabric (class_of fabric.joins net))) [
               | inl driven ↦ rw driven (joined-bit v is.joined (class_of-is fabric.joins net).joined)
               | inr still ↦ rw still (elim (cases_lt net fabric.nets) [
-                  | inl below ↦ is.not_driven net below still
-                  | inr past ↦ get_or_past v net false (omega (arith, is.each_net))
-                ])
+                | inl below ↦ is.not_driven net below still
+                | inr past ↦ get_or_past v net false (omega (arith, is.each_net))
+              ])
             ]
 
         class-settled : IsSettled (wiring_of fabric) (rules_of fabric state pins) (class_bit v)
         class-settled = record {
           driven = λ class driven.
-            let found = first-driver class (sym (driven-is class) ∙ driven) in
-            let first = found.0 in
-            let of_class = first-class class first found.1 found.2 in
-            let here : class_bit v class ≡ bit_in v first.net = ap (class_bit v) (sym of_class) ∙ sym (net-bit first.net) in
-            let drives : bit_in v first.net ≡ value_of (is_connected fabric) state pins (bit_in v) first.rule = is.driven first found.2.there in
-            let moved : value_of (is_connected fabric) state pins (bit_in v) first.rule
-                  ≡ value_of (is_connected fabric) state pins (λ net. class_bit v (class_of fabric.joins net)) first.rule
-                  = value-same (is_connected fabric) (bit_in v) (λ net. class_bit v (class_of fabric.joins net)) state pins first.rule (λ net reads. net-bit net) in
-            here ∙ (drives ∙ (moved ∙ sym (rule-value class (class_bit v) first found.1 (first-is class first found.1 found.2))));
+              let found = first-driver class (sym (driven-is class) ∙ driven) in
+              let first = found.0 in
+              let of_class = first-class class first found.1 found.2 in
+              let here : class_bit v class ≡ bit_in v first.net = ap (class_bit v) (sym of_class) ∙ sym (net-bit first.net) in
+              let drives : bit_in v first.net ≡ value_of (is_connected fabric) state pins (bit_in v) first.rule = is.driven first found.2.there in
+              let moved : value_of (is_connected fabric) state pins (bit_in v) first.rule
+              ≡ value_of (is_connected fabric) state pins (λ net. class_bit v (class_of fabric.joins net)) first.rule
+              = value-same (is_connected fabric) (bit_in v) (λ net. class_bit v (class_of fabric.joins net)) state pins first.rule (λ net reads. net-bit net) in
+              here ∙ (drives ∙ (moved ∙ sym (rule-value class (class_bit v) first found.1 (first-is class first found.1 found.2))));
           not_driven = λ class still. class-still v class (sym (driven-is class) ∙ still);
         }
 
@@ -266,9 +269,9 @@ module _ (fabric : Fabric) where
           → (v w : List Bool) → IsConsistent fabric state pins v → IsConsistent fabric state pins w → v ≡ w
       consistent-one order is v w of_v of_w =
           ext_get_or false v w (of_v.each_net ∙ sym of_w.each_net) (λ net below.
-            let same = settled-one (wiring_of fabric) wiring-bounded (rules_of fabric state pins) reads-no-other (class_bit v) (class_bit w)
-                  (class-settled v of_v) (class-settled w of_w) order is (class_of fabric.joins net) in
-            net-bit v of_v net ∙ (same ∙ sym (net-bit w of_w net)))
+          let same = settled-one (wiring_of fabric) wiring-bounded (rules_of fabric state pins) reads-no-other (class_bit v) (class_bit w)
+          (class-settled v of_v) (class-settled w of_w) order is (class_of fabric.joins net) in
+          net-bit v of_v net ∙ (same ∙ sym (net-bit w of_w net)))
 
       -- ---- a list
 
@@ -297,18 +300,18 @@ module _ (fabric : Fabric) where
             let same : found.0 ≡ drive = only-one found.0 found.1 drive few among in
             let here : bit_in net_bits drive.net ≡ value class = net_bits-at drive.net (within.drives drive there) in
             let by_rule : value class ≡ value_of (is_connected fabric) state pins (λ net. value (class_of fabric.joins net)) found.0.rule
-                  = is.driven class (driven-is class ∙ driven) ∙ rule-value class value found.0 found.1 drivers in
+            = is.driven class (driven-is class ∙ driven) ∙ rule-value class value found.0 found.1 drivers in
             let by_drive : value class ≡ value_of (is_connected fabric) state pins (λ net. value (class_of fabric.joins net)) drive.rule
-                  = subst (λ (d : Drive). value class ≡ value_of (is_connected fabric) state pins (λ net. value (class_of fabric.joins net)) d.rule) same by_rule in
+            = subst (λ (d : Drive). value class ≡ value_of (is_connected fabric) state pins (λ net. value (class_of fabric.joins net)) d.rule) same by_rule in
             here ∙ (by_drive ∙ value-same (is_connected fabric) (λ net. value (class_of fabric.joins net)) (bit_in net_bits) state pins drive.rule
-              (λ net reads. sym (net_bits-at net (within.reads drive there net reads))))
+            (λ net reads. sym (net_bits-at net (within.reads drive there net reads))))
 
         net_bits-consistent : IsConsistent fabric state pins net_bits
         net_bits-consistent = record {
           each_net = net_bits-length;
           joined = λ a b there.
-            let low = within.joins a b there in
-            net_bits-at a low.0 ∙ (ap value (class_of-joined fabric.joins a b (further (inl there) itself)) ∙ sym (net_bits-at b low.1));
+              let low = within.joins a b there in
+              net_bits-at a low.0 ∙ (ap value (class_of-joined fabric.joins a b (further (inl there) itself)) ∙ sym (net_bits-at b low.1));
           driven = net_bits-driven;
           not_driven = λ net below still. net_bits-at net below ∙ is.not_driven (class_of fabric.joins net) (driven-is (class_of fabric.joins net) ∙ still);
         }

@@ -1,13 +1,9 @@
 -- A wiring without a cycle has exactly one write order.
-use Rattle.std.proofs.Common.{◌≡◌, ◌≢◌, ℕ, zero, suc, ◌+◌, ◌<◌, ◌≤◌, Bool, true, false, cond, not, ◌||◌, ◌&&◌, ◌⊎◌, inl, inr, List, [], ◌∷◌, ◌++◌, length, take, get_or, refl, sym, ap, ◌∙◌, subst, arith, eq-eqb}
-use Rattle.std.specs.Prelude.{◌==◌, Option, Some, None}
-use Rattle.std.proofs.lemmas.Bool.{cases_lt, cases_eq, cases_Bool, eqb-true, false_from_ne_true}
-use Rattle.bit_plane.specs.BitList.{bit_value}
-use Rattle.place_search.specs.Places.{least_below}
-use Rattle.place_search.proofs.Found.{IsLeast, least_below-place, least_below-clear}
-use Rattle.fabric_rules.specs.Wiring.{Wiring, has, depends, leads_below, is_on_cycle, IsReady, IsLeastReady, IsWriteOrder}
-use Rattle.fabric_rules.proofs.Tests.{or-cases, or-left, or-right, and-left, and-right, and-both}
-use Rattle.fabric_rules.proofs.Cycles.{IsBounded, leads_below-then, leads_below-step}
+use Rattle.std.proofs.Common.{◌≡◌, ℕ, zero, suc, ◌<◌, Bool, true, false, cond, ◌||◌, ◌⊎◌, inl, inr, List, [], ◌∷◌, length, take, get_or, refl, sym, ◌∙◌, subst, arith, eq-eqb}
+use Rattle.std.specs.Prelude.{◌==◌}
+use Rattle.std.proofs.lemmas.Bool.{cases_Bool, eqb-true}
+use Rattle.fabric_rules.specs.Wiring.{Wiring, has, IsReady, IsLeastReady, IsWriteOrder}
+use Rattle.fabric_rules.proofs.Tests.{or-left, or-right}
 
 -- ---- numbers in lists
 
@@ -21,7 +17,7 @@ has-first first rest = rw (eq-eqb first first refl) refl
 
 pub has-behind : (first : ℕ) (rest : List ℕ) (n : ℕ) → has rest n ≡ true → has (first ∷ rest) n ≡ true
 unfolding has
-has-behind first rest n found = elim (cases_Bool (first == n)) [ | inl here ↦ rw here refl | inr away ↦ rw away found ]
+has-behind first rest n found = elim (cases_Bool (first == n)) [ inl here ↦ rw here refl | inr away ↦ rw away found ]
 
 -- another number than the first
 pub has-other : (first : ℕ) (rest : List ℕ) (n : ℕ) → (first == n) ≡ false → has (first ∷ rest) n ≡ has rest n
@@ -31,7 +27,7 @@ has-other first rest n away = rw away refl
 pub has-cases : (first : ℕ) (rest : List ℕ) (n : ℕ) → has (first ∷ rest) n ≡ true → (first ≡ n) ⊎ (has rest n ≡ true)
 unfolding has
 has-cases first rest n found =
-    elim (cases_Bool (first == n)) [ | inl here ↦ inl (eqb-true first n here) | inr away ↦ inr (rw away at found) ]
+    elim (cases_Bool (first == n)) [ inl here ↦ inl (eqb-true first n here) | inr away ↦ inr (rw away at found) ]
 
 -- ---- classes that are listed in two ways
 
@@ -82,7 +78,7 @@ moved-listed class before part k = moved-test (class == k) (has before k) (has p
 
 or-nothing : (before : List ℕ) (k : ℕ) → (has before k || has [] k) ≡ has before k
 unfolding has
-or-nothing before k = elim (cases_Bool (has before k)) [ | inl here ↦ rw here refl | inr away ↦ rw away refl ]
+or-nothing before k = elim (cases_Bool (has before k)) [ inl here ↦ rw here refl | inr away ↦ rw away refl ]
 
 module _ (wiring : Wiring) where
   -- an order by places continues
@@ -94,8 +90,8 @@ module _ (wiring : Wiring) where
   places-continue before (class ∷ rest) each all =
       next (least-same wiring _ (has before) class (or-nothing before) (each 0 (omega arith)))
       (places-continue (class ∷ before) rest
-        (λ place within. least-same wiring _ _ _ (λ k. moved-listed class before (take place rest) k) (each (suc place) (omega arith)))
-        (λ other within driven. sym (moved-listed class before rest other) ∙ all other within driven))
+      (λ place within. least-same wiring _ _ _ (λ k. moved-listed class before (take place rest) k) (each (suc place) (omega arith)))
+      (λ other within driven. sym (moved-listed class before rest other) ∙ all other within driven))
 
   -- and the other way
   continues-places : {before order : List ℕ} → Continues wiring before order

@@ -1,12 +1,12 @@
 -- A wiring without a cycle has a write order.
-use Rattle.std.proofs.Common.{◌≡◌, ◌≢◌, ℕ, zero, suc, ◌+◌, ◌<◌, ◌≤◌, Bool, true, false, cond, not, ◌||◌, ◌&&◌, ◌⊎◌, inl, inr, List, [], ◌∷◌, length, refl, sym, ap, ◌∙◌, subst, arith, eq-eqb}
-use Rattle.std.specs.Prelude.{◌==◌, nat_lt, Option, Some, None}
-use Rattle.std.proofs.lemmas.Bool.{cases_lt, cases_eq, cases_Bool, eqb-true, ltb-true, false_from_ne_true}
+use Rattle.std.proofs.Common.{◌≡◌, ℕ, zero, suc, ◌+◌, ◌<◌, ◌≤◌, Bool, true, false, not, ◌&&◌, inl, inr, List, [], ◌∷◌, refl, sym, ap, ◌∙◌, subst, arith}
+use Rattle.std.specs.Prelude.{Option, Some, None}
+use Rattle.std.proofs.lemmas.Bool.{cases_lt, cases_Bool, false_from_ne_true}
 use Rattle.bit_plane.specs.BitList.{bit_value}
 use Rattle.place_search.specs.Places.{least_below}
-use Rattle.place_search.proofs.Found.{IsLeast, least_below-place, least_below-clear}
-use Rattle.fabric_rules.specs.Wiring.{Wiring, has, depends, leads_below, is_on_cycle, IsReady, IsLeastReady, IsWriteOrder}
-use Rattle.fabric_rules.proofs.Tests.{or-cases, or-left, or-right, and-left, and-right, and-both}
+use Rattle.place_search.proofs.Found.{least_below-place, least_below-clear}
+use Rattle.fabric_rules.specs.Wiring.{Wiring, has, leads_below, is_on_cycle, IsReady, IsLeastReady, IsWriteOrder}
+use Rattle.fabric_rules.proofs.Tests.{and-left, and-right, and-both}
 use Rattle.fabric_rules.proofs.Cycles.{IsBounded, leads_below-then, leads_below-step}
 use Rattle.fabric_rules.proofs.Order.{has-first, has-behind, has-cases, Continues, continues-order}
 use Rattle.fabric_rules.proofs.Order.Continues.{whole, next}
@@ -122,8 +122,8 @@ unfolding is_ready
 ready-whole wiring listed class ready =
     and-both _ _ (left-from wiring listed class ready.driven ready.unlisted)
     (each-from (wiring.reads class) (λ other. not (is_left wiring listed other)) (λ other reads.
-      ap not (false_from_ne_true (is_left wiring listed other) (λ left.
-        absurd (cc (ready.inputs other reads (left-driven wiring listed other left), left-fresh wiring listed other left))))))
+    ap not (false_from_ne_true (is_left wiring listed other) (λ left.
+    absurd (cc (ready.inputs other reads (left-driven wiring listed other left), left-fresh wiring listed other left))))))
 
 -- the least class that can be written, where one can
 least_by : (wiring : Wiring) (listed : ℕ → Bool) (class : ℕ) (found : Option ℕ) → IsReady wiring listed class
@@ -131,14 +131,16 @@ least_by : (wiring : Wiring) (listed : ℕ → Bool) (class : ℕ) (found : Opti
 least_by wiring listed class None ready missing =
     absurd (cc (ready-whole wiring listed class ready, least_below-clear wiring.count class (is_ready wiring listed) missing ready.within))
 least_by wiring listed class (Some least) ready found =
-    let here = least_below-place wiring.count (is_ready wiring listed) least found in
-    (least, record {
-      ready = ready-sound wiring listed least here.within here.passes;
-      least = λ other rival. elim (cases_lt other least) [
-        | inl less ↦ absurd (cc (ready-whole wiring listed other rival, here.before other less))
-        | inr more ↦ more
-      ];
-    })
+    let here = least_below-place wiring.count (is_ready wiring listed) least found in (
+      least,
+      record {
+        ready = ready-sound wiring listed least here.within here.passes;
+        least = λ other rival. elim (cases_lt other least) [
+          | inl less ↦ absurd (cc (ready-whole wiring listed other rival, here.before other less))
+          | inr more ↦ more
+        ];
+      },
+    )
 
 -- ---- without a cycle some class can be written while any is left
 
@@ -156,22 +158,28 @@ module _ (wiring : Wiring) (open_ : (class : ℕ) → class < wiring.count → l
   last-next : (n class : ℕ) → n < wiring.count → test n ≡ true → IsLast wiring n test class → (last : ℕ) × IsLast wiring (suc n) test last
   last-next n class within here old =
       elim (cases_Bool (leads_below wiring wiring.count class n)) [
-        | inl leads ↦ (n, record {
+        | inl leads ↦ (
+          n,
+          record {
             within = omega arith;
             passes = here;
             last = λ other below passes. elim (cases_lt other n) [
               | inl less ↦ false_from_ne_true _ (λ more. absurd (cc (leads_below-then wiring wiring.count class n other within leads more, old.last other less passes)))
               | inr not_less ↦ let same : n ≡ other = omega arith in subst (λ k. leads_below wiring wiring.count n k ≡ false) same (open_ n within)
             ];
-          })
-        | inr apart ↦ (class, record {
+          },
+        )
+        | inr apart ↦ (
+          class,
+          record {
             within = omega (arith, old.within);
             passes = old.passes;
             last = λ other below passes. elim (cases_lt other n) [
               | inl less ↦ old.last other less passes
               | inr not_less ↦ let same : n ≡ other = omega arith in subst (λ k. leads_below wiring wiring.count class k ≡ false) same apart
             ];
-          })
+          },
+        )
       ]
 
   -- none passes, or one is the last
@@ -183,29 +191,29 @@ module _ (wiring : Wiring) (open_ : (class : ℕ) → class < wiring.count → l
   search_more n within (none all) =
       elim (cases_Bool (test n)) [
         | inl here ↦ some n (record {
-            within = omega arith;
-            passes = here;
-            last = λ other below passes. elim (cases_lt other n) [
-              | inl less ↦ absurd (cc (all other less))
-              | inr not_less ↦ let same : n ≡ other = omega arith in subst (λ k. leads_below wiring wiring.count n k ≡ false) same (open_ n within)
-            ];
-          })
+          within = omega arith;
+          passes = here;
+          last = λ other below passes. elim (cases_lt other n) [
+            | inl less ↦ absurd (cc (all other less))
+            | inr not_less ↦ let same : n ≡ other = omega arith in subst (λ k. leads_below wiring wiring.count n k ≡ false) same (open_ n within)
+          ];
+        })
         | inr away ↦ none (λ class below. elim (cases_lt class n) [
-            | inl less ↦ all class less
-            | inr not_less ↦ let same : n ≡ class = omega arith in ap test (sym same) ∙ away
-          ])
+          | inl less ↦ all class less
+          | inr not_less ↦ let same : n ≡ class = omega arith in ap test (sym same) ∙ away
+        ])
       ]
   search_more n within (some class old) =
       elim (cases_Bool (test n)) [
         | inl here ↦ let found = last-next n class within here old in some found.0 found.1
         | inr away ↦ some class (record {
-            within = omega (arith, old.within);
-            passes = old.passes;
-            last = λ other below passes. elim (cases_lt other n) [
-              | inl less ↦ old.last other less passes
-              | inr not_less ↦ let same : n ≡ other = omega arith in absurd (cc (ap test same, away, passes))
-            ];
-          })
+          within = omega (arith, old.within);
+          passes = old.passes;
+          last = λ other below passes. elim (cases_lt other n) [
+            | inl less ↦ old.last other less passes
+            | inr not_less ↦ let same : n ≡ other = omega arith in absurd (cc (ap test same, away, passes))
+          ];
+        })
       ]
 
   search_all : (n : ℕ) → n ≤ wiring.count → Search n
@@ -255,7 +263,7 @@ module _ (wiring : Wiring) (bounded : IsBounded wiring) (open_ : (class : ℕ) �
             let least = least_by wiring (has before) class _ (last-ready (has before) class last) refl in
             let ready = least.1.ready in
             let fewer = count_below-lt wiring.count least.0 (is_left wiring (has before)) (is_left wiring (has (least.0 ∷ before)))
-                  (still-left wiring least.0 before) ready.within (left-from wiring (has before) least.0 ready.driven ready.unlisted) (gone-left wiring least.0 before) in
+            (still-left wiring least.0 before) ready.within (left-from wiring (has before) least.0 ready.driven ready.unlisted) (gone-left wiring least.0 before) in
             let rest = order-from most (least.0 ∷ before) (omega arith) in
             (least.0 ∷ rest.0, next least.1 rest.1)
       ]

@@ -1,9 +1,9 @@
 -- Where a wiring has a write order, its classes have exactly one value each, whatever their rules are. A rule says the value of
 -- a class from those of all classes; it depends on none but those that the class reads.
-use Rattle.std.proofs.Common.{◌≡◌, ℕ, zero, suc, ◌<◌, ◌≤◌, Bool, true, false, cond, ◌⊎◌, inl, inr, List, [], ◌∷◌, refl, sym, ap, ◌∙◌, subst, arith, eq-eqb}
+use Rattle.std.proofs.Common.{◌≡◌, ℕ, Bool, true, false, cond, inl, inr, List, [], ◌∷◌, refl, sym, ap, ◌∙◌, subst, eq-eqb}
 use Rattle.std.specs.Prelude.{◌==◌}
 use Rattle.std.proofs.lemmas.Bool.{cases_Bool, eqb-true, false_from_ne_true}
-use Rattle.fabric_rules.specs.Wiring.{Wiring, has, depends, IsReady, IsLeastReady, IsWriteOrder}
+use Rattle.fabric_rules.specs.Wiring.{Wiring, has, depends, IsReady, IsWriteOrder}
 use Rattle.fabric_rules.proofs.Cycles.{IsBounded}
 use Rattle.fabric_rules.proofs.Order.{has-none, has-first, has-behind, has-other, has-cases, Continues, order-continues}
 use Rattle.fabric_rules.proofs.Order.Continues.{whole, next}
@@ -29,9 +29,9 @@ module _ (wiring : Wiring) (bounded : IsBounded wiring) (rules : Rules) (reads :
     agree-at : (listed : ℕ → Bool) (class : ℕ) → IsReady wiring listed class → ((k : ℕ) → listed k ≡ true → one k ≡ two k) → one class ≡ two class
     agree-at listed class ready before =
         let inputs : rules class one ≡ rules class two = reads class one two ready.driven (λ other input. elim (cases_Bool (wiring.driven other)) [
-              | inl drives ↦ before other (ready.inputs other input drives)
-              | inr still ↦ of_one.not_driven other still ∙ sym (of_two.not_driven other still)
-            ]) in
+          | inl drives ↦ before other (ready.inputs other input drives)
+          | inr still ↦ of_one.not_driven other still ∙ sym (of_two.not_driven other still)
+        ]) in
         of_one.driven class ready.driven ∙ (inputs ∙ sym (of_two.driven class ready.driven))
 
     agree-from : {before order : List ℕ} → Continues wiring before order → ((k : ℕ) → has before k ≡ true → one k ≡ two k)
@@ -80,12 +80,12 @@ module _ (wiring : Wiring) (bounded : IsBounded wiring) (rules : Rules) (reads :
     -- the class isn't one that is listed
     apart-listed : (k : ℕ) → has before k ≡ true → (class == k) ≡ false
     apart-listed k listed = false_from_ne_true (class == k) (λ same.
-      let e : class ≡ k = eqb-true class k same in absurd (cc (ap (has before) e, ready.unlisted, listed)))
+        let e : class ≡ k = eqb-true class k same in absurd (cc (ap (has before) e, ready.unlisted, listed)))
 
     -- nor one without a driver
     apart-still : (k : ℕ) → wiring.driven k ≡ false → (class == k) ≡ false
     apart-still k still = false_from_ne_true (class == k) (λ same.
-      let e : class ≡ k = eqb-true class k same in absurd (cc (ap wiring.driven e, ready.driven, still)))
+        let e : class ≡ k = eqb-true class k same in absurd (cc (ap wiring.driven e, ready.driven, still)))
 
     -- what the class or a listed one reads is listed before
     inputs-listed : (k other : ℕ) → has (class ∷ before) k ≡ true → depends wiring k other ≡ true → wiring.driven other ≡ true → has before other ≡ true
@@ -124,7 +124,7 @@ module _ (wiring : Wiring) (bounded : IsBounded wiring) (rules : Rules) (reads :
     undone-more : (k : ℕ) → has (class ∷ before) k ≡ false → settle (class ∷ before) k ≡ false
     undone-more k fresh =
         let away : (class == k) ≡ false = false_from_ne_true (class == k) (λ same.
-              let e : class ≡ k = eqb-true class k same in absurd (cc (subst (λ c. has (class ∷ before) c ≡ true) e (has-first class before), fresh))) in
+        let e : class ≡ k = eqb-true class k same in absurd (cc (subst (λ c. has (class ∷ before) c ≡ true) e (has-first class before), fresh))) in
         settle-other class before k away ∙ kept.undone k (sym (has-other class before k away) ∙ fresh)
 
     kept-more : IsKept (class ∷ before)
@@ -144,10 +144,13 @@ module _ (wiring : Wiring) (bounded : IsBounded wiring) (rules : Rules) (reads :
   }
 
   settled-from : {before order : List ℕ} → Continues wiring before order → IsKept before → (value : ℕ → Bool) × IsSettled wiring rules value
-  settled-from {before} (whole all) kept = (settle before, record {
-    driven = λ class drives. kept.done class (all class (bounded.driven class drives) drives);
-    not_driven = λ class still. kept.undone class (false_from_ne_true (has before class) (λ listed. absurd (cc (kept.driven class listed, still))));
-  })
+  settled-from {before} (whole all) kept = (
+    settle before,
+    record {
+      driven = λ class drives. kept.done class (all class (bounded.driven class drives) drives);
+      not_driven = λ class still. kept.undone class (false_from_ne_true (has before class) (λ listed. absurd (cc (kept.driven class listed, still))));
+    },
+  )
   settled-from {before} (next {class} least rest) kept = settled-from rest (kept-more class before least.ready kept)
 
   -- there is a value

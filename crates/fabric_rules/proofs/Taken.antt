@@ -1,19 +1,17 @@
 -- What a fabric is that has no fault.
-use Rattle.std.proofs.Common.{◌≡◌, ℕ, zero, suc, ◌+◌, ◌<◌, ◌≤◌, Bool, true, false, ◌⊎◌, List, [], ◌∷◌, ◌++◌, length, flat_map, refl, sym, ap, ◌∙◌, subst, arith, inl, inr}
-use Rattle.std.specs.Prelude.{Contains, Option, Some, None}
+use Rattle.std.proofs.Common.{◌≡◌, ℕ, zero, suc, ◌<◌, ◌≤◌, Bool, true, false, List, [], ◌∷◌, ◌++◌, length, refl, subst, arith, inl, inr}
+use Rattle.std.specs.Prelude.{None}
 use Rattle.std.proofs.lemmas.Bool.{cases_lt}
 use Rattle.plane_map.specs.declared.device.DeviceName.{DeviceName}
-use Rattle.place_search.specs.Places.{gathered_below, or_else}
+use Rattle.place_search.specs.Places.{gathered_below}
 use Rattle.place_search.proofs.Found.{or_else-first, or_else-other}
 use Rattle.fabric_rules.specs.Unique.{ExactlyOne}
 use Rattle.fabric_rules.specs.Tiles.{item_if, first_of}
 use Rattle.fabric_rules.specs.Fabric.{Fabric}
 use Rattle.fabric_rules.specs.Drivers.{Drive, drivers_of}
 use Rattle.fabric_rules.specs.Values.{State, IsConsistent}
-use Rattle.fabric_rules.specs.Wiring.{Wiring, wiring_of, is_on_cycle, IsWriteOrder}
-use Rattle.fabric_rules.specs.Clocks.{ClockEnd, User, users_of, clock_end}
-use Rattle.fabric_rules.specs.Clocks.ClockEnd.{at_pin, still, other}
-use Rattle.fabric_rules.specs.Faults.{Fault, drivers_fault, driver_faults, loop_faults, end_fault, user_fault, clock_faults, fabric_fault}
+use Rattle.fabric_rules.specs.Wiring.{wiring_of, is_on_cycle, IsWriteOrder}
+use Rattle.fabric_rules.specs.Faults.{Fault, drivers_fault, driver_faults, loop_faults, clock_faults, fabric_fault}
 use Rattle.fabric_rules.proofs.Order.{order-one}
 use Rattle.fabric_rules.proofs.Ordered.{write_order-there}
 use Rattle.fabric_rules.proofs.OneValue.{IsWithin, HasSingleDrivers, wiring-bounded, consistent-one, consistent-there}

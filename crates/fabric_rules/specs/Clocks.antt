@@ -1,5 +1,5 @@
 -- Where clocks come from, and what uses them.
-use Rattle.std.specs.Prelude.{◌≡◌, ℕ, zero, suc, Bool, ◌&&◌, List, [], ◌∷◌, ◌++◌, map, flat_map, filter, ◌==◌, Option}
+use Rattle.std.specs.Prelude.{◌≡◌, ℕ, zero, suc, ◌&&◌, List, [], ◌∷◌, ◌++◌, map, flat_map, filter, ◌==◌, Option}
 use Rattle.plane_map.specs.declared.device.DeviceName.{DeviceName}
 use Rattle.fabric_rules.specs.declared.cell.Lc.{Lc}
 use Rattle.fabric_rules.specs.declared.ram.RamCell.{RamCell}
@@ -9,7 +9,7 @@ use Rattle.fabric_rules.specs.Tiles.{over_grid}
 use Rattle.fabric_rules.specs.Joins.{class_of}
 use Rattle.fabric_rules.specs.Fabric.{Fabric, flips_of}
 use Rattle.fabric_rules.specs.Drivers.{Rule, Drive, drivers_of}
-use Rattle.fabric_rules.specs.Drivers.Rule.{pin_bit, copied, sent_back, lut_entry, flip_bit, carry_out, one, register_bit}
+use Rattle.fabric_rules.specs.Drivers.Rule.{pin_bit, copied}
 
 -- ---- chains
 

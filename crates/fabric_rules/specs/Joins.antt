@@ -1,5 +1,5 @@
 -- Classes of nets: nets that routings join.
-use Rattle.std.specs.Prelude.{◌≡◌, ℕ, suc, ◌≤◌, Bool, true, ◌||◌, ◌&&◌, List, [], ◌∷◌, Contains, ◌==◌, unwrap_or, ◌⊎◌}
+use Rattle.std.specs.Prelude.{ℕ, suc, ◌≤◌, Bool, ◌||◌, ◌&&◌, List, [], ◌∷◌, Contains, ◌==◌, unwrap_or, ◌⊎◌}
 use Rattle.place_search.specs.Places.{least_below}
 
 -- one routing goes from a net to another, in either direction

@@ -1,5 +1,5 @@
 -- Logic cells: the bits of each, the cells that are used, and carry inputs that are set.
-use Rattle.std.specs.Prelude.{ℕ, zero, suc, ◌+◌, Bool, false, ◌&&◌, List, [], ◌∷◌, ◌++◌, map, get_or, codes, if◌then◌else◌, Option, Some, None}
+use Rattle.std.specs.Prelude.{ℕ, zero, suc, Bool, false, ◌&&◌, List, [], ◌∷◌, ◌++◌, map, get_or, codes, if◌then◌else◌, Option, Some, None}
 use Rattle.std.specs.List.{list_any}
 use Rattle.bit_plane.specs.BitList.{word_of}
 use Rattle.plane_map.specs.declared.tile.TileKind.TheVariants.{Logic}

@@ -1,5 +1,5 @@
 -- Where clocks come from, and what uses them.
-use Rattle.std.specs.Prelude.{◌≡◌, ℕ, zero, suc, Bool, ◌&&◌, List, [], ◌∷◌, ◌++◌, map, flat_map, filter, ◌==◌, Option}
+use Rattle.std.specs.Prelude.{◌≡◌, ℕ, zero, suc, ◌&&◌, List, [], ◌∷◌, ◌++◌, map, flat_map, filter, ◌==◌, Option}
 use Rattle.plane_map.specs.declared.device.DeviceName.{DeviceName}
 use Rattle.fabric_rules.specs.declared.cell.Lc.{Lc}
 use Rattle.fabric_rules.specs.declared.ram.RamCell.{RamCell}
@@ -9,7 +9,7 @@ use Rattle.fabric_rules.specs.Tiles.{over_grid}
 use Rattle.fabric_rules.specs.Joins.{class_of}
 use Rattle.fabric_rules.specs.Fabric.{Fabric, flips_of}
 use Rattle.fabric_rules.specs.Drivers.{Rule, Drive, drivers_of}
-use Rattle.fabric_rules.specs.Drivers.Rule.{pin_bit, copied, sent_back, lut_entry, flip_bit, carry_out, one, register_bit}
+use Rattle.fabric_rules.specs.Drivers.Rule.{pin_bit, copied}
 
 -- ---- chains
 
@@ -40,8 +40,8 @@ turn_at fabric class = turn_of (drivers_of fabric class)
 
 -- the chain from a class comes to an end
 pub data LeadsTo (fabric : Fabric) : ℕ → ClockEnd → Type 0 where
-  ends_here : (class : ℕ) (end : ClockEnd) → turn_at fabric class ≡ ends end → LeadsTo fabric class end
-  goes_on : (class net : ℕ) (end : ClockEnd) → turn_at fabric class ≡ goes_to net
+  ends_here : {class : ℕ} {end : ClockEnd} → turn_at fabric class ≡ ends end → LeadsTo fabric class end
+  goes_on : {class : ℕ} {end : ClockEnd} (net : ℕ) → turn_at fabric class ≡ goes_to net
       → LeadsTo fabric (class_of fabric.joins net) end → LeadsTo fabric class end
 
 -- where a chain ends, by what it does at a class and where it ends from another class on
@@ -49,15 +49,15 @@ abbrev pub end_by : (ℕ → ClockEnd) → Turn → ClockEnd
 end_by later (ends end) = end
 end_by later (goes_to net) = later net
 
--- Where the chain from a class ends that goes on so often at most. One that goes on as often as there are nets comes back to
--- a class, and counts as another end: a fabric with such a cycle isn't taken.
+-- Where the chain from a class ends that comes to so many classes at most. One that comes to more classes than there are nets
+-- comes back to a class, and counts as another end: a fabric with such a cycle isn't taken.
 unfoldable pub end_within : Fabric → ℕ → ℕ → ClockEnd
 end_within fabric zero class = other
-end_within fabric (suc turns) class = end_by (λ net. end_within fabric turns (class_of fabric.joins net)) (turn_at fabric class)
+end_within fabric (suc more) class = end_by (λ net. end_within fabric more (class_of fabric.joins net)) (turn_at fabric class)
 
 -- where the clock of a net comes from
 unfoldable pub clock_end : Fabric → ℕ → ClockEnd
-clock_end fabric net = end_within fabric fabric.nets (class_of fabric.joins net)
+clock_end fabric net = end_within fabric (suc fabric.nets) (class_of fabric.joins net)
 
 -- ---- users
 

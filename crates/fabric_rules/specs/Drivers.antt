@@ -1,5 +1,5 @@
 -- What drives each net.
-use Rattle.std.specs.Prelude.{ℕ, Bool, true, not, ◌&&◌, List, [], ◌∷◌, ◌++◌, length, map, filter, flat_map, position, option_to_list, get_or, ◌==◌, Option, Some, None, unwrap_or}
+use Rattle.std.specs.Prelude.{ℕ, Bool, not, ◌&&◌, List, [], ◌∷◌, ◌++◌, length, filter, flat_map, position, option_to_list, get_or, ◌==◌, Option, Some, None, unwrap_or}
 use Rattle.std.specs.List.{list_any}
 use Rattle.fabric_rules.specs.declared.cell.Lc.{Lc}
 use Rattle.fabric_rules.specs.declared.cell.CarrySet.{CarrySet}

@@ -1,5 +1,5 @@
 -- A configured fabric: its parts, from a database and an image.
-use Rattle.std.specs.Prelude.{ℕ, suc, Bool, not, List, [], ◌∷◌, map, filter, flat_map}
+use Rattle.std.specs.Prelude.{ℕ, suc, Bool, not, List, [], ◌∷◌, map, filter}
 use Rattle.ice_image.specs.Configuration.{Configuration}
 use Rattle.chipdb_reader.specs.Database.{Database, Link}
 use Rattle.fabric_rules.specs.declared.cell.Lc.{Lc}

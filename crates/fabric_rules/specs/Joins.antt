@@ -1,5 +1,5 @@
 -- Classes of nets: nets that routings join.
-use Rattle.std.specs.Prelude.{◌≡◌, ℕ, suc, ◌≤◌, Bool, true, ◌||◌, ◌&&◌, List, [], ◌∷◌, Contains, ◌==◌, unwrap_or, ◌⊎◌}
+use Rattle.std.specs.Prelude.{ℕ, suc, ◌≤◌, Bool, ◌||◌, ◌&&◌, List, [], ◌∷◌, Contains, ◌==◌, unwrap_or, ◌⊎◌}
 use Rattle.place_search.specs.Places.{least_below}
 
 -- one routing goes from a net to another, in either direction
@@ -8,8 +8,8 @@ IsJoin joins a b = Contains joins (a, b) ⊎ Contains joins (b, a)
 
 -- nets are joined where a chain of routings leads from one to the other
 pub data AreJoined (joins : List (ℕ × ℕ)) : ℕ → ℕ → Type 0 where
-  itself : (net : ℕ) → AreJoined joins net net
-  further : (a b c : ℕ) → IsJoin joins a b → AreJoined joins b c → AreJoined joins a c
+  itself : {net : ℕ} → AreJoined joins net net
+  further : {a b c : ℕ} → IsJoin joins a b → AreJoined joins b c → AreJoined joins a c
 
 -- A class is named by the least of its nets.
 pub record IsClassOf (joins : List (ℕ × ℕ)) (net class : ℕ) : Type 0 where

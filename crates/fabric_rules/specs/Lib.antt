@@ -1,3 +1,4 @@
+pub mod Unique
 pub mod On
 pub mod Tiles
 pub mod Nets

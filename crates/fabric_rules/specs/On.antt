@@ -1,5 +1,5 @@
 -- What an image sets at a tile: functions and links of a database, and its extra bits.
-use Rattle.std.specs.Prelude.{ℕ, Bool, false, ◌&&◌, List, find, bytes_eq, nat_eq, Option, Some, None}
+use Rattle.std.specs.Prelude.{ℕ, Bool, false, ◌&&◌, List, find, nat_eq, Option, Some, None}
 use Rattle.std.specs.Bool.{beq}
 use Rattle.std.specs.List.{list_any, list_all, starts_with}
 use Rattle.std.specs.Cmp.Lexicographic.{pointwise}

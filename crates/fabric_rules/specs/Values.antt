@@ -1,6 +1,6 @@
 -- The value of each driver, and the values of nets that are consistent with a state and the pins.
-use Rattle.std.specs.Prelude.{◌≡◌, ℕ, ◌+◌, ◌*◌, ◌<◌, Bool, true, false, ◌&&◌, ◌||◌, List, [], ◌∷◌, map, length, get_or, Contains, Option, Some, None, if◌then◌else◌}
-use Rattle.bit_plane.specs.BitList.{bit_value, word_bits, word_of}
+use Rattle.std.specs.Prelude.{◌≡◌, ℕ, ◌+◌, ◌*◌, ◌<◌, Bool, true, false, ◌&&◌, ◌||◌, List, [], length, get_or, Contains, Option, Some, None, if◌then◌else◌}
+use Rattle.bit_plane.specs.BitList.{bit_value, word_bits}
 use Rattle.fabric_rules.specs.declared.cell.Lc.{Lc}
 use Rattle.fabric_rules.specs.Joins.{class_of}
 use Rattle.fabric_rules.specs.Fabric.{Fabric}

@@ -1,5 +1,5 @@
 -- Which classes depend on which, cycles, and the order in which they can be written. Nothing here knows of values.
-use Rattle.std.specs.Prelude.{◌≡◌, ℕ, zero, suc, ◌+◌, ◌<◌, ◌≤◌, Bool, true, false, cond, not, ◌&&◌, ◌||◌, List, [], ◌∷◌, length, take, get_or, map, flat_map, ◌==◌}
+use Rattle.std.specs.Prelude.{◌≡◌, ℕ, zero, suc, ◌<◌, ◌≤◌, Bool, true, false, cond, ◌&&◌, ◌||◌, List, [], ◌∷◌, length, take, get_or, map, flat_map, ◌==◌}
 use Rattle.fabric_rules.specs.Joins.{class_of}
 use Rattle.fabric_rules.specs.Fabric.{Fabric}
 use Rattle.fabric_rules.specs.Drivers.{drivers_of, is_driven, nets_read}

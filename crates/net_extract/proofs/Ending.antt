@@ -1,6 +1,6 @@
 -- What is kept of the links that are on.
-use Rattle.std.proofs.Common.{◌≡◌, ℕ, zero, suc, ◌+◌, ◌<◌, ◌≤◌, Bool, true, false, cond, eqb, ◌&&◌, ◌||◌, List, [], ◌∷◌, length, get_or, map, refl, sym, ap, ap₂, ◌∙◌, subst, arith, inl, inr}
-use Rattle.std.specs.Prelude.{filter, All, ◌==◌}
+use Rattle.std.proofs.Common.{◌≡◌, ℕ, suc, ◌<◌, false, eqb, ◌||◌, List, [], ◌∷◌, length, get_or, map, refl, sym, ap, ap₂, ◌∙◌, subst, arith, inl, inr}
+use Rattle.std.specs.Prelude.{filter, All}
 use Rattle.std.specs.List.{list_any}
 use Rattle.std.proofs.lemmas.Bool.{cases_Bool, cases_lt}
 use Rattle.std.proofs.lemmas.List.{get_or_past, get_or_default}
@@ -15,7 +15,7 @@ use Rattle.fabric_rules.specs.Nets.{is_source, is_end, is_read}
 use Rattle.fabric_rules.specs.Joins.{class_of}
 use Rattle.net_extract.specs.declared.on.OnLink.{OnLink}
 use Rattle.net_extract.specs.Found.{on_link, links_on, ends_of, IsBelow, comes_from, touches}
-use Rattle.net_extract.specs.Links.{LinkSet, AreLinks, places_on, class_in}
+use Rattle.net_extract.specs.Links.{LinkSet, AreLinks, places_on}
 use Rattle.net_extract.proofs.Joined.{AreBelow, class_of-outside}
 
 -- the links that are on, counted from a number

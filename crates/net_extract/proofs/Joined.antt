@@ -1,12 +1,10 @@
 -- Classes of joined nets, one routing after the other.
-use Rattle.std.proofs.Common.{◌≡◌, ℕ, zero, suc, ◌+◌, ◌<◌, ◌≤◌, Bool, true, false, cond, eqb, ◌||◌, ◌&&◌, ◌⊎◌, inl, inr, List, [], ◌∷◌, length, get_or, refl, sym, ap, ◌∙◌, subst, arith, min, max}
-use Rattle.std.specs.Prelude.{Contains, unwrap_or, Option, Some, None}
+use Rattle.std.proofs.Common.{◌≡◌, ℕ, suc, ◌<◌, ◌≤◌, true, false, cond, eqb, ◌||◌, ◌&&◌, inl, inr, List, [], ◌∷◌, refl, ap, ◌∙◌, arith, min, max}
+use Rattle.std.specs.Prelude.{unwrap_or}
 use Rattle.std.proofs.lemmas.Bool.Decides.{nat_tests}
-use Rattle.std.proofs.lemmas.Bool.{cases_eq, cases_lt, eqb-true, eq-eqb, or_cases, and_parts}
-use Rattle.place_search.specs.Places.{least_below}
+use Rattle.std.proofs.lemmas.Bool.{cases_lt}
 use Rattle.place_search.proofs.Places.{least_below-first}
-use Rattle.fabric_rules.specs.Joins.{IsJoin, AreJoined, IsClassOf, is_joined, class_of}
-use Rattle.fabric_rules.specs.Joins.AreJoined.{itself, further}
+use Rattle.fabric_rules.specs.Joins.{is_joined, class_of}
 use Rattle.net_extract.specs.Parents.{merged}
 
 -- ---- names by recursion

@@ -2,3 +2,4 @@ pub mod Joined
 pub mod Trees
 pub mod Setting
 pub mod Ending
+pub mod Laws

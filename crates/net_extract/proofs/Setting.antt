@@ -1,12 +1,11 @@
 -- Links that are on: by their bits, and one after the other.
-use Rattle.std.proofs.Common.{◌≡◌, ◌≢◌, ℕ, zero, suc, ◌+◌, ◌-◌, ◌/◌, ◌%◌, ◌<◌, ◌≤◌, Bool, true, false, cond, eqb, ◌&&◌, ◌||◌, List, [], ◌∷◌, ◌++◌, length, get_or, take, map, refl, sym, ap, ap₂, ◌∙◌, subst, arith, inl, inr, append-nil, append_assoc, length-append, zero-add, add-zero, add-suc, suc-add}
+use Rattle.std.proofs.Common.{◌≡◌, ℕ, zero, suc, ◌+◌, ◌/◌, ◌%◌, ◌<◌, Bool, true, false, cond, List, [], ◌∷◌, ◌++◌, length, get_or, take, map, refl, sym, ap, ap₂, ◌∙◌, subst, arith, inl, inr, append-nil, zero-add, add-zero, add-suc, suc-add}
 use Rattle.std.specs.Prelude.{◌↔◌, IsTrue, filter, All, ◌==◌}
 use Rattle.std.specs.Bool.{beq}
-use Rattle.std.specs.List.{list_any}
 use Rattle.std.specs.Cmp.Lexicographic.{pointwise}
 use Rattle.std.proofs.lemmas.Bool.{cases_Bool, and_parts, false≢true}
 use Rattle.std.proofs.lemmas.List.{map-append, take_more, length-take-le, length-map, get_or-map}
-use Rattle.std.proofs.lemmas.List.Elements.{filter-append, All-from_get_or, All-map, All-filter, All-weaker}
+use Rattle.std.proofs.lemmas.List.Elements.{filter-append}
 use Rattle.bit_plane.specs.BitList.{word_bits}
 use Rattle.plane_map.specs.declared.device.DeviceName.{DeviceName}
 use Rattle.plane_map.specs.declared.tile.RowCol.{RowCol}
@@ -15,15 +14,13 @@ use Rattle.ice_image.specs.Contents.{listed_bits}
 use Rattle.chipdb_lines.specs.declared.chip.Chip.{Chip}
 use Rattle.chipdb_lines.specs.Kept.{bits_named, low_bits}
 use Rattle.chipdb_reader.specs.declared.items.LinkLine.{LinkLine}
-use Rattle.chipdb_reader.specs.Database.{Database, Link}
+use Rattle.chipdb_reader.specs.Database.{Link}
 use Rattle.chipdb_reader.specs.Fit.{IsLink}
 use Rattle.chipdb_reader.specs.Kept.{link_line, link_lines}
 use Rattle.fabric_rules.specs.On.{is_link_on}
-use Rattle.fabric_rules.specs.Fabric.{numbered, numbered_from, joins_of}
-use Rattle.fabric_rules.specs.Nets.{is_source, is_end, is_read}
+use Rattle.fabric_rules.specs.Fabric.{numbered, numbered_from}
 use Rattle.net_extract.specs.declared.on.OnLink.{OnLink}
-use Rattle.net_extract.specs.Found.{on_link, links_on, ends_of, IsBelow, comes_from, touches}
-use Rattle.net_extract.specs.Links.{places_on}
+use Rattle.net_extract.specs.Found.{on_link, links_on}
 
 -- ---- one link by its bits
 

@@ -1,6 +1,5 @@
 -- Links that are on, as the code keeps them.
-use Rattle.std.specs.Prelude.{◌≡◌, ℕ, ◌<◌, Bool, ◌||◌, List, map, filter, All, ◌==◌}
-use Rattle.std.specs.List.{list_any}
+use Rattle.std.specs.Prelude.{ℕ, ◌<◌, Bool, ◌||◌, List, map, filter, ◌==◌}
 use Rattle.ice_image.specs.Configuration.{Configuration}
 use Rattle.chipdb_reader.specs.Database.{Link}
 use Rattle.fabric_rules.specs.On.{is_link_on}

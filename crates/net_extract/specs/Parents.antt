@@ -5,8 +5,8 @@ use Rattle.std.specs.Prelude.{◌≡◌, ℕ, ◌<◌, ◌≤◌, List, length, 
 pub record IsForest (parents : List ℕ) : Type 0 where
   pub above : (net : ℕ) → net < length parents → slice_index parents net ≤ net
 
--- parents lead to the classes: a net has the class of its parent, and a net that is its own parent names its class
-pub record LeadsTo (class : ℕ → ℕ) (parents : List ℕ) : Type 0 where
+-- these are parents in the classes: a net has the class of its parent, and a net that is its own parent names its class
+pub record AreParents (class : ℕ → ℕ) (parents : List ℕ) : Type 0 where
   pub along : (net : ℕ) → net < length parents → class (slice_index parents net) ≡ class net
   pub roots : (net : ℕ) → net < length parents → slice_index parents net ≡ net → class net ≡ net
 

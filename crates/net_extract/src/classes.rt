@@ -4,7 +4,7 @@
 ghost use Rattle.std.specs.Prelude.{◌≡◌, ℕ, ◌<◌, ◌≤◌, length, slice_index, All, IfOk};
 ghost use Rattle.fabric_rules.specs.Joins.{class_of};
 ghost use Rattle.net_extract.specs.Found.{IsBelow, ends_of};
-ghost use Rattle.net_extract.specs.Parents.{IsForest, LeadsTo, merged};
+ghost use Rattle.net_extract.specs.Parents.{IsForest, AreParents, merged};
 
 use crate::on::OnLink;
 use std::alloc::{AllocError, Global};
@@ -16,8 +16,8 @@ fn root_of(parents: &mut [u32], net: u32) -> u32
     ensures forest { IsForest parents.new }
     ensures inside { result ≤ net }
     ensures root { slice_index parents.new result ≡ result }
-    ensures class { (class : ℕ → ℕ) → LeadsTo class parents.old → result ≡ class net }
-    ensures kept { (class : ℕ → ℕ) → LeadsTo class parents.old → LeadsTo class parents.new }
+    ensures class { (class : ℕ → ℕ) → AreParents class parents.old → result ≡ class net }
+    ensures kept { (class : ℕ → ℕ) → AreParents class parents.old → AreParents class parents.new }
 {
     let mut at = net;
     while parents[at as usize] != at {
@@ -34,7 +34,7 @@ fn join(parents: &mut [u32], a: u32, b: u32)
     requires a_inside { a < length parents.old }
     requires b_inside { b < length parents.old }
     ensures forest { IsForest parents.new }
-    ensures merged { (class : ℕ → ℕ) → LeadsTo class parents.old → LeadsTo (merged class a b) parents.new }
+    ensures merged { (class : ℕ → ℕ) → AreParents class parents.old → AreParents (merged class a b) parents.new }
 {
     let first = root_of(parents, a);
     let second = root_of(parents, b);
@@ -49,9 +49,9 @@ fn join(parents: &mut [u32], a: u32, b: u32)
 fn join_all(parents: &mut [u32], links: &[OnLink])
     requires forest { IsForest parents.old }
     requires inside { All (IsBelow (length parents.old)) links.now }
-    requires apart { LeadsTo (λ net. net) parents.old }
+    requires apart { AreParents (λ net. net) parents.old }
     ensures forest { IsForest parents.new }
-    ensures joined { LeadsTo (class_of (ends_of links.now)) parents.new }
+    ensures joined { AreParents (class_of (ends_of links.now)) parents.new }
 {
     for i in (0..links.len()).rev() {
         join(parents, links[i].src, links[i].dst);
@@ -61,7 +61,7 @@ fn join_all(parents: &mut [u32], links: &[OnLink])
 /// Makes the least net of its class each net's parent.
 fn name_all(parents: &mut [u32])
     requires { IsForest parents.old }
-    ensures { (class : ℕ → ℕ) → LeadsTo class parents.old → (net : ℕ) → net < length parents.new → slice_index parents.new net ≡ class net }
+    ensures { (class : ℕ → ℕ) → AreParents class parents.old → (net : ℕ) → net < length parents.new → slice_index parents.new net ≡ class net }
 {
     for i in 0..parents.len() {
         parents[i] = parents[parents[i] as usize];

@@ -1,4 +1,4 @@
-use Rattle.std.proofs.Common.{◌≡◌, ◌<◌, ◌≤◌, min, max, length, sym, ◌∙◌, arith}
+use Rattle.std.proofs.Common.{arith}
 use Rattle.net_extract.proofs.Trees.{leads-merged}
 use Rattle.net_extract.proofs.classes.join.Goals as goal
 

@@ -1,4 +1,4 @@
-use Rattle.std.proofs.Common.{length, drop, arith}
+use Rattle.std.proofs.Common.{drop}
 use Rattle.fabric_rules.specs.Joins.{class_of}
 use Rattle.net_extract.specs.Found.{ends_of}
 use Rattle.net_extract.proofs.Trees.{leads-none, leads-more}

@@ -1,4 +1,4 @@
-use Rattle.std.proofs.Common.{◌≡◌, ◌<◌, ◌≤◌, get_or, length, length-set, sym, ◌∙◌, arith}
+use Rattle.std.proofs.Common.{◌≤◌, get_or, length-set, ◌∙◌, arith}
 use Rattle.net_extract.proofs.Trees.{forest-set, leads-set}
 use Rattle.net_extract.proofs.classes.root_of.Goals as goal
 

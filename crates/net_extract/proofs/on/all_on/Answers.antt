@@ -1,4 +1,4 @@
-use Rattle.std.proofs.Common.{◌≡◌, sym, ap, ◌∙◌, arith}
+use Rattle.std.proofs.Common.{sym, ap, ◌∙◌, arith}
 use Rattle.ice_image.specs.Either.{configuration_of}
 use Rattle.net_extract.proofs.Setting.{links_on-none, line-fits, lines-more_on, lines-more_off}
 use Rattle.net_extract.proofs.on.all_on.Goals as goal

@@ -1,4 +1,4 @@
-use Rattle.std.proofs.Common.{◌≡◌, sym, ◌∙◌}
+use Rattle.std.proofs.Common.{sym, ◌∙◌}
 use Rattle.ice_image.specs.Either.{configuration_of}
 use Rattle.net_extract.proofs.Setting.{link-tells}
 use Rattle.net_extract.proofs.on.is_on.Goals as goal

@@ -1,4 +1,4 @@
-use Rattle.std.proofs.Common.{◌≡◌, ℕ, false, ◌||◌, get_or, take, length}
+use Rattle.std.proofs.Common.{◌≡◌, ℕ, false, ◌||◌, get_or, take}
 use Rattle.std.specs.List.{list_any}
 use Rattle.net_extract.specs.Found.{comes_from}
 use Rattle.net_extract.proofs.reads.mark_sources.Given as goal

@@ -1,0 +1,11 @@
+pub mod Tests
+pub mod Joins
+pub mod Cycles
+pub mod Order
+pub mod Ordered
+pub mod Settled
+pub mod Facts
+pub mod OneValue
+pub mod Taken
+pub mod Chains
+pub mod Worked

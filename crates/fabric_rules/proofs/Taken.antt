@@ -1,0 +1,100 @@
+-- What a fabric is that has no fault.
+use Rattle.std.proofs.Common.{◌≡◌, ℕ, zero, suc, ◌<◌, ◌≤◌, Bool, true, false, List, [], ◌∷◌, ◌++◌, length, refl, subst, arith, inl, inr}
+use Rattle.std.specs.Prelude.{None}
+use Rattle.std.proofs.lemmas.Bool.{cases_lt}
+use Rattle.plane_map.specs.declared.device.DeviceName.{DeviceName}
+use Rattle.place_search.specs.Places.{gathered_below}
+use Rattle.place_search.proofs.Found.{or_else-first, or_else-other}
+use Rattle.fabric_rules.specs.Unique.{ExactlyOne}
+use Rattle.fabric_rules.specs.Tiles.{item_if, first_of}
+use Rattle.fabric_rules.specs.Fabric.{Fabric}
+use Rattle.fabric_rules.specs.Drivers.{Drive, drivers_of}
+use Rattle.fabric_rules.specs.Values.{State, IsConsistent}
+use Rattle.fabric_rules.specs.Wiring.{wiring_of, is_on_cycle, IsWriteOrder}
+use Rattle.fabric_rules.specs.Faults.{Fault, drivers_fault, driver_faults, loop_faults, clock_faults, fabric_fault}
+use Rattle.fabric_rules.proofs.Order.{order-one}
+use Rattle.fabric_rules.proofs.Ordered.{write_order-there}
+use Rattle.fabric_rules.proofs.OneValue.{IsWithin, HasSingleDrivers, wiring-bounded, consistent-one, consistent-there}
+
+-- ---- empty lists
+
+first_of-none : {A : Type 0} (list : List A) → first_of list ≡ None → list ≡ []
+first_of-none [] none = refl
+first_of-none (item ∷ list) none = absurd cc
+
+append-left : {A : Type 0} (first second : List A) → first ++ second ≡ [] → first ≡ []
+append-left [] second none = refl
+append-left (item ∷ first) second none = absurd cc
+
+append-right : {A : Type 0} (first second : List A) → first ++ second ≡ [] → second ≡ []
+append-right [] second none = none
+append-right (item ∷ first) second none = absurd cc
+
+-- no place gives anything
+pub gathered_below-empty : {A : Type 0} (n k : ℕ) (given : ℕ → List A) → gathered_below n given ≡ [] → k < n → given k ≡ []
+unfolding gathered_below
+gathered_below-empty zero k given none within = absurd (omega arith)
+gathered_below-empty (suc n) k given none within =
+    elim (cases_lt k n) [
+      | inl less ↦ gathered_below-empty n k given (append-left (gathered_below n given) (given n) none) less
+      | inr more ↦ let same : n ≡ k = omega arith in subst (λ place. given place ≡ []) same (append-right (gathered_below n given) (given n) none)
+    ]
+
+item_if-none : {A : Type 0} (passes : Bool) (item : A) → item_if passes item ≡ [] → passes ≡ false
+item_if-none true item none = absurd cc
+item_if-none false item none = refl
+
+-- ---- drivers
+
+few-drivers : (class : ℕ) (drives : List Drive) → drivers_fault class drives ≡ [] → length drives ≤ 1
+few-drivers class [] none = omega arith
+few-drivers class (first ∷ []) none = omega arith
+few-drivers class (first ∷ second ∷ rest) none = absurd cc
+
+module _ (device : DeviceName) (fabric : Fabric) (taken : fabric_fault device fabric ≡ None) where
+  no-drivers : driver_faults fabric ≡ []
+  unfolding fabric_fault
+  no-drivers = first_of-none (driver_faults fabric) (or_else-first (first_of (driver_faults fabric)) _ taken)
+
+  no-loops : loop_faults (wiring_of fabric) ≡ []
+  unfolding fabric_fault
+  no-loops =
+      first_of-none (loop_faults (wiring_of fabric))
+      (or_else-first (first_of (loop_faults (wiring_of fabric))) _ (or_else-other (first_of (driver_faults fabric)) _ taken))
+
+  no-clocks : clock_faults device fabric ≡ []
+  unfolding fabric_fault
+  no-clocks =
+      first_of-none (clock_faults device fabric)
+      (or_else-other (first_of (loop_faults (wiring_of fabric))) _ (or_else-other (first_of (driver_faults fabric)) _ taken))
+
+  -- each class has one driver at most
+  pub taken-single : HasSingleDrivers fabric
+  unfolding driver_faults
+  taken-single class below =
+      few-drivers class (drivers_of fabric class)
+      (gathered_below-empty fabric.nets class (λ k. drivers_fault k (drivers_of fabric k)) no-drivers below)
+
+  -- no class lies on a cycle
+  pub taken-open : (class : ℕ) → class < (wiring_of fabric).count → is_on_cycle (wiring_of fabric) class ≡ false
+  unfolding loop_faults
+  taken-open class below =
+      item_if-none (is_on_cycle (wiring_of fabric) class) (Fault.loop class)
+      (gathered_below-empty (wiring_of fabric).count class (λ k. item_if (is_on_cycle (wiring_of fabric) k) (Fault.loop k)) no-loops below)
+
+  module _ (within : IsWithin fabric) where
+    -- there is one write order
+    pub taken-order : ExactlyOne (IsWriteOrder (wiring_of fabric))
+    taken-order =
+        let found = write_order-there (wiring_of fabric) (wiring-bounded fabric within) taken-open in
+        record { it = found.0; is = found.1; only = λ order is. order-one (wiring_of fabric) order found.0 is found.1 }
+
+    -- for each state and all values of pins there is one consistent list of net values
+    pub taken-value : (state : State) (pins : List Bool) → ExactlyOne (IsConsistent fabric state pins)
+    taken-value state pins =
+        let found = consistent-there fabric within state pins taken-single taken-order.it taken-order.is in
+        record {
+          it = found.0;
+          is = found.1;
+          only = λ v is. consistent-one fabric within state pins taken-order.it taken-order.is v found.0 is found.1;
+        }

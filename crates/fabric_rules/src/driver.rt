@@ -1,0 +1,38 @@
+// What drives nets, and what uses clocks.
+
+/// What drives a net. The order of drivers is the order below, then that of tiles (by row, then by column), then that of `n`, `i`
+/// or `bit`; a `Global` goes by `g`, then by net, and a `Link` by line.
+#[derive(Clone, Copy, Debug, PartialEq, Eq)]
+pub enum Driver {
+    /// An input pin, on its `io_n/D_IN_0`.
+    Pin { x: u8, y: u8, n: u8 },
+    /// An output pin, on its `io_n/D_IN_0`.
+    Back { x: u8, y: u8, n: u8 },
+    /// The LUT of a cell without flip-flop, on `lutff_i/out`.
+    Lut { x: u8, y: u8, i: u8 },
+    /// A flip-flop, on `lutff_i/out`.
+    Flip { x: u8, y: u8, i: u8 },
+    /// The LUT of a cell, on `lutff_i/lout`.
+    Lout { x: u8, y: u8, i: u8 },
+    /// The carry of a cell, on `lutff_i/cout`.
+    Carry { x: u8, y: u8, i: u8 },
+    /// The constant 1 on `carry_in_mux`.
+    CarrySet { x: u8, y: u8 },
+    /// A bit of a RAM's read register, on `ram/RDATA_bit`.
+    Ram { x: u8, y: u8, bit: u8 },
+    /// A global, on one of its nets.
+    Global { g: u8, net: u32 },
+    /// The `.buffer` line of that place in the database, on its destination.
+    Link { line: u32 },
+}
+
+/// What uses a clock at a tile.
+#[derive(Clone, Copy, Debug, PartialEq, Eq)]
+pub enum ClockUser {
+    /// The flip-flop of cell `i`.
+    Cell { i: u8 },
+    /// The read port of a RAM.
+    Read,
+    /// The write port of a RAM.
+    Write,
+}

@@ -1,0 +1,34 @@
+// Pins and global nets.
+
+/// A pin that is a port: pin `n` of the io tile at (x, y).
+#[derive(Clone, Copy, Debug, PartialEq, Eq)]
+pub struct Pin {
+    pub x: u8,
+    pub y: u8,
+    pub n: u8,
+    /// Whether it is an output pin; else it is an input pin.
+    pub output: bool,
+    /// Whether it is an output pin whose value can be read in the fabric.
+    pub back: bool,
+    /// `io_n/D_IN_0`.
+    pub din: Option<u32>,
+    /// `io_n/D_OUT_0`.
+    pub dout: Option<u32>,
+}
+
+/// A net of the global `g`, and what gives the global its value.
+#[derive(Clone, Copy, Debug, PartialEq, Eq)]
+pub struct GlobalNet {
+    pub g: u8,
+    pub net: u32,
+    pub from: GlobalFrom,
+}
+
+/// What gives a global its value.
+#[derive(Clone, Copy, Debug, PartialEq, Eq)]
+pub enum GlobalFrom {
+    /// Pin `n` of the io tile at (x, y).
+    Pad { x: u8, y: u8, n: u8 },
+    /// The net `fabout` of an io tile.
+    Fabout { net: u32 },
+}

@@ -1,0 +1,34 @@
+// Block RAMs.
+
+/// A used RAM, named by its lower tile. A port is the net of its name in the lower tile, else in the upper one, where there is one.
+#[derive(Clone, Copy)]
+pub struct RamCell {
+    pub x: u8,
+    pub y: u8,
+    /// Whether words are written at falling edges.
+    pub wneg: bool,
+    /// Whether words are read at falling edges.
+    pub rneg: bool,
+    /// `ram/RDATA_0` to `ram/RDATA_15`.
+    pub rdata: [Option<u32>; 16],
+    /// `ram/WDATA_0` to `ram/WDATA_15`.
+    pub wdata: [Option<u32>; 16],
+    /// `ram/MASK_0` to `ram/MASK_15`.
+    pub mask: [Option<u32>; 16],
+    /// `ram/WADDR_0` to `ram/WADDR_7`.
+    pub waddr: [Option<u32>; 8],
+    /// `ram/RADDR_0` to `ram/RADDR_7`.
+    pub raddr: [Option<u32>; 8],
+    /// `ram/WCLK`.
+    pub wclk: Option<u32>,
+    /// `ram/WCLKE`.
+    pub wclke: Option<u32>,
+    /// `ram/WE`.
+    pub we: Option<u32>,
+    /// `ram/RCLK`.
+    pub rclk: Option<u32>,
+    /// `ram/RCLKE`.
+    pub rclke: Option<u32>,
+    /// `ram/RE`.
+    pub re: Option<u32>,
+}

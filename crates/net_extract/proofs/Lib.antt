@@ -1,0 +1,5 @@
+pub mod Joined
+pub mod Trees
+pub mod Setting
+pub mod Ending
+pub mod Laws

@@ -1,0 +1,4 @@
+pub mod Entries
+pub mod Run
+pub mod Steps
+pub mod Values

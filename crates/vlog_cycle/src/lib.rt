@@ -1,0 +1,8 @@
+//! Runs modules of the Verilog subset over lists of events.
+#![tactic(auto)]
+
+mod event;
+mod plan;
+mod steps;
+
+pub use event::Event;

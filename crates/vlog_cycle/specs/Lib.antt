@@ -1,4 +1,6 @@
 pub mod Entries
+pub mod Numbered
 pub mod Run
+pub mod Slots
 pub mod Steps
 pub mod Values

@@ -1,5 +1,5 @@
 -- The run of a module over a list of events: what it holds after the start, and after each event.
-use Rattle.std.specs.Prelude.{ℕ, zero, suc, ◌-◌, Bool, true, false, not, ◌&&◌, ◌==◌, List, [], ◌∷◌, ◌++◌, Option, Some, None, bytes_eq, fold, map, flat_map, get_or, position, replicate, slice_set, unwrap_or, bit_and, bit_or, if◌then◌else◌}
+use Rattle.std.specs.Prelude.{ℕ, zero, suc, ◌-◌, Bool, true, false, not, ◌&&◌, ◌==◌, List, [], ◌∷◌, ◌++◌, Option, Some, None, fold, map, flat_map, get_or, replicate, slice_set, unwrap_or, bit_and, bit_or, if◌then◌else◌}
 use Rattle.vlog_module.specs.declared.atoms.Atom.{Atom}
 use Rattle.vlog_module.specs.declared.item.Item.{Item}
 use Rattle.vlog_module.specs.declared.item.Item.TheVariants.{Register, Word, Memory, Wire, Assign, Flip, Read, Write, Start}
@@ -8,6 +8,7 @@ use Rattle.vlog_module.specs.Maps.{value_in}
 use Rattle.vlog_module.specs.Parts.{Parts}
 use Rattle.vlog_cycle.specs.declared.event.Event.{Event}
 use Rattle.vlog_cycle.specs.Entries.{Entry, put}
+use Rattle.vlog_cycle.specs.Numbered.{numbered}
 use Rattle.vlog_cycle.specs.Values.{Readable, atom_value, atoms_value, lut_value, right_value}
 
 -- ---- names
@@ -28,7 +29,7 @@ output_names ports = flat_map output_name ports
 
 -- the place of a name among the inputs
 abbrev pub pin_of : List Port → List ℕ → Option ℕ
-pin_of ports name = position (bytes_eq name) (input_names ports)
+pin_of ports name = value_in (numbered 0 (input_names ports)) name
 
 -- ---- wires and outputs, once the rest is known
 

@@ -3,6 +3,7 @@
 
 mod event;
 mod plan;
+mod slots;
 mod steps;
 
 pub use event::Event;

@@ -1,2 +1,3 @@
+pub mod Filling
 pub mod Lookups
 pub mod Numbers

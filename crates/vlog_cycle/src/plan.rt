@@ -79,3 +79,15 @@ pub(crate) struct Write {
 
 /// 256 words of 16 bits.
 pub(crate) type Memory = [u16; 256];
+
+/// The items of a module over slots.
+#[derive(Drop)]
+pub(crate) struct Plan {
+    /// In the order of the text.
+    pub(crate) wires: Vec<Wire>,
+    /// What the outputs have, in the order of the ports.
+    pub(crate) outputs: Vec<Operand>,
+    pub(crate) flips: Vec<Flip>,
+    pub(crate) reads: Vec<Read>,
+    pub(crate) writes: Vec<Write>,
+}

@@ -1,3 +1,4 @@
 pub mod Filling
+pub mod Holding
 pub mod Lookups
 pub mod Numbers

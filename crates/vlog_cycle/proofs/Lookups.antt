@@ -1,5 +1,5 @@
 -- The values of names by their slots.
-use Rattle.std.proofs.Common.{◌≡◌, ℕ, zero, suc, ◌+◌, Bool, true, false, cond, List, [], ◌∷◌, ◌++◌, Option, Some, None, length, get_or, set, refl, sym, ap, ◌∙◌, subst, arith, append_assoc, add-one, add_assoc}
+use Rattle.std.proofs.Common.{◌≡◌, ℕ, zero, suc, ◌+◌, Bool, true, false, cond, List, [], ◌∷◌, ◌++◌, Option, Some, None, length, get_or, set, refl, sym, ap, ◌∙◌, subst, arith, append_assoc, append-nil, add-one, add_assoc}
 use Rattle.std.specs.Prelude.{bytes_eq, map, unwrap_or, is_some}
 use Rattle.std.specs.Option.{option_map, option_map_or}
 use Rattle.std.specs.Map.{lookup}
@@ -106,3 +106,25 @@ names-put {A = A} (entry ∷ entries) name value =
 pub none-from_is_some : {A : Type 0} (found : Option A) → is_some found ≡ false → found ≡ None
 none-from_is_some (Some value) is = cc
 none-from_is_some None is = refl
+
+-- ---- all names
+
+pub value_in-slots : {A : Type 0} (entries : List (List ℕ × A)) (name : List ℕ) (d : A)
+    → value_in entries name ≡ option_map (λ slot. get_or (map (λ entry. entry.1) entries) slot d) (value_in (numbered 0 (map (λ entry. entry.0) entries)) name)
+value_in-slots {A = A} entries name d =
+    value_in-slot [] entries [] name d 0 refl
+    ∙ ap (λ values. option_map (λ slot. get_or values slot d) (value_in (numbered 0 (map (λ (entry : List ℕ × A). entry.0) entries)) name)) (append-nil (map (λ (entry : List ℕ × A). entry.1) entries))
+
+pub put-slots : {A : Type 0} (entries : List (List ℕ × A)) (name : List ℕ) (value : A)
+    → map (λ entry. entry.1) (put entries name value)
+    ≡ option_map_or (λ slot. set (map (λ entry. entry.1) entries) slot value) (value_in (numbered 0 (map (λ entry. entry.0) entries)) name) (map (λ entry. entry.1) entries)
+put-slots {A = A} entries name value =
+    sym (append-nil (map (λ (entry : List ℕ × A). entry.1) (put entries name value)))
+    ∙ put-slot [] entries [] name value 0 refl
+    ∙ ap (λ values. option_map_or (λ slot. set values slot value) (value_in (numbered 0 (map (λ (entry : List ℕ × A). entry.0) entries)) name) values) (append-nil (map (λ (entry : List ℕ × A). entry.1) entries))
+
+-- one more name has the next number
+pub numbered-push : (from : ℕ) (names : List (List ℕ)) (name : List ℕ) → numbered from (names ++ name ∷ []) ≡ numbered from names ++ (name, from + length names) ∷ []
+numbered-push from [] name = ap (λ n. (name, n) ∷ []) (omega arith)
+numbered-push from (first ∷ names) name =
+    ap (λ rest. (first, from) ∷ rest) (numbered-push (from + 1) names name ∙ ap (λ n. numbered (from + 1) names ++ (name, n) ∷ []) (omega arith))

@@ -1,8 +1,11 @@
 pub mod Entries
 pub mod Found
+pub mod Held
+pub mod Named
 pub mod Numbered
 pub mod Plans
 pub mod Run
+pub mod Showing
 pub mod Slots
 pub mod Steps
 pub mod Values

@@ -109,7 +109,7 @@ is_edge falling bit = if falling then not bit else bit
 
 -- whether an event is the edge of a clocked item
 abbrev pub is_clocked : Parts → Event → Bool → List ℕ → Bool
-is_clocked m event falling clock = is_edge falling event.bit && is_pin event.pin (pin_of m.ports clock)
+is_clocked m event falling clock = is_pin event.pin (pin_of m.ports clock) && is_edge falling event.bit
 
 -- the word of a memory at an address, to be put into a register
 abbrev pub put_read : List (List ℕ × ℕ) → List ℕ → Option (List ℕ) → ℕ → List (List ℕ × ℕ)

@@ -36,7 +36,7 @@ wire_slot words bits wire = slice_set bits wire.slot (rule_value bits words wire
 
 -- whether an event is this edge
 abbrev pub is_edge_of : Event → Edge → Bool
-is_edge_of event edge = is_edge edge.falling event.bit && (edge.pin == event.pin)
+is_edge_of event edge = (edge.pin == event.pin) && is_edge edge.falling event.bit
 
 abbrev pub flip_slot : Event → List Bool → List ℕ → List Bool → Flip → List Bool
 flip_slot event bits words next flip =

@@ -2,6 +2,7 @@
 #![tactic(auto)]
 
 mod event;
+mod named;
 mod places;
 mod plan;
 mod slots;

@@ -114,7 +114,7 @@ fn settle(wires: &[Wire], words: &[u16], bits: &mut [bool])
 fn is_edge_of(event: Event, edge: Edge) -> bool
     ensures { result ≡ is_edge_of event edge }
 {
-    is_edge(edge.falling, event.bit) && edge.pin == event.pin
+    edge.pin == event.pin && is_edge(edge.falling, event.bit)
 }
 
 /// Whether an input that gets this bit, and had the other, has the edge.

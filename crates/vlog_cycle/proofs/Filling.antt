@@ -1,9 +1,10 @@
 -- Lists that are filled place by place.
-use Rattle.std.proofs.Common.{◌≡◌, ℕ, ◌+◌, ◌<◌, List, [], ◌∷◌, ◌++◌, Option, Some, None, length, get_or, set, take, refl, sym, ap, ap₂, ◌∙◌, arith}
+use Rattle.std.proofs.Common.{◌≡◌, ℕ, ◌+◌, ◌<◌, append-nil, flat_map, List, [], ◌∷◌, ◌++◌, Option, Some, None, length, get_or, set, take, refl, sym, ap, ap₂, ◌∙◌, arith}
 use Rattle.std.specs.Prelude.{map, slice_get}
 use Rattle.std.proofs.lemmas.List.{take_more, take_more_set, map_more, take_all}
 use Rattle.std.specs.List.{filter_map, cons_option}
 use Rattle.std.specs.Option.{option_to_list}
+use Rattle.std.proofs.lemmas.List.Concat.{flat_map-append}
 use Rattle.std.proofs.lemmas.List.Elements.{filter_map-append}
 use Rattle.std.proofs.lemmas.Option.{get_or_from_slice_get}
 
@@ -30,3 +31,11 @@ filter_map-more f xs ys zs i x found within at so_far is pushed =
     ∙ ap (λ last. filter_map f (take i xs) ++ last) (sym (filter_map-one f x))
     ∙ sym (filter_map-append f (take i xs) (x ∷ []))
     ∙ ap (filter_map f) (ap (λ y. take i xs ++ y ∷ []) at ∙ sym (take_more xs i x within))
+
+-- one item more
+pub flat_map-more : {A B : Type 0} (f : A → List B) (xs : List A) (i : ℕ) (x : A) → i < length xs → x ≡ get_or xs i x
+    → flat_map f (take (i + 1) xs) ≡ flat_map f (take i xs) ++ f x
+flat_map-more f xs i x within at =
+    ap (flat_map f) (take_more xs i x within ∙ ap (λ y. take i xs ++ y ∷ []) (sym at))
+    ∙ flat_map-append f (take i xs) (x ∷ [])
+    ∙ ap (λ last. flat_map f (take i xs) ++ last) (append-nil (f x))

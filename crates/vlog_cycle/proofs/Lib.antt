@@ -2,3 +2,4 @@ pub mod Filling
 pub mod Holding
 pub mod Lookups
 pub mod Numbers
+pub mod Wires

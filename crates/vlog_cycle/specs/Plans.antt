@@ -1,5 +1,5 @@
 -- Items over slots, made of the items of a module.
-use Rattle.std.specs.Prelude.{ℕ, Bool, false, List, [], ◌∷◌, ◌++◌, Option, Some, None, fold, map, flat_map, length}
+use Rattle.std.specs.Prelude.{ℕ, Bool, false, List, [], ◌∷◌, ◌++◌, Option, Some, None, fold, map, flat_map, length, if◌then◌else◌}
 use Rattle.vlog_module.specs.declared.atoms.Atom.{Atom}
 use Rattle.vlog_module.specs.declared.atoms.Atom.TheVariants.{Bit, Whole, Part}
 use Rattle.vlog_module.specs.declared.item.Lut.{Lut}
@@ -7,6 +7,7 @@ use Rattle.vlog_module.specs.declared.item.Right.{Right}
 use Rattle.vlog_module.specs.declared.item.Right.TheVariants.{Bit as RightBit, Whole as RightWhole, Part as RightPart, Lut as RightLut, Majority as RightMajority}
 use Rattle.vlog_module.specs.declared.item.Item.{Item}
 use Rattle.vlog_module.specs.declared.item.Item.TheVariants.{Wire as WireItem, Assign, Flip as FlipItem, Read as ReadItem, Write as WriteItem}
+use Rattle.vlog_module.specs.declared.modules.Port.{Port}
 use Rattle.vlog_module.specs.Maps.{value_in}
 use Rattle.vlog_cycle.specs.declared.plan.Operand.{Operand}
 use Rattle.vlog_cycle.specs.declared.plan.Operand.TheVariants.{Constant, Slot, Part as PartOperand}
@@ -66,14 +67,18 @@ wires_of words names (WireItem name right ∷ items) =
     record { slot = length names; rule = rule_of (value_in (numbered 0 names)) words right } ∷ wires_of words (names ++ name ∷ []) items
 wires_of words names (_ ∷ items) = wires_of words names items
 
+-- an output that has no atom yet
+abbrev pub blank_output : Port → List (List ℕ × Operand)
+blank_output port = if port.output then (port.name, Constant false) ∷ [] else []
+
 -- an output gets its atom
 abbrev pub output_operand : (List ℕ → Option ℕ) → (List ℕ → Option ℕ) → List (List ℕ × Operand) → Item → List (List ℕ × Operand)
 output_operand bits words outputs (Assign name value) = put outputs name (operand_of bits words value)
 output_operand bits words outputs _ = outputs
 
 -- the atoms of outputs
-abbrev pub outputs_of : (List ℕ → Option ℕ) → (List ℕ → Option ℕ) → List (List ℕ) → List Item → List (List ℕ × Operand)
-outputs_of bits words names items = fold (output_operand bits words) (map (λ name. (name, Constant false)) names) items
+abbrev pub outputs_of : (List ℕ → Option ℕ) → (List ℕ → Option ℕ) → List Port → List Item → List (List ℕ × Operand)
+outputs_of bits words ports items = fold (output_operand bits words) (flat_map blank_output ports) items
 
 -- what is made of two places, where both are found
 abbrev pub of_two : {A : Type 0} → Option ℕ → Option ℕ → (ℕ → ℕ → A) → Option A

@@ -8,24 +8,23 @@ use Rattle.vlog_module.specs.Maps.{value_in}
 use Rattle.vlog_module.specs.Parts.{Parts}
 use Rattle.vlog_cycle.specs.declared.event.Event.{Event}
 use Rattle.vlog_cycle.specs.Entries.{Entry, put}
+use Rattle.vlog_cycle.specs.Named.{names_of}
 use Rattle.vlog_cycle.specs.Numbered.{numbered}
 use Rattle.vlog_cycle.specs.Values.{Readable, atom_value, atoms_value, lut_value, right_value}
 
 -- ---- names
 
-abbrev pub input_name : Port → List (List ℕ)
-input_name port = if port.output then [] else port.name ∷ []
+-- an input, which is 0 at the start
+abbrev pub input_start : Port → List (List ℕ × Bool)
+input_start port = if port.output then [] else (port.name, false) ∷ []
 
-abbrev pub output_name : Port → List (List ℕ)
-output_name port = if port.output then port.name ∷ [] else []
+-- an output that isn't assigned yet
+abbrev pub output_start : Port → List (List ℕ × Bool)
+output_start port = if port.output then (port.name, false) ∷ [] else []
 
 -- the inputs, in the order of the ports
 abbrev pub input_names : List Port → List (List ℕ)
-input_names ports = flat_map input_name ports
-
--- the outputs, in the order of the ports
-abbrev pub output_names : List Port → List (List ℕ)
-output_names ports = flat_map output_name ports
+input_names ports = names_of (flat_map input_start ports)
 
 -- the place of a name among the inputs
 abbrev pub pin_of : List Port → List ℕ → Option ℕ
@@ -59,7 +58,7 @@ settled m inputs registers words memories =
       memories = memories;
       wires = wires;
       outputs = fold (output_step (record { bits = inputs ++ registers ++ wires; words = words }))
-      (map (λ name. (name, false)) (output_names m.ports)) m.items;
+      (flat_map output_start m.ports) m.items;
     }
 
 -- ---- the start
@@ -93,7 +92,7 @@ start_step memories _ = memories
 -- inputs and words without a start are 0
 unfoldable pub start : Parts → Entry
 start m =
-    settled m (map (λ name. (name, false)) (input_names m.ports)) (flat_map register_start m.items)
+    settled m (flat_map input_start m.ports) (flat_map register_start m.items)
     (flat_map word_start m.items) (fold start_step (flat_map memory_start m.items) m.items)
 
 -- ---- an event

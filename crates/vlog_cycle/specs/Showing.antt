@@ -1,5 +1,5 @@
 -- When slots show an entry of a module.
-use Rattle.std.specs.Prelude.{◌≡◌, ℕ, List, [], ◌∷◌, ◌++◌, flat_map, length, map, vec_len}
+use Rattle.std.specs.Prelude.{◌≡◌, ℕ, Bool, false, List, [], ◌∷◌, ◌++◌, flat_map, length, map, vec_len}
 use Rattle.std.specs.List.{filter_map}
 use Rattle.vlog_module.specs.declared.item.Item.{Item}
 use Rattle.vlog_module.specs.declared.item.Item.TheVariants.{Wire}
@@ -10,7 +10,7 @@ use Rattle.vlog_cycle.specs.Entries.{Entry}
 use Rattle.vlog_cycle.specs.Numbered.{numbered}
 use Rattle.vlog_cycle.specs.Named.{names_of, values_of}
 use Rattle.vlog_cycle.specs.Plans.{Places, flip_of, outputs_of, read_of, wires_of, write_of}
-use Rattle.vlog_cycle.specs.Run.{input_names, memory_start, output_names, readable, register_start, word_start}
+use Rattle.vlog_cycle.specs.Run.{input_names, memory_start, readable, register_start, word_start}
 
 -- ---- the names of a module
 
@@ -23,12 +23,13 @@ word_names items = names_of (flat_map word_start items)
 abbrev pub memory_names : List Item → List (List ℕ)
 memory_names items = names_of (flat_map memory_start items)
 
-abbrev pub wire_name : Item → List (List ℕ)
-wire_name (Wire name right) = name ∷ []
-wire_name _ = []
+-- a wire that has no value yet
+abbrev pub wire_start : Item → List (List ℕ × Bool)
+wire_start (Wire name right) = (name, false) ∷ []
+wire_start _ = []
 
 abbrev pub wire_names : List Item → List (List ℕ)
-wire_names items = flat_map wire_name items
+wire_names items = names_of (flat_map wire_start items)
 
 -- the entry has the names of the module
 pub record IsNamed (m : Parts) (entry : Entry) : Type 0 where
@@ -53,7 +54,7 @@ places_of m = record {
 -- the plan has the items of the module over their slots
 pub record IsPlan (m : Parts) (plan : Plan) : Type 0 where
   pub wires : plan.wires.items ≡ wires_of (places_of m).words (input_names m.ports ++ register_names m.items) m.items
-  pub outputs : plan.outputs.items ≡ values_of (outputs_of (places_of m).bits (places_of m).words (output_names m.ports) m.items)
+  pub outputs : plan.outputs.items ≡ values_of (outputs_of (places_of m).bits (places_of m).words m.ports m.items)
   pub flips : plan.flips.items ≡ filter_map (flip_of (places_of m)) m.items
   pub reads : plan.reads.items ≡ filter_map (read_of (places_of m)) m.items
   pub writes : plan.writes.items ≡ filter_map (write_of (places_of m)) m.items

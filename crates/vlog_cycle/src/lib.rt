@@ -1,6 +1,7 @@
 //! Runs modules of the Verilog subset over lists of events.
 #![tactic(auto)]
 
+mod build;
 mod event;
 mod named;
 mod places;

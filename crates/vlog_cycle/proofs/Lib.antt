@@ -1,3 +1,5 @@
+pub mod Atoms
+pub mod Clocked
 pub mod Filling
 pub mod Holding
 pub mod Lookups

@@ -36,16 +36,16 @@ entry_places entry = record {
   memories = slots_of entry.memories;
 }
 
-fold-cons_option : {A B : Type 0} (f : B → A → B) (start : B) (found : Option A) (xs : List A)
+pub fold-cons_option : {A B : Type 0} (f : B → A → B) (start : B) (found : Option A) (xs : List A)
     → fold f start (cons_option found xs) ≡ fold f (fold f start (option_to_list found)) xs
 fold-cons_option f start (Some x) xs = refl
 fold-cons_option f start None xs = refl
 
-cond-same : {A : Type 0} (b : Bool) (x : A) → x ≡ cond b x x
+pub cond-same : {A : Type 0} (b : Bool) (x : A) → x ≡ cond b x x
 cond-same true x = refl
 cond-same false x = refl
 
-cond-out : {A B : Type 0} (f : A → B) (b : Bool) (x y : A) → cond b (f x) (f y) ≡ f (cond b x y)
+pub cond-out : {A B : Type 0} (f : A → B) (b : Bool) (x y : A) → cond b (f x) (f y) ≡ f (cond b x y)
 cond-out f true x y = refl
 cond-out f false x y = refl
 

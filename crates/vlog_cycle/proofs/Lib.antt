@@ -5,4 +5,5 @@ pub mod Holding
 pub mod Lookups
 pub mod Memories
 pub mod Numbers
+pub mod Outputs
 pub mod Wires

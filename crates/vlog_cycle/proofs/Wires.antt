@@ -11,7 +11,7 @@ use Rattle.vlog_cycle.specs.Run.{wire_step}
 use Rattle.vlog_cycle.specs.Steps.{rule_value, wire_slot}
 use Rattle.vlog_cycle.specs.Values.{Readable, right_value}
 use Rattle.vlog_cycle.proofs.Atoms.{rule-same, slots_of}
-use Rattle.vlog_cycle.specs.Showing.{wire_names, wire_start}
+use Rattle.vlog_cycle.specs.ModuleSlots.{wire_names, wire_start}
 
 -- the wires of one item more
 pub wires_of-push : (words : List ℕ → Option ℕ) (names : List (List ℕ)) (items : List Item) (item : Item)

@@ -1,6 +1,8 @@
+pub mod Begun
 pub mod Entries
 pub mod Found
 pub mod Held
+pub mod ModuleSlots
 pub mod Named
 pub mod Numbered
 pub mod Plans

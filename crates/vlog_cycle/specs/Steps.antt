@@ -11,6 +11,7 @@ use Rattle.vlog_cycle.specs.declared.plan.Edge.{Edge}
 use Rattle.vlog_cycle.specs.declared.plan.Flip.{Flip}
 use Rattle.vlog_cycle.specs.declared.plan.Read.{Read}
 use Rattle.vlog_cycle.specs.declared.plan.Write.{Write}
+use Rattle.vlog_cycle.specs.declared.plan.Plan.{Plan}
 use Rattle.vlog_cycle.specs.Run.{is_edge, masked}
 use Rattle.vlog_cycle.specs.Values.{bit_of, majority, number_of}
 
@@ -67,3 +68,16 @@ write_slot event bits words memories next write =
     if is_edge_of event write.edge && operand_value bits words write.clock_enable && operand_value bits words write.enable
     then set_word next write.memory (operands_value bits words write.address) (written_word bits words memories write)
     else next
+
+-- ---- an event that changes its input
+
+abbrev pub words_after : Plan → Event → List Bool → List ℕ → List (List ℕ) → List ℕ
+words_after plan event bits words memories = fold (read_slot event bits words memories) words plan.reads.items
+
+abbrev pub memories_after : Plan → Event → List Bool → List ℕ → List (List ℕ) → List (List ℕ)
+memories_after plan event bits words memories = fold (write_slot event bits words memories) memories plan.writes.items
+
+abbrev pub bits_after : Plan → Event → List Bool → List ℕ → List (List ℕ) → List Bool
+bits_after plan event bits words memories =
+    fold (wire_slot (words_after plan event bits words memories))
+    (slice_set (fold (flip_slot event bits words) bits plan.flips.items) event.pin event.bit) plan.wires.items

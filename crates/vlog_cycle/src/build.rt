@@ -7,7 +7,7 @@ ghost use Rattle.vlog_cycle.specs.Named.{names_of};
 ghost use Rattle.vlog_cycle.specs.Numbered.{numbered};
 ghost use Rattle.vlog_cycle.specs.Plans.{blank_output, output_operand, wires_of};
 ghost use Rattle.vlog_cycle.specs.Run.{input_start, memory_start, put_word, register_start, start_step, word_start};
-ghost use Rattle.vlog_cycle.specs.Showing.{wire_start};
+ghost use Rattle.vlog_cycle.specs.ModuleSlots.{wire_start};
 ghost use Rattle.vlog_cycle.specs.Slots.{Finds, slot_of};
 ghost use Rattle.vlog_cycle.specs.Steps.{set_word};
 

@@ -4,8 +4,10 @@
 mod build;
 mod event;
 mod named;
+mod names;
 mod places;
 mod plan;
+mod runner;
 mod slots;
 mod steps;
 

@@ -1,14 +1,14 @@
 // What an event does to the bits, words and memories of the slots.
 ghost use Rattle.std.specs.Prelude.{◌≡◌, ◌<◌, ◌≤◌, ◌^◌, ◌+◌, ◌*◌, ◌&&◌, ℕ, List, [], false, length, map, fold, get_or, slice_set, if◌then◌else◌};
 ghost use Rattle.vlog_cycle.specs.Run.{is_edge, masked};
-ghost use Rattle.vlog_cycle.specs.Steps.{flip_slot, is_edge_of, operand_value, operands_value, read_slot, rule_value, set_word, table_value, wire_slot, word_in, write_slot, written_word};
+ghost use Rattle.vlog_cycle.specs.Steps.{bits_after, flip_slot, is_edge_of, memories_after, operand_value, operands_value, read_slot, rule_value, set_word, table_value, wire_slot, word_in, words_after, write_slot, written_word};
 ghost use Rattle.vlog_cycle.specs.Values.{bit_of, majority, number_of};
 
 use crate::event::Event;
-use crate::plan::{Edge, Flip, Memory, Operand, Read, Rule, Table, Wire, Write};
+use crate::plan::{Edge, Flip, Memory, Operand, Plan, Read, Rule, Table, Wire, Write};
 
 /// The bit of a slot, and 0 past the last.
-fn bit_at(bits: &[bool], slot: usize) -> bool
+pub(crate) fn bit_at(bits: &[bool], slot: usize) -> bool
     ensures { result ≡ get_or bits.now slot false }
 {
     match bits.get(slot) {
@@ -18,7 +18,7 @@ fn bit_at(bits: &[bool], slot: usize) -> bool
 }
 
 /// The word of a slot, and 0 past the last.
-fn word_at(words: &[u16], slot: usize) -> u16
+pub(crate) fn word_at(words: &[u16], slot: usize) -> u16
     ensures { result ≡ get_or words.now slot 0 }
 {
     match words.get(slot) {
@@ -101,7 +101,7 @@ fn set_bit(bits: &mut [bool], slot: usize, bit: bool)
 }
 
 /// Gives each wire its value, one after the other.
-fn settle(wires: &[Wire], words: &[u16], bits: &mut [bool])
+pub(crate) fn settle(wires: &[Wire], words: &[u16], bits: &mut [bool])
     ensures { bits.new ≡ fold (wire_slot words.now) bits.old wires.now }
 {
     for wire in wires {
@@ -148,7 +148,7 @@ fn next_bit(flip: &Flip, bits: &[bool], words: &[u16]) -> bool
 }
 
 /// The word of a memory at an address, and 0 where there is no such memory.
-fn word_in(memories: &[Memory], memory: usize, address: u8) -> u16
+pub(crate) fn word_in(memories: &[Memory], memory: usize, address: u8) -> u16
     ensures { result ≡ word_in memories.now memory address }
 {
     match memories.get(memory) {
@@ -263,4 +263,71 @@ fn run_writes(
             set_word(memories, write.memory, address_of(bits, words, &write.address), word);
         }
     }
+}
+
+/// Gives each output its value.
+pub(crate) fn write_outputs(
+    operands: &[Operand],
+    bits: &[bool],
+    words: &[u16],
+    outputs: &mut [bool],
+)
+    ensures { length outputs.old ≡ length operands.now → outputs.new ≡ map (operand_value bits.now words.now) operands.now }
+{
+    for (place, operand) in operands.iter().enumerate() {
+        let bit = operand_value(bits, words, *operand);
+        set_bit(outputs, place, bit);
+    }
+}
+
+/// Copies bits to as many bits.
+fn copy_bits(from: &[bool], to: &mut [bool])
+    ensures { length to.old ≡ length from.now → to.new ≡ from.now }
+{
+    if to.len() == from.len() {
+        to.copy_from_slice(from);
+    }
+}
+
+/// Copies words to as many words.
+fn copy_words(from: &[u16], to: &mut [u16])
+    ensures { length to.old ≡ length from.now → to.new ≡ from.now }
+{
+    if to.len() == from.len() {
+        to.copy_from_slice(from);
+    }
+}
+
+/// Takes an event that changes its input. What the clocked items assign is computed before any of it takes effect.
+pub(crate) fn change(
+    plan: &Plan,
+    event: Event,
+    bits: &mut [bool],
+    next_bits: &mut [bool],
+    words: &mut [u16],
+    next_words: &mut [u16],
+    memories: &mut [Memory],
+    written: &mut [u16],
+    outputs: &mut [bool],
+)
+    requires bits_room { length next_bits.old ≡ length bits.old }
+    requires words_room { length next_words.old ≡ length words.old }
+    requires writes_room { length written.old ≡ length plan.now.writes.items }
+    requires outputs_room { length outputs.old ≡ length plan.now.outputs.items }
+    ensures bits { bits.new ≡ bits_after plan.now event bits.old words.old memories.old }
+    ensures words { words.new ≡ words_after plan.now event bits.old words.old memories.old }
+    ensures memories { memories.new ≡ memories_after plan.now event bits.old words.old memories.old }
+    ensures outputs { outputs.new ≡ map (operand_value bits.new words.new) plan.now.outputs.items }
+{
+    copy_bits(bits, next_bits);
+    run_flips(&plan.flips, event, bits, words, next_bits);
+    copy_words(words, next_words);
+    run_reads(&plan.reads, event, bits, words, memories, next_words);
+    prepare_writes(&plan.writes, bits, words, memories, written);
+    run_writes(&plan.writes, event, bits, words, written, memories);
+    copy_bits(next_bits, bits);
+    copy_words(next_words, words);
+    set_bit(bits, event.pin, event.bit);
+    settle(&plan.wires, words, bits);
+    write_outputs(&plan.outputs, bits, words, outputs);
 }

@@ -3,7 +3,7 @@ use Rattle.std.proofs.lemmas.List.{map-append}
 use Rattle.vlog_cycle.specs.Held.{Holds}
 use Rattle.vlog_cycle.specs.Named.{names_of}
 use Rattle.vlog_cycle.specs.Plans.{wires_of}
-use Rattle.vlog_cycle.specs.Showing.{wire_start}
+use Rattle.vlog_cycle.specs.ModuleSlots.{wire_start}
 use Rattle.vlog_cycle.specs.Slots.{slot_of}
 use Rattle.vlog_cycle.proofs.Filling.{flat_map-more}
 use Rattle.vlog_cycle.proofs.Wires.{wires_of-more}

@@ -2,7 +2,7 @@ use Rattle.std.proofs.Common.{◌≡◌, ℕ, Bool, List, [], ◌++◌, flat_map
 use Rattle.vlog_cycle.specs.Held.{Holds}
 use Rattle.vlog_cycle.specs.Named.{names_of}
 use Rattle.vlog_cycle.specs.Plans.{wires_of}
-use Rattle.vlog_cycle.specs.Showing.{wire_start}
+use Rattle.vlog_cycle.specs.ModuleSlots.{wire_start}
 use Rattle.vlog_cycle.specs.Slots.{slot_of}
 use Rattle.vlog_cycle.proofs.build.add_wires.Given as goal
 

@@ -1,4 +1,5 @@
 pub mod Atoms
+pub mod Beginning
 pub mod Clocked
 pub mod Filling
 pub mod Holding

@@ -35,7 +35,7 @@ names-starts memories (Start memory k word ∷ items) =
     names-starts (put_word memories memory k word) items ∙ names-put memories memory (slice_set (words_of memories memory) k word)
 names-starts memories (other ∷ items) = names-starts memories items
 
-same-places : (a b : Places) → a.pins ≡ b.pins → a.bits ≡ b.bits → a.registers ≡ b.registers → a.words ≡ b.words → a.memories ≡ b.memories → a ≡ b
+pub same-places : (a b : Places) → a.pins ≡ b.pins → a.bits ≡ b.bits → a.registers ≡ b.registers → a.words ≡ b.words → a.memories ≡ b.memories → a ≡ b
 same-places a b pins bits registers words memories =
     ap₂ (λ f g. f g)
     (ap₂ (λ (f : (List ℕ → Option ℕ) → (List ℕ → Option ℕ) → Places) (g : List ℕ → Option ℕ). f g)

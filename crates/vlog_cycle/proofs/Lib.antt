@@ -1,6 +1,7 @@
 pub mod Atoms
 pub mod Beginning
 pub mod Clocked
+pub mod Entering
 pub mod Filling
 pub mod Holding
 pub mod Lookups

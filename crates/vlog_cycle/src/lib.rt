@@ -7,8 +7,10 @@ mod named;
 mod names;
 mod places;
 mod plan;
+mod planning;
 mod runner;
 mod slots;
 mod steps;
 
 pub use event::Event;
+pub use runner::Runner;

@@ -1,6 +1,6 @@
 // What an event does to the bits, words and memories of the slots.
 ghost use Rattle.std.specs.Prelude.{◌≡◌, ◌<◌, ◌≤◌, ◌^◌, ◌+◌, ◌*◌, ◌&&◌, ℕ, List, [], false, length, map, fold, get_or, slice_set, if◌then◌else◌};
-ghost use Rattle.vlog_cycle.specs.Run.{is_edge, masked};
+ghost use Rattle.vlog_cycle.specs.Run.{is_edge, is_same_bit, masked};
 ghost use Rattle.vlog_cycle.specs.Steps.{bits_after, flip_slot, is_edge_of, memories_after, operand_value, operands_value, read_slot, rule_value, set_word, table_value, wire_slot, word_in, words_after, write_slot, written_word};
 ghost use Rattle.vlog_cycle.specs.Values.{bit_of, majority, number_of};
 
@@ -330,4 +330,11 @@ pub(crate) fn change(
     set_bit(bits, event.pin, event.bit);
     settle(&plan.wires, words, bits);
     write_outputs(&plan.outputs, bits, words, outputs);
+}
+
+/// Whether two bits are the same.
+pub(crate) fn is_same_bit(a: bool, b: bool) -> bool
+    ensures { result ≡ is_same_bit a b }
+{
+    if a { b } else { !b }
 }

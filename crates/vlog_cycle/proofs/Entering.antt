@@ -168,3 +168,73 @@ input-slot m entry pin named within =
     subst (λ n. pin < n) (ap length (sym named.inputs) ∙ length-map entry.inputs (λ (e : List ℕ × Bool). e.0) ∙ sym (length-map entry.inputs (λ (e : List ℕ × Bool). e.1))) within in
     ap (λ list. get_or list pin false) (registers-apart entry)
     ∙ get_or_append_left (values_of entry.inputs) (values_of entry.registers ++ values_of entry.wires) false pin here
+
+-- ---- what the slots have after an event
+
+pub record Changed (m : Parts) (plan : Plan) (entry : Entry) (event : Event) (bits : List Bool) (words : List ℕ) (memories : List (List ℕ)) : Type 0 where
+  pub bits_are : bits_after plan event bits words memories ≡ values_of (readable (changed m entry event)).bits
+  pub words_are : words_after plan event bits words memories ≡ values_of (changed m entry event).words
+  pub memories_are : memories_after plan event bits words memories ≡ values_of (changed m entry event).memories
+  pub outputs_are : map (operand_value (bits_after plan event bits words memories) (words_after plan event bits words memories)) plan.outputs.items ≡ values_of (changed m entry event).outputs
+  pub named : IsNamed m (changed m entry event)
+
+changed-from : (m : Parts) (plan : Plan) (entry : Entry) (event : Event) → IsNamed m entry → IsPlan m plan → event.pin < length (input_names m.ports)
+    → Changed m plan entry event (values_of (readable entry).bits) (values_of entry.words) (values_of entry.memories)
+unfolding changed settled
+changed-from m plan entry event named planned within =
+    let inputs : List (List ℕ × Bool) = with_input entry.inputs event.pin event.bit in
+    let registers : List (List ℕ × Bool) = fold (register_step m entry event) entry.registers m.items in
+    let words : List (List ℕ × ℕ) = fold (word_step m entry event) entry.words m.items in
+    let memories : List (List ℕ × List ℕ) = fold (memory_step m entry event) entry.memories m.items in
+    let are : AreNamed m inputs registers words memories = changed-named m entry event named in
+    record {
+      bits_are = bits-changed m plan entry event named planned within;
+      words_are = words-changed m plan entry event named planned;
+      memories_are = memories-changed m plan entry event named planned;
+      outputs_are = ap₂ (λ b w. map (operand_value b w) plan.outputs.items) (bits-changed m plan entry event named planned within) (words-changed m plan entry event named planned)
+      ∙ settled-outputs m plan inputs registers words memories are planned;
+      named = settled-named m inputs registers words memories are;
+    }
+
+pub changed-values : (m : Parts) (plan : Plan) (entry : Entry) (event : Event) (bits : List Bool) (words : List ℕ) (memories : List (List ℕ))
+    → bits ≡ values_of (readable entry).bits → words ≡ values_of entry.words → memories ≡ values_of entry.memories
+    → IsNamed m entry → IsPlan m plan → event.pin < length (input_names m.ports) → Changed m plan entry event bits words memories
+changed-values m plan entry event bits words memories bits_are words_are memories_are named planned within =
+    subst (λ b. Changed m plan entry event b words memories) (sym bits_are)
+    (subst (λ w. Changed m plan entry event (values_of (readable entry).bits) w memories) (sym words_are)
+    (subst (λ k. Changed m plan entry event (values_of (readable entry).bits) (values_of entry.words) k) (sym memories_are) (changed-from m plan entry event named planned within)))
+
+pub followed-changed : (m : Parts) (entry : Entry) (event : Event) → is_same_bit event.bit (input_bit entry event.pin) ≡ false → changed m entry event ≡ followed m entry event
+unfolding followed
+followed-changed m entry event differs = sym (ap (λ b. cond b entry (changed m entry event)) differs)
+
+pub followed-same : (m : Parts) (entry : Entry) (event : Event) → is_same_bit event.bit (input_bit entry event.pin) ≡ true → entry ≡ followed m entry event
+unfolding followed
+followed-same m entry event same = sym (ap (λ b. cond b entry (changed m entry event)) same)
+
+-- ---- what the slots have at the start
+
+pub record Started (m : Parts) (plan : Plan) (bits : List Bool) (words : List ℕ) : Type 0 where
+  pub bits_are : fold (wire_slot words) bits plan.wires.items ≡ values_of (readable (start m)).bits
+  pub outputs_are : map (operand_value (fold (wire_slot words) bits plan.wires.items) words) plan.outputs.items ≡ values_of (start m).outputs
+  pub named : IsNamed m (start m)
+
+pub started-values : (m : Parts) (plan : Plan) (bits : List Bool) (words : List ℕ)
+    → bits ≡ values_of (flat_map input_start m.ports ++ flat_map register_start m.items ++ flat_map wire_start m.items) → words ≡ values_of (flat_map word_start m.items)
+    → IsPlan m plan → Started m plan bits words
+unfolding start settled
+started-values m plan bits words bits_are words_are planned =
+    let inputs : List (List ℕ × Bool) = flat_map input_start m.ports in
+    let registers : List (List ℕ × Bool) = flat_map register_start m.items in
+    let wires : List (List ℕ × Bool) = flat_map wire_start m.items in
+    let word_map : List (List ℕ × ℕ) = flat_map word_start m.items in
+    let memories : List (List ℕ × List ℕ) = fold start_step (flat_map memory_start m.items) m.items in
+    let size : length (values_of wires) ≡ length (wire_names m.items) = length-map wires (λ (e : List ℕ × Bool). e.1) ∙ sym (length-map wires (λ (e : List ℕ × Bool). e.0)) in
+    let settled_bits : fold (wire_slot words) bits plan.wires.items ≡ values_of (readable (start m)).bits =
+    ap₂ (λ w b. fold (wire_slot w) b plan.wires.items) words_are (bits_are ∙ map-append (λ (e : List ℕ × Bool). e.1) (inputs ++ registers) wires)
+    ∙ settled-bits m plan inputs registers word_map memories (values_of wires) (start-named m) planned size in
+    record {
+      bits_are = settled_bits;
+      outputs_are = ap₂ (λ b w. map (operand_value b w) plan.outputs.items) settled_bits words_are ∙ settled-outputs m plan inputs registers word_map memories (start-named m) planned;
+      named = settled-named m inputs registers word_map memories (start-named m);
+    }

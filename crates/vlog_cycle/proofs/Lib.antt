@@ -8,4 +8,5 @@ pub mod Lookups
 pub mod Memories
 pub mod Numbers
 pub mod Outputs
+pub mod Reading
 pub mod Wires

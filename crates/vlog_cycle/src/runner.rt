@@ -84,19 +84,20 @@ impl Runner {
         ensures { (m : Parts) (entry : Entry) → Shows self.old m entry → pin < length (input_names m.ports)
             → Shows self.new m (followed m entry (record { pin = pin; bit = bit })) }
     {
-        if !is_same_bit(bit, bit_at(&self.bits, pin)) {
-            change(
-                &self.plan,
-                Event { pin, bit },
-                &mut self.bits,
-                &mut self.next_bits,
-                &mut self.words,
-                &mut self.next_words,
-                &mut self.memories,
-                &mut self.written,
-                &mut self.outputs,
-            );
+        if is_same_bit(bit, bit_at(&self.bits, pin)) {
+            return;
         }
+        change(
+            &self.plan,
+            Event { pin, bit },
+            &mut self.bits,
+            &mut self.next_bits,
+            &mut self.words,
+            &mut self.next_words,
+            &mut self.memories,
+            &mut self.written,
+            &mut self.outputs,
+        );
     }
 
     /// How many inputs there are.

@@ -1,0 +1,39 @@
+use Rattle.std.proofs.Common.{◌≡◌, ℕ, Bool, true, false, List, ap, ap₂, arith, get_or, length, refl, subst, sym, ◌∙◌}
+use Rattle.std.proofs.lemmas.List.{with_items_is}
+use Rattle.vlog_cycle.specs.declared.event.Event.{Event}
+use Rattle.vlog_cycle.specs.Entries.{Entry}
+use Rattle.vlog_cycle.specs.Run.{changed, followed, input_bit, is_same_bit}
+use Rattle.vlog_cycle.specs.Showing.{Shows}
+use Rattle.vlog_cycle.specs.Steps.{operand_value}
+use Rattle.std.specs.Prelude.{map}
+use Rattle.vlog_cycle.proofs.Entering.{Changed, changed-values, followed-changed, followed-same, input-slot}
+use Rattle.vlog_cycle.proofs.runner.Runner.event.Goals as goal
+
+pub returns-then-is_same_bit : goal.returns-then-is_same_bit
+returns-then-is_same_bit c m entry shows within =
+    let event : Event = record { pin = c.args.pin; bit = c.args.bit } in
+    let bit = c.bit_at.ensures ∙ ap (λ bits. get_or bits c.args.pin false) (c.deref.ensures.value ∙ shows.bits) ∙ input-slot m entry c.args.pin shows.named within in
+    let same = ap (is_same_bit c.args.bit) (sym bit) ∙ sym c.is_same_bit.ensures ∙ c.if-is_same_bit.true in
+    subst (λ after. Shows _ m after) (followed-same m entry event same) shows
+
+pub returns : goal.returns
+returns c m entry shows within =
+    let event : Event = record { pin = c.args.pin; bit = c.args.bit } in
+    let r = c.args.self.now in
+    let bit = c.bit_at.ensures ∙ ap (λ bits. get_or bits c.args.pin false) (c.deref.ensures.value ∙ shows.bits) ∙ input-slot m entry c.args.pin shows.named within in
+    let differs = ap (is_same_bit c.args.bit) (sym bit) ∙ sym c.is_same_bit.ensures ∙ c.if-is_same_bit.false in
+    let after : Changed m r.plan entry event r.bits.items r.words.items r.memories.items =
+    changed-values m r.plan entry event r.bits.items r.words.items r.memories.items shows.bits shows.words shows.memories shows.named shows.plan within in
+    subst (λ next. Shows _ m next) (followed-changed m entry event differs)
+    (record {
+      named = after.named;
+      plan = shows.plan;
+      places = shows.places;
+      input_count = shows.input_count;
+      first_wire = shows.first_wire;
+      bits = with_items_is r.bits c.change.new.bits (omega (arith, c.change.auto.bits, r.bits.ok.0)) ∙ c.change.ensures.bits ∙ after.bits_are;
+      words = with_items_is r.words c.change.new.words (omega (arith, c.change.auto.words, r.words.ok.0)) ∙ c.change.ensures.words ∙ after.words_are;
+      memories = with_items_is r.memories c.change.new.memories (omega (arith, c.change.auto.memories, r.memories.ok.0)) ∙ c.change.ensures.memories ∙ after.memories_are;
+      outputs = with_items_is r.outputs c.change.new.outputs (omega (arith, c.change.auto.outputs, r.outputs.ok.0)) ∙ c.change.ensures.outputs
+      ∙ ap₂ (λ b w. map (operand_value b w) r.plan.outputs.items) c.change.ensures.bits c.change.ensures.words ∙ after.outputs_are;
+    })

@@ -1,5 +1,5 @@
 -- What a runner's slots have is what the entry has.
-use Rattle.std.proofs.Common.{◌≡◌, ℕ, Bool, false, List, [], ◌∷◌, ◌++◌, Option, Some, None, ap, ap₂, get_or, length, refl, sym, ◌∙◌}
+use Rattle.std.proofs.Common.{◌≡◌, ℕ, Bool, false, List, [], ◌∷◌, ◌++◌, Option, Some, None, ap, ap₂, get_or, length, refl, subst, sym, ◌∙◌}
 use Rattle.std.specs.Prelude.{map}
 use Rattle.std.specs.Option.{option_map}
 use Rattle.std.proofs.lemmas.List.{length-map}
@@ -45,3 +45,7 @@ memory-read runner m entry name address shows =
     ap (option_map (λ words. get_or words address 0)) (value_in-slots entry.memories name [])
     ∙ map-in (values_of entry.memories) address ((entry_places entry).memories name)
     ∙ ap₂ (λ memories (at : Places). option_map (λ place. word_in memories place address) (at.memories name)) (sym shows.memories) (found-places runner m entry shows)
+
+-- the same entry, otherwise written
+pub shows-next : (runner : Runner) (m : Parts) (entry next : Entry) → entry ≡ next → Shows runner m entry → Shows runner m next
+shows-next runner m entry next same shows = subst (λ e. Shows runner m e) same shows

@@ -2,6 +2,7 @@ pub mod Atoms
 pub mod Beginning
 pub mod Clocked
 pub mod Entering
+pub mod EventLines
 pub mod Filling
 pub mod Holding
 pub mod Lookups

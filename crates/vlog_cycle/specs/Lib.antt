@@ -1,5 +1,6 @@
 pub mod Begun
 pub mod Entries
+pub mod Events
 pub mod Found
 pub mod Held
 pub mod ModuleSlots

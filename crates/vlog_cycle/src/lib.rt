@@ -3,6 +3,7 @@
 
 mod build;
 mod event;
+mod event_lines;
 mod named;
 mod names;
 mod places;
@@ -12,5 +13,6 @@ mod runner;
 mod slots;
 mod steps;
 
-pub use event::Event;
+pub use event::{Event, EventFault};
+pub use event_lines::read_events;
 pub use runner::Runner;

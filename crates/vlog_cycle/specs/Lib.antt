@@ -11,4 +11,5 @@ pub mod Run
 pub mod Showing
 pub mod Slots
 pub mod Steps
+pub mod Text
 pub mod Values

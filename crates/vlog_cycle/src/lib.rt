@@ -12,7 +12,9 @@ mod planning;
 mod runner;
 mod slots;
 mod steps;
+mod text;
 
 pub use event::{Event, EventFault};
 pub use event_lines::read_events;
 pub use runner::Runner;
+pub use text::run_text;

@@ -1,5 +1,5 @@
 // A module that runs.
-ghost use Rattle.std.specs.Prelude.{◌≡◌, ◌<◌, IfOk, length, get_or, is_some, vec_len};
+ghost use Rattle.std.specs.Prelude.{◌≡◌, ◌<◌, ◌≤◌, IfOk, drop, length, get_or, take, vec_len};
 ghost use Rattle.std.specs.Option.{option_map};
 
 use crate::event::Event;
@@ -143,5 +143,30 @@ impl Runner {
             Some(place) => Some(word_in(&self.memories, place, address)),
             None => None,
         }
+    }
+
+    /// The bits of the registers of one bit, in the order of their declaration.
+    pub(crate) fn registers(&self) -> &[bool]
+        ensures { (m : Parts) (entry : Entry) → Shows self.now m entry → result.now ≡ values_of entry.registers }
+    {
+        part(&self.bits, self.input_count, self.first_wire)
+    }
+
+    /// The registers of 16 bits, in the order of their declaration.
+    pub(crate) fn words(&self) -> &[u16]
+        ensures { (m : Parts) (entry : Entry) → Shows self.now m entry → result.now ≡ values_of entry.words }
+    {
+        &self.words
+    }
+}
+
+/// The bits from one slot to another, where there are so many.
+fn part(bits: &[bool], from: usize, end: usize) -> &[bool]
+    ensures { from ≤ end → end ≤ length bits.now → result.now ≡ drop from (take end bits.now) }
+{
+    if from <= end && end <= bits.len() {
+        &bits[from..end]
+    } else {
+        &[]
     }
 }

@@ -33,10 +33,26 @@ loop-line-preserved c =
     }
 
 pub returns-in_err-take_line-clause-refused : goal.returns-in_err-take_line-clause-refused
-returns-in_err-take_line-clause-refused c = ?
+returns-in_err-take_line-clause-refused c =
+    let lines = lines_of c.args.bytes.now in
+    let pins = slot_of c.args.pins.now in
+    let i = c.loop-line.invariant in
+    let line = c.in-Some.line in
+    let count = c.loop-line.count in
+    let told = c.in_err-take_line.field-0.0 in
+    let at = cut lines count line.content.now (lines_of line.rest.now) (sym i.lines ∙ c.in-Some.ensures.lines) in
+    let p = err_from_is_err_and c.from_residual.result c.from_residual.ensures.1 in
+    rw (p.1, p.2) (told-first pins lines count line.content.now told i.fine at.0 at.1 c.in_err-take_line.ensures.refused)
 
 pub returns-clause-read : goal.returns-clause-read
-returns-clause-read c = ?
+returns-clause-read c =
+    let i = c.loop-line.invariant in
+    let lines = lines_of c.args.bytes.now in
+    let all = cut-end c.args.bytes.now c.loop-line.left.now c.loop-line.count i.lines c.in_default.ensures.lines i.within in
+    i.read ∙ ap (flat_map (line_event (slot_of c.args.pins.now))) (take_all c.loop-line.count lines (omega (arith, all)))
 
 pub returns-clause-accepted : goal.returns-clause-accepted
-returns-clause-accepted c = ?
+returns-clause-accepted c =
+    let i = c.loop-line.invariant in
+    let all = cut-end c.args.bytes.now c.loop-line.left.now c.loop-line.count i.lines c.in_default.ensures.lines i.within in
+    fine-all (slot_of c.args.pins.now) (lines_of c.args.bytes.now) c.loop-line.count i.fine all

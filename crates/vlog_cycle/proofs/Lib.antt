@@ -10,4 +10,5 @@ pub mod Memories
 pub mod Numbers
 pub mod Outputs
 pub mod Reading
+pub mod Runs
 pub mod Wires

@@ -4,7 +4,7 @@ ghost use Rattle.vlog_module.specs.Parts.{Parts};
 ghost use Rattle.vlog_cycle.specs.Entries.{Entry};
 ghost use Rattle.vlog_cycle.specs.Run.{input_names, run_from};
 ghost use Rattle.vlog_cycle.specs.Showing.{Shows};
-ghost use Rattle.vlog_cycle.specs.Text.{bit_digit, entry_line, hex_digit, run_text, word_text};
+ghost use Rattle.vlog_cycle.specs.Text.{bit_digit, entry_line, hex_digit, registers_text, run_text, word_text};
 
 use crate::event::Event;
 use crate::runner::Runner;
@@ -38,12 +38,26 @@ fn push_line(text: &mut Vec<u8>, runner: &Runner, registers: bool) -> Result<(),
     ensures { (m : Parts) (entry : Entry) → Shows runner.now m entry → OnOk result (text.new.items ≡ text.old.items ++ entry_line registers entry) }
 {
     push_bits(text, runner.outputs())?;
+    push_registers(text, runner, registers)?;
+    push_byte(text, b'\n')
+}
+
+/// Adds the registers, where they are asked for.
+fn push_registers(
+    text: &mut Vec<u8>,
+    runner: &Runner,
+    registers: bool,
+) -> Result<(), AllocError>
+    ensures { (m : Parts) (entry : Entry) → Shows runner.now m entry
+        → OnOk result (text.new.items ≡ text.old.items ++ (if registers then registers_text entry else [])) }
+{
     if registers {
         push_byte(text, b' ')?;
         push_bits(text, runner.registers())?;
-        push_words(text, runner.words())?;
+        push_words(text, runner.words())
+    } else {
+        Ok(())
     }
-    push_byte(text, b'\n')
 }
 
 /// Adds a byte.

@@ -1,4 +1,10 @@
 use Rattle.vlog_cycle.proofs.text.run_text.Goals as goal
 
+pub loop-event-init : goal.loop-event-init
+loop-event-init c = ?
+
+pub loop-event-preserved : goal.loop-event-preserved
+loop-event-preserved c = ?
+
 pub returns : goal.returns
 returns c = ?

@@ -1,6 +1,6 @@
 -- Lists of events, line by line.
 use Rattle.std.proofs.Common.{◌≡◌, ℕ, zero, suc, ◌+◌, ◌<◌, ◌≤◌, Bool, true, false, cond, List, [], ◌∷◌, ◌++◌, Option, Some, None, Result, Ok, Err, drop, flat_map, length, get_or, take, refl, sym, ap, ap₂, ◌∙◌, subst, arith, below_more, length-drop}
-use Rattle.std.specs.Prelude.{IfErr}
+use Rattle.std.specs.Prelude.{All, bytes_eq, IfErr}
 use Rattle.std.specs.Option.{option_to_list}
 use Rattle.std.specs.Result.{result_err, result_ok}
 use Rattle.std.proofs.lemmas.List.{get_or_default}
@@ -9,11 +9,16 @@ use Rattle.place_search.specs.Places.{first_below, or_else}
 use Rattle.place_search.proofs.Places.{first_below-more, first_below-first, first_below-none}
 use Rattle.place_search.proofs.Found.{first_below-clear}
 use Rattle.text_lines.specs.Lines.{line_at, lines_of}
+use Rattle.std.proofs.lemmas.List.Elements.{All-append, All-cons, All-nil}
+use Rattle.vlog_module.specs.declared.modules.Port.{Port}
+use Rattle.vlog_module.specs.Maps.{value_in}
 use Rattle.vlog_module.specs.Names.{is_word}
+use Rattle.vlog_cycle.specs.Numbered.{numbered}
+use Rattle.vlog_cycle.specs.Run.{input_names, pin_of}
 use Rattle.vlog_cycle.specs.declared.event.Event.{Event}
 use Rattle.vlog_cycle.specs.declared.event.EventFault.{EventFault}
 use Rattle.vlog_cycle.specs.declared.event.EventFault.TheVariants.{Form, Pin, Memory}
-use Rattle.vlog_cycle.specs.Events.{TellsEvent, bit_event, bit_part, bit_written, event_of, first_fault, line_event, line_fault, name_part, pin_event}
+use Rattle.vlog_cycle.specs.Events.{TellsEvent, bit_event, bit_part, bit_written, event_of, events_of, first_fault, line_event, line_fault, name_part, pin_event}
 
 -- ---- lines by their index
 
@@ -103,3 +108,48 @@ pub lines-more : (pins : List ℕ → Option ℕ) (lines : List (List ℕ)) (cou
 lines-more pins lines count line events more within at so_far pushed =
     let here : line ≡ get_or lines count line = sym at ∙ get_or_default lines count [] line within in
     pushed ∙ ap (λ list. list ++ line_event pins line) so_far ∙ sym (flat_map-more (line_event pins) lines count line within here)
+
+-- ---- the inputs of events
+
+some-same : (x y : ℕ) → Some x ≡ Some y → x ≡ y
+some-same x y same = cc
+
+-- a numbered name has a number below the end
+numbered-below : (from : ℕ) (names : List (List ℕ)) (name : List ℕ) (place : ℕ) → value_in (numbered from names) name ≡ Some place → place < from + length names
+numbered-below from [] name place found = absurd cc
+numbered-below from (first ∷ names) name place found =
+    let by_test : (b : Bool) → cond b (Some from) (value_in (numbered (from + 1) names) name) ≡ Some place → place < from + length (first ∷ names) =
+    λ b. elim b as (λ v. cond v (Some from) (value_in (numbered (from + 1) names) name) ≡ Some place → place < from + length (first ∷ names)) [
+      | true ↦ λ here. let same : from ≡ place = some-same from place here in omega arith
+      | false ↦ λ later. let below : place < (from + 1) + length names = numbered-below (from + 1) names name place later in omega arith
+    ] in
+    by_test (bytes_eq first name) found
+
+abbrev IsWithin : ℕ → Event → Type 0
+IsWithin count event = event.pin < count
+
+pin-within : (count line : ℕ) (pin : Option ℕ) (bit : Bool) → ((place : ℕ) → pin ≡ Some place → place < count) → All (IsWithin count) (option_to_list (result_ok (pin_event line pin bit)))
+pin-within count line (Some pin) bit below = All-cons (IsWithin count) (record { pin = pin; bit = bit }) [] (below pin refl) (All-nil (IsWithin count))
+pin-within count line None bit below = All-nil (IsWithin count)
+
+bit-within : (count line : ℕ) (pin : Option ℕ) (bit : Option Bool) → ((place : ℕ) → pin ≡ Some place → place < count) → All (IsWithin count) (option_to_list (result_ok (bit_event line pin bit)))
+bit-within count line pin (Some bit) below = pin-within count line pin bit below
+bit-within count line pin None below = All-nil (IsWithin count)
+
+line-within : (count : ℕ) (pins : List ℕ → Option ℕ) (content : List ℕ) → ((name : List ℕ) (place : ℕ) → pins name ≡ Some place → place < count) → All (IsWithin count) (line_event pins content)
+unfolding event_of
+line-within count pins [] below = All-nil (IsWithin count)
+line-within count pins (byte ∷ bytes) below =
+    let content : List ℕ = byte ∷ bytes in
+    elim (is_word (name_part content)) as (λ named. All (IsWithin count) (option_to_list (result_ok (cond named (bit_event 0 (pins (name_part content)) (bit_written (bit_part content))) (Err (Form 0)))))) [
+      | true ↦ bit-within count 0 (pins (name_part content)) (bit_written (bit_part content)) (below (name_part content))
+      | false ↦ All-nil (IsWithin count)
+    ]
+
+lines-within : (count : ℕ) (pins : List ℕ → Option ℕ) (lines : List (List ℕ)) → ((name : List ℕ) (place : ℕ) → pins name ≡ Some place → place < count) → All (IsWithin count) (flat_map (line_event pins) lines)
+lines-within count pins [] below = All-nil (IsWithin count)
+lines-within count pins (line ∷ lines) below = All-append (IsWithin count) (line_event pins line) (flat_map (line_event pins) lines) (line-within count pins line below) (lines-within count pins lines below)
+
+-- events that were read name inputs
+pub events-within : (ports : List Port) (bytes : List ℕ) → All (λ event. event.pin < length (input_names ports)) (events_of ports bytes)
+events-within ports bytes = lines-within (length (input_names ports)) (pin_of ports) (lines_of bytes) (λ name place found. omega (arith, numbered-below 0 (input_names ports) name place found))

@@ -12,3 +12,4 @@ pub mod Outputs
 pub mod Reading
 pub mod Runs
 pub mod Wires
+pub mod Worked

@@ -1,8 +1,9 @@
 // Lists of events, line by line.
-ghost use Rattle.std.specs.Prelude.{◌≡◌, ◌++◌, ◌∷◌, [], Option, None, flat_map, IfErr, IfOk, OnOk};
+ghost use Rattle.std.specs.Prelude.{◌≡◌, ◌<◌, ◌++◌, ◌∷◌, [], All, Option, None, flat_map, length, IfErr, IfOk, OnOk};
 ghost use Rattle.vlog_cycle.specs.Events.{bit_written, event_fault, pin_event, event_of, events_of, first_fault, line_event, line_fault, TellsEvent};
 ghost use Rattle.vlog_cycle.specs.declared.event.EventFault.{EventFault as fault_of};
 ghost use Rattle.text_lines.specs.Lines.{lines_of};
+ghost use Rattle.vlog_cycle.specs.Run.{input_names};
 ghost use Rattle.vlog_cycle.specs.Slots.{slot_of};
 
 use crate::build::inputs_of;
@@ -15,6 +16,7 @@ use vlog_module::{Module, is_word};
 /// The events of a text: on each line the name of an input, one space, and `0` or `1`. Empty lines are passed over.
 pub fn read_events(alloc: Global, module: &Module, bytes: &[u8]) -> Result<Vec<Event>, EventFault>
     ensures read { IfOk result (λ events. events.items ≡ events_of «module».now.ports bytes.now) }
+    ensures inputs { IfOk result (λ events. All (λ event. event.pin < length (input_names «module».now.ports)) events.items) }
     ensures accepted { OnOk result (event_fault «module».now.ports bytes.now ≡ None) }
     ensures refused { IfErr result (TellsEvent (event_fault «module».now.ports bytes.now)) }
 {

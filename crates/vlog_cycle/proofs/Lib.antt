@@ -1,0 +1,15 @@
+pub mod Atoms
+pub mod Beginning
+pub mod Clocked
+pub mod Entering
+pub mod EventLines
+pub mod Filling
+pub mod Holding
+pub mod Lookups
+pub mod Memories
+pub mod Numbers
+pub mod Outputs
+pub mod Reading
+pub mod Runs
+pub mod Wires
+pub mod Worked

@@ -1,0 +1,72 @@
+-- Worked values of the definitions.
+use Rattle.std.proofs.Common.{◌≡◌, ℕ, Bool, true, false, List, [], ◌∷◌, ◌++◌, Option, Some, None, flat_map, refl}
+use Rattle.std.specs.Prelude.{codes, map}
+use Rattle.vlog_module.specs.declared.atoms.Atom.{Atom}
+use Rattle.vlog_module.specs.declared.atoms.Atom.TheVariants.{Bit, Whole}
+use Rattle.vlog_module.specs.declared.item.Item.{Item}
+use Rattle.vlog_module.specs.declared.item.Item.TheVariants.{Register, Word, Memory, Wire, Assign, Flip, Read, Write, Start}
+use Rattle.vlog_module.specs.declared.item.Lut.{Lut}
+use Rattle.vlog_module.specs.declared.item.Right.TheVariants.{Whole as RightWhole, Lut as RightLut}
+use Rattle.vlog_module.specs.declared.modules.Port.{Port}
+use Rattle.vlog_module.specs.Parts.{Parts}
+use Rattle.text_lines.specs.Lines.{lines_of}
+use Rattle.place_search.specs.Places.{first_below}
+use Rattle.vlog_cycle.specs.declared.event.Event.{Event}
+use Rattle.vlog_cycle.specs.declared.event.EventFault.TheVariants.{Form, Pin}
+use Rattle.vlog_cycle.specs.Events.{event_fault, event_of, events_of, first_fault}
+use Rattle.vlog_cycle.specs.Run.{changed, followed, module_run, run_from, settled, start}
+use Rattle.vlog_cycle.specs.Text.{entry_line, run_text}
+
+input : List ℕ → Port
+input name = record { name = name; output = false }
+
+output : List ℕ → Port
+output name = record { name = name; output = true }
+
+event : ℕ → Bool → Event
+event pin bit = record { pin = pin; bit = bit }
+
+-- ---- an inverter
+
+inverter : Lut
+inverter = record { word = 21845; ins = Whole (codes "n_1") ∷ Bit false ∷ Bit false ∷ Bit false ∷ [] }
+
+chip : Parts
+chip = record {
+  name = codes "chip";
+  ports = input (codes "io_0_1_0") ∷ output (codes "io_0_2_0") ∷ [];
+  items = Wire (codes "n_0") (RightWhole (codes "io_0_1_0")) ∷ Wire (codes "n_1") (RightWhole (codes "n_0")) ∷ Wire (codes "n_2") (RightLut inverter)
+      ∷ Wire (codes "n_3") (RightWhole (codes "n_2")) ∷ Assign (codes "io_0_2_0") (Whole (codes "n_3")) ∷ [];
+}
+
+inverts : run_text chip (event 0 true ∷ event 0 false ∷ event 0 false ∷ []) false ≡ codes "1\n0\n1\n1\n"
+unfolding run_text module_run run_from followed changed start settled entry_line chip inverter input output event
+inverts = refl
+
+reads_lines : events_of chip.ports (codes "io_0_1_0 1\n\nio_0_1_0 0\r\n") ≡ event 0 true ∷ event 0 false ∷ []
+unfolding event_of lines_of chip input output event
+reads_lines = refl
+
+refuses_outputs : event_fault chip.ports (codes "io_0_2_0 1\n") ≡ Some (Pin 1)
+unfolding event_of lines_of first_fault first_below chip input output
+refuses_outputs = refl
+
+refuses_forms : event_fault chip.ports (codes "\nio_0_1_0 1\nio_0_1_0  1\nmodule 1\n") ≡ Some (Form 3)
+unfolding event_of lines_of first_fault first_below chip input output
+refuses_forms = refl
+
+-- ---- a flip-flop at falling edges
+
+-- two registers that shift
+shift : Parts
+shift = record {
+  name = codes "shift";
+  ports = input (codes "c") ∷ input (codes "d") ∷ output (codes "q") ∷ [];
+  items = Register (codes "r") true ∷ Register (codes "s") false ∷ Assign (codes "q") (Whole (codes "s"))
+      ∷ Flip true (codes "c") (Bit true) (Bit false) false (codes "r") (record { word = 43690; ins = Whole (codes "d") ∷ Bit false ∷ Bit false ∷ Bit false ∷ [] })
+      ∷ Flip true (codes "c") (Bit true) (Bit false) false (codes "s") (record { word = 43690; ins = Whole (codes "r") ∷ Bit false ∷ Bit false ∷ Bit false ∷ [] }) ∷ [];
+}
+
+shifts : run_text shift (event 0 true ∷ event 0 false ∷ event 1 true ∷ event 0 true ∷ event 0 false ∷ []) true ≡ codes "0 10\n0 10\n1 01\n1 01\n1 01\n0 10\n"
+unfolding run_text module_run run_from followed changed start settled entry_line shift input output event
+shifts = refl

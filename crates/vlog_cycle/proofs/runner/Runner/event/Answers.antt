@@ -1,0 +1,53 @@
+use Rattle.std.proofs.Common.{◌≡◌, ℕ, Bool, true, false, List, ap, ap₂, arith, get_or, length, refl, subst, sym, ◌∙◌}
+use Rattle.std.proofs.lemmas.List.{with_items_is}
+use Rattle.vlog_cycle.specs.declared.event.Event.{Event}
+use Rattle.vlog_cycle.specs.Entries.{Entry}
+use Rattle.vlog_cycle.specs.Run.{changed, followed, input_bit, is_same_bit}
+use Rattle.vlog_cycle.specs.Steps.{operand_value}
+use Rattle.std.specs.Prelude.{map}
+use Rattle.vlog_cycle.proofs.Entering.{Changed, changed-values, followed-changed, followed-same, input-slot}
+use Rattle.vlog_cycle.proofs.Reading.{shows-next}
+use Rattle.vlog_cycle.proofs.runner.Runner.event.Goals as goal
+
+pub returns-then-is_same_bit : goal.returns-then-is_same_bit
+returns-then-is_same_bit c m entry shows within =
+    let event : Event = record { pin = c.args.pin; bit = c.args.bit } in
+    let bit = c.bit_at.ensures ∙ ap (λ bits. get_or bits c.args.pin false) (c.deref.ensures.value ∙ shows.bits) ∙ input-slot m entry c.args.pin shows.named within in
+    let same = ap (is_same_bit c.args.bit) (sym bit) ∙ sym c.is_same_bit.ensures ∙ c.if-is_same_bit.true in
+    shows-next _ m entry (followed m entry event) (followed-same m entry event same)
+    (record {
+      named = shows.named;
+      plan = shows.plan;
+      places = shows.places;
+      input_count = shows.input_count;
+      first_wire = shows.first_wire;
+      bits = shows.bits;
+      words = shows.words;
+      memories = shows.memories;
+      outputs = shows.outputs;
+    })
+
+pub returns : goal.returns
+returns c m entry shows within =
+    let event : Event = record { pin = c.args.pin; bit = c.args.bit } in
+    let r = c.args.self.now in
+    let bits = c.deref_mut.result.now in
+    let words = c.deref_mut-3.result.now in
+    let memories = c.deref_mut-5.result.now in
+    let bit = c.bit_at.ensures ∙ ap (λ b. get_or b c.args.pin false) (c.deref.ensures.value ∙ shows.bits) ∙ input-slot m entry c.args.pin shows.named within in
+    let differs = ap (is_same_bit c.args.bit) (sym bit) ∙ sym c.is_same_bit.ensures ∙ c.if-is_same_bit.false in
+    let after : Changed m r.plan entry event bits words memories =
+    changed-values m r.plan entry event bits words memories (c.deref_mut.ensures.value ∙ shows.bits) (c.deref_mut-3.ensures.value ∙ shows.words) (c.deref_mut-5.ensures.value ∙ shows.memories) shows.named shows.plan within in
+    shows-next _ m (changed m entry event) (followed m entry event) (followed-changed m entry event differs)
+    (record {
+      named = after.named;
+      plan = shows.plan;
+      places = shows.places;
+      input_count = shows.input_count;
+      first_wire = shows.first_wire;
+      bits = with_items_is r.bits c.change.new.bits (omega (arith, c.change.auto.bits, r.bits.ok.0)) ∙ c.change.ensures.bits ∙ after.bits_are;
+      words = with_items_is r.words c.change.new.words (omega (arith, c.change.auto.words, r.words.ok.0)) ∙ c.change.ensures.words ∙ after.words_are;
+      memories = with_items_is r.memories c.change.new.memories (omega (arith, c.change.auto.memories, r.memories.ok.0)) ∙ c.change.ensures.memories ∙ after.memories_are;
+      outputs = with_items_is r.outputs c.change.new.outputs (omega (arith, c.change.auto.outputs, r.outputs.ok.0)) ∙ c.change.ensures.outputs
+      ∙ ap₂ (λ b w. map (operand_value b w) r.plan.outputs.items) c.change.ensures.bits c.change.ensures.words ∙ after.outputs_are;
+    })

@@ -1,0 +1,8 @@
+use Rattle.std.proofs.Common.{◌≡◌, ◌+◌, ◌-◌, ap, drop, sym, take, arith, ◌∙◌}
+use Rattle.std.proofs.lemmas.List.{drop-take}
+use Rattle.vlog_cycle.proofs.runner.part.Goals as goal
+
+pub returns-then-end-bits : goal.returns-then-end-bits
+returns-then-end-bits c ordered within =
+    let sum : c.args.from + (c.args.end - c.args.from) ≡ c.args.end = omega arith in
+    sym (drop-take c.args.from (c.args.end - c.args.from) c.args.bits.now) ∙ ap (λ n. drop c.args.from (take n c.args.bits.now)) sum

@@ -1,0 +1,172 @@
+// A module that runs.
+ghost use Rattle.std.specs.Prelude.{◌≡◌, ◌<◌, ◌≤◌, IfOk, drop, length, get_or, take, vec_len};
+ghost use Rattle.std.specs.Option.{option_map};
+
+use crate::event::Event;
+use crate::names::{Names, names_of};
+use crate::places::Places;
+use crate::plan::{Memory, Plan};
+use crate::planning::{first_outputs, plan_of};
+use crate::steps::{bit_at, change, is_same_bit, settle, word_at, word_in};
+use std::alloc::{AllocError, Global};
+use vlog_module::Module;
+
+/// A module that runs: what its names have after the start, and after each event.
+///
+/// All memory is taken when it is made.
+#[derive(Drop)]
+pub struct Runner {
+    places: Places,
+    input_count: usize,
+    /// The slot of the first wire. The inputs have the first slots, and the registers of one bit stand behind them.
+    first_wire: usize,
+    plan: Plan,
+    bits: Vec<bool>,
+    words: Vec<u16>,
+    memories: Vec<Memory>,
+    outputs: Vec<bool>,
+    /// Room for the bits that an event gives.
+    next_bits: Vec<bool>,
+    next_words: Vec<u16>,
+    /// Room for the words that writes put in memories.
+    written: Vec<u16>,
+    ghost bits_room: { vec_len next_bits ≡ vec_len bits },
+    ghost words_room: { vec_len next_words ≡ vec_len words },
+    ghost writes_room: { vec_len written ≡ vec_len plan.writes },
+    ghost outputs_room: { vec_len outputs ≡ vec_len plan.outputs },
+}
+
+impl Runner {
+    ghost use Rattle.vlog_module.specs.Maps.{value_in};
+    ghost use Rattle.vlog_module.specs.Parts.{Parts};
+    ghost use Rattle.vlog_cycle.specs.Entries.{Entry};
+    ghost use Rattle.vlog_cycle.specs.Named.{values_of};
+    ghost use Rattle.vlog_cycle.specs.Run.{followed, input_names, start};
+    ghost use Rattle.vlog_cycle.specs.Showing.{Shows};
+
+    /// The module after the start: inputs are 0, registers and memories have their start values.
+    pub fn new(alloc: Global, module: &Module) -> Result<Runner, AllocError>
+        ensures { IfOk result (λ runner. Shows runner «module».now (start «module».now)) }
+    {
+        let names = names_of(alloc, module)?;
+        let Names {
+            places,
+            input_count,
+            first_wire,
+            mut bits,
+            words,
+            memories,
+            wires,
+        } = names;
+        let plan = plan_of(alloc, module, &places, wires)?;
+        settle(&plan.wires, &words, &mut bits);
+        let outputs = first_outputs(alloc, &plan, &bits, &words)?;
+        let next_bits = Vec::from_slice(alloc, &bits)?;
+        let next_words = Vec::from_slice(alloc, &words)?;
+        let written = vec![in alloc; 0; plan.writes.len()]?;
+        Ok(Runner {
+            places,
+            input_count,
+            first_wire,
+            plan,
+            bits,
+            words,
+            memories,
+            outputs,
+            next_bits,
+            next_words,
+            written,
+        })
+    }
+
+    /// Gives an input a bit. The input is named by its place among the inputs, in the order of the ports, from 0.
+    pub fn event(&mut self, pin: usize, bit: bool)
+        ensures { (m : Parts) (entry : Entry) → Shows self.old m entry → pin < length (input_names m.ports)
+            → Shows self.new m (followed m entry (record { pin = pin; bit = bit })) }
+    {
+        if is_same_bit(bit, bit_at(&self.bits, pin)) {
+            return;
+        }
+        change(
+            &self.plan,
+            Event { pin, bit },
+            &mut self.bits,
+            &mut self.next_bits,
+            &mut self.words,
+            &mut self.next_words,
+            &mut self.memories,
+            &mut self.written,
+            &mut self.outputs,
+        );
+    }
+
+    /// How many inputs there are.
+    pub fn inputs(&self) -> usize
+        ensures { (m : Parts) (entry : Entry) → Shows self.now m entry → result ≡ length (input_names m.ports) }
+    {
+        self.input_count
+    }
+
+    /// The bits of the outputs, in the order of the ports.
+    pub fn outputs(&self) -> &[bool]
+        ensures { (m : Parts) (entry : Entry) → Shows self.now m entry → result.now ≡ values_of entry.outputs }
+    {
+        &self.outputs
+    }
+
+    /// The bit of a register of one bit: none of another name.
+    pub fn register(&self, name: &[u8]) -> Option<bool>
+        ensures { (m : Parts) (entry : Entry) → Shows self.now m entry → result ≡ value_in entry.registers name.now }
+    {
+        match self.places.registers.slot(name) {
+            Some(slot) => Some(bit_at(&self.bits, slot)),
+            None => None,
+        }
+    }
+
+    /// The word of a register of 16 bits: none of another name.
+    pub fn register_word(&self, name: &[u8]) -> Option<u16>
+        ensures { (m : Parts) (entry : Entry) → Shows self.now m entry → result ≡ value_in entry.words name.now }
+    {
+        match self.places.words.slot(name) {
+            Some(slot) => Some(word_at(&self.words, slot)),
+            None => None,
+        }
+    }
+
+    /// The word of a memory at an address: none of a name that is no memory.
+    pub fn word(&self, memory: &[u8], address: u8) -> Option<u16>
+        ensures { (m : Parts) (entry : Entry) → Shows self.now m entry
+            → result ≡ option_map (λ words. get_or words address 0) (value_in entry.memories memory.now) }
+    {
+        match self.places.memories.slot(memory) {
+            Some(place) => Some(word_in(&self.memories, place, address)),
+            None => None,
+        }
+    }
+
+    /// The bits of the registers of one bit, in the order of their declaration.
+    pub(crate) fn registers(&self) -> &[bool]
+        ensures { (m : Parts) (entry : Entry) → Shows self.now m entry → result.now ≡ values_of entry.registers }
+    {
+        part(&self.bits, self.input_count, self.first_wire)
+    }
+
+    /// The registers of 16 bits, in the order of their declaration.
+    pub(crate) fn words(&self) -> &[u16]
+        ensures { (m : Parts) (entry : Entry) → Shows self.now m entry → result.now ≡ values_of entry.words }
+    {
+        &self.words
+    }
+}
+
+/// The bits from one slot to another, where there are so many.
+fn part(bits: &[bool], from: usize, end: usize) -> &[bool]
+    ensures { from ≤ end → end ≤ length bits.now → result.now ≡ drop from (take end bits.now) }
+{
+    if from <= end && end <= bits.len() {
+        &bits[from..end]
+    } else {
+        &[]
+    }
+}

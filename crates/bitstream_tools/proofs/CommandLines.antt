@@ -5,7 +5,8 @@ use Rattle.std.specs.Borrow.{Bor}
 use Rattle.clap.specs.Words.{App, Row, Text, first_of, is_simple_and_free, matches_of}
 use Rattle.clap.proofs.OnLiterals.{clap_on_literals}
 use Rattle.tool_run.specs.Needs.{IsFile, IsSound, Need, text_of}
-use Rattle.tool_run.specs.Tasks.{Task, Done, asks_for_help, at_once, helped, not_taken}
+use Rattle.tool_run.specs.Tasks.{Task, not_taken}
+use Rattle.tool_run.proofs.CommandLines.{text_of-map, taken_task, missed_task}
 use Rattle.tool_words.specs.Commands.{has_flag, is_taken, values_of}
 use Rattle.std.proofs.lemmas.List.{map_push}
 use Rattle.multi_boot.specs.declared.options.Options.{Options}
@@ -18,16 +19,6 @@ use Rattle.bitstream_tools.specs.declared.bram.WordFiles.{WordFiles}
 use Rattle.bitstream_tools.specs.Bram.{icebram_command, icebram_name, icebram_task, icebram_task_by, icebram_task_for, icebram_task_of, icebram_usage}
 use Rattle.bitstream_tools.specs.Unpack.{iceunpack_command, iceunpack_name, iceunpack_task, iceunpack_task_by, iceunpack_usage, unpack_task}
 use Rattle.bitstream_tools.specs.Pack.{icepack_command, icepack_name, icepack_task, icepack_task_by, icepack_task_for, icepack_task_of, icepack_usage}
-
--- a text that may be missing, either way
-text_of-map : (text : Option (Bor (List ℕ))) → option_map (λ t. t.now) text ≡ text_of text
-text_of-map None = refl
-text_of-map (Some text) = refl
-
--- what is taken is what was found
-taken_task : (taken : Bool) (found other : Task) → true ≡ taken → (if taken then found else other) ≡ found
-taken_task true found other e = refl
-taken_task false found other e = absurd cc
 
 -- ---- iceunpack
 
@@ -87,15 +78,6 @@ icepack-found words app rows unpacks no_sleep input output request same taken fo
     ∙ ap₂ (icepack_task_of unpacks no_sleep) (sym input_is ∙ text_of-map input) (sym output_is ∙ text_of-map output)
     ∙ sym wanted
 
--- ---- help
-
-pub helped-speaker : (name help : List ℕ) (words : List Text) (task : Task) → task.speaker ≡ name → (helped name help words task).speaker ≡ name
-helped-speaker name help words task speaks = by_case (asks_for_help words)
-  where
-    by_case : (asks : Bool) → (if asks then at_once name None (Done help) else task).speaker ≡ name
-    by_case true = refl
-    by_case false = speaks
-
 -- ---- icemulti
 
 pub icemulti-is_simple : is_simple_and_free icemulti_command ≡ true
@@ -132,10 +114,6 @@ icemulti-found words app rows request same taken found asked =
 pub icemulti-missed : (words : List Text) (app : App) → app ≡ icemulti_command → false ≡ is_taken app words → icemulti_task words ≡ not_taken icemulti_name icemulti_usage
 unfolding icemulti_task
 icemulti-missed words app same missed = missed_task (is_taken icemulti_command words) (icemulti_task_by (matches_of icemulti_command words)) (not_taken icemulti_name icemulti_usage) (missed ∙ ap (λ a. is_taken a words) same)
-  where
-    missed_task : (taken : Bool) (found other : Task) → false ≡ taken → (if taken then found else other) ≡ other
-    missed_task true found other e = absurd cc
-    missed_task false found other e = refl
 
 -- images are files, each within its limit
 pub images-sound : (names : List Text) → IsSound (map image_need names)

@@ -11,13 +11,12 @@ ghost use Rattle.bitstream_tools.specs.Bram.{TellsWhy, icebram_command, icebram_
 ghost use Rattle.bitstream_tools.specs.Faults.{bram_fault_text, hex_fault_text};
 
 use crate::faults::{bram_refusal, hex_refusal};
-use crate::first::{first, second, third};
 use crate::pack::TEXT_LIMIT;
 use bram_replace::{BramFault, HexFault, HexFile, replace};
 use clap::Command;
 use ice_io::{Files, Sink, Source};
 use std::alloc::{AllocError, Global};
-use tool_run::{AtOnce, Job, Load, Stop, Tool, answer_at_once, asks_for_help, give_up, perform};
+use tool_run::{AtOnce, Job, Load, Stop, Tool, answer_at_once, asks_for_help, give_up, loaded_at, perform};
 use tool_words::{parse, required, value, with};
 
 /// The command line of `icebram`.
@@ -67,7 +66,7 @@ impl Tool for Replacing {
     ghost answer_of = { λ _ texts. icebram_answer texts };
 
     fn answer(&self, alloc: Global, loaded: &Vec<Vec<u8>>) -> Result<Vec<u8>, Stop> {
-        replaced_by(alloc, first(loaded), second(loaded), third(loaded))
+        replaced_by(alloc, loaded_at(loaded, 0), loaded_at(loaded, 1), loaded_at(loaded, 2))
     }
 }
 

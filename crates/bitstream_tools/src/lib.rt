@@ -6,7 +6,6 @@
 
 mod bram;
 mod faults;
-mod first;
 mod multi;
 mod pack;
 mod unpack;

@@ -10,14 +10,13 @@ ghost use Rattle.tool_run.specs.Tasks.{Done};
 ghost use Rattle.bitstream_tools.specs.Pack.{icepack_command, icepack_task, icepack_outcome, icepack_task_for, icepack_task_of, pack_task, packed};
 
 use crate::faults::asc_refusal;
-use crate::first::first;
 use crate::unpack::{Names, unpack_between};
 use asc_text::AscFault;
 use clap::Command;
 use ice_io::{Files, Sink, Source};
 use ice_pack::pack;
 use std::alloc::{AllocError, Global};
-use tool_run::{AtOnce, Job, Load, Stop, Tool, answer_at_once, asks_for_help, give_up, perform};
+use tool_run::{AtOnce, Job, Load, Stop, Tool, answer_at_once, asks_for_help, give_up, loaded_at, perform};
 use tool_words::{flag, has_flag, parse, positional, value, with};
 
 /// The most bytes of a text.
@@ -58,7 +57,7 @@ impl Tool for Pack {
     ghost answer_of = { λ tool texts. pack_answer tool.no_sleep texts };
 
     fn answer(&self, alloc: Global, loaded: &Vec<Vec<u8>>) -> Result<Vec<u8>, Stop> {
-        packed(alloc, first(loaded), self.no_sleep)
+        packed(alloc, loaded_at(loaded, 0), self.no_sleep)
     }
 }
 

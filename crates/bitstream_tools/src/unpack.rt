@@ -6,13 +6,12 @@ ghost use Rattle.tool_run.specs.Needs.{text_of};
 ghost use Rattle.bitstream_tools.specs.Unpack.{iceunpack_command, iceunpack_task, iceunpack_outcome, iceunpack_task_for, unpack_task};
 
 use crate::faults::bin_refusal;
-use crate::first::first;
 use bin_stream::BinFault;
 use clap::Command;
 use ice_io::{Files, Sink, Source};
 use ice_pack::unpack;
 use std::alloc::{AllocError, Global};
-use tool_run::{AtOnce, Job, Load, Stop, Tool, answer_at_once, asks_for_help, give_up, perform};
+use tool_run::{AtOnce, Job, Load, Stop, Tool, answer_at_once, asks_for_help, give_up, loaded_at, perform};
 use tool_words::{parse, positional, value, with};
 
 /// The command line of `iceunpack`.
@@ -49,7 +48,7 @@ impl Tool for Unpack {
     ghost answer_of = { λ _ texts. unpack_answer texts };
 
     fn answer(&self, alloc: Global, loaded: &Vec<Vec<u8>>) -> Result<Vec<u8>, Stop> {
-        match unpack(alloc, first(loaded)) {
+        match unpack(alloc, loaded_at(loaded, 0)) {
             Ok(text) => Ok(text),
             Err(BinFault::At { offset, cause }) => Err(Stop::Refused(bin_refusal(offset, cause))),
             Err(BinFault::Memory(_)) => Err(Stop::Memory),

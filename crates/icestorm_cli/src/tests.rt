@@ -4,6 +4,7 @@ ghost use Rattle.std.specs.Prelude.{◌≤◌};
 mod answering;
 mod failing;
 mod joining;
+mod modules;
 mod packing;
 mod refusing;
 mod replacing;

@@ -13,6 +13,8 @@ pub enum Tool {
     Icemulti,
     /// Other contents of RAMs in a text.
     Icebram,
+    /// A run of a module.
+    Vlogrun,
 }
 
 /// The version of the program.
@@ -32,6 +34,7 @@ Tools:
   iceunpack    unpacks a bitstream (.bin) into a text (.asc)
   icemulti     joins up to four bitstreams to one boot file
   icebram      replaces the contents of RAMs in a text, without a new routing
+  vlogrun      runs a module of a subset of Verilog over a list of events
 
 Example: icestorm icepack blink.asc blink.bin
 
@@ -60,6 +63,7 @@ fn tool_named(word: &str) -> Option<Tool>
         "iceunpack" => Some(Tool::Iceunpack),
         "icemulti" => Some(Tool::Icemulti),
         "icebram" => Some(Tool::Icebram),
+        "vlogrun" => Some(Tool::Vlogrun),
         _ => None,
     }
 }

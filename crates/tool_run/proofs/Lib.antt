@@ -2,4 +2,5 @@ mod Deliveries
 mod Pieces
 mod Loading
 mod Outcomes
+pub mod CommandLines
 pub mod Same

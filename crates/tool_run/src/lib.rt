@@ -11,6 +11,7 @@ mod delivery;
 mod help;
 mod line;
 mod load;
+mod loaded;
 mod performing;
 mod tool;
 
@@ -18,5 +19,6 @@ pub use at_once::{AtOnce, answer_at_once};
 pub use help::asks_for_help;
 pub use line::{Number, Phrase, Refusal, decimal, text};
 pub use load::Load;
+pub use loaded::loaded_at;
 pub use performing::{Job, give_up, perform};
 pub use tool::{Stop, Tool};

@@ -12,12 +12,14 @@ const ICEMULTI_USAGE: &str =
 
 const ICEBRAM_USAGE: &str = "icebram: usage: icebram FROM TO\n";
 
+const VLOGRUN_USAGE: &str = "vlogrun: usage: vlogrun [-s] MODULE [EVENTS]\n";
+
 const USAGE: &str = "icestorm: usage: TOOL ...\n";
 
 /// A command line, its status and its line.
 type Refused = (&'static [&'static str], u8, &'static str);
 
-static NOT_TAKEN: [Refused; 15] = [
+static NOT_TAKEN: [Refused; 17] = [
     (&["icepack", "a", "b", "c"], 2, ICEPACK_USAGE),
     (&["icepack", "-x"], 2, ICEPACK_USAGE),
     (&["icepack", "-u", "-s"], 2, ICEPACK_USAGE),
@@ -31,11 +33,13 @@ static NOT_TAKEN: [Refused; 15] = [
     (&["icebram"], 2, ICEBRAM_USAGE),
     (&["icebram", "A"], 2, ICEBRAM_USAGE),
     (&["icebram", "A", "B", "C"], 2, ICEBRAM_USAGE),
+    (&["vlogrun"], 2, VLOGRUN_USAGE),
+    (&["vlogrun", "-s", "m", "e", "x"], 2, VLOGRUN_USAGE),
     (&["icebox"], 2, USAGE),
     (&[], 2, USAGE),
 ];
 
-static REFUSED: [Refused; 10] = [
+static REFUSED: [Refused; 11] = [
     (&["icepack"], 1, "icepack: line 1: NoDevice\n"),
     (&["icepack", "-u"], 1, "icepack: offset 0: NoPreamble\n"),
     (&["icepack", "nofile"], 3, "icepack: read failed: nofile\n"),
@@ -50,6 +54,7 @@ static REFUSED: [Refused; 10] = [
     (&["icemulti", "-p2", "A", "B"], 1, "icemulti: PowerOn 2\n"),
     (&["icemulti", "A"], 3, "icemulti: read failed: A\n"),
     (&["icebram", "A", "B"], 3, "icebram: read failed: A\n"),
+    (&["vlogrun", "m"], 3, "vlogrun: read failed: m\n"),
 ];
 
 /// Whether a command line is refused so, with an empty input and without files.

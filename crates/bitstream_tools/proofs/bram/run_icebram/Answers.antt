@@ -1,7 +1,8 @@
 use Rattle.std.specs.Prelude.{map, string_bytes}
 use Rattle.bitstream_tools.specs.declared.bram.TheConstants.{ICEBRAM_HELP}
 use Rattle.bitstream_tools.specs.Bram.{icebram_name, icebram_outcome, icebram_task}
-use Rattle.bitstream_tools.proofs.CommandLines.{helped-speaker, icebram-speaker}
+use Rattle.tool_run.proofs.CommandLines.{helped-speaker}
+use Rattle.bitstream_tools.proofs.CommandLines.{icebram-speaker}
 use Rattle.bitstream_tools.proofs.bram.run_icebram.Goals as goal
 
 pub returns-in-Err : goal.returns-in-Err

@@ -1,7 +1,8 @@
 use Rattle.std.specs.Prelude.{map, string_bytes}
 use Rattle.bitstream_tools.specs.declared.multi.TheConstants.{ICEMULTI_HELP}
 use Rattle.bitstream_tools.specs.Multi.{icemulti_name, icemulti_outcome, icemulti_task}
-use Rattle.bitstream_tools.proofs.CommandLines.{helped-speaker, icemulti-speaker}
+use Rattle.tool_run.proofs.CommandLines.{helped-speaker}
+use Rattle.bitstream_tools.proofs.CommandLines.{icemulti-speaker}
 use Rattle.bitstream_tools.proofs.multi.run_icemulti.Goals as goal
 
 pub returns-in-Err : goal.returns-in-Err

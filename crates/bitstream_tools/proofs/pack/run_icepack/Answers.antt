@@ -1,7 +1,8 @@
 use Rattle.std.specs.Prelude.{map, string_bytes}
 use Rattle.bitstream_tools.specs.declared.pack.TheConstants.{ICEPACK_HELP}
 use Rattle.bitstream_tools.specs.Pack.{icepack_name, icepack_outcome, icepack_task}
-use Rattle.bitstream_tools.proofs.CommandLines.{helped-speaker, icepack-speaker}
+use Rattle.tool_run.proofs.CommandLines.{helped-speaker}
+use Rattle.bitstream_tools.proofs.CommandLines.{icepack-speaker}
 use Rattle.bitstream_tools.proofs.pack.run_icepack.Goals as goal
 
 pub returns-in-Err : goal.returns-in-Err

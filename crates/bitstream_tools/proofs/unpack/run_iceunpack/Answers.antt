@@ -1,7 +1,8 @@
 use Rattle.std.specs.Prelude.{map, string_bytes}
 use Rattle.bitstream_tools.specs.declared.unpack.TheConstants.{ICEUNPACK_HELP}
 use Rattle.bitstream_tools.specs.Unpack.{iceunpack_name, iceunpack_outcome, iceunpack_task}
-use Rattle.bitstream_tools.proofs.CommandLines.{helped-speaker, iceunpack-speaker}
+use Rattle.tool_run.proofs.CommandLines.{helped-speaker}
+use Rattle.bitstream_tools.proofs.CommandLines.{iceunpack-speaker}
 use Rattle.bitstream_tools.proofs.unpack.run_iceunpack.Goals as goal
 
 pub returns-in-Err : goal.returns-in-Err

@@ -1,0 +1,12 @@
+//! The tools that take modules of the Verilog subset: `vlogrun`.
+//!
+//! Each tool has its command line, its usage line and what it makes of what it loads. The function that runs it has one clause: a
+//! run does the task that the command line asks for.
+#![tactic(auto)]
+
+mod faults;
+mod request;
+mod running;
+
+pub use request::{VLOGRUN_HELP, VLOGRUN_USAGE};
+pub use running::run_vlogrun;

@@ -1,0 +1,98 @@
+// What the command line of `vlogrun` asks for.
+ghost use Rattle.std.specs.Prelude.{◌≡◌, map, string_bytes, IfOk};
+ghost use Rattle.clap.specs.Words.{app_of};
+ghost use Rattle.tool_run.specs.Needs.{text_of};
+ghost use Rattle.module_tools.specs.Vlogrun.{vlogrun_command, vlogrun_task, vlogrun_task_for, vlogrun_task_of};
+
+use clap::Command;
+use std::alloc::{AllocError, Global};
+use tool_words::{flag, has_flag, parse, positional, required, value, with};
+
+/// The command line of `vlogrun`.
+pub const VLOGRUN_USAGE: &str = "vlogrun [-s] MODULE [EVENTS]";
+
+/// The help of `vlogrun`, at most 80 columns wide.
+pub const VLOGRUN_HELP: &str = "\
+vlogrun: runs a module of the Verilog subset over a list of events.
+
+Usage: vlogrun [-s] MODULE [EVENTS]
+
+  MODULE    the text of a module, as icebox_vlog writes it
+  EVENTS    the events; standard input if it is missing
+  -s        shows the registers too
+
+Each line of EVENTS is the name of an input, one space, and 0 or 1: that input
+gets that bit. At the start all inputs are 0. Where the bit is the old one nothing
+changes. Else all registers whose clock it is, and whose edge, take their new
+values at once, from the values before; then wires and outputs follow.
+
+vlogrun writes a line at the start and one after each event: the bits of the
+outputs, in the order of the ports. With -s a space follows, the registers of one
+bit, and for each register of 16 bits a space and four hexadecimal digits, in the
+order of their declarations.
+
+Example: vlogrun counter.v counter.events
+
+Limits: a module has at most 67108864 bytes, a list of events 1048576.
+
+Exit status: 0 done; 1 the module is refused, with the offset of its first fault,
+or the list of events, with its first faulty line; 2 the command line isn't
+taken; 3 reading failed; 4 writing failed; 5 out of memory; 6 an input is longer
+than its limit.
+";
+
+/// What the words ask for: the module, the events, and whether registers are shown.
+#[derive(Clone, Copy)]
+pub(crate) struct Request<'a> {
+    pub(crate) registers: bool,
+    pub(crate) module: &'a str,
+    pub(crate) events: Option<&'a str>,
+}
+
+// What the words ask for by what was found in them: there has to be a module.
+fn wanted<'a>(
+    registers: bool,
+    module: Option<&'a str>,
+    events: Option<&'a str>,
+) -> Option<Request<'a>>
+    ensures { vlogrun_task_for result ≡ vlogrun_task_of registers (text_of «module».entry) (text_of events.entry) }
+{
+    match module {
+        Some(module) => Some(Request {
+            registers,
+            module,
+            events,
+        }),
+        None => None,
+    }
+}
+
+// The command line as `clap` reads it.
+fn command<'a>(alloc: Global) -> Result<Command<'a>, AllocError>
+    ensures { IfOk result (λ command. app_of command ≡ vlogrun_command) }
+{
+    let command = Command::new(alloc, "vlogrun");
+    let command = with(command, flag(alloc, "registers", 's'))?;
+    let command = with(command, required(alloc, "module"))?;
+    with(command, positional(alloc, "events"))
+}
+
+// What the words ask for, where they are taken.
+#[tactic(auto, unfolding(crate::specs::Vlogrun::vlogrun_task))]
+pub(crate) fn request_of<'a>(
+    alloc: Global,
+    words: &'a [String],
+) -> Result<Option<Request<'a>>, AllocError>
+    ensures { IfOk result (λ request. vlogrun_task (map string_bytes words.entry.now) ≡ vlogrun_task_for request) }
+{
+    let command = command(alloc)?;
+    match parse(command, words)? {
+        Some(matches) => {
+            let registers = has_flag(&matches, "registers");
+            let module = value(&matches, "module");
+            let events = value(&matches, "events");
+            Ok(wanted(registers, module, events))
+        }
+        None => Ok(None),
+    }
+}

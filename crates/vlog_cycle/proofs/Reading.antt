@@ -1,6 +1,6 @@
 -- What a runner's slots have is what the entry has.
 use Rattle.std.proofs.Common.{◌≡◌, ◌≤◌, ◌+◌, append_assoc, arith, drop, length-append, take, ℕ, Bool, false, List, [], ◌∷◌, ◌++◌, Option, Some, None, ap, ap₂, get_or, length, refl, subst, sym, ◌∙◌}
-use Rattle.std.specs.Prelude.{map}
+use Rattle.std.specs.Prelude.{◌||◌, bytes_eq, cond, is_some, map, true}
 use Rattle.std.specs.Option.{option_map}
 use Rattle.std.proofs.lemmas.List.{drop_at, length-map, take_at}
 use Rattle.vlog_module.specs.Maps.{value_in}
@@ -8,8 +8,8 @@ use Rattle.vlog_module.specs.Parts.{Parts}
 use Rattle.vlog_cycle.specs.declared.runner.Runner.{Runner}
 use Rattle.vlog_cycle.specs.Entries.{Entry}
 use Rattle.vlog_cycle.specs.Found.{places_in}
-use Rattle.vlog_cycle.specs.ModuleSlots.{IsNamed, places_of, register_names}
-use Rattle.vlog_cycle.specs.Named.{names_of, values_of}
+use Rattle.vlog_cycle.specs.ModuleSlots.{IsNamed, memory_names, places_of, register_names, word_names}
+use Rattle.vlog_cycle.specs.Named.{has_name, names_of, values_of}
 use Rattle.vlog_cycle.specs.Numbered.{numbered}
 use Rattle.vlog_cycle.specs.Plans.{Places}
 use Rattle.vlog_cycle.specs.Run.{input_names, readable}
@@ -75,3 +75,28 @@ registers-read runner m entry shows =
       ∙ ap (drop runner.input_count) (take_at (inputs ++ registers) wires runner.first_wire end)
       ∙ drop_at inputs registers runner.input_count count;
     }
+
+-- ---- which names have values
+
+has-value : {A : Type 0} (entries : List (List ℕ × A)) (name : List ℕ) → is_some (value_in entries name) ≡ has_name (names_of entries) name
+has-value [] name = refl
+has-value {A = A} (entry ∷ entries) name =
+    elim (bytes_eq entry.0 name) as (λ b. is_some (cond b (Some entry.1) (value_in entries name)) ≡ (b || has_name (names_of entries) name)) [
+      | true ↦ refl
+      | false ↦ has-value entries name
+    ]
+
+is_some-map : {A B : Type 0} (f : A → B) (found : Option A) → is_some (option_map f found) ≡ is_some found
+is_some-map f (Some x) = refl
+is_some-map f None = refl
+
+pub register-declared : (m : Parts) (entry : Entry) (name : List ℕ) (result : Option Bool) → IsNamed m entry → result ≡ value_in entry.registers name → is_some result ≡ has_name (register_names m.items) name
+register-declared m entry name result named is = ap is_some is ∙ has-value entry.registers name ∙ ap (λ names. has_name names name) named.registers
+
+pub word-declared : (m : Parts) (entry : Entry) (name : List ℕ) (result : Option ℕ) → IsNamed m entry → result ≡ value_in entry.words name → is_some result ≡ has_name (word_names m.items) name
+word-declared m entry name result named is = ap is_some is ∙ has-value entry.words name ∙ ap (λ names. has_name names name) named.words
+
+pub memory-declared : (m : Parts) (entry : Entry) (name : List ℕ) (address : ℕ) (result : Option ℕ) → IsNamed m entry
+    → result ≡ option_map (λ words. get_or words address 0) (value_in entry.memories name) → is_some result ≡ has_name (memory_names m.items) name
+memory-declared m entry name address result named is =
+    ap is_some is ∙ is_some-map (λ words. get_or words address 0) (value_in entry.memories name) ∙ has-value entry.memories name ∙ ap (λ names. has_name names name) named.memories

@@ -70,3 +70,26 @@ shift = record {
 shifts : run_text shift (event 0 true ∷ event 0 false ∷ event 1 true ∷ event 0 true ∷ event 0 false ∷ []) true ≡ codes "0 10\n0 10\n1 01\n1 01\n1 01\n0 10\n"
 unfolding run_text module_run run_from followed changed start settled entry_line shift input output event
 shifts = refl
+
+-- ---- a memory
+
+bits_of : List Bool → List Atom
+bits_of bits = map Bit bits
+
+-- word 5 is 1234; at an edge it is written with ABCD where the mask 00FF is 0, and read before
+memory : Parts
+memory = record {
+  name = codes "memory";
+  ports = input (codes "c") ∷ input (codes "we") ∷ [];
+  items = Word (codes "r") 0 ∷ Memory (codes "mem")
+      ∷ Read false (codes "c") (Bit true) (Bit true) (codes "r") (codes "mem") (bits_of (true ∷ false ∷ true ∷ false ∷ false ∷ false ∷ false ∷ false ∷ []))
+      ∷ Write false (codes "c") (Bit true) (Whole (codes "we")) (codes "mem") (bits_of (true ∷ false ∷ true ∷ false ∷ false ∷ false ∷ false ∷ false ∷ []))
+      (bits_of (true ∷ true ∷ true ∷ true ∷ true ∷ true ∷ true ∷ true ∷ false ∷ false ∷ false ∷ false ∷ false ∷ false ∷ false ∷ false ∷ []))
+      (bits_of (true ∷ false ∷ true ∷ true ∷ false ∷ false ∷ true ∷ true ∷ true ∷ true ∷ false ∷ true ∷ false ∷ true ∷ false ∷ true ∷ []))
+      ∷ Start (codes "mem") 5 4660 ∷ [];
+}
+
+writes : run_text memory (event 1 true ∷ event 0 true ∷ event 0 false ∷ event 1 false ∷ event 0 true ∷ []) true
+    ≡ codes "  0000\n  0000\n  1234\n  1234\n  1234\n  ab34\n"
+unfolding run_text module_run run_from followed changed start settled entry_line memory bits_of input output event
+writes = refl

@@ -1,5 +1,5 @@
 // A module that runs.
-ghost use Rattle.std.specs.Prelude.{◌≡◌, ◌<◌, ◌≤◌, IfOk, drop, length, get_or, take, vec_len};
+ghost use Rattle.std.specs.Prelude.{◌≡◌, ◌<◌, ◌≤◌, IfOk, drop, is_some, length, get_or, take, vec_len};
 ghost use Rattle.std.specs.Option.{option_map};
 
 use crate::event::Event;
@@ -40,7 +40,8 @@ impl Runner {
     ghost use Rattle.vlog_module.specs.Maps.{value_in};
     ghost use Rattle.vlog_module.specs.Parts.{Parts};
     ghost use Rattle.vlog_cycle.specs.Entries.{Entry};
-    ghost use Rattle.vlog_cycle.specs.Named.{values_of};
+    ghost use Rattle.vlog_cycle.specs.ModuleSlots.{memory_names, register_names, word_names};
+    ghost use Rattle.vlog_cycle.specs.Named.{has_name, values_of};
     ghost use Rattle.vlog_cycle.specs.Run.{followed, input_names, start};
     ghost use Rattle.vlog_cycle.specs.Showing.{Shows};
 
@@ -116,7 +117,8 @@ impl Runner {
 
     /// The bit of a register of one bit: none of another name.
     pub fn register(&self, name: &[u8]) -> Option<bool>
-        ensures { (m : Parts) (entry : Entry) → Shows self.now m entry → result ≡ value_in entry.registers name.now }
+        ensures is { (m : Parts) (entry : Entry) → Shows self.now m entry → result ≡ value_in entry.registers name.now }
+        ensures declared { (m : Parts) (entry : Entry) → Shows self.now m entry → is_some result ≡ has_name (register_names m.items) name.now }
     {
         match self.places.registers.slot(name) {
             Some(slot) => Some(bit_at(&self.bits, slot)),
@@ -126,7 +128,8 @@ impl Runner {
 
     /// The word of a register of 16 bits: none of another name.
     pub fn register_word(&self, name: &[u8]) -> Option<u16>
-        ensures { (m : Parts) (entry : Entry) → Shows self.now m entry → result ≡ value_in entry.words name.now }
+        ensures is { (m : Parts) (entry : Entry) → Shows self.now m entry → result ≡ value_in entry.words name.now }
+        ensures declared { (m : Parts) (entry : Entry) → Shows self.now m entry → is_some result ≡ has_name (word_names m.items) name.now }
     {
         match self.places.words.slot(name) {
             Some(slot) => Some(word_at(&self.words, slot)),
@@ -136,8 +139,9 @@ impl Runner {
 
     /// The word of a memory at an address: none of a name that is no memory.
     pub fn word(&self, memory: &[u8], address: u8) -> Option<u16>
-        ensures { (m : Parts) (entry : Entry) → Shows self.now m entry
+        ensures is { (m : Parts) (entry : Entry) → Shows self.now m entry
             → result ≡ option_map (λ words. get_or words address 0) (value_in entry.memories memory.now) }
+        ensures declared { (m : Parts) (entry : Entry) → Shows self.now m entry → is_some result ≡ has_name (memory_names m.items) memory.now }
     {
         match self.places.memories.slot(memory) {
             Some(place) => Some(word_in(&self.memories, place, address)),

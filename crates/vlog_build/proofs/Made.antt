@@ -1,10 +1,8 @@
 -- Items that are made of the values of their places.
-use Rattle.std.proofs.Common.{◌≡◌, ℕ, Bool, List, ◌+◌, drop, reverse, refl, ap, sym, ◌∙◌}
+use Rattle.std.proofs.Common.{◌≡◌, ℕ, Bool, List, ◌+◌, drop, reverse, refl, ap, ◌∙◌}
 use Rattle.vlog_module.specs.declared.atoms.Atom.{Atom}
 use Rattle.vlog_module.specs.declared.item.Lut.{Lut}
-use Rattle.vlog_module.specs.declared.item.Right.{Right}
 use Rattle.vlog_module.specs.declared.item.Right.TheVariants as right
-use Rattle.vlog_module.specs.declared.item.Item.{Item}
 use Rattle.vlog_module.specs.declared.item.Item.TheVariants as item
 use Rattle.vlog_forms.specs.declared.form.Form.TheVariants as form
 use Rattle.vlog_forms.specs.Values.{Value}

@@ -1,5 +1,5 @@
 -- Values of places.
-use Rattle.std.proofs.Common.{◌≡◌, ℕ, zero, suc, ◌<◌, ◌≤◌, ◌+◌, ◌-◌, List, [], ◌∷◌, ◌++◌, length, get_or, take, drop, reverse, refl, ap, sym, ◌∙◌, subst, arith, append_assoc}
+use Rattle.std.proofs.Common.{◌≡◌, ℕ, zero, suc, ◌<◌, ◌≤◌, ◌+◌, List, [], ◌∷◌, ◌++◌, length, get_or, drop, reverse, refl, ap, sym, ◌∙◌, subst, arith, append_assoc}
 use Rattle.std.proofs.lemmas.List.{reverse-append}
 use Rattle.vlog_module.specs.declared.atoms.Atom.{Atom}
 use Rattle.vlog_forms.specs.Values.{Value, seen}
@@ -59,5 +59,5 @@ pub atoms-push : (list more : List Atom) (one : Atom) (values : List Value) (lef
     → more ++ reverse (atoms_in left values) ≡ list ++ reverse (atoms_in (left + 1) values)
 atoms-push list more one values left pushed is =
     let turned : reverse (atoms_in (left + 1) values) ≡ one ∷ reverse (atoms_in left values)
-        = ap reverse (atoms-in-more left values) ∙ reverse-append (atoms_in left values) (atom_in (behind left values) ∷ []) ∙ ap (λ each. each ∷ reverse (atoms_in left values)) (sym is) in
+    = ap reverse (atoms-in-more left values) ∙ reverse-append (atoms_in left values) (atom_in (behind left values) ∷ []) ∙ ap (λ each. each ∷ reverse (atoms_in left values)) (sym is) in
     ap (λ front. front ++ reverse (atoms_in left values)) pushed ∙ append_assoc list (one ∷ []) (reverse (atoms_in left values)) ∙ ap (λ rest. list ++ rest) (sym turned)

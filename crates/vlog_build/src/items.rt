@@ -231,4 +231,3 @@ fn start_of(alloc: Global, values: &[Found<'_>]) -> Result<Item, AllocError>
         word: word_at(values, 2),
     })
 }
-

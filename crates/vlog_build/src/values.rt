@@ -76,11 +76,7 @@ fn atom_of(alloc: Global, value: Value<'_>) -> Result<Atom, AllocError>
 }
 
 /// The name of a place; `x` where none stands there.
-pub fn name_at(
-    alloc: Global,
-    values: &[Found<'_>],
-    place: usize,
-) -> Result<Name, AllocError>
+pub fn name_at(alloc: Global, values: &[Found<'_>], place: usize) -> Result<Name, AllocError>
     requires { AreNamed (values_of (all_found values.now)) }
     ensures { IfOk result (λ name. name ≡ name_in (behind place (values_of (all_found values.now)))) }
 {

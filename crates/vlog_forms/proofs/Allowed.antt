@@ -1,10 +1,9 @@
 -- An item without a fault is allowed.
-use Rattle.std.proofs.Common.{◌≡◌, ℕ, zero, suc, ◌<◌, ◌≤◌, Bool, true, false, not, ◌&&◌, List, [], ◌∷◌, ◌++◌, length, drop, map, reverse, refl, ap, sym, ◌∙◌, subst, arith, inl, inr}
+use Rattle.std.proofs.Common.{◌≡◌, ℕ, zero, suc, ◌<◌, ◌≤◌, Bool, true, false, not, ◌&&◌, List, [], ◌∷◌, length, drop, reverse, refl, ap, sym, ◌∙◌, subst, arith, inl, inr}
 use Rattle.std.proofs.lemmas.Bool.{leb-true, cases_lt, lt-ltb}
 use Rattle.std.proofs.lemmas.List.{length-reverse}
 use Rattle.std.proofs.lemmas.List.Elements.{All-nil, All-cons, All-append}
 use Rattle.std.specs.Prelude.{Option, Some, None, if◌then◌else◌, nat_le, nat_lt, All, IsTrue}
-use Rattle.vlog_module.specs.declared.atoms.Atom.{Atom}
 use Rattle.vlog_module.specs.declared.atoms.Atom.TheVariants as atom
 use Rattle.vlog_module.specs.declared.item.Item.{Item}
 use Rattle.vlog_module.specs.Names.{IsName}
@@ -21,14 +20,13 @@ use Rattle.vlog_forms.specs.declared.slot.Slot.TheVariants as slot
 use Rattle.vlog_forms.specs.Values.{Value}
 use Rattle.vlog_forms.specs.Values.Value.{Name, Edge, Bit, Word, Index, AnAtom}
 use Rattle.vlog_forms.specs.Layout.{slots_of}
-use Rattle.vlog_forms.specs.Items.{item_of, item_values, index_in, word_in, atom_in, atoms_in, behind}
+use Rattle.vlog_forms.specs.Items.{item_of, index_in, word_in, atoms_in, behind}
 use Rattle.vlog_forms.specs.Reading.{Found, values_of}
 use Rattle.vlog_forms.specs.Outcome.{Fault, fault, role_use, value_uses, uses_in, use_fault, or_fault, name_fault, item_fault}
-use Rattle.vlog_forms.proofs.ValueKinds.{FitsAtom}
 use Rattle.vlog_forms.proofs.SlotLists.{FitAll}
 use Rattle.vlog_forms.proofs.Rebuilt.{rebuilt-fit, is_item, values-rebuilt}
 use Rattle.vlog_forms.proofs.Uses.{uses-of-values}
-use Rattle.vlog_forms.proofs.Sound.{IsSoundValue, AreSoundValues}
+use Rattle.vlog_forms.proofs.Sound.{AreSoundValues}
 
 -- ---- names without a fault
 

@@ -1,17 +1,17 @@
 -- Reading an atom.
 use Rattle.std.proofs.Common.{◌≡◌, ℕ, Bool, true, false, List, [], ◌∷◌, ◌++◌, refl, ap, sym, ◌∙◌}
-use Rattle.std.specs.Prelude.{Result, Ok, Err, Option, Some, None, if◌then◌else◌, nat_le}
+use Rattle.std.specs.Prelude.{Result, Ok, Err, if◌then◌else◌, nat_le}
 use Rattle.vlog_tokens.specs.declared.fixed.Fixed.TheVariants as sign
 use Rattle.vlog_tokens.specs.Tokens.{TokenValue, Spot}
 use Rattle.vlog_tokens.specs.Tokens.{TokenValue as token}
 use Rattle.vlog_module.specs.declared.atoms.Atom.{Atom}
 use Rattle.vlog_module.specs.declared.atoms.Atom.TheVariants as atom
-use Rattle.vlog_forms.specs.Values.{Value, atom_tokens, is_same_token}
+use Rattle.vlog_forms.specs.Values.{atom_tokens, is_same_token}
 use Rattle.vlog_forms.specs.Values.Value.{AnAtom}
 use Rattle.vlog_forms.specs.Items.{tokens_in}
 use Rattle.vlog_forms.specs.Reading.{Found, found_at, Reading, opens, read_tokens, with_index, close_part, index_part, read_part, behind_open, with_atom, with_part, atom_from, read_atom}
 use Rattle.vlog_forms.proofs.Tokens.{token-same, same-token}
-use Rattle.vlog_forms.proofs.Pairs.{ok_same, ok_first, ok_second}
+use Rattle.vlog_forms.proofs.Pairs.{ok_first, ok_second}
 use Rattle.vlog_forms.proofs.Exact.{read_tokens-whole}
 use Rattle.vlog_forms.proofs.ValueKinds.{FitsAtom}
 

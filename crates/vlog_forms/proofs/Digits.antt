@@ -1,10 +1,10 @@
 -- The tokens of written bits, words and numbers.
-use Rattle.std.proofs.Common.{◌≡◌, ℕ, zero, suc, ◌<◌, ◌≤◌, ◌+◌, ◌-◌, ◌*◌, ◌/◌, ◌%◌, ◌==◌, Bool, true, false, not, ◌&&◌, ◌||◌, List, [], ◌∷◌, ◌++◌, length, get_or, take, refl, ap, sym, ◌∙◌, arith, inl, inr}
+use Rattle.std.proofs.Common.{◌≡◌, ℕ, ◌<◌, ◌+◌, ◌*◌, ◌/◌, ◌%◌, ◌==◌, Bool, true, false, not, ◌&&◌, ◌||◌, List, [], ◌∷◌, take, refl, ap, ◌∙◌, arith}
 use Rattle.std.proofs.lemmas.Bool.{ltb-true}
 use Rattle.std.proofs.lemmas.Bool.Decides.{nat_tests}
-use Rattle.std.specs.Prelude.{if◌then◌else◌, ◌⊎◌, nat_lt}
+use Rattle.std.specs.Prelude.{if◌then◌else◌, nat_lt}
 use Rattle.vlog_tokens.specs.Bytes.{is_blank, is_letter, is_digit, digit_value, is_name_byte, byte_at, is_hex_digit, hex_value, is_bit_text, is_word_text, word_value, number_length, number_value}
-use Rattle.vlog_tokens.specs.Tokens.{TokenValue, front_token, front_length, name_length, name_or_word, digits_token, digits_length, sign_token, sign_length}
+use Rattle.vlog_tokens.specs.Tokens.{front_token, front_length, name_length, name_or_word, digits_token, digits_length, sign_token, sign_length}
 use Rattle.vlog_tokens.specs.Tokens.{TokenValue as token}
 use Rattle.vlog_forms.specs.Printed.{bit_text, word_text, decimal_text, hex_digit}
 use Rattle.vlog_forms.proofs.Plain.{FrontIs, closes, no_name, no_quote}

@@ -1,16 +1,11 @@
 -- Which form is read.
-use Rattle.std.proofs.Common.{◌≡◌, ℕ, zero, suc, Bool, true, false, List, [], ◌∷◌, ◌++◌, length, refl, ap, sym, ◌∙◌, subst, inl, inr}
-use Rattle.std.specs.Prelude.{Result, Ok, Err, if◌then◌else◌, ◌⊎◌, max}
-use Rattle.vlog_tokens.specs.declared.fixed.Fixed.TheVariants as sign
-use Rattle.vlog_tokens.specs.Tokens.{TokenValue, Spot}
-use Rattle.vlog_tokens.specs.Tokens.{TokenValue as token}
+use Rattle.std.proofs.Common.{◌≡◌, ℕ, List, [], ◌∷◌, refl, ap, subst}
+use Rattle.std.specs.Prelude.{Result, Ok, Err}
+use Rattle.vlog_tokens.specs.Tokens.{Spot}
 use Rattle.vlog_forms.specs.declared.form.Form.{Form}
 use Rattle.vlog_forms.specs.declared.form.Form.TheVariants as form
-use Rattle.vlog_forms.specs.declared.slot.Slot.{Slot}
-use Rattle.vlog_forms.specs.declared.slot.Slot.TheVariants as slot
-use Rattle.vlog_forms.specs.Values.{Value}
 use Rattle.vlog_forms.specs.Layout.{slots_of}
-use Rattle.vlog_forms.specs.Reading.{Found, values_of, Reading, read_slots, read_slot, read_tokens, behind_tokens, and_then, Whole, first_whole, or_further, read_forms, all_forms, port_forms}
+use Rattle.vlog_forms.specs.Reading.{Found, Reading, read_slots, Whole, first_whole, or_further, read_forms, all_forms}
 use Rattle.vlog_forms.proofs.SlotLists.{are_closed, is_closed, are_before, IsSound}
 
 -- a form among others

@@ -1,28 +1,25 @@
 -- The header and the declarations of the ports of a well-formed module are read without a fault.
-use Rattle.std.proofs.Common.{◌≡◌, ℕ, zero, suc, ◌<◌, ◌≤◌, ◌+◌, Bool, true, false, not, ◌||◌, List, [], ◌∷◌, ◌++◌, length, map, refl, ap, sym, ◌∙◌, subst, append_assoc, arith, ◌⊎◌, inl, inr}
-use Rattle.std.proofs.lemmas.List.{append-nil, map-append}
-use Rattle.std.specs.Prelude.{Result, Ok, Err, Option, Some, None, if◌then◌else◌, flat_map, bytes_eq}
+use Rattle.std.proofs.Common.{◌≡◌, ℕ, Bool, true, false, ◌||◌, List, [], ◌∷◌, ◌++◌, map, refl, ap, sym, ◌∙◌, append_assoc, ◌⊎◌, inl, inr}
+use Rattle.std.proofs.lemmas.List.{append-nil}
+use Rattle.std.specs.Prelude.{Result, Ok, Err, Some, None, if◌then◌else◌, flat_map, bytes_eq}
 use Rattle.std.specs.List.{list_any, IsDistinct, AllByRecursion}
 use Rattle.vlog_tokens.specs.declared.fixed.Fixed.TheVariants as sign
 use Rattle.vlog_tokens.specs.Tokens.{TokenValue, Spot}
 use Rattle.vlog_tokens.specs.Tokens.{TokenValue as token}
 use Rattle.vlog_module.specs.declared.sort.Sort.TheVariants as sort
-use Rattle.vlog_module.specs.declared.item.Item.{Item}
 use Rattle.vlog_module.specs.declared.modules.Port.{Port}
 use Rattle.vlog_module.specs.Parts.{Parts}
 use Rattle.vlog_forms.specs.declared.form.Form.{Form}
 use Rattle.vlog_forms.specs.declared.form.Form.TheVariants as form
 use Rattle.vlog_forms.specs.declared.fault.VlogCause.TheVariants.{AssignedTwice}
 use Rattle.vlog_forms.specs.declared.slot.Role.TheVariants.{Declares}
-use Rattle.vlog_forms.specs.declared.slot.Slot.TheVariants as slot
-use Rattle.vlog_forms.specs.Values.{Value}
 use Rattle.vlog_forms.specs.Values.Value.{Name}
 use Rattle.vlog_forms.specs.Layout.{slots_of, filled}
 use Rattle.vlog_forms.specs.Items.{tokens_in, port_form, port_tokens, names_tokens, more_names, name_in}
-use Rattle.vlog_forms.specs.Reading.{Found, found_at, values_of, Reading, read_slots, Whole, first_whole, or_further, read_forms, port_forms}
+use Rattle.vlog_forms.specs.Reading.{Found, found_at, Reading, read_slots, Whole, first_whole, or_further, read_forms, port_forms}
 use Rattle.vlog_forms.specs.Outcome.{Fault, fault, after, ports_outcome, is_output, port_of, Turn, port_step, next_port, port_names, twice_fault}
 use Rattle.vlog_forms.specs.Outcome.Turn.{Opened, Named, Parted}
-use Rattle.vlog_forms.proofs.SlotLists.{FitAll, SlotsRead, slots-read, SlotsStand, slots-stand}
+use Rattle.vlog_forms.proofs.SlotLists.{FitAll, SlotsRead, slots-read, slots-stand}
 use Rattle.vlog_forms.proofs.Forms.{form-sound}
 
 -- ---- declarations

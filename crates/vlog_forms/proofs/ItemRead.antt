@@ -1,12 +1,9 @@
 -- An item's tokens are read as the item, whatever follows.
-use Rattle.std.proofs.Common.{◌≡◌, ℕ, zero, suc, ◌<◌, ◌≤◌, Bool, true, false, List, [], ◌∷◌, ◌++◌, length, drop, map, reverse, refl, ap, sym, ◌∙◌, subst, arith}
-use Rattle.std.proofs.lemmas.Bool.{le-leb}
-use Rattle.std.specs.Prelude.{Result, Ok, Err, if◌then◌else◌, nat_le, All}
+use Rattle.std.proofs.Common.{◌≡◌, ℕ, Bool, true, false, List, [], ◌∷◌, ◌++◌, drop, refl, ap, sym, ◌∙◌, subst}
+use Rattle.std.specs.Prelude.{Ok, nat_le}
 use Rattle.vlog_tokens.specs.declared.fixed.Fixed.TheVariants as sign
 use Rattle.vlog_tokens.specs.Tokens.{TokenValue, Spot}
 use Rattle.vlog_tokens.specs.Tokens.{TokenValue as token}
-use Rattle.vlog_module.specs.declared.atoms.Atom.{Atom}
-use Rattle.vlog_module.specs.declared.atoms.Atom.TheVariants as atom
 use Rattle.vlog_module.specs.declared.item.Right.TheVariants as right
 use Rattle.vlog_module.specs.declared.item.Item.{Item}
 use Rattle.vlog_module.specs.declared.item.Item.TheVariants as item
@@ -18,13 +15,13 @@ use Rattle.vlog_forms.specs.declared.slot.Slot.TheVariants as slot
 use Rattle.vlog_forms.specs.Values.{Value}
 use Rattle.vlog_forms.specs.Values.Value.{Name, Edge, Bit, Word, Index, AnAtom}
 use Rattle.vlog_forms.specs.Layout.{slots_of, filled, left_by}
-use Rattle.vlog_forms.specs.Items.{item_of, item_form, item_values, item_tokens, tokens_in, name_in, edge_in, bit_in, word_in, index_in, atom_in}
+use Rattle.vlog_forms.specs.Items.{item_of, item_form, item_values, item_tokens, tokens_in, index_in, atom_in}
 use Rattle.vlog_forms.specs.Reading.{Found, values_of, Reading, read_slots, Whole, read_forms, all_forms}
-use Rattle.vlog_forms.proofs.ValueKinds.{Fits, FitsAtom}
-use Rattle.vlog_forms.proofs.Pairs.{ok_same, ok_first, ok_second}
-use Rattle.vlog_forms.proofs.SlotLists.{FitAll, FitsFirst, SlotsStand, slots-stand, SlotsRead, slots-read, IsSound}
+use Rattle.vlog_forms.proofs.ValueKinds.{FitsAtom}
+use Rattle.vlog_forms.proofs.Pairs.{ok_first, ok_second}
+use Rattle.vlog_forms.proofs.SlotLists.{FitAll, slots-stand, SlotsRead, slots-read, IsSound}
 use Rattle.vlog_forms.proofs.Rebuilt.{rebuilt, rebuilt-fit, is_item, values-rebuilt, form-of, item-back}
-use Rattle.vlog_forms.proofs.Forms.{IsRead, forms-read, some-whole, among-all, form-sound, given_count}
+use Rattle.vlog_forms.proofs.Forms.{forms-read, some-whole, among-all, form-sound, given_count}
 use Rattle.vlog_forms.proofs.Shape.{shape, item-shape, end-shape}
 
 -- ---- the values of an item fit its form

@@ -1,14 +1,12 @@
 -- The items of a well-formed module are read without a fault.
-use Rattle.std.proofs.Common.{◌≡◌, ℕ, zero, suc, ◌<◌, ◌≤◌, ◌+◌, Bool, true, false, not, ◌||◌, List, [], ◌∷◌, ◌++◌, length, take, map, refl, ap, sym, ◌∙◌, subst, append_assoc, arith, get_or}
-use Rattle.std.proofs.lemmas.Bool.{le-leb, leb-true, ltb-true}
-use Rattle.std.proofs.lemmas.List.{append-nil, length-append, take_all}
+use Rattle.std.proofs.Common.{◌≡◌, ℕ, zero, suc, ◌<◌, ◌≤◌, Bool, true, false, not, List, [], ◌∷◌, ◌++◌, length, refl, ap, sym, ◌∙◌, subst, append_assoc, arith}
+use Rattle.std.proofs.lemmas.Bool.{le-leb, ltb-true}
+use Rattle.std.proofs.lemmas.List.{append-nil}
 use Rattle.std.proofs.lemmas.List.Elements.{All-head, All-tail}
-use Rattle.std.specs.Prelude.{Result, Ok, Err, Option, Some, None, if◌then◌else◌, nat_le, nat_lt, All, flat_map, slice_get, IsTrue}
-use Rattle.std.specs.List.{list_all}
+use Rattle.std.specs.Prelude.{Ok, Err, Some, None, if◌then◌else◌, nat_le, nat_lt, All, flat_map, IsTrue}
 use Rattle.vlog_tokens.specs.declared.fixed.Fixed.TheVariants as sign
 use Rattle.vlog_tokens.specs.Tokens.{TokenValue, Spot}
 use Rattle.vlog_tokens.specs.Tokens.{TokenValue as token}
-use Rattle.vlog_module.specs.declared.atoms.Atom.{Atom}
 use Rattle.vlog_module.specs.declared.atoms.Atom.TheVariants as atom
 use Rattle.vlog_module.specs.declared.item.Right.TheVariants as right
 use Rattle.vlog_module.specs.declared.item.Item.{Item}
@@ -16,24 +14,19 @@ use Rattle.vlog_module.specs.declared.item.Item.TheVariants as item
 use Rattle.vlog_module.specs.declared.modules.Port.{Port}
 use Rattle.vlog_module.specs.Parts.{Parts}
 use Rattle.vlog_module.specs.Uses.{Use, uses_of}
-use Rattle.vlog_module.specs.Uses.Use.{Declares, Reads, ReadsBit, Takes, Assigns, Starts}
-use Rattle.vlog_module.specs.WellFormed.{Scope, scope_of, section_of, is_known, is_first, is_assigned, IsInRange, IsShaped, IsAllowed, IsBegun, IsComplete}
-use Rattle.vlog_forms.specs.declared.form.Form.{Form}
+use Rattle.vlog_module.specs.Uses.Use.{Declares, Reads, ReadsBit, Starts}
+use Rattle.vlog_module.specs.WellFormed.{Scope, scope_of, section_of, is_known, is_first, IsInRange, IsAllowed}
 use Rattle.vlog_forms.specs.declared.form.Form.TheVariants as form
-use Rattle.vlog_forms.specs.declared.fault.VlogCause.TheVariants.{Syntax, Order, Undeclared, AssignedTwice}
-use Rattle.vlog_forms.specs.declared.slot.Slot.{Slot}
-use Rattle.vlog_forms.specs.declared.slot.Slot.TheVariants as slot
-use Rattle.vlog_forms.specs.declared.slot.Role.TheVariants as role
+use Rattle.vlog_forms.specs.declared.fault.VlogCause.TheVariants.{Order, Undeclared, AssignedTwice}
 use Rattle.vlog_forms.specs.Values.{Value}
 use Rattle.vlog_forms.specs.Values.Value.{Name, Edge, Bit, Word, Index, AnAtom}
 use Rattle.vlog_forms.specs.Layout.{slots_of}
 use Rattle.vlog_forms.specs.Items.{item_of, item_form, item_values, item_tokens, tokens_in, index_in}
-use Rattle.vlog_forms.specs.Reading.{Found, found_at, values_of, offset_of, Whole, read_forms, all_forms}
-use Rattle.vlog_forms.specs.Outcome.{Fault, fault, role_use, value_uses, uses_in, use_fault, or_fault, name_fault, item_fault, unless_fault, after, are_assigned, at_end, ending, is_end, module_of, with_item, item_outcome, items_outcome}
-use Rattle.vlog_forms.proofs.ValueKinds.{FitsAtom}
+use Rattle.vlog_forms.specs.Reading.{Found, values_of, offset_of, Whole}
+use Rattle.vlog_forms.specs.Outcome.{fault, role_use, value_uses, uses_in, use_fault, or_fault, name_fault, item_fault, unless_fault, after, are_assigned, at_end, ending, is_end, module_of, with_item, item_outcome, items_outcome}
 use Rattle.vlog_forms.proofs.Rebuilt.{item-back}
 use Rattle.vlog_forms.proofs.Uses.{uses-of-values}
-use Rattle.vlog_forms.proofs.ItemRead.{AreRanged, AreSmall, are_indexless, ranged-small, ItemIsRead, item-read, EndIsRead, end-read}
+use Rattle.vlog_forms.proofs.ItemRead.{AreRanged, AreSmall, are_indexless, ranged-small, item-read, end-read}
 
 -- ---- numbers in range
 

@@ -2,19 +2,18 @@
 use Rattle.std.proofs.Common.{◌≡◌, ℕ, zero, suc, ◌<◌, ◌≤◌, ◌+◌, ◌-◌, ◌*◌, ◌/◌, ◌%◌, ◌==◌, Bool, true, false, not, ◌&&◌, ◌||◌, List, [], ◌∷◌, ◌++◌, length, take, drop, get_or, map, refl, ap, sym, ◌∙◌, cond, arith}
 use Rattle.std.proofs.lemmas.Bool.Decides.{nat_tests}
 use Rattle.std.proofs.lemmas.List.{take_at, drop_at, length-append}
-use Rattle.std.specs.Prelude.{if◌then◌else◌, codes, bytes_eq, Option, Some, None, flat_map, nat_lt}
-use Rattle.std.specs.List.{list_all, list_any, position_or_len}
+use Rattle.std.specs.Prelude.{if◌then◌else◌, codes, bytes_eq, Option, Some, None}
+use Rattle.std.specs.List.{list_all, list_any}
 use Rattle.std.proofs.lemmas.Slice.Eq.{bytes_eq-Decides}
 use Rattle.vlog_tokens.specs.declared.fixed.Fixed.{Fixed}
 use Rattle.vlog_tokens.specs.declared.fixed.Fixed.TheVariants as sign
-use Rattle.vlog_tokens.specs.Bytes.{is_blank, is_letter, is_digit, is_name_byte, byte_at, is_hex_digit, hex_value, is_bit_text, is_word_text, word_value, number_length, number_value}
+use Rattle.vlog_tokens.specs.Bytes.{is_blank, is_letter, is_digit, is_name_byte, byte_at}
 use Rattle.vlog_tokens.specs.Fixed.{fixed_text, word_of, pair_of, sign_of}
 use Rattle.vlog_tokens.specs.Tokens.{TokenValue, Spot, spot, spots_from, front_token, front_length, name_length, name_or_word, word_or_name, digits_token, digits_length, sign_token, sign_length}
 use Rattle.vlog_tokens.specs.Tokens.{TokenValue as token}
 use Rattle.vlog_tokens.proofs.Cuts.{spots_from-token}
 use Rattle.vlog_module.specs.Names.{IsName, is_name, is_word, is_reserved, reserved_words}
 use Rattle.vlog_forms.specs.Items.{tokens_in}
-use Rattle.vlog_forms.specs.Printed.{token_text, bit_text, word_text, decimal_text, hex_digit}
 
 -- the tokens of a text, wherever it stands
 abbrev pub plain : List ℕ → List TokenValue

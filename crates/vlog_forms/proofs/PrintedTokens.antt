@@ -1,5 +1,5 @@
 -- The printed text of a well-formed module is a spelling of it.
-use Rattle.std.proofs.Common.{◌≡◌, ℕ, zero, suc, ◌<◌, ◌≤◌, ◌+◌, Bool, true, false, List, [], ◌∷◌, ◌++◌, length, map, reverse, refl, ap, sym, ◌∙◌, subst, append_assoc, arith}
+use Rattle.std.proofs.Common.{◌≡◌, ℕ, ◌<◌, ◌≤◌, Bool, true, false, List, [], ◌∷◌, ◌++◌, map, reverse, refl, ap, sym, ◌∙◌, subst, append_assoc, arith}
 use Rattle.std.proofs.lemmas.List.Elements.{All-head, All-tail}
 use Rattle.std.specs.Prelude.{All, flat_map, codes}
 use Rattle.vlog_tokens.specs.declared.fixed.Fixed.TheVariants as sign
@@ -15,7 +15,7 @@ use Rattle.vlog_module.specs.declared.modules.Port.{Port}
 use Rattle.vlog_module.specs.declared.sort.Sort.TheVariants as sort
 use Rattle.vlog_module.specs.Parts.{Parts}
 use Rattle.vlog_module.specs.Uses.{Use, uses_of, used_name}
-use Rattle.vlog_module.specs.Uses.Use.{Declares, Reads, ReadsBit, Takes, Assigns, Starts}
+use Rattle.vlog_module.specs.Uses.Use.{Declares, Reads, ReadsBit, Starts}
 use Rattle.vlog_module.specs.WellFormed.{Scope, scope_of, IsInRange, IsShaped, IsAllowed, IsModule}
 use Rattle.vlog_forms.specs.declared.form.Form.{Form}
 use Rattle.vlog_forms.specs.declared.form.Form.TheVariants as form
@@ -23,19 +23,18 @@ use Rattle.vlog_forms.specs.declared.slot.Role.{Role}
 use Rattle.vlog_forms.specs.declared.slot.Role.TheVariants as role
 use Rattle.vlog_forms.specs.Values.{Value}
 use Rattle.vlog_forms.specs.Values.Value.{Name, Edge, Bit, Word, Index, AnAtom}
-use Rattle.vlog_forms.specs.Layout.{slots_of, filled}
-use Rattle.vlog_forms.specs.Items.{item_form, item_values, item_tokens, atoms_values, lut_values, index_in, port_form, port_tokens, names_tokens, more_names, module_tokens, IsSpelling}
-use Rattle.vlog_forms.specs.Outcome.{role_use, value_uses, uses_in}
+use Rattle.vlog_forms.specs.Layout.{slots_of}
+use Rattle.vlog_forms.specs.Items.{item_form, item_values, item_tokens, atoms_values, index_in, port_form, port_tokens, names_tokens, more_names, module_tokens, IsSpelling}
+use Rattle.vlog_forms.specs.Outcome.{role_use, uses_in}
 use Rattle.vlog_forms.specs.Printed.{written, line_of, item_line, port_line, names_text, more_names_text, printed}
 use Rattle.vlog_forms.proofs.Plain.{plain, plain-blank, plain-front, closes, fixed-front, name-front}
 use Rattle.vlog_forms.proofs.SlotLists.{FitAll, are_before}
-use Rattle.vlog_forms.proofs.Rebuilt.{is_item}
-use Rattle.vlog_forms.proofs.Forms.{form-sound, given_count}
+use Rattle.vlog_forms.proofs.Forms.{form-sound}
 use Rattle.vlog_forms.proofs.Uses.{uses-of-values}
 use Rattle.vlog_forms.proofs.ItemRead.{item-fits, form-is, none-given}
 use Rattle.vlog_forms.proofs.ItemsRead.{item-ranged, MayFollow}
 use Rattle.vlog_forms.proofs.Spelled.{may-follow}
-use Rattle.vlog_forms.proofs.WrittenSlots.{are_shut, IsWritable, AreWritable, plain-written}
+use Rattle.vlog_forms.proofs.WrittenSlots.{are_shut, AreWritable, plain-written}
 
 -- ---- the values of an item can be written
 

@@ -1,5 +1,5 @@
 -- The form of an item is seen from its tokens.
-use Rattle.std.proofs.Common.{◌≡◌, ℕ, Bool, true, false, ◌&&◌, List, [], ◌∷◌, ◌++◌, get_or, drop, refl, ap, sym, ◌∙◌, append_assoc}
+use Rattle.std.proofs.Common.{◌≡◌, ℕ, Bool, true, false, List, [], ◌∷◌, ◌++◌, get_or, drop, refl}
 use Rattle.std.specs.Prelude.{if◌then◌else◌}
 use Rattle.vlog_tokens.specs.declared.fixed.Fixed.{Fixed}
 use Rattle.vlog_tokens.specs.declared.fixed.Fixed.TheVariants as sign
@@ -18,9 +18,9 @@ use Rattle.vlog_forms.specs.declared.slot.Role.{Role}
 use Rattle.vlog_forms.specs.declared.slot.Role.TheVariants as role
 use Rattle.vlog_module.specs.declared.sort.Sort.TheVariants as sort
 use Rattle.vlog_forms.specs.Values.{Value, is_same_token}
-use Rattle.vlog_forms.specs.Values.Value.{Name, Edge, Bit, Word, Index, AnAtom}
+use Rattle.vlog_forms.specs.Values.Value.{Name, Edge, Bit, Word, AnAtom}
 use Rattle.vlog_forms.specs.Layout.{slots_of, filled}
-use Rattle.vlog_forms.specs.Items.{item_form, item_values, item_tokens, atoms_values, lut_values}
+use Rattle.vlog_forms.specs.Items.{item_form, item_tokens, atoms_values, lut_values}
 
 -- whether a token is this sign or word
 abbrev is_at : Fixed → List TokenValue → ℕ → Bool

@@ -1,9 +1,8 @@
 -- Slots one after another: what is read is what the values make, and what values make is read.
-use Rattle.std.proofs.Common.{◌≡◌, ℕ, zero, suc, ◌<◌, ◌≤◌, ◌+◌, Bool, true, false, not, List, [], ◌∷◌, ◌++◌, length, take, drop, map, refl, ap, sym, ◌∙◌, subst, append_assoc, arith}
+use Rattle.std.proofs.Common.{◌≡◌, ℕ, zero, suc, ◌<◌, Bool, true, false, not, List, [], ◌∷◌, ◌++◌, length, take, drop, refl, ap, sym, ◌∙◌, subst, append_assoc, arith}
 use Rattle.std.proofs.lemmas.Bool.{ltb-true}
 use Rattle.std.proofs.lemmas.List.{append-nil, map-append, length-append, length-map}
 use Rattle.std.specs.Prelude.{Result, Ok, Err, Option, Some, None, if◌then◌else◌, nat_lt}
-use Rattle.vlog_tokens.specs.declared.fixed.Fixed.{Fixed}
 use Rattle.vlog_tokens.specs.declared.fixed.Fixed.TheVariants as sign
 use Rattle.vlog_tokens.specs.Tokens.{TokenValue, Spot}
 use Rattle.vlog_tokens.specs.Tokens.{TokenValue as token}
@@ -13,14 +12,13 @@ use Rattle.vlog_forms.specs.declared.slot.Slot.TheVariants as slot
 use Rattle.vlog_module.specs.declared.atoms.Atom.TheVariants as atom
 use Rattle.vlog_forms.specs.Values.{Value, atom_tokens, value_tokens, tokens_at, is_same_token}
 use Rattle.vlog_forms.specs.Values.Value.{Name, Edge, Bit, Word, Index, AnAtom}
-use Rattle.vlog_forms.specs.Layout.{takes_value, exact_tokens, first_tokens, slot_tokens, left_by, passed_by, filled}
+use Rattle.vlog_forms.specs.Layout.{takes_value, exact_tokens, first_tokens, left_by, filled}
 use Rattle.vlog_forms.specs.Items.{tokens_in}
 use Rattle.vlog_forms.specs.Reading.{Found, found_at, values_of, Reading, with_value, single, read_single, read_tokens, behind_tokens, read_slot, read_slots, and_then}
-use Rattle.vlog_forms.proofs.Tokens.{IsReal}
-use Rattle.vlog_forms.proofs.Pairs.{ok_same, ok_first, ok_second}
-use Rattle.vlog_forms.proofs.Exact.{read_tokens-whole, read_tokens-exact, AreReal, Behind}
-use Rattle.vlog_forms.proofs.ValueKinds.{Fits, FitsAtom, single-fits, single-takes, Single, takes_atom}
-use Rattle.vlog_forms.proofs.Atoms.{AtomStands, atom-stands, AtomRead, atom-read, opens_next}
+use Rattle.vlog_forms.proofs.Pairs.{ok_first, ok_second}
+use Rattle.vlog_forms.proofs.Exact.{read_tokens-whole, read_tokens-exact, AreReal}
+use Rattle.vlog_forms.proofs.ValueKinds.{Fits, single-fits, single-takes, takes_atom}
+use Rattle.vlog_forms.proofs.Atoms.{AtomStands, atom-stands, atom-read, opens_next}
 
 -- ---- what slots and values make, slot by slot
 

@@ -1,26 +1,24 @@
 -- The names of tokens are names, their words have 16 bits, and so have those of the values that are read.
-use Rattle.std.proofs.Common.{◌≡◌, ℕ, zero, suc, ◌<◌, ◌≤◌, ◌+◌, ◌-◌, ◌*◌, ◌==◌, Bool, true, false, not, ◌&&◌, ◌||◌, List, [], ◌∷◌, ◌++◌, length, take, drop, map, cond, refl, ap, sym, ◌∙◌, subst, arith}
+use Rattle.std.proofs.Common.{◌≡◌, ℕ, zero, suc, ◌<◌, ◌+◌, ◌-◌, ◌*◌, ◌==◌, Bool, true, false, not, ◌&&◌, ◌||◌, List, [], ◌∷◌, ◌++◌, take, drop, map, cond, refl, ap, sym, ◌∙◌, subst, arith}
 use Rattle.std.proofs.lemmas.Bool.Decides.{nat_tests}
 use Rattle.std.proofs.lemmas.Slice.Eq.{bytes_eq-Decides}
-use Rattle.std.specs.Prelude.{Result, Ok, Option, Some, None, if◌then◌else◌, codes, bytes_eq}
+use Rattle.std.specs.Prelude.{Ok, Option, Some, None, if◌then◌else◌, codes, bytes_eq}
 use Rattle.std.specs.List.{list_all, list_any}
 use Rattle.vlog_tokens.specs.declared.fixed.Fixed.{Fixed}
 use Rattle.vlog_tokens.specs.declared.fixed.Fixed.TheVariants as sign
-use Rattle.vlog_tokens.specs.Bytes.{is_blank, is_letter, is_digit, is_name_byte, byte_at, is_hex_digit, hex_value, is_bit_text, is_word_text, word_value, number_value}
+use Rattle.vlog_tokens.specs.Bytes.{is_blank, is_letter, is_digit, is_name_byte, byte_at, hex_value, is_bit_text, is_word_text, word_value, number_value}
 use Rattle.vlog_tokens.specs.Fixed.{word_of, pair_of, sign_of}
 use Rattle.vlog_tokens.specs.Tokens.{TokenValue, Spot, spot, spots_from, spots_at, front_token, front_length, name_length, name_or_word, word_or_name, digits_token, sign_token, first_sign}
 use Rattle.vlog_tokens.specs.Tokens.{TokenValue as token}
-use Rattle.vlog_module.specs.declared.atoms.Atom.{Atom}
 use Rattle.vlog_module.specs.declared.atoms.Atom.TheVariants as atom
 use Rattle.vlog_module.specs.Names.{IsName, is_name, is_word, is_reserved, reserved_words}
 use Rattle.vlog_forms.specs.declared.slot.Slot.{Slot}
-use Rattle.vlog_forms.specs.declared.slot.Slot.TheVariants as slot
 use Rattle.vlog_forms.specs.Values.{Value, value_tokens}
 use Rattle.vlog_forms.specs.Values.Value.{Name, Edge, Bit, Word, Index, AnAtom}
-use Rattle.vlog_forms.specs.Layout.{takes_value, exact_tokens, left_by, filled}
+use Rattle.vlog_forms.specs.Layout.{takes_value, exact_tokens, filled}
 use Rattle.vlog_forms.specs.Items.{tokens_in}
 use Rattle.vlog_forms.specs.Reading.{Found, values_of, read_slots}
-use Rattle.vlog_forms.proofs.SlotLists.{FitAll, FitsFirst, SlotsStand, slots-stand, filled-took, filled-passed}
+use Rattle.vlog_forms.proofs.SlotLists.{FitAll, FitsFirst, slots-stand, filled-took, filled-passed}
 use Rattle.vlog_forms.proofs.Plain.{among_words}
 
 -- ---- tokens

@@ -1,20 +1,17 @@
 -- A text that spells a module has that module for its outcome.
-use Rattle.std.proofs.Common.{◌≡◌, ℕ, zero, suc, ◌<◌, ◌≤◌, ◌+◌, Bool, true, false, not, ◌||◌, ◌&&◌, List, [], ◌∷◌, ◌++◌, length, take, drop, map, refl, ap, sym, ◌∙◌, subst, append_assoc, arith}
-use Rattle.std.proofs.lemmas.List.{append-nil, length-append, length-map, take_at}
+use Rattle.std.proofs.Common.{◌≡◌, ℕ, suc, ◌<◌, ◌≤◌, ◌+◌, Bool, true, false, not, ◌||◌, ◌&&◌, List, [], ◌∷◌, ◌++◌, length, take, drop, refl, ap, sym, ◌∙◌, subst, append_assoc, arith}
+use Rattle.std.proofs.lemmas.List.{length-append, length-map, take_at}
 use Rattle.std.proofs.lemmas.List.Elements.{All-head, All-tail}
-use Rattle.std.specs.Prelude.{Result, Ok, Err, Option, Some, None, if◌then◌else◌, flat_map, slice_get, All, IsTrue}
-use Rattle.std.specs.List.{list_all}
+use Rattle.std.specs.Prelude.{Ok, Some, None, flat_map, slice_get, All, IsTrue}
 use Rattle.vlog_tokens.specs.declared.fixed.Fixed.{Fixed}
 use Rattle.vlog_tokens.specs.declared.fixed.Fixed.TheVariants as sign
 use Rattle.vlog_tokens.specs.Tokens.{TokenValue, Spot, spots_of}
 use Rattle.vlog_tokens.specs.Tokens.{TokenValue as token}
 use Rattle.vlog_module.specs.declared.sort.Sort.TheVariants as sort
-use Rattle.vlog_module.specs.declared.item.Right.TheVariants as right
 use Rattle.vlog_module.specs.declared.item.Item.{Item}
-use Rattle.vlog_module.specs.declared.item.Item.TheVariants as item
 use Rattle.vlog_module.specs.declared.modules.Port.{Port}
 use Rattle.vlog_module.specs.Parts.{Parts}
-use Rattle.vlog_module.specs.WellFormed.{scope_of, is_assigned, IsAllowed, IsBegun, IsComplete, IsModule}
+use Rattle.vlog_module.specs.WellFormed.{scope_of, is_assigned, IsAllowed, IsModule}
 use Rattle.vlog_forms.specs.declared.form.Form.{Form}
 use Rattle.vlog_forms.specs.declared.form.Form.TheVariants as form
 use Rattle.vlog_forms.specs.declared.slot.Role.TheVariants.{Declares}
@@ -23,14 +20,13 @@ use Rattle.vlog_forms.specs.declared.slot.Slot.TheVariants as slot
 use Rattle.vlog_forms.specs.Values.{Value}
 use Rattle.vlog_forms.specs.Values.Value.{Name}
 use Rattle.vlog_forms.specs.Layout.{slots_of, filled}
-use Rattle.vlog_forms.specs.Items.{item_form, item_values, item_tokens, port_tokens, names_tokens, header_tokens, module_tokens, tokens_in, name_in, IsSpelling}
-use Rattle.vlog_forms.specs.Reading.{Found, values_of, Reading, read_slots, read_tokens}
-use Rattle.vlog_forms.specs.Outcome.{Fault, after, unless_fault, are_assigned, module_of, items_outcome, ports_outcome, port_names, twice_fault, header_slots, with_head, with_names, with_semicolon, ports_next, header_outcome, spots_outcome, outcome_of, vlog_fault_of, fault_in}
-use Rattle.vlog_forms.specs.Outcome.Turn.{Opened}
+use Rattle.vlog_forms.specs.Items.{item_form, item_values, item_tokens, port_tokens, names_tokens, module_tokens, tokens_in, name_in, IsSpelling}
+use Rattle.vlog_forms.specs.Reading.{values_of, read_slots}
+use Rattle.vlog_forms.specs.Outcome.{after, unless_fault, are_assigned, module_of, items_outcome, ports_outcome, twice_fault, header_slots, with_head, with_names, with_semicolon, ports_next, header_outcome, spots_outcome, outcome_of, vlog_fault_of, fault_in}
 use Rattle.vlog_forms.proofs.Exact.{read_tokens-exact}
-use Rattle.vlog_forms.proofs.SlotLists.{filled-passed, FitAll, SlotsRead, slots-read, IsSound, are_closed, is_closed, are_before}
+use Rattle.vlog_forms.proofs.SlotLists.{filled-passed, FitAll, SlotsRead, slots-read, are_closed, is_closed, are_before}
 use Rattle.vlog_forms.proofs.ItemsRead.{MayFollow, items-spelled}
-use Rattle.vlog_forms.proofs.HeaderRead.{NamesOf, ports-spelled, names-read, none-twice, apart-ports, port_name}
+use Rattle.vlog_forms.proofs.HeaderRead.{ports-spelled, names-read, none-twice, apart-ports}
 
 -- `module NAME (` is read
 head-read : (end : ℕ) (name : List ℕ) (spots : List Spot) (tail : List TokenValue) → tokens_in spots ≡ token.fixed sign.Module ∷ token.name name ∷ token.fixed sign.OpenParen ∷ tail

@@ -5,17 +5,15 @@ use Rattle.std.specs.Prelude.{flat_map}
 use Rattle.vlog_module.specs.declared.sort.Sort.TheVariants as sort
 use Rattle.vlog_module.specs.declared.atoms.Atom.{Atom}
 use Rattle.vlog_module.specs.declared.atoms.Atom.TheVariants as atom
-use Rattle.vlog_module.specs.declared.item.Right.{Right}
 use Rattle.vlog_module.specs.declared.item.Right.TheVariants as right
-use Rattle.vlog_module.specs.declared.item.Lut.{Lut}
 use Rattle.vlog_module.specs.declared.item.Item.{Item}
 use Rattle.vlog_module.specs.declared.item.Item.TheVariants as item
-use Rattle.vlog_module.specs.Uses.{Use, uses_of, atom_uses, atoms_uses, lut_uses, right_uses}
-use Rattle.vlog_module.specs.Uses.Use.{Declares, Reads, ReadsBit, Takes, Assigns, Starts}
+use Rattle.vlog_module.specs.Uses.{Use, uses_of, atom_uses, atoms_uses, lut_uses}
+use Rattle.vlog_module.specs.Uses.Use.{Declares, Takes, Assigns}
 use Rattle.vlog_forms.specs.declared.slot.Role.TheVariants as role
 use Rattle.vlog_forms.specs.Values.{Value}
 use Rattle.vlog_forms.specs.Values.{Value as value}
-use Rattle.vlog_forms.specs.Items.{item_values, atoms_values, index_in, right_values, lut_values}
+use Rattle.vlog_forms.specs.Items.{item_values, atoms_values, index_in, lut_values}
 use Rattle.vlog_forms.specs.Outcome.{value_uses, uses_in}
 
 atom-value : (one : Atom) (k : ℕ) → value_uses (value.AnAtom one) k ≡ atom_uses one

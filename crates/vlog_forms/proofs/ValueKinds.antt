@@ -1,14 +1,14 @@
 -- Values of the kinds that slots take, and slots of one token.
-use Rattle.std.proofs.Common.{◌≡◌, ℕ, Bool, true, false, List, [], ◌∷◌, ◌++◌, refl, ap, sym, ◌∙◌, subst}
-use Rattle.std.specs.Prelude.{Result, Ok, Err, Option, Some, None, if◌then◌else◌, nat_le}
+use Rattle.std.proofs.Common.{◌≡◌, ℕ, Bool, true, false, [], ◌∷◌, refl, ap, sym, subst}
+use Rattle.std.specs.Prelude.{Some, None, if◌then◌else◌, nat_le}
 use Rattle.vlog_tokens.specs.declared.fixed.Fixed.TheVariants as sign
-use Rattle.vlog_tokens.specs.Tokens.{TokenValue, Spot}
+use Rattle.vlog_tokens.specs.Tokens.{TokenValue}
 use Rattle.vlog_tokens.specs.Tokens.{TokenValue as token}
 use Rattle.vlog_module.specs.declared.atoms.Atom.{Atom}
 use Rattle.vlog_module.specs.declared.atoms.Atom.TheVariants as atom
 use Rattle.vlog_forms.specs.declared.slot.Slot.{Slot}
 use Rattle.vlog_forms.specs.declared.slot.Slot.TheVariants as slot
-use Rattle.vlog_forms.specs.Values.{Value, value_tokens, edge_sign, is_same_token}
+use Rattle.vlog_forms.specs.Values.{Value, value_tokens, is_same_token}
 use Rattle.vlog_forms.specs.Values.Value.{Name, Edge, Bit, Word, Index, AnAtom}
 use Rattle.vlog_forms.specs.Reading.{single}
 use Rattle.vlog_forms.proofs.Tokens.{token-same}

@@ -1,12 +1,11 @@
 -- A text of which the outcome is a module spells the module.
-use Rattle.std.proofs.Common.{◌≡◌, ℕ, zero, suc, ◌<◌, ◌≤◌, ◌+◌, Bool, true, false, not, ◌&&◌, ◌||◌, List, [], ◌∷◌, ◌++◌, length, take, map, refl, ap, sym, ◌∙◌, subst, append_assoc, arith}
+use Rattle.std.proofs.Common.{◌≡◌, ℕ, zero, suc, ◌<◌, Bool, true, false, not, ◌&&◌, ◌||◌, List, [], ◌∷◌, ◌++◌, length, take, map, refl, ap, sym, ◌∙◌, subst, append_assoc, arith}
 use Rattle.std.proofs.lemmas.Cmp.{nat_list_eq_equiv}
 use Rattle.std.proofs.lemmas.List.{append-nil, length-append, length-map}
 use Rattle.std.proofs.lemmas.List.Elements.{All-nil, All-cons}
 use Rattle.std.proofs.lemmas.Map.Keys.{IsDistinct-push}
 use Rattle.std.specs.Prelude.{Result, Ok, Err, Option, Some, None, if◌then◌else◌, flat_map, slice_get, bytes_eq, All, IsTrue}
-use Rattle.std.specs.List.{list_any, list_all, IsDistinct}
-use Rattle.vlog_tokens.specs.declared.fixed.Fixed.{Fixed}
+use Rattle.std.specs.List.{list_any, IsDistinct}
 use Rattle.vlog_tokens.specs.declared.fixed.Fixed.TheVariants as sign
 use Rattle.vlog_tokens.specs.Tokens.{TokenValue, Spot, spots_of}
 use Rattle.vlog_tokens.specs.Tokens.{TokenValue as token}
@@ -16,25 +15,24 @@ use Rattle.vlog_module.specs.declared.modules.Port.{Port}
 use Rattle.vlog_module.specs.Names.{IsName}
 use Rattle.vlog_module.specs.Parts.{Parts}
 use Rattle.vlog_module.specs.Uses.{uses_of}
-use Rattle.vlog_module.specs.WellFormed.{scope_of, is_assigned, IsAllowed, IsBegun, IsComplete, IsModule}
+use Rattle.vlog_module.specs.WellFormed.{scope_of, is_assigned, IsAllowed, IsModule}
 use Rattle.vlog_forms.specs.declared.form.Form.{Form}
 use Rattle.vlog_forms.specs.declared.form.Form.TheVariants as form
 use Rattle.vlog_forms.specs.declared.fault.VlogCause.TheVariants.{Undeclared, AssignedTwice}
 use Rattle.vlog_forms.specs.declared.slot.Role.TheVariants.{Declares}
-use Rattle.vlog_forms.specs.declared.slot.Slot.{Slot}
 use Rattle.vlog_forms.specs.declared.slot.Slot.TheVariants as slot
 use Rattle.vlog_forms.specs.Values.{Value, is_same_token}
 use Rattle.vlog_forms.specs.Values.Value.{Name}
 use Rattle.vlog_forms.specs.Layout.{slots_of, filled}
 use Rattle.vlog_forms.specs.Items.{item_of, item_tokens, port_form, port_tokens, more_names, names_tokens, module_tokens, tokens_in, name_in, IsSpelling}
 use Rattle.vlog_forms.specs.Reading.{Found, found_at, values_of, offset_of, Reading, read_slots, read_tokens, behind_tokens, and_then, Whole, first_whole, read_forms, port_forms, all_forms}
-use Rattle.vlog_forms.specs.Outcome.{Fault, fault, after, unless_fault, item_fault, are_assigned, at_end, ending, is_end, module_of, with_item, item_outcome, items_outcome, is_output, port_of, ports_outcome, uses_in, Turn, wants_name, may_close, PortStep, sign_step, port_step, next_port, port_names, twice_fault, header_slots, Header, with_head, with_names, with_semicolon, read_header, ports_next, header_outcome, spots_outcome, outcome_of}
+use Rattle.vlog_forms.specs.Outcome.{Fault, fault, after, unless_fault, item_fault, are_assigned, at_end, ending, is_end, module_of, with_item, item_outcome, items_outcome, is_output, port_of, ports_outcome, uses_in, Turn, wants_name, may_close, PortStep, sign_step, port_step, next_port, port_names, twice_fault, header_slots, with_head, with_names, with_semicolon, ports_next, header_outcome, spots_outcome, outcome_of}
 use Rattle.vlog_forms.specs.Outcome.Turn.{Opened, Named, Parted}
 use Rattle.vlog_forms.specs.Outcome.PortStep.{TakesName, PartsNames, Closes, Stops}
 use Rattle.vlog_forms.proofs.Tokens.{token-same}
 use Rattle.vlog_forms.proofs.Pairs.{ok_same, ok_first, ok_second}
 use Rattle.vlog_forms.proofs.Exact.{read_tokens-whole}
-use Rattle.vlog_forms.proofs.SlotLists.{FitAll, SlotsStand, slots-stand}
+use Rattle.vlog_forms.proofs.SlotLists.{FitAll, slots-stand}
 use Rattle.vlog_forms.proofs.Forms.{forms-read}
 use Rattle.vlog_forms.proofs.Rebuilt.{is_item, rebuilt-fit, values-rebuilt}
 use Rattle.vlog_forms.proofs.Uses.{uses-of-values}
@@ -42,7 +40,7 @@ use Rattle.vlog_forms.proofs.Spelled.{form-some}
 use Rattle.vlog_forms.proofs.ItemRead.{read-shape-of}
 use Rattle.vlog_forms.proofs.ItemsRead.{MayFollow}
 use Rattle.vlog_forms.proofs.HeaderRead.{NamesOf, port_name}
-use Rattle.vlog_forms.proofs.Sound.{IsSoundToken, AreSoundTokens, sound-parts, IsSoundValue, AreSoundValues, slots-sound, spots-sound}
+use Rattle.vlog_forms.proofs.Sound.{AreSoundTokens, sound-parts, IsSoundValue, AreSoundValues, slots-sound, spots-sound}
 use Rattle.vlog_forms.proofs.Allowed.{item-allowed}
 
 unless_parts : {A : Type 0} (one : Option Fault) (next : Result A Fault) (whole : A) → unless_fault one next ≡ Ok whole → (one ≡ None) × (next ≡ Ok whole)
@@ -122,12 +120,12 @@ whole-stands end spots one sound is =
           let item : is_item one.form ≡ true = is-item (is_item one.form) end one.form spots (one.found, one.spots) refl ends read.reads in
           sym (uses-of-values (item_of one.form v)) ∙ ap uses_in (values-rebuilt one.form v item ∙ rebuilt-fit (slots_of one.form) v fit);
       shorter = omega (
-          arith,
-          length-map spots (λ (each : Spot). each.token),
-          length-map one.spots (λ (each : Spot). each.token),
-          ap length stands.tokens,
-          length-append made (tokens_in one.spots),
-          form-some one.form (values_of stands.given),
+        arith,
+        length-map spots (λ (each : Spot). each.token),
+        length-map one.spots (λ (each : Spot). each.token),
+        ap length stands.tokens,
+        length-append made (tokens_in one.spots),
+        form-some one.form (values_of stands.given),
       );
     }
 

@@ -3,7 +3,7 @@ use Rattle.std.proofs.Common.{◌≡◌, refl}
 use Rattle.std.specs.Prelude.{Some, codes}
 use Rattle.vlog_tokens.specs.Fixed.{word_of, pair_of, sign_of}
 use Rattle.vlog_tokens.specs.Tokens.{spots_from, front_token, front_length, digits_token, digits_length, sign_token, sign_length, name_or_word}
-use Rattle.vlog_forms.specs.declared.fault.VlogCause.TheVariants.{Syntax, Order, Undeclared, AssignedTwice}
+use Rattle.vlog_forms.specs.declared.fault.VlogCause.TheVariants.{Syntax, Undeclared}
 use Rattle.vlog_forms.specs.Layout.{slots_of}
 use Rattle.vlog_forms.specs.Items.{item_of, atoms_in, behind}
 use Rattle.vlog_forms.specs.Reading.{read_forms, read_slots}

@@ -1,22 +1,21 @@
 -- The tokens of what slots and values write are the tokens that they make.
-use Rattle.std.proofs.Common.{◌≡◌, ℕ, zero, suc, ◌<◌, ◌≤◌, ◌+◌, Bool, true, false, not, ◌&&◌, List, [], ◌∷◌, ◌++◌, length, take, drop, refl, ap, sym, ◌∙◌, subst, append_assoc, arith}
+use Rattle.std.proofs.Common.{◌≡◌, ℕ, zero, suc, ◌<◌, Bool, true, false, not, ◌&&◌, List, [], ◌∷◌, ◌++◌, length, take, drop, refl, ap, sym, ◌∙◌, subst, append_assoc, arith}
 use Rattle.std.proofs.lemmas.Bool.{ltb-true}
 use Rattle.std.proofs.lemmas.List.{append-nil, length-append}
-use Rattle.std.specs.Prelude.{if◌then◌else◌, nat_lt, flat_map}
+use Rattle.std.specs.Prelude.{if◌then◌else◌, nat_lt}
 use Rattle.vlog_tokens.specs.declared.fixed.Fixed.{Fixed}
 use Rattle.vlog_tokens.specs.declared.fixed.Fixed.TheVariants as sign
 use Rattle.vlog_tokens.specs.Fixed.{fixed_text}
 use Rattle.vlog_tokens.specs.Tokens.{TokenValue}
 use Rattle.vlog_tokens.specs.Tokens.{TokenValue as token}
 use Rattle.vlog_module.specs.Names.{IsName}
-use Rattle.vlog_module.specs.declared.atoms.Atom.{Atom}
 use Rattle.vlog_module.specs.declared.atoms.Atom.TheVariants as atom
 use Rattle.vlog_forms.specs.declared.slot.Slot.{Slot}
 use Rattle.vlog_forms.specs.declared.slot.Slot.TheVariants as slot
 use Rattle.vlog_forms.specs.Values.{Value, value_tokens, tokens_at, edge_sign}
 use Rattle.vlog_forms.specs.Values.Value.{Name, Edge, Bit, Word, Index, AnAtom}
 use Rattle.vlog_forms.specs.Layout.{takes_value, exact_tokens, first_tokens, filled}
-use Rattle.vlog_forms.specs.Printed.{token_text, tokens_text, space_text, written, decimal_text, word_text, bit_text}
+use Rattle.vlog_forms.specs.Printed.{token_text, tokens_text, space_text, written, decimal_text}
 use Rattle.vlog_forms.proofs.Plain.{plain, plain-blank, plain-front, FrontIs, closes, fixed-front, name-front, is_reserved_word}
 use Rattle.vlog_forms.proofs.Digits.{bit-front, word_text-front, number-front}
 use Rattle.vlog_forms.proofs.SlotLists.{FitAll, FitsFirst, filled-took, filled-passed, is_before, are_before}

@@ -1,5 +1,5 @@
 -- What a text is: a module, or the first fault of the text.
-use Rattle.std.specs.Prelude.{ℕ, zero, suc, ◌+◌, nat_lt, Bool, true, false, not, ◌&&◌, ◌||◌, List, [], ◌∷◌, ◌++◌, length, Option, Some, None, Result, Ok, Err, bytes_eq, if◌then◌else◌}
+use Rattle.std.specs.Prelude.{ℕ, zero, suc, nat_lt, Bool, true, false, not, ◌||◌, List, [], ◌∷◌, ◌++◌, length, Option, Some, None, Result, Ok, Err, bytes_eq, if◌then◌else◌}
 use Rattle.std.specs.List.{list_all, list_any}
 use Rattle.vlog_tokens.specs.declared.fixed.Fixed.TheVariants as sign
 use Rattle.vlog_tokens.specs.Tokens.{TokenValue, Spot, spots_of}
@@ -21,7 +21,7 @@ use Rattle.vlog_forms.specs.declared.slot.Role.TheVariants.{Declares, Reads, Rea
 use Rattle.vlog_forms.specs.declared.slot.Slot.{Slot}
 use Rattle.vlog_forms.specs.declared.slot.Slot.TheVariants as slot
 use Rattle.vlog_forms.specs.Values.{Value, is_same_token}
-use Rattle.vlog_forms.specs.Values.Value.{Name, Edge, Bit, Word, Index, AnAtom}
+use Rattle.vlog_forms.specs.Values.Value.{Name, AnAtom}
 use Rattle.vlog_forms.specs.Items.{item_of, name_in, index_in}
 use Rattle.vlog_forms.specs.Reading.{Found, found_at, values_of, offset_of, read_tokens, Reading, read_slots, Whole, read_forms, port_forms, all_forms}
 

@@ -1,5 +1,5 @@
 -- How far the tokens of a text fit a form.
-use Rattle.std.specs.Prelude.{ℕ, zero, suc, max, nat_le, ◌==◌, Bool, true, false, List, [], ◌∷◌, ◌++◌, map, Option, Some, None, Result, Ok, Err, if◌then◌else◌}
+use Rattle.std.specs.Prelude.{ℕ, max, nat_le, Bool, true, false, List, [], ◌∷◌, ◌++◌, map, Option, Some, None, Result, Ok, Err, if◌then◌else◌}
 use Rattle.vlog_tokens.specs.declared.fixed.Fixed.TheVariants as sign
 use Rattle.vlog_tokens.specs.Tokens.{TokenValue, Spot}
 use Rattle.vlog_tokens.specs.Tokens.{TokenValue as token}

@@ -1,5 +1,5 @@
 -- The table of forms: what each has from left to right. In a form of more parts than one line shows, the parts have names.
-use Rattle.std.specs.Prelude.{List, [], ◌∷◌, ◌++◌}
+use Rattle.std.specs.Prelude.{List, [], ◌∷◌}
 use Rattle.vlog_tokens.specs.declared.fixed.Fixed.TheVariants as sign
 use Rattle.vlog_module.specs.declared.sort.Sort.TheVariants as sort
 use Rattle.vlog_forms.specs.declared.form.Form.{Form}

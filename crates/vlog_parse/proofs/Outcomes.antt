@@ -3,12 +3,12 @@ use Rattle.std.proofs.Common.{◌≡◌, ℕ, List, [], ◌∷◌, length, refl,
 use Rattle.std.specs.Prelude.{Result, Ok, Err, Option, Some, None}
 use Rattle.std.specs.Option.{option_map}
 use Rattle.vlog_tokens.specs.declared.fixed.Fixed.TheVariants as sign
-use Rattle.vlog_tokens.specs.Tokens.{Spot, spots_of, spots_at}
+use Rattle.vlog_tokens.specs.Tokens.{Spot, spots_of}
 use Rattle.vlog_tokens.specs.Tokens.{TokenValue as token}
 use Rattle.vlog_module.specs.Parts.{Parts}
 use Rattle.vlog_forms.specs.Items.{tokens_in, name_in, IsSpelling}
 use Rattle.vlog_forms.specs.Reading.{Found, values_of, Reading, read_slots, read_tokens}
-use Rattle.vlog_forms.specs.Outcome.{Fault, fault, after, unless_fault, fault_in, port_names, twice_fault, header_slots, Header, with_head, with_names, with_semicolon, read_header, ports_outcome, ports_next, header_outcome, spots_outcome, outcome_of, vlog_fault_of}
+use Rattle.vlog_forms.specs.Outcome.{Fault, after, unless_fault, fault_in, port_names, twice_fault, header_slots, Header, with_head, with_names, with_semicolon, read_header, ports_outcome, ports_next, header_outcome, spots_outcome, outcome_of, vlog_fault_of}
 use Rattle.vlog_forms.specs.Outcome.Turn.{Opened}
 use Rattle.vlog_forms.proofs.Pairs.{ok_same}
 use Rattle.vlog_forms.proofs.Sound.{AreSoundTokens, AreSoundValues, slots-sound, spots-sound}
@@ -21,10 +21,7 @@ use Rattle.vlog_build.specs.Named.{AreNamed}
 use Rattle.vlog_build.proofs.Named.{named-sound}
 use Rattle.vlog_names.specs.declared.faults.Fault as kept
 use Rattle.vlog_names.specs.Scopes.{seen_fault}
-use Rattle.vlog_parse.specs.declared.fault.Refusal.{Refusal}
-use Rattle.vlog_parse.specs.declared.fault.VlogFault.{VlogFault}
-use Rattle.vlog_parse.specs.declared.fault.VlogFault.TheVariants as answer
-use Rattle.vlog_parse.specs.Answers.{RefusesAt, Takes, Tells, refusal_of}
+use Rattle.vlog_parse.specs.Answers.{RefusesAt, refusal_of}
 
 -- ---- the names of a header
 

@@ -1,9 +1,8 @@
 -- Declarations of ports one after another.
-use Rattle.std.proofs.Common.{◌≡◌, ℕ, zero, suc, ◌+◌, ◌<◌, Bool, List, [], ◌∷◌, ◌++◌, length, get_or, drop, refl, ap, sym, ◌∙◌, subst, add-one, drop-cons, arith}
+use Rattle.std.proofs.Common.{◌≡◌, ℕ, zero, suc, ◌+◌, ◌<◌, Bool, List, [], ◌∷◌, ◌++◌, length, get_or, drop, refl, ap, sym, ◌∙◌, add-one, drop-cons, arith}
 use Rattle.std.specs.Prelude.{Result, Ok, Err}
 use Rattle.vlog_tokens.specs.Tokens.{Spot}
 use Rattle.vlog_module.specs.declared.modules.Port.{Port}
-use Rattle.vlog_module.specs.declared.atoms.Atom.TheVariants as atom
 use Rattle.vlog_module.specs.Names.{IsName, is_name, reserved_words}
 use Rattle.vlog_module.specs.Parts.{Parts}
 use Rattle.vlog_forms.specs.declared.fault.VlogCause.TheVariants.{Syntax}

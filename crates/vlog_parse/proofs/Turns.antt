@@ -1,12 +1,11 @@
 -- The names of PORTS, token by token.
-use Rattle.std.proofs.Common.{◌≡◌, ℕ, List, [], ◌∷◌, refl, ap, sym, ◌∙◌, subst}
-use Rattle.std.specs.Prelude.{Result, Ok, Err}
-use Rattle.vlog_tokens.specs.Tokens.{TokenValue, Spot, spot, spots_at}
-use Rattle.vlog_forms.specs.Items.{tokens_in}
-use Rattle.vlog_forms.specs.Reading.{Found, values_of, Reading, read_slots, read_tokens}
+use Rattle.std.proofs.Common.{◌≡◌, ℕ, List, [], ◌∷◌, ap, sym, ◌∙◌}
+use Rattle.std.specs.Prelude.{Ok, Err}
+use Rattle.vlog_tokens.specs.Tokens.{TokenValue, Spot, spot}
+use Rattle.vlog_forms.specs.Reading.{Found, read_slots, read_tokens}
 use Rattle.vlog_tokens.specs.declared.fixed.Fixed.TheVariants as sign
 use Rattle.vlog_tokens.specs.Tokens.{TokenValue as token}
-use Rattle.vlog_forms.specs.Outcome.{Turn, PortStep, port_step, next_port, port_names, header_slots, Header, with_head, with_names, with_semicolon, read_header}
+use Rattle.vlog_forms.specs.Outcome.{Turn, PortStep, port_step, next_port, port_names, header_slots, with_head, with_names, with_semicolon, read_header}
 use Rattle.vlog_forms.specs.Outcome.Turn.{Opened}
 
 pub turn-none : (end : ℕ) (turn : Turn) (names : List Found) (spots : List Spot) → spots ≡ [] → port_names end turn names spots ≡ Err end

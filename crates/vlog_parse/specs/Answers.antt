@@ -1,5 +1,5 @@
 -- What the code answers of the outcome of a text.
-use Rattle.std.specs.Prelude.{◌≡◌, ℕ, List, Option, Some, None, Result, Ok, Err}
+use Rattle.std.specs.Prelude.{◌≡◌, Option, Some, Result, Ok, Err}
 use Rattle.vlog_module.specs.Parts.{Parts}
 use Rattle.vlog_forms.specs.declared.fault.VlogCause.TheVariants.{Syntax}
 use Rattle.vlog_forms.specs.Outcome.{Fault, fault}

@@ -1,5 +1,5 @@
 -- A module that is being read, and the names that are kept of it.
-use Rattle.std.specs.Prelude.{◌≡◌, List}
+use Rattle.std.specs.Prelude.{◌≡◌}
 use Rattle.vlog_module.specs.Parts.{Parts}
 use Rattle.vlog_module.specs.WellFormed.{Scope, scope_of}
 use Rattle.vlog_forms.specs.Outcome.{module_of}

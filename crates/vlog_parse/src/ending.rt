@@ -68,7 +68,5 @@ fn are_assigned(draft: &Draft<'_>) -> bool
 fn all_assigned(names: &Names<'_>, ports: &[Port]) -> bool
     ensures { result ≡ list_all (λ port. not port.output || has_name names.now.assigned port.name) ports.now }
 {
-    ports
-        .iter()
-        .all(|port| !port.output || names.is_assigned(port.name.bytes()))
+    ports.iter().all(|port| !port.output || names.is_assigned(port.name.bytes()))
 }

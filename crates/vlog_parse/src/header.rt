@@ -70,11 +70,7 @@ pub(crate) enum Step<'a> {
 }
 
 /// Reads the names of the ports, up to `)`.
-fn read_names<'a>(
-    bytes: &'a [u8],
-    from: usize,
-    names: &mut Vec<Found<'a>>,
-) -> Result<usize, Stop>
+fn read_names<'a>(bytes: &'a [u8], from: usize, names: &mut Vec<Found<'a>>) -> Result<usize, Stop>
     requires { from ≤ length bytes.now }
     ensures reads { ReadsTo (port_names (length bytes.now) (turn_of Turn.Opened) (all_found names.old.items) (spots_at bytes.now from)) bytes.now (all_found names.new.items) result }
     ensures within { IfOk result (λ end. end ≤ length bytes.now) }

@@ -72,7 +72,14 @@ fn read_item<'a>(
 {
     match read_forms(bytes, from, &[], all_forms(), values) {
         Err(stop) => Err(refusal_of(stop)),
-        Ok(whole) => take_whole(alloc, bytes, token_offset(bytes, from), whole, values, draft),
+        Ok(whole) => take_whole(
+            alloc,
+            bytes,
+            token_offset(bytes, from),
+            whole,
+            values,
+            draft,
+        ),
     }
 }
 
@@ -146,12 +153,7 @@ fn take_item<'a>(
 }
 
 /// The fault of an item that begins at an offset.
-fn fault_of(
-    at: usize,
-    item: &Item,
-    values: &[Found<'_>],
-    draft: &Draft<'_>,
-) -> Option<Fault>
+fn fault_of(at: usize, item: &Item, values: &[Found<'_>], draft: &Draft<'_>) -> Option<Fault>
     requires { IsKept draft.now }
     ensures { option_map seen_fault result ≡ item_fault (next_scope (so_far draft.now)) at item.now (all_found values.now) }
 {

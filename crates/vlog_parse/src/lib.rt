@@ -11,7 +11,6 @@ mod fault;
 mod header;
 mod items;
 mod modules;
-
 mod ports;
 
 pub use fault::VlogFault;

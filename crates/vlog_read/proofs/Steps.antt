@@ -1,15 +1,15 @@
 -- Readings one after another.
-use Rattle.std.proofs.Common.{◌≡◌, ℕ, zero, suc, ◌<◌, ◌≤◌, ◌+◌, ◌-◌, Bool, true, false, List, [], ◌∷◌, ◌++◌, length, get_or, take, drop, map, refl, ap, sym, ◌∙◌, subst, arith}
+use Rattle.std.proofs.Common.{◌≡◌, ℕ, zero, suc, ◌<◌, ◌≤◌, ◌-◌, Bool, true, false, List, [], ◌∷◌, ◌++◌, length, get_or, take, drop, refl, ap, sym, ◌∙◌, subst, arith}
 use Rattle.std.proofs.lemmas.List.{take_all}
 use Rattle.std.specs.Prelude.{Result, Ok, Err, MatchResult, if◌then◌else◌}
 use Rattle.vlog_tokens.specs.declared.fixed.Fixed.{Fixed}
 use Rattle.vlog_tokens.specs.declared.fixed.Fixed.TheVariants as sign
-use Rattle.vlog_tokens.specs.Tokens.{TokenValue, Spot, spots_at}
+use Rattle.vlog_tokens.specs.Tokens.{TokenValue, Spot}
 use Rattle.vlog_tokens.specs.Tokens.{TokenValue as token}
 use Rattle.vlog_forms.specs.declared.slot.Slot.{Slot}
 use Rattle.vlog_forms.specs.declared.slot.Slot.TheVariants as slot
 use Rattle.vlog_forms.specs.Values.{seen, value_tokens, tokens_at, is_same_token}
-use Rattle.vlog_forms.specs.Layout.{parts_of, exact_tokens, more_slots, atom_slots, again_slots, first_again_slots}
+use Rattle.vlog_forms.specs.Layout.{parts_of, more_slots, atom_slots, again_slots, first_again_slots}
 use Rattle.vlog_forms.specs.Reading.{Found, values_of, Reading, read_tokens, behind_tokens, read_single, read_atom, read_slot, read_slots, and_then, or_further}
 use Rattle.vlog_forms.specs.Reading as reading
 use Rattle.vlog_read.specs.declared.forms.Whole.{Whole}

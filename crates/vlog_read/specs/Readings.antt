@@ -35,6 +35,7 @@ ReadsIndex reading bytes (Err at) = reading ≡ Err at
 abbrev pub ReadsOver : Reading (List Found) → List ℕ → List Found → Result ℕ ℕ → Type 0
 ReadsOver reading bytes found (Ok end) = reading ≡ Ok (found, spots_at bytes end)
 ReadsOver reading bytes found (Err at) = reading ≡ Err at
+
 -- a form is whole, with these values, up to an offset
 abbrev pub whole_of : Whole → List ℕ → List Found → reading.Whole
 whole_of whole bytes found = record { form = whole.form; found = found; spots = spots_at bytes whole.end }

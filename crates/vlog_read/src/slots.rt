@@ -206,12 +206,7 @@ fn single_index<'a>(limit: u8, token: Token<'a>) -> Option<Value<'a>>
 }
 
 /// Reads the tokens of the value of a place once more.
-fn read_again(
-    bytes: &[u8],
-    from: usize,
-    values: &[Found<'_>],
-    place: usize,
-) -> Result<usize, usize>
+fn read_again(bytes: &[u8], from: usize, values: &[Found<'_>], place: usize) -> Result<usize, usize>
     requires { from ≤ length bytes.now }
     ensures reads { ReadsTokens (read_tokens (length bytes.now) (tokens_at (values_of (all_found values.now)) place) (spots_at bytes.now from)) bytes.now result }
     ensures within { IfOk result (λ end. end ≤ length bytes.now) }

@@ -77,16 +77,29 @@ endmodule
 
 #[test]
 fn reads_what_it_prints(rt: HostRuntime) {
-    assert!(rt; is_read_again(rt.alloc(), "module m(a)\t;\r\ninput a;wire x=a;endmodule") == Ok(true));
+    assert!(rt;
+        is_read_again(rt.alloc(), "module m(a)\t;\r\ninput a;wire x=a;endmodule") == Ok(true)
+    );
 }
 
 #[test]
 fn prints_what_it_parses(rt: HostRuntime) {
     assert!(rt; is_printed(rt.alloc(), CHIP, CHIP) == Ok(true));
     assert!(rt; is_printed(rt.alloc(), ALL, ALL) == Ok(true));
-    assert!(rt; is_printed(rt.alloc(), "module m();endmodule", "module m ();\nendmodule\n") == Ok(true));
-    assert!(rt; is_printed(rt.alloc(), "module m(a)\t;\r\ninput a;reg[015:0]w=16'hABCD;wire x=w[07];endmodule",
-        "module m (a);\n  input a;\n  reg [15:0] w = 16'habcd;\n  wire x = w[7];\nendmodule\n") == Ok(true));
+    assert!(rt;
+        is_printed(
+            rt.alloc(),
+            "module m();endmodule",
+            "module m ();\nendmodule\n"
+        ) == Ok(true)
+    );
+    assert!(rt;
+        is_printed(
+            rt.alloc(),
+            "module m(a)\t;\r\ninput a;reg[015:0]w=16'hABCD;wire x=w[07];endmodule",
+            "module m (a);\n  input a;\n  reg [15:0] w = 16'habcd;\n  wire x = w[7];\nendmodule\n"
+        ) == Ok(true)
+    );
 }
 
 /// Whether the texts have these faults.
@@ -100,26 +113,106 @@ fn are_faults(alloc: Global, faults: &[(&str, u64, VlogCause)]) -> Result<bool, 
 }
 
 const UNDECLARED: [(&str, u64, VlogCause); 20] = [
-    ("module m (a); input a; wire w = v; endmodule", 32, VlogCause::Undeclared),
-    ("module m (a, b, q); input a; input b; output q; wire w = w; assign q = a; endmodule", 57, VlogCause::Undeclared),
-    ("module m (a, b, q); input a; input b; output q; wire w = q; assign q = a; endmodule", 57, VlogCause::Undeclared),
-    ("module m (a, b, q); input a; input b; output q; wire w = a[0]; assign q = a; endmodule", 57, VlogCause::Undeclared),
-    ("module m (a, b, q); input a; input b; output q; reg [15:0] w = 16'h0000; wire x = w; assign q = a; endmodule", 82, VlogCause::Undeclared),
-    ("module m (a, b, q); input a; input b; output q; assign a = b; endmodule", 55, VlogCause::Undeclared),
-    ("module m (a, b, q); input a; input b; output q; assign q = z; endmodule", 59, VlogCause::Undeclared),
-    ("module m (a, b, q); input a; input b; output q; endmodule", 48, VlogCause::Undeclared),
-    ("module m (a, b, q); input a; input b; output q; wire w = a; endmodule", 60, VlogCause::Undeclared),
-    ("module m (a, b, q); input a; input b; output q; reg r = 1'b0; assign q = a; always @(posedge r) if (a) begin if (b) r <= 1'b0; else r <= 16'h0000 >> {a, a, a, a}; end endmodule", 93, VlogCause::Undeclared),
-    ("module m (a, b, q); input a; input b; output q; reg [15:0] w = 16'h0000; assign q = a; always @(posedge a) if (a) begin if (b) w <= 1'b0; else w <= 16'h0000 >> {a, a, a, a}; end endmodule", 127, VlogCause::Undeclared),
-    ("module m (a, b, q); input a; input b; output q; reg r = 1'b0; assign q = a; always @(posedge a) if (a & b) r <= m[{a, a, a, a, a, a, a, a}]; endmodule", 107, VlogCause::Undeclared),
-    ("module m (a, b, q); input a; input b; output q; reg [15:0] w = 16'h0000; assign q = a; always @(posedge a) if (a & b) w <= w[{a, a, a, a, a, a, a, a}]; endmodule", 123, VlogCause::Undeclared),
-    ("module m (a, b, q); input a; input b; output q; reg [15:0] w = 16'h0000; assign q = a; initial w[0] = 16'h0000; endmodule", 95, VlogCause::Undeclared),
-    ("module m (a, b, q); input a; input b; output q; endmodule $", 48, VlogCause::Undeclared),
-    ("module m (a, b, q); input a; input b; output q; reg [15:0] w = 16'h0000; assign q = a; always @(posedge a) if (a & b) w[{a, a, a, a, a, a, a, a}] <= (w[{a, a, a, a, a, a, a, a}] & {a, a, a, a, a, a, a, a, a, a, a, a, a, a, a, a}) | ({a, a, a, a, a, a, a, a, a, a, a, a, a, a, a, a} & ~{a, a, a, a, a, a, a, a, a, a, a, a, a, a, a, a}); endmodule", 118, VlogCause::Undeclared),
-    ("module m (a, b, q); input a; input b; output q; reg [15:0] m [0:255]; wire x = m; assign q = a; endmodule", 79, VlogCause::Undeclared),
-    ("module m (a, b, q); input a; input b; output q; reg [15:0] m [0:255]; assign q = m[0]; endmodule", 81, VlogCause::Undeclared),
-    ("module m (a, b, q); input a; input b; output q; wire x = a; assign x = a; endmodule", 67, VlogCause::Undeclared),
-    ("module m (a, b, q); input a; input b; output q; reg [15:0] m [0:255]; assign q = a; always @(posedge x) if (a & b) m[{a, a, a, a, a, a, a, a}] <= (m[{a, a, a, a, a, a, a, a}] & {a, a, a, a, a, a, a, a, a, a, a, a, a, a, a, a}) | ({a, a, a, a, a, a, a, a, a, a, a, a, a, a, a, a} & ~{a, a, a, a, a, a, a, a, a, a, a, a, a, a, a, a}); endmodule", 101, VlogCause::Undeclared),
+    (
+        "module m (a); input a; wire w = v; endmodule",
+        32,
+        VlogCause::Undeclared,
+    ),
+    (
+        "module m (a, b, q); input a; input b; output q; wire w = w; assign q = a; endmodule",
+        57,
+        VlogCause::Undeclared,
+    ),
+    (
+        "module m (a, b, q); input a; input b; output q; wire w = q; assign q = a; endmodule",
+        57,
+        VlogCause::Undeclared,
+    ),
+    (
+        "module m (a, b, q); input a; input b; output q; wire w = a[0]; assign q = a; endmodule",
+        57,
+        VlogCause::Undeclared,
+    ),
+    (
+        "module m (a, b, q); input a; input b; output q; reg [15:0] w = 16'h0000; wire x = w; assign q = a; endmodule",
+        82,
+        VlogCause::Undeclared,
+    ),
+    (
+        "module m (a, b, q); input a; input b; output q; assign a = b; endmodule",
+        55,
+        VlogCause::Undeclared,
+    ),
+    (
+        "module m (a, b, q); input a; input b; output q; assign q = z; endmodule",
+        59,
+        VlogCause::Undeclared,
+    ),
+    (
+        "module m (a, b, q); input a; input b; output q; endmodule",
+        48,
+        VlogCause::Undeclared,
+    ),
+    (
+        "module m (a, b, q); input a; input b; output q; wire w = a; endmodule",
+        60,
+        VlogCause::Undeclared,
+    ),
+    (
+        "module m (a, b, q); input a; input b; output q; reg r = 1'b0; assign q = a; always @(posedge r) if (a) begin if (b) r <= 1'b0; else r <= 16'h0000 >> {a, a, a, a}; end endmodule",
+        93,
+        VlogCause::Undeclared,
+    ),
+    (
+        "module m (a, b, q); input a; input b; output q; reg [15:0] w = 16'h0000; assign q = a; always @(posedge a) if (a) begin if (b) w <= 1'b0; else w <= 16'h0000 >> {a, a, a, a}; end endmodule",
+        127,
+        VlogCause::Undeclared,
+    ),
+    (
+        "module m (a, b, q); input a; input b; output q; reg r = 1'b0; assign q = a; always @(posedge a) if (a & b) r <= m[{a, a, a, a, a, a, a, a}]; endmodule",
+        107,
+        VlogCause::Undeclared,
+    ),
+    (
+        "module m (a, b, q); input a; input b; output q; reg [15:0] w = 16'h0000; assign q = a; always @(posedge a) if (a & b) w <= w[{a, a, a, a, a, a, a, a}]; endmodule",
+        123,
+        VlogCause::Undeclared,
+    ),
+    (
+        "module m (a, b, q); input a; input b; output q; reg [15:0] w = 16'h0000; assign q = a; initial w[0] = 16'h0000; endmodule",
+        95,
+        VlogCause::Undeclared,
+    ),
+    (
+        "module m (a, b, q); input a; input b; output q; endmodule $",
+        48,
+        VlogCause::Undeclared,
+    ),
+    (
+        "module m (a, b, q); input a; input b; output q; reg [15:0] w = 16'h0000; assign q = a; always @(posedge a) if (a & b) w[{a, a, a, a, a, a, a, a}] <= (w[{a, a, a, a, a, a, a, a}] & {a, a, a, a, a, a, a, a, a, a, a, a, a, a, a, a}) | ({a, a, a, a, a, a, a, a, a, a, a, a, a, a, a, a} & ~{a, a, a, a, a, a, a, a, a, a, a, a, a, a, a, a}); endmodule",
+        118,
+        VlogCause::Undeclared,
+    ),
+    (
+        "module m (a, b, q); input a; input b; output q; reg [15:0] m [0:255]; wire x = m; assign q = a; endmodule",
+        79,
+        VlogCause::Undeclared,
+    ),
+    (
+        "module m (a, b, q); input a; input b; output q; reg [15:0] m [0:255]; assign q = m[0]; endmodule",
+        81,
+        VlogCause::Undeclared,
+    ),
+    (
+        "module m (a, b, q); input a; input b; output q; wire x = a; assign x = a; endmodule",
+        67,
+        VlogCause::Undeclared,
+    ),
+    (
+        "module m (a, b, q); input a; input b; output q; reg [15:0] m [0:255]; assign q = a; always @(posedge x) if (a & b) m[{a, a, a, a, a, a, a, a}] <= (m[{a, a, a, a, a, a, a, a}] & {a, a, a, a, a, a, a, a, a, a, a, a, a, a, a, a}) | ({a, a, a, a, a, a, a, a, a, a, a, a, a, a, a, a} & ~{a, a, a, a, a, a, a, a, a, a, a, a, a, a, a, a}); endmodule",
+        101,
+        VlogCause::Undeclared,
+    ),
 ];
 
 #[test]
@@ -144,30 +237,126 @@ const SYNTAX: [(&str, u64, VlogCause); 40] = [
     ("module m (a); input a; input a;", 29, VlogCause::Syntax),
     ("module m (); output a;", 20, VlogCause::Syntax),
     ("module m (a); input a endmodule", 22, VlogCause::Syntax),
-    ("module m (a, b, q); input a; input b; output q; reg ; assign q = a; endmodule", 52, VlogCause::Syntax),
-    ("module m (a, b, q); input a; input b; output q; reg r = a; assign q = a; endmodule", 56, VlogCause::Syntax),
-    ("module m (a, b, q); input a; input b; output q; reg [16:0] w = 16'h0000; assign q = a; endmodule", 53, VlogCause::Syntax),
-    ("module m (a, b, q); input a; input b; output q; reg [15:0] w ; assign q = a; endmodule", 61, VlogCause::Syntax),
-    ("module m (a, b, q); input a; input b; output q; reg [15:0] m [0:256]; assign q = a; endmodule", 64, VlogCause::Syntax),
-    ("module m (a, b, q); input a; input b; output q; wire w = a b; assign q = a; endmodule", 59, VlogCause::Syntax),
-    ("module m (a, b, q); input a; input b; output q; wire w = a[16]; assign q = a; endmodule", 59, VlogCause::Syntax),
-    ("module m (a, b, q); input a; input b; output q; wire w = 16'h0000 > {a, a, a, a}; assign q = a; endmodule", 66, VlogCause::Syntax),
-    ("module m (a, b, q); input a; input b; output q; wire w = 16'h0000 >> {a, a, a}; assign q = a; endmodule", 77, VlogCause::Syntax),
-    ("module m (a, b, q); input a; input b; output q; wire w = 16'h0000 >> {a, a, a, a, a}; assign q = a; endmodule", 80, VlogCause::Syntax),
-    ("module m (a, b, q); input a; input b; output q; wire w = (a & b) | (b & a) | (b & a); assign q = a; endmodule", 68, VlogCause::Syntax),
-    ("module m (a, b, q); input a; input b; output q; wire w = (a & b) | (a & q) | (b & a); assign q = a; endmodule", 82, VlogCause::Syntax),
-    ("module m (a, b, q); input a; input b; output q; wire reg = a; assign q = a; endmodule", 53, VlogCause::Syntax),
-    ("module m (a, b, q); input a; input b; output q; wire w = 16'h123; assign q = a; endmodule", 57, VlogCause::Syntax),
-    ("module m (a, b, q); input a; input b; output q; assign q = 16'h1234; assign q = a; endmodule", 59, VlogCause::Syntax),
-    ("module m (a, b, q); input a; input b; output q; wire w = $; assign q = a; endmodule", 57, VlogCause::Syntax),
-    ("module m (a, b, q); input a; input b; output q; assign q = a", 60, VlogCause::Syntax),
-    ("module m (a, b, q); input a; input b; output q; reg r = 1'b0; always @(posedge a) if (a) begin if (b) r <= 1'b0; else x <= 16'h0000 >> {a, a, a, a}; end assign q = a; endmodule", 118, VlogCause::Syntax),
-    ("module m (a, b, q); input a; input b; output q; always @(wire a) assign q = a; endmodule", 57, VlogCause::Syntax),
-    ("module m (a, b, q); input a; input b; output q; assign q = a; endmodule endmodule", 72, VlogCause::Syntax),
-    ("module m (a, b, q); input a; input b; output q; assign q = a; endmodule $", 72, VlogCause::Syntax),
-    ("module m (a, b, q); input a; input b; output q; initial m[256] = 16'h0000; assign q = a; endmodule", 58, VlogCause::Syntax),
-    ("module m (a, b, q); input a; input b; output q; reg [15:0] m [0:255]; assign q = a; always @(posedge a) if (a & b) m[{a, a, a, a, a, a, a, a}] <= (m[{a, a, a, a, a, a, a, b}] & {a, a, a, a, a, a, a, a, a, a, a, a, a, a, a, a}) | ({a, a, a, a, a, a, a, a, a, a, a, a, a, a, a, a} & ~{a, a, a, a, a, a, a, a, a, a, a, a, a, a, a, a}); endmodule", 171, VlogCause::Syntax),
-    ("module m (a, b, q); input a; input b; output q; reg [15:0] m [0:255]; assign q = a; always @(posedge a) if (a & b) m[{a, a, a, a, a, a, a, a}] <= (m[{a, a, a, a, a, a, a, a}] & {a, a, a, a, a, a, a, a, a, a, a, a, a, a, a, a}) | ({a, a, a, a, a, a, a, a, a, a, a, a, a, a, a, a} & ~{a, a, a, a, a, a, a, a, a, a, a, a, a, a, a, b}); endmodule", 328, VlogCause::Syntax),
+    (
+        "module m (a, b, q); input a; input b; output q; reg ; assign q = a; endmodule",
+        52,
+        VlogCause::Syntax,
+    ),
+    (
+        "module m (a, b, q); input a; input b; output q; reg r = a; assign q = a; endmodule",
+        56,
+        VlogCause::Syntax,
+    ),
+    (
+        "module m (a, b, q); input a; input b; output q; reg [16:0] w = 16'h0000; assign q = a; endmodule",
+        53,
+        VlogCause::Syntax,
+    ),
+    (
+        "module m (a, b, q); input a; input b; output q; reg [15:0] w ; assign q = a; endmodule",
+        61,
+        VlogCause::Syntax,
+    ),
+    (
+        "module m (a, b, q); input a; input b; output q; reg [15:0] m [0:256]; assign q = a; endmodule",
+        64,
+        VlogCause::Syntax,
+    ),
+    (
+        "module m (a, b, q); input a; input b; output q; wire w = a b; assign q = a; endmodule",
+        59,
+        VlogCause::Syntax,
+    ),
+    (
+        "module m (a, b, q); input a; input b; output q; wire w = a[16]; assign q = a; endmodule",
+        59,
+        VlogCause::Syntax,
+    ),
+    (
+        "module m (a, b, q); input a; input b; output q; wire w = 16'h0000 > {a, a, a, a}; assign q = a; endmodule",
+        66,
+        VlogCause::Syntax,
+    ),
+    (
+        "module m (a, b, q); input a; input b; output q; wire w = 16'h0000 >> {a, a, a}; assign q = a; endmodule",
+        77,
+        VlogCause::Syntax,
+    ),
+    (
+        "module m (a, b, q); input a; input b; output q; wire w = 16'h0000 >> {a, a, a, a, a}; assign q = a; endmodule",
+        80,
+        VlogCause::Syntax,
+    ),
+    (
+        "module m (a, b, q); input a; input b; output q; wire w = (a & b) | (b & a) | (b & a); assign q = a; endmodule",
+        68,
+        VlogCause::Syntax,
+    ),
+    (
+        "module m (a, b, q); input a; input b; output q; wire w = (a & b) | (a & q) | (b & a); assign q = a; endmodule",
+        82,
+        VlogCause::Syntax,
+    ),
+    (
+        "module m (a, b, q); input a; input b; output q; wire reg = a; assign q = a; endmodule",
+        53,
+        VlogCause::Syntax,
+    ),
+    (
+        "module m (a, b, q); input a; input b; output q; wire w = 16'h123; assign q = a; endmodule",
+        57,
+        VlogCause::Syntax,
+    ),
+    (
+        "module m (a, b, q); input a; input b; output q; assign q = 16'h1234; assign q = a; endmodule",
+        59,
+        VlogCause::Syntax,
+    ),
+    (
+        "module m (a, b, q); input a; input b; output q; wire w = $; assign q = a; endmodule",
+        57,
+        VlogCause::Syntax,
+    ),
+    (
+        "module m (a, b, q); input a; input b; output q; assign q = a",
+        60,
+        VlogCause::Syntax,
+    ),
+    (
+        "module m (a, b, q); input a; input b; output q; reg r = 1'b0; always @(posedge a) if (a) begin if (b) r <= 1'b0; else x <= 16'h0000 >> {a, a, a, a}; end assign q = a; endmodule",
+        118,
+        VlogCause::Syntax,
+    ),
+    (
+        "module m (a, b, q); input a; input b; output q; always @(wire a) assign q = a; endmodule",
+        57,
+        VlogCause::Syntax,
+    ),
+    (
+        "module m (a, b, q); input a; input b; output q; assign q = a; endmodule endmodule",
+        72,
+        VlogCause::Syntax,
+    ),
+    (
+        "module m (a, b, q); input a; input b; output q; assign q = a; endmodule $",
+        72,
+        VlogCause::Syntax,
+    ),
+    (
+        "module m (a, b, q); input a; input b; output q; initial m[256] = 16'h0000; assign q = a; endmodule",
+        58,
+        VlogCause::Syntax,
+    ),
+    (
+        "module m (a, b, q); input a; input b; output q; reg [15:0] m [0:255]; assign q = a; always @(posedge a) if (a & b) m[{a, a, a, a, a, a, a, a}] <= (m[{a, a, a, a, a, a, a, b}] & {a, a, a, a, a, a, a, a, a, a, a, a, a, a, a, a}) | ({a, a, a, a, a, a, a, a, a, a, a, a, a, a, a, a} & ~{a, a, a, a, a, a, a, a, a, a, a, a, a, a, a, a}); endmodule",
+        171,
+        VlogCause::Syntax,
+    ),
+    (
+        "module m (a, b, q); input a; input b; output q; reg [15:0] m [0:255]; assign q = a; always @(posedge a) if (a & b) m[{a, a, a, a, a, a, a, a}] <= (m[{a, a, a, a, a, a, a, a}] & {a, a, a, a, a, a, a, a, a, a, a, a, a, a, a, a}) | ({a, a, a, a, a, a, a, a, a, a, a, a, a, a, a, a} & ~{a, a, a, a, a, a, a, a, a, a, a, a, a, a, a, b}); endmodule",
+        328,
+        VlogCause::Syntax,
+    ),
 ];
 
 #[test]
@@ -178,14 +367,46 @@ fn tells_where_no_form_goes_on(rt: HostRuntime) {
 const TWICE: [(&str, u64, VlogCause); 10] = [
     ("module m (a, a);", 13, VlogCause::AssignedTwice),
     ("module m (a, b, a, b);", 16, VlogCause::AssignedTwice),
-    ("module m (a, b, q); input a; input b; output q; reg a = 1'b0; assign q = a; endmodule", 52, VlogCause::AssignedTwice),
-    ("module m (a, b, q); input a; input b; output q; wire w = a; wire w = a; assign q = a; endmodule", 65, VlogCause::AssignedTwice),
-    ("module m (a, b, q); input a; input b; output q; assign q = a; assign q = b; endmodule", 69, VlogCause::AssignedTwice),
-    ("module m (a, b, q); input a; input b; output q; wire a = zz; assign q = a; endmodule", 53, VlogCause::AssignedTwice),
-    ("module m (a, b, q); input a; input b; output q; reg r = 1'b0; assign q = a; always @(posedge a) if (a) begin if (b) r <= 1'b0; else r <= 16'h0000 >> {a, a, a, a}; end always @(posedge a) if (a) begin if (b) r <= 1'b0; else r <= 16'h0000 >> {a, a, a, a}; end endmodule", 207, VlogCause::AssignedTwice),
-    ("module m (a, b, q); input a; input b; output q; reg [15:0] w = 16'h0000; reg [15:0] m [0:255]; assign q = a; always @(posedge a) if (a & b) w <= m[{a, a, a, a, a, a, a, a}]; always @(posedge a) if (a & b) w <= m[{a, a, a, a, a, a, a, a}]; endmodule", 205, VlogCause::AssignedTwice),
-    ("module m (a, b, q); input a; input b; output q; reg [15:0] m [0:255]; assign q = a; initial m[1] = 16'h0000; initial m[2] = 16'h0000; initial m[01] = 16'h0001; endmodule", 142, VlogCause::AssignedTwice),
-    ("module m (a, b, q); input a; input b; output q; reg [15:0] m [0:255]; assign q = a; always @(posedge a) if (a & b) m[{a, a, a, a, a, a, a, a}] <= (m[{a, a, a, a, a, a, a, a}] & {a, a, a, a, a, a, a, a, a, a, a, a, a, a, a, a}) | ({a, a, a, a, a, a, a, a, a, a, a, a, a, a, a, a} & ~{a, a, a, a, a, a, a, a, a, a, a, a, a, a, a, a}); always @(posedge a) if (a & b) m[{a, a, a, a, a, a, a, a}] <= (m[{a, a, a, a, a, a, a, a}] & {a, a, a, a, a, a, a, a, a, a, a, a, a, a, a, a}) | ({a, a, a, a, a, a, a, a, a, a, a, a, a, a, a, a} & ~{a, a, a, a, a, a, a, a, a, a, a, a, a, a, a, a}); endmodule", 364, VlogCause::AssignedTwice),
+    (
+        "module m (a, b, q); input a; input b; output q; reg a = 1'b0; assign q = a; endmodule",
+        52,
+        VlogCause::AssignedTwice,
+    ),
+    (
+        "module m (a, b, q); input a; input b; output q; wire w = a; wire w = a; assign q = a; endmodule",
+        65,
+        VlogCause::AssignedTwice,
+    ),
+    (
+        "module m (a, b, q); input a; input b; output q; assign q = a; assign q = b; endmodule",
+        69,
+        VlogCause::AssignedTwice,
+    ),
+    (
+        "module m (a, b, q); input a; input b; output q; wire a = zz; assign q = a; endmodule",
+        53,
+        VlogCause::AssignedTwice,
+    ),
+    (
+        "module m (a, b, q); input a; input b; output q; reg r = 1'b0; assign q = a; always @(posedge a) if (a) begin if (b) r <= 1'b0; else r <= 16'h0000 >> {a, a, a, a}; end always @(posedge a) if (a) begin if (b) r <= 1'b0; else r <= 16'h0000 >> {a, a, a, a}; end endmodule",
+        207,
+        VlogCause::AssignedTwice,
+    ),
+    (
+        "module m (a, b, q); input a; input b; output q; reg [15:0] w = 16'h0000; reg [15:0] m [0:255]; assign q = a; always @(posedge a) if (a & b) w <= m[{a, a, a, a, a, a, a, a}]; always @(posedge a) if (a & b) w <= m[{a, a, a, a, a, a, a, a}]; endmodule",
+        205,
+        VlogCause::AssignedTwice,
+    ),
+    (
+        "module m (a, b, q); input a; input b; output q; reg [15:0] m [0:255]; assign q = a; initial m[1] = 16'h0000; initial m[2] = 16'h0000; initial m[01] = 16'h0001; endmodule",
+        142,
+        VlogCause::AssignedTwice,
+    ),
+    (
+        "module m (a, b, q); input a; input b; output q; reg [15:0] m [0:255]; assign q = a; always @(posedge a) if (a & b) m[{a, a, a, a, a, a, a, a}] <= (m[{a, a, a, a, a, a, a, a}] & {a, a, a, a, a, a, a, a, a, a, a, a, a, a, a, a}) | ({a, a, a, a, a, a, a, a, a, a, a, a, a, a, a, a} & ~{a, a, a, a, a, a, a, a, a, a, a, a, a, a, a, a}); always @(posedge a) if (a & b) m[{a, a, a, a, a, a, a, a}] <= (m[{a, a, a, a, a, a, a, a}] & {a, a, a, a, a, a, a, a, a, a, a, a, a, a, a, a}) | ({a, a, a, a, a, a, a, a, a, a, a, a, a, a, a, a} & ~{a, a, a, a, a, a, a, a, a, a, a, a, a, a, a, a}); endmodule",
+        364,
+        VlogCause::AssignedTwice,
+    ),
 ];
 
 #[test]
@@ -194,12 +415,36 @@ fn tells_what_is_declared_or_assigned_twice(rt: HostRuntime) {
 }
 
 const ORDER: [(&str, u64, VlogCause); 6] = [
-    ("module m (a, b, q); input a; input b; output q; wire w = a; reg r = 1'b0; assign q = a; endmodule", 60, VlogCause::Order),
-    ("module m (a, b, q); input a; input b; output q; assign q = a; wire w = zz; endmodule", 62, VlogCause::Order),
-    ("module m (a, b, q); input a; input b; output q; wire w = a; reg a = 1'b0; assign q = a; endmodule", 60, VlogCause::Order),
-    ("module m (a, b, q); input a; input b; output q; reg [15:0] m [0:255]; assign q = a; initial m[0] = 16'h0000; always @(posedge a) if (a & b) m[{a, a, a, a, a, a, a, a}] <= (m[{a, a, a, a, a, a, a, a}] & {a, a, a, a, a, a, a, a, a, a, a, a, a, a, a, a}) | ({a, a, a, a, a, a, a, a, a, a, a, a, a, a, a, a} & ~{a, a, a, a, a, a, a, a, a, a, a, a, a, a, a, a}); endmodule", 109, VlogCause::Order),
-    ("module m (a, b, q); input a; input b; output q; reg [15:0] w = 16'h0000; reg [15:0] m [0:255]; assign q = a; always @(posedge a) if (a & b) m[{a, a, a, a, a, a, a, a}] <= (m[{a, a, a, a, a, a, a, a}] & {a, a, a, a, a, a, a, a, a, a, a, a, a, a, a, a}) | ({a, a, a, a, a, a, a, a, a, a, a, a, a, a, a, a} & ~{a, a, a, a, a, a, a, a, a, a, a, a, a, a, a, a}); always @(negedge a) if (a & b) w <= m[{a, a, a, a, a, a, a, a}]; endmodule", 358, VlogCause::Order),
-    ("module m (a, b, q); input a; input b; output q; reg [15:0] m [0:255]; reg [15:0] w = 16'h0000; assign q = a; endmodule", 70, VlogCause::Order),
+    (
+        "module m (a, b, q); input a; input b; output q; wire w = a; reg r = 1'b0; assign q = a; endmodule",
+        60,
+        VlogCause::Order,
+    ),
+    (
+        "module m (a, b, q); input a; input b; output q; assign q = a; wire w = zz; endmodule",
+        62,
+        VlogCause::Order,
+    ),
+    (
+        "module m (a, b, q); input a; input b; output q; wire w = a; reg a = 1'b0; assign q = a; endmodule",
+        60,
+        VlogCause::Order,
+    ),
+    (
+        "module m (a, b, q); input a; input b; output q; reg [15:0] m [0:255]; assign q = a; initial m[0] = 16'h0000; always @(posedge a) if (a & b) m[{a, a, a, a, a, a, a, a}] <= (m[{a, a, a, a, a, a, a, a}] & {a, a, a, a, a, a, a, a, a, a, a, a, a, a, a, a}) | ({a, a, a, a, a, a, a, a, a, a, a, a, a, a, a, a} & ~{a, a, a, a, a, a, a, a, a, a, a, a, a, a, a, a}); endmodule",
+        109,
+        VlogCause::Order,
+    ),
+    (
+        "module m (a, b, q); input a; input b; output q; reg [15:0] w = 16'h0000; reg [15:0] m [0:255]; assign q = a; always @(posedge a) if (a & b) m[{a, a, a, a, a, a, a, a}] <= (m[{a, a, a, a, a, a, a, a}] & {a, a, a, a, a, a, a, a, a, a, a, a, a, a, a, a}) | ({a, a, a, a, a, a, a, a, a, a, a, a, a, a, a, a} & ~{a, a, a, a, a, a, a, a, a, a, a, a, a, a, a, a}); always @(negedge a) if (a & b) w <= m[{a, a, a, a, a, a, a, a}]; endmodule",
+        358,
+        VlogCause::Order,
+    ),
+    (
+        "module m (a, b, q); input a; input b; output q; reg [15:0] m [0:255]; reg [15:0] w = 16'h0000; assign q = a; endmodule",
+        70,
+        VlogCause::Order,
+    ),
 ];
 
 #[test]

@@ -1,5 +1,3 @@
-use Rattle.std.proofs.Common.{◌≡◌, List, ap, sym, ◌∙◌}
-use Rattle.vlog_forms.specs.Values.{Value}
 use Rattle.vlog_forms.specs.Reading.{values_of}
 use Rattle.vlog_read.specs.Found.{all_found}
 use Rattle.vlog_build.proofs.Made.{read-made}

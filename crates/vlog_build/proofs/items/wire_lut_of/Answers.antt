@@ -1,4 +1,3 @@
-use Rattle.std.proofs.Common.{◌≡◌}
 use Rattle.vlog_forms.specs.Reading.{values_of}
 use Rattle.vlog_read.specs.Found.{all_found}
 use Rattle.vlog_build.proofs.Made.{wire_lut-made}

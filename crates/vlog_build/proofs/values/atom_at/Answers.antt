@@ -1,5 +1,4 @@
-use Rattle.std.proofs.Common.{◌≡◌, ap, sym, ◌∙◌, refl}
-use Rattle.std.specs.Prelude.{Result, Ok, Err, IfOk}
+use Rattle.std.proofs.Common.{ap, sym, ◌∙◌}
 use Rattle.vlog_forms.specs.Items.{atom_in}
 use Rattle.vlog_forms.specs.Reading.{values_of}
 use Rattle.vlog_read.specs.Found.{all_found}

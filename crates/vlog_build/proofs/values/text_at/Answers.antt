@@ -1,4 +1,4 @@
-use Rattle.std.proofs.Common.{◌≡◌, ap, sym, ◌∙◌, refl}
+use Rattle.std.proofs.Common.{ap, sym, ◌∙◌, refl}
 use Rattle.vlog_module.specs.Names.{is_name, reserved_words}
 use Rattle.vlog_forms.specs.Items.{name_in}
 use Rattle.vlog_forms.specs.Reading.{values_of}

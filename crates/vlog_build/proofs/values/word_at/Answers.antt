@@ -1,4 +1,4 @@
-use Rattle.std.proofs.Common.{◌≡◌, ap, sym, ◌∙◌}
+use Rattle.std.proofs.Common.{ap, sym, ◌∙◌}
 use Rattle.vlog_forms.specs.Items.{word_in}
 use Rattle.vlog_build.proofs.values.word_at.Goals as goal
 

@@ -1,4 +1,4 @@
-use Rattle.std.proofs.Common.{◌≡◌, ℕ, ◌≤◌, ◌-◌, length}
+use Rattle.std.proofs.Common.{◌≡◌, ◌≤◌, ◌-◌, length}
 use Rattle.vlog_tokens.specs.Tokens.{spots_at}
 use Rattle.vlog_forms.specs.Outcome.{port_names}
 use Rattle.vlog_read.specs.Found.{all_found}

@@ -1,4 +1,4 @@
-use Rattle.std.proofs.Common.{◌≡◌, length, ap, sym, ◌∙◌}
+use Rattle.std.proofs.Common.{length, ap, sym, ◌∙◌}
 use Rattle.vlog_tokens.specs.Tokens.{seen, spots_at}
 use Rattle.vlog_forms.specs.Outcome.{port_names}
 use Rattle.vlog_forms.specs.Outcome.Turn.{Named}

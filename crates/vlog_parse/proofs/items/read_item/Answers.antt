@@ -1,5 +1,3 @@
-use Rattle.std.proofs.Common.{◌≡◌, ℕ, ◌<◌, length}
-use Rattle.vlog_tokens.specs.Tokens.{spots_at}
 use Rattle.vlog_forms.specs.Reading.{values_of}
 use Rattle.vlog_read.specs.Found.{all_found}
 use Rattle.vlog_read.specs.Readings.{whole_of}

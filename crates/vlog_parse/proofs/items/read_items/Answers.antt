@@ -1,10 +1,9 @@
-use Rattle.std.proofs.Common.{◌≡◌, ℕ, List, length, ◌∙◌}
+use Rattle.std.proofs.Common.{List, length, ◌∙◌}
 use Rattle.std.specs.Prelude.{Result}
 use Rattle.vlog_tokens.specs.Tokens.{Spot, spots_at}
 use Rattle.vlog_module.specs.Parts.{Parts}
 use Rattle.vlog_forms.specs.Outcome.{Fault, items_outcome}
 use Rattle.vlog_parse.specs.Drafts.{so_far}
-use Rattle.vlog_parse.specs.Steps.{items_from}
 use Rattle.vlog_parse.proofs.ItemSteps.{items-first, items-behind, refuses-same}
 use Rattle.vlog_parse.proofs.items.read_items.Goals as goal
 

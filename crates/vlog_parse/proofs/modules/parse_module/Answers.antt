@@ -1,4 +1,3 @@
-use Rattle.std.proofs.Common.{◌≡◌, length, ap, sym, ◌∙◌}
 use Rattle.vlog_tokens.specs.Tokens.{spots_at}
 use Rattle.vlog_forms.specs.Outcome.{Header}
 use Rattle.vlog_read.specs.Found.{all_found}

@@ -1,4 +1,4 @@
-use Rattle.std.proofs.Common.{◌≡◌, [], length, ap, sym, ◌∙◌}
+use Rattle.std.proofs.Common.{[], length, ap, sym, ◌∙◌}
 use Rattle.vlog_tokens.specs.Tokens.{spots_at}
 use Rattle.vlog_forms.specs.Items.{name_in}
 use Rattle.vlog_forms.specs.Reading.{values_of}

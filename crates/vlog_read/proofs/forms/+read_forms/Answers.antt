@@ -1,14 +1,9 @@
-use Rattle.std.proofs.Common.{◌≡◌, ◌++◌, ◌∷◌, [], ◌<◌, ◌+◌, ◌-◌, suc, length, flat_map, ap, sym, ◌∙◌, subst, refl, arith, List, ℕ}
-use Rattle.std.specs.Prelude.{Ok, Err}
-use Rattle.vlog_tokens.specs.declared.fixed.Fixed.TheVariants as sign
+use Rattle.std.proofs.Common.{◌≡◌, [], ◌-◌, length, ap, ◌∙◌, subst, arith}
+use Rattle.std.specs.Prelude.{Err}
 use Rattle.vlog_tokens.specs.Tokens.{spots_at}
-use Rattle.vlog_tokens.specs.Tokens.{TokenValue as token}
-use Rattle.vlog_forms.specs.declared.slot.Slot.TheVariants as slot
-use Rattle.vlog_forms.specs.Layout.{parts_of, more_slots, atom_slots, again_slots, first_again_slots}
-use Rattle.vlog_forms.specs.Values.{tokens_at, value_tokens, seen}
-use Rattle.vlog_forms.specs.Reading.{values_of, read_tokens, read_slots, read_atom, read_single, behind_tokens}
+use Rattle.vlog_forms.specs.Reading.{read_slots}
 use Rattle.vlog_read.specs.Found.{all_found}
-use Rattle.vlog_read.specs.Readings.{ReadsTo, ReadsTokens, ReadsOver, StopsAt}
+use Rattle.vlog_read.specs.Readings.{StopsAt}
 use Rattle.std.proofs.Common.{take, drop, get_or}
 use Rattle.std.proofs.lemmas.List.{nil_from_length}
 use Rattle.vlog_forms.specs.Reading.{read_forms, first_whole, or_further}
@@ -49,6 +44,6 @@ returns-in-Err-Stuck-clause-reads t c =
     let result : c.further.result ≡ further stuck c.read_forms.result = c.further.ensures ∙ ap (λ at. further at c.read_forms.result) c.in-Err-Stuck.stuck-is in
     let stops : read_slots end (slots_of one) given spots ≡ Err stuck = subst (StopsAt (read_slots end (slots_of one) given spots)) c.in-Err-Stuck.field-0-is c.in-Err-Stuck.ensures.reads in
     form-result (read_forms end given forms spots) c.args.bytes.now found c.further.result (further stuck c.read_forms.result) result
-        (form-along (read_forms end given forms spots) (or_further stuck others) c.args.bytes.now found (further stuck c.read_forms.result)
-            (ap (λ list. read_forms end given list spots) (cut forms form.Input c.in-len1-up.len_at_least) ∙ ap (λ reading. first_whole one reading others) stops)
-            (further-reads stuck others c.args.bytes.now found c.read_forms.result c.read_forms.ensures.reads))
+    (form-along (read_forms end given forms spots) (or_further stuck others) c.args.bytes.now found (further stuck c.read_forms.result)
+    (ap (λ list. read_forms end given list spots) (cut forms form.Input c.in-len1-up.len_at_least) ∙ ap (λ reading. first_whole one reading others) stops)
+    (further-reads stuck others c.args.bytes.now found c.read_forms.result c.read_forms.ensures.reads))

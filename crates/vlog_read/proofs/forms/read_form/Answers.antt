@@ -1,14 +1,8 @@
-use Rattle.std.proofs.Common.{◌≡◌, ◌++◌, ◌∷◌, [], ◌<◌, ◌+◌, ◌-◌, suc, length, flat_map, ap, sym, ◌∙◌, subst, refl, arith, List, ℕ}
-use Rattle.std.specs.Prelude.{Ok, Err}
-use Rattle.vlog_tokens.specs.declared.fixed.Fixed.TheVariants as sign
+use Rattle.std.proofs.Common.{length, flat_map, ap, sym, ◌∙◌}
 use Rattle.vlog_tokens.specs.Tokens.{spots_at}
-use Rattle.vlog_tokens.specs.Tokens.{TokenValue as token}
-use Rattle.vlog_forms.specs.declared.slot.Slot.TheVariants as slot
-use Rattle.vlog_forms.specs.Layout.{parts_of, more_slots, atom_slots, again_slots, first_again_slots}
-use Rattle.vlog_forms.specs.Values.{tokens_at, value_tokens, seen}
-use Rattle.vlog_forms.specs.Reading.{values_of, read_tokens, read_slots, read_atom, read_single, behind_tokens}
+use Rattle.vlog_forms.specs.Layout.{parts_of}
+use Rattle.vlog_forms.specs.Reading.{read_slots}
 use Rattle.vlog_read.specs.Found.{all_found}
-use Rattle.vlog_read.specs.Readings.{ReadsTo, ReadsTokens, ReadsOver, StopsAt}
 use Rattle.vlog_forms.specs.Layout.{slots_of}
 use Rattle.vlog_read.proofs.Steps.{reads-along}
 use Rattle.vlog_read.proofs.forms.read_form.Goals as goal
@@ -19,6 +13,6 @@ returns-in-Ok-clause-reads c =
     let end = length c.args.bytes.now in
     let spots = spots_at c.args.bytes.now c.args.from in
     reads-along _ _ c.args.bytes.now (all_found c.read_slots.new.values.items) c.read_slots.result
-        (ap (λ slots. read_slots end (flat_map parts_of slots) (all_found c.args.given.now) spots) (sym c.slots.ensures)
-        ∙ ap (λ items. read_slots end (flat_map parts_of c.slots.result.now) (all_found items) spots) (sym c.in-Ok.ensures))
-        c.read_slots.ensures.reads
+    (ap (λ slots. read_slots end (flat_map parts_of slots) (all_found c.args.given.now) spots) (sym c.slots.ensures)
+    ∙ ap (λ items. read_slots end (flat_map parts_of c.slots.result.now) (all_found items) spots) (sym c.in-Ok.ensures))
+    c.read_slots.ensures.reads

@@ -1,14 +1,10 @@
-use Rattle.std.proofs.Common.{◌≡◌, ◌++◌, ◌∷◌, [], ◌<◌, ◌+◌, ◌-◌, suc, length, flat_map, ap, sym, ◌∙◌, subst, refl, arith, List, ℕ}
-use Rattle.std.specs.Prelude.{Ok, Err}
+use Rattle.std.proofs.Common.{◌∷◌, ◌-◌, length, ap, ◌∙◌, arith}
 use Rattle.vlog_tokens.specs.declared.fixed.Fixed.TheVariants as sign
 use Rattle.vlog_tokens.specs.Tokens.{spots_at}
-use Rattle.vlog_tokens.specs.Tokens.{TokenValue as token}
 use Rattle.vlog_forms.specs.declared.slot.Slot.TheVariants as slot
-use Rattle.vlog_forms.specs.Layout.{parts_of, more_slots, atom_slots, again_slots, first_again_slots}
-use Rattle.vlog_forms.specs.Values.{tokens_at, value_tokens, seen}
-use Rattle.vlog_forms.specs.Reading.{values_of, read_tokens, read_slots, read_atom, read_single, behind_tokens}
+use Rattle.vlog_forms.specs.Layout.{more_slots}
+use Rattle.vlog_forms.specs.Reading.{read_slots}
 use Rattle.vlog_read.specs.Found.{all_found}
-use Rattle.vlog_read.specs.Readings.{ReadsTo, ReadsTokens, ReadsOver, StopsAt}
 use Rattle.vlog_read.proofs.Steps.{atom-then, atom-stops, comma-then, fixed-stuck, fixed-one, more-zero, more-suc, reads-along, stop-over}
 use Rattle.vlog_read.proofs.slots.+read_next_atom.Goals as goal
 
@@ -21,10 +17,10 @@ returns-then-count-eq0-clause-reads t c =
     let end = length c.args.bytes.now in
     let found = all_found c.read_atom.new.values.items in
     reads-along _ _ c.args.bytes.now found c.stop_at.result
-        (atom-then end (more_slots c.args.count) (all_found c.args.values.now.items) found (spots_at c.args.bytes.now c.args.from) _ c.in-Ok.ensures.reads
-        ∙ ap (λ slots. read_slots end slots found (spots_at c.args.bytes.now c.in-Ok.end)) (more-zero c.args.count c.if-count-eq0.true)
-        ∙ fixed-one end sign.CloseBrace found (spots_at c.args.bytes.now c.in-Ok.end))
-        (stop-over _ c.args.bytes.now found c.expect_token.result c.stop_at.result c.expect_token.ensures.reads c.stop_at.ensures)
+    (atom-then end (more_slots c.args.count) (all_found c.args.values.now.items) found (spots_at c.args.bytes.now c.args.from) _ c.in-Ok.ensures.reads
+    ∙ ap (λ slots. read_slots end slots found (spots_at c.args.bytes.now c.in-Ok.end)) (more-zero c.args.count c.if-count-eq0.true)
+    ∙ fixed-one end sign.CloseBrace found (spots_at c.args.bytes.now c.in-Ok.end))
+    (stop-over _ c.args.bytes.now found c.expect_token.result c.stop_at.result c.expect_token.ensures.reads c.stop_at.ensures)
 
 pub returns-in-Err-expect_token-clause-reads : goal.returns-in-Err-expect_token-clause-reads
 returns-in-Err-expect_token-clause-reads t c =
@@ -39,7 +35,7 @@ returns-in-Ok-expect_token-clause-reads t c =
     let end = length c.args.bytes.now in
     let found = all_found c.read_atom.new.values.items in
     reads-along _ _ c.args.bytes.now (all_found c.read_next_atom.new.values.items) c.read_next_atom.result
-        (atom-then end (more_slots c.args.count) (all_found c.args.values.now.items) found (spots_at c.args.bytes.now c.args.from) _ c.in-Ok.ensures.reads
-        ∙ ap (λ slots. read_slots end slots found (spots_at c.args.bytes.now c.in-Ok.end)) (more-suc c.args.count (omega arith))
-        ∙ comma-then end (slot.Atom ∷ more_slots (c.args.count - 1)) found (spots_at c.args.bytes.now c.in-Ok.end) _ c.in-Ok-expect_token.ensures.reads)
-        c.read_next_atom.ensures.reads
+    (atom-then end (more_slots c.args.count) (all_found c.args.values.now.items) found (spots_at c.args.bytes.now c.args.from) _ c.in-Ok.ensures.reads
+    ∙ ap (λ slots. read_slots end slots found (spots_at c.args.bytes.now c.in-Ok.end)) (more-suc c.args.count (omega arith))
+    ∙ comma-then end (slot.Atom ∷ more_slots (c.args.count - 1)) found (spots_at c.args.bytes.now c.in-Ok.end) _ c.in-Ok-expect_token.ensures.reads)
+    c.read_next_atom.ensures.reads

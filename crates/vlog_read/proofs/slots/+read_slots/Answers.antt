@@ -1,14 +1,9 @@
-use Rattle.std.proofs.Common.{◌≡◌, ◌++◌, ◌∷◌, [], ◌<◌, ◌+◌, ◌-◌, suc, length, flat_map, ap, sym, ◌∙◌, subst, refl, arith, List, ℕ}
-use Rattle.std.specs.Prelude.{Ok, Err}
-use Rattle.vlog_tokens.specs.declared.fixed.Fixed.TheVariants as sign
+use Rattle.std.proofs.Common.{◌≡◌, [], ◌-◌, length, flat_map, ap, ◌∙◌, arith}
 use Rattle.vlog_tokens.specs.Tokens.{spots_at}
-use Rattle.vlog_tokens.specs.Tokens.{TokenValue as token}
 use Rattle.vlog_forms.specs.declared.slot.Slot.TheVariants as slot
-use Rattle.vlog_forms.specs.Layout.{parts_of, more_slots, atom_slots, again_slots, first_again_slots}
-use Rattle.vlog_forms.specs.Values.{tokens_at, value_tokens, seen}
-use Rattle.vlog_forms.specs.Reading.{values_of, read_tokens, read_slots, read_atom, read_single, behind_tokens}
+use Rattle.vlog_forms.specs.Layout.{parts_of}
+use Rattle.vlog_forms.specs.Reading.{read_slots}
 use Rattle.vlog_read.specs.Found.{all_found}
-use Rattle.vlog_read.specs.Readings.{ReadsTo, ReadsTokens, ReadsOver, StopsAt}
 use Rattle.std.proofs.Common.{take, drop, get_or}
 use Rattle.std.proofs.lemmas.List.{nil_from_length}
 use Rattle.vlog_forms.specs.Reading.{and_then}
@@ -29,10 +24,10 @@ returns-in-Ok-clause-reads t c =
     let spots = spots_at c.args.bytes.now c.args.from in
     let more = flat_map parts_of (take (length slots - 1) (drop 1 slots)) in
     reads-along _ _ c.args.bytes.now (all_found c.read_slots.new.values.items) c.read_slots.result
-        (ap (λ list. read_slots end (flat_map parts_of list) found spots) (cut slots slot.Space c.in-len1-up.len_at_least)
-        ∙ slots-append end (parts_of (get_or slots 0 slot.Space)) more found spots
-        ∙ ap (λ reading. and_then reading (read_slots end more)) c.in-Ok.ensures.reads)
-        c.read_slots.ensures.reads
+    (ap (λ list. read_slots end (flat_map parts_of list) found spots) (cut slots slot.Space c.in-len1-up.len_at_least)
+    ∙ slots-append end (parts_of (get_or slots 0 slot.Space)) more found spots
+    ∙ ap (λ reading. and_then reading (read_slots end more)) c.in-Ok.ensures.reads)
+    c.read_slots.ensures.reads
 
 pub returns-in-Err-clause-reads : goal.returns-in-Err-clause-reads
 returns-in-Err-clause-reads t c =
@@ -42,6 +37,6 @@ returns-in-Err-clause-reads t c =
     let spots = spots_at c.args.bytes.now c.args.from in
     let more = flat_map parts_of (take (length slots - 1) (drop 1 slots)) in
     stops-along _ _ c.in-Err.stop
-        (ap (λ list. read_slots end (flat_map parts_of list) found spots) (cut slots slot.Space c.in-len1-up.len_at_least)
-        ∙ slots-append end (parts_of (get_or slots 0 slot.Space)) more found spots)
-        (stops-then (read_slots end (parts_of (get_or slots 0 slot.Space)) found spots) (read_slots end more) c.in-Err.stop c.in-Err.ensures.reads)
+    (ap (λ list. read_slots end (flat_map parts_of list) found spots) (cut slots slot.Space c.in-len1-up.len_at_least)
+    ∙ slots-append end (parts_of (get_or slots 0 slot.Space)) more found spots)
+    (stops-then (read_slots end (parts_of (get_or slots 0 slot.Space)) found spots) (read_slots end more) c.in-Err.stop c.in-Err.ensures.reads)

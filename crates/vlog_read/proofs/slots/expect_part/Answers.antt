@@ -1,14 +1,8 @@
-use Rattle.std.proofs.Common.{◌≡◌, ◌++◌, ◌∷◌, [], ◌<◌, ◌+◌, ◌-◌, suc, length, flat_map, ap, sym, ◌∙◌, subst, refl, arith, List, ℕ}
-use Rattle.std.specs.Prelude.{Ok, Err}
+use Rattle.std.proofs.Common.{◌≡◌, ◌∷◌, [], length, ap, ◌∙◌}
 use Rattle.vlog_tokens.specs.declared.fixed.Fixed.TheVariants as sign
 use Rattle.vlog_tokens.specs.Tokens.{spots_at}
 use Rattle.vlog_tokens.specs.Tokens.{TokenValue as token}
-use Rattle.vlog_forms.specs.declared.slot.Slot.TheVariants as slot
-use Rattle.vlog_forms.specs.Layout.{parts_of, more_slots, atom_slots, again_slots, first_again_slots}
-use Rattle.vlog_forms.specs.Values.{tokens_at, value_tokens, seen}
-use Rattle.vlog_forms.specs.Reading.{values_of, read_tokens, read_slots, read_atom, read_single, behind_tokens}
-use Rattle.vlog_read.specs.Found.{all_found}
-use Rattle.vlog_read.specs.Readings.{ReadsTo, ReadsTokens, ReadsOver, StopsAt}
+use Rattle.vlog_forms.specs.Reading.{read_tokens}
 use Rattle.vlog_read.proofs.Steps.{tokens-cons, tokens-stuck, tokens-along}
 use Rattle.vlog_read.proofs.slots.expect_part.Goals as goal
 
@@ -32,8 +26,8 @@ returns-in-Ok-expect_token-2-clause-reads c =
     let end = length c.args.bytes.now in
     let same : c.args.k ≡ c.from.result = cc in
     tokens-along _ _ c.args.bytes.now c.expect_token-in-Ok-expect_token-2.result
-        (tokens-cons end (token.name c.args.name.now) (token.fixed sign.OpenBracket ∷ token.number c.args.k ∷ token.fixed sign.CloseBracket ∷ []) (spots_at c.args.bytes.now c.args.from) _ c.in-Ok.ensures.reads
-        ∙ tokens-cons end (token.fixed sign.OpenBracket) (token.number c.args.k ∷ token.fixed sign.CloseBracket ∷ []) (spots_at c.args.bytes.now c.in-Ok.end) _ c.in-Ok-expect_token.ensures.reads
-        ∙ ap (λ k. read_tokens end (token.number k ∷ token.fixed sign.CloseBracket ∷ []) (spots_at c.args.bytes.now c.in-Ok-expect_token.end)) same
-        ∙ tokens-cons end (token.number c.from.result) (token.fixed sign.CloseBracket ∷ []) (spots_at c.args.bytes.now c.in-Ok-expect_token.end) _ c.in-Ok-expect_token-2.ensures.reads)
-        c.expect_token-in-Ok-expect_token-2.ensures.reads
+    (tokens-cons end (token.name c.args.name.now) (token.fixed sign.OpenBracket ∷ token.number c.args.k ∷ token.fixed sign.CloseBracket ∷ []) (spots_at c.args.bytes.now c.args.from) _ c.in-Ok.ensures.reads
+    ∙ tokens-cons end (token.fixed sign.OpenBracket) (token.number c.args.k ∷ token.fixed sign.CloseBracket ∷ []) (spots_at c.args.bytes.now c.in-Ok.end) _ c.in-Ok-expect_token.ensures.reads
+    ∙ ap (λ k. read_tokens end (token.number k ∷ token.fixed sign.CloseBracket ∷ []) (spots_at c.args.bytes.now c.in-Ok-expect_token.end)) same
+    ∙ tokens-cons end (token.number c.from.result) (token.fixed sign.CloseBracket ∷ []) (spots_at c.args.bytes.now c.in-Ok-expect_token.end) _ c.in-Ok-expect_token-2.ensures.reads)
+    c.expect_token-in-Ok-expect_token-2.ensures.reads

@@ -1,4 +1,4 @@
-use Rattle.std.proofs.Common.{◌≡◌, sym, subst}
+use Rattle.std.proofs.Common.{sym, subst}
 use Rattle.vlog_read.proofs.Results.{on_ok}
 use Rattle.vlog_names.specs.Scopes.{Known, Holds}
 use Rattle.vlog_names.proofs.Entering.{holds-declared, holds-assigned, holds-started}

@@ -1,4 +1,4 @@
-use Rattle.std.proofs.Common.{◌≡◌, ◌∙◌, ap}
+use Rattle.std.proofs.Common.{◌∙◌, ap}
 use Rattle.vlog_names.specs.Kept.{has_name}
 use Rattle.vlog_names.proofs.NameKeys.{any-keys}
 use Rattle.vlog_names.proofs.set.NameSet.contains.Goals as goal

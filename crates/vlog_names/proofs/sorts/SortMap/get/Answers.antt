@@ -1,4 +1,4 @@
-use Rattle.std.proofs.Common.{◌≡◌, ◌∙◌, ap}
+use Rattle.std.proofs.Common.{◌∙◌, ap}
 use Rattle.vlog_module.specs.WellFormed.{sort_in}
 use Rattle.vlog_names.proofs.NameKeys.{value-keys}
 use Rattle.vlog_names.proofs.sorts.SortMap.get.Goals as goal

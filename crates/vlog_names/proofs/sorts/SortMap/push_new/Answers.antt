@@ -1,4 +1,4 @@
-use Rattle.std.proofs.Common.{◌≡◌, ◌∙◌, ap, sym, refl}
+use Rattle.std.proofs.Common.{◌∙◌, ap, refl}
 use Rattle.vlog_module.specs.WellFormed.{sort_in}
 use Rattle.indexmap.proofs.CallerLemmas.{insert_entry-new}
 use Rattle.vlog_names.proofs.NameKeys.{value-keys, entries-push}

@@ -1,4 +1,4 @@
-use Rattle.std.proofs.Common.{◌≡◌, ◌∙◌, ap}
+use Rattle.std.proofs.Common.{◌∙◌, ap}
 use Rattle.vlog_names.specs.Kept.{has_word}
 use Rattle.vlog_names.proofs.NameKeys.{any-words, word-turned}
 use Rattle.vlog_names.proofs.words.WordSet.contains.Goals as goal

@@ -1,5 +1,5 @@
 -- The command lines of the tools: they are simple, and what is found in the words is the task.
-use Rattle.std.proofs.Common.{◌≡◌, ◌∙◌, ◌<◌, ◌^◌, ◌+◌, ◌++◌, [], ◌∷◌, zero, suc, arith, length, Bool, true, false, ℕ, List, codes, refl, sym, ap, ap₂, subst}
+use Rattle.std.proofs.Common.{◌≡◌, ◌∙◌, ◌<◌, ◌^◌, ◌++◌, [], ◌∷◌, zero, suc, arith, length, Bool, true, false, ℕ, List, codes, refl, sym, ap, ap₂}
 use Rattle.std.specs.Prelude.{Option, None, Some, map, option_map, slice_get, slice_index_or, if◌then◌else◌}
 use Rattle.std.specs.Borrow.{Bor}
 use Rattle.clap.specs.Words.{App, Row, Text, first_of, is_simple_and_free, matches_of}

@@ -1,5 +1,5 @@
 -- `icepack`: the bitstream of a text.
-use Rattle.std.specs.Prelude.{ℕ, Bool, true, false, not, ◌&&◌, List, [], ◌∷◌, codes, get_or, if◌then◌else◌, Option, None, Some}
+use Rattle.std.specs.Prelude.{ℕ, Bool, true, false, List, [], ◌∷◌, codes, get_or, if◌then◌else◌, Option, None, Some}
 use Rattle.clap.specs.Words.{App, Row, Text, first_of, matches_of}
 use Rattle.ice_image.specs.Configuration.{Configuration}
 use Rattle.asc_text.specs.Faults.{Fault, asc_fault_of}

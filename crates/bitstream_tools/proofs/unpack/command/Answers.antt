@@ -1,4 +1,3 @@
-use Rattle.std.proofs.Common.{◌≡◌, refl, rules}
 use Rattle.std.proofs.lemmas.Result.{IfOk-weaker}
 use Rattle.bitstream_tools.proofs.unpack.command.Goals as goal
 

@@ -45,7 +45,7 @@ impl Tool for Running {
 }
 
 // The lines of the run of a module over events, both in bytes.
-#[tactic(auto, using(vlog_forms::proofs::Spelled::outcome-spelled, crate::proofs::Outcomes::outcome-faulty))]
+#[tactic(auto, using(crate::proofs::Outcomes::outcome_spelled, crate::proofs::Outcomes::outcome_faulty))]
 fn run_texts(alloc: Global, text: &[u8], events: &[u8], registers: bool) -> Result<Vec<u8>, Stop>
     ensures bytes { IfOk result (λ bytes. run_of registers (outcome_of text.now) events.now ≡ Done bytes.items) }
     ensures stops { IfErr result (StopsWith (run_of registers (outcome_of text.now) events.now)) }

@@ -1,6 +1,6 @@
 -- What the names of a module have at the start.
-use Rattle.std.proofs.Common.{◌≡◌, ℕ, ◌+◌, ◌<◌, Bool, List, [], ◌∷◌, ◌++◌, Option, Vec, Global, ap, ap₂, flat_map, fold, length, get_or, refl, sym, subst, ◌∙◌, arith}
-use Rattle.std.specs.Prelude.{map, All}
+use Rattle.std.proofs.Common.{◌≡◌, ℕ, Bool, List, [], ◌∷◌, ◌++◌, Option, Vec, Global, ap, ap₂, flat_map, fold, length, get_or, refl, sym, ◌∙◌}
+use Rattle.std.specs.Prelude.{All}
 use Rattle.std.proofs.lemmas.List.{length-map, map-append}
 use Rattle.std.proofs.lemmas.Option.{slice_get-get_or}
 use Rattle.vlog_module.specs.declared.item.Item.{Item}
@@ -12,8 +12,8 @@ use Rattle.vlog_cycle.specs.declared.plan.Wire.{Wire}
 use Rattle.vlog_cycle.specs.declared.slots.Slots.{Slots}
 use Rattle.vlog_cycle.specs.Begun.{IsBegun}
 use Rattle.vlog_cycle.specs.Held.{Holds}
-use Rattle.vlog_cycle.specs.ModuleSlots.{memory_names, places_of, register_names, wire_names, wire_start, word_names}
-use Rattle.vlog_cycle.specs.Named.{names_of, values_of}
+use Rattle.vlog_cycle.specs.ModuleSlots.{places_of, register_names, wire_start}
+use Rattle.vlog_cycle.specs.Named.{names_of}
 use Rattle.vlog_cycle.specs.Numbered.{numbered}
 use Rattle.vlog_cycle.specs.Plans.{Places, wires_of}
 use Rattle.vlog_cycle.specs.Run.{input_names, input_start, memory_start, put_word, register_start, start_step, word_start}

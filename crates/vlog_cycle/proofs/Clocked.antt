@@ -1,30 +1,26 @@
 -- Clocked items over slots do what the items of the module do.
-use Rattle.std.proofs.Common.{◌≡◌, ℕ, Bool, true, false, cond, List, [], ◌∷◌, ◌++◌, Option, Some, None, ap, ap₂, append-nil, fold, get_or, length, refl, set, sym, subst, ◌∙◌}
-use Rattle.std.specs.Prelude.{map, unwrap_or, ◌&&◌}
+use Rattle.std.proofs.Common.{◌≡◌, ℕ, Bool, true, false, cond, List, [], ◌∷◌, ◌++◌, Option, Some, None, ap, ap₂, fold, length, refl, set, sym, ◌∙◌}
+use Rattle.std.specs.Prelude.{◌&&◌}
 use Rattle.std.specs.List.{cons_option, filter_map}
-use Rattle.std.specs.Option.{option_map, option_map_or, option_to_list}
+use Rattle.std.specs.Option.{option_map_or, option_to_list}
 use Rattle.std.proofs.lemmas.List.{length-map}
-use Rattle.vlog_module.specs.declared.atoms.Atom.{Atom}
 use Rattle.vlog_module.specs.declared.item.Item.{Item}
-use Rattle.vlog_module.specs.declared.item.Item.TheVariants.{Flip as FlipItem, Read as ReadItem, Write as WriteItem}
-use Rattle.vlog_module.specs.declared.item.Lut.{Lut}
+use Rattle.vlog_module.specs.declared.item.Item.TheVariants.{Flip as FlipItem}
 use Rattle.vlog_module.specs.Maps.{value_in}
 use Rattle.vlog_module.specs.Parts.{Parts}
 use Rattle.vlog_cycle.specs.declared.event.Event.{Event}
 use Rattle.vlog_cycle.specs.declared.plan.Flip.{Flip}
-use Rattle.vlog_cycle.specs.declared.plan.Read.{Read}
-use Rattle.vlog_cycle.specs.declared.plan.Write.{Write}
 use Rattle.vlog_cycle.specs.declared.plan.Operand.{Operand}
 use Rattle.vlog_cycle.specs.declared.plan.Table.{Table}
 use Rattle.vlog_cycle.specs.Entries.{Entry, put}
 use Rattle.vlog_cycle.specs.Named.{names_of, values_of}
 use Rattle.vlog_cycle.specs.Numbered.{numbered}
-use Rattle.vlog_cycle.specs.Plans.{Places, flip_of, of_two, of_three, operand_of, operands_of, read_of, table_of, write_of}
-use Rattle.vlog_cycle.specs.Run.{input_names, is_clocked, is_edge, is_pin, masked, memory_step, pin_of, put_read, put_word, readable, register_step, word_step, words_of}
-use Rattle.vlog_cycle.specs.Steps.{flip_slot, operand_value, operands_value, read_slot, set_word, table_value, word_in, write_slot, written_word}
-use Rattle.vlog_cycle.specs.Values.{Readable, atom_value, atoms_value, lut_value}
-use Rattle.vlog_cycle.proofs.Atoms.{number-at, operand-at, slots_of, table-at}
-use Rattle.vlog_cycle.proofs.Lookups.{names-put, put-slot, put-slots, value_in-slots}
+use Rattle.vlog_cycle.specs.Plans.{Places, flip_of, of_two, operand_of, table_of}
+use Rattle.vlog_cycle.specs.Run.{input_names, is_clocked, is_edge, is_pin, pin_of, readable, register_step}
+use Rattle.vlog_cycle.specs.Steps.{flip_slot, operand_value, table_value}
+use Rattle.vlog_cycle.specs.Values.{Readable, atom_value, lut_value}
+use Rattle.vlog_cycle.proofs.Atoms.{operand-at, slots_of, table-at}
+use Rattle.vlog_cycle.proofs.Lookups.{names-put, put-slot}
 
 -- where names are found by the names of an entry
 abbrev pub entry_places : Entry → Places

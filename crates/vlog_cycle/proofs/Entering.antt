@@ -1,5 +1,5 @@
 -- Entries of a module, and what stands in the slots for them.
-use Rattle.std.proofs.Common.{◌≡◌, ℕ, zero, suc, ◌+◌, ◌<◌, Bool, true, false, cond, List, [], ◌∷◌, ◌++◌, Option, append_assoc, append-nil, ap, ap₂, flat_map, fold, length, get_or, set, refl, sym, subst, ◌∙◌, arith}
+use Rattle.std.proofs.Common.{◌≡◌, ℕ, zero, suc, ◌<◌, Bool, true, false, cond, List, [], ◌∷◌, ◌++◌, append_assoc, append-nil, ap, ap₂, flat_map, fold, length, get_or, set, refl, sym, subst, ◌∙◌}
 use Rattle.std.specs.Prelude.{map}
 use Rattle.std.specs.List.{filter_map}
 use Rattle.std.proofs.lemmas.List.{get_or_append_left, length-map, map-append, set-append_left}
@@ -12,10 +12,9 @@ use Rattle.vlog_cycle.specs.ModuleSlots.{IsNamed, IsPlan, memory_names, places_o
 use Rattle.vlog_cycle.specs.Named.{names_of, values_of}
 use Rattle.vlog_cycle.specs.Numbered.{numbered}
 use Rattle.vlog_cycle.specs.Plans.{Places, flip_of, outputs_of, read_of, wires_of, write_of}
-use Rattle.vlog_cycle.specs.Run.{changed, followed, input_bit, input_names, input_start, is_same_bit, memory_start, memory_step, output_start, output_step, readable, register_start, register_step, settled, start, start_step, wire_step, with_input, word_start, word_step}
+use Rattle.vlog_cycle.specs.Run.{changed, followed, input_bit, input_names, input_start, is_same_bit, memory_start, memory_step, readable, register_start, register_step, settled, start, start_step, with_input, word_start, word_step}
 use Rattle.vlog_cycle.specs.Steps.{bits_after, flip_slot, memories_after, operand_value, read_slot, wire_slot, words_after, write_slot}
 use Rattle.vlog_cycle.specs.Values.{Readable}
-use Rattle.vlog_cycle.proofs.Atoms.{slots_of}
 use Rattle.vlog_cycle.proofs.Beginning.{names-starts, same-places}
 use Rattle.vlog_cycle.proofs.Clocked.{entry_places, flips-same, names-flips, with_registers}
 use Rattle.vlog_cycle.proofs.Memories.{names-reads, names-writes, reads-same, writes-same}
@@ -192,7 +191,7 @@ changed-from m plan entry event named planned within =
       words_are = words-changed m plan entry event named planned;
       memories_are = memories-changed m plan entry event named planned;
       outputs_are = ap₂ (λ b w. map (operand_value b w) plan.outputs.items) (bits-changed m plan entry event named planned within) (words-changed m plan entry event named planned)
-      ∙ settled-outputs m plan inputs registers words memories are planned;
+          ∙ settled-outputs m plan inputs registers words memories are planned;
       named = settled-named m inputs registers words memories are;
     }
 

@@ -1,13 +1,11 @@
 -- Lists of events, line by line.
-use Rattle.std.proofs.Common.{◌≡◌, ℕ, zero, suc, ◌+◌, ◌<◌, ◌≤◌, Bool, true, false, cond, List, [], ◌∷◌, ◌++◌, Option, Some, None, Result, Ok, Err, drop, flat_map, length, get_or, take, refl, sym, ap, ap₂, ◌∙◌, subst, arith, below_more, length-drop}
-use Rattle.std.specs.Prelude.{All, bytes_eq, IfErr}
+use Rattle.std.proofs.Common.{◌≡◌, ℕ, zero, suc, ◌+◌, ◌<◌, ◌≤◌, Bool, true, false, cond, List, [], ◌∷◌, ◌++◌, Option, Some, None, Ok, Err, drop, flat_map, length, get_or, take, refl, sym, ap, ◌∙◌, arith, below_more, length-drop}
+use Rattle.std.specs.Prelude.{All, bytes_eq}
 use Rattle.std.specs.Option.{option_to_list}
 use Rattle.std.specs.Result.{result_err, result_ok}
 use Rattle.std.proofs.lemmas.List.{get_or_default}
 use Rattle.vlog_cycle.proofs.Filling.{flat_map-more}
-use Rattle.place_search.specs.Places.{first_below, or_else}
-use Rattle.place_search.proofs.Places.{first_below-more, first_below-first, first_below-none}
-use Rattle.place_search.proofs.Found.{first_below-clear}
+use Rattle.place_search.proofs.Places.{first_below-first, first_below-none}
 use Rattle.text_lines.specs.Lines.{line_at, lines_of}
 use Rattle.std.proofs.lemmas.List.Elements.{All-append, All-cons, All-nil}
 use Rattle.vlog_module.specs.declared.modules.Port.{Port}
@@ -53,7 +51,7 @@ pub event-anywhere : (pins : List ℕ → Option ℕ) (a b : ℕ) (content : Lis
 unfolding event_of
 event-anywhere pins a b content =
     elim (is_word (name_part content)) as (λ named. result_ok (cond named (bit_event a (pins (name_part content)) (bit_written (bit_part content))) (Err (Form a)))
-        ≡ result_ok (cond named (bit_event b (pins (name_part content)) (bit_written (bit_part content))) (Err (Form b)))) [
+    ≡ result_ok (cond named (bit_event b (pins (name_part content)) (bit_written (bit_part content))) (Err (Form b)))) [
       | true ↦ bit-anywhere a b (pins (name_part content)) (bit_written (bit_part content))
       | false ↦ refl
     ]

@@ -1,6 +1,6 @@
 -- What names with their values hold.
 use Rattle.std.proofs.Common.{◌≡◌, ℕ, ◌+◌, Bool, List, [], ◌∷◌, ◌++◌, Option, Some, None, Result, Ok, Err, Vec, Global, length, get_or, set, refl, sym, ap, ap₂, ◌∙◌, subst, arith}
-use Rattle.std.specs.Prelude.{map, OnOk, unwrap_or}
+use Rattle.std.specs.Prelude.{OnOk, unwrap_or}
 use Rattle.std.specs.Option.{option_map, option_map_or}
 use Rattle.std.proofs.lemmas.List.{map_push, length-map}
 use Rattle.vlog_module.specs.Maps.{value_in}
@@ -14,7 +14,7 @@ use Rattle.vlog_cycle.specs.declared.plan.Wire.{Wire}
 use Rattle.vlog_cycle.specs.Plans.{rule_of, wires_of}
 use Rattle.vlog_cycle.specs.Entries.{put}
 use Rattle.vlog_cycle.specs.Held.{Holds}
-use Rattle.vlog_cycle.specs.Named.{names_of, values_of}
+use Rattle.vlog_cycle.specs.Named.{names_of}
 use Rattle.vlog_cycle.specs.Numbered.{numbered}
 use Rattle.vlog_cycle.specs.Run.{put_word, words_of}
 use Rattle.vlog_cycle.specs.Steps.{set_word}
@@ -31,10 +31,10 @@ Holds-push {A = A} named entries name value slots values slot holds at added pus
     let size : slot ≡ length (names_of entries) = at ∙ ap length holds.values ∙ length-map entries (λ (e : List ℕ × A). e.1) ∙ sym (length-map entries (λ (e : List ℕ × A). e.0)) in
     record {
       slots = subst (Finds slots)
-      (ap (λ n. numbered 0 (names_of entries) ++ (name, n) ∷ []) (size ∙ omega arith)
-      ∙ sym (numbered-push 0 (names_of entries) name)
-      ∙ ap (numbered 0) (sym (map_push (λ (e : List ℕ × A). e.0) entries (name, value))))
-      (added (numbered 0 (names_of entries)) holds.slots);
+          (ap (λ n. numbered 0 (names_of entries) ++ (name, n) ∷ []) (size ∙ omega arith)
+          ∙ sym (numbered-push 0 (names_of entries) name)
+          ∙ ap (numbered 0) (sym (map_push (λ (e : List ℕ × A). e.0) entries (name, value))))
+          (added (numbered 0 (names_of entries)) holds.slots);
       values = pushed ∙ ap (λ list. list ++ value ∷ []) holds.values ∙ sym (map_push (λ (e : List ℕ × A). e.1) entries (name, value));
     }
 
@@ -48,8 +48,8 @@ Holds-put {A = A} named entries name value found values holds at is =
     record {
       slots = λ q. holds.slots q ∙ ap (λ names. value_in (numbered 0 names) q) (sym (names-put entries name value));
       values = is
-      ∙ ap₂ (λ slot list. option_map_or (λ s. set list s value) slot list) (at ∙ holds.slots name) holds.values
-      ∙ sym (put-slots entries name value);
+          ∙ ap₂ (λ slot list. option_map_or (λ s. set list s value) slot list) (at ∙ holds.slots name) holds.values
+          ∙ sym (put-slots entries name value);
     }
 
 pub on-ok : {A E : Type 0} (result : Result A E) {P : Type 0} → P → OnOk result P
@@ -76,9 +76,9 @@ Holds-put_word named entries name k word found values holds at is =
     let old : value_in entries name ≡ option_map (λ slot. get_or named.values.items slot []) found =
     value_in-slots entries name [] ∙ ap₂ (λ list f. option_map (λ (slot : ℕ). get_or list slot []) f) (sym holds.values) (sym (at ∙ holds.slots name)) in
     let chosen : (f : Option ℕ) → value_in entries name ≡ option_map (λ slot. get_or named.values.items slot []) f
-        → option_map_or (λ slot. set_word named.values.items slot k word) f named.values.items ≡ option_map_or (λ slot. set named.values.items slot (set (words_of entries name) k word)) f named.values.items =
+    → option_map_or (λ slot. set_word named.values.items slot k word) f named.values.items ≡ option_map_or (λ slot. set named.values.items slot (set (words_of entries name) k word)) f named.values.items =
     λ f. elim f as (λ v. value_in entries name ≡ option_map (λ slot. get_or named.values.items slot []) v
-        → option_map_or (λ slot. set_word named.values.items slot k word) v named.values.items ≡ option_map_or (λ slot. set named.values.items slot (set (words_of entries name) k word)) v named.values.items) [
+    → option_map_or (λ slot. set_word named.values.items slot k word) v named.values.items ≡ option_map_or (λ slot. set named.values.items slot (set (words_of entries name) k word)) v named.values.items) [
       | Some slot ↦ λ read. ap (λ (w : Option (List ℕ)). set named.values.items slot (set (unwrap_or w []) k word)) (sym read)
       | None ↦ λ read. refl
     ] in

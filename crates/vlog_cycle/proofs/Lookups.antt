@@ -1,6 +1,6 @@
 -- The values of names by their slots.
-use Rattle.std.proofs.Common.{◌≡◌, ℕ, zero, suc, ◌+◌, Bool, true, false, cond, List, [], ◌∷◌, ◌++◌, Option, Some, None, length, get_or, set, refl, sym, ap, ◌∙◌, subst, arith, append_assoc, append-nil, add-one, add_assoc}
-use Rattle.std.specs.Prelude.{bytes_eq, map, unwrap_or, is_some}
+use Rattle.std.proofs.Common.{◌≡◌, ℕ, ◌+◌, Bool, true, false, cond, List, [], ◌∷◌, ◌++◌, Option, Some, None, length, get_or, set, refl, sym, ap, ◌∙◌, arith, append_assoc, append-nil}
+use Rattle.std.specs.Prelude.{bytes_eq, map, is_some}
 use Rattle.std.specs.Option.{option_map, option_map_or}
 use Rattle.std.specs.Map.{lookup}
 use Rattle.std.proofs.lemmas.List.{get_or_at, set_at, length_push}
@@ -88,7 +88,7 @@ put-slot {A = A} before (entry ∷ entries) behind name value from is =
     let rest = put-slot (before ++ entry.1 ∷ []) entries behind name value (from + 1) (length_push before entry.1 ∙ ap (λ n. n + 1) is) in
     let found : Option ℕ = value_in (numbered (from + 1) (map (λ (e : List ℕ × A). e.0) entries)) name in
     elim (bytes_eq entry.0 name) as (λ b. before ++ (map (λ (e : List ℕ × A). e.1) (cond b ((entry.0, value) ∷ entries) (entry ∷ put entries name value)) ++ behind)
-        ≡ option_map_or (λ slot. set all slot value) (cond b (Some from) found) all) [
+    ≡ option_map_or (λ slot. set all slot value) (cond b (Some from) found) all) [
       | true ↦ sym (set_at before entry.1 values value from is)
       | false ↦ sym (append_assoc before (entry.1 ∷ []) (map (λ (e : List ℕ × A). e.1) (put entries name value) ++ behind))
           ∙ rest ∙ ap (λ list. option_map_or (λ slot. set list slot value) found list) next

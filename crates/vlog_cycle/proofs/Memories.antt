@@ -1,9 +1,8 @@
 -- Reads and writes of memories over slots do what the items of the module do.
-use Rattle.std.proofs.Common.{◌≡◌, ℕ, Bool, true, false, cond, List, [], ◌∷◌, ◌++◌, Option, Some, None, ap, ap₂, append-nil, fold, get_or, length, refl, set, sym, subst, ◌∙◌}
-use Rattle.std.specs.Prelude.{map, unwrap_or, ◌&&◌}
+use Rattle.std.proofs.Common.{◌≡◌, ℕ, Bool, true, false, cond, List, [], ◌∷◌, Option, Some, None, ap, ap₂, fold, get_or, refl, set, sym, ◌∙◌}
+use Rattle.std.specs.Prelude.{unwrap_or, ◌&&◌}
 use Rattle.std.specs.List.{filter_map}
 use Rattle.std.specs.Option.{option_map, option_map_or, option_to_list}
-use Rattle.vlog_module.specs.declared.atoms.Atom.{Atom}
 use Rattle.vlog_module.specs.declared.item.Item.{Item}
 use Rattle.vlog_module.specs.declared.item.Item.TheVariants.{Read as ReadItem, Write as WriteItem}
 use Rattle.vlog_module.specs.Maps.{value_in}
@@ -12,12 +11,12 @@ use Rattle.vlog_cycle.specs.declared.event.Event.{Event}
 use Rattle.vlog_cycle.specs.declared.plan.Operand.{Operand}
 use Rattle.vlog_cycle.specs.declared.plan.Read.{Read}
 use Rattle.vlog_cycle.specs.declared.plan.Write.{Write}
-use Rattle.vlog_cycle.specs.Entries.{Entry, put}
+use Rattle.vlog_cycle.specs.Entries.{Entry}
 use Rattle.vlog_cycle.specs.Named.{names_of, values_of}
 use Rattle.vlog_cycle.specs.Numbered.{numbered}
 use Rattle.vlog_cycle.specs.Plans.{Places, of_two, of_three, operand_of, operands_of, read_of, write_of}
 use Rattle.vlog_cycle.specs.Run.{input_names, is_clocked, is_edge, is_pin, masked, memory_step, pin_of, put_read, put_word, readable, word_step, words_of}
-use Rattle.vlog_cycle.specs.Steps.{operand_value, operands_value, read_slot, set_word, word_in, write_slot, written_word}
+use Rattle.vlog_cycle.specs.Steps.{operand_value, operands_value, read_slot, set_word, word_in, write_slot}
 use Rattle.vlog_cycle.specs.Values.{Readable, atom_value, atoms_value}
 use Rattle.vlog_cycle.proofs.Atoms.{number-at, operand-at, slots_of}
 use Rattle.vlog_cycle.proofs.Clocked.{cond-out, cond-same, entry_places, fold-cons_option}
@@ -66,9 +65,9 @@ read-placed : (memories : List (List ℕ × List ℕ)) (words : List (List ℕ �
     → read_into (values_of words) (values_of memories) (slots_of words target) (slots_of memories memory) address ≡ values_of (put_read words target (value_in memories memory) address)
 read-placed memories words target memory address =
     let by_slot : (found : Option ℕ) → read_into (values_of words) (values_of memories) (slots_of words target) found address
-        ≡ values_of (put_read words target (option_map (λ slot. get_or (values_of memories) slot []) found) address) =
+    ≡ values_of (put_read words target (option_map (λ slot. get_or (values_of memories) slot []) found) address) =
     λ found. elim found as (λ f. read_into (values_of words) (values_of memories) (slots_of words target) f address
-        ≡ values_of (put_read words target (option_map (λ slot. get_or (values_of memories) slot []) f) address)) [
+    ≡ values_of (put_read words target (option_map (λ slot. get_or (values_of memories) slot []) f) address)) [
       | Some place ↦ sym (put-slots words target (word_in (values_of memories) place address))
       | None ↦ refl
     ] in
@@ -155,11 +154,11 @@ write-placed before memories memory address mask bits named =
     let here : value_in memories memory ≡ option_map (λ slot. get_or (values_of memories) slot []) (slots_of before memory) =
     value_in-slots memories memory [] ∙ ap (λ names. option_map (λ slot. get_or (values_of memories) slot []) (value_in (numbered 0 names) memory)) named in
     let by_slot : (found : Option ℕ) → write_into (values_of memories) (values_of before) found address mask bits
-        ≡ option_map_or (λ slot. set (values_of memories) slot (set (unwrap_or (option_map (λ s. get_or (values_of memories) s []) found) []) address
-        (masked (get_or (unwrap_or (option_map (λ s. get_or (values_of before) s []) found) []) address 0) mask bits))) found (values_of memories) =
+    ≡ option_map_or (λ slot. set (values_of memories) slot (set (unwrap_or (option_map (λ s. get_or (values_of memories) s []) found) []) address
+    (masked (get_or (unwrap_or (option_map (λ s. get_or (values_of before) s []) found) []) address 0) mask bits))) found (values_of memories) =
     λ found. elim found as (λ f. write_into (values_of memories) (values_of before) f address mask bits
-        ≡ option_map_or (λ slot. set (values_of memories) slot (set (unwrap_or (option_map (λ s. get_or (values_of memories) s []) f) []) address
-        (masked (get_or (unwrap_or (option_map (λ s. get_or (values_of before) s []) f) []) address 0) mask bits))) f (values_of memories)) [
+    ≡ option_map_or (λ slot. set (values_of memories) slot (set (unwrap_or (option_map (λ s. get_or (values_of memories) s []) f) []) address
+    (masked (get_or (unwrap_or (option_map (λ s. get_or (values_of before) s []) f) []) address 0) mask bits))) f (values_of memories)) [
       | Some place ↦ refl
       | None ↦ refl
     ] in

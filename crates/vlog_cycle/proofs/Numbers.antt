@@ -1,7 +1,7 @@
 -- The number of bits, and the bits of a number.
-use Rattle.std.proofs.Common.{◌≡◌, ℕ, zero, suc, ◌+◌, ◌-◌, ◌*◌, ◌/◌, ◌%◌, ◌^◌, ◌<◌, ◌≤◌, Bool, true, false, cond, List, [], ◌∷◌, length, drop, get_or, refl, sym, ap, ◌∙◌, subst, arith, eqb, pow-suc, pow_mono, add-one, length-drop}
+use Rattle.std.proofs.Common.{◌≡◌, ℕ, zero, suc, ◌+◌, ◌-◌, ◌*◌, ◌%◌, ◌^◌, ◌<◌, ◌≤◌, Bool, true, false, cond, List, [], ◌∷◌, length, drop, get_or, refl, ap, ◌∙◌, subst, arith, eqb, pow-suc, pow_mono, length-drop}
 use Rattle.std.specs.Prelude.{map}
-use Rattle.std.proofs.lemmas.List.{drop_more, get_or_read, length-map, drop_all}
+use Rattle.std.proofs.lemmas.List.{drop_more, length-map, drop_all}
 use Rattle.std.proofs.Math.Nat.{div-eq_of_lt}
 use Rattle.vlog_cycle.specs.Values.{bit_of, number_of}
 use mir.Val.{bool_byte}

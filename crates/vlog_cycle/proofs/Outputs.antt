@@ -1,19 +1,18 @@
 -- Outputs over slots have the values of their atoms.
-use Rattle.std.proofs.Common.{◌≡◌, ℕ, Bool, true, false, cond, List, [], ◌∷◌, ◌++◌, ap, ap₂, flat_map, fold, refl, sym, ◌∙◌}
+use Rattle.std.proofs.Common.{◌≡◌, ℕ, Bool, true, false, cond, List, [], ◌∷◌, ◌++◌, ap, ap₂, flat_map, fold, refl, ◌∙◌}
 use Rattle.std.specs.Prelude.{bytes_eq, map}
 use Rattle.std.proofs.lemmas.List.{map-append}
-use Rattle.vlog_module.specs.declared.atoms.Atom.{Atom}
 use Rattle.vlog_module.specs.declared.item.Item.{Item}
 use Rattle.vlog_module.specs.declared.item.Item.TheVariants.{Assign}
 use Rattle.vlog_module.specs.declared.modules.Port.{Port}
 use Rattle.vlog_cycle.specs.declared.plan.Operand.{Operand}
 use Rattle.vlog_cycle.specs.declared.plan.Operand.TheVariants.{Constant}
 use Rattle.vlog_cycle.specs.Entries.{put}
-use Rattle.vlog_cycle.specs.Named.{names_of, values_of}
+use Rattle.vlog_cycle.specs.Named.{values_of}
 use Rattle.vlog_cycle.specs.Plans.{blank_output, operand_of, output_operand, outputs_of}
 use Rattle.vlog_cycle.specs.Run.{output_start, output_step}
 use Rattle.vlog_cycle.specs.Steps.{operand_value}
-use Rattle.vlog_cycle.specs.Values.{Readable, atom_value}
+use Rattle.vlog_cycle.specs.Values.{Readable}
 use Rattle.vlog_cycle.proofs.Atoms.{operand-at, slots_of}
 
 -- names with the values of their operands
@@ -29,7 +28,7 @@ valued-put : (bits : List Bool) (words : List ℕ) (entries : List (List ℕ × 
 valued-put bits words [] name operand = refl
 valued-put bits words (entry ∷ entries) name operand =
     elim (bytes_eq entry.0 name) as (λ b. valued bits words (cond b ((entry.0, operand) ∷ entries) (entry ∷ put entries name operand))
-        ≡ cond b ((entry.0, operand_value bits words operand) ∷ valued bits words entries) ((entry.0, operand_value bits words entry.1) ∷ put (valued bits words entries) name (operand_value bits words operand))) [
+    ≡ cond b ((entry.0, operand_value bits words operand) ∷ valued bits words entries) ((entry.0, operand_value bits words entry.1) ∷ put (valued bits words entries) name (operand_value bits words operand))) [
       | true ↦ refl
       | false ↦ ap (λ rest. (entry.0, operand_value bits words entry.1) ∷ rest) (valued-put bits words entries name operand)
     ]

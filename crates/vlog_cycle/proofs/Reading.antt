@@ -1,6 +1,6 @@
 -- What a runner's slots have is what the entry has.
 use Rattle.std.proofs.Common.{◌≡◌, ◌≤◌, ◌+◌, append_assoc, arith, drop, length-append, take, ℕ, Bool, false, List, [], ◌∷◌, ◌++◌, Option, Some, None, ap, ap₂, get_or, length, refl, subst, sym, ◌∙◌}
-use Rattle.std.specs.Prelude.{◌||◌, bytes_eq, cond, is_some, map, true}
+use Rattle.std.specs.Prelude.{◌||◌, bytes_eq, cond, is_some, true}
 use Rattle.std.specs.Option.{option_map}
 use Rattle.std.proofs.lemmas.List.{drop_at, length-map, take_at}
 use Rattle.vlog_module.specs.Maps.{value_in}
@@ -8,11 +8,10 @@ use Rattle.vlog_module.specs.Parts.{Parts}
 use Rattle.vlog_cycle.specs.declared.runner.Runner.{Runner}
 use Rattle.vlog_cycle.specs.Entries.{Entry}
 use Rattle.vlog_cycle.specs.Found.{places_in}
-use Rattle.vlog_cycle.specs.ModuleSlots.{IsNamed, memory_names, places_of, register_names, word_names}
+use Rattle.vlog_cycle.specs.ModuleSlots.{IsNamed, memory_names, register_names, word_names}
 use Rattle.vlog_cycle.specs.Named.{has_name, names_of, values_of}
-use Rattle.vlog_cycle.specs.Numbered.{numbered}
 use Rattle.vlog_cycle.specs.Plans.{Places}
-use Rattle.vlog_cycle.specs.Run.{input_names, readable}
+use Rattle.vlog_cycle.specs.Run.{input_names}
 use Rattle.vlog_cycle.specs.Showing.{Shows}
 use Rattle.vlog_cycle.specs.Steps.{word_in}
 use Rattle.vlog_cycle.proofs.Clocked.{entry_places}
@@ -72,8 +71,8 @@ registers-read runner m entry shows =
       ordered = omega (arith, count, end, length-append inputs registers);
       within = omega (arith, end, ap length bits, length-append (inputs ++ registers) wires);
       are = ap (λ list. drop runner.input_count (take runner.first_wire list)) bits
-      ∙ ap (drop runner.input_count) (take_at (inputs ++ registers) wires runner.first_wire end)
-      ∙ drop_at inputs registers runner.input_count count;
+          ∙ ap (drop runner.input_count) (take_at (inputs ++ registers) wires runner.first_wire end)
+          ∙ drop_at inputs registers runner.input_count count;
     }
 
 -- ---- which names have values

@@ -1,8 +1,8 @@
 -- Wires over slots.
-use Rattle.std.proofs.Common.{◌≡◌, ℕ, ◌+◌, ◌<◌, Bool, List, [], ◌∷◌, ◌++◌, Option, append_assoc, append-nil, ap, arith, ap₂, flat_map, fold, get_or, length, refl, set, sym, take, ◌∙◌}
+use Rattle.std.proofs.Common.{◌≡◌, ℕ, ◌+◌, ◌<◌, Bool, List, [], ◌∷◌, ◌++◌, Option, append_assoc, append-nil, ap, arith, ap₂, fold, get_or, length, set, sym, take, ◌∙◌}
 use Rattle.std.proofs.lemmas.List.{take_more, map_push, set_at, length-map}
 use Rattle.vlog_module.specs.declared.item.Item.{Item}
-use Rattle.vlog_module.specs.declared.item.Item.TheVariants.{Register, Word, Memory, Wire, Assign, Flip, Read, Write, Start}
+use Rattle.vlog_module.specs.declared.item.Item.TheVariants.{Wire}
 use Rattle.vlog_module.specs.Maps.{value_in}
 use Rattle.vlog_cycle.specs.Named.{names_of, values_of}
 use Rattle.vlog_cycle.specs.Numbered.{numbered}
@@ -11,7 +11,7 @@ use Rattle.vlog_cycle.specs.Run.{wire_step}
 use Rattle.vlog_cycle.specs.Steps.{rule_value, wire_slot}
 use Rattle.vlog_cycle.specs.Values.{Readable, right_value}
 use Rattle.vlog_cycle.proofs.Atoms.{rule-same, slots_of}
-use Rattle.vlog_cycle.specs.ModuleSlots.{wire_names, wire_start}
+use Rattle.vlog_cycle.specs.ModuleSlots.{wire_names}
 
 -- the wires of one item more
 pub wires_of-push : (words : List ℕ → Option ℕ) (names : List (List ℕ)) (items : List Item) (item : Item)

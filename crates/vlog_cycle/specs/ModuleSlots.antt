@@ -1,5 +1,5 @@
 -- The slots of a module's names, and the module's items over them.
-use Rattle.std.specs.Prelude.{◌≡◌, ℕ, Bool, false, List, [], ◌∷◌, ◌++◌, flat_map, length, map}
+use Rattle.std.specs.Prelude.{◌≡◌, ℕ, Bool, false, List, [], ◌∷◌, ◌++◌, flat_map, length}
 use Rattle.std.specs.List.{filter_map}
 use Rattle.vlog_module.specs.declared.item.Item.{Item}
 use Rattle.vlog_module.specs.declared.item.Item.TheVariants.{Wire}
@@ -10,7 +10,7 @@ use Rattle.vlog_cycle.specs.Entries.{Entry}
 use Rattle.vlog_cycle.specs.Numbered.{numbered}
 use Rattle.vlog_cycle.specs.Named.{names_of, values_of}
 use Rattle.vlog_cycle.specs.Plans.{Places, flip_of, outputs_of, read_of, wires_of, write_of}
-use Rattle.vlog_cycle.specs.Run.{input_names, memory_start, readable, register_start, word_start}
+use Rattle.vlog_cycle.specs.Run.{input_names, memory_start, register_start, word_start}
 
 -- ---- the names of a module
 

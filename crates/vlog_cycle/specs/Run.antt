@@ -1,6 +1,5 @@
 -- The run of a module over a list of events: what it holds after the start, and after each event.
 use Rattle.std.specs.Prelude.{ℕ, zero, suc, ◌-◌, Bool, true, false, not, ◌&&◌, ◌==◌, List, [], ◌∷◌, ◌++◌, Option, Some, None, fold, map, flat_map, get_or, replicate, slice_set, unwrap_or, bit_and, bit_or, if◌then◌else◌}
-use Rattle.vlog_module.specs.declared.atoms.Atom.{Atom}
 use Rattle.vlog_module.specs.declared.item.Item.{Item}
 use Rattle.vlog_module.specs.declared.item.Item.TheVariants.{Register, Word, Memory, Wire, Assign, Flip, Read, Write, Start}
 use Rattle.vlog_module.specs.declared.modules.Port.{Port}
@@ -58,7 +57,7 @@ settled m inputs registers words memories =
       memories = memories;
       wires = wires;
       outputs = fold (output_step (record { bits = inputs ++ registers ++ wires; words = words }))
-      (flat_map output_start m.ports) m.items;
+          (flat_map output_start m.ports) m.items;
     }
 
 -- ---- the start

@@ -1,5 +1,5 @@
 -- Names and their slots.
-use Rattle.std.specs.Prelude.{◌≡◌, ℕ, ◌+◌, List, [], ◌∷◌, Option, bytes_eq}
+use Rattle.std.specs.Prelude.{◌≡◌, ℕ, List, Option, bytes_eq}
 use Rattle.std.specs.Map.{lookup}
 use Rattle.vlog_module.specs.Maps.{value_in}
 use Rattle.vlog_cycle.specs.declared.slots.Slots.{Slots}

@@ -1,5 +1,5 @@
 -- What items over slots do to the bits, words and memories of the slots.
-use Rattle.std.specs.Prelude.{ℕ, ◌+◌, ◌*◌, Bool, false, not, ◌&&◌, ◌||◌, ◌==◌, List, [], ◌∷◌, fold, map, get_or, slice_set, if◌then◌else◌}
+use Rattle.std.specs.Prelude.{ℕ, Bool, false, ◌&&◌, ◌==◌, List, [], fold, map, get_or, slice_set, if◌then◌else◌}
 use Rattle.vlog_cycle.specs.declared.event.Event.{Event}
 use Rattle.vlog_cycle.specs.declared.plan.Operand.{Operand}
 use Rattle.vlog_cycle.specs.declared.plan.Operand.TheVariants.{Constant, Slot, Part}

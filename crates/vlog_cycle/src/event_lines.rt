@@ -25,7 +25,11 @@ pub fn read_events(alloc: Global, module: &Module, bytes: &[u8]) -> Result<Vec<E
 }
 
 /// The events of lines.
-pub(crate) fn read_lines(alloc: Global, pins: &Slots, bytes: &[u8]) -> Result<Vec<Event>, EventFault>
+pub(crate) fn read_lines(
+    alloc: Global,
+    pins: &Slots,
+    bytes: &[u8],
+) -> Result<Vec<Event>, EventFault>
     ensures read { IfOk result (λ events. events.items ≡ flat_map (line_event (slot_of pins.now)) (lines_of bytes.now)) }
     ensures accepted { OnOk result (first_fault (slot_of pins.now) (lines_of bytes.now) ≡ None) }
     ensures refused { IfErr result (TellsEvent (first_fault (slot_of pins.now) (lines_of bytes.now))) }

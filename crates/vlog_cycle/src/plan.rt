@@ -7,10 +7,7 @@ pub(crate) enum Operand {
     /// The bit of a slot.
     Slot(usize),
     /// Bit `k` of a register of 16 bits.
-    Part {
-        word: usize,
-        k: u8,
-    },
+    Part { word: usize, k: u8 },
 }
 
 /// A table of 16 bits and its inputs, the lowest first.

@@ -189,7 +189,11 @@ fn run_reads(
             && operand_value(bits, words, read.clock_enable)
             && operand_value(bits, words, read.enable)
         {
-            let word = word_in(memories, read.memory, address_of(bits, words, &read.address));
+            let word = word_in(
+                memories,
+                read.memory,
+                address_of(bits, words, &read.address),
+            );
             set_word_at(next, read.target, word);
         }
     }
@@ -213,8 +217,16 @@ fn masked(word: u16, mask: u16, bits: u16) -> u16
 fn written_word(write: &Write, bits: &[bool], words: &[u16], memories: &[Memory]) -> u16
     ensures { result ≡ written_word bits.now words.now memories.now write.now }
 {
-    let old = word_in(memories, write.memory, address_of(bits, words, &write.address));
-    masked(old, word_of(bits, words, &write.mask), word_of(bits, words, &write.bits))
+    let old = word_in(
+        memories,
+        write.memory,
+        address_of(bits, words, &write.address),
+    );
+    masked(
+        old,
+        word_of(bits, words, &write.mask),
+        word_of(bits, words, &write.bits),
+    )
 }
 
 /// Writes down the word of each write.
@@ -260,7 +272,12 @@ fn run_writes(
             && operand_value(bits, words, write.enable)
         {
             let word = word_at(written, place);
-            set_word(memories, write.memory, address_of(bits, words, &write.address), word);
+            set_word(
+                memories,
+                write.memory,
+                address_of(bits, words, &write.address),
+                word,
+            );
         }
     }
 }

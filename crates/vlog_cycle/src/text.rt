@@ -43,11 +43,7 @@ fn push_line(text: &mut Vec<u8>, runner: &Runner, registers: bool) -> Result<(),
 }
 
 /// Adds the registers, where they are asked for.
-fn push_registers(
-    text: &mut Vec<u8>,
-    runner: &Runner,
-    registers: bool,
-) -> Result<(), AllocError>
+fn push_registers(text: &mut Vec<u8>, runner: &Runner, registers: bool) -> Result<(), AllocError>
     ensures { (m : Parts) (entry : Entry) → Shows runner.now m entry
         → OnOk result (text.new.items ≡ text.old.items ++ (if registers then registers_text entry else [])) }
 {

@@ -1,4 +1,4 @@
-use Rattle.std.proofs.Common.{◌≡◌, ℕ, ◌+◌, ◌∷◌, ◌++◌, [], ap, arith, length, sym, subst}
+use Rattle.std.proofs.Common.{◌≡◌, ◌+◌, ◌∷◌, ◌++◌, [], arith, length, sym, subst}
 use Rattle.vlog_module.specs.declared.item.Item.{Item}
 use Rattle.vlog_cycle.specs.Named.{names_of}
 use Rattle.vlog_cycle.specs.Numbered.{numbered}

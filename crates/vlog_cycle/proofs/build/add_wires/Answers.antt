@@ -1,4 +1,4 @@
-use Rattle.std.proofs.Common.{◌≡◌, ◌+◌, ◌∷◌, ◌++◌, [], ℕ, Bool, List, append_assoc, append-nil, ap, arith, flat_map, length, subst, sym, take, take_all, ◌∙◌}
+use Rattle.std.proofs.Common.{◌∷◌, ◌++◌, [], ℕ, Bool, List, append_assoc, append-nil, ap, arith, flat_map, subst, sym, take, take_all, ◌∙◌}
 use Rattle.std.proofs.lemmas.List.{map-append}
 use Rattle.vlog_cycle.specs.Held.{Holds}
 use Rattle.vlog_cycle.specs.Named.{names_of}

@@ -1,4 +1,4 @@
-use Rattle.std.proofs.Common.{◌≡◌, ℕ, Bool, List, [], ◌++◌, flat_map, length, take}
+use Rattle.std.proofs.Common.{◌≡◌, ℕ, Bool, List, ◌++◌, flat_map, take}
 use Rattle.vlog_cycle.specs.Held.{Holds}
 use Rattle.vlog_cycle.specs.Named.{names_of}
 use Rattle.vlog_cycle.specs.Plans.{wires_of}

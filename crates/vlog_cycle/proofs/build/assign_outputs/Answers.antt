@@ -1,6 +1,5 @@
 use Rattle.std.proofs.Common.{arith, ap, fold, subst, sym, ◌∙◌, take_all}
 use Rattle.std.proofs.lemmas.List.Sums.{fold_more}
-use Rattle.vlog_cycle.specs.declared.plan.Operand.{Operand}
 use Rattle.vlog_cycle.specs.Slots.{slot_of}
 use Rattle.vlog_cycle.specs.Held.{Holds}
 use Rattle.vlog_cycle.specs.Plans.{output_operand}

@@ -1,8 +1,7 @@
-use Rattle.std.proofs.Common.{◌≡◌, ◌+◌, ◌≤◌, ◌++◌, ◌∷◌, [], flat_map, get_or, length, drop, take, take_all, refl, sym, ap, ap₂, ◌∙◌, subst, arith}
-use Rattle.std.specs.Prelude.{None, IfOk, OnOk, IfErr}
+use Rattle.std.proofs.Common.{flat_map, take_all, refl, sym, ap, ◌∙◌, arith}
 use Rattle.std.proofs.lemmas.Result.{err_from_is_err_and}
-use Rattle.text_lines.specs.Lines.{lines_of, line_at}
-use Rattle.vlog_cycle.specs.Events.{TellsEvent, first_fault, line_event, line_fault}
+use Rattle.text_lines.specs.Lines.{lines_of}
+use Rattle.vlog_cycle.specs.Events.{line_event}
 use Rattle.vlog_cycle.specs.Slots.{slot_of}
 use Rattle.vlog_cycle.proofs.EventLines.{cut, cut-end, fine-all, fine-more, fine-none, lines-more, told-first}
 use Rattle.vlog_cycle.proofs.event_lines.read_lines.Goals as goal

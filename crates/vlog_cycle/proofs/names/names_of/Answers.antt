@@ -1,4 +1,4 @@
-use Rattle.std.proofs.Common.{◌≡◌, ℕ, Bool, List, [], ◌∷◌, ◌++◌, ap, ap₂, arith, flat_map, fold, length, subst, sym, ◌∙◌, refl}
+use Rattle.std.proofs.Common.{◌≡◌, List, ◌++◌, ap, arith, flat_map, fold, length, subst, sym, ◌∙◌}
 use Rattle.std.specs.Prelude.{All}
 use Rattle.vlog_module.specs.declared.item.Item.{Item}
 use Rattle.vlog_module.specs.declared.modules.Port.{Port}

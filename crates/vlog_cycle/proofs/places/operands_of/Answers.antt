@@ -1,4 +1,4 @@
-use Rattle.std.proofs.Common.{◌≡◌, length, arith, length-set, ◌∙◌}
+use Rattle.std.proofs.Common.{arith, length-set, ◌∙◌}
 use Rattle.vlog_cycle.specs.Plans.{operand_of}
 use Rattle.vlog_cycle.specs.Slots.{slot_of}
 use Rattle.vlog_cycle.proofs.Filling.{filled-next, filled-all}

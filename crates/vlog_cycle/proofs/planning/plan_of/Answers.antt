@@ -1,11 +1,10 @@
-use Rattle.std.proofs.Common.{◌≡◌, List, ap, ap₂, flat_map, fold, subst, sym, ◌∙◌}
+use Rattle.std.proofs.Common.{ap, ap₂, flat_map, subst, sym, ◌∙◌}
 use Rattle.std.specs.Prelude.{All}
 use Rattle.std.specs.List.{filter_map}
 use Rattle.vlog_module.specs.WellFormed.{IsShaped}
 use Rattle.vlog_cycle.specs.Found.{places_in}
-use Rattle.vlog_cycle.specs.Held.{Holds}
 use Rattle.vlog_cycle.specs.Named.{values_of}
-use Rattle.vlog_cycle.specs.Plans.{Places, blank_output, flip_of, output_operand, outputs_of, read_of, write_of}
+use Rattle.vlog_cycle.specs.Plans.{Places, blank_output, flip_of, outputs_of, read_of, write_of}
 use Rattle.vlog_cycle.proofs.Beginning.{all-shaped}
 use Rattle.vlog_cycle.proofs.planning.plan_of.Goals as goal
 
@@ -27,8 +26,8 @@ returns c =
     record {
       wires = c.requires.wires;
       outputs = (c.assign_outputs.ensures (flat_map blank_output c.ports.result.now) c.in_ok-outputs.ensures).values
-      ∙ ap₂ (λ ports list. values_of (outputs_of found.bits found.words ports list)) c.ports.ensures.ports items
-      ∙ ap (λ (p : Places). values_of (outputs_of p.bits p.words m.ports m.items)) at;
+          ∙ ap₂ (λ ports list. values_of (outputs_of found.bits found.words ports list)) c.ports.ensures.ports items
+          ∙ ap (λ (p : Places). values_of (outputs_of p.bits p.words m.ports m.items)) at;
       flips = c.in_ok-flips_of.ensures ∙ ap₂ (λ (p : Places) list. filter_map (flip_of p) list) at items;
       reads = c.in_ok-reads_of.ensures ∙ ap₂ (λ (p : Places) list. filter_map (read_of p) list) at items;
       writes = c.in_ok-writes_of.ensures ∙ ap₂ (λ (p : Places) list. filter_map (write_of p) list) at items;

@@ -1,4 +1,4 @@
-use Rattle.std.proofs.Common.{◌≡◌, ◌++◌, ◌∷◌, [], List, ℕ, Bool, append_assoc, ap, ◌∙◌, cond}
+use Rattle.std.proofs.Common.{◌++◌, ◌∷◌, [], List, Bool, append_assoc, ap, ◌∙◌, cond}
 use Rattle.std.specs.Prelude.{map}
 use Rattle.std.proofs.lemmas.Result.{on_ok_weaker}
 use Rattle.vlog_cycle.specs.Named.{values_of}

@@ -1,4 +1,4 @@
-use Rattle.std.proofs.Common.{◌≡◌, ◌<◌, ◌++◌, [], List, ℕ, false, get_or, append-nil, ap, arith, flat_map, fold, length, subst, sym, take, take_all, ◌∙◌}
+use Rattle.std.proofs.Common.{◌<◌, ◌++◌, false, get_or, append-nil, ap, arith, flat_map, length, subst, sym, take, take_all, ◌∙◌}
 use Rattle.vlog_cycle.specs.declared.event.Event.{Event}
 use Rattle.vlog_cycle.specs.Run.{followed, module_run, run_from, start}
 use Rattle.vlog_cycle.specs.Showing.{Shows}
@@ -13,8 +13,8 @@ loop-event-init c =
     record {
       shows = c.in_ok-runner.ensures;
       text = c.in_ok-push_line.ensures m (start m) c.in_ok-runner.ensures
-      ∙ ap (λ text. text ++ entry_line c.args.registers (start m)) c.new-text.ensures.items
-      ∙ sym (append-nil (entry_line c.args.registers (start m)));
+          ∙ ap (λ text. text ++ entry_line c.args.registers (start m)) c.new-text.ensures.items
+          ∙ sym (append-nil (entry_line c.args.registers (start m)));
     }
 
 pub loop-event-preserved : goal.loop-event-preserved
@@ -30,8 +30,8 @@ loop-event-preserved c =
     record {
       shows = subst (λ entry. Shows c.event.new.self m entry) (sym (last-more m (start m) events i none within)) shows;
       text = c.in_ok-push_line-2.ensures m next shows
-      ∙ ap (λ text. text ++ entry_line c.args.registers next) c.loop-event.invariant.text
-      ∙ sym (text-more m (start m) events i none c.args.registers within);
+          ∙ ap (λ text. text ++ entry_line c.args.registers next) c.loop-event.invariant.text
+          ∙ sym (text-more m (start m) events i none c.args.registers within);
     }
 
 pub returns : goal.returns

@@ -1,4 +1,4 @@
-use Rattle.std.proofs.Common.{refl, arith, ◌∙◌}
+use Rattle.std.proofs.Common.{arith}
 use Rattle.vlog_cycle.proofs.Holding.{Holds-push}
 use Rattle.vlog_cycle.proofs.named.Named.add.Goals as goal
 

@@ -1,8 +1,7 @@
-use Rattle.std.proofs.Common.{◌≡◌, ℕ, Bool, true, false, List, ap, ap₂, arith, get_or, length, refl, subst, sym, ◌∙◌}
+use Rattle.std.proofs.Common.{false, ap, ap₂, arith, get_or, sym, ◌∙◌}
 use Rattle.std.proofs.lemmas.List.{with_items_is}
 use Rattle.vlog_cycle.specs.declared.event.Event.{Event}
-use Rattle.vlog_cycle.specs.Entries.{Entry}
-use Rattle.vlog_cycle.specs.Run.{changed, followed, input_bit, is_same_bit}
+use Rattle.vlog_cycle.specs.Run.{changed, followed, is_same_bit}
 use Rattle.vlog_cycle.specs.Steps.{operand_value}
 use Rattle.std.specs.Prelude.{map}
 use Rattle.vlog_cycle.proofs.Entering.{Changed, changed-values, followed-changed, followed-same, input-slot}
@@ -49,5 +48,5 @@ returns c m entry shows within =
       words = with_items_is r.words c.change.new.words (omega (arith, c.change.auto.words, r.words.ok.0)) ∙ c.change.ensures.words ∙ after.words_are;
       memories = with_items_is r.memories c.change.new.memories (omega (arith, c.change.auto.memories, r.memories.ok.0)) ∙ c.change.ensures.memories ∙ after.memories_are;
       outputs = with_items_is r.outputs c.change.new.outputs (omega (arith, c.change.auto.outputs, r.outputs.ok.0)) ∙ c.change.ensures.outputs
-      ∙ ap₂ (λ b w. map (operand_value b w) r.plan.outputs.items) c.change.ensures.bits c.change.ensures.words ∙ after.outputs_are;
+          ∙ ap₂ (λ b w. map (operand_value b w) r.plan.outputs.items) c.change.ensures.bits c.change.ensures.words ∙ after.outputs_are;
     })

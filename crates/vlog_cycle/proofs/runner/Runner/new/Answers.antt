@@ -1,4 +1,4 @@
-use Rattle.std.proofs.Common.{◌≡◌, ℕ, Bool, List, ap, ap₂, arith, fold, length, refl, subst, sym, ◌∙◌}
+use Rattle.std.proofs.Common.{◌≡◌, ap, ap₂, arith, fold, ◌∙◌}
 use Rattle.std.specs.Prelude.{map}
 use Rattle.std.proofs.lemmas.List.{with_items_is}
 use Rattle.vlog_cycle.specs.Run.{start, settled}
@@ -29,6 +29,6 @@ returns c =
       words = begun.words;
       memories = begun.memories;
       outputs = c.in_ok-outputs.ensures
-      ∙ ap₂ (λ b w. map (operand_value b w) plan.outputs.items) (c.deref-3.ensures.value ∙ written ∙ settled_bits) c.deref-4.ensures.value
-      ∙ after.outputs_are;
+          ∙ ap₂ (λ b w. map (operand_value b w) plan.outputs.items) (c.deref-3.ensures.value ∙ written ∙ settled_bits) c.deref-4.ensures.value
+          ∙ after.outputs_are;
     }

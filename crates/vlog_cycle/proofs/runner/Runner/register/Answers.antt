@@ -1,4 +1,4 @@
-use Rattle.std.proofs.Common.{◌≡◌, Bool, List, ℕ, Option, Some, None, ap, false, get_or, sym, ◌∙◌}
+use Rattle.std.proofs.Common.{Bool, Some, None, ap, false, get_or, sym, ◌∙◌}
 use Rattle.std.specs.Option.{option_map}
 use Rattle.vlog_cycle.proofs.Reading.{register-read, register-declared}
 use Rattle.vlog_cycle.proofs.runner.Runner.register.Goals as goal

@@ -1,4 +1,4 @@
-use Rattle.std.proofs.Common.{◌≡◌, List, ℕ, Option, Some, None, ap, get_or, sym, ◌∙◌}
+use Rattle.std.proofs.Common.{ℕ, Some, None, ap, sym, ◌∙◌}
 use Rattle.std.specs.Option.{option_map}
 use Rattle.vlog_cycle.specs.Steps.{word_in}
 use Rattle.vlog_cycle.proofs.Reading.{memory-read, memory-declared}

@@ -17,7 +17,7 @@ use Rattle.chipdb_reader.specs.declared.items.LinkLine.{LinkLine}
 use Rattle.chipdb_reader.specs.Database.{Link}
 use Rattle.chipdb_reader.specs.Fit.{IsLink}
 use Rattle.chipdb_reader.specs.Kept.{link_line, link_lines}
-use Rattle.fabric_rules.specs.On.{is_link_on}
+use Rattle.fabric_rules.specs.On.{bits_at, is_link_on}
 use Rattle.fabric_rules.specs.Fabric.{numbered, numbered_from}
 use Rattle.net_extract.specs.declared.on.OnLink.{OnLink}
 use Rattle.net_extract.specs.Found.{on_link, links_on}
@@ -62,16 +62,13 @@ pointwise-tells result bits values tells =
           ]
     ]
 
--- a link is on where the bits of its tile are the lowest bits of its values
-pub link-tells : (image : Configuration) (table : List RowCol) (line : LinkLine) (device : DeviceName) (bits : List RowCol) (result : Bool)
-    → device ≡ image.device → bits ≡ bits_named table line.bits
-    → IsTrue result ↔ (listed_bits device image.cram line.x line.y bits ≡ word_bits (length bits) line.values)
-    → result ≡ is_link_on image (link_line table line)
-unfolding is_link_on
-link-tells image table line device bits result device_is bits_is tells =
-    pointwise-tells result (listed_bits device image.cram line.x line.y bits) (word_bits (length bits) line.values) tells
-    ∙ ap₂ (λ device bits. pointwise beq (listed_bits device image.cram line.x line.y bits) (word_bits (length bits) line.values)) device_is bits_is
-    ∙ ap (λ values. pointwise beq (listed_bits image.device image.cram line.x line.y (bits_named table line.bits)) values) (sym (low_bits-is (length (bits_named table line.bits)) line.values))
+-- bits have the values of a number where they are its lowest bits
+pub values-tell : (image : Configuration) (x y : ℕ) (device : DeviceName) (bits : List RowCol) (values : ℕ) (result : Bool) → device ≡ image.device
+    → IsTrue result ↔ (listed_bits device image.cram x y bits ≡ word_bits (length bits) values)
+    → result ≡ pointwise beq (bits_at image x y bits) (low_bits (length bits) values)
+values-tell image x y device bits values result device_is tells =
+    pointwise-tells result (listed_bits device image.cram x y bits) (word_bits (length bits) values) tells
+    ∙ ap₂ (λ device number. pointwise beq (listed_bits device image.cram x y bits) number) device_is (sym (low_bits-is (length bits) values))
 
 -- ---- one link after the other
 

@@ -1,13 +1,18 @@
 // Links that are on.
-ghost use Rattle.std.specs.Prelude.{◌≡◌, All, IfOk};
+ghost use Rattle.std.specs.Prelude.{◌≡◌, ◌≤◌, length, All, IfOk};
+ghost use Rattle.std.specs.Bool.{beq};
+ghost use Rattle.std.specs.Cmp.Lexicographic.{pointwise};
+ghost use Rattle.ice_image.specs.Contents.{IsBitOfTile};
 ghost use Rattle.ice_image.specs.Either.{configuration_of};
+ghost use Rattle.chipdb_lines.specs.Kept.{low_bits};
 ghost use Rattle.chipdb_reader.specs.Fit.{IsLink};
 ghost use Rattle.chipdb_reader.specs.Kept.{link_line, link_lines};
-ghost use Rattle.fabric_rules.specs.On.{is_link_on};
+ghost use Rattle.fabric_rules.specs.On.{bits_at, is_link_on};
 ghost use Rattle.net_extract.specs.Found.{links_on};
 
 use chipdb_reader::{ChipDb, LinkLine};
 use ice_image::AnyImage;
+use plane_map::RowCol;
 use std::alloc::{AllocError, Global};
 
 /// A link that is on: its place among the lines of its kind, and its nets.
@@ -18,14 +23,24 @@ pub(crate) struct OnLink {
     pub(crate) dst: u32,
 }
 
+/// Whether these bits of the tile at (x, y) have these values: the first one that of the lowest bit.
+fn have_values(image: &AnyImage, x: u8, y: u8, bits: &[RowCol], values: u64) -> bool
+    requires few { length bits.now ≤ 64 }
+    requires in_tile { All (IsBitOfTile (configuration_of image.now).device x y) bits.now }
+    ensures { result ≡ pointwise beq (bits_at (configuration_of image.now) x y bits.now) (low_bits (length bits.now) values) }
+{
+    let _device = image.device();
+    image.tile_equals(x, y, bits, values)
+}
+
 /// Whether each bit of a link has its value.
+#[tactic(auto, unfolding(fabric_rules::specs::On::is_link_on))]
 fn is_on(db: &ChipDb, image: &AnyImage, link: LinkLine) -> bool
     requires device { db.now.chip.device ≡ (configuration_of image.now).device }
     requires fit { IsLink db.now.chip (link_line db.now.bits link) }
     ensures { result ≡ is_link_on (configuration_of image.now) (link_line db.now.bits link) }
 {
-    let _device = image.device();
-    image.tile_equals(link.x, link.y, db.bits(link.bits), link.values)
+    have_values(image, link.x, link.y, db.bits(link.bits), link.values)
 }
 
 /// A place as it is kept. For one that needs more than 32 bits there is no room.

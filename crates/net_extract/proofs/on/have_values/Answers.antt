@@ -1,0 +1,9 @@
+use Rattle.std.proofs.Common.{sym, ◌∙◌}
+use Rattle.ice_image.specs.Either.{configuration_of}
+use Rattle.net_extract.proofs.Setting.{values-tell}
+use Rattle.net_extract.proofs.on.have_values.Goals as goal
+
+pub returns : goal.returns
+returns c =
+    values-tell (configuration_of c.args.image.now) c.args.x c.args.y _ c.args.bits.now c.args.values c.tile_equals.result
+    (sym c.device-device.ensures.name ∙ c.device-device.ensures.device) c.tile_equals.ensures

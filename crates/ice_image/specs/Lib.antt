@@ -3,4 +3,6 @@ pub mod Configuration
 pub mod Contents
 pub mod Either
 pub mod Extras
+pub mod Owned
+pub mod Planes
 pub mod Written

@@ -1,17 +1,21 @@
 // Images of either device.
-ghost use Rattle.std.specs.Prelude.{◌≡◌, ◌≤◌, ◌↔◌, Some, IfOk, IsTrue, All, length, option_copied};
-ghost use Rattle.bit_plane.specs.BitList.{word_bits};
-ghost use Rattle.plane_map.specs.Layout.{kind_of, columns_at, place_of, IsTileBit, IsInCram};
+ghost use Rattle.std.specs.Prelude.{◌≡◌, ◌+◌, ◌*◌, ◌<◌, ◌≤◌, ◌↔◌, Some, IfOk, IsTrue, All, true, false, length, take, drop, option_copied, MatchOption};
+ghost use Rattle.bit_plane.specs.BitList.{word_bits, bits_of, bytes_of};
+ghost use Rattle.bit_plane.specs.Rows.{flat, rows_of};
+ghost use Rattle.plane_map.specs.Layout.{kind_of, columns_at, place_of, word_place_of, IsTileBit, IsWordBit, IsInCram};
 ghost use Rattle.ice_image.specs.Configuration.{place_bit, with_place_bit, SameBut, blank_image, IsWhole};
 ghost use Rattle.ice_image.specs.Contents.{tile_rows, IsPlaceOfTile, word_value, IsPlaceOfWord, IsBitOfTile, listed_bits};
 ghost use Rattle.ice_image.specs.Either.{configuration_of, device_of};
 ghost use Rattle.ice_image.specs.Extras.{AreSetExtras};
+ghost use Rattle.ice_image.specs.Owned.{is_extra};
+ghost use Rattle.ice_image.specs.Planes.{plane_width, plane_height, rows_of_bank, with_rows};
 
 use crate::comment::Comment;
 use crate::image::Image;
+use crate::planes::PlaneKind;
 use crate::settings::Settings;
 use bit_plane::Tile;
-use plane_map::{DeviceName, Hx1k, Hx8k, Place, RowCol, TileBit, TileKind};
+use plane_map::{DeviceName, Hx1k, Hx8k, Place, RowCol, TileBit, TileKind, WordBit};
 use std::alloc::{AllocError, Global};
 
 /// An image of one of the devices.
@@ -194,6 +198,58 @@ impl AnyImage {
         match self {
             AnyImage::K1(image) => image.set_ram_word(x, y, word, value),
             AnyImage::K8(image) => image.set_ram_word(x, y, word, value),
+        }
+    }
+
+    /// Sets a bit of a word of a RAM.
+    pub fn set_word_bit(&mut self, at: WordBit, bit: bool)
+        requires { IsWordBit (device_of self.old) at }
+        ensures device { device_of self.new ≡ device_of self.old }
+        ensures changed { configuration_of self.new ≡ record (configuration_of self.old) { bram = with_place_bit (configuration_of self.old).bram (word_place_of (device_of self.old) at) bit } }
+    {
+        match self {
+            AnyImage::K1(image) => image.set_word_bit(at, bit),
+            AnyImage::K8(image) => image.set_word_bit(at, bit),
+        }
+    }
+
+    /// The place of the configuration planes with these numbers, where it belongs to no tile.
+    pub fn extra_place(&self, bank: u32, px: u32, py: u32) -> Option<Place>
+        ensures { MatchOption result (is_extra (device_of self.now) (record { bank = bank; px = px; py = py }) ≡ false)
+            (λ at. (is_extra (device_of self.now) at ≡ true) × (at ≡ record { bank = bank; px = px; py = py })) }
+    {
+        match self {
+            AnyImage::K1(image) => image.extra_place(bank, px, py),
+            AnyImage::K8(image) => image.extra_place(bank, px, py),
+        }
+    }
+
+    /// Fills `out` with the bytes of `count` rows of a bank's plane, from row `first` on, the most significant bit of each
+    /// byte first.
+    pub fn rows(&self, kind: PlaneKind, bank: usize, first: usize, count: usize, out: &mut [u8])
+        requires bank { bank < 4 }
+        requires rows { first + count ≤ plane_height kind (device_of self.now) }
+        requires bytes { 8 * length out.old ≡ count * plane_width kind (device_of self.now) }
+        ensures { out.new ≡ bytes_of (length out.old) (flat (take count (drop first (rows_of_bank kind bank (configuration_of self.now))))) }
+    {
+        match self {
+            AnyImage::K1(image) => image.rows(kind, bank, first, count, out),
+            AnyImage::K8(image) => image.rows(kind, bank, first, count, out),
+        }
+    }
+
+    /// Sets `count` rows of a bank's plane, from row `first` on, to the bits of bytes, the most significant bit of each byte
+    /// first.
+    pub fn set_rows(&mut self, kind: PlaneKind, bank: usize, first: usize, count: usize, bytes: &[u8])
+        requires bank { bank < 4 }
+        requires rows { first + count ≤ plane_height kind (device_of self.old) }
+        requires bytes { 8 * length bytes.now ≡ count * plane_width kind (device_of self.old) }
+        ensures device { device_of self.new ≡ device_of self.old }
+        ensures rows { configuration_of self.new ≡ with_rows kind bank first (rows_of (plane_width kind (device_of self.old)) count (bits_of bytes.now)) (configuration_of self.old) }
+    {
+        match self {
+            AnyImage::K1(image) => image.set_rows(kind, bank, first, count, bytes),
+            AnyImage::K8(image) => image.set_rows(kind, bank, first, count, bytes),
         }
     }
 

@@ -17,7 +17,7 @@ use Rattle.ice_image.specs.Contents.{tile_place, tile_rows}
 use Rattle.ice_image.proofs.BankBits.{same_place}
 use Rattle.asc_text.specs.declared.statement.Statement.TheVariants.{Tile, RamData}
 use Rattle.asc_text.specs.Rows.{row_bit}
-use Rattle.asc_text.specs.Extras.{is_same_place, is_owned}
+use Rattle.ice_image.specs.Owned.{is_same_place, is_owned}
 use Rattle.asc_text.specs.Meaning.{sets_place}
 use Rattle.asc_text.specs.Canonical.{row_line}
 use Rattle.asc_text.proofs.PieceRead.{piece_lines, piece_sets}

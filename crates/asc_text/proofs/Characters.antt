@@ -7,16 +7,15 @@ use Rattle.std.proofs.lemmas.List.{get_or_past}
 use Rattle.text_lines.specs.Lines.{lines_of, line_at, trimmed}
 use Rattle.place_search.specs.Places.{any_below, least_below, first_below, or_here, or_else}
 use Rattle.place_search.proofs.Places.{any_below-at, any_below-place, least_below-first, first_below-sum}
-use Rattle.plane_map.specs.Layout.{kind_of, columns_of, columns_in, place_of, word_place_of, px_of, bank_of, ram_of, from_end, grid_height, cram_width, cram_height, bram_width, bram_height, IsTileBit, IsWordBit, IsExtraBit, IsInCram, IsInBram}
+use Rattle.plane_map.specs.Layout.{kind_of, columns_of, columns_in, place_of, word_place_of, cram_width, cram_height, bram_width, bram_height, IsTileBit, IsWordBit, IsExtraBit, IsInCram, IsInBram}
 use Rattle.plane_map.specs.declared.device.DeviceName.{DeviceName}
-use Rattle.plane_map.specs.declared.device.DeviceName.TheVariants.{K1, K8}
 use Rattle.plane_map.specs.declared.tile.TileKind.{TileKind}
 use Rattle.plane_map.specs.declared.tile.TileKind.TheVariants.{Io, Logic, RamB, RamT}
 use Rattle.plane_map.specs.declared.tile.Place.{Place}
 use Rattle.plane_map.specs.declared.tile.TileBit.{TileBit}
 use Rattle.plane_map.specs.declared.tile.WordBit.{WordBit}
-use Rattle.plane_map.proofs.Places.{place_is_only, px_of-in, py_of-is, height_of, height_of-below, tile_bit_is_placed, tile_bit_y_in}
-use Rattle.plane_map.proofs.Words.{word_place_is_only, lower-third}
+use Rattle.plane_map.proofs.Places.{place_is_only}
+use Rattle.plane_map.proofs.Words.{word_place_is_only}
 use Rattle.ice_image.specs.Configuration.{Configuration}
 use Rattle.ice_image.specs.Either.{configuration_of}
 use Rattle.ice_image.specs.Contents.{tile_place, word_bit_place}
@@ -31,11 +30,12 @@ use Rattle.asc_text.specs.declared.file.Symbol.{Symbol as NetName}
 use Rattle.asc_text.specs.Statements.{statement_in, begins_with_dot}
 use Rattle.asc_text.specs.Rows.{row_bit, memory_bit, is_memory_line}
 use Rattle.asc_text.specs.Blocks.{has_rows, depth_after, depth_at, statement_over, statement_at, device_in, device_before}
-use Rattle.asc_text.specs.Extras.{is_same_place, is_owned, is_extra}
+use Rattle.ice_image.specs.Owned.{is_same_place, is_owned, is_extra}
 use Rattle.asc_text.specs.Faults.{cause_if, is_same_kind, kind_cause, tile_cause, missing_device, unknown_device, extra_cause, setting_cause, stands_before, names_tile, names_ram, statement_cause, cause_at, fault_at, fault_with, asc_fault_of}
 use Rattle.asc_text.specs.Meaning.{sets_place, is_set_before, sets_word_place, is_word_set_before, image_before, image_for, asc_image_of, AscMeans}
 use Rattle.asc_text.specs.Characters.{tile_statement, ram_statement, character_below, character_of, names_extra, is_named_extra, digit_bit_below, digit_bit_of, HasBits}
-use Rattle.asc_text.proofs.Owners.{is_same_place-same, is_same_place-self, is_owned-bit}
+use Rattle.ice_image.proofs.PlacesIn.{tile_in, word_in}
+use Rattle.ice_image.proofs.Owned.{is_same_place-same, is_same_place-self, is_owned-bit}
 use Rattle.asc_text.proofs.PlanesFrom.{place_bit-planes_from}
 
 -- ---- tests and values
@@ -612,42 +612,6 @@ word_bits lines device at accepted is_bit =
     let found = any_below-place (length lines) (λ k. sets_word_place device (statement_over lines k) (depth_at lines k) (trimmed (line_at lines k)) (word_place_of device at)) set in
     set_digit lines device at found.0 (statement_over lines found.0) accepted is_bit found.1 refl found.2)
     (λ reads. digit_sets lines device at (ram_statement lines at.x at.y) accepted is_bit refl reads)
-
--- ---- places
-
--- there are four banks
-bank_below : (device : DeviceName) (x y : ℕ) → bank_of device x y < 4
-bank_below device x y = grind (arith, nat_tests)
-
--- a row of tiles lies in the planes
-row_below : (device : DeviceName) (y height : ℕ) → y < grid_height device → height < 16 → 16 * from_end device y + height < cram_height device
-row_below K1 y height inside within = grind (arith, nat_tests)
-row_below K8 y height inside within = grind (arith, nat_tests)
-
--- a bit of a tile lies in the planes
-tile_in : (device : DeviceName) (bit : TileBit) → IsTileBit device bit → IsInCram device (place_of device bit)
-unfolding place_of
-tile_in device bit is =
-    let placed = tile_bit_is_placed device bit is in
-    record {
-      bank_in = bank_below device bit.x bit.y;
-      px_in = px_of-in device bit is (px_of device bit) refl;
-      py_in = omega (arith, py_of-is device bit placed, row_below device bit.y (height_of device bit) (tile_bit_y_in device bit is) (height_of-below device bit placed));
-    }
-
--- so does a RAM
-ram_below : (device : DeviceName) (y bit : ℕ) → y + 3 ≤ grid_height device → 16 * ram_of device y + 15 - bit < bram_width device
-ram_below K1 y bit inside = grind (arith, nat_tests)
-ram_below K8 y bit inside = grind (arith, nat_tests)
-
--- and a bit of a word
-word_in : (device : DeviceName) (at : WordBit) → IsWordBit device at → IsInBram device (word_place_of device at)
-unfolding word_place_of
-word_in device at is = record {
-  bank_in = bank_below device at.x at.y;
-  px_in = ram_below device at.y at.bit (lower-third device at.x at.y is.lower);
-  py_in = omega (arith, is.word_in);
-}
 
 -- ---- the whole
 

@@ -8,7 +8,7 @@ use Rattle.bit_plane.specs.Rows.{Rows}
 use Rattle.plane_map.specs.declared.tile.Place.{Place}
 use Rattle.ice_image.specs.Configuration.{place_bit, with_place_bit, AreBanks}
 use Rattle.ice_image.proofs.BankBits.{place_bit-same, place_bit-other, AreBanks-with_place_bit, same_place}
-use Rattle.asc_text.specs.Extras.{is_same_place}
+use Rattle.ice_image.specs.Owned.{is_same_place}
 use Rattle.asc_text.specs.inside.Gains.{Gains, row_sets, word_in, number_bit, word_sets, line_sets}
 use Rattle.asc_text.specs.Rows.{is_row, row_bit, memory_bytes}
 use Rattle.asc_text.specs.Meaning.{sets_place, sets_word_place}

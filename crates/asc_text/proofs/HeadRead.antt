@@ -16,7 +16,7 @@ use Rattle.asc_text.specs.declared.statement.Statement.{Statement}
 use Rattle.asc_text.specs.declared.statement.Statement.TheVariants.{Comment, Device, WarmBoot, FrequencyRange, NoSleep, Tile, RamData, ExtraBit}
 use Rattle.asc_text.specs.Statements.{device_word, switch_word, range_word, comment_keyword, device_keyword, warm_boot_keyword, range_keyword, no_sleep_keyword}
 use Rattle.asc_text.specs.Blocks.{device_in, has_rows, is_comment}
-use Rattle.asc_text.specs.Extras.{is_owned}
+use Rattle.ice_image.specs.Owned.{is_owned}
 use Rattle.asc_text.specs.Faults.{is_warm_boot, is_range, is_no_sleep}
 use Rattle.asc_text.specs.Meaning.{warm_boot_in, range_in, no_sleep_in}
 use Rattle.asc_text.specs.Canonical.{with_word, warm_boot_lines, range_lines, no_sleep_lines}

@@ -10,7 +10,6 @@ pub mod RowsRead
 pub mod Spelled
 pub mod WordsRead
 pub mod MemoryLines
-pub mod Owners
 pub mod Spellings
 pub mod TileSets
 pub mod Gains

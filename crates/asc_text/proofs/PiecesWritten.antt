@@ -25,7 +25,7 @@ use Rattle.asc_text.specs.declared.fault.AscCause.TheVariants.{Row, Hex, Kind, E
 use Rattle.asc_text.specs.Statements.{tile_keyword, ram_data_keyword}
 use Rattle.asc_text.specs.Rows.{is_row, is_memory_line}
 use Rattle.asc_text.specs.Blocks.{device_in}
-use Rattle.asc_text.specs.Extras.{is_owned, is_extra}
+use Rattle.ice_image.specs.Owned.{is_owned, is_extra}
 use Rattle.asc_text.specs.Faults.{cause_if, is_same_kind, kind_cause, names_tile, names_ram}
 use Rattle.asc_text.specs.Canonical.{grid_line, row_line, tile_lines, memory_line, ram_lines, lines_of_tile_at, all_tile_lines, extra_line, extra_lines_at, all_extra_lines}
 use Rattle.asc_text.proofs.PieceRead.{Piece, IsPiece, piece_lines}

@@ -18,7 +18,7 @@ use Rattle.asc_text.specs.declared.statement.Statement.{Statement}
 use Rattle.asc_text.specs.declared.statement.Statement.TheVariants.{Comment, Device, WarmBoot, FrequencyRange, NoSleep, Tile, RamData, ExtraBit, Symbol}
 use Rattle.asc_text.specs.Statements.{device_word, device_keyword, begins_with_dot}
 use Rattle.asc_text.specs.Blocks.{depth_at, statement_over, statement_at, is_comment, device_in, device_before}
-use Rattle.asc_text.specs.Extras.{is_owned}
+use Rattle.ice_image.specs.Owned.{is_owned}
 use Rattle.asc_text.specs.Faults.{names_tile, names_ram, cause_at, fault_with, tile_named, fault_at, asc_fault_of}
 use Rattle.asc_text.specs.Meaning.{is_set_before, is_word_set_before, comment_before, settings_before, image_before, symbol_in, symbols_before, image_for, asc_image_of, asc_symbols_of, AscMeans}
 use Rattle.asc_text.specs.Canonical.{with_word, comment_lines, warm_boot_lines, range_lines, no_sleep_lines, all_tile_lines, all_extra_lines, canonical_lines, asc_text_of}

@@ -9,9 +9,9 @@ use Rattle.plane_map.specs.Layout.{cram_width, cram_height}
 use Rattle.plane_map.specs.declared.tile.Place.{Place}
 use Rattle.ice_image.specs.Configuration.{Configuration, place_bit}
 use Rattle.ice_image.specs.Extras.{IsBefore, IsSetExtra, AreSetExtras}
-use Rattle.asc_text.specs.Extras.{is_owned}
+use Rattle.ice_image.specs.Owned.{is_owned}
 use Rattle.asc_text.specs.Canonical.{extra_line, extra_lines_at, all_extra_lines}
-use Rattle.asc_text.proofs.Owners.{is_owned-extra, extra-is_owned}
+use Rattle.ice_image.proofs.Owned.{is_owned-extra, extra-is_owned}
 use Rattle.asc_text.proofs.Lists.{map-gathered, gathered-place, gathered-at, ordered-gathered, ordered-same}
 
 -- no place is before one that is before it

@@ -18,7 +18,7 @@ use Rattle.ice_image.specs.Configuration.{Configuration, place_bit}
 use Rattle.ice_image.specs.Contents.{word_value, word_bit_place}
 use Rattle.asc_text.specs.declared.statement.Statement.TheVariants.{Tile, RamData}
 use Rattle.asc_text.specs.Rows.{memory_bit}
-use Rattle.asc_text.specs.Extras.{is_same_place}
+use Rattle.ice_image.specs.Owned.{is_same_place}
 use Rattle.asc_text.specs.Meaning.{sets_word_place}
 use Rattle.asc_text.specs.Canonical.{memory_line}
 use Rattle.asc_text.proofs.PieceRead.{piece_lines, piece_sets_word}

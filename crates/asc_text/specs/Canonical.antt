@@ -14,7 +14,7 @@ use Rattle.ice_image.specs.Contents.{tile_rows, word_value}
 use Rattle.ice_image.specs.declared.settings.Range.{Range}
 use Rattle.ice_image.specs.declared.settings.Range.TheVariants.{Low, Medium, High}
 use Rattle.asc_text.specs.Statements.{device_word, switch_word, range_word, comment_keyword, device_keyword, warm_boot_keyword, range_keyword, no_sleep_keyword, tile_keyword, ram_data_keyword, extra_bit_keyword}
-use Rattle.asc_text.specs.Extras.{is_owned}
+use Rattle.ice_image.specs.Owned.{is_owned}
 
 -- a line, a space and a word
 abbrev pub with_word : List ℕ → List ℕ → List ℕ

@@ -12,7 +12,7 @@ use Rattle.asc_text.specs.declared.statement.Statement.{Statement}
 use Rattle.asc_text.specs.declared.statement.Statement.TheVariants.{ExtraBit}
 use Rattle.asc_text.specs.Rows.{row_bit, memory_bit}
 use Rattle.asc_text.specs.Blocks.{statement_at}
-use Rattle.asc_text.specs.Extras.{is_same_place}
+use Rattle.ice_image.specs.Owned.{is_same_place}
 use Rattle.asc_text.specs.Faults.{names_tile, names_ram}
 
 -- ---- tiles

@@ -17,7 +17,7 @@ use Rattle.asc_text.specs.declared.file.Symbol.{Symbol as NetName}
 use Rattle.asc_text.specs.Statements.{begins_with_dot, name_in}
 use Rattle.asc_text.specs.Rows.{row_bit, memory_bit}
 use Rattle.asc_text.specs.Blocks.{depth_at, statement_over, statement_at, dot_before, is_comment, device_before}
-use Rattle.asc_text.specs.Extras.{is_same_place}
+use Rattle.ice_image.specs.Owned.{is_same_place}
 use Rattle.asc_text.specs.Faults.{asc_fault_of}
 
 -- ---- settings

@@ -6,7 +6,7 @@ use Rattle.plane_map.specs.declared.device.DeviceName.{DeviceName}
 use Rattle.plane_map.specs.declared.tile.Place.{Place}
 use Rattle.ice_image.specs.Configuration.{place_bit, AreBanks}
 use Rattle.ice_image.specs.Contents.{tile_place, word_bit_place}
-use Rattle.asc_text.specs.Extras.{is_same_place}
+use Rattle.ice_image.specs.Owned.{is_same_place}
 use Rattle.asc_text.specs.Rows.{row_bit}
 
 -- the planes keep their size, and the bits are 1 that were 1 before and those that the test tells

@@ -31,7 +31,7 @@ use Rattle.asc_text.specs.declared.reading.reader.Refusal.TheVariants.{Cause, Me
 use Rattle.asc_text.specs.Statements.{statement_in, begins_with_dot, name_in}
 use Rattle.asc_text.specs.inside.TileSets.{has_tile}
 use Rattle.asc_text.specs.Rows.{is_row, is_memory_line, memory_bytes}
-use Rattle.asc_text.specs.Extras.{is_same_place, is_extra}
+use Rattle.ice_image.specs.Owned.{is_same_place, is_extra}
 use Rattle.asc_text.specs.Faults.{cause_if, unknown_device, kind_cause, comment_cause, stray_cause}
 use Rattle.asc_text.specs.inside.Gains.{Gains, row_sets, line_sets}
 

@@ -1,7 +1,7 @@
 // Places of a device that a text names by numbers.
 ghost use Rattle.std.specs.Prelude.{◌≡◌, ◌<◌, ◌&&◌, true, false, nat_lt, MatchOption, OnSome};
 ghost use Rattle.plane_map.specs.Layout.{kind_of, IsInCram};
-ghost use Rattle.asc_text.specs.Extras.{is_extra, is_owned};
+ghost use Rattle.ice_image.specs.Owned.{is_extra, is_owned};
 
 use bit_plane::Bits;
 use plane_map::{Device, DeviceName, Hx1k, Hx8k, Place, TileKind, kind_at, owner_of};

@@ -4,7 +4,7 @@ ghost use Rattle.plane_map.specs.Layout.{kind_of, columns_of, cram_width, cram_h
 ghost use Rattle.ice_image.specs.Configuration.{AreBanks, with_place_bit};
 ghost use Rattle.ice_image.specs.Either.{configuration_of, device_of};
 ghost use Rattle.asc_text.specs.Rows.{is_row};
-ghost use Rattle.asc_text.specs.Extras.{is_same_place};
+ghost use Rattle.ice_image.specs.Owned.{is_same_place};
 ghost use Rattle.asc_text.specs.inside.Gains.{Gains, row_sets, word_in, word_sets, line_sets};
 
 use bit_plane::Bits;

@@ -1,6 +1,6 @@
 // What statements change.
 ghost use Rattle.std.specs.Prelude.{◌≡◌, ◌<◌, ◌++◌, ◌∷◌, [], Some, None, true, IfOk, IfErr, OnOk, is_some, MatchOption};
-ghost use Rattle.asc_text.specs.Extras.{is_same_place};
+ghost use Rattle.ice_image.specs.Owned.{is_same_place};
 ghost use Rattle.asc_text.specs.Faults.{tile_named};
 ghost use Rattle.asc_text.specs.inside.Reading.{state_of, statement_refusal, setting_refusal, tile_refusal, extra_refusal, TakesStatement, Reports, CramGains, HasKind};
 ghost use Rattle.asc_text.specs.Statements.{name_in};

@@ -1,6 +1,6 @@
 -- Bits that are set one after the other.
-use Rattle.std.proofs.Common.{◌≡◌, ℕ, ◌+◌, ◌-◌, ◌*◌, ◌<◌, ◌≤◌, Bool, true, false, ◌&&◌, ◌||◌, ◌==◌, List, refl, sym, ap, ◌∙◌, subst, inl, inr, arith, add-one}
-use Rattle.std.proofs.lemmas.Bool.{cases_eq, eq-eqb, ne_eqb, lt-ltb}
+use Rattle.std.proofs.Common.{◌≡◌, ℕ, ◌+◌, ◌-◌, ◌*◌, ◌<◌, ◌≤◌, Bool, true, false, not, ◌&&◌, ◌||◌, ◌==◌, List, refl, sym, ap, ◌∙◌, subst, inl, inr, arith, add-one}
+use Rattle.std.proofs.lemmas.Bool.{cases_eq, eq-eqb, ne_eqb, lt-ltb, ltb-true, and_parts}
 use Rattle.std.specs.Prelude.{length, Some, nat_lt}
 use Rattle.std.proofs.Math.Bool.{or-false, or-true, or_assoc, and-false}
 use Rattle.place_search.specs.Places.{any_below}
@@ -8,13 +8,16 @@ use Rattle.bit_plane.specs.Rows.{Rows}
 use Rattle.plane_map.specs.declared.tile.Place.{Place}
 use Rattle.ice_image.specs.Configuration.{place_bit, with_place_bit, AreBanks}
 use Rattle.ice_image.proofs.BankBits.{place_bit-same, place_bit-other, AreBanks-with_place_bit, same_place}
-use Rattle.ice_image.specs.Owned.{is_same_place}
+use Rattle.ice_image.specs.Owned.{is_same_place, is_owned, is_extra}
+use Rattle.ice_image.proofs.PlacesIn.{tile_in, word_in as word_bit_in}
 use Rattle.asc_text.specs.inside.Gains.{Gains, row_sets, word_in, number_bit, word_sets, line_sets}
 use Rattle.asc_text.specs.Rows.{is_row, row_bit, memory_bytes}
 use Rattle.asc_text.specs.Meaning.{sets_place, sets_word_place}
 use Rattle.asc_text.specs.declared.statement.Statement.TheVariants.{Tile, RamData}
 use Rattle.ice_image.specs.Contents.{tile_place, word_bit_place}
-use Rattle.plane_map.specs.Layout.{columns_of, cram_width, cram_height, bram_width, bram_height}
+use Rattle.plane_map.specs.Layout.{columns_of, place_of, word_place_of, cram_width, cram_height, bram_width, bram_height, IsTileBit, IsWordBit}
+use Rattle.plane_map.specs.declared.tile.TileBit.{TileBit}
+use Rattle.plane_map.specs.declared.tile.WordBit.{WordBit}
 use Rattle.plane_map.specs.declared.device.DeviceName.{DeviceName}
 use Rattle.plane_map.specs.declared.tile.TileKind.{TileKind}
 use Rattle.plane_map.specs.declared.tile.TileKind.TheVariants.{Io, Logic, RamB, RamT}
@@ -148,3 +151,40 @@ sets_word_place-line device x y row line at =
     let some : nat_lt 0 (row + 1) ≡ true = lt-ltb 0 (row + 1) (omega arith) in
     let back : row + 1 - 1 ≡ row = omega arith in
     rw (some, back) refl
+
+-- ---- a bit that is asked, on a device by another name
+
+pub Gains-by : (device other : DeviceName) (bit : TileBit) (is_asked : Bool) (before after : List Rows) → device ≡ other
+    → Gains (cram_width device) (cram_height device) (λ at. is_asked && is_same_place (place_of device bit) at) before after
+    → Gains (cram_width other) (cram_height other) (λ at. is_asked && is_same_place (place_of other bit) at) before after
+Gains-by device other bit is_asked before after same gains =
+    subst (λ (d : DeviceName). Gains (cram_width d) (cram_height d) (λ at. is_asked && is_same_place (place_of d bit) at) before after) same gains
+
+pub Gains-word_by : (device other : DeviceName) (bit : WordBit) (is_asked : Bool) (before after : List Rows) → device ≡ other
+    → Gains (bram_width device) (bram_height device) (λ at. is_asked && is_same_place (word_place_of device bit) at) before after
+    → Gains (bram_width other) (bram_height other) (λ at. is_asked && is_same_place (word_place_of other bit) at) before after
+Gains-word_by device other bit is_asked before after same gains =
+    subst (λ (d : DeviceName). Gains (bram_width d) (bram_height d) (λ at. is_asked && is_same_place (word_place_of d bit) at) before after) same gains
+
+-- a bit of a tile is set
+pub Gains-tile_bit : (device : DeviceName) (planes : List Rows) (bit : TileBit) (is_asked : Bool) → IsTileBit device bit → AreBanks (cram_width device) (cram_height device) planes → is_asked ≡ true
+    → Gains (cram_width device) (cram_height device) (λ other. is_asked && is_same_place (place_of device bit) other) planes (with_place_bit planes (place_of device bit) true)
+Gains-tile_bit device planes bit is_asked is banks on =
+    let inside = tile_in device bit is in
+    Gains-asked (cram_width device) (cram_height device) planes (place_of device bit) is_asked banks inside.bank_in inside.px_in inside.py_in on
+
+-- a bit of a word is set
+pub Gains-word_bit : (device : DeviceName) (planes : List Rows) (bit : WordBit) (is_asked : Bool) → IsWordBit device bit → AreBanks (bram_width device) (bram_height device) planes → is_asked ≡ true
+    → Gains (bram_width device) (bram_height device) (λ other. is_asked && is_same_place (word_place_of device bit) other) planes (with_place_bit planes (word_place_of device bit) true)
+Gains-word_bit device planes bit is_asked is banks on =
+    let inside = word_bit_in device bit is in
+    Gains-asked (bram_width device) (bram_height device) planes (word_place_of device bit) is_asked banks inside.bank_in inside.px_in inside.py_in on
+
+-- an extra bit is set
+pub Gains-extra : (device : DeviceName) (planes : List Rows) (at : Place) → is_extra device at ≡ true → AreBanks (cram_width device) (cram_height device) planes
+    → Gains (cram_width device) (cram_height device) (is_same_place at) planes (with_place_bit planes at true)
+Gains-extra device planes at extra banks =
+    let inside = and_parts (nat_lt at.bank 4 && nat_lt at.px (cram_width device) && nat_lt at.py (cram_height device)) (not (is_owned device at)) extra in
+    let rows = and_parts (nat_lt at.bank 4 && nat_lt at.px (cram_width device)) (nat_lt at.py (cram_height device)) inside.0 in
+    let columns = and_parts (nat_lt at.bank 4) (nat_lt at.px (cram_width device)) rows.0 in
+    Gains-one (cram_width device) (cram_height device) planes at banks (ltb-true at.bank 4 columns.0) (ltb-true at.px (cram_width device) columns.1) (ltb-true at.py (cram_height device) rows.1)

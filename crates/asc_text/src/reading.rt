@@ -1,6 +1,5 @@
 // Texts read.
 
-mod extras;
 mod keyword;
 mod planes;
 mod reader;

@@ -7,13 +7,12 @@ ghost use Rattle.asc_text.specs.Statements.{name_in};
 
 use crate::fault::{AscCause, TileXy};
 use crate::file::{ByteText, Symbol};
-use crate::reading::extras::{extra_place, kind_on};
 use crate::reading::planes;
 use crate::reading::reader::{Expected, Reader, Refusal};
 use crate::reading::spelling::name_in;
 use crate::statement::Statement;
 use ice_image::{AnyImage, Comment};
-use plane_map::{DeviceName, TileKind};
+use plane_map::{DeviceName, TileKind, kind_on};
 use std::alloc::AllocError;
 
 impl Reader {
@@ -154,7 +153,7 @@ fn set_extra_bit(image: &mut Option<AnyImage>, bank: u32, x: u32, y: u32) -> Res
     ensures refused { IfErr result (λ cause. extra_refusal image.old bank x y ≡ Some cause) }
 {
     match image {
-        Some(image) => match extra_place(image.device(), bank, x, y) {
+        Some(image) => match image.extra_place(bank, x, y) {
             Some(at) => {
                 planes::set_extra_bit(image, at);
                 Ok(())

@@ -1,0 +1,11 @@
+use Rattle.std.specs.Prelude.{◌≡◌}
+use Rattle.plane_map.specs.Layout.{bram_width, bram_height}
+use Rattle.ice_image.specs.Either.{configuration_of, device_of}
+use Rattle.asc_text.specs.inside.Gains.{Gains, line_sets}
+use Rattle.asc_text.proofs.reading.planes.set_memory_line.Given as goal
+
+abbrev pub invariant-loop-index : goal.invariant-loop-index
+invariant-loop-index l =
+    (device_of l.image ≡ device_of l.initial.image)
+    × (configuration_of l.image ≡ record (configuration_of l.initial.image) { bram = (configuration_of l.image).bram })
+    × Gains (bram_width (device_of l.initial.image)) (bram_height (device_of l.initial.image)) (line_sets (device_of l.initial.image) l.x l.y l.row l.bytes l.index) (configuration_of l.initial.image).bram (configuration_of l.image).bram

@@ -7,7 +7,7 @@ use Rattle.std.proofs.lemmas.List.{get_or_past}
 use Rattle.text_lines.specs.Lines.{lines_of, line_at, trimmed}
 use Rattle.place_search.specs.Places.{any_below, least_below, first_below, or_here, or_else}
 use Rattle.place_search.proofs.Places.{any_below-at, any_below-place, least_below-first, first_below-sum}
-use Rattle.plane_map.specs.Layout.{kind_of, columns_of, columns_in, place_of, word_place_of, cram_width, cram_height, bram_width, bram_height, IsTileBit, IsWordBit, IsExtraBit, IsInCram, IsInBram}
+use Rattle.plane_map.specs.Layout.{kind_of, columns_of, columns_in, place_of, word_place_of, cram_width, cram_height, bram_width, bram_height, IsTileBit, IsWordBit, IsExtraBit}
 use Rattle.plane_map.specs.declared.device.DeviceName.{DeviceName}
 use Rattle.plane_map.specs.declared.tile.TileKind.{TileKind}
 use Rattle.plane_map.specs.declared.tile.TileKind.TheVariants.{Io, Logic, RamB, RamT}

@@ -1,5 +1,5 @@
 -- The bits of tiles and of words lie in the planes.
-use Rattle.std.proofs.Common.{◌≡◌, ℕ, ◌+◌, ◌-◌, ◌*◌, ◌<◌, ◌≤◌, refl, arith}
+use Rattle.std.proofs.Common.{ℕ, ◌+◌, ◌-◌, ◌*◌, ◌<◌, ◌≤◌, refl, arith}
 use Rattle.std.proofs.lemmas.Bool.Decides.{nat_tests}
 use Rattle.plane_map.specs.Layout.{place_of, word_place_of, px_of, bank_of, ram_of, from_end, grid_height, cram_height, bram_width, IsTileBit, IsWordBit, IsInCram, IsInBram}
 use Rattle.plane_map.specs.declared.device.DeviceName.{DeviceName}

@@ -240,7 +240,14 @@ impl AnyImage {
 
     /// Sets `count` rows of a bank's plane, from row `first` on, to the bits of bytes, the most significant bit of each byte
     /// first.
-    pub fn set_rows(&mut self, kind: PlaneKind, bank: usize, first: usize, count: usize, bytes: &[u8])
+    pub fn set_rows(
+        &mut self,
+        kind: PlaneKind,
+        bank: usize,
+        first: usize,
+        count: usize,
+        bytes: &[u8],
+    )
         requires bank { bank < 4 }
         requires rows { first + count ≤ plane_height kind (device_of self.old) }
         requires bytes { 8 * length bytes.now ≡ count * plane_width kind (device_of self.old) }

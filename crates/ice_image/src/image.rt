@@ -20,7 +20,9 @@ use crate::settings::{Range, Settings};
 use crate::tiles::{read_tile, write_tile};
 use crate::words::{read_word, write_word};
 use bit_plane::{Bits, Tile};
-use plane_map::{Device, DeviceName, Place, RowCol, TileBit, TileKind, WordBit, bram_place, cram_place};
+use plane_map::{
+    Device, DeviceName, Place, RowCol, TileBit, TileKind, WordBit, bram_place, cram_place,
+};
 use std::alloc::{AllocError, Global};
 use std::marker::Model;
 
@@ -264,7 +266,14 @@ impl<D: Device> Image<D> {
 
     /// Sets `count` rows of a bank's plane, from row `first` on, to the bits of bytes, the most significant bit of each byte
     /// first.
-    pub fn set_rows(&mut self, kind: PlaneKind, bank: usize, first: usize, count: usize, bytes: &[u8])
+    pub fn set_rows(
+        &mut self,
+        kind: PlaneKind,
+        bank: usize,
+        first: usize,
+        count: usize,
+        bytes: &[u8],
+    )
         requires bank { bank < 4 }
         requires rows { first + count ≤ plane_height kind D.NAME }
         requires bytes { 8 * length bytes.now ≡ count * plane_width kind D.NAME }

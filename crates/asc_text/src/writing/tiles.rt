@@ -18,10 +18,7 @@ use std::alloc::AllocError;
 
 /// Appends all tiles, row of the grid by row of the grid.
 #[tactic(auto, using(crate::proofs::Pieces::joined), unfolding(place_search::specs::Places::gathered_below))]
-pub(crate) fn append_tiles(
-    text: &mut Vec<u8>,
-    image: &AnyImage,
-) -> Result<(), AllocError>
+pub(crate) fn append_tiles(text: &mut Vec<u8>, image: &AnyImage) -> Result<(), AllocError>
     requires { (configuration_of image.now).device ≡ device_of image.now }
     ensures { OnOk result (text.new.items ≡ text.old.items ++ text_of (all_tile_lines (configuration_of image.now))) }
 {
@@ -44,12 +41,7 @@ fn append_grid_row(text: &mut Vec<u8>, image: &AnyImage, y: u8) -> Result<(), Al
 }
 
 /// Appends the tile at a place of the grid, and behind a lower tile its RAM's contents.
-fn append_place(
-    text: &mut Vec<u8>,
-    image: &AnyImage,
-    x: u8,
-    y: u8,
-) -> Result<(), AllocError>
+fn append_place(text: &mut Vec<u8>, image: &AnyImage, x: u8, y: u8) -> Result<(), AllocError>
     requires { (configuration_of image.now).device ≡ device_of image.now }
     ensures { OnOk result (text.new.items ≡ text.old.items ++ text_of (lines_of_tile_at (configuration_of image.now) x y (kind_of (configuration_of image.now).device x y))) }
 {
@@ -122,12 +114,7 @@ fn bit_character(bit: bool) -> u8
 
 /// Appends the contents of the RAM whose lower tile is at a place.
 #[tactic(auto, using(crate::proofs::Pieces::joined), unfolding(place_search::specs::Places::gathered_below))]
-fn append_ram(
-    text: &mut Vec<u8>,
-    image: &AnyImage,
-    x: u8,
-    y: u8,
-) -> Result<(), AllocError>
+fn append_ram(text: &mut Vec<u8>, image: &AnyImage, x: u8, y: u8) -> Result<(), AllocError>
     requires { kind_of (device_of image.now) x y ≡ Some TileKind.RamB }
     ensures { OnOk result (text.new.items ≡ text.old.items ++ text_of (ram_lines (device_of image.now) (configuration_of image.now).bram x y)) }
 {

@@ -274,8 +274,7 @@ impl Registers {
     {
         match kind {
             PlaneKind::Cram => match device_with(kind, self.width) {
-                Some(device) => self.first_row + self.height
-                    == kind.rows(device),
+                Some(device) => self.first_row + self.height == kind.rows(device),
                 None => false,
             },
             PlaneKind::Bram => false,

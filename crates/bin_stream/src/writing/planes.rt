@@ -37,11 +37,7 @@ fn append_cram_banks(out: &mut Vec<u8>, image: &AnyImage) -> Result<(), AllocErr
 }
 
 /// Appends a bank's configuration plane as one command.
-fn append_cram_bank(
-    out: &mut Vec<u8>,
-    image: &AnyImage,
-    bank: u8,
-) -> Result<(), AllocError>
+fn append_cram_bank(out: &mut Vec<u8>, image: &AnyImage, bank: u8) -> Result<(), AllocError>
     requires { bank < 4 }
     ensures { OnOk result (out.new.items ≡ out.old.items ++ cram_bank (configuration_of image.now).cram bank) }
 {
@@ -72,11 +68,7 @@ fn append_bram_banks(out: &mut Vec<u8>, image: &AnyImage) -> Result<(), AllocErr
 }
 
 /// Appends a bank's RAM plane, in two halves.
-fn append_bram_bank(
-    out: &mut Vec<u8>,
-    image: &AnyImage,
-    bank: u8,
-) -> Result<(), AllocError>
+fn append_bram_bank(out: &mut Vec<u8>, image: &AnyImage, bank: u8) -> Result<(), AllocError>
     requires { bank < 4 }
     ensures { OnOk result (out.new.items ≡ out.old.items ++ bram_bank (configuration_of image.now).bram bank) }
 {

@@ -23,7 +23,7 @@ loop-index-preserved c =
     let bram = (configuration_of after).bram in
     let index = c.loop-index.index in
     let gained = subst (λ (value : ℕ). Gains (bram_width device) (bram_height device) (word_sets device args.x args.y (16 * args.row + index) value 16) (configuration_of before).bram bram) c.word_in.ensures
-        (subst (λ (d : DeviceName). Gains (bram_width d) (bram_height d) (word_sets d args.x args.y (16 * args.row + index) c.word_in.result 16) (configuration_of before).bram bram) c.loop-index.invariant.0 c.set_word.ensures.bits) in (
+    (subst (λ (d : DeviceName). Gains (bram_width d) (bram_height d) (word_sets d args.x args.y (16 * args.row + index) c.word_in.result 16) (configuration_of before).bram bram) c.loop-index.invariant.0 c.set_word.ensures.bits) in (
       c.set_word.ensures.device ∙ c.loop-index.invariant.0,
       c.set_word.ensures.rest ∙ ap (λ (image : Configuration). record image { bram = bram }) c.loop-index.invariant.1,
       line_sets-more device args.x args.y args.row args.bytes.now (bram_width device) (bram_height device) index (configuration_of args.image.now).bram (configuration_of before).bram bram c.loop-index.invariant.2 gained,

@@ -1,8 +1,10 @@
 pub mod BankBits
+pub mod Bits
 pub mod InOrder
 pub mod Listed
 pub mod Made
 pub mod Owned
 pub mod PlacesIn
+pub mod PlanesFrom
 pub mod TileColumns
 pub mod Written

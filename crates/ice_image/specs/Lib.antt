@@ -1,3 +1,4 @@
+pub mod Bits
 pub mod CommentLines
 pub mod Configuration
 pub mod Contents

@@ -15,7 +15,6 @@ pub mod TileSets
 pub mod Gains
 pub mod CommentSteps
 pub mod Dotted
-pub mod PlanesFrom
 pub mod Ends
 pub mod Given
 pub mod HasRead

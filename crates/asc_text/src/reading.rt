@@ -1,7 +1,7 @@
 // Texts read.
 
+mod bits;
 mod keyword;
-mod planes;
 mod reader;
 mod rows;
 mod spelling;

@@ -14,7 +14,7 @@ use Rattle.plane_map.specs.declared.tile.TileKind.TheVariants.{Io, Logic, RamB, 
 use Rattle.plane_map.specs.declared.tile.Place.{Place}
 use Rattle.plane_map.specs.declared.tile.TileBit.{TileBit}
 use Rattle.plane_map.proofs.Layouts.{columns_at-in}
-use Rattle.ice_image.specs.Bits.{Bit, OfTile, Extra, bit_of}
+use Rattle.ice_image.specs.Bits.{OfTile, Extra, bit_of}
 use Rattle.ice_image.specs.Configuration.{Configuration, place_bit}
 use Rattle.ice_image.specs.Contents.{tile_place, tile_rows}
 use Rattle.ice_image.proofs.Bits.{extra_in}

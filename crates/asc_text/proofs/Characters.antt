@@ -1,13 +1,13 @@
 -- A text that means an image has each of its bits as a character, a digit or a statement.
-use Rattle.std.proofs.Common.{◌≡◌, ℕ, zero, suc, ◌+◌, ◌-◌, ◌*◌, ◌/◌, ◌%◌, ◌<◌, ◌≤◌, Bool, true, false, not, ◌&&◌, ◌==◌, cond, List, [], length, refl, sym, ap, subst, ◌∙◌, inl, inr, ◌⊎◌, arith, Option, Some, None}
+use Rattle.std.proofs.Common.{◌≡◌, ℕ, zero, suc, ◌+◌, ◌-◌, ◌/◌, ◌%◌, ◌<◌, ◌≤◌, Bool, true, false, not, ◌&&◌, ◌==◌, cond, List, [], length, refl, sym, ap, subst, ◌∙◌, inl, inr, ◌⊎◌, arith, Option, Some, None}
 use Rattle.std.specs.Prelude.{nat_lt, Result, Ok, Err, IfOk}
-use Rattle.std.proofs.lemmas.Bool.{cases_eq, eq-eqb, cases_lt, cases_Bool, and_parts, and_from, both_ways, ltb-true, lt-ltb, lt-leb, eqb-true, not-true}
+use Rattle.std.proofs.lemmas.Bool.{cases_eq, eq-eqb, cases_lt, cases_Bool, and_parts, and_from, both_ways, ltb-true, lt-ltb, lt-leb, eqb-true}
 use Rattle.std.proofs.lemmas.Bool.Decides.{nat_tests}
 use Rattle.std.proofs.lemmas.List.{get_or_past}
 use Rattle.text_lines.specs.Lines.{lines_of, line_at, trimmed}
 use Rattle.place_search.specs.Places.{any_below, least_below, first_below, or_here, or_else}
 use Rattle.place_search.proofs.Places.{any_below-at, any_below-place, least_below-first, first_below-sum}
-use Rattle.plane_map.specs.Layout.{kind_of, columns_of, columns_in, place_of, word_place_of, cram_width, cram_height, bram_width, bram_height, IsTileBit, IsWordBit, IsExtraBit}
+use Rattle.plane_map.specs.Layout.{kind_of, IsTileBit, IsWordBit}
 use Rattle.plane_map.specs.declared.device.DeviceName.{DeviceName}
 use Rattle.plane_map.specs.declared.tile.TileKind.{TileKind}
 use Rattle.plane_map.specs.declared.tile.TileKind.TheVariants.{Io, Logic, RamB, RamT}
@@ -19,7 +19,7 @@ use Rattle.ice_image.specs.Either.{configuration_of}
 use Rattle.asc_text.specs.declared.statement.Statement.{Statement}
 use Rattle.asc_text.specs.declared.statement.Statement.TheVariants.{Tile, RamData, ExtraBit}
 use Rattle.asc_text.specs.declared.fault.AscCause.{AscCause}
-use Rattle.asc_text.specs.declared.fault.AscCause.TheVariants.{Kind, Repeated, Hex, ExtraPlace}
+use Rattle.asc_text.specs.declared.fault.AscCause.TheVariants.{Kind, Repeated, Hex}
 use Rattle.asc_text.specs.declared.fault.TileXy.{TileXy}
 use Rattle.asc_text.specs.declared.fault.AscFault.{AscFault}
 use Rattle.asc_text.specs.declared.file.AscFile.{AscFile}
@@ -27,10 +27,10 @@ use Rattle.asc_text.specs.declared.file.Symbol.{Symbol as NetName}
 use Rattle.asc_text.specs.Statements.{statement_in, begins_with_dot}
 use Rattle.asc_text.specs.Rows.{row_bit, memory_bit, is_memory_line}
 use Rattle.asc_text.specs.Blocks.{has_rows, depth_after, depth_at, statement_over, statement_at, device_in, device_before}
-use Rattle.asc_text.specs.Faults.{cause_if, is_same_kind, kind_cause, tile_cause, missing_device, unknown_device, extra_cause, setting_cause, stands_before, names_tile, names_ram, statement_cause, cause_at, fault_at, fault_with, asc_fault_of}
+use Rattle.asc_text.specs.Faults.{cause_if, is_same_kind, kind_cause, tile_cause, missing_device, unknown_device, stands_before, names_tile, names_ram, statement_cause, cause_at, fault_at, fault_with, asc_fault_of}
 use Rattle.asc_text.specs.Meaning.{row_sets, line_sets, sets_bit, is_set_before, comment_before, settings_before, image_before, image_for, asc_image_of, AscMeans}
 use Rattle.asc_text.specs.Characters.{tile_statement, ram_statement, character_below, character_of, names_extra, is_named_extra, digit_bit_below, digit_bit_of, is_said, HasBits}
-use Rattle.ice_image.specs.Bits.{Bit, OfTile, OfWord, Extra, IsBit, bit_of, image_from}
+use Rattle.ice_image.specs.Bits.{Bit, OfTile, OfWord, Extra, IsBit, image_from}
 use Rattle.ice_image.proofs.Bits.{image_from-bit}
 
 -- ---- tests and values

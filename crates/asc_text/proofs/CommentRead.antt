@@ -10,8 +10,6 @@ use Rattle.place_search.specs.Places.{any_below, first_below, last_below, gather
 use Rattle.text_lines.specs.Words.{from_word}
 use Rattle.text_lines.specs.Written.{IsPlain}
 use Rattle.place_search.proofs.Places.{any_below-none, first_below-none, last_below-none, last_below-is, gathered_below-none, gathered_below-same, gathered_below-sum}
-use Rattle.plane_map.specs.declared.device.DeviceName.{DeviceName}
-use Rattle.plane_map.specs.declared.tile.Place.{Place}
 use Rattle.ice_image.specs.CommentLines.{IsPrintable, IsCommentLine}
 use Rattle.ice_image.specs.Bits.{Bit}
 use Rattle.asc_text.specs.declared.statement.Statement.{Statement}

@@ -1,10 +1,9 @@
 -- Bits that are set one after the other.
-use Rattle.std.proofs.Common.{◌≡◌, ◌≢◌, ℕ, ◌+◌, ◌*◌, ◌/◌, ◌%◌, ◌<◌, ◌≤◌, Bool, true, false, ◌&&◌, ◌||◌, ◌==◌, List, get_or, length, refl, sym, ap, ◌∙◌, subst, inl, inr, arith}
+use Rattle.std.proofs.Common.{◌≡◌, ◌≢◌, ℕ, ◌+◌, ◌*◌, ◌/◌, ◌%◌, ◌<◌, ◌≤◌, Bool, true, false, ◌&&◌, ◌||◌, ◌==◌, List, length, refl, sym, ap, ◌∙◌, subst, inl, inr, arith}
 use Rattle.std.proofs.lemmas.Bool.{cases_eq, cases_lt, cases_Bool, eq-eqb, ne_eqb, eqb-true, lt-ltb, and_parts, and_from, both_ways}
 use Rattle.std.proofs.lemmas.Bool.Decides.{nat_tests}
 use Rattle.std.proofs.Math.Bool.{or-false, or-true, or_assoc}
 use Rattle.std.specs.Prelude.{Some, nat_lt}
-use Rattle.bit_plane.specs.Rows.{Rows}
 use Rattle.plane_map.specs.Layout.{kind_of, columns_of, columns_in, columns_at, place_of, word_place_of, IsTileBit, IsWordBit}
 use Rattle.plane_map.specs.declared.device.DeviceName.{DeviceName}
 use Rattle.plane_map.specs.declared.tile.Place.{Place}
@@ -14,7 +13,7 @@ use Rattle.plane_map.specs.declared.tile.TileKind.TheVariants.{Io, Logic, RamB, 
 use Rattle.plane_map.specs.declared.tile.WordBit.{WordBit}
 use Rattle.ice_image.specs.Bits.{Bit, OfTile, OfWord, Extra, IsBit, bit_of}
 use Rattle.ice_image.specs.Configuration.{Configuration, IsWhole, with_place_bit}
-use Rattle.ice_image.specs.Owned.{is_same_place, is_extra}
+use Rattle.ice_image.specs.Owned.{is_extra}
 use Rattle.ice_image.proofs.Bits.{IsSet, with_cram_bit, with_bram_bit, tile_set, word_set, extra_set}
 use Rattle.ice_image.proofs.Owned.{is_same_place-same, is_same_place-self}
 use Rattle.asc_text.specs.Rows.{is_row, row_bit, memory_bytes}
@@ -85,7 +84,7 @@ Gains-tile_bit before after device at is_asked same whole is asked changed =
     let Q : Configuration → Type 0 = λ c. Gains (λ bit. is_asked && is_tile_bit at bit) before c in
     let P : DeviceName → Type 0 = λ d. IsTileBit d at → Q (with_cram_bit before (place_of d at) true) in
     let set : P before.device = λ is. Gains-set (OfTile at) (λ bit. is_asked && is_tile_bit at bit) before (with_cram_bit before (place_of before.device at) true)
-        (λ other here. tile_bit-only at other (and_parts is_asked (is_tile_bit at other) here).1) (and_from is_asked (is_tile_bit at (OfTile at)) asked (tile_bit-self at)) (tile_set before at true whole is) in
+    (λ other here. tile_bit-only at other (and_parts is_asked (is_tile_bit at other) here).1) (and_from is_asked (is_tile_bit at (OfTile at)) asked (tile_bit-self at)) (tile_set before at true whole is) in
     subst Q (sym changed) (subst P same set is)
 
 -- a bit of a word is set
@@ -95,7 +94,7 @@ Gains-word_bit before after device at is_asked same whole is asked changed =
     let Q : Configuration → Type 0 = λ c. Gains (λ bit. is_asked && is_word_bit at bit) before c in
     let P : DeviceName → Type 0 = λ d. IsWordBit d at → Q (with_bram_bit before (word_place_of d at) true) in
     let set : P before.device = λ is. Gains-set (OfWord at) (λ bit. is_asked && is_word_bit at bit) before (with_bram_bit before (word_place_of before.device at) true)
-        (λ other here. word_bit-only at other (and_parts is_asked (is_word_bit at other) here).1) (and_from is_asked (is_word_bit at (OfWord at)) asked (word_bit-self at)) (word_set before at true whole is) in
+    (λ other here. word_bit-only at other (and_parts is_asked (is_word_bit at other) here).1) (and_from is_asked (is_word_bit at (OfWord at)) asked (word_bit-self at)) (word_set before at true whole is) in
     subst Q (sym changed) (subst P same set is)
 
 -- an extra bit is set

@@ -9,7 +9,6 @@ use Rattle.plane_map.specs.Layout.{cram_width, cram_height, bram_width, bram_hei
 use Rattle.plane_map.specs.declared.device.DeviceName.{DeviceName}
 use Rattle.ice_image.specs.Bits.{Bit, IsBit, bit_of}
 use Rattle.ice_image.specs.Configuration.{Configuration, IsWhole, blank_image}
-use Rattle.ice_image.specs.Either.{configuration_of, device_of}
 use Rattle.ice_image.specs.declared.any.AnyImage.{AnyImage}
 use Rattle.ice_image.proofs.BankBits.{AreBanks-blank}
 use Rattle.ice_image.proofs.Bits.{bit_of-blank}

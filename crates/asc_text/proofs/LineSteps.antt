@@ -6,8 +6,6 @@ use Rattle.std.proofs.lemmas.Bool.{cases_Bool, cases_eq, eq-eqb, ne_eqb, lt-ltb,
 use Rattle.text_lines.specs.Lines.{line_at, trimmed}
 use Rattle.text_lines.proofs.Blanks.{dot-trimmed}
 use Rattle.plane_map.specs.Layout.{kind_of, columns_of}
-use Rattle.plane_map.specs.declared.device.DeviceName.{DeviceName}
-use Rattle.plane_map.specs.declared.tile.Place.{Place}
 use Rattle.plane_map.specs.declared.tile.TileKind.{TileKind}
 use Rattle.plane_map.specs.declared.tile.TileKind.TheVariants.{RamB}
 use Rattle.ice_image.specs.Either.{device_of}

@@ -13,7 +13,7 @@ use Rattle.plane_map.specs.declared.tile.TileKind.{TileKind}
 use Rattle.plane_map.specs.declared.tile.TileKind.TheVariants.{Io, Logic, RamB, RamT}
 use Rattle.plane_map.specs.declared.tile.WordBit.{WordBit}
 use Rattle.plane_map.specs.declared.tile.Place.{Place}
-use Rattle.ice_image.specs.Bits.{Bit, OfWord, bit_of}
+use Rattle.ice_image.specs.Bits.{OfWord, bit_of}
 use Rattle.ice_image.specs.Configuration.{Configuration, place_bit}
 use Rattle.ice_image.specs.Contents.{word_value, word_bit_place}
 use Rattle.asc_text.specs.declared.statement.Statement.TheVariants.{Tile, RamData}

@@ -1,6 +1,6 @@
 -- The bits of an image: those of its tiles, those of the words of its RAMs, and its extra bits, which are no tile's. An image is
 -- known by them, its comment and its settings.
-use Rattle.std.specs.Prelude.{◌≡◌, ℕ, ◌<◌, Bool, true, false, ◌&&◌, List, [], ◌∷◌, if◌then◌else◌, Option, Some}
+use Rattle.std.specs.Prelude.{◌≡◌, ℕ, Bool, true, false, ◌&&◌, List, [], ◌∷◌, if◌then◌else◌, Option, Some}
 use Rattle.place_search.specs.Places.{any_below}
 use Rattle.bit_plane.specs.Rows.{Rows, rows_from}
 use Rattle.plane_map.specs.Layout.{kind_of, grid_width, grid_height, columns_at, place_of, word_place_of, cram_width, cram_height, bram_width, bram_height, IsTileBit, IsWordBit}
@@ -47,8 +47,8 @@ pub record OnlyBits (IsChanged : Bit → Type 0) (before after : Configuration) 
 abbrev pub cram_bit_from : DeviceName → (Bit → Bool) → Place → Bool
 cram_bit_from device bits at =
     if is_owned device at then
-      any_below (grid_width device) (λ x. any_below (grid_height device) (λ y. any_below 16 (λ row. any_below (columns_at device x y) (λ col.
-      is_same_place (tile_place device x y row col) at && bits (OfTile (record { x = x; y = y; row = row; col = col }))))))
+    any_below (grid_width device) (λ x. any_below (grid_height device) (λ y. any_below 16 (λ row. any_below (columns_at device x y) (λ col.
+    is_same_place (tile_place device x y row col) at && bits (OfTile (record { x = x; y = y; row = row; col = col }))))))
     else bits (Extra at)
 
 -- whether the tile at a place of the grid is a RAM's lower one

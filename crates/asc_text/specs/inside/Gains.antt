@@ -2,7 +2,7 @@
 use Rattle.std.specs.Prelude.{◌≡◌, ℕ, ◌+◌, ◌*◌, ◌/◌, ◌%◌, ◌^◌, ◌-◌, Bool, false, ◌&&◌, ◌||◌, List, get_or, nat_lt, ◌==◌}
 use Rattle.plane_map.specs.declared.tile.TileBit.{TileBit}
 use Rattle.plane_map.specs.declared.tile.WordBit.{WordBit}
-use Rattle.ice_image.specs.Bits.{Bit, OfTile, OfWord, Extra, IsBit, bit_of}
+use Rattle.ice_image.specs.Bits.{Bit, OfTile, OfWord, IsBit, bit_of}
 use Rattle.ice_image.specs.Configuration.{Configuration, IsWhole}
 use Rattle.asc_text.specs.Rows.{row_bit}
 

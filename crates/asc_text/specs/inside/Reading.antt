@@ -4,9 +4,8 @@ use Rattle.std.specs.Prelude.{◌≡◌, ℕ, ◌+◌, ◌<◌, Bool, true, fals
 use Rattle.std.specs.Bool.{MatchBool}
 use Rattle.text_lines.specs.Lines.{trimmed}
 use Rattle.place_search.specs.Places.{or_else}
-use Rattle.plane_map.specs.Layout.{kind_of, columns_of, cram_width, cram_height, bram_width, bram_height}
+use Rattle.plane_map.specs.Layout.{kind_of, columns_of}
 use Rattle.plane_map.specs.declared.device.DeviceName.{DeviceName}
-use Rattle.plane_map.specs.declared.tile.Place.{Place}
 use Rattle.plane_map.specs.declared.tile.TileKind.{TileKind}
 use Rattle.plane_map.specs.declared.tile.TileKind.TheVariants.{RamB}
 use Rattle.ice_image.specs.Configuration.{blank_image}
@@ -31,7 +30,7 @@ use Rattle.asc_text.specs.declared.reading.reader.Refusal.TheVariants.{Cause, Me
 use Rattle.asc_text.specs.Statements.{statement_in, begins_with_dot, name_in}
 use Rattle.asc_text.specs.inside.TileSets.{has_tile}
 use Rattle.asc_text.specs.Rows.{is_row, is_memory_line, memory_bytes}
-use Rattle.ice_image.specs.Owned.{is_same_place, is_extra}
+use Rattle.ice_image.specs.Owned.{is_extra}
 use Rattle.asc_text.specs.Faults.{cause_if, unknown_device, kind_cause, comment_cause, stray_cause}
 use Rattle.asc_text.specs.inside.Gains.{Gains, bytes_set}
 use Rattle.asc_text.specs.Meaning.{row_sets, extra_sets}

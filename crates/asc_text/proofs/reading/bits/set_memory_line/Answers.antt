@@ -1,5 +1,5 @@
-use Rattle.std.proofs.Common.{◌≡◌, ℕ, ◌*◌, ◌+◌, sym, ap, ◌∙◌, refl, arith, subst}
-use Rattle.ice_image.specs.Either.{configuration_of, device_of}
+use Rattle.std.proofs.Common.{◌≡◌, ℕ, ◌*◌, ◌+◌, sym, ◌∙◌, refl, arith, subst}
+use Rattle.ice_image.specs.Either.{configuration_of}
 use Rattle.asc_text.specs.inside.Gains.{Gains, word_in, word_sets, bytes_set, bytes_set_below}
 use Rattle.asc_text.proofs.Gains.{Gains-none, Gains-more, Gains-same, bytes-none, bytes-more, bytes-all}
 use Rattle.asc_text.proofs.reading.bits.set_memory_line.Goals as goal

@@ -1,6 +1,5 @@
 use Rattle.std.proofs.Common.{◌≡◌, ℕ, ◌&&◌, ◌+◌, sym, ap, ◌∙◌, refl, arith, subst}
 use Rattle.plane_map.specs.Layout.{columns_of, columns_in, columns_at, kind_of}
-use Rattle.plane_map.specs.declared.device.DeviceName.{DeviceName}
 use Rattle.ice_image.specs.Either.{configuration_of, device_of}
 use Rattle.asc_text.specs.Rows.{row_bit}
 use Rattle.asc_text.specs.Meaning.{row_sets}

@@ -1,6 +1,6 @@
-use Rattle.std.proofs.Common.{◌≡◌, ◌==◌, ℕ, Bool, ◌+◌, ◌&&◌, ◌||◌, sym, ap, ◌∙◌, refl, arith, subst}
+use Rattle.std.proofs.Common.{◌≡◌, ◌==◌, ℕ, Bool, ◌+◌, ◌&&◌, sym, ap, ◌∙◌, refl, arith, subst}
 use Rattle.std.proofs.lemmas.Nat.Bits.{shr_and_one}
-use Rattle.ice_image.specs.Either.{configuration_of, device_of}
+use Rattle.ice_image.specs.Either.{configuration_of}
 use Rattle.asc_text.specs.inside.Gains.{Gains, number_bit, is_word_bit, word_sets, word_sets_below}
 use Rattle.asc_text.proofs.Gains.{Gains-none, Gains-more, Gains-same, word-none, word-more, word-all}
 use Rattle.asc_text.proofs.reading.bits.set_word.Goals as goal

@@ -19,7 +19,7 @@ use Rattle.plane_map.proofs.Words.{word_place_is_only, word_place_is_onto}
 use Rattle.ice_image.specs.Configuration.{Configuration, place_bit, with_place_bit, AreBanks, IsWhole, blank_image}
 use Rattle.ice_image.specs.Contents.{tile_place, word_bit_place}
 use Rattle.ice_image.specs.Owned.{is_same_place, is_owned, is_extra}
-use Rattle.ice_image.specs.Bits.{Bit, OfTile, OfWord, Extra, IsBit, bit_of, OnlyBits, is_lower_kind, is_lower, cram_bit_from, bram_bit_from, image_from}
+use Rattle.ice_image.specs.Bits.{Bit, OfTile, OfWord, Extra, IsBit, bit_of, OnlyBits, IsSet, is_lower_kind, is_lower, cram_bit_from, bram_bit_from, image_from}
 use Rattle.ice_image.specs.declared.settings.Settings.{Settings}
 use Rattle.ice_image.proofs.BankBits.{place_bit-same, place_bit-other, place_bit-blank, AreBanks-with_place_bit, same_banks}
 use Rattle.ice_image.proofs.Owned.{is_same_place-same, is_same_place-self, is_owned-bit, is_owned-bit_at}
@@ -199,11 +199,6 @@ with_cram_bit image at value = record image { cram = with_place_bit image.cram a
 abbrev pub with_bram_bit : Configuration → Place → Bool → Configuration
 with_bram_bit image at value = record image { bram = with_place_bit image.bram at value }
 
--- what holds where a bit of an image was set
-pub record IsSet (bit : Bit) (value : Bool) (before after : Configuration) : Type 0 where
-  pub set : bit_of after bit ≡ value
-  pub others : OnlyBits (λ other. other ≡ bit) before after
-
 -- a bit of a tile
 pub tile_set : (image : Configuration) (bit : TileBit) (value : Bool) → IsWhole image → IsTileBit image.device bit → IsSet (OfTile bit) value image (with_cram_bit image (place_of image.device bit) value)
 tile_set image bit value whole is =
@@ -268,3 +263,35 @@ extra_set image at value whole is =
     others (OfTile other) is_other apart = place_bit-other image.cram at (place_of image.device other) value (λ e. absurd (both_ways (is_owned image.device at) (extra_in image.device at is).1 (ap (is_owned image.device) (sym e) ∙ is_owned-bit image.device other is_other)))
     others (OfWord other) is_other apart = refl
     others (Extra other) is_other apart = place_bit-other image.cram at other value (λ e. apart (ap (λ at. Extra at) e))
+
+-- the same on a device by another name
+pub tile_set_on : (before after : Configuration) (device : DeviceName) (bit : TileBit) (value : Bool) → before.device ≡ device → IsWhole before → IsTileBit device bit
+    → after ≡ with_cram_bit before (place_of device bit) value → IsSet (OfTile bit) value before after
+tile_set_on before after device bit value same whole is changed =
+    let Q : Configuration → Type 0 = λ c. IsSet (OfTile bit) value before c in
+    let P : DeviceName → Type 0 = λ d. IsTileBit d bit → Q (with_cram_bit before (place_of d bit) value) in
+    let set : P before.device = tile_set before bit value whole in
+    subst Q (sym changed) (subst P same set is)
+
+pub word_set_on : (before after : Configuration) (device : DeviceName) (bit : WordBit) (value : Bool) → before.device ≡ device → IsWhole before → IsWordBit device bit
+    → after ≡ with_bram_bit before (word_place_of device bit) value → IsSet (OfWord bit) value before after
+word_set_on before after device bit value same whole is changed =
+    let Q : Configuration → Type 0 = λ c. IsSet (OfWord bit) value before c in
+    let P : DeviceName → Type 0 = λ d. IsWordBit d bit → Q (with_bram_bit before (word_place_of d bit) value) in
+    let set : P before.device = word_set before bit value whole in
+    subst Q (sym changed) (subst P same set is)
+
+pub extra_set_on : (before after : Configuration) (device : DeviceName) (at : Place) (value : Bool) → before.device ≡ device → IsWhole before → is_extra device at ≡ true
+    → after ≡ with_cram_bit before at value → IsSet (Extra at) value before after
+extra_set_on before after device at value same whole is changed =
+    let Q : Configuration → Type 0 = λ c. IsSet (Extra at) value before c in
+    subst Q (sym changed) (extra_set before at value whole (ap (λ d. is_extra d at) same ∙ is))
+
+-- planes of those sizes are whole
+pub whole_on : (image : Configuration) (device : DeviceName) (cram_columns cram_rows bram_columns bram_rows : ℕ) → image.device ≡ device
+    → cram_columns ≡ cram_width device → cram_rows ≡ cram_height device → bram_columns ≡ bram_width device → bram_rows ≡ bram_height device
+    → AreBanks cram_columns cram_rows image.cram → AreBanks bram_columns bram_rows image.bram → IsWhole image
+whole_on image device cram_columns cram_rows bram_columns bram_rows same cw ch bw bh cram bram = record {
+  cram = rw (same, sym cw, sym ch) cram;
+  bram = rw (same, sym bw, sym bh) bram;
+}

@@ -1,12 +1,13 @@
 // Images of either device.
 ghost use Rattle.std.specs.Prelude.{◌≡◌, ◌+◌, ◌*◌, ◌<◌, ◌≤◌, ◌↔◌, Some, IfOk, IsTrue, All, true, false, length, take, drop, option_copied, MatchOption};
-ghost use Rattle.bit_plane.specs.BitList.{word_bits, bits_of, bytes_of};
+ghost use Rattle.bit_plane.specs.BitList.{word_bits, word_of, bits_of, bytes_of};
 ghost use Rattle.bit_plane.specs.Rows.{flat, rows_of};
 ghost use Rattle.plane_map.specs.Layout.{kind_of, columns_at, place_of, word_place_of, IsTileBit, IsWordBit, IsInCram};
 ghost use Rattle.ice_image.specs.Configuration.{place_bit, with_place_bit, SameBut, blank_image, IsWhole};
 ghost use Rattle.ice_image.specs.Contents.{tile_rows, IsPlaceOfTile, word_value, IsPlaceOfWord, IsBitOfTile, listed_bits};
 ghost use Rattle.ice_image.specs.Either.{configuration_of, device_of};
 ghost use Rattle.ice_image.specs.Extras.{AreSetExtras};
+ghost use Rattle.ice_image.specs.Bits.{OfTile, OfWord, Extra, bit_of, row_of, ram_word_of, set_extras, IsSet};
 ghost use Rattle.ice_image.specs.Owned.{is_extra};
 ghost use Rattle.ice_image.specs.Planes.{plane_width, plane_height, rows_of_bank, with_rows};
 
@@ -94,7 +95,8 @@ impl AnyImage {
     /// A bit of a tile.
     pub fn tile_bit(&self, at: TileBit) -> bool
         requires { IsTileBit (device_of self.now) at }
-        ensures { result ≡ place_bit (configuration_of self.now).cram (place_of (device_of self.now) at) }
+        ensures place { result ≡ place_bit (configuration_of self.now).cram (place_of (device_of self.now) at) }
+        ensures bit { result ≡ bit_of (configuration_of self.now) (OfTile at) }
     {
         match self {
             AnyImage::K1(image) => image.tile_bit(at),
@@ -107,10 +109,34 @@ impl AnyImage {
         requires { IsTileBit (device_of self.old) at }
         ensures device { device_of self.new ≡ device_of self.old }
         ensures changed { configuration_of self.new ≡ record (configuration_of self.old) { cram = with_place_bit (configuration_of self.old).cram (place_of (device_of self.old) at) bit } }
+        ensures bits { IsSet (OfTile at) bit (configuration_of self.old) (configuration_of self.new) }
     {
         match self {
             AnyImage::K1(image) => image.set_tile_bit(at, bit),
             AnyImage::K8(image) => image.set_tile_bit(at, bit),
+        }
+    }
+
+    /// The bits of a row of a tile as a word. Column c is the bit of value 2^c.
+    pub fn tile_row(&self, x: u8, y: u8, row: u8) -> u64
+        requires { row < 16 }
+        ensures { result ≡ word_of (row_of (configuration_of self.now) x y row) }
+    {
+        match self {
+            AnyImage::K1(image) => image.tile_row(x, y, row),
+            AnyImage::K8(image) => image.tile_row(x, y, row),
+        }
+    }
+
+    /// Sets an extra bit.
+    pub fn set_extra_bit(&mut self, at: Place, bit: bool)
+        requires { is_extra (device_of self.old) at ≡ true }
+        ensures device { device_of self.new ≡ device_of self.old }
+        ensures bits { IsSet (Extra at) bit (configuration_of self.old) (configuration_of self.new) }
+    {
+        match self {
+            AnyImage::K1(image) => image.set_extra_bit(at, bit),
+            AnyImage::K8(image) => image.set_extra_bit(at, bit),
         }
     }
 
@@ -178,7 +204,8 @@ impl AnyImage {
     /// A word of the RAM whose lower tile is at (x, y), bit b having the value 2^b.
     pub fn ram_word(&self, x: u8, y: u8, word: u8) -> u16
         requires { kind_of (device_of self.now) x y ≡ Some TileKind.RamB }
-        ensures { result ≡ word_value (device_of self.now) (configuration_of self.now).bram x y word }
+        ensures place { result ≡ word_value (device_of self.now) (configuration_of self.now).bram x y word }
+        ensures bits { result ≡ ram_word_of (configuration_of self.now) x y word }
     {
         match self {
             AnyImage::K1(image) => image.ram_word(x, y, word),
@@ -206,6 +233,7 @@ impl AnyImage {
         requires { IsWordBit (device_of self.old) at }
         ensures device { device_of self.new ≡ device_of self.old }
         ensures changed { configuration_of self.new ≡ record (configuration_of self.old) { bram = with_place_bit (configuration_of self.old).bram (word_place_of (device_of self.old) at) bit } }
+        ensures bits { IsSet (OfWord at) bit (configuration_of self.old) (configuration_of self.new) }
     {
         match self {
             AnyImage::K1(image) => image.set_word_bit(at, bit),
@@ -262,7 +290,8 @@ impl AnyImage {
 
     /// The set bits of the configuration planes that belong to no tile, by bank, then by row, then by column.
     pub fn extra_bits(&self, alloc: Global) -> Result<Vec<Place>, AllocError>
-        ensures { IfOk result (λ places. AreSetExtras (device_of self.now) (configuration_of self.now).cram places.items) }
+        ensures exact { IfOk result (λ places. AreSetExtras (device_of self.now) (configuration_of self.now).cram places.items) }
+        ensures bits { IfOk result (λ places. places.items ≡ set_extras (configuration_of self.now)) }
     {
         match self {
             AnyImage::K1(image) => image.extra_bits(alloc),

@@ -46,7 +46,7 @@ tile-bit image x y r col row column =
 
 -- a line of a tile sets only bits that are set
 row-sets : (image : Configuration) (x y : ℕ) (kind : TileKind) (bit : TileBit) → IsTileBit image.device bit → (r : ℕ) → r < 17
-    → sets_bit (Some (Tile kind x y)) r (trimmed (line_at (piece_lines (tile_piece image x y kind)) r)) (OfTile bit) ≡ true → place_bit image.cram (place_of image.device bit) ≡ true
+    → sets_bit (Some (Tile kind x y)) r (trimmed (line_at (piece_lines (tile_piece image x y kind)) r)) (OfTile bit) ≡ true → bit_of image (OfTile bit) ≡ true
 row-sets image x y kind bit is zero within sets =
     absurd (both_ways (nat_lt 0 0) refl (and_parts (row_sets x y (0 - 1) (trimmed (line_at (piece_lines (tile_piece image x y kind)) 0)) (OfTile bit)) (nat_lt 0 0) sets).1)
 row-sets image x y kind bit is (suc r) within sets =
@@ -61,12 +61,12 @@ row-sets image x y kind bit is (suc r) within sets =
     let er : r ≡ bit.row = sym back ∙ eqb-true _ _ place.1 in
     let wide : columns_at image.device x y ≡ columns_at image.device bit.x bit.y = λ i. columns_at image.device (ex i) (ey i) in
     let column : bit.col < columns_at image.device x y = omega (arith, is.col_in, wide) in
-    let here : tile_place image.device x y r bit.col ≡ place_of image.device bit = λ i. tile_place image.device (ex i) (ey i) (er i) bit.col in
-    ap (place_bit image.cram) (sym here) ∙ sym (tile-bit image x y r bit.col (omega arith) column) ∙ inner.1
+    let here : tile_bit_of image x y r bit.col ≡ bit_of image (OfTile bit) = λ i. tile_bit_of image (ex i) (ey i) (er i) bit.col in
+    sym here ∙ sym (tile-bit image x y r bit.col (omega arith) column) ∙ inner.1
 
 -- a tile sets only bits that are set
 tile-sets : (image : Configuration) (x y : ℕ) (kind : TileKind) (bit : TileBit) → IsTileBit image.device bit
-    → piece_sets (OfTile bit) (tile_piece image x y kind) ≡ true → place_bit image.cram (place_of image.device bit) ≡ true
+    → piece_sets (OfTile bit) (tile_piece image x y kind) ≡ true → bit_of image (OfTile bit) ≡ true
 unfolding piece_sets
 tile-sets image x y kind bit is sets =
     let found = any_below-place (suc (length (map row_line (tile_of image x y))))
@@ -75,7 +75,7 @@ tile-sets image x y kind bit is sets =
     row-sets image x y kind bit is found.0 (omega (arith, found.1, tile-count image x y)) found.2
 
 -- a tile sets each of its bits that is set
-tile-sets_at : (image : Configuration) (kind : TileKind) (bit : TileBit) → IsTileBit image.device bit → place_bit image.cram (place_of image.device bit) ≡ true
+tile-sets_at : (image : Configuration) (kind : TileKind) (bit : TileBit) → IsTileBit image.device bit → bit_of image (OfTile bit) ≡ true
     → piece_sets (OfTile bit) (tile_piece image bit.x bit.y kind) ≡ true
 unfolding piece_sets
 tile-sets_at image kind bit is set =

@@ -11,10 +11,9 @@ use Rattle.plane_map.specs.declared.tile.TileBit.{TileBit}
 use Rattle.plane_map.specs.declared.tile.TileKind.{TileKind}
 use Rattle.plane_map.specs.declared.tile.TileKind.TheVariants.{Io, Logic, RamB, RamT}
 use Rattle.plane_map.specs.declared.tile.WordBit.{WordBit}
-use Rattle.ice_image.specs.Bits.{Bit, OfTile, OfWord, Extra, IsBit, bit_of}
+use Rattle.ice_image.specs.Bits.{Bit, OfTile, OfWord, Extra, IsBit, bit_of, IsSet}
 use Rattle.ice_image.specs.Configuration.{Configuration, IsWhole, with_place_bit}
 use Rattle.ice_image.specs.Owned.{is_extra}
-use Rattle.ice_image.proofs.Bits.{IsSet, with_cram_bit, with_bram_bit, tile_set, word_set, extra_set}
 use Rattle.ice_image.proofs.Owned.{is_same_place-same, is_same_place-self}
 use Rattle.asc_text.specs.Rows.{is_row, row_bit, memory_bytes}
 use Rattle.asc_text.specs.Meaning.{row_sets, line_sets, extra_sets}
@@ -78,31 +77,18 @@ extra-only at (OfTile bit) is = absurd cc
 extra-only at (OfWord bit) is = absurd cc
 
 -- a bit of a tile is set
-pub Gains-tile_bit : (before after : Configuration) (device : DeviceName) (at : TileBit) (is_asked : Bool) → before.device ≡ device → IsWhole before → IsTileBit device at → is_asked ≡ true
-    → after ≡ record before { cram = with_place_bit before.cram (place_of device at) true } → Gains (λ bit. is_asked && is_tile_bit at bit) before after
-Gains-tile_bit before after device at is_asked same whole is asked changed =
-    let Q : Configuration → Type 0 = λ c. Gains (λ bit. is_asked && is_tile_bit at bit) before c in
-    let P : DeviceName → Type 0 = λ d. IsTileBit d at → Q (with_cram_bit before (place_of d at) true) in
-    let set : P before.device = λ is. Gains-set (OfTile at) (λ bit. is_asked && is_tile_bit at bit) before (with_cram_bit before (place_of before.device at) true)
-    (λ other here. tile_bit-only at other (and_parts is_asked (is_tile_bit at other) here).1) (and_from is_asked (is_tile_bit at (OfTile at)) asked (tile_bit-self at)) (tile_set before at true whole is) in
-    subst Q (sym changed) (subst P same set is)
+pub Gains-tile_bit : (before after : Configuration) (at : TileBit) (is_asked : Bool) → is_asked ≡ true → IsSet (OfTile at) true before after → Gains (λ bit. is_asked && is_tile_bit at bit) before after
+Gains-tile_bit before after at is_asked asked =
+    Gains-set (OfTile at) (λ bit. is_asked && is_tile_bit at bit) before after (λ other here. tile_bit-only at other (and_parts is_asked (is_tile_bit at other) here).1) (and_from is_asked (is_tile_bit at (OfTile at)) asked (tile_bit-self at))
 
 -- a bit of a word is set
-pub Gains-word_bit : (before after : Configuration) (device : DeviceName) (at : WordBit) (is_asked : Bool) → before.device ≡ device → IsWhole before → IsWordBit device at → is_asked ≡ true
-    → after ≡ record before { bram = with_place_bit before.bram (word_place_of device at) true } → Gains (λ bit. is_asked && is_word_bit at bit) before after
-Gains-word_bit before after device at is_asked same whole is asked changed =
-    let Q : Configuration → Type 0 = λ c. Gains (λ bit. is_asked && is_word_bit at bit) before c in
-    let P : DeviceName → Type 0 = λ d. IsWordBit d at → Q (with_bram_bit before (word_place_of d at) true) in
-    let set : P before.device = λ is. Gains-set (OfWord at) (λ bit. is_asked && is_word_bit at bit) before (with_bram_bit before (word_place_of before.device at) true)
-    (λ other here. word_bit-only at other (and_parts is_asked (is_word_bit at other) here).1) (and_from is_asked (is_word_bit at (OfWord at)) asked (word_bit-self at)) (word_set before at true whole is) in
-    subst Q (sym changed) (subst P same set is)
+pub Gains-word_bit : (before after : Configuration) (at : WordBit) (is_asked : Bool) → is_asked ≡ true → IsSet (OfWord at) true before after → Gains (λ bit. is_asked && is_word_bit at bit) before after
+Gains-word_bit before after at is_asked asked =
+    Gains-set (OfWord at) (λ bit. is_asked && is_word_bit at bit) before after (λ other here. word_bit-only at other (and_parts is_asked (is_word_bit at other) here).1) (and_from is_asked (is_word_bit at (OfWord at)) asked (word_bit-self at))
 
 -- an extra bit is set
-pub Gains-extra : (before after : Configuration) (device : DeviceName) (at : Place) → before.device ≡ device → IsWhole before → is_extra device at ≡ true
-    → after ≡ record before { cram = with_place_bit before.cram at true } → Gains (extra_sets at) before after
-Gains-extra before after device at same whole is changed =
-    let Q : Configuration → Type 0 = λ c. Gains (extra_sets at) before c in
-    subst Q (sym changed) (Gains-set (Extra at) (extra_sets at) before (with_cram_bit before at true) (extra-only at) (is_same_place-self at) (extra_set before at true whole (ap (λ d. is_extra d at) same ∙ is)))
+pub Gains-extra : (before after : Configuration) (at : Place) → IsSet (Extra at) true before after → Gains (extra_sets at) before after
+Gains-extra before after at = Gains-set (Extra at) (extra_sets at) before after (extra-only at) (is_same_place-self at)
 
 -- where nothing is asked, nothing is set
 pub Gains-nothing : (before : Configuration) (is_asked : Bool) (test : Bit → Bool) → IsWhole before → is_asked ≡ false → Gains (λ bit. is_asked && test bit) before before

@@ -23,8 +23,6 @@ pub mod LineSteps
 pub mod Refusals
 pub mod StatementSteps
 mod Worked
-pub mod Lists
 pub mod Pieces
-pub mod SetExtras
 pub mod RamLines
 pub mod RamPlaces

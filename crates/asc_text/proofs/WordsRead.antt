@@ -43,7 +43,7 @@ word-bit image x y r index bit row_in index_in bit_in =
 
 -- a line of a RAM sets only bits that are set
 row-sets_word : (image : Configuration) (x y : ℕ) (at : WordBit) → IsWordBit image.device at → (r : ℕ) → r < 17
-    → sets_bit (Some (RamData x y)) r (trimmed (line_at (piece_lines (ram_piece image x y)) r)) (OfWord at) ≡ true → place_bit image.bram (word_place_of image.device at) ≡ true
+    → sets_bit (Some (RamData x y)) r (trimmed (line_at (piece_lines (ram_piece image x y)) r)) (OfWord at) ≡ true → bit_of image (OfWord at) ≡ true
 row-sets_word image x y at is zero within sets =
     absurd (both_ways (nat_lt 0 0) refl (and_parts (line_sets x y (0 - 1) (trimmed (line_at (piece_lines (ram_piece image x y)) 0)) (OfWord at)) (nat_lt 0 0) sets).1)
 row-sets_word image x y at is (suc r) within sets =
@@ -57,11 +57,11 @@ row-sets_word image x y at is (suc r) within sets =
     let ey : y ≡ at.y = eqb-true _ _ grid.1 in
     let er : r ≡ at.word / 16 = sym back ∙ eqb-true _ _ place.1 in
     let ew : 16 * r + at.word % 16 ≡ at.word = omega (arith, er) in
-    let here : word_bit_place image.device x y (16 * r + at.word % 16) at.bit ≡ word_place_of image.device at = λ i. word_bit_place image.device (ex i) (ey i) (ew i) at.bit in
-    ap (place_bit image.bram) (sym here) ∙ sym (word-bit image x y r (at.word % 16) at.bit (omega arith) (omega arith) is.bit_in) ∙ inner.1
+    let here : word_bit_of image x y (16 * r + at.word % 16) at.bit ≡ bit_of image (OfWord at) = λ i. word_bit_of image (ex i) (ey i) (ew i) at.bit in
+    sym here ∙ sym (word-bit image x y r (at.word % 16) at.bit (omega arith) (omega arith) is.bit_in) ∙ inner.1
 
 -- the contents of a RAM set only bits that are set
-ram-sets_word : (image : Configuration) (x y : ℕ) (at : WordBit) → IsWordBit image.device at → piece_sets (OfWord at) (ram_piece image x y) ≡ true → place_bit image.bram (word_place_of image.device at) ≡ true
+ram-sets_word : (image : Configuration) (x y : ℕ) (at : WordBit) → IsWordBit image.device at → piece_sets (OfWord at) (ram_piece image x y) ≡ true → bit_of image (OfWord at) ≡ true
 unfolding piece_sets
 ram-sets_word image x y at is sets =
     let found = any_below-place (suc (length (ram_rows image x y)))
@@ -70,7 +70,7 @@ ram-sets_word image x y at is sets =
     row-sets_word image x y at is found.0 (omega (arith, found.1, length-single 16 (memory_line image x y))) found.2
 
 -- and each of its bits that is set
-ram-sets_word_at : (image : Configuration) (at : WordBit) → IsWordBit image.device at → place_bit image.bram (word_place_of image.device at) ≡ true
+ram-sets_word_at : (image : Configuration) (at : WordBit) → IsWordBit image.device at → bit_of image (OfWord at) ≡ true
     → piece_sets (OfWord at) (ram_piece image at.x at.y) ≡ true
 unfolding piece_sets
 ram-sets_word_at image at is set =

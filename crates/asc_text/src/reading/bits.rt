@@ -35,7 +35,6 @@ pub(crate) fn set_row(image: &mut AnyImage, kind: TileKind, x: u8, y: u8, row: u
 /// Sets a bit of a tile, where that is asked.
 fn set_where(image: &mut AnyImage, at: TileBit, is_asked: bool)
     requires bit { IsTileBit (device_of image.old) at }
-    requires device { (configuration_of image.old).device ≡ device_of image.old }
     requires whole { IsWhole (configuration_of image.old) }
     ensures device { device_of image.new ≡ device_of image.old }
     ensures bits { Gains (λ bit. is_asked && is_tile_bit at bit) (configuration_of image.old) (configuration_of image.new) }
@@ -51,9 +50,7 @@ pub(crate) fn set_extra_bit(image: &mut AnyImage, at: Place)
     ensures device { device_of image.new ≡ device_of image.old }
     ensures bits { Gains (extra_sets at) (configuration_of image.old) (configuration_of image.new) }
 {
-    // The image is whole.
-    let _device = image.device();
-    image.set_cram_bit(at, true);
+    image.set_extra_bit(at, true);
 }
 
 /// Sets the bits of the sixteen words of a line of the RAM whose lower tile is at (x, y). Each word has two bytes, the high
@@ -83,7 +80,6 @@ fn word_in(bytes: &[u8; 32], index: u8) -> u16
 /// Sets the bits of a word of a RAM that are 1 in a number.
 fn set_word(image: &mut AnyImage, x: u8, y: u8, word: u8, value: u16)
     requires lower { kind_of (device_of image.old) x y ≡ Some TileKind.RamB }
-    requires device { (configuration_of image.old).device ≡ device_of image.old }
     requires whole { IsWhole (configuration_of image.old) }
     ensures device { device_of image.new ≡ device_of image.old }
     ensures bits { Gains (word_sets x y word value) (configuration_of image.old) (configuration_of image.new) }
@@ -96,7 +92,6 @@ fn set_word(image: &mut AnyImage, x: u8, y: u8, word: u8, value: u16)
 /// Sets a bit of a word of a RAM, where that is asked.
 fn set_word_where(image: &mut AnyImage, at: WordBit, is_asked: bool)
     requires bit { IsWordBit (device_of image.old) at }
-    requires device { (configuration_of image.old).device ≡ device_of image.old }
     requires whole { IsWhole (configuration_of image.old) }
     ensures device { device_of image.new ≡ device_of image.old }
     ensures bits { Gains (λ bit. is_asked && is_word_bit at bit) (configuration_of image.old) (configuration_of image.new) }

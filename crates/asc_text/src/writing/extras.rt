@@ -1,7 +1,7 @@
 // The lines of the set bits that belong to no tile.
 ghost use Rattle.std.specs.Prelude.{◌≡◌, [], ◌∷◌, ◌++◌, OnOk};
 ghost use Rattle.text_lines.specs.Written.{text_of};
-ghost use Rattle.ice_image.specs.Either.{configuration_of, device_of};
+ghost use Rattle.ice_image.specs.Either.{configuration_of};
 ghost use Rattle.asc_text.specs.Canonical.{all_extra_lines, extra_line};
 
 use crate::writing::lines::{append_number, end_line};
@@ -15,7 +15,6 @@ pub(crate) fn append_extra_bits(
     image: &AnyImage,
     alloc: Global,
 ) -> Result<(), AllocError>
-    requires { (configuration_of image.now).device ≡ device_of image.now }
     ensures { OnOk result (text.new.items ≡ text.old.items ++ text_of (all_extra_lines (configuration_of image.now))) }
 {
     let places = image.extra_bits(alloc)?;

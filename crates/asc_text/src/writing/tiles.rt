@@ -5,8 +5,7 @@ ghost use Rattle.text_lines.specs.Written.{text_of};
 ghost use Rattle.bit_plane.specs.Rows.{row_from};
 ghost use Rattle.hex.specs.Hex.{encode_lower};
 ghost use Rattle.plane_map.specs.Layout.{kind_of, columns_at, grid_width, grid_height};
-ghost use Rattle.ice_image.specs.Configuration.{place_bit};
-ghost use Rattle.ice_image.specs.Contents.{tile_place};
+ghost use Rattle.ice_image.specs.Bits.{tile_bit_of};
 ghost use Rattle.ice_image.specs.Either.{configuration_of, device_of};
 ghost use Rattle.asc_text.specs.Statements.{tile_keyword as keyword_of};
 ghost use Rattle.asc_text.specs.Canonical.{bit_character as character_of, all_tile_lines, lines_of_tile_at, tile_lines, row_line, ram_lines, memory_line, two_bytes};
@@ -75,8 +74,9 @@ fn append_tile(
     x: u8,
     y: u8,
 ) -> Result<(), AllocError>
-    requires { kind_of (device_of image.now) x y ≡ Some kind }
-    ensures { OnOk result (text.new.items ≡ text.old.items ++ text_of (tile_lines (device_of image.now) (configuration_of image.now).cram x y kind)) }
+    requires device { (configuration_of image.now).device ≡ device_of image.now }
+    requires there { kind_of (device_of image.now) x y ≡ Some kind }
+    ensures { OnOk result (text.new.items ≡ text.old.items ++ text_of (tile_lines (configuration_of image.now) x y kind)) }
 {
     append_grid_line(text, tile_keyword(kind), x, y)?;
     let width = tile_width(kind) as u8;
@@ -97,7 +97,7 @@ fn append_row(
 ) -> Result<(), AllocError>
     requires row { row < 16 }
     requires width { columns_at (device_of image.now) x y ≡ width }
-    ensures { OnOk result (text.new.items ≡ text.old.items ++ text_of (row_line (row_from width (λ col. place_bit (configuration_of image.now).cram (tile_place (device_of image.now) x y row col))) ∷ [])) }
+    ensures { OnOk result (text.new.items ≡ text.old.items ++ text_of (row_line (row_from width (tile_bit_of (configuration_of image.now) x y row)) ∷ [])) }
 {
     for col in 0..width {
         text.push(bit_character(image.tile_bit(TileBit { x, y, row, col })))?;
@@ -116,7 +116,7 @@ fn bit_character(bit: bool) -> u8
 #[tactic(auto, using(crate::proofs::Pieces::joined), unfolding(place_search::specs::Places::gathered_below))]
 fn append_ram(text: &mut Vec<u8>, image: &AnyImage, x: u8, y: u8) -> Result<(), AllocError>
     requires { kind_of (device_of image.now) x y ≡ Some TileKind.RamB }
-    ensures { OnOk result (text.new.items ≡ text.old.items ++ text_of (ram_lines (device_of image.now) (configuration_of image.now).bram x y)) }
+    ensures { OnOk result (text.new.items ≡ text.old.items ++ text_of (ram_lines (configuration_of image.now) x y)) }
 {
     append_grid_line(text, b".ram_data", x, y)?;
     for row in 0..16 {
@@ -135,7 +135,7 @@ fn append_memory_line(
 ) -> Result<(), AllocError>
     requires row { row < 16 }
     requires lower { kind_of (device_of image.now) x y ≡ Some TileKind.RamB }
-    ensures { OnOk result (text.new.items ≡ text.old.items ++ text_of (memory_line (device_of image.now) (configuration_of image.now).bram x y row ∷ [])) }
+    ensures { OnOk result (text.new.items ≡ text.old.items ++ text_of (memory_line (configuration_of image.now) x y row ∷ [])) }
 {
     for index in 0..16 {
         append_digits(text, image.ram_word(x, y, 16 * row + 15 - index))?;

@@ -8,9 +8,6 @@ pub loop-index-init : goal.loop-index-init
 loop-index-init c =
     (refl, Gains-none (bytes_set_below c.args.x c.args.y c.args.row c.args.bytes.now 0) (configuration_of c.args.image.now) c.device-device.ensures.whole (bytes-none c.args.x c.args.y c.args.row c.args.bytes.now))
 
-pub set_word-requires-clause-device : goal.set_word-requires-clause-device
-set_word-requires-clause-device c = c.loop-index.invariant.1.device ∙ sym c.device-device.ensures.device ∙ c.device-device.ensures.name ∙ sym c.loop-index.invariant.0
-
 pub set_word-requires-clause-whole : goal.set_word-requires-clause-whole
 set_word-requires-clause-whole c = c.loop-index.invariant.1.whole
 

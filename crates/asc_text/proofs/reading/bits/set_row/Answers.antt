@@ -21,9 +21,6 @@ set_where-requires-clause-bit c =
     let same = ap (λ d. columns_at d c.args.x c.args.y) c.loop-col.invariant.0 in
     record { row_in = c.requires.row; col_in = omega (arith, wide, there, same) }
 
-pub set_where-requires-clause-device : goal.set_where-requires-clause-device
-set_where-requires-clause-device c = c.loop-col.invariant.1.device ∙ sym c.device-device.ensures.device ∙ c.device-device.ensures.name ∙ sym c.loop-col.invariant.0
-
 pub set_where-requires-clause-whole : goal.set_where-requires-clause-whole
 set_where-requires-clause-whole c = c.loop-col.invariant.1.whole
 

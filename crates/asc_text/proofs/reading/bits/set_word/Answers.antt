@@ -9,9 +9,6 @@ pub loop-bit-init : goal.loop-bit-init
 loop-bit-init c =
     (refl, Gains-none (word_sets_below c.args.x c.args.y c.args.word c.args.value 0) (configuration_of c.args.image.now) c.requires.whole (word-none c.args.x c.args.y c.args.word c.args.value))
 
-pub set_word_where-requires-clause-device : goal.set_word_where-requires-clause-device
-set_word_where-requires-clause-device c = c.loop-bit.invariant.1.device ∙ c.requires.device ∙ sym c.loop-bit.invariant.0
-
 pub set_word_where-requires-clause-whole : goal.set_word_where-requires-clause-whole
 set_word_where-requires-clause-whole c = c.loop-bit.invariant.1.whole
 

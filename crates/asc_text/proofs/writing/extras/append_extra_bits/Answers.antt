@@ -1,11 +1,9 @@
 use Rattle.std.proofs.Common.{[], ◌++◌, ◌<◌, sym, ap, ◌∙◌, map, subst, length, refl, arith}
 use Rattle.std.proofs.lemmas.List.{get_or-map, length-map}
 use Rattle.text_lines.specs.Written.{text_of}
-use Rattle.ice_image.specs.Extras.{AreSetExtras}
 use Rattle.ice_image.specs.Either.{configuration_of, device_of}
 use Rattle.asc_text.specs.Canonical.{extra_line}
 use Rattle.asc_text.proofs.Pieces.{nothing-written, lines-more, lines-all}
-use Rattle.asc_text.proofs.SetExtras.{set_extras-lines}
 use Rattle.asc_text.proofs.writing.extras.append_extra_bits.Goals as goal
 
 pub loop-at-init : goal.loop-at-init
@@ -18,6 +16,5 @@ loop-at-preserved c =
 
 pub returns : goal.returns
 returns c =
-    let are_named : AreSetExtras (device_of c.args.image.now) (configuration_of c.args.image.now).cram c.in_ok-places.places.items = c.in_ok-places.ensures in
-    let are : AreSetExtras (configuration_of c.args.image.now).device (configuration_of c.args.image.now).cram c.deref-at-items.result.now = subst (λ device. AreSetExtras device (configuration_of c.args.image.now).cram c.deref-at-items.result.now) (sym c.requires) (subst (AreSetExtras (device_of c.args.image.now) (configuration_of c.args.image.now).cram) (sym c.deref-at-items.ensures.value) are_named) in
-    lines-all c.args.text.now.items c.loop-at.text.items (map extra_line c.deref-at-items.result.now) c.loop-at.at-index (omega (arith, length-map c.deref-at-items.result.now extra_line)) c.loop-at.invariant ∙ ap (λ lines. c.args.text.now.items ++ text_of lines) (set_extras-lines (configuration_of c.args.image.now) c.deref-at-items.result.now are)
+    lines-all c.args.text.now.items c.loop-at.text.items (map extra_line c.deref-at-items.result.now) c.loop-at.at-index (omega (arith, length-map c.deref-at-items.result.now extra_line)) c.loop-at.invariant
+    ∙ ap (λ places. c.args.text.now.items ++ text_of (map extra_line places)) (c.deref-at-items.ensures.value ∙ c.in_ok-places.ensures.bits)

@@ -7,4 +7,4 @@ use Rattle.asc_text.proofs.writing.tiles.append_ram.Given as goal
 
 abbrev pub invariant-loop-row : goal.invariant-loop-row
 invariant-loop-row l =
-    l.text.items ≡ l.initial.text.items ++ text_of (gathered_below l.row (λ row. memory_line (device_of l.image) (configuration_of l.image).bram l.x l.y row ∷ []))
+    l.text.items ≡ l.initial.text.items ++ text_of (gathered_below l.row (λ row. memory_line (configuration_of l.image) l.x l.y row ∷ []))

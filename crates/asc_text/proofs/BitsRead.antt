@@ -1,26 +1,25 @@
 -- The bits that the tiles and the extra bits of a canonical text set are those of the image.
-use Rattle.std.proofs.Common.{◌≡◌, ℕ, zero, suc, ◌-◌, ◌<◌, Bool, true, false, not, ◌&&◌, ◌||◌, ◌==◌, List, [], ◌∷◌, length, map, refl, sym, ap, ◌∙◌, arith, inl, inr, Option, Some, None}
-use Rattle.std.proofs.lemmas.Bool.{lt-ltb, eqb-true, eq-eqb, and_from, and_parts, or_cases, or_left, not_from_false, both_ways}
+use Rattle.std.proofs.Common.{◌≡◌, ℕ, zero, suc, ◌-◌, ◌<◌, Bool, true, false, ◌&&◌, ◌||◌, ◌==◌, [], ◌∷◌, length, map, refl, sym, ap, ◌∙◌, arith, inl, inr, Option, Some, None}
+use Rattle.std.proofs.lemmas.Bool.{lt-ltb, eqb-true, eq-eqb, and_from, and_parts, or_cases, or_left, both_ways}
 use Rattle.std.specs.Prelude.{nat_lt}
 use Rattle.text_lines.specs.Lines.{line_at, trimmed}
 use Rattle.place_search.specs.Places.{any_below}
 use Rattle.place_search.proofs.Places.{any_below-none, any_below-at, any_below-place}
-use Rattle.bit_plane.specs.Rows.{Rows, row_from}
+use Rattle.bit_plane.specs.Rows.{row_from}
 use Rattle.bit_plane.proofs.Made.{get_or-row_from}
-use Rattle.plane_map.specs.Layout.{kind_of, columns_in, columns_at, place_of, grid_width, grid_height, cram_width, cram_height, IsTileBit}
-use Rattle.plane_map.specs.declared.device.DeviceName.{DeviceName}
+use Rattle.plane_map.specs.Layout.{kind_of, columns_in, columns_at, grid_width, grid_height, IsTileBit}
 use Rattle.plane_map.specs.declared.tile.TileKind.{TileKind}
 use Rattle.plane_map.specs.declared.tile.TileKind.TheVariants.{Io, Logic, RamB, RamT}
 use Rattle.plane_map.specs.declared.tile.Place.{Place}
 use Rattle.plane_map.specs.declared.tile.TileBit.{TileBit}
 use Rattle.plane_map.proofs.Layouts.{columns_at-in}
-use Rattle.ice_image.specs.Bits.{Bit, OfTile, Extra, bit_of, tile_bit_of, tile_of, set_extras}
+use Rattle.ice_image.specs.Bits.{OfTile, Extra, bit_of, tile_bit_of, tile_of, set_extras}
 use Rattle.ice_image.specs.Configuration.{Configuration}
 use Rattle.ice_image.proofs.SetExtras.{set_extras-in, set_extras-at}
 use Rattle.ice_image.proofs.Owned.{is_same_place-same, is_same_place-self}
 use Rattle.asc_text.specs.declared.statement.Statement.TheVariants.{Tile, RamData}
 use Rattle.asc_text.specs.Rows.{row_bit}
-use Rattle.ice_image.specs.Owned.{is_same_place, is_owned, is_extra}
+use Rattle.ice_image.specs.Owned.{is_same_place, is_extra}
 use Rattle.asc_text.specs.Meaning.{row_sets, sets_bit}
 use Rattle.asc_text.specs.Canonical.{row_line}
 use Rattle.asc_text.proofs.PieceRead.{piece_lines, piece_sets}

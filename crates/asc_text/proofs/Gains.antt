@@ -4,7 +4,7 @@ use Rattle.std.proofs.lemmas.Bool.{cases_eq, cases_lt, cases_Bool, eq-eqb, ne_eq
 use Rattle.std.proofs.lemmas.Bool.Decides.{nat_tests}
 use Rattle.std.proofs.Math.Bool.{or-false, or-true, or_assoc}
 use Rattle.std.specs.Prelude.{Some, nat_lt}
-use Rattle.plane_map.specs.Layout.{kind_of, columns_of, columns_in, columns_at, place_of, word_place_of, IsTileBit, IsWordBit}
+use Rattle.plane_map.specs.Layout.{kind_of, columns_of, columns_in, columns_at}
 use Rattle.plane_map.specs.declared.device.DeviceName.{DeviceName}
 use Rattle.plane_map.specs.declared.tile.Place.{Place}
 use Rattle.plane_map.specs.declared.tile.TileBit.{TileBit}
@@ -12,8 +12,7 @@ use Rattle.plane_map.specs.declared.tile.TileKind.{TileKind}
 use Rattle.plane_map.specs.declared.tile.TileKind.TheVariants.{Io, Logic, RamB, RamT}
 use Rattle.plane_map.specs.declared.tile.WordBit.{WordBit}
 use Rattle.ice_image.specs.Bits.{Bit, OfTile, OfWord, Extra, IsBit, bit_of, IsSet}
-use Rattle.ice_image.specs.Configuration.{Configuration, IsWhole, with_place_bit}
-use Rattle.ice_image.specs.Owned.{is_extra}
+use Rattle.ice_image.specs.Configuration.{Configuration, IsWhole}
 use Rattle.ice_image.proofs.Owned.{is_same_place-same, is_same_place-self}
 use Rattle.asc_text.specs.Rows.{is_row, row_bit, memory_bytes}
 use Rattle.asc_text.specs.Meaning.{row_sets, line_sets, extra_sets}

@@ -1,22 +1,20 @@
 -- The device and the settings of a canonical text, and what stands nowhere behind them.
-use Rattle.std.proofs.Common.{◌≡◌, ℕ, Bool, true, false, not, ◌&&◌, List, [], ◌∷◌, ◌++◌, append_assoc, refl, sym, ap, ◌∙◌, arith, Option, Some, None}
+use Rattle.std.proofs.Common.{◌≡◌, ℕ, Bool, true, false, List, [], ◌∷◌, ◌++◌, append_assoc, refl, sym, ap, ◌∙◌, arith, Option, Some, None}
 use Rattle.std.proofs.lemmas.List.Elements.{All-cons, All-nil}
 use Rattle.std.specs.Prelude.{unwrap_or}
 use Rattle.place_search.specs.Places.{or_else}
 use Rattle.text_lines.specs.Written.{IsPlain}
-use Rattle.plane_map.specs.Layout.{kind_of, grid_width, grid_height, cram_width, cram_height}
+use Rattle.plane_map.specs.Layout.{kind_of, grid_width, grid_height}
 use Rattle.plane_map.specs.declared.device.DeviceName.{DeviceName}
 use Rattle.plane_map.specs.declared.tile.TileKind.{TileKind}
 use Rattle.plane_map.specs.declared.tile.TileKind.TheVariants.{Io, Logic, RamB, RamT}
-use Rattle.plane_map.specs.declared.tile.Place.{Place}
-use Rattle.ice_image.specs.Configuration.{Configuration, place_bit}
+use Rattle.ice_image.specs.Configuration.{Configuration}
 use Rattle.ice_image.specs.declared.settings.Range.{Range}
 use Rattle.ice_image.specs.declared.settings.Range.TheVariants.{Low, Medium, High}
 use Rattle.asc_text.specs.declared.statement.Statement.{Statement}
 use Rattle.asc_text.specs.declared.statement.Statement.TheVariants.{Comment, Device, WarmBoot, FrequencyRange, NoSleep, Tile, RamData, ExtraBit}
 use Rattle.asc_text.specs.Statements.{device_word, switch_word, range_word, comment_keyword, device_keyword, warm_boot_keyword, range_keyword, no_sleep_keyword}
 use Rattle.asc_text.specs.Blocks.{device_in, has_rows, is_comment}
-use Rattle.ice_image.specs.Owned.{is_owned}
 use Rattle.asc_text.specs.Faults.{is_warm_boot, is_range, is_no_sleep}
 use Rattle.asc_text.specs.Meaning.{warm_boot_in, range_in, no_sleep_in}
 use Rattle.asc_text.specs.Canonical.{with_word, warm_boot_lines, range_lines, no_sleep_lines}

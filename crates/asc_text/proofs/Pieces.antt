@@ -6,7 +6,13 @@ use Rattle.hex.specs.Hex.{encode_with, lower_digits, encode_lower}
 use Rattle.place_search.specs.Places.{gathered_below}
 use Rattle.text_lines.specs.Written.{text_of}
 use Rattle.place_search.proofs.Places.{gathered_below-more, gathered_below-none}
-use Rattle.bit_plane.specs.Rows.{Rows, row_from, rows_from}
+use Rattle.std.proofs.Common.{◌/◌, ◌^◌, ◌==◌, false, bit_and}
+use Rattle.std.proofs.lemmas.Nat.Bits.{shr_and_one}
+use Rattle.bit_plane.specs.BitList.{word_bits, word_of}
+use Rattle.bit_plane.specs.Rows.{row_from, rows_from}
+use Rattle.bit_plane.proofs.Made.{get_or-row_from}
+use Rattle.bit_plane.proofs.Words.{get_or-word_bits}
+use Rattle.ice_image.proofs.Made.{row_word-bits}
 use Rattle.plane_map.specs.Layout.{kind_of, columns_of, columns_at, columns_in}
 use Rattle.plane_map.specs.declared.device.DeviceName.{DeviceName}
 use Rattle.plane_map.specs.declared.tile.TileKind.{TileKind}
@@ -107,6 +113,14 @@ bits-more old now after col bit so_far next =
 pub bits-all : (old now after : List ℕ) (col width : ℕ) (bit : ℕ → Bool) → col ≡ width → now ≡ old ++ row_line (row_from col bit) → after ≡ now ++ 10 ∷ [] → after ≡ old ++ text_of (row_line (row_from width bit) ∷ [])
 bits-all old now after col width bit same so_far ended =
     line-ended old now after (row_line (row_from width bit)) (so_far ∙ ap (λ n. old ++ row_line (row_from n bit)) same) ended
+
+-- a bit of the word of a row, as code tests it
+pub row_bit_read : (width : ℕ) (bit : ℕ → Bool) (word col : ℕ) → word ≡ word_of (row_from width bit) → col < width → (bit_and (word / 2 ^ col) 1 == 1) ≡ bit col
+row_bit_read width bit word col is within =
+    ap (λ n. n == 1) (shr_and_one word col)
+    ∙ sym (get_or-word_bits width word col within)
+    ∙ ap (λ bits. get_or bits col false) (ap (word_bits width) is ∙ row_word-bits width bit)
+    ∙ get_or-row_from width bit col within
 
 -- no row yet
 pub rows-none : (text : List ℕ) (width : ℕ) (bit : ℕ → ℕ → Bool) → text ≡ text ++ text_of (map row_line (rows_from width 0 bit))

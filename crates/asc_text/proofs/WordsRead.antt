@@ -1,19 +1,18 @@
 -- The bits that the contents of RAMs in a canonical text set are those of the image.
-use Rattle.std.proofs.Common.{◌≡◌, ℕ, zero, suc, ◌+◌, ◌-◌, ◌*◌, ◌/◌, ◌%◌, ◌^◌, ◌<◌, Bool, true, false, ◌&&◌, ◌==◌, List, [], ◌∷◌, length, refl, sym, ap, ◌∙◌, arith, inl, inr, Option, Some, None}
+use Rattle.std.proofs.Common.{◌≡◌, ℕ, zero, suc, ◌+◌, ◌-◌, ◌*◌, ◌/◌, ◌%◌, ◌^◌, ◌<◌, true, false, ◌&&◌, ◌==◌, List, [], ◌∷◌, length, refl, sym, ap, ◌∙◌, arith, inl, inr, Option, Some, None}
 use Rattle.std.proofs.lemmas.Bool.{lt-ltb, eqb-true, eq-eqb, and_from, and_parts, or_cases, or_right, both_ways}
 use Rattle.std.proofs.lemmas.Bool.Decides.{nat_tests}
 use Rattle.std.specs.Prelude.{nat_lt}
 use Rattle.text_lines.specs.Lines.{line_at, trimmed}
 use Rattle.place_search.specs.Places.{any_below, gathered_below}
 use Rattle.place_search.proofs.Places.{any_below-none, any_below-at, any_below-place}
-use Rattle.bit_plane.specs.Rows.{Rows}
-use Rattle.plane_map.specs.Layout.{kind_of, word_place_of, grid_width, grid_height, IsWordBit}
+use Rattle.plane_map.specs.Layout.{kind_of, grid_width, grid_height, IsWordBit}
 use Rattle.plane_map.specs.declared.device.DeviceName.{DeviceName}
 use Rattle.plane_map.specs.declared.tile.TileKind.{TileKind}
 use Rattle.plane_map.specs.declared.tile.TileKind.TheVariants.{Io, Logic, RamB, RamT}
 use Rattle.plane_map.specs.declared.tile.WordBit.{WordBit}
 use Rattle.plane_map.specs.declared.tile.Place.{Place}
-use Rattle.ice_image.specs.Bits.{Bit, OfWord, bit_of, word_bit_of, ram_word_of, set_extras}
+use Rattle.ice_image.specs.Bits.{OfWord, bit_of, word_bit_of, ram_word_of, set_extras}
 use Rattle.ice_image.specs.Configuration.{Configuration}
 use Rattle.asc_text.specs.declared.statement.Statement.TheVariants.{Tile, RamData}
 use Rattle.asc_text.specs.Rows.{memory_bit}
@@ -22,7 +21,7 @@ use Rattle.asc_text.specs.Canonical.{memory_line}
 use Rattle.asc_text.proofs.PieceRead.{piece_lines, piece_sets}
 use Rattle.asc_text.proofs.PiecesRead.{some_piece, some_piece-nothing, some_piece-append, some_piece-one}
 use Rattle.asc_text.proofs.RowsRead.{memory_word-encoded, word_bit-row_from}
-use Rattle.asc_text.proofs.PiecesWritten.{gathered-at, gathered-place, gathered-none, tile_piece, ram_piece, kind_pieces, grid_pieces, row_pieces, all_tile_pieces, length-single, line_word, line_word-small, ram-row, extra_piece, all_extra_pieces, extras-none}
+use Rattle.asc_text.proofs.PiecesWritten.{gathered-at, gathered-place, tile_piece, ram_piece, kind_pieces, grid_pieces, row_pieces, all_tile_pieces, length-single, line_word, line_word-small, ram-row, extra_piece, all_extra_pieces, extras-none}
 
 -- ---- the contents of a RAM
 

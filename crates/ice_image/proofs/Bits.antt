@@ -19,7 +19,7 @@ use Rattle.plane_map.proofs.Words.{word_place_is_only, word_place_is_onto}
 use Rattle.ice_image.specs.Configuration.{Configuration, place_bit, with_place_bit, AreBanks, IsWhole, blank_image}
 use Rattle.ice_image.specs.Contents.{tile_place, word_bit_place}
 use Rattle.ice_image.specs.Owned.{is_same_place, is_owned, is_extra}
-use Rattle.ice_image.specs.Bits.{Bit, OfTile, OfWord, Extra, IsBit, bit_of, OnlyBits, IsSet, is_lower_kind, is_lower, cram_bit_from, bram_bit_from, image_from}
+use Rattle.ice_image.specs.Bits.{Bit, OfTile, OfWord, Extra, IsBit, bit_of, IsSet, is_lower_kind, is_lower, cram_bit_from, bram_bit_from, image_from}
 use Rattle.ice_image.specs.declared.settings.Settings.{Settings}
 use Rattle.ice_image.proofs.BankBits.{place_bit-same, place_bit-other, place_bit-blank, AreBanks-with_place_bit, same_banks}
 use Rattle.ice_image.proofs.Owned.{is_same_place-same, is_same_place-self, is_owned-bit, is_owned-bit_at}

@@ -1,10 +1,9 @@
 -- The set bits that are no tile's, as a list.
-use Rattle.std.proofs.Common.{◌≡◌, ℕ, ◌<◌, Bool, true, false, not, ◌&&◌, List, [], ◌∷◌, get_or, map, Contains, refl, sym, ap, ◌∙◌, subst, inl, inr, arith}
+use Rattle.std.proofs.Common.{◌≡◌, ℕ, ◌<◌, Bool, true, false, not, ◌&&◌, List, [], ◌∷◌, get_or, Contains, refl, sym, ap, ◌∙◌, subst, inl, inr, arith}
 use Rattle.std.specs.Prelude.{if◌then◌else◌}
 use Rattle.std.specs.List.{AllPairs}
 use Rattle.std.proofs.lemmas.Bool.{and_parts}
 use Rattle.place_search.specs.Places.{gathered_below}
-use Rattle.place_search.proofs.Places.{gathered_below-same}
 use Rattle.plane_map.specs.Layout.{cram_width, cram_height}
 use Rattle.plane_map.specs.declared.tile.Place.{Place}
 use Rattle.ice_image.specs.Configuration.{Configuration, place_bit}
@@ -13,7 +12,7 @@ use Rattle.ice_image.specs.Bits.{Extra, bit_of, set_extras}
 use Rattle.ice_image.specs.Owned.{is_owned, is_extra}
 use Rattle.ice_image.proofs.Bits.{extra_in, extra_from}
 use Rattle.ice_image.proofs.Owned.{is_owned-extra, extra-is_owned}
-use Rattle.ice_image.proofs.Lists.{map-gathered, gathered-place, gathered-at, ordered-gathered, ordered-same}
+use Rattle.ice_image.proofs.Lists.{gathered-place, gathered-at, ordered-gathered, ordered-same}
 
 -- no place is before one that is before it
 before-strict : (a b : Place) → IsBefore a b → IsBefore b a → ⊥

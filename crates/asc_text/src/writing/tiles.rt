@@ -12,7 +12,7 @@ ghost use Rattle.asc_text.specs.Canonical.{bit_character as character_of, all_ti
 
 use crate::writing::lines::{append_grid_line, end_line};
 use ice_image::AnyImage;
-use plane_map::{TileBit, TileKind, kind_on, tile_width};
+use plane_map::{TileKind, kind_on, tile_width};
 use std::alloc::AllocError;
 
 /// Appends all tiles, row of the grid by row of the grid.
@@ -96,11 +96,12 @@ fn append_row(
     width: u8,
 ) -> Result<(), AllocError>
     requires row { row < 16 }
-    requires width { columns_at (device_of image.now) x y ≡ width }
+    requires width { columns_at (configuration_of image.now).device x y ≡ width }
     ensures { OnOk result (text.new.items ≡ text.old.items ++ text_of (row_line (row_from width (tile_bit_of (configuration_of image.now) x y row)) ∷ [])) }
 {
+    let bits = image.tile_row(x, y, row);
     for col in 0..width {
-        text.push(bit_character(image.tile_bit(TileBit { x, y, row, col })))?;
+        text.push(bit_character(bits >> col & 1 == 1))?;
     }
     end_line(text)
 }

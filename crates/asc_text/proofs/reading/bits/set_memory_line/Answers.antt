@@ -1,4 +1,4 @@
-use Rattle.std.proofs.Common.{◌≡◌, ℕ, ◌*◌, ◌+◌, sym, ◌∙◌, refl, arith, subst}
+use Rattle.std.proofs.Common.{◌≡◌, ℕ, ◌*◌, ◌+◌, ◌∙◌, refl, arith, subst}
 use Rattle.ice_image.specs.Either.{configuration_of}
 use Rattle.asc_text.specs.inside.Gains.{Gains, word_in, word_sets, bytes_set, bytes_set_below}
 use Rattle.asc_text.proofs.Gains.{Gains-none, Gains-more, Gains-same, bytes-none, bytes-more, bytes-all}

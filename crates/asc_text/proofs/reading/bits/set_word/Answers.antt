@@ -1,4 +1,4 @@
-use Rattle.std.proofs.Common.{◌≡◌, ◌==◌, ℕ, Bool, ◌+◌, ◌&&◌, sym, ap, ◌∙◌, refl, arith, subst}
+use Rattle.std.proofs.Common.{◌≡◌, ◌==◌, ℕ, Bool, ◌+◌, ◌&&◌, ap, ◌∙◌, refl, arith, subst}
 use Rattle.std.proofs.lemmas.Nat.Bits.{shr_and_one}
 use Rattle.ice_image.specs.Either.{configuration_of}
 use Rattle.asc_text.specs.inside.Gains.{Gains, number_bit, is_word_bit, word_sets, word_sets_below}

@@ -1,7 +1,6 @@
-use Rattle.std.proofs.Common.{[], ◌++◌, ◌<◌, sym, ap, ◌∙◌, map, subst, length, refl, arith}
+use Rattle.std.proofs.Common.{[], ◌++◌, ◌<◌, sym, ap, ◌∙◌, map, length, refl, arith}
 use Rattle.std.proofs.lemmas.List.{get_or-map, length-map}
 use Rattle.text_lines.specs.Written.{text_of}
-use Rattle.ice_image.specs.Either.{configuration_of, device_of}
 use Rattle.asc_text.specs.Canonical.{extra_line}
 use Rattle.asc_text.proofs.Pieces.{nothing-written, lines-more, lines-all}
 use Rattle.asc_text.proofs.writing.extras.append_extra_bits.Goals as goal

@@ -2,7 +2,7 @@ use Rattle.std.proofs.Common.{◌+◌, ◌-◌, ◌*◌, ◌++◌, ap, ◌∙◌
 use Rattle.std.proofs.lemmas.Result.{on_ok_weaker}
 use Rattle.hex.specs.Hex.{encode_lower}
 use Rattle.ice_image.specs.Bits.{ram_word_of}
-use Rattle.ice_image.specs.Either.{configuration_of, device_of}
+use Rattle.ice_image.specs.Either.{configuration_of}
 use Rattle.asc_text.specs.Canonical.{two_bytes}
 use Rattle.asc_text.proofs.Pieces.{digits-none, digits-more, digits-all}
 use Rattle.asc_text.proofs.writing.tiles.append_memory_line.Goals as goal

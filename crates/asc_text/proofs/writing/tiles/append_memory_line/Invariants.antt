@@ -2,7 +2,7 @@ use Rattle.std.proofs.Common.{◌≡◌, ◌+◌, ◌*◌, ◌-◌, ◌++◌}
 use Rattle.hex.specs.Hex.{encode_lower}
 use Rattle.place_search.specs.Places.{gathered_below}
 use Rattle.ice_image.specs.Bits.{ram_word_of}
-use Rattle.ice_image.specs.Either.{configuration_of, device_of}
+use Rattle.ice_image.specs.Either.{configuration_of}
 use Rattle.asc_text.specs.Canonical.{two_bytes}
 use Rattle.asc_text.proofs.writing.tiles.append_memory_line.Given as goal
 

@@ -1,5 +1,5 @@
 use Rattle.std.proofs.Common.{ℕ, List, [], ◌∷◌, arith}
-use Rattle.ice_image.specs.Either.{configuration_of, device_of}
+use Rattle.ice_image.specs.Either.{configuration_of}
 use Rattle.asc_text.specs.Statements.{ram_data_keyword}
 use Rattle.asc_text.specs.Canonical.{grid_line, memory_line}
 use Rattle.place_search.specs.Places.{gathered_below}

@@ -2,7 +2,7 @@ use Rattle.std.proofs.Common.{◌≡◌, ◌++◌, map}
 use Rattle.text_lines.specs.Written.{text_of}
 use Rattle.bit_plane.specs.Rows.{rows_from}
 use Rattle.ice_image.specs.Bits.{tile_bit_of}
-use Rattle.ice_image.specs.Either.{configuration_of, device_of}
+use Rattle.ice_image.specs.Either.{configuration_of}
 use Rattle.asc_text.specs.Canonical.{row_line}
 use Rattle.asc_text.proofs.writing.tiles.append_tile.Given as goal
 

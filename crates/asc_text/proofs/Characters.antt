@@ -1,29 +1,25 @@
 -- A text that means an image has each of its bits as a character, a digit or a statement.
-use Rattle.std.proofs.Common.{◌≡◌, ℕ, zero, suc, ◌+◌, ◌-◌, ◌*◌, ◌/◌, ◌%◌, ◌<◌, ◌≤◌, Bool, true, false, not, ◌&&◌, ◌==◌, cond, List, [], length, refl, sym, ap, subst, ◌∙◌, inl, inr, ◌⊎◌, arith, Option, Some, None}
+use Rattle.std.proofs.Common.{◌≡◌, ℕ, zero, suc, ◌+◌, ◌-◌, ◌/◌, ◌%◌, ◌<◌, ◌≤◌, Bool, true, false, not, ◌&&◌, ◌==◌, cond, List, [], length, refl, sym, ap, subst, ◌∙◌, inl, inr, ◌⊎◌, arith, Option, Some, None}
 use Rattle.std.specs.Prelude.{nat_lt, Result, Ok, Err, IfOk}
-use Rattle.std.proofs.lemmas.Bool.{cases_eq, cases_lt, cases_Bool, and_parts, and_from, both_ways, ltb-true, lt-ltb, lt-leb, eqb-true, not-true}
+use Rattle.std.proofs.lemmas.Bool.{cases_eq, eq-eqb, cases_lt, cases_Bool, and_parts, and_from, both_ways, ltb-true, lt-ltb, lt-leb, eqb-true}
 use Rattle.std.proofs.lemmas.Bool.Decides.{nat_tests}
 use Rattle.std.proofs.lemmas.List.{get_or_past}
 use Rattle.text_lines.specs.Lines.{lines_of, line_at, trimmed}
 use Rattle.place_search.specs.Places.{any_below, least_below, first_below, or_here, or_else}
 use Rattle.place_search.proofs.Places.{any_below-at, any_below-place, least_below-first, first_below-sum}
-use Rattle.plane_map.specs.Layout.{kind_of, columns_of, columns_in, place_of, word_place_of, px_of, bank_of, ram_of, from_end, grid_height, cram_width, cram_height, bram_width, bram_height, IsTileBit, IsWordBit, IsExtraBit, IsInCram, IsInBram}
+use Rattle.plane_map.specs.Layout.{kind_of, IsTileBit, IsWordBit}
 use Rattle.plane_map.specs.declared.device.DeviceName.{DeviceName}
-use Rattle.plane_map.specs.declared.device.DeviceName.TheVariants.{K1, K8}
 use Rattle.plane_map.specs.declared.tile.TileKind.{TileKind}
 use Rattle.plane_map.specs.declared.tile.TileKind.TheVariants.{Io, Logic, RamB, RamT}
 use Rattle.plane_map.specs.declared.tile.Place.{Place}
 use Rattle.plane_map.specs.declared.tile.TileBit.{TileBit}
 use Rattle.plane_map.specs.declared.tile.WordBit.{WordBit}
-use Rattle.plane_map.proofs.Places.{place_is_only, px_of-in, py_of-is, height_of, height_of-below, tile_bit_is_placed, tile_bit_y_in}
-use Rattle.plane_map.proofs.Words.{word_place_is_only, lower-third}
 use Rattle.ice_image.specs.Configuration.{Configuration}
 use Rattle.ice_image.specs.Either.{configuration_of}
-use Rattle.ice_image.specs.Contents.{tile_place, word_bit_place}
 use Rattle.asc_text.specs.declared.statement.Statement.{Statement}
 use Rattle.asc_text.specs.declared.statement.Statement.TheVariants.{Tile, RamData, ExtraBit}
 use Rattle.asc_text.specs.declared.fault.AscCause.{AscCause}
-use Rattle.asc_text.specs.declared.fault.AscCause.TheVariants.{Kind, Repeated, Hex, ExtraPlace}
+use Rattle.asc_text.specs.declared.fault.AscCause.TheVariants.{Kind, Repeated, Hex}
 use Rattle.asc_text.specs.declared.fault.TileXy.{TileXy}
 use Rattle.asc_text.specs.declared.fault.AscFault.{AscFault}
 use Rattle.asc_text.specs.declared.file.AscFile.{AscFile}
@@ -31,12 +27,11 @@ use Rattle.asc_text.specs.declared.file.Symbol.{Symbol as NetName}
 use Rattle.asc_text.specs.Statements.{statement_in, begins_with_dot}
 use Rattle.asc_text.specs.Rows.{row_bit, memory_bit, is_memory_line}
 use Rattle.asc_text.specs.Blocks.{has_rows, depth_after, depth_at, statement_over, statement_at, device_in, device_before}
-use Rattle.asc_text.specs.Extras.{is_same_place, is_owned, is_extra}
-use Rattle.asc_text.specs.Faults.{cause_if, is_same_kind, kind_cause, tile_cause, missing_device, unknown_device, extra_cause, setting_cause, stands_before, names_tile, names_ram, statement_cause, cause_at, fault_at, fault_with, asc_fault_of}
-use Rattle.asc_text.specs.Meaning.{sets_place, is_set_before, sets_word_place, is_word_set_before, image_before, image_for, asc_image_of, AscMeans}
-use Rattle.asc_text.specs.Characters.{tile_statement, ram_statement, character_below, character_of, names_extra, is_named_extra, digit_bit_below, digit_bit_of, HasBits}
-use Rattle.asc_text.proofs.Owners.{is_same_place-same, is_same_place-self, is_owned-bit}
-use Rattle.asc_text.proofs.PlanesFrom.{place_bit-planes_from}
+use Rattle.asc_text.specs.Faults.{cause_if, is_same_kind, kind_cause, tile_cause, missing_device, unknown_device, stands_before, names_tile, names_ram, statement_cause, cause_at, fault_at, fault_with, asc_fault_of}
+use Rattle.asc_text.specs.Meaning.{row_sets, line_sets, sets_bit, is_set_before, comment_before, settings_before, image_before, image_for, asc_image_of, AscMeans}
+use Rattle.asc_text.specs.Characters.{tile_statement, ram_statement, character_below, character_of, names_extra, is_named_extra, digit_bit_below, digit_bit_of, is_said, HasBits}
+use Rattle.ice_image.specs.Bits.{Bit, OfTile, OfWord, Extra, IsBit, image_from}
+use Rattle.ice_image.proofs.Bits.{image_from-bit}
 
 -- ---- tests and values
 
@@ -288,25 +283,6 @@ ram_needs (Some device) repeated x y rest none = (
   no_cause repeated Repeated (or_else-first (cause_if repeated Repeated) rest (or_else-second (kind_cause (kind_of device x y) RamB) (or_else (cause_if repeated Repeated) rest) none)),
 )
 
--- and one of an extra bit
-extra_needs : (device : Option DeviceName) (bank x y : ℕ)
-    → or_else (missing_device device (ExtraBit bank x y)) (or_else (unknown_device (ExtraBit bank x y)) (or_else (tile_cause device (ExtraBit bank x y)) (or_else (cause_if false Repeated)
-    (or_else (extra_cause device (ExtraBit bank x y)) (setting_cause (ExtraBit bank x y)))))) ≡ None
-    → (found : DeviceName) × (device ≡ Some found) × (is_extra found (record { bank = bank; px = x; py = y }) ≡ true)
-extra_needs None bank x y none = absurd cc
-extra_needs (Some device) bank x y none =
-    let extra = is_extra device (record { bank = bank; px = x; py = y }) in
-    let differs : not extra ≡ false = no_cause (not extra) ExtraPlace (or_else-first (cause_if (not extra) ExtraPlace) None none) in (
-      device,
-      refl,
-      elim (cases_Bool extra) [
-        | inl is ↦ is
-        | inr other ↦
-            let both : true ≡ false = rw other at differs in
-            absurd cc
-      ],
-    )
-
 -- a tile's statement stands first, and names a tile of its kind
 tile_head : (lines : List (List ℕ)) (device : DeviceName) (h : ℕ) (kind : TileKind) (x y : ℕ) → Accepted lines device → h < length lines → depth_at lines h ≡ 0 → statement_in (line_at lines h) ≡ Some (Tile kind x y)
     → (kind_of device x y ≡ Some kind) × (tile_statement lines x y ≡ Some h)
@@ -329,16 +305,6 @@ ram_head lines device h x y accepted within top said =
     let here : test h ≡ true = ap (names_ram x y) (top_at lines h top ∙ said) ∙ grind (arith, nat_tests) in
     (ap (λ d. kind_of d x y) (sym same) ∙ needs.2, least_below-first (length lines) h test within (λ j before. none_below h j test needs.3 before) here)
 
--- an extra bit is no tile's
-extra_head : (lines : List (List ℕ)) (device : DeviceName) (h bank x y : ℕ) → Accepted lines device → h < length lines → depth_at lines h ≡ 0 → statement_in (line_at lines h) ≡ Some (ExtraBit bank x y)
-    → is_owned device (record { bank = bank; px = x; py = y }) ≡ false
-extra_head lines device h bank x y accepted within top said =
-    let at : Place = record { bank = bank; px = x; py = y } in
-    let needs = extra_needs (device_before lines h) bank x y (unfaulty lines device h (ExtraBit bank x y) accepted within top said) in
-    let same : needs.0 ≡ device = one_device lines device needs.0 h accepted within needs.1 in
-    let extra : is_extra device at ≡ true = ap (λ d. is_extra d at) (sym same) ∙ needs.2 in
-    not-true (is_owned device at) (and_parts (nat_lt at.bank 4 && nat_lt at.px (cram_width device) && nat_lt at.py (cram_height device)) (not (is_owned device at)) extra).1
-
 -- a statement to which no lines belong is at depth 0
 alone_top : (lines : List (List ℕ)) (k : ℕ) (statement : Option Statement) → statement_over lines k ≡ statement → has_rows statement ≡ false → depth_at lines k ≡ 0
 unfolding statement_over
@@ -356,49 +322,29 @@ alone_top lines k statement is alone =
 row_index : (k depth : ℕ) → 0 < depth → depth ≤ k → k - depth + 1 + (depth - 1) ≡ k
 row_index k depth some within = omega arith
 
--- a line of a tile that sets a place, by the bit that it sets there
-record SetsTile (lines : List (List ℕ)) (device : DeviceName) (at : Place) : Type 0 where
-  bit : TileBit
-  is : IsTileBit device bit
-  here : place_of device bit ≡ at
-  reads : character_of lines bit ≡ true
-
-tile_sets : (lines : List (List ℕ)) (device : DeviceName) (k : ℕ) (kind : TileKind) (x y : ℕ) (at : Place) → Accepted lines device → k < length lines → statement_over lines k ≡ Some (Tile kind x y)
-    → sets_place device (Some (Tile kind x y)) (depth_at lines k) (trimmed (line_at lines k)) at ≡ true → SetsTile lines device at
+-- a line that sets a bit of a tile has the bit's character
+set_character : (lines : List (List ℕ)) (device : DeviceName) (bit : TileBit) (k : ℕ) (statement : Option Statement) → Accepted lines device → k < length lines → statement_over lines k ≡ statement
+    → sets_bit statement (depth_at lines k) (trimmed (line_at lines k)) (OfTile bit) ≡ true → character_of lines bit ≡ true
 unfolding statement_over
-tile_sets lines device k kind x y at accepted within is sets =
+set_character lines device bit k (Some (Tile kind x y)) accepted within is sets =
     let depth = depth_at lines k in
     let line = trimmed (line_at lines k) in
-    let test : ℕ → Bool = λ col. row_bit line col && is_same_place (tile_place device x y (depth - 1) col) at in
-    let parts = and_parts (nat_lt 0 depth) (any_below (columns_of kind) test) sets in
-    let some : 0 < depth = ltb-true 0 depth parts.0 in
-    let found = any_below-place (columns_of kind) test parts.1 in
-    let col : ℕ = found.0 in
-    let passes = and_parts (row_bit line col) (is_same_place (tile_place device x y (depth - 1) col) at) found.2 in
+    let parts = and_parts (row_sets x y (depth - 1) line (OfTile bit)) (nat_lt 0 depth) sets in
+    let some : 0 < depth = ltb-true 0 depth parts.1 in
+    let inner = and_parts ((x == bit.x) && (y == bit.y) && (depth - 1 == bit.row)) (row_bit line bit.col) parts.0 in
+    let place = and_parts ((x == bit.x) && (y == bit.y)) (depth - 1 == bit.row) inner.0 in
+    let grid = and_parts (x == bit.x) (y == bit.y) place.0 in
+    let ex : bit.x ≡ x = sym (eqb-true _ _ grid.0) in
+    let ey : bit.y ≡ y = sym (eqb-true _ _ grid.1) in
+    let er : bit.row ≡ depth - 1 = sym (eqb-true _ _ place.1) in
     let above = under lines k depth refl some in
     let head = tile_head lines device (k - depth) kind x y accepted (omega arith) above.top is in
     let index : k - depth + 1 + (depth - 1) ≡ k = row_index k depth some above.within in
-    record {
-      bit = record { x = x; y = y; row = depth - 1; col = col };
-      is = record { row_in = omega (arith, above.few, some); col_in = omega (arith, found.1, ap columns_in head.0) };
-      here = is_same_place-same (tile_place device x y (depth - 1) col) at passes.1;
-      reads = ap (λ place. character_below lines place (depth - 1) col) head.1 ∙ ap (λ n. row_bit (trimmed (line_at lines n)) col) index ∙ passes.0;
-    }
-
--- a line that sets the place of a tile's bit has the bit's character
-set_character : (lines : List (List ℕ)) (device : DeviceName) (bit : TileBit) (k : ℕ) (statement : Option Statement) → Accepted lines device → IsTileBit device bit → k < length lines → statement_over lines k ≡ statement
-    → sets_place device statement (depth_at lines k) (trimmed (line_at lines k)) (place_of device bit) ≡ true → character_of lines bit ≡ true
-set_character lines device bit k (Some (Tile kind x y)) accepted is_bit within is sets =
-    let found = tile_sets lines device k kind x y (place_of device bit) accepted within is sets in
-    let same : found.bit ≡ bit = place_is_only device bit found.bit is_bit found.is found.here in
-    ap (character_of lines) (sym same) ∙ found.reads
-set_character lines device bit k (Some (ExtraBit bank x y)) accepted is_bit within is sets =
-    let top : depth_at lines k ≡ 0 = alone_top lines k (Some (ExtraBit bank x y)) is refl in
-    let at : Place = record { bank = bank; px = x; py = y } in
-    let free = extra_head lines device k bank x y accepted within top (sym (top_over lines k top) ∙ is) in
-    let same : at ≡ place_of device bit = is_same_place-same at (place_of device bit) sets in
-    absurd (both_ways (is_owned device at) free (ap (is_owned device) same ∙ is_owned-bit device bit is_bit))
-set_character lines device bit k statement accepted is_bit within is sets = absurd cc
+    (λ i. character_below lines (tile_statement lines (ex i) (ey i)) (er i) bit.col)
+    ∙ ap (λ place. character_below lines place (depth - 1) bit.col) head.1
+    ∙ ap (λ n. row_bit (trimmed (line_at lines n)) bit.col) index
+    ∙ inner.1
+set_character lines device bit k statement accepted within is sets = absurd cc
 
 -- a statement that names a tile is one of a kind
 named_tile : (x y : ℕ) (statement : Option Statement) → names_tile x y statement ≡ true → (kind : TileKind) × (statement ≡ Some (Tile kind x y))
@@ -421,19 +367,17 @@ no_character lines k col past is =
     no_bit zero = refl
     no_bit (suc col) = refl
 
--- a character 1 sets its bit's place
+-- a character 1 sets its bit
 character_sets : (lines : List (List ℕ)) (device : DeviceName) (bit : TileBit) (found : Option ℕ) → Accepted lines device → IsTileBit device bit → tile_statement lines bit.x bit.y ≡ found
-    → character_below lines found bit.row bit.col ≡ true → is_set_before device lines (length lines) (place_of device bit) ≡ true
+    → character_below lines found bit.row bit.col ≡ true → is_set_before lines (length lines) (OfTile bit) ≡ true
 unfolding tile_statement is_set_before
 character_sets lines device bit None accepted is_bit is reads = absurd cc
 character_sets lines device bit (Some h) accepted is_bit is reads =
     let n = length lines in
-    let at = place_of device bit in
     let facts = least_below-place n h (λ k. names_tile bit.x bit.y (statement_at lines k)) is in
     let named = named_tile bit.x bit.y (statement_at lines h) facts.1 in
     let kind : TileKind = named.0 in
     let top = at_top lines h (Tile kind bit.x bit.y) named.1 in
-    let head = tile_head lines device h kind bit.x bit.y accepted facts.0 top.0 top.1 in
     let opens : has_rows (statement_in (line_at lines h)) ≡ true = ap has_rows top.1 in
     let k : ℕ = h + suc bit.row in
     let index : h + 1 + bit.row ≡ k = omega arith in
@@ -442,96 +386,84 @@ character_sets lines device bit (Some h) accepted is_bit is reads =
     let said : statement_over lines k ≡ Some (Tile kind bit.x bit.y) = over lines h bit.row top.0 opens is_bit.row_in ∙ top.1 in
     let line = trimmed (line_at lines k) in
     let back : suc bit.row - 1 ≡ bit.row = omega arith in
-    let test : ℕ → Bool = λ col. row_bit line col && is_same_place (tile_place device bit.x bit.y (suc bit.row - 1) col) at in
-    let place : is_same_place (tile_place device bit.x bit.y (suc bit.row - 1) bit.col) at ≡ true = ap (λ row. is_same_place (tile_place device bit.x bit.y row bit.col) at) back ∙ is_same_place-self at in
-    let column : bit.col < columns_of kind = omega (arith, is_bit.col_in, ap columns_in head.0) in
-    let sets : sets_place device (Some (Tile kind bit.x bit.y)) (suc bit.row) line at ≡ true =
-    and_from (nat_lt 0 (suc bit.row)) (any_below (columns_of kind) test) (lt-ltb 0 (suc bit.row) (omega arith))
-    (any_below-at (columns_of kind) bit.col test column (and_from (row_bit line bit.col) _ here place))
+    let row : row_sets bit.x bit.y (suc bit.row - 1) line (OfTile bit) ≡ true =
+    and_from ((bit.x == bit.x) && (bit.y == bit.y) && (suc bit.row - 1 == bit.row)) (row_bit line bit.col)
+    (and_from ((bit.x == bit.x) && (bit.y == bit.y)) (suc bit.row - 1 == bit.row) (and_from (bit.x == bit.x) (bit.y == bit.y) (eq-eqb bit.x bit.x refl) (eq-eqb bit.y bit.y refl)) (eq-eqb (suc bit.row - 1) bit.row back)) here
     in
+    let sets : sets_bit (Some (Tile kind bit.x bit.y)) (suc bit.row) line (OfTile bit) ≡ true = and_from (row_sets bit.x bit.y (suc bit.row - 1) line (OfTile bit)) (nat_lt 0 (suc bit.row)) row (lt-ltb 0 (suc bit.row) (omega arith)) in
     elim (cases_lt k n) [
-      | inl within ↦ any_below-at n k (λ k. sets_place device (statement_over lines k) (depth_at lines k) (trimmed (line_at lines k)) at) within ((λ i. sets_place device (said i) (deep i) line at) ∙ sets)
+      | inl within ↦ any_below-at n k (λ k. sets_bit (statement_over lines k) (depth_at lines k) (trimmed (line_at lines k)) (OfTile bit)) within ((λ i. sets_bit (said i) (deep i) line (OfTile bit)) ∙ sets)
       | inr past ↦ absurd (no_character lines k bit.col past here)
     ]
 
 -- a bit of a tile is set exactly where its character is 1
-tile_bits : (lines : List (List ℕ)) (device : DeviceName) (bit : TileBit) → Accepted lines device → IsTileBit device bit → is_set_before device lines (length lines) (place_of device bit) ≡ character_of lines bit
+tile_bits : (lines : List (List ℕ)) (device : DeviceName) (bit : TileBit) → Accepted lines device → IsTileBit device bit → is_set_before lines (length lines) (OfTile bit) ≡ character_of lines bit
 unfolding is_set_before
 tile_bits lines device bit accepted is_bit =
-    same_test (is_set_before device lines (length lines) (place_of device bit)) (character_of lines bit)
+    same_test (is_set_before lines (length lines) (OfTile bit)) (character_of lines bit)
     (λ set.
-    let found = any_below-place (length lines) (λ k. sets_place device (statement_over lines k) (depth_at lines k) (trimmed (line_at lines k)) (place_of device bit)) set in
-    set_character lines device bit found.0 (statement_over lines found.0) accepted is_bit found.1 refl found.2)
+    let found = any_below-place (length lines) (λ k. sets_bit (statement_over lines k) (depth_at lines k) (trimmed (line_at lines k)) (OfTile bit)) set in
+    set_character lines device bit found.0 (statement_over lines found.0) accepted found.1 refl found.2)
     (λ reads. character_sets lines device bit (tile_statement lines bit.x bit.y) accepted is_bit refl reads)
 
 -- ---- extra bits
 
--- a line that sets the place of an extra bit is its statement
-set_extra : (lines : List (List ℕ)) (device : DeviceName) (at : Place) (k : ℕ) (statement : Option Statement) → Accepted lines device → IsExtraBit device at → k < length lines → statement_over lines k ≡ statement
-    → sets_place device statement (depth_at lines k) (trimmed (line_at lines k)) at ≡ true → names_extra at (statement_at lines k) ≡ true
-set_extra lines device at k (Some (Tile kind x y)) accepted extra within is sets =
-    let found = tile_sets lines device k kind x y at accepted within is sets in
-    absurd (extra found.bit found.is found.here)
-set_extra lines device at k (Some (ExtraBit bank x y)) accepted extra within is sets =
+-- a line that sets an extra bit is its statement
+set_extra : (lines : List (List ℕ)) (at : Place) (k : ℕ) (statement : Option Statement) → statement_over lines k ≡ statement
+    → sets_bit statement (depth_at lines k) (trimmed (line_at lines k)) (Extra at) ≡ true → names_extra at (statement_at lines k) ≡ true
+set_extra lines at k (Some (ExtraBit bank x y)) is sets =
     let top : depth_at lines k ≡ 0 = alone_top lines k (Some (ExtraBit bank x y)) is refl in
     ap (names_extra at) (top_at lines k top ∙ sym (top_over lines k top) ∙ is) ∙ sets
-set_extra lines device at k statement accepted extra within is sets = absurd cc
+set_extra lines at k statement is sets = absurd cc
 
--- a statement of an extra bit sets its place
-extra_sets : (lines : List (List ℕ)) (device : DeviceName) (at : Place) (k : ℕ) (statement : Option Statement) → statement_at lines k ≡ statement → names_extra at statement ≡ true
-    → sets_place device (statement_over lines k) (depth_at lines k) (trimmed (line_at lines k)) at ≡ true
-extra_sets lines device at k (Some (ExtraBit bank x y)) is names =
+-- a statement of an extra bit sets it
+extra_set : (lines : List (List ℕ)) (at : Place) (k : ℕ) (statement : Option Statement) → statement_at lines k ≡ statement → names_extra at statement ≡ true
+    → sets_bit (statement_over lines k) (depth_at lines k) (trimmed (line_at lines k)) (Extra at) ≡ true
+extra_set lines at k (Some (ExtraBit bank x y)) is names =
     let top = at_top lines k (ExtraBit bank x y) is in
-    ap (λ statement. sets_place device statement (depth_at lines k) (trimmed (line_at lines k)) at) (top_over lines k top.0 ∙ top.1) ∙ names
-extra_sets lines device at k statement is names = absurd cc
+    ap (λ statement. sets_bit statement (depth_at lines k) (trimmed (line_at lines k)) (Extra at)) (top_over lines k top.0 ∙ top.1) ∙ names
+extra_set lines at k statement is names = absurd cc
 
 -- an extra bit is set exactly where a statement names it
-extra_bits : (lines : List (List ℕ)) (device : DeviceName) (at : Place) → Accepted lines device → IsExtraBit device at → is_set_before device lines (length lines) at ≡ is_named_extra lines at
+extra_bits : (lines : List (List ℕ)) (at : Place) → is_set_before lines (length lines) (Extra at) ≡ is_named_extra lines at
 unfolding is_set_before is_named_extra
-extra_bits lines device at accepted extra =
+extra_bits lines at =
     let n = length lines in
-    let sets : ℕ → Bool = λ k. sets_place device (statement_over lines k) (depth_at lines k) (trimmed (line_at lines k)) at in
+    let sets : ℕ → Bool = λ k. sets_bit (statement_over lines k) (depth_at lines k) (trimmed (line_at lines k)) (Extra at) in
     let names : ℕ → Bool = λ k. names_extra at (statement_at lines k) in
     same_test (any_below n sets) (any_below n names)
     (λ set.
     let found = any_below-place n sets set in
-    any_below-at n found.0 names found.1 (set_extra lines device at found.0 (statement_over lines found.0) accepted extra found.1 refl found.2))
+    any_below-at n found.0 names found.1 (set_extra lines at found.0 (statement_over lines found.0) refl found.2))
     (λ named.
     let found = any_below-place n names named in
-    any_below-at n found.0 sets found.1 (extra_sets lines device at found.0 (statement_at lines found.0) refl found.2))
+    any_below-at n found.0 sets found.1 (extra_set lines at found.0 (statement_at lines found.0) refl found.2))
 
 -- ---- bits of words
 
--- a line that sets the place of a word's bit has the bit among its digits
-set_digit : (lines : List (List ℕ)) (device : DeviceName) (at : WordBit) (k : ℕ) (statement : Option Statement) → Accepted lines device → IsWordBit device at → k < length lines → statement_over lines k ≡ statement
-    → sets_word_place device statement (depth_at lines k) (trimmed (line_at lines k)) (word_place_of device at) ≡ true → digit_bit_of lines at ≡ true
+-- a line that sets a bit of a word has the bit among its digits
+set_digit : (lines : List (List ℕ)) (device : DeviceName) (at : WordBit) (k : ℕ) (statement : Option Statement) → Accepted lines device → k < length lines → statement_over lines k ≡ statement
+    → sets_bit statement (depth_at lines k) (trimmed (line_at lines k)) (OfWord at) ≡ true → digit_bit_of lines at ≡ true
 unfolding statement_over
-set_digit lines device at k (Some (RamData x y)) accepted is_bit within is sets =
+set_digit lines device at k (Some (RamData x y)) accepted within is sets =
     let depth = depth_at lines k in
     let line = trimmed (line_at lines k) in
-    let place = word_place_of device at in
-    let inner : ℕ → ℕ → Bool = λ index bit. memory_bit line index bit && is_same_place (word_bit_place device x y (16 * (depth - 1) + index) bit) place in
-    let parts = and_parts (nat_lt 0 depth) (any_below 16 (λ index. any_below 16 (inner index))) sets in
-    let some : 0 < depth = ltb-true 0 depth parts.0 in
-    let outer = any_below-place 16 (λ index. any_below 16 (inner index)) parts.1 in
-    let index : ℕ = outer.0 in
-    let found = any_below-place 16 (inner index) outer.2 in
-    let bit : ℕ = found.0 in
-    let passes = and_parts (memory_bit line index bit) (is_same_place (word_bit_place device x y (16 * (depth - 1) + index) bit) place) found.2 in
+    let parts = and_parts (line_sets x y (depth - 1) line (OfWord at)) (nat_lt 0 depth) sets in
+    let some : 0 < depth = ltb-true 0 depth parts.1 in
+    let inner = and_parts ((x == at.x) && (y == at.y) && (depth - 1 == at.word / 16)) (memory_bit line (at.word % 16) at.bit) parts.0 in
+    let place = and_parts ((x == at.x) && (y == at.y)) (depth - 1 == at.word / 16) inner.0 in
+    let grid = and_parts (x == at.x) (y == at.y) place.0 in
+    let ex : at.x ≡ x = sym (eqb-true _ _ grid.0) in
+    let ey : at.y ≡ y = sym (eqb-true _ _ grid.1) in
+    let row : at.word / 16 ≡ depth - 1 = sym (eqb-true _ _ place.1) in
     let above = under lines k depth refl some in
     let head = ram_head lines device (k - depth) x y accepted (omega arith) above.top is in
-    let word : ℕ = 16 * (depth - 1) + index in
-    let row : word / 16 ≡ depth - 1 = omega (arith, outer.1) in
-    let column : word % 16 ≡ index = omega (arith, outer.1) in
-    let line_is : k - depth + 1 + word / 16 ≡ k = omega (arith, row, some, above.within) in
-    let other : WordBit = record { x = x; y = y; word = word; bit = bit } in
-    let is_other : IsWordBit device other = record { lower = head.0; word_in = omega (arith, outer.1, above.few, some); bit_in = found.1 } in
-    let same : other ≡ at = word_place_is_only device at other is_bit is_other (is_same_place-same (word_place_of device other) place passes.1) in
-    ap (digit_bit_of lines) (sym same)
-    ∙ ap (λ p. digit_bit_below lines p word bit) head.1
-    ∙ (λ i. memory_bit (trimmed (line_at lines (line_is i))) (column i) bit)
-    ∙ passes.0
-set_digit lines device at k statement accepted is_bit within is sets = absurd cc
+    let line_is : k - depth + 1 + at.word / 16 ≡ k = omega (arith, row, some, above.within) in
+    (λ i. digit_bit_below lines (ram_statement lines (ex i) (ey i)) at.word at.bit)
+    ∙ ap (λ p. digit_bit_below lines p at.word at.bit) head.1
+    ∙ ap (λ n. memory_bit (trimmed (line_at lines n)) (at.word % 16) at.bit) line_is
+    ∙ inner.1
+set_digit lines device at k statement accepted within is sets = absurd cc
 
 -- a statement that names a RAM
 named_ram : (x y : ℕ) (statement : Option Statement) → names_ram x y statement ≡ true → statement ≡ Some (RamData x y)
@@ -568,14 +500,13 @@ ram_within lines device h x y row accepted here top said row_in =
           absurd cc
     ]
 
--- a bit among the digits of a word sets its place
+-- a bit among the digits of a word is set
 digit_sets : (lines : List (List ℕ)) (device : DeviceName) (at : WordBit) (found : Option ℕ) → Accepted lines device → IsWordBit device at → ram_statement lines at.x at.y ≡ found
-    → digit_bit_below lines found at.word at.bit ≡ true → is_word_set_before device lines (length lines) (word_place_of device at) ≡ true
-unfolding ram_statement is_word_set_before
+    → digit_bit_below lines found at.word at.bit ≡ true → is_set_before lines (length lines) (OfWord at) ≡ true
+unfolding ram_statement is_set_before
 digit_sets lines device at None accepted is_bit is reads = absurd cc
 digit_sets lines device at (Some h) accepted is_bit is reads =
     let n = length lines in
-    let place = word_place_of device at in
     let facts = least_below-place n h (λ k. names_ram at.x at.y (statement_at lines k)) is in
     let named = named_ram at.x at.y (statement_at lines h) facts.1 in
     let top = at_top lines h (RamData at.x at.y) named in
@@ -583,91 +514,47 @@ digit_sets lines device at (Some h) accepted is_bit is reads =
     let row : ℕ = at.word / 16 in
     let index : ℕ = at.word % 16 in
     let row_in : row < 16 = omega (arith, is_bit.word_in) in
-    let index_in : index < 16 = omega arith in
     let k : ℕ = h + suc row in
     let line_is : h + 1 + row ≡ k = omega arith in
     let line = trimmed (line_at lines k) in
     let here : memory_bit line index at.bit ≡ true = ap (λ p. memory_bit (trimmed (line_at lines p)) index at.bit) (sym line_is) ∙ reads in
     let deep : depth_at lines k ≡ suc row = below lines h row top.0 opens row_in in
     let said : statement_over lines k ≡ Some (RamData at.x at.y) = over lines h row top.0 opens row_in ∙ top.1 in
-    let whole : 16 * (suc row - 1) + index ≡ at.word = omega arith in
-    let inner : ℕ → ℕ → Bool = λ index bit. memory_bit line index bit && is_same_place (word_bit_place device at.x at.y (16 * (suc row - 1) + index) bit) place in
-    let same : is_same_place (word_bit_place device at.x at.y (16 * (suc row - 1) + index) at.bit) place ≡ true =
-    ap (λ word. is_same_place (word_bit_place device at.x at.y word at.bit) place) whole ∙ is_same_place-self place
+    let back : suc row - 1 ≡ row = omega arith in
+    let line_here : line_sets at.x at.y (suc row - 1) line (OfWord at) ≡ true =
+    and_from ((at.x == at.x) && (at.y == at.y) && (suc row - 1 == row)) (memory_bit line index at.bit)
+    (and_from ((at.x == at.x) && (at.y == at.y)) (suc row - 1 == row) (and_from (at.x == at.x) (at.y == at.y) (eq-eqb at.x at.x refl) (eq-eqb at.y at.y refl)) (eq-eqb (suc row - 1) row back)) here
     in
-    let sets : sets_word_place device (Some (RamData at.x at.y)) (suc row) line place ≡ true =
-    and_from (nat_lt 0 (suc row)) (any_below 16 (λ index. any_below 16 (inner index))) (lt-ltb 0 (suc row) (omega arith))
-    (any_below-at 16 index (λ index. any_below 16 (inner index)) index_in
-    (any_below-at 16 at.bit (inner index) is_bit.bit_in (and_from (memory_bit line index at.bit) _ here same)))
-    in
-    any_below-at n k (λ k. sets_word_place device (statement_over lines k) (depth_at lines k) (trimmed (line_at lines k)) place) (ram_within lines device h at.x at.y row accepted facts.0 top.0 top.1 row_in)
-    ((λ i. sets_word_place device (said i) (deep i) line place) ∙ sets)
+    let sets : sets_bit (Some (RamData at.x at.y)) (suc row) line (OfWord at) ≡ true = and_from (line_sets at.x at.y (suc row - 1) line (OfWord at)) (nat_lt 0 (suc row)) line_here (lt-ltb 0 (suc row) (omega arith)) in
+    any_below-at n k (λ k. sets_bit (statement_over lines k) (depth_at lines k) (trimmed (line_at lines k)) (OfWord at)) (ram_within lines device h at.x at.y row accepted facts.0 top.0 top.1 row_in)
+    ((λ i. sets_bit (said i) (deep i) line (OfWord at)) ∙ sets)
 
 -- a bit of a word is set exactly where it is among the word's digits
-word_bits : (lines : List (List ℕ)) (device : DeviceName) (at : WordBit) → Accepted lines device → IsWordBit device at → is_word_set_before device lines (length lines) (word_place_of device at) ≡ digit_bit_of lines at
-unfolding is_word_set_before
+word_bits : (lines : List (List ℕ)) (device : DeviceName) (at : WordBit) → Accepted lines device → IsWordBit device at → is_set_before lines (length lines) (OfWord at) ≡ digit_bit_of lines at
+unfolding is_set_before
 word_bits lines device at accepted is_bit =
-    same_test (is_word_set_before device lines (length lines) (word_place_of device at)) (digit_bit_of lines at)
+    same_test (is_set_before lines (length lines) (OfWord at)) (digit_bit_of lines at)
     (λ set.
-    let found = any_below-place (length lines) (λ k. sets_word_place device (statement_over lines k) (depth_at lines k) (trimmed (line_at lines k)) (word_place_of device at)) set in
-    set_digit lines device at found.0 (statement_over lines found.0) accepted is_bit found.1 refl found.2)
+    let found = any_below-place (length lines) (λ k. sets_bit (statement_over lines k) (depth_at lines k) (trimmed (line_at lines k)) (OfWord at)) set in
+    set_digit lines device at found.0 (statement_over lines found.0) accepted found.1 refl found.2)
     (λ reads. digit_sets lines device at (ram_statement lines at.x at.y) accepted is_bit refl reads)
-
--- ---- places
-
--- there are four banks
-bank_below : (device : DeviceName) (x y : ℕ) → bank_of device x y < 4
-bank_below device x y = grind (arith, nat_tests)
-
--- a row of tiles lies in the planes
-row_below : (device : DeviceName) (y height : ℕ) → y < grid_height device → height < 16 → 16 * from_end device y + height < cram_height device
-row_below K1 y height inside within = grind (arith, nat_tests)
-row_below K8 y height inside within = grind (arith, nat_tests)
-
--- a bit of a tile lies in the planes
-tile_in : (device : DeviceName) (bit : TileBit) → IsTileBit device bit → IsInCram device (place_of device bit)
-unfolding place_of
-tile_in device bit is =
-    let placed = tile_bit_is_placed device bit is in
-    record {
-      bank_in = bank_below device bit.x bit.y;
-      px_in = px_of-in device bit is (px_of device bit) refl;
-      py_in = omega (arith, py_of-is device bit placed, row_below device bit.y (height_of device bit) (tile_bit_y_in device bit is) (height_of-below device bit placed));
-    }
-
--- so does a RAM
-ram_below : (device : DeviceName) (y bit : ℕ) → y + 3 ≤ grid_height device → 16 * ram_of device y + 15 - bit < bram_width device
-ram_below K1 y bit inside = grind (arith, nat_tests)
-ram_below K8 y bit inside = grind (arith, nat_tests)
-
--- and a bit of a word
-word_in : (device : DeviceName) (at : WordBit) → IsWordBit device at → IsInBram device (word_place_of device at)
-unfolding word_place_of
-word_in device at is = record {
-  bank_in = bank_below device at.x at.y;
-  px_in = ram_below device at.y at.bit (lower-third device at.x at.y is.lower);
-  py_in = omega (arith, is.word_in);
-}
 
 -- ---- the whole
 
+-- a bit is set exactly where the text says so
+said_bits : (lines : List (List ℕ)) (device : DeviceName) (bit : Bit) → Accepted lines device → IsBit device bit → is_set_before lines (length lines) bit ≡ is_said lines bit
+said_bits lines device (OfTile bit) accepted is = tile_bits lines device bit accepted is
+said_bits lines device (OfWord bit) accepted is = word_bits lines device bit accepted is
+said_bits lines device (Extra at) accepted is = extra_bits lines at
+
 -- what the lines of an accepted text configure has their bits
 accepted_bits : (text : List ℕ) (device : DeviceName) → Accepted (lines_of text) device → HasBits text (image_before device (lines_of text) (length (lines_of text)))
+unfolding image_from
 accepted_bits text device accepted =
     let lines = lines_of text in
-    let cram = is_set_before device lines (length lines) in
-    let bram = is_word_set_before device lines (length lines) in
+    let n = length lines in
     record {
-      tiles = λ bit is.
-          let at = place_of device bit in
-          let inside = tile_in device bit is in
-          place_bit-planes_from (cram_width device) (cram_height device) cram at.bank at.px at.py inside.bank_in inside.px_in inside.py_in ∙ tile_bits lines device bit accepted is;
-      extras = λ at inside extra.
-          place_bit-planes_from (cram_width device) (cram_height device) cram at.bank at.px at.py inside.bank_in inside.px_in inside.py_in ∙ extra_bits lines device at accepted extra;
-      words = λ bit is.
-          let at = word_place_of device bit in
-          let inside = word_in device bit is in
-          place_bit-planes_from (bram_width device) (bram_height device) bram at.bank at.px at.py inside.bank_in inside.px_in inside.py_in ∙ word_bits lines device bit accepted is;
+      bits = λ bit is. image_from-bit device (comment_before lines n) (settings_before lines n) (is_set_before lines n) bit is ∙ said_bits lines device bit accepted is;
     }
 
 -- a line that has no fault has no cause

@@ -10,18 +10,17 @@ use Rattle.place_search.specs.Places.{any_below, first_below, last_below, gather
 use Rattle.text_lines.specs.Words.{from_word}
 use Rattle.text_lines.specs.Written.{IsPlain}
 use Rattle.place_search.proofs.Places.{any_below-none, first_below-none, last_below-none, last_below-is, gathered_below-none, gathered_below-same, gathered_below-sum}
-use Rattle.plane_map.specs.declared.device.DeviceName.{DeviceName}
-use Rattle.plane_map.specs.declared.tile.Place.{Place}
 use Rattle.ice_image.specs.CommentLines.{IsPrintable, IsCommentLine}
+use Rattle.ice_image.specs.Bits.{Bit}
 use Rattle.asc_text.specs.declared.statement.Statement.{Statement}
 use Rattle.asc_text.specs.declared.statement.Statement.TheVariants.{Comment}
 use Rattle.asc_text.specs.declared.fault.AscCause.TheVariants.{CommentByte}
 use Rattle.asc_text.specs.Statements.{comment_keyword, statement_in, begins_with_dot}
 use Rattle.asc_text.specs.Blocks.{has_rows, depth_after, depth_at, statement_over, statement_at, dot_before, is_comment, device_in, device_before}
 use Rattle.asc_text.specs.Faults.{cause_if, is_printable, is_in_comment, comment_cause, statement_cause, cause_at}
-use Rattle.asc_text.specs.Meaning.{sets_place, sets_word_place, is_set_before, is_word_set_before, warm_boot_in, range_in, no_sleep_in, is_that_line, comment_line, comment_from, comment_before}
+use Rattle.asc_text.specs.Meaning.{sets_bit, is_set_before, warm_boot_in, range_in, no_sleep_in, is_that_line, comment_line, comment_from, comment_before}
 use Rattle.asc_text.specs.Canonical.{comment_lines}
-use Rattle.asc_text.proofs.PieceRead.{Stands, piece_sets, piece_sets_word}
+use Rattle.asc_text.proofs.PieceRead.{Stands, piece_sets}
 use Rattle.asc_text.proofs.PiecesRead.{some_piece, some_piece-one, first_piece, first_piece-one, Holds, any_below-head, cause_at-statement}
 use Rattle.asc_text.proofs.Spelled.{plain-literal}
 use Rattle.asc_text.proofs.PiecesWritten.{length-single, line_at-single}
@@ -141,23 +140,14 @@ first-comment lines count reads given none none' =
     first_below-none (suc count) (λ k. given (statement_at lines k)) (first_or_later (λ k. given (statement_at lines k) ≡ None) count (ap given reads.first_at ∙ none') (λ k within. ap given (reads.at k within) ∙ none))
     ∙ sym none' ∙ sym (first_piece-one (λ piece. given (Some piece.statement)) (alone Comment comment_keyword))
 
--- they set no bit of the configuration planes
-bits-comment : (lines : List (List ℕ)) (count : ℕ) → Reads lines count → (device : DeviceName) (at : Place) → is_set_before device lines (suc count) at ≡ some_piece (piece_sets device at) (alone Comment comment_keyword ∷ [])
+-- they set no bit
+bits-comment : (lines : List (List ℕ)) (count : ℕ) → Reads lines count → (bit : Bit) → is_set_before lines (suc count) bit ≡ some_piece (piece_sets bit) (alone Comment comment_keyword ∷ [])
 unfolding is_set_before piece_sets any_below some_piece
-bits-comment lines count reads device at =
-    any_below-none (suc count) (λ k. sets_place device (statement_over lines k) (depth_at lines k) (trimmed (line_at lines k)) at)
-    (first_or_later (λ k. sets_place device (statement_over lines k) (depth_at lines k) (trimmed (line_at lines k)) at ≡ false) count
-    (ap (λ says. sets_place device says (depth_at lines 0) (trimmed (line_at lines 0)) at) reads.first_over)
-    (λ k within. ap (λ says. sets_place device says (depth_at lines (suc k)) (trimmed (line_at lines (suc k))) at) (reads.over k within)))
-
--- nor one of the RAM planes
-words-comment : (lines : List (List ℕ)) (count : ℕ) → Reads lines count → (device : DeviceName) (at : Place) → is_word_set_before device lines (suc count) at ≡ some_piece (piece_sets_word device at) (alone Comment comment_keyword ∷ [])
-unfolding is_word_set_before piece_sets_word any_below some_piece
-words-comment lines count reads device at =
-    any_below-none (suc count) (λ k. sets_word_place device (statement_over lines k) (depth_at lines k) (trimmed (line_at lines k)) at)
-    (first_or_later (λ k. sets_word_place device (statement_over lines k) (depth_at lines k) (trimmed (line_at lines k)) at ≡ false) count
-    (ap (λ says. sets_word_place device says (depth_at lines 0) (trimmed (line_at lines 0)) at) reads.first_over)
-    (λ k within. ap (λ says. sets_word_place device says (depth_at lines (suc k)) (trimmed (line_at lines (suc k))) at) (reads.over k within)))
+bits-comment lines count reads bit =
+    any_below-none (suc count) (λ k. sets_bit (statement_over lines k) (depth_at lines k) (trimmed (line_at lines k)) bit)
+    (first_or_later (λ k. sets_bit (statement_over lines k) (depth_at lines k) (trimmed (line_at lines k)) bit ≡ false) count
+    (ap (λ says. sets_bit says (depth_at lines 0) (trimmed (line_at lines 0)) bit) reads.first_over)
+    (λ k within. ap (λ says. sets_bit says (depth_at lines (suc k)) (trimmed (line_at lines (suc k))) bit) (reads.over k within)))
 
 -- behind them, the lines say that there is a comment, and no more
 holds-comment : (lines : List (List ℕ)) (count : ℕ) → Commented lines count → Holds lines (suc count) (alone Comment comment_keyword ∷ [])
@@ -173,7 +163,6 @@ holds-comment lines count is =
       range = first-comment lines count says range_in refl refl;
       no_sleep = first-comment lines count says no_sleep_in refl refl;
       bits = bits-comment lines count says;
-      words = words-comment lines count says;
       calm = λ k later within.
           let back : suc (k - 1) ≡ k = omega arith in
           ap (λ k. is_comment (statement_at lines k)) (sym back) ∙ ap is_comment (says.at (k - 1) (omega arith));
@@ -181,7 +170,7 @@ holds-comment lines count is =
 
 -- before the first line nothing is said
 holds-nothing : (lines : List (List ℕ)) → Holds lines 0 []
-unfolding depth_at any_below first_below device_before is_set_before is_word_set_before some_piece first_piece
+unfolding depth_at any_below first_below device_before is_set_before some_piece first_piece
 holds-nothing lines = record {
   top = refl;
   sound = λ k within. absurd (omega arith);
@@ -190,8 +179,7 @@ holds-nothing lines = record {
   warm_boot = refl;
   range = refl;
   no_sleep = refl;
-  bits = λ device at. refl;
-  words = λ device at. refl;
+  bits = λ bit. refl;
   calm = λ k later within. absurd (omega arith);
 }
 

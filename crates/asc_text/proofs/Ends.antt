@@ -3,13 +3,10 @@ use Rattle.std.proofs.Common.{drop, ◌≡◌, ℕ, zero, suc, ◌+◌, ◌<◌,
 use Rattle.std.specs.Prelude.{Option, Some, None, unwrap_or, Result, Ok, Err, IfOk, IfErr, OnOk}
 use Rattle.std.proofs.lemmas.Bool.{cases_eq, cases_Bool}
 use Rattle.std.proofs.lemmas.List.{length-drop}
-use Rattle.bit_plane.specs.Rows.{Rows}
 use Rattle.text_lines.specs.Lines.{lines_of, line_at}
 use Rattle.place_search.proofs.Places.{first_below-none, first_below-first}
-use Rattle.plane_map.specs.Layout.{cram_width, cram_height, bram_width, bram_height}
 use Rattle.plane_map.specs.declared.device.DeviceName.{DeviceName}
-use Rattle.plane_map.specs.declared.tile.Place.{Place}
-use Rattle.ice_image.specs.Configuration.{Configuration, AreBanks, place_bit}
+use Rattle.ice_image.specs.Configuration.{Configuration}
 use Rattle.ice_image.specs.Either.{configuration_of, device_of}
 use Rattle.ice_image.specs.declared.any.AnyImage.{AnyImage}
 use Rattle.ice_image.specs.declared.settings.Settings.{Settings}
@@ -25,9 +22,10 @@ use Rattle.asc_text.specs.declared.reading.reader.Expected.TheVariants.{Statemen
 use Rattle.asc_text.specs.Statements.{statement_in, begins_with_dot}
 use Rattle.asc_text.specs.Blocks.{depth_at}
 use Rattle.asc_text.specs.Faults.{cause_at, fault_at, fault_with, tile_named, asc_fault_of, Fault, Tells}
-use Rattle.asc_text.specs.Meaning.{AscMeans, asc_image_of, asc_symbols_of, image_for, image_before, settings_before, set_before, planes_from, is_set_before, is_word_set_before, comment_before, warm_boot_in, range_in}
+use Rattle.asc_text.specs.Meaning.{AscMeans, asc_image_of, asc_symbols_of, image_for, image_before, settings_before, set_before, is_set_before, comment_before, warm_boot_in, range_in}
 use Rattle.asc_text.specs.inside.Reading.{ReaderState, begun, Finishes, Takes, TakesDotted, dotted_refusal, line_refusal, end_refusal, statement_of, settings_in}
-use Rattle.asc_text.proofs.PlanesFrom.{planes_from-is}
+use Rattle.ice_image.specs.Bits.{Bit, OfTile, OfWord, Extra, IsBit, bit_of}
+use Rattle.ice_image.proofs.Bits.{image_from-is}
 use Rattle.asc_text.proofs.HasRead.{HasRead, HasGiven, HasBits, HasImage, IsAt, device_known}
 use Rattle.asc_text.proofs.Given.{HasGiven-none}
 use Rattle.asc_text.proofs.CommentSteps.{HasComment-none}
@@ -153,10 +151,6 @@ end_accepted text s read none =
 
 -- ---- the meaning
 
--- planes are those of their bits
-same_planes : (width height : ℕ) (planes : List Rows) (bits : Place → Bool) → AreBanks width height planes → ((at : Place) → place_bit planes at ≡ bits at) → planes ≡ planes_from width height bits
-same_planes width height planes bits banks same = sym (planes_from-is width height bits planes banks (λ at bank column row. sym (same at)))
-
 -- the settings are those that the lines set
 same_settings : (lines : List (List ℕ)) (n : ℕ) (s : ReaderState) → HasGiven lines n s → settings_in s ≡ settings_before lines n
 same_settings lines n s has =
@@ -165,20 +159,22 @@ same_settings lines n s has =
     ∙ ap (λ v. of (set_before lines n range_in Low) (unwrap_or v true) (unwrap_or s.no_sleep false)) (sym has.warm_boot.first)
     ∙ ap (λ v. of (set_before lines n range_in Low) (set_before lines n warm_boot_in true) (unwrap_or v false)) (sym has.no_sleep.first)
 
+-- another comment and other settings change no bit
+same_bit : (image : Configuration) (comment : Option (List (List ℕ))) (settings : Settings) (bit : Bit) → bit_of (record image { settings = settings; comment = comment }) bit ≡ bit_of image bit
+same_bit image comment settings (OfTile bit) = refl
+same_bit image comment settings (OfWord bit) = refl
+same_bit image comment settings (Extra at) = refl
+
 -- the image is the one that the lines configure
 same_image : (lines : List (List ℕ)) (n : ℕ) (s : ReaderState) (image : AnyImage) → HasRead lines n s → HasBits lines n image
     → record (configuration_of image) { settings = settings_in s; comment = s.comment } ≡ image_before (device_of image) lines n
 same_image lines n s image read has =
-    let d = device_of image in
-    let of : DeviceName → Option (List (List ℕ)) → Settings → List Rows → List Rows → Configuration = λ device comment settings cram bram. record { device = device; comment = comment; settings = settings; cram = cram; bram = bram } in
     let c = configuration_of image in
-    let cram_banks : AreBanks (cram_width d) (cram_height d) c.cram = subst (λ (k : DeviceName). AreBanks (cram_width k) (cram_height k) c.cram) has.device has.whole.cram in
-    let bram_banks : AreBanks (bram_width d) (bram_height d) c.bram = subst (λ (k : DeviceName). AreBanks (bram_width k) (bram_height k) c.bram) has.device has.whole.bram in
-    ap (λ k. of k s.comment (settings_in s) c.cram c.bram) has.device
-    ∙ ap (λ k. of d k (settings_in s) c.cram c.bram) (sym read.comment.lines_are)
-    ∙ ap (λ k. of d (comment_before lines n) k c.cram c.bram) (same_settings lines n s read.given)
-    ∙ ap (λ k. of d (comment_before lines n) (settings_before lines n) k c.bram) (same_planes (cram_width d) (cram_height d) c.cram (is_set_before d lines n) cram_banks has.cram)
-    ∙ ap (λ k. of d (comment_before lines n) (settings_before lines n) (planes_from (cram_width d) (cram_height d) (is_set_before d lines n)) k) (same_planes (bram_width d) (bram_height d) c.bram (is_word_set_before d lines n) bram_banks has.bram)
+    image_from-is (record c { settings = settings_in s; comment = s.comment }) (device_of image) (comment_before lines n) (settings_before lines n) (is_set_before lines n)
+    (record { cram = has.whole.cram; bram = has.whole.bram }) has.device (sym read.comment.lines_are) (same_settings lines n s read.given)
+    (λ bit is.
+    let P : DeviceName → Type 0 = λ d. IsBit d bit in
+    same_bit c s.comment (settings_in s) bit ∙ has.bits bit (subst P (sym has.device) is))
 
 configured : (lines : List (List ℕ)) (s : ReaderState) (image : Option AnyImage) (after : AnyImage) → HasRead lines (length lines) s → s.image ≡ image → HasImage lines (length lines) image → Finishes s image after
     → image_for (device_known image) lines ≡ Some (configuration_of after)

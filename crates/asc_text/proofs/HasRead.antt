@@ -4,9 +4,9 @@ use Rattle.std.specs.Prelude.{Option, Some, None, is_some}
 use Rattle.text_lines.specs.Lines.{line_at}
 use Rattle.place_search.specs.Places.{any_below, first_below, last_below}
 use Rattle.plane_map.specs.declared.device.DeviceName.{DeviceName}
-use Rattle.plane_map.specs.declared.tile.Place.{Place}
 use Rattle.plane_map.specs.declared.tile.TileKind.TheVariants.{RamB}
-use Rattle.ice_image.specs.Configuration.{place_bit, IsWhole}
+use Rattle.ice_image.specs.Bits.{Bit, IsBit, bit_of}
+use Rattle.ice_image.specs.Configuration.{IsWhole}
 use Rattle.ice_image.specs.Either.{configuration_of, device_of}
 use Rattle.ice_image.specs.declared.any.AnyImage.{AnyImage}
 use Rattle.ice_image.specs.declared.settings.Range.{Range}
@@ -18,7 +18,7 @@ use Rattle.asc_text.specs.Statements.{statement_in}
 use Rattle.asc_text.specs.inside.TileSets.{has_tile}
 use Rattle.asc_text.specs.Blocks.{depth_at, statement_at, dot_before, is_comment, device_in}
 use Rattle.asc_text.specs.Faults.{cause_at, is_in_comment, is_device, is_warm_boot, is_range, is_no_sleep, names_tile, names_ram}
-use Rattle.asc_text.specs.Meaning.{warm_boot_in, range_in, no_sleep_in, comment_before, is_that_line, is_set_before, is_word_set_before, symbols_before}
+use Rattle.asc_text.specs.Meaning.{warm_boot_in, range_in, no_sleep_in, comment_before, is_that_line, is_set_before, symbols_before}
 use Rattle.asc_text.specs.inside.Reading.{ReaderState, HasKind}
 
 -- where a line of what is expected stands
@@ -45,13 +45,11 @@ device_known (Some image) = Some (device_of image)
 pub record HasBits (lines : List (List ℕ)) (n : ℕ) (image : AnyImage) : Type 0 where
   pub device : (configuration_of image).device ≡ device_of image
   pub whole : IsWhole (configuration_of image)
-  pub cram : (at : Place) → place_bit (configuration_of image).cram at ≡ is_set_before (device_of image) lines n at
-  pub bram : (at : Place) → place_bit (configuration_of image).bram at ≡ is_word_set_before (device_of image) lines n at
+  pub bits : (bit : Bit) → IsBit (configuration_of image).device bit → bit_of (configuration_of image) bit ≡ is_set_before lines n bit
 
 -- no line before a line sets a bit
-pub record SetsNone (lines : List (List ℕ)) (n : ℕ) : Type 0 where
-  pub cram : (device : DeviceName) (at : Place) → is_set_before device lines n at ≡ false
-  pub bram : (device : DeviceName) (at : Place) → is_word_set_before device lines n at ≡ false
+abbrev pub SetsNone : List (List ℕ) → ℕ → Type 0
+SetsNone lines n = (bit : Bit) → is_set_before lines n bit ≡ false
 
 abbrev pub HasImage : List (List ℕ) → ℕ → Option AnyImage → Type 0
 HasImage lines n None = SetsNone lines n

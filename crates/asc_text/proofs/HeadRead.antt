@@ -1,29 +1,28 @@
 -- The device and the settings of a canonical text, and what stands nowhere behind them.
-use Rattle.std.proofs.Common.{◌≡◌, ℕ, Bool, true, false, not, ◌&&◌, List, [], ◌∷◌, ◌++◌, append_assoc, refl, sym, ap, ◌∙◌, arith, Option, Some, None}
+use Rattle.std.proofs.Common.{◌≡◌, ℕ, Bool, true, false, List, [], ◌∷◌, ◌++◌, append_assoc, refl, sym, ap, ◌∙◌, arith, Option, Some, None}
 use Rattle.std.proofs.lemmas.List.Elements.{All-cons, All-nil}
 use Rattle.std.specs.Prelude.{unwrap_or}
 use Rattle.place_search.specs.Places.{or_else}
 use Rattle.text_lines.specs.Written.{IsPlain}
-use Rattle.plane_map.specs.Layout.{kind_of, grid_width, grid_height, cram_width, cram_height}
+use Rattle.plane_map.specs.Layout.{kind_of, grid_width, grid_height}
 use Rattle.plane_map.specs.declared.device.DeviceName.{DeviceName}
 use Rattle.plane_map.specs.declared.tile.TileKind.{TileKind}
 use Rattle.plane_map.specs.declared.tile.TileKind.TheVariants.{Io, Logic, RamB, RamT}
-use Rattle.plane_map.specs.declared.tile.Place.{Place}
-use Rattle.ice_image.specs.Configuration.{Configuration, place_bit}
+use Rattle.ice_image.specs.Configuration.{Configuration}
 use Rattle.ice_image.specs.declared.settings.Range.{Range}
 use Rattle.ice_image.specs.declared.settings.Range.TheVariants.{Low, Medium, High}
 use Rattle.asc_text.specs.declared.statement.Statement.{Statement}
 use Rattle.asc_text.specs.declared.statement.Statement.TheVariants.{Comment, Device, WarmBoot, FrequencyRange, NoSleep, Tile, RamData, ExtraBit}
 use Rattle.asc_text.specs.Statements.{device_word, switch_word, range_word, comment_keyword, device_keyword, warm_boot_keyword, range_keyword, no_sleep_keyword}
 use Rattle.asc_text.specs.Blocks.{device_in, has_rows, is_comment}
-use Rattle.asc_text.specs.Extras.{is_owned}
 use Rattle.asc_text.specs.Faults.{is_warm_boot, is_range, is_no_sleep}
 use Rattle.asc_text.specs.Meaning.{warm_boot_in, range_in, no_sleep_in}
 use Rattle.asc_text.specs.Canonical.{with_word, warm_boot_lines, range_lines, no_sleep_lines}
 use Rattle.asc_text.proofs.PieceRead.{Piece, rows_below}
 use Rattle.asc_text.proofs.PiecesRead.{all_lines, some_piece, some_piece-nothing, first_piece, some_statement, first_statement, some_piece-one, first_piece-append, cause_behind, was_given, IsFine, AreFine, AreFine-append}
 use Rattle.asc_text.proofs.Spelled.{IsSpelled, device-spelled, warm_boot-spelled, medium-spelled, high-spelled, no_sleep-spelled}
-use Rattle.asc_text.proofs.PiecesWritten.{all_lines-append, gathered-none, append-none, first-none, AreFine-none, AreFine-one, Knows, Knows-more, kind_pieces, grid_pieces, row_pieces, all_tile_pieces, extra_pieces_if, extra_column, extra_row, extra_bank, all_extra_pieces}
+use Rattle.ice_image.specs.Bits.{set_extras}
+use Rattle.asc_text.proofs.PiecesWritten.{all_lines-append, gathered-none, append-none, first-none, AreFine-none, AreFine-one, Knows, Knows-more, kind_pieces, grid_pieces, row_pieces, all_tile_pieces, all_extra_pieces, extras-none, extras-give}
 
 -- a statement to which no lines belong
 abbrev pub alone : Statement → List ℕ → Piece
@@ -249,12 +248,6 @@ kind-none test fails image x y (Some Logic) = rw (fails.tile Logic x y) refl
 kind-none test fails image x y (Some RamB) = rw (fails.tile RamB x y, fails.ram x y) refl
 kind-none test fails image x y (Some RamT) = rw (fails.tile RamT x y) refl
 
--- an extra bit fails it
-extra-none : (test : Option Statement → Bool) → FailsPlaces test → (set : Bool) (at : Place) → some_statement test (extra_pieces_if set at) ≡ false
-unfolding some_piece
-extra-none test fails true at = rw (fails.extra at.bank at.px at.py) refl
-extra-none test fails false at = refl
-
 -- all tiles and all extra bits fail it
 pub places-none : (test : Option Statement → Bool) → FailsPlaces test → (image : Configuration) → some_statement test (all_tile_pieces image ++ all_extra_pieces image) ≡ false
 places-none test fails image =
@@ -262,11 +255,7 @@ places-none test fails image =
     append-none passes (all_tile_pieces image) (all_extra_pieces image)
     (gathered-none passes (grid_height image.device) (row_pieces image) (λ y within.
     gathered-none passes (grid_width image.device) (grid_pieces image y) (λ x inside. kind-none test fails image x y (kind_of image.device x y))))
-    (gathered-none passes 4 (extra_bank image) (λ bank within.
-    gathered-none passes (cram_height image.device) (extra_row image bank) (λ py row.
-    gathered-none passes (cram_width image.device) (extra_column image bank py) (λ px column.
-    let at : Place = record { bank = bank; px = px; py = py } in
-    extra-none test fails (place_bit image.cram at && not (is_owned image.device at)) at))))
+    (extras-none passes (set_extras image) (λ at. fails.extra at.bank at.px at.py))
 
 -- nothing that such statements give
 pub record GivesNone {A : Type 0} (given : Option Statement → Option A) : Type 0 where
@@ -283,12 +272,6 @@ kind-gives given gives image x y (Some Logic) = rw (gives.tile Logic x y) refl
 kind-gives given gives image x y (Some RamB) = rw (gives.tile RamB x y, gives.ram x y) refl
 kind-gives given gives image x y (Some RamT) = rw (gives.tile RamT x y) refl
 
--- an extra bit gives nothing
-extra-gives : {A : Type 0} (given : Option Statement → Option A) → GivesNone given → (set : Bool) (at : Place) → first_statement given (extra_pieces_if set at) ≡ None
-unfolding first_piece
-extra-gives given gives true at = rw (gives.extra at.bank at.px at.py) refl
-extra-gives given gives false at = refl
-
 -- all tiles and all extra bits give nothing
 places-give : {A : Type 0} (given : Option Statement → Option A) → GivesNone given → (image : Configuration) → first_statement given (all_tile_pieces image ++ all_extra_pieces image) ≡ None
 places-give given gives image =
@@ -297,11 +280,7 @@ places-give given gives image =
     ∙ (λ i. or_else
     (first-none given' (grid_height image.device) (row_pieces image) (λ y within.
     first-none given' (grid_width image.device) (grid_pieces image y) (λ x inside. kind-gives given gives image x y (kind_of image.device x y))) i)
-    (first-none given' 4 (extra_bank image) (λ bank within.
-    first-none given' (cram_height image.device) (extra_row image bank) (λ py row.
-    first-none given' (cram_width image.device) (extra_column image bank py) (λ px column.
-    let at : Place = record { bank = bank; px = px; py = py } in
-    extra-gives given gives (place_bit image.cram at && not (is_owned image.device at)) at))) i))
+    (extras-give given' (set_extras image) (λ at. gives.extra at.bank at.px at.py) i))
 
 -- nor does the comment
 comment-gives : {A : Type 0} (given : Option Statement → Option A) → given (Some Comment) ≡ None → (comment : Option (List (List ℕ))) → first_statement given (comment_pieces comment) ≡ None

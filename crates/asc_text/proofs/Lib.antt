@@ -10,13 +10,11 @@ pub mod RowsRead
 pub mod Spelled
 pub mod WordsRead
 pub mod MemoryLines
-pub mod Owners
 pub mod Spellings
 pub mod TileSets
 pub mod Gains
 pub mod CommentSteps
 pub mod Dotted
-pub mod PlanesFrom
 pub mod Ends
 pub mod Given
 pub mod HasRead
@@ -25,8 +23,6 @@ pub mod LineSteps
 pub mod Refusals
 pub mod StatementSteps
 mod Worked
-pub mod Lists
 pub mod Pieces
-pub mod SetExtras
 pub mod RamLines
 pub mod RamPlaces

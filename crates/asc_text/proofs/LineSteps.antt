@@ -6,8 +6,6 @@ use Rattle.std.proofs.lemmas.Bool.{cases_Bool, cases_eq, eq-eqb, ne_eqb, lt-ltb,
 use Rattle.text_lines.specs.Lines.{line_at, trimmed}
 use Rattle.text_lines.proofs.Blanks.{dot-trimmed}
 use Rattle.plane_map.specs.Layout.{kind_of, columns_of}
-use Rattle.plane_map.specs.declared.device.DeviceName.{DeviceName}
-use Rattle.plane_map.specs.declared.tile.Place.{Place}
 use Rattle.plane_map.specs.declared.tile.TileKind.{TileKind}
 use Rattle.plane_map.specs.declared.tile.TileKind.TheVariants.{RamB}
 use Rattle.ice_image.specs.Either.{device_of}
@@ -20,15 +18,18 @@ use Rattle.asc_text.specs.declared.reading.reader.Expected.{Expected}
 use Rattle.asc_text.specs.declared.reading.reader.Expected.TheVariants.{Statement as AnyStatement, Row, Memory}
 use Rattle.asc_text.specs.Statements.{statement_in, begins_with_dot}
 use Rattle.asc_text.specs.Rows.{is_row, is_memory_line, memory_bytes}
-use Rattle.asc_text.specs.inside.Gains.{row_sets, line_sets}
+use Rattle.asc_text.specs.inside.Gains.{bytes_set}
+use Rattle.asc_text.specs.Meaning.{row_sets, line_sets}
+use Rattle.asc_text.proofs.Gains.{bytes-line}
+use Rattle.ice_image.specs.Bits.{Bit}
 use Rattle.asc_text.specs.Blocks.{depth_at, statement_over, statement_at, depth_after, has_rows}
 use Rattle.asc_text.specs.Faults.{cause_at, cause_if}
-use Rattle.asc_text.specs.inside.Reading.{ReaderState, HasKind, CramGains, BramGains, TakesRow, TakesMemory, after_row, after_memory, after_text, with_line}
+use Rattle.asc_text.specs.inside.Reading.{ReaderState, HasKind, ImageGains, TakesRow, TakesMemory, after_row, after_memory, after_text, with_line}
 use Rattle.asc_text.proofs.Dotted.{none_without_dot}
 use Rattle.asc_text.proofs.HasRead.{HasRead, HasComment, HasImage, IsAt, device_known}
 use Rattle.asc_text.proofs.Given.{Follows, HasGiven-more}
 use Rattle.asc_text.proofs.CommentSteps.{comment-passes, comment-goes_on}
-use Rattle.asc_text.proofs.ImageSteps.{image-stays, image-gains_cram, image-gains_bram}
+use Rattle.asc_text.proofs.ImageSteps.{image-stays, image-gains}
 use Rattle.asc_text.proofs.Refusals.{over_is}
 
 -- ---- places
@@ -96,15 +97,10 @@ passes false cause none = absurd cc
 -- ---- a line of sixteen
 
 -- the same device, and so the same tiles
-pub same_device : (before after : Option AnyImage) (is_set : DeviceName → Place → Bool) → CramGains before after is_set → device_known after ≡ device_known before
+pub same_device : (before after : Option AnyImage) (is_set : Bit → Bool) → ImageGains before after is_set → device_known after ≡ device_known before
 same_device None after is_set gains = absurd gains
 same_device (Some before) None is_set gains = absurd gains
 same_device (Some before) (Some after) is_set gains = ap (λ d. Some d) gains.device
-
-same_device-bram : (before after : Option AnyImage) (is_set : DeviceName → Place → Bool) → BramGains before after is_set → device_known after ≡ device_known before
-same_device-bram None after is_set gains = absurd gains
-same_device-bram (Some before) None is_set gains = absurd gains
-same_device-bram (Some before) (Some after) is_set gains = ap (λ d. Some d) gains.device
 
 same_kind : (before after : Option AnyImage) (x y : ℕ) (kind : TileKind) → device_known after ≡ device_known before → HasKind before x y kind → HasKind after x y kind
 same_kind None after x y kind same has = absurd has
@@ -183,6 +179,10 @@ memory-stands lines n x y row s image stands same =
           )
     ]
 
+and-true : (a : Bool) → (a && true) ≡ a
+and-true true = refl
+and-true false = refl
+
 later : (row : ℕ) → nat_lt 0 (row + 1) ≡ true
 later row = lt-ltb 0 (row + 1) (omega arith)
 
@@ -195,11 +195,11 @@ pub took-row : (lines : List (List ℕ)) (n x y row : ℕ) (kind : TileKind) (s 
 took-row lines n x y row kind s new read stands fits refusal takes =
     let line = trimmed (line_at lines n) in
     let over : statement_over lines n ≡ Some (Tile kind x y) = over_is lines n s (Row kind x y row) stands in
-    let same : device_known new.image ≡ device_known s.image = same_device s.image new.image (λ device. row_sets device x y row line (columns_of kind)) takes.1 in
+    let same : device_known new.image ≡ device_known s.image = same_device s.image new.image (row_sets x y row line) takes.1 in
     let dot : begins_with_dot (line_at lines n) ≡ false = row-dotless (columns_of kind) (line_at lines n) (passes (is_row (columns_of kind) line) RowCause refusal) in
     let has_read : ReaderState → Type 0 = λ t. HasRead lines (n + 1) t in
-    let bits : HasImage lines (n + 1) new.image = image-gains_cram lines n s.image new.image (λ device. row_sets device x y row line (columns_of kind)) read.image takes.1
-    (λ device at. rw (over, stands.0, later row, before row) refl) (λ device at. rw over refl) in
+    let bits : HasImage lines (n + 1) new.image = image-gains lines n s.image new.image (row_sets x y row line) read.image takes.1
+    (λ bit. sym (rw (over, stands.0, later row, before row) (and-true (row_sets x y row line bit)))) in
     subst has_read (sym takes.0) (row_step lines n row s new.image (after_row kind x y row) read stands.0 stands.4 fits dot same bits (row-stands lines n x y row kind s new.image stands same))
 
 -- a line of the contents of a RAM
@@ -208,11 +208,11 @@ pub took-memory : (lines : List (List ℕ)) (n x y row : ℕ) (s new : ReaderSta
 took-memory lines n x y row s new read stands fits refusal takes =
     let line = trimmed (line_at lines n) in
     let over : statement_over lines n ≡ Some (RamData x y) = over_is lines n s (Memory x y row) stands in
-    let same : device_known new.image ≡ device_known s.image = same_device-bram s.image new.image (λ device. line_sets device x y row (memory_bytes line) 16) takes.1 in
+    let same : device_known new.image ≡ device_known s.image = same_device s.image new.image (bytes_set x y row (memory_bytes line)) takes.1 in
     let dot : begins_with_dot (line_at lines n) ≡ false = memory-dotless (line_at lines n) (passes (is_memory_line line) Hex refusal) in
     let has_read : ReaderState → Type 0 = λ t. HasRead lines (n + 1) t in
-    let bits : HasImage lines (n + 1) new.image = image-gains_bram lines n s.image new.image (λ device. line_sets device x y row (memory_bytes line) 16) read.image takes.1
-    (λ device at. rw (over, stands.0, later row, before row) refl) (λ device at. rw over refl) in
+    let bits : HasImage lines (n + 1) new.image = image-gains lines n s.image new.image (bytes_set x y row (memory_bytes line)) read.image takes.1
+    (λ bit. bytes-line x y row line bit ∙ sym (rw (over, stands.0, later row, before row) (and-true (line_sets x y row line bit)))) in
     subst has_read (sym takes.0) (row_step lines n row s new.image (after_memory x y row) read stands.0 stands.4 fits dot same bits (memory-stands lines n x y row s new.image stands same))
 
 -- ---- a line that is no statement
@@ -262,6 +262,6 @@ took-text lines n s new read expected depth fits dot takes =
       fit = fit-more lines n read.fit fits;
       stands = subst at (sym expected) next;
       given = HasGiven-more lines n s (after_text s line) None read.given here (follows-text s line);
-      image = image-stays lines n s.image read.image (λ device at. rw over refl) (λ device at. rw over refl);
+      image = image-stays lines n s.image read.image (λ bit. rw over refl);
       comment = text-comment lines n s.comment s.in_comment read.comment dot here;
     })

@@ -6,12 +6,11 @@ use Rattle.std.specs.Prelude.{All}
 use Rattle.text_lines.specs.Lines.{line_at, trimmed}
 use Rattle.text_lines.specs.Written.{IsPlain}
 use Rattle.place_search.specs.Places.{any_below}
-use Rattle.plane_map.specs.declared.device.DeviceName.{DeviceName}
-use Rattle.plane_map.specs.declared.tile.Place.{Place}
+use Rattle.ice_image.specs.Bits.{Bit}
 use Rattle.asc_text.specs.declared.statement.Statement.{Statement}
 use Rattle.asc_text.specs.Statements.{statement_in, begins_with_dot}
 use Rattle.asc_text.specs.Blocks.{has_rows, depth_after, depth_at, statement_over, statement_at, is_comment}
-use Rattle.asc_text.specs.Meaning.{sets_place, sets_word_place}
+use Rattle.asc_text.specs.Meaning.{sets_bit}
 
 -- ---- pieces
 
@@ -36,15 +35,10 @@ pub record IsPiece (piece : Piece) : Type 0 where
   pub calm : is_comment (Some piece.statement) ≡ false
   pub plain : All IsPlain (piece_lines piece)
 
--- whether a line of a piece sets a bit of the configuration planes
-unfoldable pub piece_sets : DeviceName → Place → Piece → Bool
-piece_sets device at piece =
-    any_below (suc (length piece.rows)) (λ r. sets_place device (Some piece.statement) r (trimmed (line_at (piece_lines piece) r)) at)
-
--- whether a line of a piece sets a bit of the RAM planes
-unfoldable pub piece_sets_word : DeviceName → Place → Piece → Bool
-piece_sets_word device at piece =
-    any_below (suc (length piece.rows)) (λ r. sets_word_place device (Some piece.statement) r (trimmed (line_at (piece_lines piece) r)) at)
+-- whether a line of a piece sets a bit
+unfoldable pub piece_sets : Bit → Piece → Bool
+piece_sets bit piece =
+    any_below (suc (length piece.rows)) (λ r. sets_bit (Some piece.statement) r (trimmed (line_at (piece_lines piece) r)) bit)
 
 -- ---- where a piece stands
 

@@ -6,13 +6,19 @@ use Rattle.hex.specs.Hex.{encode_with, lower_digits, encode_lower}
 use Rattle.place_search.specs.Places.{gathered_below}
 use Rattle.text_lines.specs.Written.{text_of}
 use Rattle.place_search.proofs.Places.{gathered_below-more, gathered_below-none}
-use Rattle.bit_plane.specs.Rows.{Rows, row_from, rows_from}
+use Rattle.std.proofs.Common.{◌/◌, ◌^◌, ◌==◌, false, bit_and}
+use Rattle.std.proofs.lemmas.Nat.Bits.{shr_and_one}
+use Rattle.bit_plane.specs.BitList.{word_bits, word_of}
+use Rattle.bit_plane.specs.Rows.{row_from, rows_from}
+use Rattle.bit_plane.proofs.Made.{get_or-row_from}
+use Rattle.bit_plane.proofs.Words.{get_or-word_bits}
+use Rattle.ice_image.proofs.Made.{row_word-bits}
 use Rattle.plane_map.specs.Layout.{kind_of, columns_of, columns_at, columns_in}
 use Rattle.plane_map.specs.declared.device.DeviceName.{DeviceName}
 use Rattle.plane_map.specs.declared.tile.TileKind.{TileKind}
 use Rattle.plane_map.specs.declared.tile.TileKind.TheVariants.{RamB}
-use Rattle.ice_image.specs.Configuration.{Configuration, place_bit}
-use Rattle.ice_image.specs.Contents.{tile_place}
+use Rattle.ice_image.specs.Bits.{tile_bit_of}
+use Rattle.ice_image.specs.Configuration.{Configuration}
 use Rattle.asc_text.specs.Statements.{tile_keyword, device_keyword, device_word}
 use Rattle.asc_text.specs.Canonical.{with_word, comment_lines, warm_boot_lines, range_lines, no_sleep_lines, all_tile_lines, all_extra_lines, canonical_lines, asc_text_of, bit_character, row_line, grid_line, tile_lines, ram_lines, lines_of_tile_at}
 
@@ -108,6 +114,14 @@ pub bits-all : (old now after : List ℕ) (col width : ℕ) (bit : ℕ → Bool)
 bits-all old now after col width bit same so_far ended =
     line-ended old now after (row_line (row_from width bit)) (so_far ∙ ap (λ n. old ++ row_line (row_from n bit)) same) ended
 
+-- a bit of the word of a row, as code tests it
+pub row_bit_read : (width : ℕ) (bit : ℕ → Bool) (word col : ℕ) → word ≡ word_of (row_from width bit) → col < width → (bit_and (word / 2 ^ col) 1 == 1) ≡ bit col
+row_bit_read width bit word col is within =
+    ap (λ n. n == 1) (shr_and_one word col)
+    ∙ sym (get_or-word_bits width word col within)
+    ∙ ap (λ bits. get_or bits col false) (ap (word_bits width) is ∙ row_word-bits width bit)
+    ∙ get_or-row_from width bit col within
+
 -- no row yet
 pub rows-none : (text : List ℕ) (width : ℕ) (bit : ℕ → ℕ → Bool) → text ≡ text ++ text_of (map row_line (rows_from width 0 bit))
 unfolding rows_from
@@ -123,11 +137,11 @@ rows-more old now after width row bit so_far next =
 
 module _ (device : DeviceName) (x y : ℕ) where
   -- a statement and all rows
-  pub tile-written : (cram : List Rows) (kind : TileKind) (old middle after : List ℕ) (width row : ℕ) → kind_of device x y ≡ Some kind → width ≡ columns_of kind → row ≡ 16 → middle ≡ old ++ text_of (grid_line (tile_keyword kind) x y ∷ []) → after ≡ middle ++ text_of (map row_line (rows_from width row (λ col row. place_bit cram (tile_place device x y row col)))) → after ≡ old ++ text_of (tile_lines device cram x y kind)
-  tile-written cram kind old middle after width row there wide last statement rows =
-      let bit : ℕ → ℕ → Bool = λ col row. place_bit cram (tile_place device x y row col) in
-      let wide_there : width ≡ columns_at device x y = wide ∙ ap columns_in (sym there) in
-      lines-joined old middle after (grid_line (tile_keyword kind) x y ∷ []) (map row_line (rows_from (columns_at device x y) 16 bit)) statement (rows ∙ ap (λ n. middle ++ text_of (map row_line (rows_from n row bit))) wide_there ∙ ap (λ n. middle ++ text_of (map row_line (rows_from (columns_at device x y) n bit))) last)
+  pub tile-written : (image : Configuration) (kind : TileKind) (old middle after : List ℕ) (width row : ℕ) → image.device ≡ device → kind_of device x y ≡ Some kind → width ≡ columns_of kind → row ≡ 16 → middle ≡ old ++ text_of (grid_line (tile_keyword kind) x y ∷ []) → after ≡ middle ++ text_of (map row_line (rows_from width row (λ col row. tile_bit_of image x y row col))) → after ≡ old ++ text_of (tile_lines image x y kind)
+  tile-written image kind old middle after width row same there wide last statement rows =
+      let bit : ℕ → ℕ → Bool = λ col row. tile_bit_of image x y row col in
+      let wide_there : width ≡ columns_at image.device x y = wide ∙ ap columns_in (sym there) ∙ ap (λ d. columns_at d x y) (sym same) in
+      lines-joined old middle after (grid_line (tile_keyword kind) x y ∷ []) (map row_line (rows_from (columns_at image.device x y) 16 bit)) statement (rows ∙ ap (λ n. middle ++ text_of (map row_line (rows_from n row bit))) wide_there ∙ ap (λ n. middle ++ text_of (map row_line (rows_from (columns_at image.device x y) n bit))) last)
 
   -- nothing where no tile is
   pub none-written : (image : Configuration) (text : List ℕ) → image.device ≡ device → kind_of device x y ≡ None → text ≡ text ++ text_of (lines_of_tile_at image x y (kind_of image.device x y))
@@ -135,9 +149,9 @@ module _ (device : DeviceName) (x y : ℕ) where
       nothing-written text (lines_of_tile_at image x y (kind_of image.device x y)) (ap (lines_of_tile_at image x y) (ap (λ device. kind_of device x y) same ∙ there))
 
   -- a lower tile and its RAM's contents
-  pub ram_tile-written : (image : Configuration) (old middle after : List ℕ) → image.device ≡ device → kind_of device x y ≡ Some RamB → middle ≡ old ++ text_of (tile_lines device image.cram x y RamB) → after ≡ middle ++ text_of (ram_lines device image.bram x y) → after ≡ old ++ text_of (lines_of_tile_at image x y (kind_of image.device x y))
+  pub ram_tile-written : (image : Configuration) (old middle after : List ℕ) → image.device ≡ device → kind_of device x y ≡ Some RamB → middle ≡ old ++ text_of (tile_lines image x y RamB) → after ≡ middle ++ text_of (ram_lines image x y) → after ≡ old ++ text_of (lines_of_tile_at image x y (kind_of image.device x y))
   ram_tile-written image old middle after same there tile ram =
-      lines-joined old middle after (tile_lines device image.cram x y RamB) (ram_lines device image.bram x y) tile ram ∙ ap (λ device. old ++ text_of (tile_lines device image.cram x y RamB ++ ram_lines device image.bram x y)) (sym same) ∙ ap (λ kind. old ++ text_of (lines_of_tile_at image x y kind)) (sym there ∙ ap (λ device. kind_of device x y) (sym same))
+      lines-joined old middle after (tile_lines image x y RamB) (ram_lines image x y) tile ram ∙ ap (λ kind. old ++ text_of (lines_of_tile_at image x y kind)) (sym there ∙ ap (λ device. kind_of device x y) (sym same))
 
 -- ---- the whole
 

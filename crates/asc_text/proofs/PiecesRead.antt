@@ -6,7 +6,7 @@ use Rattle.text_lines.specs.Lines.{line_at, trimmed}
 use Rattle.place_search.specs.Places.{any_below, first_below, or_else}
 use Rattle.place_search.proofs.Places.{any_below-sum, any_below-same, first_below-sum}
 use Rattle.plane_map.specs.declared.device.DeviceName.{DeviceName}
-use Rattle.plane_map.specs.declared.tile.Place.{Place}
+use Rattle.ice_image.specs.Bits.{Bit}
 use Rattle.asc_text.specs.declared.statement.Statement.{Statement}
 use Rattle.asc_text.specs.declared.statement.Statement.TheVariants.{Comment, Device, WarmBoot, FrequencyRange, NoSleep, Tile, RamData, ExtraBit, Symbol}
 use Rattle.asc_text.specs.declared.fault.AscCause.{AscCause}
@@ -14,8 +14,8 @@ use Rattle.asc_text.specs.declared.fault.AscCause.TheVariants.{Repeated}
 use Rattle.asc_text.specs.Statements.{statement_in, begins_with_dot}
 use Rattle.asc_text.specs.Blocks.{depth_at, statement_over, statement_at, is_comment, device_in, device_before}
 use Rattle.asc_text.specs.Faults.{cause_at, row_cause, statement_cause, missing_device, unknown_device, tile_cause, is_repeated, extra_cause, setting_cause, cause_if, is_device, is_warm_boot, is_range, is_no_sleep, names_tile, names_ram}
-use Rattle.asc_text.specs.Meaning.{sets_place, sets_word_place, is_set_before, is_word_set_before, warm_boot_in, range_in, no_sleep_in}
-use Rattle.asc_text.proofs.PieceRead.{Piece, IsPiece, Stands, Says, piece_lines, piece_sets, piece_sets_word, says}
+use Rattle.asc_text.specs.Meaning.{sets_bit, is_set_before, warm_boot_in, range_in, no_sleep_in}
+use Rattle.asc_text.proofs.PieceRead.{Piece, IsPiece, Stands, Says, piece_lines, piece_sets, says}
 
 -- ---- lists of pieces
 
@@ -140,8 +140,7 @@ pub record Holds (lines : List (List ℕ)) (n : ℕ) (past : List Piece) : Type 
   pub warm_boot : first_below n (λ k. warm_boot_in (statement_at lines k)) ≡ first_statement warm_boot_in past
   pub range : first_below n (λ k. range_in (statement_at lines k)) ≡ first_statement range_in past
   pub no_sleep : first_below n (λ k. no_sleep_in (statement_at lines k)) ≡ first_statement no_sleep_in past
-  pub bits : (device : DeviceName) (at : Place) → is_set_before device lines n at ≡ some_piece (piece_sets device at) past
-  pub words : (device : DeviceName) (at : Place) → is_word_set_before device lines n at ≡ some_piece (piece_sets_word device at) past
+  pub bits : (bit : Bit) → is_set_before lines n bit ≡ some_piece (piece_sets bit) past
   pub calm : (k : ℕ) → 0 < k → k < n → is_comment (statement_at lines k) ≡ false
 
 -- a piece is right behind those pieces
@@ -181,32 +180,18 @@ first-more lines n past piece says given none before =
     ∙ sym (first_piece-append (λ piece. given (Some piece.statement)) past (piece ∷ []))
 
 -- the bits of one piece more
-bits-more : (lines : List (List ℕ)) (n : ℕ) (past : List Piece) (piece : Piece) → Stands lines n (piece_lines piece) → Says lines n piece → (device : DeviceName) (at : Place)
-    → is_set_before device lines n at ≡ some_piece (piece_sets device at) past
-    → is_set_before device lines (n + suc (length piece.rows)) at ≡ some_piece (piece_sets device at) (past ++ piece ∷ [])
+bits-more : (lines : List (List ℕ)) (n : ℕ) (past : List Piece) (piece : Piece) → Stands lines n (piece_lines piece) → Says lines n piece → (bit : Bit)
+    → is_set_before lines n bit ≡ some_piece (piece_sets bit) past
+    → is_set_before lines (n + suc (length piece.rows)) bit ≡ some_piece (piece_sets bit) (past ++ piece ∷ [])
 unfolding is_set_before piece_sets
-bits-more lines n past piece stands says device at before =
-    any_below-sum n (suc (length piece.rows)) (λ k. sets_place device (statement_over lines k) (depth_at lines k) (trimmed (line_at lines k)) at)
+bits-more lines n past piece stands says bit before =
+    any_below-sum n (suc (length piece.rows)) (λ k. sets_bit (statement_over lines k) (depth_at lines k) (trimmed (line_at lines k)) bit)
     ∙ (λ i. before i || any_below-same (suc (length piece.rows))
-    (λ r. sets_place device (statement_over lines (n + r)) (depth_at lines (n + r)) (trimmed (line_at lines (n + r))) at)
-    (λ r. sets_place device (Some piece.statement) r (trimmed (line_at (piece_lines piece) r)) at)
-    (λ r below. λ j. sets_place device (says.over r (omega arith) j) (says.depth r (omega arith) j) (trimmed (stands.same r below j)) at) i)
-    ∙ ap (λ last. some_piece (piece_sets device at) past || last) (sym (some_piece-one (piece_sets device at) piece))
-    ∙ sym (some_piece-append (piece_sets device at) past (piece ∷ []))
-
--- the words of one piece more
-words-more : (lines : List (List ℕ)) (n : ℕ) (past : List Piece) (piece : Piece) → Stands lines n (piece_lines piece) → Says lines n piece → (device : DeviceName) (at : Place)
-    → is_word_set_before device lines n at ≡ some_piece (piece_sets_word device at) past
-    → is_word_set_before device lines (n + suc (length piece.rows)) at ≡ some_piece (piece_sets_word device at) (past ++ piece ∷ [])
-unfolding is_word_set_before piece_sets_word
-words-more lines n past piece stands says device at before =
-    any_below-sum n (suc (length piece.rows)) (λ k. sets_word_place device (statement_over lines k) (depth_at lines k) (trimmed (line_at lines k)) at)
-    ∙ (λ i. before i || any_below-same (suc (length piece.rows))
-    (λ r. sets_word_place device (statement_over lines (n + r)) (depth_at lines (n + r)) (trimmed (line_at lines (n + r))) at)
-    (λ r. sets_word_place device (Some piece.statement) r (trimmed (line_at (piece_lines piece) r)) at)
-    (λ r below. λ j. sets_word_place device (says.over r (omega arith) j) (says.depth r (omega arith) j) (trimmed (stands.same r below j)) at) i)
-    ∙ ap (λ last. some_piece (piece_sets_word device at) past || last) (sym (some_piece-one (piece_sets_word device at) piece))
-    ∙ sym (some_piece-append (piece_sets_word device at) past (piece ∷ []))
+    (λ r. sets_bit (statement_over lines (n + r)) (depth_at lines (n + r)) (trimmed (line_at lines (n + r))) bit)
+    (λ r. sets_bit (Some piece.statement) r (trimmed (line_at (piece_lines piece) r)) bit)
+    (λ r below. λ j. sets_bit (says.over r (omega arith) j) (says.depth r (omega arith) j) (trimmed (stands.same r below j)) bit) i)
+    ∙ ap (λ last. some_piece (piece_sets bit) past || last) (sym (some_piece-one (piece_sets bit) piece))
+    ∙ sym (some_piece-append (piece_sets bit) past (piece ∷ []))
 
 -- ---- faults
 
@@ -283,8 +268,7 @@ one_more lines n past piece holds fine stands =
       warm_boot = first-more lines n past piece said warm_boot_in refl holds.warm_boot;
       range = first-more lines n past piece said range_in refl holds.range;
       no_sleep = first-more lines n past piece said no_sleep_in refl holds.no_sleep;
-      bits = λ device at. bits-more lines n past piece stands said device at (holds.bits device at);
-      words = λ device at. words-more lines n past piece stands said device at (holds.words device at);
+      bits = λ bit. bits-more lines n past piece stands said bit (holds.bits bit);
       calm = λ k later within. elim (cases_lt k n) [
         | inl earlier ↦ holds.calm k later earlier
         | inr from ↦ elim (head_or_row n (length piece.rows) k from within) [

@@ -1,9 +1,9 @@
 -- The pieces of which the canonical text of an image is, and that each is right behind those before it.
-use Rattle.std.proofs.Common.{◌≡◌, ℕ, zero, suc, ◌+◌, ◌-◌, ◌*◌, ◌<◌, Bool, true, false, not, ◌&&◌, ◌||◌, ◌==◌, List, [], ◌∷◌, ◌++◌, length, map, append_assoc, append-nil, refl, sym, ap, ◌∙◌, arith, inl, inr, Option, Some, None, if◌then◌else◌}
-use Rattle.std.proofs.lemmas.Bool.{lt-ltb, ne_eqb, and_from, and_parts, and_left, and_right, or_from, cases_eq}
+use Rattle.std.proofs.Common.{◌≡◌, ℕ, zero, suc, ◌+◌, ◌-◌, ◌*◌, ◌<◌, Bool, true, false, not, ◌&&◌, ◌||◌, ◌==◌, List, [], ◌∷◌, ◌++◌, length, get_or, map, Contains, subst, append_assoc, append-nil, refl, sym, ap, ◌∙◌, arith, inl, inr, Option, Some, None}
+use Rattle.std.proofs.lemmas.Bool.{ne_eqb, and_left, and_right, or_from, or_cases, or_left, or_right, cases_eq}
 use Rattle.std.proofs.lemmas.List.{length-map, length-append, get_or-map, get_or_push, get_or_append_left}
-use Rattle.std.proofs.lemmas.List.Elements.{All-cons, All-nil, All-append}
-use Rattle.std.specs.Prelude.{All, nat_lt}
+use Rattle.std.proofs.lemmas.List.Elements.{All-cons, All-nil, All-append, Contains-append_left, Contains-append_right, Contains-append_cases}
+use Rattle.std.specs.Prelude.{All}
 use Rattle.hex.specs.Hex.{IsBytes, encode_lower}
 use Rattle.text_lines.specs.Lines.{line_at, trimmed}
 use Rattle.place_search.specs.Places.{any_below, gathered_below, or_else}
@@ -17,17 +17,19 @@ use Rattle.plane_map.specs.declared.device.DeviceName.TheVariants.{K1, K8}
 use Rattle.plane_map.specs.declared.tile.TileKind.{TileKind}
 use Rattle.plane_map.specs.declared.tile.TileKind.TheVariants.{Io, Logic, RamB, RamT}
 use Rattle.plane_map.specs.declared.tile.Place.{Place}
-use Rattle.ice_image.specs.Configuration.{Configuration, place_bit}
-use Rattle.ice_image.specs.Contents.{tile_place, tile_rows, word_value, word_bit_place}
+use Rattle.ice_image.specs.Bits.{tile_bit_of, tile_of, word_bit_of, ram_word_of, set_extras}
+use Rattle.ice_image.specs.Configuration.{Configuration}
+use Rattle.ice_image.proofs.Bits.{extra_in}
+use Rattle.ice_image.proofs.SetExtras.{set_extras-in}
 use Rattle.asc_text.specs.declared.statement.Statement.{Statement}
 use Rattle.asc_text.specs.declared.statement.Statement.TheVariants.{Tile, RamData, ExtraBit}
 use Rattle.asc_text.specs.declared.fault.AscCause.TheVariants.{Row, Hex, Kind, ExtraPlace}
 use Rattle.asc_text.specs.Statements.{tile_keyword, ram_data_keyword}
 use Rattle.asc_text.specs.Rows.{is_row, is_memory_line}
 use Rattle.asc_text.specs.Blocks.{device_in}
-use Rattle.asc_text.specs.Extras.{is_owned, is_extra}
+use Rattle.ice_image.specs.Owned.{is_extra}
 use Rattle.asc_text.specs.Faults.{cause_if, is_same_kind, kind_cause, names_tile, names_ram}
-use Rattle.asc_text.specs.Canonical.{grid_line, row_line, tile_lines, memory_line, ram_lines, lines_of_tile_at, all_tile_lines, extra_line, extra_lines_at, all_extra_lines}
+use Rattle.asc_text.specs.Canonical.{grid_line, row_line, tile_lines, memory_line, ram_lines, lines_of_tile_at, all_tile_lines, extra_line, all_extra_lines}
 use Rattle.asc_text.proofs.PieceRead.{Piece, IsPiece, piece_lines}
 use Rattle.asc_text.proofs.PiecesRead.{all_lines, some_piece, first_piece, some_statement, first_statement, some_piece-append, some_piece-one, first_piece-append, cause_behind, IsFine, AreFine, AreFine-append}
 use Rattle.asc_text.proofs.RowsRead.{trimmed-row_line, plain-row_line, is_row-row_line, trimmed-encoded, plain-encoded, is_memory_line-encoded, words_bytes, length-words_bytes, IsBytes-words_bytes, word-row_from-lt}
@@ -104,18 +106,18 @@ Knows-more device past more knows =
 
 -- ---- tiles
 
-abbrev pub tile_piece : DeviceName → List Rows → ℕ → ℕ → TileKind → Piece
-tile_piece device cram x y kind = record { statement = Tile kind x y; head = grid_line (tile_keyword kind) x y; rows = map row_line (tile_rows device cram x y) }
+abbrev pub tile_piece : Configuration → ℕ → ℕ → TileKind → Piece
+tile_piece image x y kind = record { statement = Tile kind x y; head = grid_line (tile_keyword kind) x y; rows = map row_line (tile_of image x y) }
 
-abbrev pub ram_piece : DeviceName → List Rows → ℕ → ℕ → Piece
-ram_piece device bram x y = record { statement = RamData x y; head = grid_line ram_data_keyword x y; rows = gathered_below 16 (λ row. memory_line device bram x y row ∷ []) }
+abbrev pub ram_piece : Configuration → ℕ → ℕ → Piece
+ram_piece image x y = record { statement = RamData x y; head = grid_line ram_data_keyword x y; rows = gathered_below 16 (λ row. memory_line image x y row ∷ []) }
 
 abbrev pub kind_pieces : Configuration → ℕ → ℕ → Option TileKind → List Piece
 kind_pieces image x y None = []
-kind_pieces image x y (Some Io) = tile_piece image.device image.cram x y Io ∷ []
-kind_pieces image x y (Some Logic) = tile_piece image.device image.cram x y Logic ∷ []
-kind_pieces image x y (Some RamB) = tile_piece image.device image.cram x y RamB ∷ ram_piece image.device image.bram x y ∷ []
-kind_pieces image x y (Some RamT) = tile_piece image.device image.cram x y RamT ∷ []
+kind_pieces image x y (Some Io) = tile_piece image x y Io ∷ []
+kind_pieces image x y (Some Logic) = tile_piece image x y Logic ∷ []
+kind_pieces image x y (Some RamB) = tile_piece image x y RamB ∷ ram_piece image x y ∷ []
+kind_pieces image x y (Some RamT) = tile_piece image x y RamT ∷ []
 
 -- those of a place of the grid
 abbrev pub grid_pieces : Configuration → ℕ → ℕ → List Piece
@@ -132,10 +134,10 @@ all_tile_pieces image = gathered_below (grid_height image.device) (row_pieces im
 kind-lines : (image : Configuration) (x y : ℕ) (kind : Option TileKind) → all_lines (kind_pieces image x y kind) ≡ lines_of_tile_at image x y kind
 unfolding all_lines
 kind-lines image x y None = refl
-kind-lines image x y (Some Io) = append-nil (tile_lines image.device image.cram x y Io)
-kind-lines image x y (Some Logic) = append-nil (tile_lines image.device image.cram x y Logic)
-kind-lines image x y (Some RamB) = ap (λ lines. tile_lines image.device image.cram x y RamB ++ lines) (append-nil (ram_lines image.device image.bram x y))
-kind-lines image x y (Some RamT) = append-nil (tile_lines image.device image.cram x y RamT)
+kind-lines image x y (Some Io) = append-nil (tile_lines image x y Io)
+kind-lines image x y (Some Logic) = append-nil (tile_lines image x y Logic)
+kind-lines image x y (Some RamB) = ap (λ lines. tile_lines image x y RamB ++ lines) (append-nil (ram_lines image x y))
+kind-lines image x y (Some RamT) = append-nil (tile_lines image x y RamT)
 
 -- their lines are those of all tiles
 pub tile-lines : (image : Configuration) → all_lines (all_tile_pieces image) ≡ all_tile_lines image
@@ -148,15 +150,15 @@ tile-lines image =
 -- ---- a tile is right
 
 -- row r of a written tile
-pub tile-row : (device : DeviceName) (cram : List Rows) (x y r : ℕ) → r < 16
-    → line_at (map row_line (tile_rows device cram x y)) r ≡ row_line (row_from (columns_at device x y) (λ col. place_bit cram (tile_place device x y r col)))
-tile-row device cram x y r within =
-    get_or-map row_line (tile_rows device cram x y) r [] [] (omega (arith, length-rows_from (columns_at device x y) 16 (λ col row. place_bit cram (tile_place device x y row col))))
-    ∙ ap row_line (row_at-rows_from (columns_at device x y) 16 (λ col row. place_bit cram (tile_place device x y row col)) r within)
+pub tile-row : (image : Configuration) (x y r : ℕ) → r < 16
+    → line_at (map row_line (tile_of image x y)) r ≡ row_line (row_from (columns_at image.device x y) (λ col. tile_bit_of image x y r col))
+tile-row image x y r within =
+    get_or-map row_line (tile_of image x y) r [] [] (omega (arith, length-rows_from (columns_at image.device x y) 16 (λ col row. tile_bit_of image x y row col)))
+    ∙ ap row_line (row_at-rows_from (columns_at image.device x y) 16 (λ col row. tile_bit_of image x y row col) r within)
 
 -- a written tile has sixteen rows
-pub tile-count : (device : DeviceName) (cram : List Rows) (x y : ℕ) → length (map row_line (tile_rows device cram x y)) ≡ 16
-tile-count device cram x y = length-map (tile_rows device cram x y) row_line ∙ length-rows_from (columns_at device x y) 16 (λ col row. place_bit cram (tile_place device x y row col))
+pub tile-count : (image : Configuration) (x y : ℕ) → length (map row_line (tile_of image x y)) ≡ 16
+tile-count image x y = length-map (tile_of image x y) row_line ∙ length-rows_from (columns_at image.device x y) 16 (λ col row. tile_bit_of image x y row col)
 
 -- rows have no byte below the space
 plain-rows : (rows : Rows) → All IsPlain (map row_line rows)
@@ -164,15 +166,15 @@ plain-rows [] = All-nil IsPlain
 plain-rows (row ∷ rows) = All-cons IsPlain (row_line row) (map row_line rows) (plain-row_line row) (plain-rows rows)
 
 -- a written tile is a piece
-tile-is : (device : DeviceName) (cram : List Rows) (x y : ℕ) (kind : TileKind) → x < 1000000000 → y < 1000000000 → IsPiece (tile_piece device cram x y kind)
-tile-is device cram x y kind small_x small_y =
+tile-is : (image : Configuration) (x y : ℕ) (kind : TileKind) → x < 1000000000 → y < 1000000000 → IsPiece (tile_piece image x y kind)
+tile-is image x y kind small_x small_y =
     let spelled = tile-spelled kind x y small_x small_y in
     record {
       spells = spelled.spells;
       dot = spelled.dot;
-      count = tile-count device cram x y;
+      count = tile-count image x y;
       calm = refl;
-      plain = All-cons IsPlain (grid_line (tile_keyword kind) x y) (map row_line (tile_rows device cram x y)) spelled.plain (plain-rows (tile_rows device cram x y));
+      plain = All-cons IsPlain (grid_line (tile_keyword kind) x y) (map row_line (tile_of image x y)) spelled.plain (plain-rows (tile_of image x y));
     }
 
 -- a kind is the same as itself
@@ -183,31 +185,31 @@ same_kind RamB = refl
 same_kind RamT = refl
 
 -- a written tile is right where none of its place stands before it
-pub tile-fine : (device : DeviceName) (cram : List Rows) (x y : ℕ) (kind : TileKind) (past : List Piece) → x < 1000000000 → y < 1000000000 → kind_of device x y ≡ Some kind
-    → Knows device past → some_statement (names_tile x y) past ≡ false → IsFine past (tile_piece device cram x y kind)
-tile-fine device cram x y kind past small_x small_y is knows new = record {
-  is = tile-is device cram x y kind small_x small_y;
+pub tile-fine : (image : Configuration) (x y : ℕ) (kind : TileKind) (past : List Piece) → x < 1000000000 → y < 1000000000 → kind_of image.device x y ≡ Some kind
+    → Knows image.device past → some_statement (names_tile x y) past ≡ false → IsFine past (tile_piece image x y kind)
+tile-fine image x y kind past small_x small_y is knows new = record {
+  is = tile-is image x y kind small_x small_y;
   cause =
       (λ i. cause_behind (knows i) (new i) (Tile kind x y))
       ∙ ap (λ there. or_else (kind_cause there kind) None) is
       ∙ ap (λ same. or_else (cause_if (not same) (Kind kind)) None) (same_kind kind);
   rows = λ r within.
-      let inside : r < 16 = omega (arith, tile-count device cram x y) in
-      let bits = row_from (columns_at device x y) (λ col. place_bit cram (tile_place device x y r col)) in
-      let wide : length bits ≡ columns_of kind = length-row_from (columns_at device x y) (λ col. place_bit cram (tile_place device x y r col)) ∙ ap columns_in is in
-      ap (λ line. cause_if (not (is_row (columns_of kind) line)) Row) (ap trimmed (tile-row device cram x y r inside) ∙ trimmed-row_line bits)
+      let inside : r < 16 = omega (arith, tile-count image x y) in
+      let bits = row_from (columns_at image.device x y) (λ col. tile_bit_of image x y r col) in
+      let wide : length bits ≡ columns_of kind = length-row_from (columns_at image.device x y) (λ col. tile_bit_of image x y r col) ∙ ap columns_in is in
+      ap (λ line. cause_if (not (is_row (columns_of kind) line)) Row) (ap trimmed (tile-row image x y r inside) ∙ trimmed-row_line bits)
       ∙ ap (λ good. cause_if (not good) Row) (is_row-row_line bits (columns_of kind) wide);
 }
 
 -- ---- the contents of a RAM are right
 
 -- the word of a line that stands at a place of it
-abbrev pub line_word : DeviceName → List Rows → ℕ → ℕ → ℕ → ℕ → ℕ
-line_word device bram x y row place = word_value device bram x y (16 * row + 15 - place)
+abbrev pub line_word : Configuration → ℕ → ℕ → ℕ → ℕ → ℕ
+line_word image x y row place = ram_word_of image x y (16 * row + 15 - place)
 
 -- a word has at most sixteen bits
-pub line_word-small : (device : DeviceName) (bram : List Rows) (x y row place : ℕ) → line_word device bram x y row place < 65536
-line_word-small device bram x y row place = word-row_from-lt (λ bit. place_bit bram (word_bit_place device x y (16 * row + 15 - place) bit))
+pub line_word-small : (image : Configuration) (x y row place : ℕ) → line_word image x y row place < 65536
+line_word-small image x y row place = word-row_from-lt (λ bit. word_bit_of image x y (16 * row + 15 - place) bit)
 
 -- one line each
 pub length-single : (n : ℕ) (given : ℕ → List ℕ) → length (gathered_below n (λ k. given k ∷ [])) ≡ n
@@ -234,41 +236,41 @@ plain-single (suc n) given plain =
     All-append IsPlain (gathered_below n (λ k. given k ∷ [])) (given n ∷ []) (plain-single n given plain) (All-cons IsPlain (given n) [] (plain n) (All-nil IsPlain))
 
 -- the bytes of a line are bytes
-line-bytes : (device : DeviceName) (bram : List Rows) (x y row : ℕ) → IsBytes (words_bytes 16 (line_word device bram x y row))
-line-bytes device bram x y row = IsBytes-words_bytes 16 (line_word device bram x y row) (λ place within. line_word-small device bram x y row place)
+line-bytes : (image : Configuration) (x y row : ℕ) → IsBytes (words_bytes 16 (line_word image x y row))
+line-bytes image x y row = IsBytes-words_bytes 16 (line_word image x y row) (λ place within. line_word-small image x y row place)
 
 -- the written contents of a RAM are a piece
-ram-is : (device : DeviceName) (bram : List Rows) (x y : ℕ) → x < 1000000000 → y < 1000000000 → IsPiece (ram_piece device bram x y)
-ram-is device bram x y small_x small_y =
+ram-is : (image : Configuration) (x y : ℕ) → x < 1000000000 → y < 1000000000 → IsPiece (ram_piece image x y)
+ram-is image x y small_x small_y =
     let spelled = ram-spelled x y small_x small_y in
     record {
       spells = spelled.spells;
       dot = spelled.dot;
-      count = length-single 16 (memory_line device bram x y);
+      count = length-single 16 (memory_line image x y);
       calm = refl;
-      plain = All-cons IsPlain (grid_line ram_data_keyword x y) (gathered_below 16 (λ row. memory_line device bram x y row ∷ [])) spelled.plain
-          (plain-single 16 (memory_line device bram x y) (λ row. plain-encoded (words_bytes 16 (line_word device bram x y row)) (line-bytes device bram x y row)));
+      plain = All-cons IsPlain (grid_line ram_data_keyword x y) (gathered_below 16 (λ row. memory_line image x y row ∷ [])) spelled.plain
+          (plain-single 16 (memory_line image x y) (λ row. plain-encoded (words_bytes 16 (line_word image x y row)) (line-bytes image x y row)));
     }
 
 -- line r of a written RAM, without blanks at its end
-pub ram-row : (device : DeviceName) (bram : List Rows) (x y r : ℕ) → r < 16
-    → trimmed (line_at (gathered_below 16 (λ row. memory_line device bram x y row ∷ [])) r) ≡ encode_lower (words_bytes 16 (line_word device bram x y r))
-ram-row device bram x y r within =
-    ap trimmed (line_at-single 16 (memory_line device bram x y) r within) ∙ trimmed-encoded (words_bytes 16 (line_word device bram x y r)) (line-bytes device bram x y r)
+pub ram-row : (image : Configuration) (x y r : ℕ) → r < 16
+    → trimmed (line_at (gathered_below 16 (λ row. memory_line image x y row ∷ [])) r) ≡ encode_lower (words_bytes 16 (line_word image x y r))
+ram-row image x y r within =
+    ap trimmed (line_at-single 16 (memory_line image x y) r within) ∙ trimmed-encoded (words_bytes 16 (line_word image x y r)) (line-bytes image x y r)
 
 -- they are right where none of that RAM stand before them
-pub ram-fine : (device : DeviceName) (bram : List Rows) (x y : ℕ) (past : List Piece) → x < 1000000000 → y < 1000000000 → kind_of device x y ≡ Some RamB
-    → Knows device past → some_statement (names_ram x y) past ≡ false → IsFine past (ram_piece device bram x y)
-ram-fine device bram x y past small_x small_y is knows new = record {
-  is = ram-is device bram x y small_x small_y;
+pub ram-fine : (image : Configuration) (x y : ℕ) (past : List Piece) → x < 1000000000 → y < 1000000000 → kind_of image.device x y ≡ Some RamB
+    → Knows image.device past → some_statement (names_ram x y) past ≡ false → IsFine past (ram_piece image x y)
+ram-fine image x y past small_x small_y is knows new = record {
+  is = ram-is image x y small_x small_y;
   cause =
       (λ i. cause_behind (knows i) (new i) (RamData x y))
       ∙ ap (λ there. or_else (kind_cause there RamB) None) is;
   rows = λ r within.
-      let inside : r < 16 = omega (arith, length-single 16 (memory_line device bram x y)) in
-      let bytes = words_bytes 16 (line_word device bram x y r) in
-      ap (λ line. cause_if (not (is_memory_line line)) Hex) (ram-row device bram x y r inside)
-      ∙ ap (λ good. cause_if (not good) Hex) (is_memory_line-encoded bytes (line-bytes device bram x y r) (length-words_bytes 16 (line_word device bram x y r)));
+      let inside : r < 16 = omega (arith, length-single 16 (memory_line image x y)) in
+      let bytes = words_bytes 16 (line_word image x y r) in
+      ap (λ line. cause_if (not (is_memory_line line)) Hex) (ram-row image x y r inside)
+      ∙ ap (λ good. cause_if (not good) Hex) (is_memory_line-encoded bytes (line-bytes image x y r) (length-words_bytes 16 (line_word image x y r)));
 }
 
 -- ---- all tiles are right
@@ -284,18 +286,18 @@ pub kind-fine : (image : Configuration) (x y : ℕ) (past : List Piece) → x < 
     → (kind : Option TileKind) → kind_of image.device x y ≡ kind → AreFine past (kind_pieces image x y kind)
 unfolding AreFine
 kind-fine image x y past small_x small_y knows tile ram None is = tt
-kind-fine image x y past small_x small_y knows tile ram (Some Io) is = (tile-fine image.device image.cram x y Io past small_x small_y is knows tile, tt)
-kind-fine image x y past small_x small_y knows tile ram (Some Logic) is = (tile-fine image.device image.cram x y Logic past small_x small_y is knows tile, tt)
+kind-fine image x y past small_x small_y knows tile ram (Some Io) is = (tile-fine image x y Io past small_x small_y is knows tile, tt)
+kind-fine image x y past small_x small_y knows tile ram (Some Logic) is = (tile-fine image x y Logic past small_x small_y is knows tile, tt)
 kind-fine image x y past small_x small_y knows tile ram (Some RamB) is =
-    let first = tile_piece image.device image.cram x y RamB in (
-      tile-fine image.device image.cram x y RamB past small_x small_y is knows tile,
+    let first = tile_piece image x y RamB in (
+      tile-fine image x y RamB past small_x small_y is knows tile,
       (
-        ram-fine image.device image.bram x y (past ++ first ∷ []) small_x small_y is (Knows-more image.device past (first ∷ []) knows)
+        ram-fine image x y (past ++ first ∷ []) small_x small_y is (Knows-more image.device past (first ∷ []) knows)
             (append-none (λ piece. names_ram x y (Some piece.statement)) past (first ∷ []) ram (some_piece-one (λ piece. names_ram x y (Some piece.statement)) first)),
         tt,
       ),
     )
-kind-fine image x y past small_x small_y knows tile ram (Some RamT) is = (tile-fine image.device image.cram x y RamT past small_x small_y is knows tile, tt)
+kind-fine image x y past small_x small_y knows tile ram (Some RamT) is = (tile-fine image x y RamT past small_x small_y is knows tile, tt)
 
 -- the pieces of a tile name no other tile
 kind-other_tile : (image : Configuration) (x y x' y' : ℕ) (kind : Option TileKind) → ((x' == x) && (y' == y)) ≡ false → some_statement (names_tile x y) (kind_pieces image x' y' kind) ≡ false
@@ -349,42 +351,61 @@ tiles-fine image past knows tile ram =
 abbrev pub extra_piece : Place → Piece
 extra_piece at = record { statement = ExtraBit at.bank at.px at.py; head = extra_line at; rows = [] }
 
-abbrev pub extra_pieces_if : Bool → Place → List Piece
-extra_pieces_if is_set at = if is_set then extra_piece at ∷ [] else []
-
-abbrev pub extra_pieces_at : Configuration → Place → List Piece
-extra_pieces_at image at = extra_pieces_if (place_bit image.cram at && not (is_owned image.device at)) at
-
-abbrev pub extra_column : Configuration → ℕ → ℕ → ℕ → List Piece
-extra_column image bank py px = extra_pieces_at image (record { bank = bank; px = px; py = py })
-
-abbrev pub extra_row : Configuration → ℕ → ℕ → List Piece
-extra_row image bank py = gathered_below (cram_width image.device) (extra_column image bank py)
-
-abbrev pub extra_bank : Configuration → ℕ → List Piece
-extra_bank image bank = gathered_below (cram_height image.device) (extra_row image bank)
-
 abbrev pub all_extra_pieces : Configuration → List Piece
-all_extra_pieces image = gathered_below 4 (extra_bank image)
+all_extra_pieces image = map extra_piece (set_extras image)
 
--- the line of an extra bit, where there is one
-extra-lines_if : (is_set : Bool) (at : Place) → all_lines (extra_pieces_if is_set at) ≡ (if is_set then extra_line at ∷ [] else [])
+-- the lines of extra bits
+lines-extras : (places : List Place) → all_lines (map extra_piece places) ≡ map extra_line places
 unfolding all_lines
-extra-lines_if true at = refl
-extra-lines_if false at = refl
+lines-extras [] = refl
+lines-extras (at ∷ places) = ap (λ lines. extra_line at ∷ lines) (lines-extras places)
 
 -- their lines are those of all extra bits
 pub extra-lines : (image : Configuration) → all_lines (all_extra_pieces image) ≡ all_extra_lines image
-extra-lines image =
-    all_lines-gathered 4 (extra_bank image)
-    ∙ gathered_below-same 4 (λ bank. all_lines (extra_bank image bank))
-    (λ bank. gathered_below (cram_height image.device) (λ py. gathered_below (cram_width image.device) (λ px. extra_lines_at image (record { bank = bank; px = px; py = py })))) (λ bank within.
-    all_lines-gathered (cram_height image.device) (extra_row image bank)
-    ∙ gathered_below-same (cram_height image.device) (λ py. all_lines (extra_row image bank py))
-    (λ py. gathered_below (cram_width image.device) (λ px. extra_lines_at image (record { bank = bank; px = px; py = py }))) (λ py inside.
-    all_lines-gathered (cram_width image.device) (extra_column image bank py)
-    ∙ gathered_below-same (cram_width image.device) (λ px. all_lines (extra_column image bank py px)) (λ px. extra_lines_at image (record { bank = bank; px = px; py = py })) (λ px inside'.
-    extra-lines_if (place_bit image.cram (record { bank = bank; px = px; py = py }) && not (is_owned image.device (record { bank = bank; px = px; py = py }))) (record { bank = bank; px = px; py = py }))))
+extra-lines image = lines-extras (set_extras image)
+
+-- a test that no extra bit passes
+pub extras-none : (test : Piece → Bool) (places : List Place) → ((at : Place) → test (extra_piece at) ≡ false) → some_piece test (map extra_piece places) ≡ false
+unfolding some_piece
+extras-none test [] none = refl
+extras-none test (at ∷ places) none = rw (none at) (extras-none test places none)
+
+-- nothing that an extra bit gives
+pub extras-give : {A : Type 0} (given : Piece → Option A) (places : List Place) → ((at : Place) → given (extra_piece at) ≡ None) → first_piece given (map extra_piece places) ≡ None
+unfolding first_piece
+extras-give given [] none = refl
+extras-give given (at ∷ places) none = rw (none at) (extras-give given places none)
+
+-- the first of a list, and the others
+first-in : (at : Place) (places : List Place) → Contains (at ∷ places) at
+first-in at places = Contains-append_left (at ∷ []) places at (0, omega arith, refl)
+
+other-in : (at : Place) (places : List Place) (other : Place) → Contains places other → Contains (at ∷ places) other
+other-in at places other is = Contains-append_right (at ∷ []) places other is
+
+-- an extra bit that passes a test
+pub extras-place : (test : Piece → Bool) (places : List Place) → some_piece test (map extra_piece places) ≡ true → (at : Place) × Contains places at × (test (extra_piece at) ≡ true)
+unfolding some_piece
+extras-place test [] some = absurd cc
+extras-place test (at ∷ places) some =
+    elim (or_cases (test (extra_piece at)) (some_piece test (map extra_piece places)) some) [
+      | inl here ↦ (at, first-in at places, here)
+      | inr later ↦
+          let found = extras-place test places later in
+          (found.0, other-in at places found.0 found.1, found.2)
+    ]
+
+pub extras-at : (test : Piece → Bool) (places : List Place) (at : Place) → Contains places at → test (extra_piece at) ≡ true → some_piece test (map extra_piece places) ≡ true
+unfolding some_piece
+extras-at test [] at is passes = absurd (omega (arith, is.1))
+extras-at test (first ∷ places) at is passes =
+    elim (Contains-append_cases (first ∷ []) places at is) [
+      | inr later ↦ or_right (test (extra_piece first)) (some_piece test (map extra_piece places)) (extras-at test places at later passes)
+      | inl alone ↦
+          let e : alone.0 ≡ 0 = omega (arith, alone.1) in
+          let same : first ≡ at = subst (λ (k : ℕ). get_or (first ∷ []) k at ≡ at) e alone.2 in
+          or_left (test (extra_piece first)) (some_piece test (map extra_piece places)) (ap (λ at. test (extra_piece at)) same ∙ passes)
+    ]
 
 -- the planes are small
 planes-small : (device : DeviceName) (px py : ℕ) → px < cram_width device → py < cram_height device → (px < 1000000000) × (py < 1000000000)
@@ -392,35 +413,25 @@ planes-small K1 px py inside within = (omega arith, omega arith)
 planes-small K8 px py inside within = (omega arith, omega arith)
 
 -- a written extra bit is right
-extra-fine_if : (device : DeviceName) (at : Place) (past : List Piece) → at.bank < 4 → at.px < cram_width device → at.py < cram_height device → Knows device past
-    → (bit : Bool) → (set : Bool) → (bit && not (is_owned device at)) ≡ set → AreFine past (extra_pieces_if set at)
-extra-fine_if device at past bank column row knows bit false is = AreFine-none past
-extra-fine_if device at past bank column row knows bit true is =
-    let small = planes-small device at.px at.py column row in
-    let spelled = extra-spelled at (omega arith) small.0 small.1 in
-    let free : not (is_owned device at) ≡ true = (and_parts bit (not (is_owned device at)) is).1 in
-    let extra : is_extra device at ≡ true =
-    and_from (nat_lt at.bank 4 && nat_lt at.px (cram_width device) && nat_lt at.py (cram_height device)) (not (is_owned device at))
-    (and_from (nat_lt at.bank 4 && nat_lt at.px (cram_width device)) (nat_lt at.py (cram_height device))
-    (and_from (nat_lt at.bank 4) (nat_lt at.px (cram_width device)) (lt-ltb at.bank 4 bank) (lt-ltb at.px (cram_width device) column)) (lt-ltb at.py (cram_height device) row)) free
-    in
-    AreFine-one past (extra_piece at) (record {
+extra-fine : (device : DeviceName) (at : Place) (past : List Piece) → is_extra device at ≡ true → Knows device past → IsFine past (extra_piece at)
+extra-fine device at past extra knows =
+    let inside = (extra_in device at extra).0 in
+    let small = planes-small device at.px at.py inside.px_in inside.py_in in
+    let spelled = extra-spelled at (omega (arith, inside.bank_in)) small.0 small.1 in
+    record {
       is = record { spells = spelled.spells; dot = spelled.dot; count = refl; calm = refl; plain = All-cons IsPlain (extra_line at) [] spelled.plain (All-nil IsPlain) };
       cause =
           ap (λ device. cause_behind device false (ExtraBit at.bank at.px at.py)) knows
           ∙ ap (λ good. or_else (cause_if (not good) ExtraPlace) None) extra;
       rows = λ r within. absurd (omega arith);
-    })
+    }
+
+extras-fine_of : (device : DeviceName) (places : List Place) (past : List Piece) → ((at : Place) → Contains places at → is_extra device at ≡ true) → Knows device past → AreFine past (map extra_piece places)
+unfolding AreFine
+extras-fine_of device [] past extra knows = tt
+extras-fine_of device (at ∷ places) past extra knows =
+    (extra-fine device at past (extra at (first-in at places)) knows, extras-fine_of device places (past ++ extra_piece at ∷ []) (λ other is. extra other (other-in at places other is)) (Knows-more device past (extra_piece at ∷ []) knows))
 
 -- all extra bits are right behind pieces that name the device
 pub extras-fine : (image : Configuration) (past : List Piece) → Knows image.device past → AreFine past (all_extra_pieces image)
-extras-fine image past knows =
-    AreFine-gathered past 4 (extra_bank image) (λ bank within.
-    let past1 = past ++ gathered_below bank (extra_bank image) in
-    AreFine-gathered past1 (cram_height image.device) (extra_row image bank) (λ py row.
-    let past2 = past1 ++ gathered_below py (extra_row image bank) in
-    AreFine-gathered past2 (cram_width image.device) (extra_column image bank py) (λ px column.
-    let at : Place = record { bank = bank; px = px; py = py } in
-    extra-fine_if image.device at (past2 ++ gathered_below px (extra_column image bank py)) within column row
-    (Knows-more image.device past2 (gathered_below px (extra_column image bank py)) (Knows-more image.device past1 (gathered_below py (extra_row image bank)) (Knows-more image.device past (gathered_below bank (extra_bank image)) knows)))
-    (place_bit image.cram at) (place_bit image.cram at && not (is_owned image.device at)) refl)))
+extras-fine image past knows = extras-fine_of image.device (set_extras image) past (λ at is. (set_extras-in image at is).0) knows

@@ -1,8 +1,8 @@
 -- Which lines of a text that can be read are the statements of RAMs, and which lines stand below them.
-use Rattle.std.proofs.Common.{◌≡◌, ◌≢◌, ℕ, zero, suc, ◌+◌, ◌-◌, ◌*◌, ◌<◌, ◌≤◌, Bool, true, false, not, ◌&&◌, ◌||◌, ◌==◌, cond, List, [], ◌∷◌, length, get_or, drop, refl, sym, ap, ◌∙◌, subst, inl, inr, arith, add-one}
-use Rattle.std.specs.Prelude.{Option, Some, None, bytes_eq, nat_lt, nat_le, if◌then◌else◌}
+use Rattle.std.proofs.Common.{◌≡◌, ◌≢◌, ℕ, zero, suc, ◌+◌, ◌-◌, ◌<◌, ◌≤◌, Bool, true, false, not, ◌||◌, ◌==◌, List, [], ◌∷◌, length, get_or, drop, refl, sym, ap, ◌∙◌, inl, inr, arith, add-one}
+use Rattle.std.specs.Prelude.{Option, Some, None, bytes_eq, nat_lt, if◌then◌else◌}
 use Rattle.std.specs.List.{list_all}
-use Rattle.std.proofs.lemmas.Bool.{cases_lt, cases_eq, cases_Bool, and_parts, and_from, or_cases, false≢true, lt-ltb, le-ltb, le-leb, lt-leb, eq-eqb, ne_eqb, eqb-true}
+use Rattle.std.proofs.lemmas.Bool.{cases_lt, cases_Bool, and_parts, false≢true, lt-ltb, le-ltb, lt-leb, ne_eqb, eqb-true}
 use Rattle.std.proofs.lemmas.Slice.Eq.{bytes_eq-Decides}
 use Rattle.std.proofs.lemmas.List.{get_or-drop, get_or_past}
 use Rattle.text_lines.specs.Lines.{lines_of, line_at, trimmed}
@@ -19,8 +19,8 @@ use Rattle.asc_text.specs.declared.fault.AscCause.{AscCause}
 use Rattle.asc_text.specs.declared.fault.AscCause.TheVariants.{Row, Hex}
 use Rattle.asc_text.specs.Statements.{begins_with_dot, statement_in, spelled, comment_keyword, device_keyword, warm_boot_keyword, range_keyword, no_sleep_keyword, tile_keyword, ram_data_keyword, extra_bit_keyword, symbol_keyword, device_of_words, warm_boot_of_words, range_of_words, no_sleep_of_words, tile_of_numbers, ram_data_of_numbers, extra_bit_of_numbers, symbol_of_parts, name_behind}
 use Rattle.asc_text.specs.Rows.{is_row, is_memory_line}
-use Rattle.asc_text.specs.Blocks.{has_rows, depth_after, depth_at, statement_over, statement_at}
-use Rattle.asc_text.specs.Faults.{Fault, asc_fault_of, fault_at, fault_with, cause_at, cause_if, row_cause, statement_cause, tile_named}
+use Rattle.asc_text.specs.Blocks.{has_rows, depth_at, statement_over, statement_at}
+use Rattle.asc_text.specs.Faults.{asc_fault_of, fault_at, fault_with, cause_at, cause_if, row_cause, statement_cause, tile_named}
 use Rattle.asc_text.specs.Rams.{is_ram_data, is_in_ram, below_statement, is_ram_line, BeginsWithRam}
 use Rattle.place_search.proofs.Found.{first_below-clear}
 

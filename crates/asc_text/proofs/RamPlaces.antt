@@ -1,15 +1,14 @@
 -- A text that can be read has few RAMs: each stands at another place of the grid.
-use Rattle.std.proofs.Common.{◌≡◌, ◌≢◌, ℕ, zero, suc, ◌+◌, ◌-◌, ◌*◌, ◌<◌, ◌≤◌, Bool, true, false, ◌&&◌, ◌==◌, eqb, List, [], ◌∷◌, ◌++◌, length, drop, refl, sym, ap, ◌∙◌, subst, inl, inr, arith, append-nil, length-append, add-one}
-use Rattle.std.specs.Prelude.{Option, Some, None, nat_lt, nat_le, if◌then◌else◌}
+use Rattle.std.proofs.Common.{◌≡◌, ◌≢◌, ℕ, zero, suc, ◌+◌, ◌*◌, ◌<◌, ◌≤◌, Bool, true, false, ◌&&◌, ◌==◌, eqb, List, [], ◌∷◌, ◌++◌, length, refl, sym, ◌∙◌, subst, inl, inr, arith, append-nil}
+use Rattle.std.specs.Prelude.{Option, Some, None, nat_lt}
 use Rattle.std.specs.List.{list_any, IsDistinct}
 use Rattle.std.specs.Cmp.{nat_eq_equiv}
-use Rattle.std.proofs.lemmas.Bool.{cases_lt, cases_eq, cases_Bool, false≢true, lt-ltb, le-ltb, lt-leb, eq-eqb, ne_eqb, eqb-true}
+use Rattle.std.proofs.lemmas.Bool.{cases_eq, cases_Bool, false≢true, lt-leb, eq-eqb, ne_eqb, eqb-true}
 use Rattle.std.proofs.Math.Bool.{or-false}
 use Rattle.std.proofs.lemmas.List.Folds.{list_any-append}
 use Rattle.std.proofs.lemmas.Map.Keys.{IsDistinct-push}
 use Rattle.std.proofs.lemmas.Map.Steps.{length-le_from_distinct_below}
-use Rattle.place_search.specs.Places.{any_below, gathered_below, or_else}
-use Rattle.place_search.proofs.Places.{gathered_below-more, gathered_below-none}
+use Rattle.place_search.specs.Places.{gathered_below, or_else}
 use Rattle.text_lines.specs.Lines.{lines_of, line_at}
 use Rattle.plane_map.specs.Layout.{kind_of}
 use Rattle.plane_map.specs.declared.device.DeviceName.{DeviceName}
@@ -19,9 +18,9 @@ use Rattle.asc_text.specs.declared.statement.Statement.{Statement}
 use Rattle.asc_text.specs.declared.statement.Statement.TheVariants.{Comment, Device, WarmBoot, FrequencyRange, NoSleep, Tile, RamData, ExtraBit, Symbol}
 use Rattle.asc_text.specs.declared.fault.AscCause.{AscCause}
 use Rattle.asc_text.specs.declared.fault.AscCause.TheVariants.{Repeated}
-use Rattle.asc_text.specs.Statements.{begins_with_dot, statement_in, spelled}
+use Rattle.asc_text.specs.Statements.{begins_with_dot, statement_in}
 use Rattle.asc_text.specs.Blocks.{depth_at, statement_at, device_before}
-use Rattle.asc_text.specs.Faults.{asc_fault_of, cause_at, cause_if, kind_cause, is_repeated, names_ram, stands_before, missing_device, unknown_device, tile_cause, extra_cause, setting_cause, statement_cause}
+use Rattle.asc_text.specs.Faults.{asc_fault_of, cause_at, cause_if, kind_cause, is_repeated, names_ram, missing_device, unknown_device, tile_cause, extra_cause, setting_cause, statement_cause}
 use Rattle.asc_text.proofs.Refusals.{in_grid}
 use Rattle.asc_text.specs.Rams.{is_ram_data}
 use Rattle.place_search.proofs.Found.{or_else-first, or_else-other, any_below-clear}

@@ -24,7 +24,7 @@ use Rattle.asc_text.specs.declared.reading.reader.Expected.TheVariants.{Statemen
 use Rattle.asc_text.specs.Statements.{statement_in}
 use Rattle.asc_text.specs.inside.TileSets.{has_tile}
 use Rattle.asc_text.specs.Rows.{is_row, is_memory_line}
-use Rattle.asc_text.specs.Extras.{is_extra}
+use Rattle.ice_image.specs.Owned.{is_extra}
 use Rattle.asc_text.specs.Blocks.{statement_over, device_before}
 use Rattle.asc_text.specs.Faults.{cause_at, end_cause, statement_cause, is_repeated, missing_device, unknown_device, tile_cause, kind_cause, extra_cause, setting_cause, cause_if, tile_named, fault_at, fault_with}
 use Rattle.asc_text.specs.inside.Reading.{ReaderState, statement_refusal, dotted_refusal, setting_refusal, tile_refusal, extra_refusal, line_refusal, end_refusal, statement_of}

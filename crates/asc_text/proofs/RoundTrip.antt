@@ -9,25 +9,23 @@ use Rattle.place_search.specs.Places.{any_below, first_below}
 use Rattle.text_lines.specs.Written.{text_of, IsPlain}
 use Rattle.place_search.proofs.Places.{any_below-at, first_below-none, gathered_below-none}
 use Rattle.text_lines.proofs.Written.{lines_of-text_of}
-use Rattle.plane_map.specs.Layout.{cram_width, cram_height, bram_width, bram_height}
 use Rattle.plane_map.specs.declared.device.DeviceName.{DeviceName}
-use Rattle.plane_map.specs.declared.tile.Place.{Place}
-use Rattle.ice_image.specs.Configuration.{Configuration, place_bit, IsWhole}
+use Rattle.ice_image.specs.Bits.{Bit, OfTile, OfWord, Extra, IsBit, bit_of}
+use Rattle.ice_image.specs.Configuration.{Configuration, IsWhole}
+use Rattle.ice_image.proofs.Bits.{image_from-is}
 use Rattle.ice_image.specs.declared.settings.Range.TheVariants.{Low}
 use Rattle.asc_text.specs.declared.statement.Statement.{Statement}
 use Rattle.asc_text.specs.declared.statement.Statement.TheVariants.{Comment, Device, WarmBoot, FrequencyRange, NoSleep, Tile, RamData, ExtraBit, Symbol}
 use Rattle.asc_text.specs.Statements.{device_word, device_keyword, begins_with_dot}
 use Rattle.asc_text.specs.Blocks.{depth_at, statement_over, statement_at, is_comment, device_in, device_before}
-use Rattle.asc_text.specs.Extras.{is_owned}
 use Rattle.asc_text.specs.Faults.{names_tile, names_ram, cause_at, fault_with, tile_named, fault_at, asc_fault_of}
-use Rattle.asc_text.specs.Meaning.{is_set_before, is_word_set_before, comment_before, settings_before, image_before, symbol_in, symbols_before, image_for, asc_image_of, asc_symbols_of, AscMeans}
+use Rattle.asc_text.specs.Meaning.{is_set_before, comment_before, settings_before, image_before, symbol_in, symbols_before, image_for, asc_image_of, asc_symbols_of, AscMeans}
 use Rattle.asc_text.specs.Canonical.{with_word, comment_lines, warm_boot_lines, range_lines, no_sleep_lines, all_tile_lines, all_extra_lines, canonical_lines, asc_text_of}
-use Rattle.asc_text.proofs.PieceRead.{Piece, Stands, piece_lines, piece_sets, piece_sets_word}
-use Rattle.asc_text.proofs.PlanesFrom.{planes_from-is}
+use Rattle.asc_text.proofs.PieceRead.{Piece, Stands, piece_lines, piece_sets}
 use Rattle.asc_text.proofs.PiecesRead.{all_lines, some_piece, some_piece-append, some_statement, first_statement, Holds, AreFine, AreFine-append, Stands-front, Stands-back, all_more}
 use Rattle.asc_text.proofs.PiecesWritten.{all_lines-append, append-none, Knows-more, all_tile_pieces, tile-lines, tiles-fine, all_extra_pieces, extra-lines, extras-fine}
 use Rattle.asc_text.proofs.HeadRead.{comment_pieces, warm_boot_pieces, range_pieces, no_sleep_pieces, head_pieces, head-lines, FailsHead, head-none, head-knows, head-fine, FailsPlaces, places-none, settings-read}
-use Rattle.asc_text.proofs.BitsRead.{tiles-set, tiles-set_at, extras-set, extras-set_at}
+use Rattle.asc_text.proofs.BitsRead.{tiles-set, tiles-set_at, tiles-set_no_extra, extras-set, extras-set_at, extras-set_no_tile}
 use Rattle.asc_text.proofs.WordsRead.{tiles-set_word, tiles-set_word_at, extras-set_no_word}
 use Rattle.asc_text.proofs.CommentRead.{HasCommentLines, holds-start, plain-comment, comment-is, comment-none}
 
@@ -106,7 +104,7 @@ holds-whole image has =
     let behind : Stands lines (length front) rest = subst (λ n. Stands lines n rest) none (Stands-back lines 0 front rest stands) in
     subst (λ n. Holds lines n (whole_pieces image)) (sym (length-append front rest)) (all_more lines (length front) (comment_pieces image.comment) (body_pieces image) start (body-fine image) behind)
 
--- ---- the planes
+-- ---- the bits
 
 -- tests that pass together are the same
 same_tests : (a b : Bool) → (a ≡ true → b ≡ true) → (b ≡ true → a ≡ true) → a ≡ b
@@ -124,48 +122,46 @@ whole-some image test fails =
     ∙ some_piece-append test (comment_pieces image.comment ++ head) places
     ∙ (λ i. head-none test image.comment image.device settings.warm_boot settings.range settings.no_sleep fails i || some_piece-append test (all_tile_pieces image) (all_extra_pieces image) i)
 
--- the comment, the device and the settings set no bit of the configuration planes
-bits-fail : (device : DeviceName) (at : Place) → FailsHead (piece_sets device at) device
+-- the comment, the device and the settings set no bit
+bits-fail : (device : DeviceName) (bit : Bit) → FailsHead (piece_sets bit) device
 unfolding piece_sets any_below
-bits-fail device at = record { at_comment = refl; at_device = refl; at_warm_boot = refl; at_medium = refl; at_high = refl; at_no_sleep = refl }
+bits-fail device bit = record { at_comment = refl; at_device = refl; at_warm_boot = refl; at_medium = refl; at_high = refl; at_no_sleep = refl }
 
--- nor one of the RAM planes
-words-fail : (device : DeviceName) (at : Place) → FailsHead (piece_sets_word device at) device
-unfolding piece_sets_word any_below
-words-fail device at = record { at_comment = refl; at_device = refl; at_warm_boot = refl; at_medium = refl; at_high = refl; at_no_sleep = refl }
-
--- the pieces set the bits of the configuration planes
-bits-whole : (image : Configuration) (at : Place) → at.bank < 4 → at.px < cram_width image.device → at.py < cram_height image.device
-    → some_piece (piece_sets image.device at) (whole_pieces image) ≡ place_bit image.cram at
-bits-whole image at bank column row =
-    let test = piece_sets image.device at in
+-- the pieces set the bits of the image
+bits-whole : (image : Configuration) (bit : Bit) → IsBit image.device bit → some_piece (piece_sets bit) (whole_pieces image) ≡ bit_of image bit
+bits-whole image (OfTile bit) is =
+    let test = piece_sets (OfTile bit) in
     let tiles = some_piece test (all_tile_pieces image) in
     let extras = some_piece test (all_extra_pieces image) in
-    whole-some image test (bits-fail image.device at)
-    ∙ same_tests (tiles || extras) (place_bit image.cram at)
+    whole-some image test (bits-fail image.device (OfTile bit))
+    ∙ same_tests (tiles || extras) (bit_of image (OfTile bit))
     (λ some. elim (or_cases tiles extras some) [
-      | inl tile ↦ tiles-set image at tile
+      | inl tile ↦ tiles-set image bit is tile
+      | inr extra ↦ absurd (both_ways extras (extras-set_no_tile image bit) extra)
+    ])
+    (λ set. or_left tiles extras (tiles-set_at image bit is set))
+bits-whole image (OfWord bit) is =
+    let test = piece_sets (OfWord bit) in
+    let tiles = some_piece test (all_tile_pieces image) in
+    let extras = some_piece test (all_extra_pieces image) in
+    whole-some image test (bits-fail image.device (OfWord bit))
+    ∙ same_tests (tiles || extras) (bit_of image (OfWord bit))
+    (λ some. elim (or_cases tiles extras some) [
+      | inl tile ↦ tiles-set_word image bit is tile
+      | inr extra ↦ absurd (both_ways extras (extras-set_no_word image bit) extra)
+    ])
+    (λ set. or_left tiles extras (tiles-set_word_at image bit is set))
+bits-whole image (Extra at) is =
+    let test = piece_sets (Extra at) in
+    let tiles = some_piece test (all_tile_pieces image) in
+    let extras = some_piece test (all_extra_pieces image) in
+    whole-some image test (bits-fail image.device (Extra at))
+    ∙ same_tests (tiles || extras) (bit_of image (Extra at))
+    (λ some. elim (or_cases tiles extras some) [
+      | inl tile ↦ absurd (both_ways tiles (tiles-set_no_extra image at) tile)
       | inr extra ↦ extras-set image at extra
     ])
-    (λ bit. elim (cases_Bool (is_owned image.device at)) [
-      | inl owned ↦ or_left tiles extras (tiles-set_at image at owned bit)
-      | inr free ↦ or_right tiles extras (extras-set_at image at bank column row free bit)
-    ])
-
--- and those of the RAM planes
-words-whole : (image : Configuration) (at : Place) → at.bank < 4 → at.px < bram_width image.device → at.py < bram_height image.device
-    → some_piece (piece_sets_word image.device at) (whole_pieces image) ≡ place_bit image.bram at
-words-whole image at bank column row =
-    let test = piece_sets_word image.device at in
-    let tiles = some_piece test (all_tile_pieces image) in
-    let extras = some_piece test (all_extra_pieces image) in
-    whole-some image test (words-fail image.device at)
-    ∙ same_tests (tiles || extras) (place_bit image.bram at)
-    (λ some. elim (or_cases tiles extras some) [
-      | inl tile ↦ tiles-set_word image at tile
-      | inr extra ↦ absurd (both_ways extras (extras-set_no_word image at) extra)
-    ])
-    (λ bit. or_left tiles extras (tiles-set_word_at image at (record { bank_in = bank; px_in = column; py_in = row }) bit))
+    (λ set. or_right tiles extras (extras-set_at image at is set))
 
 -- ---- names
 
@@ -286,13 +282,8 @@ image-whole : (image : Configuration) → IsWhole image → HasCommentLines imag
 image-whole image whole has =
     let lines = written_lines image in
     let holds = holds-whole image has in
-    let comment = comment-whole image has in
-    let settings = settings-whole image has in
-    let cram = planes_from-is (cram_width image.device) (cram_height image.device) (is_set_before image.device lines (length lines)) image.cram whole.cram (λ at bank column row.
-    holds.bits image.device at ∙ bits-whole image at bank column row) in
-    let bram = planes_from-is (bram_width image.device) (bram_height image.device) (is_word_set_before image.device lines (length lines)) image.bram whole.bram (λ at bank column row.
-    holds.words image.device at ∙ words-whole image at bank column row) in
-    λ i. record { device = image.device; comment = comment i; settings = settings i; cram = cram i; bram = bram i }
+    sym (image_from-is image image.device (comment_before lines (length lines)) (settings_before lines (length lines)) (is_set_before lines (length lines)) whole refl (sym (comment-whole image has)) (sym (settings-whole image has))
+    (λ bit is. sym (holds.bits bit ∙ bits-whole image bit is)))
 
 -- they name nothing
 symbols-whole : (image : Configuration) → HasCommentLines image.comment → symbols_before (written_lines image) (length (written_lines image)) ≡ []

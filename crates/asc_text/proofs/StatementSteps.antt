@@ -1,6 +1,7 @@
 -- What is kept after a statement is what the lines say with it.
 use Rattle.std.proofs.Common.{◌≡◌, ℕ, ◌+◌, Bool, true, false, not, List, refl, sym, ap, ◌∙◌, subst, arith}
 use Rattle.std.specs.Prelude.{Option, Some, None, is_some}
+use Rattle.std.proofs.Math.Bool.{and-false}
 use Rattle.text_lines.specs.Lines.{line_at}
 use Rattle.place_search.specs.Places.{or_else}
 use Rattle.plane_map.specs.Layout.{kind_of}
@@ -17,14 +18,14 @@ use Rattle.asc_text.specs.declared.reading.reader.Expected.{Expected}
 use Rattle.asc_text.specs.declared.reading.reader.Expected.TheVariants.{Statement as AnyStatement}
 use Rattle.asc_text.specs.Statements.{statement_in, begins_with_dot}
 use Rattle.asc_text.specs.inside.TileSets.{has_tile}
-use Rattle.asc_text.specs.Extras.{is_same_place}
+use Rattle.asc_text.specs.Meaning.{extra_sets}
 use Rattle.asc_text.specs.Blocks.{depth_at, statement_over, statement_at, depth_after, has_rows, is_comment}
 use Rattle.asc_text.specs.Faults.{cause_at, cause_if, kind_cause, is_same_kind, unknown_device}
 use Rattle.asc_text.specs.inside.Reading.{ReaderState, HasKind, IsBlank, TakesStatement, statement_refusal, setting_refusal, tile_refusal}
 use Rattle.asc_text.proofs.HasRead.{HasRead, HasComment, HasImage, IsAt, device_known}
 use Rattle.asc_text.proofs.Given.{Follows, HasGiven-more}
 use Rattle.asc_text.proofs.CommentSteps.{comment-begins, comment-ends}
-use Rattle.asc_text.proofs.ImageSteps.{image-stays, image-begins, image-gains_cram}
+use Rattle.asc_text.proofs.ImageSteps.{image-stays, image-begins, image-gains}
 use Rattle.asc_text.proofs.LineSteps.{depth-more, at-statement, fit-more, same_device}
 use Rattle.asc_text.proofs.Refusals.{over_is}
 
@@ -172,7 +173,7 @@ follows s new (RamData x y) line none takes =
     subst P (sym takes.0) (record { warm_boot = refl; warm_boot_known = refl; range = refl; range_known = refl; no_sleep = refl; no_sleep_known = refl; device = refl; device_known = refl; tiles = refl; rams = takes.1; symbols = refl })
 follows s new (ExtraBit bank x y) line none takes =
     let P : ReaderState → Type 0 = λ t. Follows s (Some (ExtraBit bank x y)) line t in
-    let same = same_device s.image new.image (λ device. is_same_place (record { bank = bank; px = x; py = y })) takes.1 in
+    let same = same_device s.image new.image (extra_sets (record { bank = bank; px = x; py = y })) takes.1 in
     subst P (sym takes.0) (record { warm_boot = refl; warm_boot_known = refl; range = refl; range_known = refl; no_sleep = refl; no_sleep_known = refl; device = same; device_known = refl; tiles = refl; rams = refl; symbols = refl })
 follows s new (Symbol net) line none takes =
     let P : ReaderState → Type 0 = λ t. Follows s (Some (Symbol net)) line t in
@@ -185,31 +186,31 @@ image-after : (lines : List (List ℕ)) (n : ℕ) (s new : ReaderState) (stateme
     → depth_at lines n ≡ 0 → statement_over lines n ≡ Some statement → HasImage lines (n + 1) new.image
 image-after lines n s new Comment line has none takes depth over =
     let P : ReaderState → Type 0 = λ t. HasImage lines (n + 1) t.image in
-    subst P (sym takes) (image-stays lines n s.image has (λ device at. rw over refl) (λ device at. rw over refl))
+    subst P (sym takes) (image-stays lines n s.image has (λ bit. rw over refl))
 image-after lines n s new (Device name) line has none takes depth over =
     let P : Option AnyImage → Type 0 = λ i. HasImage lines n i in
     let nothing = not_given s.image ((neither (unknown_device (Device name)) (cause_if (is_some s.image) Repeated) none).1) in
-    image-begins lines n name new.image (subst P nothing has) takes.1 (λ device at. rw over refl) (λ device at. rw over refl)
+    image-begins lines n name new.image (subst P nothing has) takes.1 (λ bit. rw over refl)
 image-after lines n s new (WarmBoot setting) line has none takes depth over =
     let P : ReaderState → Type 0 = λ t. HasImage lines (n + 1) t.image in
-    subst P (sym takes) (image-stays lines n s.image has (λ device at. rw over refl) (λ device at. rw over refl))
+    subst P (sym takes) (image-stays lines n s.image has (λ bit. rw over refl))
 image-after lines n s new (FrequencyRange setting) line has none takes depth over =
     let P : ReaderState → Type 0 = λ t. HasImage lines (n + 1) t.image in
-    subst P (sym takes) (image-stays lines n s.image has (λ device at. rw over refl) (λ device at. rw over refl))
+    subst P (sym takes) (image-stays lines n s.image has (λ bit. rw over refl))
 image-after lines n s new (NoSleep setting) line has none takes depth over =
     let P : ReaderState → Type 0 = λ t. HasImage lines (n + 1) t.image in
-    subst P (sym takes) (image-stays lines n s.image has (λ device at. rw over refl) (λ device at. rw over refl))
+    subst P (sym takes) (image-stays lines n s.image has (λ bit. rw over refl))
 image-after lines n s new (Tile kind x y) line has none takes depth over =
     let P : ReaderState → Type 0 = λ t. HasImage lines (n + 1) t.image in
-    subst P (sym takes.0) (image-stays lines n s.image has (λ device at. rw (over, depth) refl) (λ device at. rw over refl))
+    subst P (sym takes.0) (image-stays lines n s.image has (λ bit. rw (over, depth) (and-false _)))
 image-after lines n s new (RamData x y) line has none takes depth over =
     let P : ReaderState → Type 0 = λ t. HasImage lines (n + 1) t.image in
-    subst P (sym takes.0) (image-stays lines n s.image has (λ device at. rw over refl) (λ device at. rw (over, depth) refl))
+    subst P (sym takes.0) (image-stays lines n s.image has (λ bit. rw (over, depth) (and-false _)))
 image-after lines n s new (ExtraBit bank x y) line has none takes depth over =
-    image-gains_cram lines n s.image new.image (λ device. is_same_place (record { bank = bank; px = x; py = y })) has takes.1 (λ device at. rw over refl) (λ device at. rw over refl)
+    image-gains lines n s.image new.image (extra_sets (record { bank = bank; px = x; py = y })) has takes.1 (λ bit. rw over refl)
 image-after lines n s new (Symbol net) line has none takes depth over =
     let P : ReaderState → Type 0 = λ t. HasImage lines (n + 1) t.image in
-    subst P (sym takes) (image-stays lines n s.image has (λ device at. rw over refl) (λ device at. rw over refl))
+    subst P (sym takes) (image-stays lines n s.image has (λ bit. rw over refl))
 
 -- ---- the comment
 

@@ -1,20 +1,17 @@
 -- The one text that is written for a configuration: a concatenation of lines.
-use Rattle.std.specs.Prelude.{ℕ, ◌+◌, ◌-◌, ◌*◌, ◌/◌, ◌%◌, Bool, true, false, not, ◌&&◌, List, [], ◌∷◌, ◌++◌, map, decimal, if◌then◌else◌, Option, Some, None}
+use Rattle.std.specs.Prelude.{ℕ, ◌+◌, ◌-◌, ◌*◌, ◌/◌, ◌%◌, Bool, true, false, List, [], ◌∷◌, ◌++◌, map, decimal, Option, Some, None}
 use Rattle.place_search.specs.Places.{gathered_below}
 use Rattle.text_lines.specs.Written.{text_of}
-use Rattle.bit_plane.specs.Rows.{Rows}
 use Rattle.hex.specs.Hex.{encode_lower}
-use Rattle.plane_map.specs.Layout.{kind_of, grid_width, grid_height, cram_width, cram_height}
-use Rattle.plane_map.specs.declared.device.DeviceName.{DeviceName}
+use Rattle.plane_map.specs.Layout.{kind_of, grid_width, grid_height}
 use Rattle.plane_map.specs.declared.tile.TileKind.{TileKind}
 use Rattle.plane_map.specs.declared.tile.TileKind.TheVariants.{Io, Logic, RamB, RamT}
 use Rattle.plane_map.specs.declared.tile.Place.{Place}
-use Rattle.ice_image.specs.Configuration.{Configuration, place_bit}
-use Rattle.ice_image.specs.Contents.{tile_rows, word_value}
+use Rattle.ice_image.specs.Bits.{tile_of, ram_word_of, set_extras}
+use Rattle.ice_image.specs.Configuration.{Configuration}
 use Rattle.ice_image.specs.declared.settings.Range.{Range}
 use Rattle.ice_image.specs.declared.settings.Range.TheVariants.{Low, Medium, High}
 use Rattle.asc_text.specs.Statements.{device_word, switch_word, range_word, comment_keyword, device_keyword, warm_boot_keyword, range_keyword, no_sleep_keyword, tile_keyword, ram_data_keyword, extra_bit_keyword}
-use Rattle.asc_text.specs.Extras.{is_owned}
 
 -- a line, a space and a word
 abbrev pub with_word : List ℕ → List ℕ → List ℕ
@@ -58,30 +55,30 @@ abbrev pub row_line : List Bool → List ℕ
 row_line bits = map bit_character bits
 
 -- a tile and its sixteen rows
-abbrev pub tile_lines : DeviceName → List Rows → ℕ → ℕ → TileKind → List (List ℕ)
-tile_lines device cram x y kind = grid_line (tile_keyword kind) x y ∷ map row_line (tile_rows device cram x y)
+abbrev pub tile_lines : Configuration → ℕ → ℕ → TileKind → List (List ℕ)
+tile_lines image x y kind = grid_line (tile_keyword kind) x y ∷ map row_line (tile_of image x y)
 
 -- a number below 65,536 as two bytes, the high one first
 abbrev pub two_bytes : ℕ → List ℕ
 two_bytes word = word / 256 ∷ word % 256 ∷ []
 
 -- sixteen words of a RAM, the first of them at the right
-abbrev pub memory_line : DeviceName → List Rows → ℕ → ℕ → ℕ → List ℕ
-memory_line device bram x y row =
-    encode_lower (gathered_below 16 (λ index. two_bytes (word_value device bram x y (16 * row + 15 - index))))
+abbrev pub memory_line : Configuration → ℕ → ℕ → ℕ → List ℕ
+memory_line image x y row =
+    encode_lower (gathered_below 16 (λ index. two_bytes (ram_word_of image x y (16 * row + 15 - index))))
 
 -- the contents of a RAM, at its lower tile
-abbrev pub ram_lines : DeviceName → List Rows → ℕ → ℕ → List (List ℕ)
-ram_lines device bram x y =
-    grid_line ram_data_keyword x y ∷ gathered_below 16 (λ row. memory_line device bram x y row ∷ [])
+abbrev pub ram_lines : Configuration → ℕ → ℕ → List (List ℕ)
+ram_lines image x y =
+    grid_line ram_data_keyword x y ∷ gathered_below 16 (λ row. memory_line image x y row ∷ [])
 
 -- the tile at a place of the grid, and after a lower tile its RAM's contents
 abbrev pub lines_of_tile_at : Configuration → ℕ → ℕ → Option TileKind → List (List ℕ)
 lines_of_tile_at image x y None = []
-lines_of_tile_at image x y (Some Io) = tile_lines image.device image.cram x y Io
-lines_of_tile_at image x y (Some Logic) = tile_lines image.device image.cram x y Logic
-lines_of_tile_at image x y (Some RamB) = tile_lines image.device image.cram x y RamB ++ ram_lines image.device image.bram x y
-lines_of_tile_at image x y (Some RamT) = tile_lines image.device image.cram x y RamT
+lines_of_tile_at image x y (Some Io) = tile_lines image x y Io
+lines_of_tile_at image x y (Some Logic) = tile_lines image x y Logic
+lines_of_tile_at image x y (Some RamB) = tile_lines image x y RamB ++ ram_lines image x y
+lines_of_tile_at image x y (Some RamT) = tile_lines image x y RamT
 
 -- all tiles, row of the grid by row of the grid
 abbrev pub all_tile_lines : Configuration → List (List ℕ)
@@ -94,15 +91,9 @@ all_tile_lines image =
 abbrev pub extra_line : Place → List ℕ
 extra_line at = with_word (with_word (with_word extra_bit_keyword (decimal at.bank)) (decimal at.px)) (decimal at.py)
 
--- a set bit that belongs to no tile
-abbrev pub extra_lines_at : Configuration → Place → List (List ℕ)
-extra_lines_at image at = if place_bit image.cram at && not (is_owned image.device at) then extra_line at ∷ [] else []
-
--- all of them, by bank, then by row, then by column
+-- all set extra bits, by bank, then by row, then by column
 abbrev pub all_extra_lines : Configuration → List (List ℕ)
-all_extra_lines image =
-    gathered_below 4 (λ bank. gathered_below (cram_height image.device) (λ py. gathered_below (cram_width image.device) (λ px.
-    extra_lines_at image (record { bank = bank; px = px; py = py }))))
+all_extra_lines image = map extra_line (set_extras image)
 
 -- ---- the whole
 

@@ -3,16 +3,16 @@
 use Rattle.std.specs.Prelude.{◌≡◌, ℕ, ◌+◌, ◌/◌, ◌%◌, Bool, false, List, length, Option, Some, None}
 use Rattle.text_lines.specs.Lines.{lines_of, line_at, trimmed}
 use Rattle.place_search.specs.Places.{any_below, least_below}
-use Rattle.plane_map.specs.Layout.{place_of, word_place_of, IsTileBit, IsWordBit, IsExtraBit, IsInCram}
 use Rattle.plane_map.specs.declared.tile.Place.{Place}
 use Rattle.plane_map.specs.declared.tile.TileBit.{TileBit}
 use Rattle.plane_map.specs.declared.tile.WordBit.{WordBit}
-use Rattle.ice_image.specs.Configuration.{Configuration, place_bit}
+use Rattle.ice_image.specs.Bits.{Bit, OfTile, OfWord, Extra, IsBit, bit_of}
+use Rattle.ice_image.specs.Configuration.{Configuration}
 use Rattle.asc_text.specs.declared.statement.Statement.{Statement}
 use Rattle.asc_text.specs.declared.statement.Statement.TheVariants.{ExtraBit}
 use Rattle.asc_text.specs.Rows.{row_bit, memory_bit}
 use Rattle.asc_text.specs.Blocks.{statement_at}
-use Rattle.asc_text.specs.Extras.{is_same_place}
+use Rattle.ice_image.specs.Owned.{is_same_place}
 use Rattle.asc_text.specs.Faults.{names_tile, names_ram}
 
 -- ---- tiles
@@ -58,9 +58,13 @@ digit_bit_of lines at = digit_bit_below lines (ram_statement lines at.x at.y) at
 
 -- ---- the whole
 
+-- whether a text says that a bit is 1
+abbrev pub is_said : List (List ℕ) → Bit → Bool
+is_said lines (OfTile bit) = character_of lines bit
+is_said lines (OfWord bit) = digit_bit_of lines bit
+is_said lines (Extra at) = is_named_extra lines at
+
 -- Each bit of a tile is its character, each extra bit is 1 exactly where a statement names it, and each bit of a word is
 -- that of its digits.
 pub record HasBits (text : List ℕ) (image : Configuration) : Type 0 where
-  pub tiles : (bit : TileBit) → IsTileBit image.device bit → place_bit image.cram (place_of image.device bit) ≡ character_of (lines_of text) bit
-  pub extras : (at : Place) → IsInCram image.device at → IsExtraBit image.device at → place_bit image.cram at ≡ is_named_extra (lines_of text) at
-  pub words : (at : WordBit) → IsWordBit image.device at → place_bit image.bram (word_place_of image.device at) ≡ digit_bit_of (lines_of text) at
+  pub bits : (bit : Bit) → IsBit image.device bit → bit_of image bit ≡ is_said (lines_of text) bit

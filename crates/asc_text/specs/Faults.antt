@@ -17,7 +17,7 @@ use Rattle.asc_text.specs.declared.fault.AscFault.TheVariants.{At, Memory}
 use Rattle.asc_text.specs.Statements.{statement_in, begins_with_dot}
 use Rattle.asc_text.specs.Rows.{is_row, is_memory_line}
 use Rattle.asc_text.specs.Blocks.{depth_at, statement_over, statement_at, dot_before, is_comment, device_before}
-use Rattle.asc_text.specs.Extras.{is_extra}
+use Rattle.ice_image.specs.Owned.{is_extra}
 
 -- a cause where a test passes
 abbrev pub cause_if : Bool → AscCause → Option AscCause

@@ -2,7 +2,6 @@ pub mod Statements
 pub mod Rows
 pub mod Blocks
 pub mod Rams
-pub mod Extras
 pub mod Faults
 pub mod Meaning
 pub mod Characters

@@ -1,14 +1,12 @@
 -- The configuration that a text without a faulty line gives. What the lines before a line say is a function of that line's
 -- index; for the whole text the index is the number of its lines.
-use Rattle.std.specs.Prelude.{◌≡◌, ℕ, ◌+◌, ◌-◌, ◌*◌, Bool, false, not, ◌&&◌, List, [], ◌∷◌, length, nat_lt, ◌==◌, if◌then◌else◌, Option, Some, None, unwrap_or}
+use Rattle.std.specs.Prelude.{◌≡◌, ℕ, ◌-◌, ◌/◌, ◌%◌, Bool, false, not, ◌&&◌, List, [], ◌∷◌, length, nat_lt, ◌==◌, if◌then◌else◌, Option, Some, None, unwrap_or}
 use Rattle.text_lines.specs.Lines.{lines_of, line_at, trimmed}
 use Rattle.place_search.specs.Places.{any_below, last_below, first_below, gathered_below}
-use Rattle.bit_plane.specs.Rows.{Rows, rows_from}
-use Rattle.plane_map.specs.Layout.{columns_of, cram_width, cram_height, bram_width, bram_height}
 use Rattle.plane_map.specs.declared.device.DeviceName.{DeviceName}
 use Rattle.plane_map.specs.declared.tile.Place.{Place}
 use Rattle.ice_image.specs.Configuration.{Configuration, usual_settings}
-use Rattle.ice_image.specs.Contents.{tile_place, word_bit_place}
+use Rattle.ice_image.specs.Bits.{Bit, OfTile, OfWord, Extra, image_from}
 use Rattle.ice_image.specs.declared.settings.Settings.{Settings}
 use Rattle.ice_image.specs.declared.settings.Range.{Range}
 use Rattle.asc_text.specs.declared.statement.Statement.{Statement}
@@ -17,7 +15,7 @@ use Rattle.asc_text.specs.declared.file.Symbol.{Symbol as NetName}
 use Rattle.asc_text.specs.Statements.{begins_with_dot, name_in}
 use Rattle.asc_text.specs.Rows.{row_bit, memory_bit}
 use Rattle.asc_text.specs.Blocks.{depth_at, statement_over, statement_at, dot_before, is_comment, device_before}
-use Rattle.asc_text.specs.Extras.{is_same_place}
+use Rattle.ice_image.specs.Owned.{is_same_place}
 use Rattle.asc_text.specs.Faults.{asc_fault_of}
 
 -- ---- settings
@@ -66,54 +64,40 @@ comment_from lines n (Some start) = Some (gathered_below n (comment_line lines s
 unfoldable pub comment_before : List (List ℕ) → ℕ → Option (List (List ℕ))
 comment_before lines n = comment_from lines n (last_below n (λ k. is_comment (statement_at lines k)))
 
--- ---- the configuration planes
+-- ---- bits
 
--- whether a line sets the bit at a place: it has the character 1 there as a row of a tile, or is the statement of that
--- extra bit
-abbrev pub sets_place : DeviceName → Option Statement → ℕ → List ℕ → Place → Bool
-sets_place device (Some (Tile kind x y)) depth line at =
-    nat_lt 0 depth && any_below (columns_of kind) (λ col. row_bit line col && is_same_place (tile_place device x y (depth - 1) col) at)
-sets_place device (Some (ExtraBit bank x y)) depth line at = is_same_place (record { bank = bank; px = x; py = y }) at
-sets_place device statement depth line at = false
+-- whether a row of a tile has the character 1 for a bit
+abbrev pub row_sets : ℕ → ℕ → ℕ → List ℕ → Bit → Bool
+row_sets x y row line (OfTile bit) = (x == bit.x) && (y == bit.y) && (row == bit.row) && row_bit line bit.col
+row_sets x y row line bit = false
 
--- A bit of the configuration planes is 1 exactly where some line sets it.
-unfoldable pub is_set_before : DeviceName → List (List ℕ) → ℕ → Place → Bool
-is_set_before device lines n at =
-    any_below n (λ k. sets_place device (statement_over lines k) (depth_at lines k) (trimmed (line_at lines k)) at)
+-- whether a line of sixteen words of a RAM has the digits for a bit
+abbrev pub line_sets : ℕ → ℕ → ℕ → List ℕ → Bit → Bool
+line_sets x y row line (OfWord bit) = (x == bit.x) && (y == bit.y) && (row == bit.word / 16) && memory_bit line (bit.word % 16) bit.bit
+line_sets x y row line bit = false
 
--- ---- the RAM planes
+-- whether a bit is the extra bit at a place
+abbrev pub extra_sets : Place → Bit → Bool
+extra_sets place (Extra at) = is_same_place place at
+extra_sets place bit = false
 
--- whether a line sets the bit at a place: it has a 1 there in one of its sixteen words
-abbrev pub sets_word_place : DeviceName → Option Statement → ℕ → List ℕ → Place → Bool
-sets_word_place device (Some (RamData x y)) depth line at =
-    nat_lt 0 depth && any_below 16 (λ index. any_below 16 (λ bit.
-    memory_bit line index bit && is_same_place (word_bit_place device x y (16 * (depth - 1) + index) bit) at))
-sets_word_place device statement depth line at = false
+-- whether a line sets a bit: it is a row of the bit's tile, a line of its RAM, or the statement of the extra bit
+abbrev pub sets_bit : Option Statement → ℕ → List ℕ → Bit → Bool
+sets_bit (Some (Tile kind x y)) depth line bit = row_sets x y (depth - 1) line bit && nat_lt 0 depth
+sets_bit (Some (RamData x y)) depth line bit = line_sets x y (depth - 1) line bit && nat_lt 0 depth
+sets_bit (Some (ExtraBit bank x y)) depth line bit = extra_sets (record { bank = bank; px = x; py = y }) bit
+sets_bit statement depth line bit = false
 
--- A bit of the RAM planes is 1 exactly where some line sets it.
-unfoldable pub is_word_set_before : DeviceName → List (List ℕ) → ℕ → Place → Bool
-is_word_set_before device lines n at =
-    any_below n (λ k. sets_word_place device (statement_over lines k) (depth_at lines k) (trimmed (line_at lines k)) at)
+-- A bit is 1 exactly where some line sets it.
+unfoldable pub is_set_before : List (List ℕ) → ℕ → Bit → Bool
+is_set_before lines n bit =
+    any_below n (λ k. sets_bit (statement_over lines k) (depth_at lines k) (trimmed (line_at lines k)) bit)
 
 -- ---- the whole
 
--- four planes of that size with those bits
-abbrev pub plane_from : ℕ → ℕ → (Place → Bool) → ℕ → Rows
-plane_from width height bits bank = rows_from width height (λ px py. bits (record { bank = bank; px = px; py = py }))
-
-abbrev pub planes_from : ℕ → ℕ → (Place → Bool) → List Rows
-planes_from width height bits =
-    plane_from width height bits 0 ∷ plane_from width height bits 1 ∷ plane_from width height bits 2 ∷ plane_from width height bits 3 ∷ []
-
 -- what the lines before a line configure, for a device
 abbrev pub image_before : DeviceName → List (List ℕ) → ℕ → Configuration
-image_before device lines n = record {
-  device = device;
-  comment = comment_before lines n;
-  settings = settings_before lines n;
-  cram = planes_from (cram_width device) (cram_height device) (is_set_before device lines n);
-  bram = planes_from (bram_width device) (bram_height device) (is_word_set_before device lines n);
-}
+image_before device lines n = image_from device (comment_before lines n) (settings_before lines n) (is_set_before lines n)
 
 -- the name that a line gives to a net
 abbrev pub symbol_in : Option Statement → List ℕ → List NetName

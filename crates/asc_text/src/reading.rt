@@ -1,8 +1,7 @@
 // Texts read.
 
-mod extras;
+mod bits;
 mod keyword;
-mod planes;
 mod reader;
 mod rows;
 mod spelling;

@@ -6,7 +6,8 @@ use Rattle.place_search.specs.Places.{any_below, last_below, first_below}
 use Rattle.plane_map.specs.Layout.{cram_width, cram_height, bram_width}
 use Rattle.plane_map.specs.declared.device.DeviceName.{DeviceName}
 use Rattle.plane_map.specs.declared.device.DeviceName.TheVariants.{K1, K8}
-use Rattle.bin_stream.specs.Commands.{Command, Short, Cram, Bram, number_of, range_opcode, mode_opcode, check_opcode}
+use Rattle.ice_image.specs.declared.planes.PlaneKind.TheVariants.{Cram, Bram}
+use Rattle.bin_stream.specs.Commands.{Command, Short, number_of, range_opcode, mode_opcode, check_opcode}
 use Rattle.bin_stream.specs.State.{last_of, width_after, device_after, size_after}
 use Rattle.bin_stream.specs.Refusals.{data_cause, wake_up_cause, IsAllowedAfter, check_found, is_mode, cause_if}
 use Rattle.bin_stream.specs.declared.fault.BinCause.TheVariants.{Check, BadRange, BadMode}

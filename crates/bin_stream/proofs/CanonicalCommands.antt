@@ -6,7 +6,8 @@ use Rattle.bit_plane.specs.BitList.{bit_value}
 use Rattle.plane_map.specs.Layout.{cram_width, cram_height, bram_width}
 use Rattle.plane_map.specs.declared.device.DeviceName.{DeviceName}
 use Rattle.ice_image.specs.Configuration.{Configuration, bank_rows}
-use Rattle.bin_stream.specs.Commands.{Command, spelling, spelled, Short, Data, Cram, Bram, control_opcode, bank_opcode, check_opcode, range_opcode, width_opcode, height_opcode, offset_opcode, mode_opcode}
+use Rattle.ice_image.specs.declared.planes.PlaneKind.TheVariants.{Cram, Bram}
+use Rattle.bin_stream.specs.Commands.{Command, spelling, spelled, Short, Data, control_opcode, bank_opcode, check_opcode, range_opcode, width_opcode, height_opcode, offset_opcode, mode_opcode}
 use Rattle.bin_stream.specs.CanonicalBytes.{two_bytes, row_bytes, reset_command, mode_command, bank_command, width_command, height_command, offset_command, wake_up_command, cram_bank, bram_half, bram_bank, four_banks, check_head, checked_bytes, cram_bytes, bram_bytes}
 
 -- a bank's configuration plane, by its bytes

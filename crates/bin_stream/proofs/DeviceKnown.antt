@@ -5,7 +5,8 @@ use Rattle.std.proofs.lemmas.List.{take-append-le, length_push}
 use Rattle.place_search.specs.Places.{first_below, any_below, or_else}
 use Rattle.place_search.proofs.Places.{first_below-more, first_below-same, any_below-place}
 use Rattle.plane_map.specs.declared.device.DeviceName.{DeviceName}
-use Rattle.bin_stream.specs.Commands.{Command, Cram, Bram, Short, Data, number_of, is_wake_up}
+use Rattle.ice_image.specs.declared.planes.PlaneKind.TheVariants.{Cram, Bram}
+use Rattle.bin_stream.specs.Commands.{Command, Short, Data, number_of, is_wake_up}
 use Rattle.bin_stream.specs.State.{device_in, device_after, device_with, width_after}
 use Rattle.bin_stream.specs.Refusals.{IsAllowedAfter, cause_if, gives_last_row, wake_up_cause}
 use Rattle.bin_stream.specs.declared.fault.BinCause.{BinCause}

@@ -17,19 +17,23 @@ use Rattle.ice_image.specs.Configuration.{Configuration, bank_rows, place_bit, w
 use Rattle.ice_image.specs.Either.{configuration_of, device_of}
 use Rattle.ice_image.specs.declared.any.AnyImage.{AnyImage}
 use Rattle.ice_image.proofs.BankBits.{same_banks, AreBanks-with_bank, AreBanks-blank, place_bit-blank}
-use Rattle.bin_stream.specs.Commands.{Kind, Command, Cram, Bram, Short, Data}
-use Rattle.bin_stream.specs.State.{bank_after, width_after, height_after, first_row_after, device_after, device_with, plane_width, plane_height}
+use Rattle.ice_image.specs.declared.planes.PlaneKind.{PlaneKind}
+use Rattle.ice_image.specs.declared.planes.PlaneKind.TheVariants.{Cram, Bram}
+use Rattle.bin_stream.specs.Commands.{Command, Short, Data}
+use Rattle.ice_image.specs.Planes.{plane_width, plane_height}
+use Rattle.bin_stream.specs.State.{bank_after, width_after, height_after, first_row_after, device_after, device_with}
 use Rattle.bin_stream.specs.Meaning.{is_same_kind, gives, bit_given, plane_bit, plane_of, planes_of}
 use Rattle.bin_stream.specs.Refusals.{reached_in}
 use Rattle.bin_stream.specs.inside.Registers.{Fits, held_after}
-use Rattle.bin_stream.specs.inside.Step.{device_if, image_or_blank, with_rows, IsDrawnOn, IsDrawn, Holds}
+use Rattle.ice_image.specs.Planes.{with_rows}
+use Rattle.bin_stream.specs.inside.Step.{device_if, image_or_blank, IsDrawnOn, IsDrawn, Holds}
 use Rattle.bin_stream.proofs.OneMore.{device_after-more, reached_in-more, plane_bit-more}
 use Rattle.place_search.proofs.Places.{or_else-none}
 
 -- ---- planes by their bits
 
 -- planes with the same bits
-pub planes_of-same : (device : DeviceName) (kind : Kind) (commands other : List Command) → ((at : Place) → plane_bit kind commands at ≡ plane_bit kind other at) → planes_of device kind commands ≡ planes_of device kind other
+pub planes_of-same : (device : DeviceName) (kind : PlaneKind) (commands other : List Command) → ((at : Place) → plane_bit kind commands at ≡ plane_bit kind other at) → planes_of device kind commands ≡ planes_of device kind other
 planes_of-same device kind commands other same =
     let plane : (bank : ℕ) → plane_of device kind commands bank ≡ plane_of device kind other bank =
     λ bank. same_grids (plane_width kind device) (plane_height kind device) (plane_of device kind commands bank) (plane_of device kind other bank)
@@ -42,7 +46,7 @@ planes_of-same device kind commands other same =
     rw (plane 0, plane 1, plane 2, plane 3) refl
 
 -- the plane of a bank
-bank_rows-planes_of : (device : DeviceName) (kind : Kind) (commands : List Command) (bank : ℕ) → bank < 4 → bank_rows (planes_of device kind commands) bank ≡ plane_of device kind commands bank
+bank_rows-planes_of : (device : DeviceName) (kind : PlaneKind) (commands : List Command) (bank : ℕ) → bank < 4 → bank_rows (planes_of device kind commands) bank ≡ plane_of device kind commands bank
 bank_rows-planes_of device kind commands zero lt = refl
 bank_rows-planes_of device kind commands (suc zero) lt = refl
 bank_rows-planes_of device kind commands (suc (suc zero)) lt = refl
@@ -50,20 +54,20 @@ bank_rows-planes_of device kind commands (suc (suc (suc zero))) lt = refl
 bank_rows-planes_of device kind commands (suc (suc (suc (suc bank)))) lt = absurd (omega arith)
 
 -- they have the device's size
-pub AreBanks-planes_of : (device : DeviceName) (kind : Kind) (commands : List Command) → AreBanks (plane_width kind device) (plane_height kind device) (planes_of device kind commands)
+pub AreBanks-planes_of : (device : DeviceName) (kind : PlaneKind) (commands : List Command) → AreBanks (plane_width kind device) (plane_height kind device) (planes_of device kind commands)
 AreBanks-planes_of device kind commands = record {
   four = refl;
   grids = λ bank lt. subst (IsGrid (plane_width kind device) (plane_height kind device)) (sym (bank_rows-planes_of device kind commands bank lt)) (IsGrid-rows_from (plane_width kind device) (plane_height kind device) (λ px py. plane_bit kind commands (record { bank = bank; px = px; py = py })));
 }
 
 -- each place has its bit
-pub place_bit-planes_of : (device : DeviceName) (kind : Kind) (commands : List Command) (at : Place) → at.bank < 4 → at.px < plane_width kind device → at.py < plane_height kind device → place_bit (planes_of device kind commands) at ≡ plane_bit kind commands at
+pub place_bit-planes_of : (device : DeviceName) (kind : PlaneKind) (commands : List Command) (at : Place) → at.bank < 4 → at.px < plane_width kind device → at.py < plane_height kind device → place_bit (planes_of device kind commands) at ≡ plane_bit kind commands at
 place_bit-planes_of device kind commands at bank column row =
     ap (λ rows. bit_at rows at.px at.py) (bank_rows-planes_of device kind commands at.bank bank)
     ∙ bit_at-rows_from (plane_width kind device) (plane_height kind device) (λ px py. plane_bit kind commands (record { bank = at.bank; px = px; py = py })) at.px at.py column row
 
 -- planes without a bit are blank
-pub planes_of-blank : (device : DeviceName) (kind : Kind) (commands : List Command) → ((at : Place) → plane_bit kind commands at ≡ false) → replicate 4 (blank (plane_width kind device) (plane_height kind device)) ≡ planes_of device kind commands
+pub planes_of-blank : (device : DeviceName) (kind : PlaneKind) (commands : List Command) → ((at : Place) → plane_bit kind commands at ≡ false) → replicate 4 (blank (plane_width kind device) (plane_height kind device)) ≡ planes_of device kind commands
 planes_of-blank device kind commands none =
     same_banks (plane_width kind device) (plane_height kind device) (replicate 4 (blank (plane_width kind device) (plane_height kind device))) (planes_of device kind commands) (AreBanks-blank (plane_width kind device) (plane_height kind device)) (AreBanks-planes_of device kind commands) (λ at bank column row.
     place_bit-blank (plane_width kind device) (plane_height kind device) at bank ∙ sym (none at) ∙ sym (place_bit-planes_of device kind commands at bank column row))
@@ -71,7 +75,7 @@ planes_of-blank device kind commands none =
 -- ---- commands that draw nothing in a kind's planes
 
 -- commands that aren't data
-pub plane_bit-short : (kind : Kind) (commands : List Command) (opcode : ℕ) (payload : List ℕ) (at : Place) → plane_bit kind (commands ++ Short opcode payload ∷ []) at ≡ plane_bit kind commands at
+pub plane_bit-short : (kind : PlaneKind) (commands : List Command) (opcode : ℕ) (payload : List ℕ) (at : Place) → plane_bit kind (commands ++ Short opcode payload ∷ []) at ≡ plane_bit kind commands at
 plane_bit-short kind commands opcode payload at = plane_bit-more kind commands (Short opcode payload) at
 
 -- data of the other kind
@@ -124,12 +128,12 @@ IsGrid-written width height first count bits rows grid within long =
     let room : first * width + length bits ≤ length old = run_within width height first count (length bits) (length old) within long exact in
     subst (IsGrid width height) same (IsGrid-rows_of width height (placed (first * width) bits old) (length-placed (first * width) bits old room ∙ exact))
 
-same_kind : (kind : Kind) → is_same_kind kind kind ≡ true
+same_kind : (kind : PlaneKind) → is_same_kind kind kind ≡ true
 same_kind Cram = refl
 same_kind Bram = refl
 
 -- the planes with data's rows written into the bank's plane are what the data draw
-pub planes_drawn : (device : DeviceName) (kind : Kind) (commands : List Command) (payload body : List ℕ) → bank_after commands < 4 → width_after commands ≡ plane_width kind device → first_row_after commands + height_after commands ≤ plane_height kind device → 8 * length body ≡ height_after commands * plane_width kind device → with_bank (planes_of device kind commands) (bank_after commands) (placed (first_row_after commands) (rows_of (width_after commands) (height_after commands) (bits_of body)) (bank_rows (planes_of device kind commands) (bank_after commands))) ≡ planes_of device kind (commands ++ Data kind payload body ∷ [])
+pub planes_drawn : (device : DeviceName) (kind : PlaneKind) (commands : List Command) (payload body : List ℕ) → bank_after commands < 4 → width_after commands ≡ plane_width kind device → first_row_after commands + height_after commands ≤ plane_height kind device → 8 * length body ≡ height_after commands * plane_width kind device → with_bank (planes_of device kind commands) (bank_after commands) (placed (first_row_after commands) (rows_of (width_after commands) (height_after commands) (bits_of body)) (bank_rows (planes_of device kind commands) (bank_after commands))) ≡ planes_of device kind (commands ++ Data kind payload body ∷ [])
 planes_drawn device kind commands payload body bank_in width_is within long =
     let W = plane_width kind device in
     let H = plane_height kind device in
@@ -201,7 +205,7 @@ eight : (n p : ℕ) → n ≡ p / 8 → p % 8 ≡ 0 → 8 * n ≡ p
 eight n p is whole = omega arith
 
 -- an image with data's rows, by its kind
-Drawn-rows : (device : DeviceName) (kind : Kind) (commands : List Command) (payload body : List ℕ) (base image : Configuration) → IsBase device commands base → Fits device kind (held_after commands) → bank_after commands < 4 → length body ≡ width_after commands * height_after commands / 8 → image ≡ with_rows kind (bank_after commands) (first_row_after commands) (rows_of (width_after commands) (height_after commands) (bits_of body)) base → IsBase device (commands ++ Data kind payload body ∷ []) image
+Drawn-rows : (device : DeviceName) (kind : PlaneKind) (commands : List Command) (payload body : List ℕ) (base image : Configuration) → IsBase device commands base → Fits device kind (held_after commands) → bank_after commands < 4 → length body ≡ width_after commands * height_after commands / 8 → image ≡ with_rows kind (bank_after commands) (first_row_after commands) (rows_of (width_after commands) (height_after commands) (bits_of body)) base → IsBase device (commands ++ Data kind payload body ∷ []) image
 Drawn-rows device Cram commands payload body base image is fits bank_in long image_is =
     let bank = bank_after commands in
     let rows = rows_of (width_after commands) (height_after commands) (bits_of body) in
@@ -222,7 +226,7 @@ Drawn-rows device Bram commands payload body base image is fits bank_in long ima
     }
 
 -- data written into the image are what the commands draw with them
-pub Holds-data : (commands : List Command) (kind : Kind) (payload body : List ℕ) (before after : Option AnyImage) → Holds commands before → IsDrawnOn kind (held_after commands) body before after → Holds (commands ++ Data kind payload body ∷ []) after
+pub Holds-data : (commands : List Command) (kind : PlaneKind) (payload body : List ℕ) (before after : Option AnyImage) → Holds commands before → IsDrawnOn kind (held_after commands) body before after → Holds (commands ++ Data kind payload body ∷ []) after
 Holds-data commands kind payload body before after holds drawn =
     let device = drawn.device in
     let image = drawn.image in

@@ -4,7 +4,8 @@ use Rattle.std.specs.Prelude.{Option, Some, None, nat_lt, ◌==◌}
 use Rattle.std.proofs.lemmas.Bool.{cases_Bool, ltb-false, eqb-true, and_parts}
 use Rattle.place_search.specs.Places.{or_else}
 use Rattle.ice_image.specs.declared.any.AnyImage.{AnyImage}
-use Rattle.bin_stream.specs.Commands.{Kind, Command, Short, Data, number_of, spelling, is_wake_up, control_opcode, wake_up_number}
+use Rattle.ice_image.specs.declared.planes.PlaneKind.{PlaneKind}
+use Rattle.bin_stream.specs.Commands.{Command, Short, Data, number_of, spelling, is_wake_up, control_opcode, wake_up_number}
 use Rattle.bin_stream.specs.State.{size_after}
 use Rattle.bin_stream.specs.Refusals.{Fault, cause_if, fault_at, first_fault, payload_fault, fault_where, body_fault, end_fault, data_cause, data_fault, data_kind}
 use Rattle.bin_stream.specs.Spelling.{first_command, command_of}
@@ -26,7 +27,7 @@ or_else-parts (Some a) b none = absurd cc
 or_else-parts None b none = (refl, none)
 
 -- data have opcode 0
-data_opcode : (opcode n : ℕ) (kind : Kind) → data_kind opcode n ≡ Some kind → opcode ≡ control_opcode
+data_opcode : (opcode n : ℕ) (kind : PlaneKind) → data_kind opcode n ≡ Some kind → opcode ≡ control_opcode
 data_opcode opcode n kind is =
     elim (cases_Bool (opcode == control_opcode)) [
       | inl here ↦ eqb-true opcode control_opcode here
@@ -143,7 +144,7 @@ module _ (commands : List Command) (place n : ℕ) (bytes payload spelled : List
 
   -- ---- data
 
-  module _ (kind : Kind) (is_data : data_kind opcode n ≡ Some kind) where
+  module _ (kind : PlaneKind) (is_data : data_kind opcode n ≡ Some kind) where
     with_kind : data_kind opcode (number_of (payload_in bytes)) ≡ Some kind
     with_kind = ap (data_kind opcode) (sym number) ∙ is_data
 

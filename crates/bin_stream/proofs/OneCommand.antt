@@ -3,7 +3,9 @@ use Rattle.std.proofs.Common.{◌≡◌, ℕ, ◌+◌, ◌*◌, ◌/◌, ◌%◌
 use Rattle.std.proofs.lemmas.Bool.{cases_lt, cases_eq, lt-ltb, le-ltb, ne_eqb}
 use Rattle.std.proofs.lemmas.List.{take_at, drop_at, length-take-le}
 use Rattle.place_search.specs.Places.{or_else}
-use Rattle.bin_stream.specs.Commands.{Kind, Command, Cram, Bram, Short, Data, number_of, kind_number, spelling}
+use Rattle.ice_image.specs.declared.planes.PlaneKind.{PlaneKind}
+use Rattle.ice_image.specs.declared.planes.PlaneKind.TheVariants.{Cram, Bram}
+use Rattle.bin_stream.specs.Commands.{Command, Short, Data, number_of, kind_number, spelling}
 use Rattle.bin_stream.specs.State.{size_after}
 use Rattle.bin_stream.specs.Refusals.{fault_at, fault_where, end_fault, body_fault, payload_fault, first_fault, short_cause, data_cause, data_kind, IsAllowedAfter}
 use Rattle.bin_stream.specs.Spelling.{command_of, first_command}
@@ -23,7 +25,7 @@ command-head before head count opcode rest payload behind count_is opcode_is tak
     rw (count_is, opcode_is, taken, dropped) refl
 
 -- the kind that the numbers of data begin
-kind-begun : (kind : Kind) (payload : List ℕ) → number_of payload ≡ kind_number kind → data_kind 0 (number_of payload) ≡ Some kind
+kind-begun : (kind : PlaneKind) (payload : List ℕ) → number_of payload ≡ kind_number kind → data_kind 0 (number_of payload) ≡ Some kind
 kind-begun Cram payload is = ap (data_kind 0) is
 kind-begun Bram payload is = ap (data_kind 0) is
 
@@ -85,7 +87,7 @@ neither None second is = (refl, is)
 neither (Some value) second is = absurd cc
 
 -- data begin with the number of their kind
-number-from : (n : ℕ) (kind : Kind) → data_kind 0 n ≡ Some kind → n ≡ kind_number kind
+number-from : (n : ℕ) (kind : PlaneKind) → data_kind 0 n ≡ Some kind → n ≡ kind_number kind
 number-from n kind is =
     elim (cases_eq n 1) [
       | inl cram ↦ let found : Some Cram ≡ Some kind = sym (ap (data_kind 0) cram) ∙ is in
@@ -100,7 +102,7 @@ number-from n kind is =
     ]
 
 -- data begin with opcode 0 and the number of their kind
-kind-from : (opcode n : ℕ) (kind : Kind) → data_kind opcode n ≡ Some kind → (opcode ≡ 0) × (n ≡ kind_number kind)
+kind-from : (opcode n : ℕ) (kind : PlaneKind) → data_kind opcode n ≡ Some kind → (opcode ≡ 0) × (n ≡ kind_number kind)
 kind-from opcode n kind is =
     elim (cases_eq opcode 0) [
       | inl control ↦ (control, number-from n kind (sym (ap (λ o. data_kind o n) control) ∙ is))
@@ -135,7 +137,7 @@ body-from size place bytes is =
     ]
 
 -- the command of a payload without a fault
-payload-begins : (before : List Command) (place opcode : ℕ) (payload behind : List ℕ) (kind : Option Kind) → data_kind opcode (number_of payload) ≡ kind → length payload < 5 → payload_fault before place opcode payload kind behind ≡ None → Begins before ((16 * opcode + length payload) ∷ payload ++ behind)
+payload-begins : (before : List Command) (place opcode : ℕ) (payload behind : List ℕ) (kind : Option PlaneKind) → data_kind opcode (number_of payload) ≡ kind → length payload < 5 → payload_fault before place opcode payload kind behind ≡ None → Begins before ((16 * opcode + length payload) ∷ payload ++ behind)
 payload-begins before place opcode payload behind None begun short clear = record {
   command = Short opcode payload;
   rest = behind;

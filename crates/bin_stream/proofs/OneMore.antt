@@ -7,7 +7,8 @@ use Rattle.place_search.specs.Places.{any_below, last_below, first_below, or_els
 use Rattle.place_search.proofs.Places.{any_below-more, any_below-same, last_below-more, last_below-same, last_below-place, first_below-more, first_below-same}
 use Rattle.plane_map.specs.declared.device.DeviceName.{DeviceName}
 use Rattle.plane_map.specs.declared.tile.Place.{Place}
-use Rattle.bin_stream.specs.Commands.{Kind, Command, spelling, spelled, is_reset, width_opcode}
+use Rattle.ice_image.specs.declared.planes.PlaneKind.{PlaneKind}
+use Rattle.bin_stream.specs.Commands.{Command, spelling, spelled, is_reset, width_opcode}
 use Rattle.bin_stream.specs.State.{has_opcode, number_in, last_index, given_or, last_of, width_given, width_after, device_in, device_after, behind_reset, covered}
 use Rattle.bin_stream.specs.Refusals.{gives_last_row, reached_in}
 use Rattle.bin_stream.specs.Meaning.{gives, bit_given, bit_where, plane_bit}
@@ -171,7 +172,7 @@ bit_chosen at commands command true place within =
 bit_chosen at commands command false place within = bit_where-before at commands command place within
 
 -- the bit at a place is that of the new command where it gives one
-pub plane_bit-more : (kind : Kind) (commands : List Command) (command : Command) (at : Place) → plane_bit kind (commands ++ command ∷ []) at ≡ cond (gives kind at commands (Some command)) (bit_given at commands (Some command)) (plane_bit kind commands at)
+pub plane_bit-more : (kind : PlaneKind) (commands : List Command) (command : Command) (at : Place) → plane_bit kind (commands ++ command ∷ []) at ≡ cond (gives kind at commands (Some command)) (bit_given at commands (Some command)) (plane_bit kind commands at)
 unfolding plane_bit
 plane_bit-more kind commands command at =
     let place = last_below (length commands) (λ k. gives kind at (take k commands) (slice_get commands k)) in

@@ -13,8 +13,11 @@ use Rattle.plane_map.specs.declared.device.DeviceName.{DeviceName}
 use Rattle.plane_map.specs.declared.device.DeviceName.TheVariants.{K1, K8}
 use Rattle.ice_image.specs.Configuration.{Configuration, bank_rows, AreBanks, IsWhole}
 use Rattle.ice_image.proofs.BankBits.{same_banks}
-use Rattle.bin_stream.specs.Commands.{Kind, Command, Cram, Bram}
-use Rattle.bin_stream.specs.State.{last_of, width_after, plane_width, plane_height}
+use Rattle.ice_image.specs.declared.planes.PlaneKind.{PlaneKind}
+use Rattle.ice_image.specs.declared.planes.PlaneKind.TheVariants.{Cram, Bram}
+use Rattle.bin_stream.specs.Commands.{Command}
+use Rattle.ice_image.specs.Planes.{plane_width, plane_height}
+use Rattle.bin_stream.specs.State.{last_of, width_after}
 use Rattle.bin_stream.specs.Meaning.{plane_bit, planes_of}
 use Rattle.bin_stream.specs.CanonicalBytes.{row_bytes}
 use Rattle.bin_stream.proofs.CanonicalCommands.{all_commands, mode_bits, cram_bodies, bram_bodies}
@@ -94,7 +97,7 @@ bank_rows-of plane (suc (suc (suc zero))) lt = refl
 bank_rows-of plane (suc (suc (suc (suc bank)))) lt = absurd (omega arith)
 
 -- planes whose bits are those that commands give
-planes-are : (device : DeviceName) (kind : Kind) (commands : List Command) (planes : List Rows) → AreBanks (plane_width kind device) (plane_height kind device) planes → ((bank x y : ℕ) → bank < 4 → x < plane_width kind device → y < plane_height kind device → plane_bit kind commands (record { bank = bank; px = x; py = y }) ≡ bit_at (bank_rows planes bank) x y) → planes_of device kind commands ≡ planes
+planes-are : (device : DeviceName) (kind : PlaneKind) (commands : List Command) (planes : List Rows) → AreBanks (plane_width kind device) (plane_height kind device) planes → ((bank x y : ℕ) → bank < 4 → x < plane_width kind device → y < plane_height kind device → plane_bit kind commands (record { bank = bank; px = x; py = y }) ≡ bit_at (bank_rows planes bank) x y) → planes_of device kind commands ≡ planes
 planes-are device kind commands planes banks same =
     let wide : ℕ = plane_width kind device in
     let high : ℕ = plane_height kind device in

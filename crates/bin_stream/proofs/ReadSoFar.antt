@@ -8,7 +8,8 @@ use Rattle.ice_image.specs.Configuration.{Configuration}
 use Rattle.ice_image.specs.declared.settings.Settings.{Settings}
 use Rattle.ice_image.specs.Either.{configuration_of, device_of}
 use Rattle.ice_image.specs.declared.any.AnyImage.{AnyImage}
-use Rattle.bin_stream.specs.Commands.{Command, Cram, spelling, is_wake_up}
+use Rattle.ice_image.specs.declared.planes.PlaneKind.TheVariants.{Cram}
+use Rattle.bin_stream.specs.Commands.{Command, spelling, is_wake_up}
 use Rattle.bin_stream.specs.State.{device_after}
 use Rattle.bin_stream.specs.Refusals.{Fault, fault_at, first_fault, reached_in}
 use Rattle.bin_stream.specs.Front.{preamble_offset, comment_of}

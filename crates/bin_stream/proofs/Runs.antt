@@ -1,11 +1,17 @@
 -- Rows that follow one another in a plane are a plane of their own.
-use Rattle.std.proofs.Common.{◌≡◌, ℕ, ◌+◌, ◌-◌, ◌*◌, ◌/◌, ◌%◌, ◌≤◌, List, [], length, take, drop, ◌++◌, append-nil, length-append, take_all, sym, ap, ◌∙◌, arith}
+use Rattle.std.proofs.Common.{◌≡◌, ℕ, ◌+◌, ◌-◌, ◌*◌, ◌/◌, ◌%◌, ◌<◌, ◌≤◌, List, [], length, take, drop, ◌++◌, append-nil, length-append, take_all, sym, ap, subst, ◌∙◌, arith}
 use borrow.Rule.Slice.PartMut.{put_mid}
 use Rattle.std.proofs.lemmas.List.{get_or-drop, drop_all, get_or-take, length-take, length-drop, take_at}
 use Rattle.bit_plane.specs.BitList.{bytes_of}
 use Rattle.bit_plane.specs.Rows.{Rows, IsGrid, flat}
 use Rattle.bit_plane.proofs.Grids.{length-flat}
 use Rattle.bin_stream.specs.CanonicalBytes.{row_bytes}
+use Rattle.plane_map.specs.Layout.{cram_width, cram_height, bram_width, bram_height}
+use Rattle.plane_map.specs.declared.device.DeviceName.{DeviceName}
+use Rattle.ice_image.specs.Configuration.{Configuration, IsWhole}
+use Rattle.ice_image.specs.Planes.{plane_width, plane_height, rows_of_bank}
+use Rattle.ice_image.specs.declared.planes.PlaneKind.{PlaneKind}
+use Rattle.ice_image.specs.declared.planes.PlaneKind.TheVariants.{Cram, Bram}
 
 pub IsGrid-run : (width height first count : ℕ) (rows : Rows) → IsGrid width height rows → first + count ≤ height → IsGrid width count (take count (drop first rows))
 IsGrid-run width height first count rows grid within = record {
@@ -42,3 +48,10 @@ tail_written len start before whole items tail len-is as_long within kept rest =
 pub take-grown : (n start : ℕ) (old more grown : List ℕ) → start ≡ length old → start ≤ n → grown ≡ take n old ++ more → take start grown ≡ old
 take-grown n start old more grown start-is above is =
     ap (take start) (is ∙ ap (λ kept. kept ++ more) (take_all n old (omega arith))) ∙ take_at old more start (sym start-is)
+
+-- a bank's plane is whole
+pub whole_rows : (kind : PlaneKind) (image : Configuration) (device : DeviceName) (bank : ℕ) → device ≡ image.device → IsWhole image → bank < 4 → IsGrid (plane_width kind device) (plane_height kind device) (rows_of_bank kind bank image)
+whole_rows Cram image device bank same whole within =
+    subst (λ (d : DeviceName). IsGrid (cram_width d) (cram_height d) (rows_of_bank Cram bank image)) (sym same) (whole.cram.grids bank within)
+whole_rows Bram image device bank same whole within =
+    subst (λ (d : DeviceName). IsGrid (bram_width d) (bram_height d) (rows_of_bank Bram bank image)) (sym same) (whole.bram.grids bank within)

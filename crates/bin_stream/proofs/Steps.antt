@@ -6,9 +6,11 @@ use Rattle.std.proofs.lemmas.List.Concat.{flat_map-append}
 use Rattle.std.proofs.Math.Bool.{or-false}
 use Rattle.place_search.specs.Places.{any_below, last_below}
 use Rattle.bit_plane.specs.BitList.{byte_bits, bits_of}
+use Rattle.ice_image.specs.declared.planes.PlaneKind.{PlaneKind}
+use Rattle.ice_image.specs.declared.planes.PlaneKind.TheVariants.{Cram, Bram}
 use Rattle.bin_stream.specs.CheckValue.{check_value, powers_from, power, doubled, sum_of}
 use Rattle.bin_stream.specs.inside.Register.{entered_all}
-use Rattle.bin_stream.specs.Commands.{Kind, Command, Cram, Bram, Short, Data, number_of, spelling, spelled, is_reset, control_opcode, bank_opcode, range_opcode, width_opcode, height_opcode, offset_opcode, mode_opcode, reset_number}
+use Rattle.bin_stream.specs.Commands.{Command, Short, Data, number_of, spelling, spelled, is_reset, control_opcode, bank_opcode, range_opcode, width_opcode, height_opcode, offset_opcode, mode_opcode, reset_number}
 use Rattle.bin_stream.specs.State.{last_of, width_after, covered}
 use Rattle.bin_stream.specs.Refusals.{fault_at, first_fault, payload_fault, short_cause, short_cause_where, data_kind, gives_last_row, reached_in}
 use Rattle.bin_stream.specs.Spelling.{first_command, command_of}
@@ -154,12 +156,12 @@ held_first-is = refl
 -- ---- data
 
 -- whether data give the last row of a configuration plane, told by the registers
-gives_last-is : (commands : List Command) (kind : Kind) (payload body : List ℕ) → gives_last_row commands (Some (Data kind payload body)) ≡ gives_last_by (held_after commands) kind
+gives_last-is : (commands : List Command) (kind : PlaneKind) (payload body : List ℕ) → gives_last_row commands (Some (Data kind payload body)) ≡ gives_last_by (held_after commands) kind
 gives_last-is commands Cram payload body = refl
 gives_last-is commands Bram payload body = refl
 
 -- what is kept behind data
-pub held_after-data : (commands : List Command) (kind : Kind) (payload body : List ℕ) → after_data (held_after commands) kind (spelling (Data kind payload body)) ≡ held_after (commands ++ Data kind payload body ∷ [])
+pub held_after-data : (commands : List Command) (kind : PlaneKind) (payload body : List ℕ) → after_data (held_after commands) kind (spelling (Data kind payload body)) ≡ held_after (commands ++ Data kind payload body ∷ [])
 held_after-data commands kind payload body =
     let command = Data kind payload body in
     let reached : reached_in (commands ++ command ∷ []) ≡ (reached_in commands || gives_last_by (held_after commands) kind) = reached_in-more commands command ∙ ap (λ b. reached_in commands || b) (gives_last-is commands kind payload body) in

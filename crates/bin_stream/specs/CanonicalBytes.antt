@@ -8,8 +8,10 @@ use Rattle.plane_map.specs.declared.device.DeviceName.{DeviceName}
 use Rattle.ice_image.specs.Configuration.{Configuration, bank_rows}
 use Rattle.ice_image.specs.declared.settings.Range.{Range}
 use Rattle.ice_image.specs.declared.settings.Range.TheVariants.{Low, Medium, High}
+use Rattle.ice_image.specs.declared.planes.PlaneKind.{PlaneKind}
+use Rattle.ice_image.specs.declared.planes.PlaneKind.TheVariants.{Cram, Bram}
 use Rattle.bin_stream.specs.CheckValue.{check_value}
-use Rattle.bin_stream.specs.Commands.{Kind, Cram, Bram, Short, Data, kind_number, spelling, control_opcode, bank_opcode, check_opcode, range_opcode, width_opcode, height_opcode, offset_opcode, mode_opcode, reset_number, wake_up_number}
+use Rattle.bin_stream.specs.Commands.{Short, Data, kind_number, spelling, control_opcode, bank_opcode, check_opcode, range_opcode, width_opcode, height_opcode, offset_opcode, mode_opcode, reset_number, wake_up_number}
 use Rattle.bin_stream.specs.Front.{preamble}
 
 -- a number as two bytes, the high one first
@@ -56,7 +58,7 @@ abbrev pub row_bytes : Rows → List ℕ
 row_bytes rows = bytes_of (length (flat rows) / 8) (flat rows)
 
 -- rows as data
-abbrev pub data_command : Kind → Rows → List ℕ
+abbrev pub data_command : PlaneKind → Rows → List ℕ
 data_command kind rows = spelling (Data kind (kind_number kind ∷ []) (row_bytes rows))
 
 abbrev pub four_banks : List ℕ

@@ -1,22 +1,19 @@
 -- Commands, and the bytes that spell them.
 use Rattle.std.specs.Prelude.{ℕ, ◌+◌, ◌*◌, Bool, false, ◌&&◌, List, [], ◌∷◌, ◌++◌, length, fold, flat_map, ◌==◌, Option, Some}
-
--- data for a configuration plane, or for a RAM plane
-pub data Kind : Type 0 where
-  Cram : Kind
-  Bram : Kind
+use Rattle.ice_image.specs.declared.planes.PlaneKind.{PlaneKind}
+use Rattle.ice_image.specs.declared.planes.PlaneKind.TheVariants.{Cram, Bram}
 
 -- A command of an opcode with its payload, or data with a payload that tells their kind and with the bytes of their rows.
 pub data Command : Type 0 where
   Short : (opcode : ℕ) (payload : List ℕ) → Command
-  Data : (kind : Kind) (payload body : List ℕ) → Command
+  Data : (kind : PlaneKind) (payload body : List ℕ) → Command
 
 -- the number that a payload is, the high byte first; without a byte it is 0
 abbrev pub number_of : List ℕ → ℕ
 number_of payload = fold (λ n byte. 256 * n + byte) 0 payload
 
 -- the payload's number that tells what data are for
-abbrev pub kind_number : Kind → ℕ
+abbrev pub kind_number : PlaneKind → ℕ
 kind_number Cram = 1
 kind_number Bram = 3
 

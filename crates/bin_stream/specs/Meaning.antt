@@ -9,8 +9,11 @@ use Rattle.ice_image.specs.Configuration.{Configuration}
 use Rattle.ice_image.specs.declared.settings.Settings.{Settings}
 use Rattle.ice_image.specs.declared.settings.Range.{Range}
 use Rattle.ice_image.specs.declared.settings.Range.TheVariants.{Low, Medium, High}
-use Rattle.bin_stream.specs.Commands.{Kind, Command, Cram, Bram, Data}
-use Rattle.bin_stream.specs.State.{bank_after, range_after, height_after, first_row_after, mode_after, width_after, plane_width, plane_height}
+use Rattle.ice_image.specs.declared.planes.PlaneKind.{PlaneKind}
+use Rattle.ice_image.specs.declared.planes.PlaneKind.TheVariants.{Cram, Bram}
+use Rattle.bin_stream.specs.Commands.{Command, Data}
+use Rattle.ice_image.specs.Planes.{plane_width, plane_height}
+use Rattle.bin_stream.specs.State.{bank_after, range_after, height_after, first_row_after, mode_after, width_after}
 use Rattle.bin_stream.specs.Front.{comment_of}
 
 -- ---- settings
@@ -31,13 +34,13 @@ settings_of commands = settings_from (range_after commands) (mode_after commands
 
 -- ---- planes
 
-abbrev pub is_same_kind : Kind → Kind → Bool
+abbrev pub is_same_kind : PlaneKind → PlaneKind → Bool
 is_same_kind Cram Cram = true
 is_same_kind Bram Bram = true
 is_same_kind kind other = false
 
 -- whether a command gives the bit at a place of a kind's planes, where the commands before it are these
-abbrev pub gives : Kind → Place → List Command → Option Command → Bool
+abbrev pub gives : PlaneKind → Place → List Command → Option Command → Bool
 gives kind at before (Some (Data other payload body)) =
     is_same_kind other kind && (bank_after before == at.bank) && nat_le (first_row_after before) at.py && nat_lt at.py (first_row_after before + height_after before)
 gives kind at before command = false
@@ -55,16 +58,16 @@ bit_where at commands None = false
 bit_where at commands (Some index) = bit_given at (take index commands) (slice_get commands index)
 
 -- The bit at a place is that of the last data that give it, and 0 where none do.
-unfoldable pub plane_bit : Kind → List Command → Place → Bool
+unfoldable pub plane_bit : PlaneKind → List Command → Place → Bool
 plane_bit kind commands at =
     bit_where at commands (last_below (length commands) (λ k. gives kind at (take k commands) (slice_get commands k)))
 
 -- the planes of the four banks
-abbrev pub plane_of : DeviceName → Kind → List Command → ℕ → Rows
+abbrev pub plane_of : DeviceName → PlaneKind → List Command → ℕ → Rows
 plane_of device kind commands bank =
     rows_from (plane_width kind device) (plane_height kind device) (λ px py. plane_bit kind commands (record { bank = bank; px = px; py = py }))
 
-abbrev pub planes_of : DeviceName → Kind → List Command → List Rows
+abbrev pub planes_of : DeviceName → PlaneKind → List Command → List Rows
 planes_of device kind commands =
     plane_of device kind commands 0 ∷ plane_of device kind commands 1 ∷ plane_of device kind commands 2 ∷ plane_of device kind commands 3 ∷ []
 

@@ -4,9 +4,12 @@ use Rattle.place_search.specs.Places.{any_below, or_else}
 use Rattle.bit_plane.specs.BitList.{bits_of}
 use Rattle.plane_map.specs.Layout.{cram_height}
 use Rattle.plane_map.specs.declared.device.DeviceName.{DeviceName}
+use Rattle.ice_image.specs.declared.planes.PlaneKind.{PlaneKind}
+use Rattle.ice_image.specs.declared.planes.PlaneKind.TheVariants.{Cram, Bram}
 use Rattle.bin_stream.specs.CheckValue.{check_value}
-use Rattle.bin_stream.specs.Commands.{Kind, Command, Cram, Bram, Short, Data, number_of, kind_number, spelling, control_opcode, bank_opcode, check_opcode, boot_address_opcode, range_opcode, width_opcode, height_opcode, offset_opcode, mode_opcode, reset_number, wake_up_number}
-use Rattle.bin_stream.specs.State.{height_after, first_row_after, width_after, size_after, plane_width, plane_height, device_with, device_after, covered}
+use Rattle.bin_stream.specs.Commands.{Command, Short, Data, number_of, kind_number, spelling, control_opcode, bank_opcode, check_opcode, boot_address_opcode, range_opcode, width_opcode, height_opcode, offset_opcode, mode_opcode, reset_number, wake_up_number}
+use Rattle.ice_image.specs.Planes.{plane_width, plane_height}
+use Rattle.bin_stream.specs.State.{height_after, first_row_after, width_after, size_after, device_with, device_after, covered}
 use Rattle.bin_stream.specs.declared.fault.BinCause.{BinCause}
 use Rattle.bin_stream.specs.declared.fault.BinCause.TheVariants.{Truncated, UnknownCommand, LongPayload, BadBank, BadWidth, BadHeight, DataEnd, Check, BadRange, BadMode, NoDevice}
 
@@ -18,23 +21,23 @@ cause_if false cause = None
 -- ---- data
 
 -- data of another width than the device's plane has
-abbrev pub width_cause : Kind → Option DeviceName → ℕ → Option BinCause
+abbrev pub width_cause : PlaneKind → Option DeviceName → ℕ → Option BinCause
 width_cause kind None columns = Some BadWidth
 width_cause kind (Some device) columns = cause_if (not (columns == plane_width kind device)) BadWidth
 
 -- whether data have no row, rows past the plane's last, or a part of a byte
-abbrev pub is_bad_height : Kind → DeviceName → ℕ → ℕ → ℕ → Bool
+abbrev pub is_bad_height : PlaneKind → DeviceName → ℕ → ℕ → ℕ → Bool
 is_bad_height kind device first rows columns = (rows == 0) || nat_lt (plane_height kind device) (first + rows) || not (columns * rows % 8 == 0)
 
-abbrev pub height_cause : Kind → Option DeviceName → ℕ → ℕ → ℕ → Option BinCause
+abbrev pub height_cause : PlaneKind → Option DeviceName → ℕ → ℕ → ℕ → Option BinCause
 height_cause kind None first rows columns = None
 height_cause kind (Some device) first rows columns = cause_if (is_bad_height kind device first rows columns) BadHeight
 
 -- the device of data: the one that is fixed, else that of their width
-abbrev pub device_for : List Command → Kind → Option DeviceName
+abbrev pub device_for : List Command → PlaneKind → Option DeviceName
 device_for before kind = or_else (device_after before) (device_with kind (width_after before))
 
-abbrev pub data_cause : List Command → Kind → Option BinCause
+abbrev pub data_cause : List Command → PlaneKind → Option BinCause
 data_cause before kind =
     or_else (width_cause kind (device_for before kind) (width_after before))
     (height_cause kind (device_for before kind) (first_row_after before) (height_after before) (width_after before))
@@ -95,7 +98,7 @@ short_cause before opcode payload = short_cause_where (reached_in before) (check
 -- ---- commands
 
 -- the kind of data that an opcode and a payload's number begin
-abbrev pub data_kind : ℕ → ℕ → Option Kind
+abbrev pub data_kind : ℕ → ℕ → Option PlaneKind
 data_kind opcode n =
     if opcode == control_opcode then (if n == kind_number Cram then Some Cram else if n == kind_number Bram then Some Bram else None)
     else None
@@ -135,12 +138,12 @@ body_fault size offset bytes =
     else end_fault (offset + size) (drop size bytes)
 
 -- what is wrong with data at an offset, whose bytes begin at another
-abbrev pub data_fault : List Command → Kind → ℕ → ℕ → List ℕ → Option Fault
+abbrev pub data_fault : List Command → PlaneKind → ℕ → ℕ → List ℕ → Option Fault
 data_fault before kind offset start bytes =
     or_else (fault_where offset (data_cause before kind)) (body_fault (size_after before) start bytes)
 
 -- what is wrong with a command at an offset, by its payload and the bytes behind it
-abbrev pub payload_fault : List Command → ℕ → ℕ → List ℕ → Option Kind → List ℕ → Option Fault
+abbrev pub payload_fault : List Command → ℕ → ℕ → List ℕ → Option PlaneKind → List ℕ → Option Fault
 payload_fault before offset opcode payload None bytes = fault_where offset (short_cause before opcode payload)
 payload_fault before offset opcode payload (Some kind) bytes = data_fault before kind offset (offset + 1 + length payload) bytes
 

@@ -3,7 +3,8 @@ use Rattle.std.specs.Prelude.{◌≡◌, ℕ, zero, suc, ◌+◌, ◌/◌, ◌%�
 use Rattle.plane_map.specs.declared.device.DeviceName.{DeviceName}
 use Rattle.plane_map.specs.declared.device.DeviceName.TheVariants.{K1}
 use Rattle.ice_image.specs.Configuration.{Configuration}
-use Rattle.bin_stream.specs.Commands.{Kind, Command, Short, Data, number_of, spelling, spelled, is_wake_up}
+use Rattle.ice_image.specs.declared.planes.PlaneKind.{PlaneKind}
+use Rattle.bin_stream.specs.Commands.{Command, Short, Data, number_of, spelling, spelled, is_wake_up}
 use Rattle.bin_stream.specs.State.{size_after, device_after}
 use Rattle.bin_stream.specs.Refusals.{Fault, fault_at, first_fault, data_kind, IsAllowedAfter}
 use Rattle.bin_stream.specs.Front.{preamble, preamble_offset}
@@ -64,7 +65,7 @@ IsRefused bytes fault = IsRefusedAt (preamble_offset bytes)
 -- ---- as one small program
 
 -- the first command of bytes that have no fault there
-abbrev pub command_of : List Command → ℕ → List ℕ → Option Kind → List ℕ → Command
+abbrev pub command_of : List Command → ℕ → List ℕ → Option PlaneKind → List ℕ → Command
 command_of before opcode payload None bytes = Short opcode payload
 command_of before opcode payload (Some kind) bytes = Data kind payload (take (size_after before) bytes)
 

@@ -1,10 +1,11 @@
 -- What holds behind a list of commands, by looking back in it.
 use Rattle.std.specs.Prelude.{ℕ, ◌+◌, ◌*◌, ◌/◌, Bool, false, List, length, take, drop, slice_get, ◌==◌, if◌then◌else◌, Option, Some, None}
 use Rattle.place_search.specs.Places.{last_below, first_below}
-use Rattle.plane_map.specs.Layout.{cram_width, cram_height, bram_width, bram_height}
 use Rattle.plane_map.specs.declared.device.DeviceName.{DeviceName}
 use Rattle.plane_map.specs.declared.device.DeviceName.TheVariants.{K1, K8}
-use Rattle.bin_stream.specs.Commands.{Kind, Command, Cram, Bram, Short, Data, number_of, spelled, is_reset, bank_opcode, range_opcode, width_opcode, height_opcode, offset_opcode, mode_opcode}
+use Rattle.ice_image.specs.declared.planes.PlaneKind.{PlaneKind}
+use Rattle.ice_image.specs.Planes.{plane_width}
+use Rattle.bin_stream.specs.Commands.{Command, Short, Data, number_of, spelled, is_reset, bank_opcode, range_opcode, width_opcode, height_opcode, offset_opcode, mode_opcode}
 
 -- whether a command that isn't data has that opcode
 abbrev pub has_opcode : ℕ → Option Command → Bool
@@ -61,16 +62,8 @@ size_after commands = width_after commands * height_after commands / 8
 
 -- ---- the device
 
-abbrev pub plane_width : Kind → DeviceName → ℕ
-plane_width Cram device = cram_width device
-plane_width Bram device = bram_width device
-
-abbrev pub plane_height : Kind → DeviceName → ℕ
-plane_height Cram device = cram_height device
-plane_height Bram device = bram_height device
-
 -- the device whose planes have a width
-abbrev pub device_with : Kind → ℕ → Option DeviceName
+abbrev pub device_with : PlaneKind → ℕ → Option DeviceName
 device_with kind columns =
     if columns == plane_width kind K1 then Some K1
     else if columns == plane_width kind K8 then Some K8

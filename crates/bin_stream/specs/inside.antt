@@ -1,6 +1,5 @@
 -- What contracts within this crate cite, and no public one.
 pub mod Register
-pub mod DataKinds
 pub mod Registers
 pub mod Step
 pub mod Pieces

@@ -1,6 +1,12 @@
 pub mod BankBits
+pub mod Bits
 pub mod InOrder
 pub mod Listed
+pub mod Lists
 pub mod Made
+pub mod Owned
+pub mod PlacesIn
+pub mod PlanesFrom
+pub mod SetExtras
 pub mod TileColumns
 pub mod Written

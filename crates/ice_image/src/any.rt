@@ -1,17 +1,22 @@
 // Images of either device.
-ghost use Rattle.std.specs.Prelude.{◌≡◌, ◌≤◌, ◌↔◌, Some, IfOk, IsTrue, All, length, option_copied};
-ghost use Rattle.bit_plane.specs.BitList.{word_bits};
-ghost use Rattle.plane_map.specs.Layout.{kind_of, columns_at, place_of, IsTileBit, IsInCram};
+ghost use Rattle.std.specs.Prelude.{◌≡◌, ◌+◌, ◌*◌, ◌<◌, ◌≤◌, ◌↔◌, Some, IfOk, IsTrue, All, true, false, length, take, drop, option_copied, MatchOption};
+ghost use Rattle.bit_plane.specs.BitList.{word_bits, word_of, bits_of, bytes_of};
+ghost use Rattle.bit_plane.specs.Rows.{flat, rows_of};
+ghost use Rattle.plane_map.specs.Layout.{kind_of, columns_at, place_of, word_place_of, IsTileBit, IsWordBit, IsInCram};
 ghost use Rattle.ice_image.specs.Configuration.{place_bit, with_place_bit, SameBut, blank_image, IsWhole};
 ghost use Rattle.ice_image.specs.Contents.{tile_rows, IsPlaceOfTile, word_value, IsPlaceOfWord, IsBitOfTile, listed_bits};
 ghost use Rattle.ice_image.specs.Either.{configuration_of, device_of};
 ghost use Rattle.ice_image.specs.Extras.{AreSetExtras};
+ghost use Rattle.ice_image.specs.Bits.{OfTile, OfWord, Extra, bit_of, row_of, ram_word_of, set_extras, IsSet};
+ghost use Rattle.ice_image.specs.Owned.{is_extra};
+ghost use Rattle.ice_image.specs.Planes.{plane_width, plane_height, rows_of_bank, with_rows};
 
 use crate::comment::Comment;
 use crate::image::Image;
+use crate::planes::PlaneKind;
 use crate::settings::Settings;
 use bit_plane::Tile;
-use plane_map::{DeviceName, Hx1k, Hx8k, Place, RowCol, TileBit, TileKind};
+use plane_map::{DeviceName, Hx1k, Hx8k, Place, RowCol, TileBit, TileKind, WordBit};
 use std::alloc::{AllocError, Global};
 
 /// An image of one of the devices.
@@ -90,7 +95,8 @@ impl AnyImage {
     /// A bit of a tile.
     pub fn tile_bit(&self, at: TileBit) -> bool
         requires { IsTileBit (device_of self.now) at }
-        ensures { result ≡ place_bit (configuration_of self.now).cram (place_of (device_of self.now) at) }
+        ensures place { result ≡ place_bit (configuration_of self.now).cram (place_of (device_of self.now) at) }
+        ensures bit { result ≡ bit_of (configuration_of self.now) (OfTile at) }
     {
         match self {
             AnyImage::K1(image) => image.tile_bit(at),
@@ -103,10 +109,34 @@ impl AnyImage {
         requires { IsTileBit (device_of self.old) at }
         ensures device { device_of self.new ≡ device_of self.old }
         ensures changed { configuration_of self.new ≡ record (configuration_of self.old) { cram = with_place_bit (configuration_of self.old).cram (place_of (device_of self.old) at) bit } }
+        ensures bits { IsSet (OfTile at) bit (configuration_of self.old) (configuration_of self.new) }
     {
         match self {
             AnyImage::K1(image) => image.set_tile_bit(at, bit),
             AnyImage::K8(image) => image.set_tile_bit(at, bit),
+        }
+    }
+
+    /// The bits of a row of a tile as a word. Column c is the bit of value 2^c.
+    pub fn tile_row(&self, x: u8, y: u8, row: u8) -> u64
+        requires { row < 16 }
+        ensures { result ≡ word_of (row_of (configuration_of self.now) x y row) }
+    {
+        match self {
+            AnyImage::K1(image) => image.tile_row(x, y, row),
+            AnyImage::K8(image) => image.tile_row(x, y, row),
+        }
+    }
+
+    /// Sets an extra bit.
+    pub fn set_extra_bit(&mut self, at: Place, bit: bool)
+        requires { is_extra (device_of self.old) at ≡ true }
+        ensures device { device_of self.new ≡ device_of self.old }
+        ensures bits { IsSet (Extra at) bit (configuration_of self.old) (configuration_of self.new) }
+    {
+        match self {
+            AnyImage::K1(image) => image.set_extra_bit(at, bit),
+            AnyImage::K8(image) => image.set_extra_bit(at, bit),
         }
     }
 
@@ -174,7 +204,8 @@ impl AnyImage {
     /// A word of the RAM whose lower tile is at (x, y), bit b having the value 2^b.
     pub fn ram_word(&self, x: u8, y: u8, word: u8) -> u16
         requires { kind_of (device_of self.now) x y ≡ Some TileKind.RamB }
-        ensures { result ≡ word_value (device_of self.now) (configuration_of self.now).bram x y word }
+        ensures place { result ≡ word_value (device_of self.now) (configuration_of self.now).bram x y word }
+        ensures bits { result ≡ ram_word_of (configuration_of self.now) x y word }
     {
         match self {
             AnyImage::K1(image) => image.ram_word(x, y, word),
@@ -197,9 +228,70 @@ impl AnyImage {
         }
     }
 
+    /// Sets a bit of a word of a RAM.
+    pub fn set_word_bit(&mut self, at: WordBit, bit: bool)
+        requires { IsWordBit (device_of self.old) at }
+        ensures device { device_of self.new ≡ device_of self.old }
+        ensures changed { configuration_of self.new ≡ record (configuration_of self.old) { bram = with_place_bit (configuration_of self.old).bram (word_place_of (device_of self.old) at) bit } }
+        ensures bits { IsSet (OfWord at) bit (configuration_of self.old) (configuration_of self.new) }
+    {
+        match self {
+            AnyImage::K1(image) => image.set_word_bit(at, bit),
+            AnyImage::K8(image) => image.set_word_bit(at, bit),
+        }
+    }
+
+    /// The place of the configuration planes with these numbers, where it belongs to no tile.
+    pub fn extra_place(&self, bank: u32, px: u32, py: u32) -> Option<Place>
+        ensures { MatchOption result (is_extra (device_of self.now) (record { bank = bank; px = px; py = py }) ≡ false)
+            (λ at. (is_extra (device_of self.now) at ≡ true) × (at ≡ record { bank = bank; px = px; py = py })) }
+    {
+        match self {
+            AnyImage::K1(image) => image.extra_place(bank, px, py),
+            AnyImage::K8(image) => image.extra_place(bank, px, py),
+        }
+    }
+
+    /// Fills `out` with the bytes of `count` rows of a bank's plane, from row `first` on, the most significant bit of each
+    /// byte first.
+    pub fn rows(&self, kind: PlaneKind, bank: usize, first: usize, count: usize, out: &mut [u8])
+        requires bank { bank < 4 }
+        requires rows { first + count ≤ plane_height kind (device_of self.now) }
+        requires bytes { 8 * length out.old ≡ count * plane_width kind (device_of self.now) }
+        ensures { out.new ≡ bytes_of (length out.old) (flat (take count (drop first (rows_of_bank kind bank (configuration_of self.now))))) }
+    {
+        match self {
+            AnyImage::K1(image) => image.rows(kind, bank, first, count, out),
+            AnyImage::K8(image) => image.rows(kind, bank, first, count, out),
+        }
+    }
+
+    /// Sets `count` rows of a bank's plane, from row `first` on, to the bits of bytes, the most significant bit of each byte
+    /// first.
+    pub fn set_rows(
+        &mut self,
+        kind: PlaneKind,
+        bank: usize,
+        first: usize,
+        count: usize,
+        bytes: &[u8],
+    )
+        requires bank { bank < 4 }
+        requires rows { first + count ≤ plane_height kind (device_of self.old) }
+        requires bytes { 8 * length bytes.now ≡ count * plane_width kind (device_of self.old) }
+        ensures device { device_of self.new ≡ device_of self.old }
+        ensures rows { configuration_of self.new ≡ with_rows kind bank first (rows_of (plane_width kind (device_of self.old)) count (bits_of bytes.now)) (configuration_of self.old) }
+    {
+        match self {
+            AnyImage::K1(image) => image.set_rows(kind, bank, first, count, bytes),
+            AnyImage::K8(image) => image.set_rows(kind, bank, first, count, bytes),
+        }
+    }
+
     /// The set bits of the configuration planes that belong to no tile, by bank, then by row, then by column.
     pub fn extra_bits(&self, alloc: Global) -> Result<Vec<Place>, AllocError>
-        ensures { IfOk result (λ places. AreSetExtras (device_of self.now) (configuration_of self.now).cram places.items) }
+        ensures exact { IfOk result (λ places. AreSetExtras (device_of self.now) (configuration_of self.now).cram places.items) }
+        ensures bits { IfOk result (λ places. places.items ≡ set_extras (configuration_of self.now)) }
     {
         match self {
             AnyImage::K1(image) => image.extra_bits(alloc),

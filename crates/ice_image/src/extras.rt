@@ -1,7 +1,8 @@
 // The set bits of the configuration planes that belong to no tile.
-ghost use Rattle.std.specs.Prelude.{◌≡◌, ◌+◌, ◌<◌, IfOk};
+ghost use Rattle.std.specs.Prelude.{◌≡◌, ◌+◌, ◌<◌, true, false, IfOk, MatchOption};
 ghost use Rattle.plane_map.specs.Layout.{IsInCram};
 ghost use Rattle.ice_image.specs.Extras.{AreSetExtras};
+ghost use Rattle.ice_image.specs.Owned.{is_extra, is_owned};
 ghost use Rattle.ice_image.specs.Written.{HasExtras, IsExtraAppended};
 
 use crate::banks::Banks;
@@ -75,4 +76,28 @@ fn append_extra<D: Device>(
         places.push(at)?;
     }
     Ok(())
+}
+
+/// The place of the configuration planes with these numbers, where it belongs to no tile.
+pub(crate) fn extra_place<D: Device>(bank: u32, px: u32, py: u32) -> Option<Place>
+    ensures { MatchOption result (is_extra D.NAME (record { bank = bank; px = px; py = py }) ≡ false)
+        (λ at. (is_extra D.NAME at ≡ true) × (at ≡ record { bank = bank; px = px; py = py })) }
+{
+    if bank >= 4 || px as usize >= D::Cram::WIDTH || py as usize >= D::Cram::HEIGHT {
+        return None;
+    }
+    let at = Place {
+        bank: bank as u8,
+        px: px as u16,
+        py: py as u16,
+    };
+    if is_owned::<D>(at) { None } else { Some(at) }
+}
+
+/// Whether a place of the configuration planes belongs to a tile.
+fn is_owned<D: Device>(at: Place) -> bool
+    requires { IsInCram D.NAME at }
+    ensures { result ≡ is_owned D.NAME at }
+{
+    owner_of::<D>(at).is_some()
 }

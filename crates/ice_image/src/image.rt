@@ -1,21 +1,29 @@
 // Images of a device.
-ghost use Rattle.std.specs.Prelude.{◌≡◌, ◌<◌, ◌≤◌, ◌↔◌, None, Some, IfOk, IsTrue, All, length, map, option_copied};
+ghost use Rattle.std.specs.Prelude.{◌≡◌, ◌+◌, ◌*◌, ◌<◌, ◌≤◌, ◌↔◌, None, Some, IfOk, IsTrue, All, true, false, length, take, drop, map, option_copied, MatchOption};
 ghost use Rattle.std.specs.Borrow.{Lends, sem};
-ghost use Rattle.bit_plane.specs.BitList.{word_bits};
-ghost use Rattle.plane_map.specs.Layout.{kind_of, columns_at, place_of, IsTileBit, IsInCram};
+ghost use Rattle.bit_plane.specs.BitList.{word_bits, word_of, bits_of, bytes_of};
+ghost use Rattle.bit_plane.specs.Rows.{IsGrid, flat, rows_of};
+ghost use Rattle.plane_map.specs.Layout.{kind_of, columns_at, place_of, word_place_of, cram_width, cram_height, bram_width, bram_height, IsTileBit, IsWordBit, IsInCram};
 ghost use Rattle.ice_image.specs.Configuration.{bank_rows, place_bit, with_bank, with_place_bit, SameBut, blank_image, IsWhole};
 ghost use Rattle.ice_image.specs.Contents.{tile_rows, IsPlaceOfTile, word_value, IsPlaceOfWord, IsBitOfTile, listed_bits};
 ghost use Rattle.ice_image.specs.Extras.{AreSetExtras};
+ghost use Rattle.ice_image.specs.Bits.{OfTile, OfWord, Extra, bit_of, row_of, ram_word_of, set_extras, IsSet};
+ghost use Rattle.ice_image.specs.Owned.{is_extra};
+ghost use Rattle.ice_image.specs.Planes.{plane_width, plane_height, rows_of_bank, with_rows};
+ghost use Rattle.ice_image.specs.declared.planes.PlaneKind.TheVariants.{Cram, Bram};
 ghost use Rattle.ice_image.specs.contracts.image.Image.{the_row};
 
 use crate::banks::Banks;
 use crate::comment::Comment;
-use crate::extras::extras_of;
+use crate::extras::{extra_place, extras_of};
+use crate::planes::PlaneKind;
 use crate::settings::{Range, Settings};
-use crate::tiles::{read_tile, write_tile};
+use crate::tiles::{columns_on, read_tile, row_word, write_tile};
 use crate::words::{read_word, write_word};
-use bit_plane::Tile;
-use plane_map::{Device, DeviceName, Place, RowCol, TileBit, TileKind, cram_place};
+use bit_plane::{Bits, Tile};
+use plane_map::{
+    Device, DeviceName, Place, RowCol, TileBit, TileKind, WordBit, bram_place, cram_place,
+};
 use std::alloc::{AllocError, Global};
 use std::marker::Model;
 
@@ -97,7 +105,8 @@ impl<D: Device> Image<D> {
     /// A bit of a tile.
     pub fn tile_bit(&self, at: TileBit) -> bool
         requires { IsTileBit D.NAME at }
-        ensures { result ≡ place_bit self.now.cram (place_of D.NAME at) }
+        ensures place { result ≡ place_bit self.now.cram (place_of D.NAME at) }
+        ensures bit { result ≡ bit_of self.now (OfTile at) }
     {
         self.cram.get(cram_place::<D>(at.x, at.y, at.row, at.col))
     }
@@ -105,10 +114,27 @@ impl<D: Device> Image<D> {
     /// Sets a bit of a tile.
     pub fn set_tile_bit(&mut self, at: TileBit, bit: bool)
         requires { IsTileBit D.NAME at }
-        ensures { self.new ≡ record self.old { cram = with_place_bit self.old.cram (place_of D.NAME at) bit } }
+        ensures changed { self.new ≡ record self.old { cram = with_place_bit self.old.cram (place_of D.NAME at) bit } }
+        ensures bits { IsSet (OfTile at) bit self.old self.new }
     {
         self.cram
             .set(cram_place::<D>(at.x, at.y, at.row, at.col), bit);
+    }
+
+    /// The bits of a row of a tile as a word. Column c is the bit of value 2^c.
+    pub fn tile_row(&self, x: u8, y: u8, row: u8) -> u64
+        requires { row < 16 }
+        ensures { result ≡ word_of (row_of self.now x y row) }
+    {
+        row_word::<D>(&self.cram, x, y, row, columns_on::<D>(x, y))
+    }
+
+    /// Sets an extra bit.
+    pub fn set_extra_bit(&mut self, at: Place, bit: bool)
+        requires { is_extra D.NAME at ≡ true }
+        ensures { IsSet (Extra at) bit self.old self.new }
+    {
+        self.cram.set(at, bit);
     }
 
     /// The bit at a place of the configuration planes.
@@ -203,7 +229,8 @@ impl<D: Device> Image<D> {
     /// A word of the RAM whose lower tile is at (x, y), bit b having the value 2^b.
     pub fn ram_word(&self, x: u8, y: u8, word: u8) -> u16
         requires { kind_of D.NAME x y ≡ Some TileKind.RamB }
-        ensures { result ≡ word_value D.NAME self.now.bram x y word }
+        ensures place { result ≡ word_value D.NAME self.now.bram x y word }
+        ensures bits { result ≡ ram_word_of self.now x y word }
     {
         read_word::<D>(&self.bram, x, y, word)
     }
@@ -219,10 +246,86 @@ impl<D: Device> Image<D> {
         write_word::<D>(&mut self.bram, x, y, word, value);
     }
 
+    /// Sets a bit of a word of a RAM.
+    pub fn set_word_bit(&mut self, at: WordBit, bit: bool)
+        requires { IsWordBit D.NAME at }
+        ensures changed { self.new ≡ record self.old { bram = with_place_bit self.old.bram (word_place_of D.NAME at) bit } }
+        ensures bits { IsSet (OfWord at) bit self.old self.new }
+    {
+        self.bram
+            .set(bram_place::<D>(at.x, at.y, at.word, at.bit), bit);
+    }
+
     /// The set bits of the configuration planes that belong to no tile, by bank, then by row, then by column.
     pub fn extra_bits(&self, alloc: Global) -> Result<Vec<Place>, AllocError>
-        ensures { IfOk result (λ places. AreSetExtras D.NAME self.now.cram places.items) }
+        ensures exact { IfOk result (λ places. AreSetExtras D.NAME self.now.cram places.items) }
+        ensures bits { IfOk result (λ places. places.items ≡ set_extras self.now) }
     {
         extras_of::<D>(&self.cram, alloc)
+    }
+
+    /// The place of the configuration planes with these numbers, where it belongs to no tile.
+    pub fn extra_place(&self, bank: u32, px: u32, py: u32) -> Option<Place>
+        ensures { MatchOption result (is_extra D.NAME (record { bank = bank; px = px; py = py }) ≡ false)
+            (λ at. (is_extra D.NAME at ≡ true) × (at ≡ record { bank = bank; px = px; py = py })) }
+    {
+        extra_place::<D>(bank, px, py)
+    }
+
+    /// Fills `out` with the bytes of `count` rows of a bank's plane, from row `first` on, the most significant bit of each
+    /// byte first.
+    pub fn rows(&self, kind: PlaneKind, bank: usize, first: usize, count: usize, out: &mut [u8])
+        requires bank { bank < 4 }
+        requires rows { first + count ≤ plane_height kind D.NAME }
+        requires bytes { 8 * length out.old ≡ count * plane_width kind D.NAME }
+        ensures bytes { out.new ≡ bytes_of (length out.old) (flat (take count (drop first (rows_of_bank kind bank self.now)))) }
+    {
+        match kind {
+            PlaneKind::Cram => self.cram(bank).take_bytes(first, count, out),
+            PlaneKind::Bram => self.bram(bank).take_bytes(first, count, out),
+        }
+    }
+
+    /// Sets `count` rows of a bank's plane, from row `first` on, to the bits of bytes, the most significant bit of each byte
+    /// first.
+    pub fn set_rows(
+        &mut self,
+        kind: PlaneKind,
+        bank: usize,
+        first: usize,
+        count: usize,
+        bytes: &[u8],
+    )
+        requires bank { bank < 4 }
+        requires rows { first + count ≤ plane_height kind D.NAME }
+        requires bytes { 8 * length bytes.now ≡ count * plane_width kind D.NAME }
+        ensures { self.new ≡ with_rows kind bank first (rows_of (plane_width kind D.NAME) count (bits_of bytes.now)) self.old }
+    {
+        match kind {
+            PlaneKind::Cram => self.set_cram_rows(bank, first, count, bytes),
+            PlaneKind::Bram => self.set_bram_rows(bank, first, count, bytes),
+        }
+    }
+
+    /// The same for a configuration plane.
+    fn set_cram_rows(&mut self, bank: usize, first: usize, count: usize, bytes: &[u8])
+        requires bank { bank < 4 }
+        requires rows { first + count ≤ cram_height D.NAME }
+        requires bytes { 8 * length bytes.now ≡ count * cram_width D.NAME }
+        ensures { self.new ≡ with_rows Cram bank first (rows_of (cram_width D.NAME) count (bits_of bytes.now)) self.old }
+    {
+        let plane = self.cram_mut(bank);
+        plane.put_bytes(first, count, bytes);
+    }
+
+    /// The same for a RAM plane.
+    fn set_bram_rows(&mut self, bank: usize, first: usize, count: usize, bytes: &[u8])
+        requires bank { bank < 4 }
+        requires rows { first + count ≤ bram_height D.NAME }
+        requires bytes { 8 * length bytes.now ≡ count * bram_width D.NAME }
+        ensures { self.new ≡ with_rows Bram bank first (rows_of (bram_width D.NAME) count (bits_of bytes.now)) self.old }
+    {
+        let plane = self.bram_mut(bank);
+        plane.put_bytes(first, count, bytes);
     }
 }

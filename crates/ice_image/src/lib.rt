@@ -6,6 +6,7 @@ mod banks;
 mod comment;
 mod extras;
 mod image;
+mod planes;
 mod settings;
 mod tiles;
 mod words;
@@ -13,6 +14,7 @@ mod words;
 pub use any::AnyImage;
 pub use comment::{Comment, is_comment_line};
 pub use image::Image;
+pub use planes::PlaneKind;
 pub use settings::{Range, Settings};
 
 #[cfg(test)]

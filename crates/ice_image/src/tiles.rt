@@ -9,7 +9,7 @@ ghost use Rattle.ice_image.specs.Written.{IsWritten, bit_of_word};
 
 use crate::banks::Banks;
 use bit_plane::Tile;
-use plane_map::{Device, cram_place};
+use plane_map::{Device, cram_place, kind_at, tile_width};
 
 /// The tile at (x, y).
 pub(crate) fn read_tile<D: Device, const C: usize>(cram: &Banks<D::Cram>, x: u8, y: u8) -> Tile<C>
@@ -23,8 +23,18 @@ pub(crate) fn read_tile<D: Device, const C: usize>(cram: &Banks<D::Cram>, x: u8,
     tile
 }
 
+/// How many columns of bits the tile at (x, y) has, and 0 where there is none.
+pub(crate) fn columns_on<D: Device>(x: u8, y: u8) -> usize
+    ensures { result ≡ columns_at D.NAME x y }
+{
+    match kind_at::<D>(u32::from(x), u32::from(y)) {
+        Some(kind) => tile_width(kind),
+        None => 0,
+    }
+}
+
 /// A row of the tile at (x, y) as a word. Column c is the bit of value 2^c.
-fn row_word<D: Device>(cram: &Banks<D::Cram>, x: u8, y: u8, row: u8, width: usize) -> u64
+pub(crate) fn row_word<D: Device>(cram: &Banks<D::Cram>, x: u8, y: u8, row: u8, width: usize) -> u64
     requires row { row < 16 }
     requires width { columns_at D.NAME x y ≡ width }
     ensures { result ≡ word_of (row_from width (λ col. place_bit cram.now (tile_place D.NAME x y row col))) }

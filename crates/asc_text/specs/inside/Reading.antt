@@ -4,9 +4,8 @@ use Rattle.std.specs.Prelude.{◌≡◌, ℕ, ◌+◌, ◌<◌, Bool, true, fals
 use Rattle.std.specs.Bool.{MatchBool}
 use Rattle.text_lines.specs.Lines.{trimmed}
 use Rattle.place_search.specs.Places.{or_else}
-use Rattle.plane_map.specs.Layout.{kind_of, columns_of, cram_width, cram_height, bram_width, bram_height}
+use Rattle.plane_map.specs.Layout.{kind_of, columns_of}
 use Rattle.plane_map.specs.declared.device.DeviceName.{DeviceName}
-use Rattle.plane_map.specs.declared.tile.Place.{Place}
 use Rattle.plane_map.specs.declared.tile.TileKind.{TileKind}
 use Rattle.plane_map.specs.declared.tile.TileKind.TheVariants.{RamB}
 use Rattle.ice_image.specs.Configuration.{blank_image}
@@ -31,9 +30,11 @@ use Rattle.asc_text.specs.declared.reading.reader.Refusal.TheVariants.{Cause, Me
 use Rattle.asc_text.specs.Statements.{statement_in, begins_with_dot, name_in}
 use Rattle.asc_text.specs.inside.TileSets.{has_tile}
 use Rattle.asc_text.specs.Rows.{is_row, is_memory_line, memory_bytes}
-use Rattle.asc_text.specs.Extras.{is_same_place, is_extra}
+use Rattle.ice_image.specs.Owned.{is_extra}
 use Rattle.asc_text.specs.Faults.{cause_if, unknown_device, kind_cause, comment_cause, stray_cause}
-use Rattle.asc_text.specs.inside.Gains.{Gains, row_sets, line_sets}
+use Rattle.asc_text.specs.inside.Gains.{Gains, bytes_set}
+use Rattle.asc_text.specs.Meaning.{row_sets, extra_sets}
+use Rattle.ice_image.specs.Bits.{Bit}
 
 -- ---- what is kept
 
@@ -164,28 +165,16 @@ statement_of (Memory x y row) line = Some (RamData x y)
 
 -- ---- what a line changes that is not refused
 
--- the image with more bits of its configuration planes
-pub record GainsCram (before after : AnyImage) (is_set : DeviceName → Place → Bool) : Type 0 where
+-- the image with more bits
+pub record GainsBits (before after : AnyImage) (is_set : Bit → Bool) : Type 0 where
   pub device : device_of after ≡ device_of before
-  pub rest : configuration_of after ≡ record (configuration_of before) { cram = (configuration_of after).cram }
-  pub bits : Gains (cram_width (device_of before)) (cram_height (device_of before)) (is_set (device_of before)) (configuration_of before).cram (configuration_of after).cram
+  pub gains : Gains is_set (configuration_of before) (configuration_of after)
 
--- the image with more bits of its RAM planes
-pub record GainsBram (before after : AnyImage) (is_set : DeviceName → Place → Bool) : Type 0 where
-  pub device : device_of after ≡ device_of before
-  pub rest : configuration_of after ≡ record (configuration_of before) { bram = (configuration_of after).bram }
-  pub bits : Gains (bram_width (device_of before)) (bram_height (device_of before)) (is_set (device_of before)) (configuration_of before).bram (configuration_of after).bram
-
--- both where there is an image
-abbrev pub CramGains : Option AnyImage → Option AnyImage → (DeviceName → Place → Bool) → Type 0
-CramGains (Some before) (Some after) is_set = GainsCram before after is_set
-CramGains (Some before) None is_set = ⊥
-CramGains None after is_set = ⊥
-
-abbrev pub BramGains : Option AnyImage → Option AnyImage → (DeviceName → Place → Bool) → Type 0
-BramGains (Some before) (Some after) is_set = GainsBram before after is_set
-BramGains (Some before) None is_set = ⊥
-BramGains None after is_set = ⊥
+-- where there is an image
+abbrev pub ImageGains : Option AnyImage → Option AnyImage → (Bit → Bool) → Type 0
+ImageGains (Some before) (Some after) is_set = GainsBits before after is_set
+ImageGains (Some before) None is_set = ⊥
+ImageGains None after is_set = ⊥
 
 -- an image of a device with all bits 0
 abbrev pub IsBlank : Option DeviceName → Option AnyImage → Type 0
@@ -223,7 +212,7 @@ TakesStatement s (NoSleep setting) line new = new ≡ record s { no_sleep = sett
 TakesStatement s (Tile kind x y) line new = (new ≡ record s { tiles = new.tiles; expected = Row kind x y 0 }) × HasInserted x y s.tiles new.tiles
 TakesStatement s (RamData x y) line new = (new ≡ record s { rams = new.rams; expected = Memory x y 0 }) × HasInserted x y s.rams new.rams
 TakesStatement s (ExtraBit bank x y) line new = (new ≡ record s { image = new.image })
-    × CramGains s.image new.image (λ device. is_same_place (record { bank = bank; px = x; py = y }))
+    × ImageGains s.image new.image (extra_sets (record { bank = bank; px = x; py = y }))
 TakesStatement s (Symbol net) line new = new ≡ record s { symbols = s.symbols ++ record { net = net; name = name_in line } ∷ [] }
 
 -- a line that isn't of this form is refused
@@ -234,12 +223,12 @@ TakesDotted s (Some statement) line new = TakesStatement (record s { in_comment 
 -- what a row of a tile changes
 abbrev pub TakesRow : ReaderState → TileKind → ℕ → ℕ → ℕ → List ℕ → ReaderState → Type 0
 TakesRow s kind x y row line new = (new ≡ record s { image = new.image; expected = after_row kind x y row })
-    × CramGains s.image new.image (λ device. row_sets device x y row line (columns_of kind))
+    × ImageGains s.image new.image (row_sets x y row line)
 
 -- what a line of a RAM's contents changes
 abbrev pub TakesMemory : ReaderState → ℕ → ℕ → ℕ → List ℕ → ReaderState → Type 0
 TakesMemory s x y row line new = (new ≡ record s { image = new.image; expected = after_memory x y row })
-    × BramGains s.image new.image (λ device. line_sets device x y row (memory_bytes line) 16)
+    × ImageGains s.image new.image (bytes_set x y row (memory_bytes line))
 
 -- what a line changes
 abbrev pub Takes : ReaderState → Expected → List ℕ → ReaderState → Type 0

@@ -1,21 +1,21 @@
 // The lines of the set bits that belong to no tile.
 ghost use Rattle.std.specs.Prelude.{◌≡◌, [], ◌∷◌, ◌++◌, OnOk};
 ghost use Rattle.text_lines.specs.Written.{text_of};
+ghost use Rattle.ice_image.specs.Either.{configuration_of};
 ghost use Rattle.asc_text.specs.Canonical.{all_extra_lines, extra_line};
 
 use crate::writing::lines::{append_number, end_line};
-use ice_image::Image;
-use plane_map::{Device, Place};
+use ice_image::AnyImage;
+use plane_map::Place;
 use std::alloc::{AllocError, Global};
 
 /// Appends all set bits that belong to no tile, by bank, then by row, then by column.
-pub(crate) fn append_extra_bits<D: Device>(
+pub(crate) fn append_extra_bits(
     text: &mut Vec<u8>,
-    image: &Image<D>,
+    image: &AnyImage,
     alloc: Global,
 ) -> Result<(), AllocError>
-    requires { image.now.device ≡ D.NAME }
-    ensures { OnOk result (text.new.items ≡ text.old.items ++ text_of (all_extra_lines image.now)) }
+    ensures { OnOk result (text.new.items ≡ text.old.items ++ text_of (all_extra_lines (configuration_of image.now))) }
 {
     let places = image.extra_bits(alloc)?;
     for at in &places {

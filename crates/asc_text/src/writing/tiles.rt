@@ -5,26 +5,23 @@ ghost use Rattle.text_lines.specs.Written.{text_of};
 ghost use Rattle.bit_plane.specs.Rows.{row_from};
 ghost use Rattle.hex.specs.Hex.{encode_lower};
 ghost use Rattle.plane_map.specs.Layout.{kind_of, columns_at, grid_width, grid_height};
-ghost use Rattle.ice_image.specs.Configuration.{place_bit};
-ghost use Rattle.ice_image.specs.Contents.{tile_place};
+ghost use Rattle.ice_image.specs.Bits.{tile_bit_of};
+ghost use Rattle.ice_image.specs.Either.{configuration_of, device_of};
 ghost use Rattle.asc_text.specs.Statements.{tile_keyword as keyword_of};
 ghost use Rattle.asc_text.specs.Canonical.{bit_character as character_of, all_tile_lines, lines_of_tile_at, tile_lines, row_line, ram_lines, memory_line, two_bytes};
 
 use crate::writing::lines::{append_grid_line, end_line};
-use ice_image::Image;
-use plane_map::{Device, TileBit, TileKind, kind_at, tile_width};
+use ice_image::AnyImage;
+use plane_map::{TileKind, kind_on, tile_width};
 use std::alloc::AllocError;
 
 /// Appends all tiles, row of the grid by row of the grid.
 #[tactic(auto, using(crate::proofs::Pieces::joined), unfolding(place_search::specs::Places::gathered_below))]
-pub(crate) fn append_tiles<D: Device>(
-    text: &mut Vec<u8>,
-    image: &Image<D>,
-) -> Result<(), AllocError>
-    requires { image.now.device ≡ D.NAME }
-    ensures { OnOk result (text.new.items ≡ text.old.items ++ text_of (all_tile_lines image.now)) }
+pub(crate) fn append_tiles(text: &mut Vec<u8>, image: &AnyImage) -> Result<(), AllocError>
+    requires { (configuration_of image.now).device ≡ device_of image.now }
+    ensures { OnOk result (text.new.items ≡ text.old.items ++ text_of (all_tile_lines (configuration_of image.now))) }
 {
-    for y in 0..D::GRID_H {
+    for y in 0..image.device().rows() {
         append_grid_row(text, image, y as u8)?;
     }
     Ok(())
@@ -32,27 +29,22 @@ pub(crate) fn append_tiles<D: Device>(
 
 /// Appends the tiles of a row of the grid.
 #[tactic(auto, using(crate::proofs::Pieces::joined), unfolding(place_search::specs::Places::gathered_below))]
-fn append_grid_row<D: Device>(text: &mut Vec<u8>, image: &Image<D>, y: u8) -> Result<(), AllocError>
-    requires { image.now.device ≡ D.NAME }
-    ensures { OnOk result (text.new.items ≡ text.old.items ++ text_of (gathered_below (grid_width image.now.device) (λ x. lines_of_tile_at image.now x y (kind_of image.now.device x y)))) }
+fn append_grid_row(text: &mut Vec<u8>, image: &AnyImage, y: u8) -> Result<(), AllocError>
+    requires { (configuration_of image.now).device ≡ device_of image.now }
+    ensures { OnOk result (text.new.items ≡ text.old.items ++ text_of (gathered_below (grid_width (configuration_of image.now).device) (λ x. lines_of_tile_at (configuration_of image.now) x y (kind_of (configuration_of image.now).device x y)))) }
 {
-    for x in 0..D::GRID_W {
+    for x in 0..image.device().columns() {
         append_place(text, image, x as u8, y)?;
     }
     Ok(())
 }
 
 /// Appends the tile at a place of the grid, and behind a lower tile its RAM's contents.
-fn append_place<D: Device>(
-    text: &mut Vec<u8>,
-    image: &Image<D>,
-    x: u8,
-    y: u8,
-) -> Result<(), AllocError>
-    requires { image.now.device ≡ D.NAME }
-    ensures { OnOk result (text.new.items ≡ text.old.items ++ text_of (lines_of_tile_at image.now x y (kind_of image.now.device x y))) }
+fn append_place(text: &mut Vec<u8>, image: &AnyImage, x: u8, y: u8) -> Result<(), AllocError>
+    requires { (configuration_of image.now).device ≡ device_of image.now }
+    ensures { OnOk result (text.new.items ≡ text.old.items ++ text_of (lines_of_tile_at (configuration_of image.now) x y (kind_of (configuration_of image.now).device x y))) }
 {
-    match kind_at::<D>(u32::from(x), u32::from(y)) {
+    match kind_on(image.device(), u32::from(x), u32::from(y)) {
         None => Ok(()),
         Some(TileKind::RamB) => {
             append_tile(text, image, TileKind::RamB, x, y)?;
@@ -75,15 +67,16 @@ fn tile_keyword(kind: TileKind) -> &'static [u8]
 }
 
 /// Appends a tile's statement and its sixteen rows.
-fn append_tile<D: Device>(
+fn append_tile(
     text: &mut Vec<u8>,
-    image: &Image<D>,
+    image: &AnyImage,
     kind: TileKind,
     x: u8,
     y: u8,
 ) -> Result<(), AllocError>
-    requires { kind_of D.NAME x y ≡ Some kind }
-    ensures { OnOk result (text.new.items ≡ text.old.items ++ text_of (tile_lines D.NAME image.now.cram x y kind)) }
+    requires device { (configuration_of image.now).device ≡ device_of image.now }
+    requires there { kind_of (device_of image.now) x y ≡ Some kind }
+    ensures { OnOk result (text.new.items ≡ text.old.items ++ text_of (tile_lines (configuration_of image.now) x y kind)) }
 {
     append_grid_line(text, tile_keyword(kind), x, y)?;
     let width = tile_width(kind) as u8;
@@ -94,20 +87,21 @@ fn append_tile<D: Device>(
 }
 
 /// Appends a row of a tile, column 0 first.
-fn append_row<D: Device>(
+fn append_row(
     text: &mut Vec<u8>,
-    image: &Image<D>,
+    image: &AnyImage,
     x: u8,
     y: u8,
     row: u8,
     width: u8,
 ) -> Result<(), AllocError>
     requires row { row < 16 }
-    requires width { columns_at D.NAME x y ≡ width }
-    ensures { OnOk result (text.new.items ≡ text.old.items ++ text_of (row_line (row_from width (λ col. place_bit image.now.cram (tile_place D.NAME x y row col))) ∷ [])) }
+    requires width { columns_at (configuration_of image.now).device x y ≡ width }
+    ensures { OnOk result (text.new.items ≡ text.old.items ++ text_of (row_line (row_from width (tile_bit_of (configuration_of image.now) x y row)) ∷ [])) }
 {
+    let bits = image.tile_row(x, y, row);
     for col in 0..width {
-        text.push(bit_character(image.tile_bit(TileBit { x, y, row, col })))?;
+        text.push(bit_character(bits >> col & 1 == 1))?;
     }
     end_line(text)
 }
@@ -121,14 +115,9 @@ fn bit_character(bit: bool) -> u8
 
 /// Appends the contents of the RAM whose lower tile is at a place.
 #[tactic(auto, using(crate::proofs::Pieces::joined), unfolding(place_search::specs::Places::gathered_below))]
-fn append_ram<D: Device>(
-    text: &mut Vec<u8>,
-    image: &Image<D>,
-    x: u8,
-    y: u8,
-) -> Result<(), AllocError>
-    requires { kind_of D.NAME x y ≡ Some TileKind.RamB }
-    ensures { OnOk result (text.new.items ≡ text.old.items ++ text_of (ram_lines D.NAME image.now.bram x y)) }
+fn append_ram(text: &mut Vec<u8>, image: &AnyImage, x: u8, y: u8) -> Result<(), AllocError>
+    requires { kind_of (device_of image.now) x y ≡ Some TileKind.RamB }
+    ensures { OnOk result (text.new.items ≡ text.old.items ++ text_of (ram_lines (configuration_of image.now) x y)) }
 {
     append_grid_line(text, b".ram_data", x, y)?;
     for row in 0..16 {
@@ -138,16 +127,16 @@ fn append_ram<D: Device>(
 }
 
 /// Appends sixteen words of a RAM, the first of them at the right.
-fn append_memory_line<D: Device>(
+fn append_memory_line(
     text: &mut Vec<u8>,
-    image: &Image<D>,
+    image: &AnyImage,
     x: u8,
     y: u8,
     row: u8,
 ) -> Result<(), AllocError>
     requires row { row < 16 }
-    requires lower { kind_of D.NAME x y ≡ Some TileKind.RamB }
-    ensures { OnOk result (text.new.items ≡ text.old.items ++ text_of (memory_line D.NAME image.now.bram x y row ∷ [])) }
+    requires lower { kind_of (device_of image.now) x y ≡ Some TileKind.RamB }
+    ensures { OnOk result (text.new.items ≡ text.old.items ++ text_of (memory_line (configuration_of image.now) x y row ∷ [])) }
 {
     for index in 0..16 {
         append_digits(text, image.ram_word(x, y, 16 * row + 15 - index))?;

@@ -10,25 +10,14 @@ ghost use Rattle.asc_text.specs.Meaning.{AscMeans};
 use crate::writing::extras::append_extra_bits;
 use crate::writing::lines::{append_line, append_setting};
 use crate::writing::tiles::append_tiles;
-use ice_image::{AnyImage, Comment, Image, Range};
-use plane_map::{Device, DeviceName};
+use ice_image::{AnyImage, Comment, Range};
+use plane_map::DeviceName;
 use std::alloc::{AllocError, Global};
 
 /// The canonical text of an image; `read` gives that image back, and no names.
 pub fn write(alloc: Global, image: &AnyImage) -> Result<Vec<u8>, AllocError>
     ensures text { IfOk result (λ text. text.items ≡ asc_text_of (configuration_of image.now)) }
     ensures means { IfOk result (λ text. AscMeans text.items (configuration_of image.now) []) }
-{
-    match image {
-        AnyImage::K1(image) => text_of_image(alloc, image),
-        AnyImage::K8(image) => text_of_image(alloc, image),
-    }
-}
-
-/// The canonical text of an image of a device.
-fn text_of_image<D: Device>(alloc: Global, image: &Image<D>) -> Result<Vec<u8>, AllocError>
-    ensures text { IfOk result (λ text. text.items ≡ asc_text_of image.now) }
-    ensures means { IfOk result (λ text. AscMeans text.items image.now []) }
 {
     let device = image.device();
     let mut text = Vec::with_capacity(alloc, usual_len(device))?;

@@ -3,10 +3,13 @@ use Rattle.std.specs.Prelude.{◌≡◌, ℕ, ◌+◌, ◌*◌, ◌/◌, ◌%◌
 use Rattle.place_search.specs.Places.{or_else}
 use Rattle.bit_plane.specs.BitList.{bits_of}
 use Rattle.plane_map.specs.declared.device.DeviceName.{DeviceName}
+use Rattle.ice_image.specs.declared.planes.PlaneKind.{PlaneKind}
+use Rattle.ice_image.specs.declared.planes.PlaneKind.TheVariants.{Cram, Bram}
 use Rattle.bin_stream.specs.CheckValue.{check_value}
 use Rattle.bin_stream.specs.inside.Register.{entered_all}
-use Rattle.bin_stream.specs.Commands.{Kind, Command, Cram, Bram, control_opcode, bank_opcode, range_opcode, width_opcode, height_opcode, offset_opcode, mode_opcode, reset_number}
-use Rattle.bin_stream.specs.State.{bank_after, range_after, height_after, first_row_after, mode_after, width_after, plane_width, plane_height, device_with, covered}
+use Rattle.bin_stream.specs.Commands.{Command, control_opcode, bank_opcode, range_opcode, width_opcode, height_opcode, offset_opcode, mode_opcode, reset_number}
+use Rattle.ice_image.specs.Planes.{plane_width, plane_height}
+use Rattle.bin_stream.specs.State.{bank_after, range_after, height_after, first_row_after, mode_after, width_after, device_with, covered}
 use Rattle.ice_image.specs.declared.settings.Settings.{Settings}
 use Rattle.bin_stream.specs.Meaning.{settings_from}
 use Rattle.bin_stream.specs.Refusals.{width_cause, height_cause, ends_plane, reached_in, short_cause_where}
@@ -81,24 +84,24 @@ after_short held opcode n =
 -- ---- data
 
 -- what is wrong with data where a device is fixed, or none is
-abbrev pub data_cause_by : Held → Option DeviceName → Kind → Option BinCause
+abbrev pub data_cause_by : Held → Option DeviceName → PlaneKind → Option BinCause
 data_cause_by held fixed kind =
     let device = or_else fixed (device_with kind held.width) in
     or_else (width_cause kind device held.width) (height_cause kind device held.first_row held.height held.width)
 
 -- whether data give the last row of a configuration plane
-abbrev pub gives_last_by : Held → Kind → Bool
+abbrev pub gives_last_by : Held → PlaneKind → Bool
 gives_last_by held Cram = ends_plane (device_with Cram held.width) (held.first_row + held.height)
 gives_last_by held Bram = false
 
 -- data that a device's plane has room for
-pub record Fits (device : DeviceName) (kind : Kind) (held : Held) : Type 0 where
+pub record Fits (device : DeviceName) (kind : PlaneKind) (held : Held) : Type 0 where
   pub columns : held.width ≡ plane_width kind device
   pub rows : held.first_row + held.height ≤ plane_height kind device
   pub whole : held.width * held.height % 8 ≡ 0
 
 -- what is kept behind data, which are spelled by these bytes
-abbrev pub after_data : Held → Kind → List ℕ → Held
+abbrev pub after_data : Held → PlaneKind → List ℕ → Held
 after_data held kind bytes = record held {
   check = entered_all held.check (bits_of bytes);
   reached = held.reached || gives_last_by held kind;

@@ -1,14 +1,17 @@
 -- What a step of a decoder does.
 use Rattle.std.specs.Prelude.{◌≡◌, ℕ, ◌+◌, ◌%◌, ◌<◌, Bool, true, false, List, [], ◌∷◌, ◌++◌, length, drop, nat_lt, if◌then◌else◌, Option, Some, None}
 use Rattle.place_search.specs.Places.{or_else}
-use Rattle.bit_plane.specs.BitList.{bits_of, placed}
-use Rattle.bit_plane.specs.Rows.{Rows, rows_of}
+use Rattle.bit_plane.specs.BitList.{bits_of}
+use Rattle.bit_plane.specs.Rows.{rows_of}
 use Rattle.plane_map.specs.declared.device.DeviceName.{DeviceName}
 use Rattle.plane_map.specs.declared.tile.Place.{Place}
-use Rattle.ice_image.specs.Configuration.{Configuration, bank_rows, with_bank, blank_image}
+use Rattle.ice_image.specs.Configuration.{Configuration, blank_image}
+use Rattle.ice_image.specs.Planes.{with_rows}
 use Rattle.ice_image.specs.Either.{configuration_of, device_of}
 use Rattle.ice_image.specs.declared.any.AnyImage.{AnyImage}
-use Rattle.bin_stream.specs.Commands.{Kind, Command, Cram, Bram, spelling, is_wake_up}
+use Rattle.ice_image.specs.declared.planes.PlaneKind.{PlaneKind}
+use Rattle.ice_image.specs.declared.planes.PlaneKind.TheVariants.{Cram, Bram}
+use Rattle.bin_stream.specs.Commands.{Command, spelling, is_wake_up}
 use Rattle.bin_stream.specs.State.{device_with, device_after}
 use Rattle.bin_stream.specs.Refusals.{Fault, fault_at, fault_where, body_fault, first_fault, reached_in}
 use Rattle.bin_stream.specs.Meaning.{plane_bit, planes_of}
@@ -38,7 +41,7 @@ payload_refusal offset (head ∷ rest) =
     else None
 
 -- what is wrong with data at an offset, whose bytes begin at another
-abbrev pub data_refusal : Held → Option DeviceName → Kind → ℕ → ℕ → List ℕ → Option Fault
+abbrev pub data_refusal : Held → Option DeviceName → PlaneKind → ℕ → ℕ → List ℕ → Option Fault
 data_refusal held fixed kind offset start bytes =
     or_else (fault_where offset (data_cause_by held fixed kind)) (body_fault (size_by held) start bytes)
 
@@ -54,13 +57,8 @@ abbrev pub image_or_blank : DeviceName → Option AnyImage → Configuration
 image_or_blank device None = blank_image device
 image_or_blank device (Some image) = configuration_of image
 
--- an image with other rows in a bank's plane, from one row on
-abbrev pub with_rows : Kind → ℕ → ℕ → Rows → Configuration → Configuration
-with_rows Cram bank first rows image = record image { cram = with_bank image.cram bank (placed first rows (bank_rows image.cram bank)) }
-with_rows Bram bank first rows image = record image { bram = with_bank image.bram bank (placed first rows (bank_rows image.bram bank)) }
-
 -- data were written into the image so far, or into one without a bit
-pub record IsDrawnOn (kind : Kind) (held : Held) (body : List ℕ) (before after : Option AnyImage) : Type 0 where
+pub record IsDrawnOn (kind : PlaneKind) (held : Held) (body : List ℕ) (before after : Option AnyImage) : Type 0 where
   pub device : DeviceName
   pub image : AnyImage
   pub device_is : or_else (device_if before) (device_with kind held.width) ≡ Some device
@@ -82,7 +80,7 @@ pub record IsDrawn (commands : List Command) (image : AnyImage) : Type 0 where
 pub record IsBlank (commands : List Command) : Type 0 where
   pub no_device : device_after commands ≡ None
   pub not_reached : reached_in commands ≡ false
-  pub no_bit : (kind : Kind) (at : Place) → plane_bit kind commands at ≡ false
+  pub no_bit : (kind : PlaneKind) (at : Place) → plane_bit kind commands at ≡ false
 
 abbrev pub Holds : List Command → Option AnyImage → Type 0
 Holds commands None = IsBlank commands

@@ -1,26 +1,20 @@
 // Taking the commands of a bitstream, one after the other.
 ghost use Rattle.std.specs.Prelude.{List, ◌≡◌, ◌+◌, ◌*◌, ◌/◌, ◌%◌, ◌<◌, ◌≤◌, ◌^◌, ◌==◌, ◌&&◌, None, Some, IfOk, IfErr, length, take, drop, get_or};
 ghost use Rattle.place_search.specs.Places.{or_else};
-ghost use Rattle.bit_plane.specs.BitList.{bits_of};
-ghost use Rattle.bit_plane.specs.Rows.{rows_of};
-ghost use Rattle.plane_map.specs.Layout.{cram_width, cram_height, bram_width, bram_height};
-ghost use Rattle.ice_image.specs.Either.{configuration_of, device_of};
-ghost use Rattle.bin_stream.specs.Commands.{Command, Cram, Bram, control_opcode, wake_up_number};
-ghost use Rattle.bin_stream.specs.State.{plane_width, plane_height, device_with};
+ghost use Rattle.bin_stream.specs.Commands.{Command, control_opcode, wake_up_number};
+ghost use Rattle.bin_stream.specs.State.{device_with};
 ghost use Rattle.bin_stream.specs.Refusals.{first_fault};
-ghost use Rattle.bin_stream.specs.inside.DataKinds.{kind_of};
 ghost use Rattle.bin_stream.specs.inside.Registers.{Fits, size_by, after_data};
-ghost use Rattle.bin_stream.specs.inside.Step.{Refuses, data_refusal, device_if, with_rows, IsDrawnOn, Stands, IsEntered};
+ghost use Rattle.bin_stream.specs.inside.Step.{Refuses, data_refusal, device_if, IsDrawnOn, Stands, IsEntered};
 
-use super::data_kind::{DataKind, data_kind};
+use super::data_kind::data_kind;
 use super::head::{body_of, fault_at, number_of, payload_of};
 use super::registers::Registers;
 use crate::fault::{BinCause, BinFault};
 use crate::marks::DATA_END;
 use crate::opcode::{CONTROL, WAKE_UP};
-use bit_plane::Bits;
-use ice_image::{AnyImage, Image};
-use plane_map::{Device, DeviceName};
+use ice_image::{AnyImage, PlaneKind};
+use plane_map::DeviceName;
 use std::alloc::{AllocError, Global};
 
 /// A command that was taken.
@@ -80,7 +74,7 @@ impl Machine {
     fn enter_data(
         &mut self,
         alloc: Global,
-        kind: DataKind,
+        kind: PlaneKind,
         offset: usize,
         start: usize,
         bytes: &[u8],
@@ -89,10 +83,10 @@ impl Machine {
         requires offset { offset + length bytes.now < 2 ^ 64 }
         ensures size { IfOk result (λ size. size ≡ start + size_by self.old.registers + 2) }
         ensures within { IfOk result (λ size. size ≤ length bytes.now) }
-        ensures registers { IfOk result (λ size. self.new.registers ≡ after_data self.old.registers (kind_of kind) (take size bytes.now)) }
-        ensures drawn { IfOk result (λ size. IsDrawnOn (kind_of kind) self.old.registers (take (size_by self.old.registers) (drop start bytes.now)) self.old.image self.new.image) }
-        ensures allowed { IfOk result (λ size. data_refusal self.old.registers (device_if self.old.image) (kind_of kind) offset (offset + start) (drop start bytes.now) ≡ None) }
-        ensures refused { IfErr result (Refuses (data_refusal self.old.registers (device_if self.old.image) (kind_of kind) offset (offset + start) (drop start bytes.now))) }
+        ensures registers { IfOk result (λ size. self.new.registers ≡ after_data self.old.registers kind (take size bytes.now)) }
+        ensures drawn { IfOk result (λ size. IsDrawnOn kind self.old.registers (take (size_by self.old.registers) (drop start bytes.now)) self.old.image self.new.image) }
+        ensures allowed { IfOk result (λ size. data_refusal self.old.registers (device_if self.old.image) kind offset (offset + start) (drop start bytes.now) ≡ None) }
+        ensures refused { IfErr result (Refuses (data_refusal self.old.registers (device_if self.old.image) kind offset (offset + start) (drop start bytes.now))) }
     {
         match self.registers.device_for(kind, self.device()) {
             Err(cause) => Err(fault_at(offset, cause)),
@@ -122,14 +116,14 @@ impl Machine {
         &mut self,
         alloc: Global,
         device: DeviceName,
-        kind: DataKind,
+        kind: PlaneKind,
         body: &[u8],
     ) -> Result<(), AllocError>
-        requires device { or_else (device_if self.old.image) (device_with (kind_of kind) self.old.registers.width) ≡ Some device }
-        requires fits { Fits device (kind_of kind) self.old.registers }
+        requires device { or_else (device_if self.old.image) (device_with kind self.old.registers.width) ≡ Some device }
+        requires fits { Fits device kind self.old.registers }
         requires size { length body.now ≡ size_by self.old.registers }
         ensures registers { self.new.registers ≡ self.old.registers }
-        ensures drawn { IfOk result (λ _. IsDrawnOn (kind_of kind) self.old.registers body.now self.old.image self.new.image) }
+        ensures drawn { IfOk result (λ _. IsDrawnOn kind self.old.registers body.now self.old.image self.new.image) }
     {
         let bank = self.registers.bank();
         let first = self.registers.first_row();
@@ -138,7 +132,7 @@ impl Machine {
             Some(image) => image,
             None => AnyImage::zeroed(alloc, device)?,
         };
-        set_rows(&mut image, kind, bank, first, count, body);
+        image.set_rows(kind, bank, first, count, body);
         self.image = Some(image);
         Ok(())
     }
@@ -149,79 +143,4 @@ fn is_wake_up(opcode: u8, number: u32) -> bool
     ensures { result ≡ ((opcode == control_opcode) && (number == wake_up_number)) }
 {
     opcode == CONTROL && number == u32::from(WAKE_UP)
-}
-
-/// Sets `count` whole rows of a bank's plane, from row `first` on, to the bits of bytes.
-fn set_rows(
-    image: &mut AnyImage,
-    kind: DataKind,
-    bank: usize,
-    first: usize,
-    count: usize,
-    bytes: &[u8],
-)
-    requires bank { bank < 4 }
-    requires rows { first + count ≤ plane_height (kind_of kind) (device_of image.old) }
-    requires bytes { 8 * length bytes.now ≡ count * plane_width (kind_of kind) (device_of image.old) }
-    ensures device { device_of image.new ≡ device_of image.old }
-    ensures rows { configuration_of image.new ≡ with_rows (kind_of kind) bank first (rows_of (plane_width (kind_of kind) (device_of image.old)) count (bits_of bytes.now)) (configuration_of image.old) }
-{
-    match image {
-        AnyImage::K1(image) => set_plane_rows(image, kind, bank, first, count, bytes),
-        AnyImage::K8(image) => set_plane_rows(image, kind, bank, first, count, bytes),
-    }
-}
-
-/// Sets `count` whole rows of a bank's plane on a device that is known, from row `first` on, to the bits of bytes.
-fn set_plane_rows<D: Device>(
-    image: &mut Image<D>,
-    kind: DataKind,
-    bank: usize,
-    first: usize,
-    count: usize,
-    bytes: &[u8],
-)
-    requires bank { bank < 4 }
-    requires rows { first + count ≤ plane_height (kind_of kind) D.NAME }
-    requires bytes { 8 * length bytes.now ≡ count * plane_width (kind_of kind) D.NAME }
-    ensures { image.new ≡ with_rows (kind_of kind) bank first (rows_of (plane_width (kind_of kind) D.NAME) count (bits_of bytes.now)) image.old }
-{
-    match kind {
-        DataKind::Cram => set_cram_rows(image, bank, first, count, bytes),
-        DataKind::Bram => set_bram_rows(image, bank, first, count, bytes),
-    }
-}
-
-/// Sets `count` whole rows of a bank's configuration plane, from row `first` on, to the bits of bytes.
-fn set_cram_rows<D: Device>(
-    image: &mut Image<D>,
-    bank: usize,
-    first: usize,
-    count: usize,
-    bytes: &[u8],
-)
-    requires bank { bank < 4 }
-    requires rows { first + count ≤ cram_height D.NAME }
-    requires bytes { 8 * length bytes.now ≡ count * cram_width D.NAME }
-    ensures { image.new ≡ with_rows Cram bank first (rows_of (cram_width D.NAME) count (bits_of bytes.now)) image.old }
-{
-    let plane = image.cram_mut(bank);
-    plane.put_bytes(first, count, bytes);
-}
-
-/// Sets `count` whole rows of a bank's RAM plane, from row `first` on, to the bits of bytes.
-fn set_bram_rows<D: Device>(
-    image: &mut Image<D>,
-    bank: usize,
-    first: usize,
-    count: usize,
-    bytes: &[u8],
-)
-    requires bank { bank < 4 }
-    requires rows { first + count ≤ bram_height D.NAME }
-    requires bytes { 8 * length bytes.now ≡ count * bram_width D.NAME }
-    ensures { image.new ≡ with_rows Bram bank first (rows_of (bram_width D.NAME) count (bits_of bytes.now)) image.old }
-{
-    let plane = image.bram_mut(bank);
-    plane.put_bytes(first, count, bytes);
 }

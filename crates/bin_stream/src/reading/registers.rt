@@ -4,18 +4,17 @@ ghost use Rattle.place_search.specs.Places.{or_else};
 ghost use Rattle.plane_map.specs.declared.device.DeviceName.{DeviceName as Name};
 ghost use Rattle.bin_stream.specs.Refusals.{cause_if, is_mode, is_bad_height, control_cause, check_cause};
 ghost use Rattle.bin_stream.specs.State.{device_with};
-ghost use Rattle.bin_stream.specs.inside.DataKinds.{kind_of};
 ghost use Rattle.bin_stream.specs.Meaning.{range_of};
 ghost use Rattle.bin_stream.specs.inside.Registers.{held_first, refusal_of, short_cause_by, checked, after_control, after_short, data_cause_by, gives_last_by, Fits, after_data, settings_by, size_by};
 ghost use Rattle.bin_stream.specs.declared.fault.BinCause.TheVariants.{BadBank, BadRange, BadMode};
 
-use super::data_kind::{DataKind, device_with, plane_height, plane_width};
+use super::data_kind::device_with;
 use crate::check_value::{START, enter_bytes};
 use crate::fault::BinCause;
 use crate::opcode::{
     BANK, BOOT_ADDRESS, CHECK, CONTROL, HEIGHT, MODE, OFFSET, RANGE, RESET, WAKE_UP, WIDTH,
 };
-use ice_image::{Range, Settings};
+use ice_image::{PlaneKind, Range, Settings};
 use plane_map::DeviceName;
 use std::marker::Model;
 
@@ -231,17 +230,17 @@ impl Registers {
     /// The device of the next data: the one of earlier data, else that of their width.
     pub(crate) fn device_for(
         &self,
-        kind: DataKind,
+        kind: PlaneKind,
         fixed: Option<DeviceName>,
     ) -> Result<DeviceName, BinCause>
-        ensures allowed { refusal_of result ≡ data_cause_by self.now fixed (kind_of kind) }
-        ensures device { IfOk result (λ device. or_else fixed (device_with (kind_of kind) self.now.width) ≡ Some device) }
-        ensures fits { IfOk result (λ device. Fits device (kind_of kind) self.now) }
+        ensures allowed { refusal_of result ≡ data_cause_by self.now fixed kind }
+        ensures device { IfOk result (λ device. or_else fixed (device_with kind self.now.width) ≡ Some device) }
+        ensures fits { IfOk result (λ device. Fits device kind self.now) }
     {
         match fixed.or(device_with(kind, self.width)) {
             None => Err(BinCause::BadWidth),
             Some(device) => {
-                if self.width != plane_width(kind, device) {
+                if self.width != kind.columns(device) {
                     Err(BinCause::BadWidth)
                 } else if self.has_bad_height(kind, device) {
                     Err(BinCause::BadHeight)
@@ -253,33 +252,32 @@ impl Registers {
     }
 
     /// Whether the next data have no row, rows past the plane's last, or a part of a byte at the end.
-    fn has_bad_height(&self, kind: DataKind, device: DeviceName) -> bool
-        ensures { result ≡ is_bad_height (kind_of kind) device self.now.first_row self.now.height self.now.width }
+    fn has_bad_height(&self, kind: PlaneKind, device: DeviceName) -> bool
+        ensures { result ≡ is_bad_height kind device self.now.first_row self.now.height self.now.width }
     {
         self.height == 0
-            || plane_height(kind, device) < self.first_row + self.height
+            || kind.rows(device) < self.first_row + self.height
             || self.width * self.height % 8 != 0
     }
 
     /// Takes data by all their bytes, from the first byte of the command to the last of the two 00 behind the rows.
-    pub(crate) fn enter_data(&mut self, kind: DataKind, command: &[u8])
-        ensures { self.new ≡ after_data self.old (kind_of kind) command.now }
+    pub(crate) fn enter_data(&mut self, kind: PlaneKind, command: &[u8])
+        ensures { self.new ≡ after_data self.old kind command.now }
     {
         self.check = enter_bytes(self.check, command);
         self.reached = self.reached || self.gives_last_row(kind);
     }
 
     /// Whether the next data reach the last row of a configuration plane.
-    fn gives_last_row(&self, kind: DataKind) -> bool
-        ensures { result ≡ gives_last_by self.now (kind_of kind) }
+    fn gives_last_row(&self, kind: PlaneKind) -> bool
+        ensures { result ≡ gives_last_by self.now kind }
     {
         match kind {
-            DataKind::Cram => match device_with(kind, self.width) {
-                Some(device) => self.first_row + self.height
-                    == plane_height(DataKind::Cram, device),
+            PlaneKind::Cram => match device_with(kind, self.width) {
+                Some(device) => self.first_row + self.height == kind.rows(device),
                 None => false,
             },
-            DataKind::Bram => false,
+            PlaneKind::Bram => false,
         }
     }
 }

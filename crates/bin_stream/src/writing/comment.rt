@@ -1,20 +1,17 @@
 // Writing the comment of an image.
 ghost use Rattle.std.specs.Prelude.{◌≡◌, ◌++◌, ◌∷◌, [], OnOk, IfSome, All, flat_map};
 ghost use Rattle.ice_image.specs.CommentLines.{IsCommentLine};
+ghost use Rattle.ice_image.specs.Either.{configuration_of};
 ghost use Rattle.bin_stream.specs.CanonicalBytes.{comment_bytes};
 
 use crate::marks::{COMMENT_END, COMMENT_START};
-use ice_image::{Comment, Image};
-use plane_map::Device;
+use ice_image::{AnyImage, Comment};
 use std::alloc::AllocError;
 
 /// Appends the comment of an image, where there is one.
-pub(crate) fn append_comment<D: Device>(
-    out: &mut Vec<u8>,
-    image: &Image<D>,
-) -> Result<(), AllocError>
-    ensures bytes { OnOk result (out.new.items ≡ out.old.items ++ comment_bytes image.now.comment) }
-    ensures lines { OnOk result (IfSome image.now.comment (All IsCommentLine)) }
+pub(crate) fn append_comment(out: &mut Vec<u8>, image: &AnyImage) -> Result<(), AllocError>
+    ensures bytes { OnOk result (out.new.items ≡ out.old.items ++ comment_bytes (configuration_of image.now).comment) }
+    ensures lines { OnOk result (IfSome (configuration_of image.now).comment (All IsCommentLine)) }
 {
     match image.comment() {
         Some(comment) => {

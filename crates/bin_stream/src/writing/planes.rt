@@ -1,14 +1,14 @@
 // Writing the planes of an image.
 ghost use Rattle.std.specs.Prelude.{◌≡◌, ◌+◌, ◌*◌, ◌%◌, ◌<◌, ◌≤◌, ◌^◌, ◌++◌, ◌∷◌, [], take, drop, OnOk, flat_map};
-ghost use Rattle.bin_stream.specs.Commands.{Short, spelling, control_opcode};
-ghost use Rattle.bin_stream.specs.CanonicalBytes.{row_bytes, cram_bytes, bram_bytes, cram_bank, bram_half, bram_bank, four_banks};
+ghost use Rattle.ice_image.specs.Either.{configuration_of, device_of};
+ghost use Rattle.ice_image.specs.Planes.{plane_width, plane_height, rows_of_bank};
+ghost use Rattle.bin_stream.specs.Commands.{kind_number};
+ghost use Rattle.bin_stream.specs.CanonicalBytes.{row_bytes, data_command, cram_bytes, bram_bytes, cram_bank, bram_half, bram_bank, four_banks};
 
 use super::command::{append_command, append_word};
 use crate::marks::DATA_END;
 use crate::opcode::{BANK, BRAM_DATA, CONTROL, CRAM_DATA, HEIGHT, OFFSET, WIDTH};
-use bit_plane::Bits;
-use ice_image::Image;
-use plane_map::Device;
+use ice_image::{AnyImage, PlaneKind};
 use std::alloc::AllocError;
 
 /// How many rows a half of a RAM plane has.
@@ -16,18 +16,19 @@ const HALF: usize = 128;
 
 /// Appends the configuration planes, with their size.
 #[tactic(auto, unfolding(crate::specs::CanonicalBytes::cram_bytes))]
-pub(crate) fn append_cram<D: Device>(out: &mut Vec<u8>, image: &Image<D>) -> Result<(), AllocError>
-    ensures { OnOk result (out.new.items ≡ out.old.items ++ cram_bytes D.NAME image.now.cram) }
+pub(crate) fn append_cram(out: &mut Vec<u8>, image: &AnyImage) -> Result<(), AllocError>
+    ensures { OnOk result (out.new.items ≡ out.old.items ++ cram_bytes (configuration_of image.now).device (configuration_of image.now).cram) }
 {
-    append_word(out, WIDTH, (D::Cram::WIDTH - 1) as u16)?;
-    append_word(out, HEIGHT, D::Cram::HEIGHT as u16)?;
+    let device = image.device();
+    append_word(out, WIDTH, (PlaneKind::Cram.columns(device) - 1) as u16)?;
+    append_word(out, HEIGHT, PlaneKind::Cram.rows(device) as u16)?;
     append_word(out, OFFSET, 0)?;
     append_cram_banks(out, image)
 }
 
 /// Appends the configuration planes of the four banks.
-fn append_cram_banks<D: Device>(out: &mut Vec<u8>, image: &Image<D>) -> Result<(), AllocError>
-    ensures { OnOk result (out.new.items ≡ out.old.items ++ flat_map (cram_bank image.now.cram) four_banks) }
+fn append_cram_banks(out: &mut Vec<u8>, image: &AnyImage) -> Result<(), AllocError>
+    ensures { OnOk result (out.new.items ≡ out.old.items ++ flat_map (cram_bank (configuration_of image.now).cram) four_banks) }
 {
     append_cram_bank(out, image, 0)?;
     append_cram_bank(out, image, 1)?;
@@ -36,32 +37,29 @@ fn append_cram_banks<D: Device>(out: &mut Vec<u8>, image: &Image<D>) -> Result<(
 }
 
 /// Appends a bank's configuration plane as one command.
-fn append_cram_bank<D: Device>(
-    out: &mut Vec<u8>,
-    image: &Image<D>,
-    bank: u8,
-) -> Result<(), AllocError>
+fn append_cram_bank(out: &mut Vec<u8>, image: &AnyImage, bank: u8) -> Result<(), AllocError>
     requires { bank < 4 }
-    ensures { OnOk result (out.new.items ≡ out.old.items ++ cram_bank image.now.cram bank) }
+    ensures { OnOk result (out.new.items ≡ out.old.items ++ cram_bank (configuration_of image.now).cram bank) }
 {
     append_command(out, BANK, &[bank])?;
-    let plane = image.cram(usize::from(bank));
-    append_data(out, CRAM_DATA, plane, 0, D::Cram::HEIGHT)
+    let rows = PlaneKind::Cram.rows(image.device());
+    append_data(out, image, PlaneKind::Cram, bank, 0, rows)
 }
 
 /// Appends the RAM planes, with the size of their halves.
 #[tactic(auto, unfolding(crate::specs::CanonicalBytes::bram_bytes))]
-pub(crate) fn append_bram<D: Device>(out: &mut Vec<u8>, image: &Image<D>) -> Result<(), AllocError>
-    ensures { OnOk result (out.new.items ≡ out.old.items ++ bram_bytes D.NAME image.now.bram) }
+pub(crate) fn append_bram(out: &mut Vec<u8>, image: &AnyImage) -> Result<(), AllocError>
+    ensures { OnOk result (out.new.items ≡ out.old.items ++ bram_bytes (configuration_of image.now).device (configuration_of image.now).bram) }
 {
-    append_word(out, WIDTH, (D::Bram::WIDTH - 1) as u16)?;
+    let device = image.device();
+    append_word(out, WIDTH, (PlaneKind::Bram.columns(device) - 1) as u16)?;
     append_word(out, HEIGHT, HALF as u16)?;
     append_bram_banks(out, image)
 }
 
 /// Appends the RAM planes of the four banks.
-fn append_bram_banks<D: Device>(out: &mut Vec<u8>, image: &Image<D>) -> Result<(), AllocError>
-    ensures { OnOk result (out.new.items ≡ out.old.items ++ flat_map (bram_bank image.now.bram) four_banks) }
+fn append_bram_banks(out: &mut Vec<u8>, image: &AnyImage) -> Result<(), AllocError>
+    ensures { OnOk result (out.new.items ≡ out.old.items ++ flat_map (bram_bank (configuration_of image.now).bram) four_banks) }
 {
     append_bram_bank(out, image, 0)?;
     append_bram_bank(out, image, 1)?;
@@ -70,13 +68,9 @@ fn append_bram_banks<D: Device>(out: &mut Vec<u8>, image: &Image<D>) -> Result<(
 }
 
 /// Appends a bank's RAM plane, in two halves.
-fn append_bram_bank<D: Device>(
-    out: &mut Vec<u8>,
-    image: &Image<D>,
-    bank: u8,
-) -> Result<(), AllocError>
+fn append_bram_bank(out: &mut Vec<u8>, image: &AnyImage, bank: u8) -> Result<(), AllocError>
     requires { bank < 4 }
-    ensures { OnOk result (out.new.items ≡ out.old.items ++ bram_bank image.now.bram bank) }
+    ensures { OnOk result (out.new.items ≡ out.old.items ++ bram_bank (configuration_of image.now).bram bank) }
 {
     append_command(out, BANK, &[bank])?;
     append_bram_half(out, image, bank, 0)?;
@@ -84,54 +78,66 @@ fn append_bram_bank<D: Device>(
 }
 
 /// Appends 128 rows of a bank's RAM plane, from row `first` on.
-fn append_bram_half<D: Device>(
+fn append_bram_half(
     out: &mut Vec<u8>,
-    image: &Image<D>,
+    image: &AnyImage,
     bank: u8,
     first: usize,
 ) -> Result<(), AllocError>
     requires bank { bank < 4 }
     requires rows { first ≤ 128 }
-    ensures { OnOk result (out.new.items ≡ out.old.items ++ bram_half image.now.bram bank first) }
+    ensures { OnOk result (out.new.items ≡ out.old.items ++ bram_half (configuration_of image.now).bram bank first) }
 {
     append_word(out, OFFSET, first as u16)?;
-    let plane = image.bram(usize::from(bank));
-    append_data(out, BRAM_DATA, plane, first, HALF)
+    append_data(out, image, PlaneKind::Bram, bank, first, HALF)
 }
 
-/// Appends `count` rows of a plane, from row `first` on, as data of that kind.
-fn append_data<P: Bits>(
+/// Appends `count` rows of a bank's plane, from row `first` on, as data.
+fn append_data(
     out: &mut Vec<u8>,
-    kind: u8,
-    plane: &P,
+    image: &AnyImage,
+    kind: PlaneKind,
+    bank: u8,
     first: usize,
     count: usize,
 ) -> Result<(), AllocError>
-    requires rows { first + count ≤ P.HEIGHT }
-    requires whole { count * P.WIDTH % 8 ≡ 0 }
-    requires size { count * P.WIDTH < 2 ^ 32 }
-    ensures { OnOk result (out.new.items ≡ out.old.items
-        ++ (spelling (Short control_opcode (kind ∷ [])) ++ row_bytes (take count (drop first (P.rows plane.now))) ++ 0 ∷ 0 ∷ [])) }
+    requires bank { bank < 4 }
+    requires rows { first + count ≤ plane_height kind (device_of image.now) }
+    requires whole { count * plane_width kind (device_of image.now) % 8 ≡ 0 }
+    ensures { OnOk result (out.new.items ≡ out.old.items ++ data_command kind (take count (drop first (rows_of_bank kind bank (configuration_of image.now))))) }
 {
-    append_command(out, CONTROL, &[kind])?;
-    append_rows(out, plane, first, count)?;
+    append_command(out, CONTROL, &[data_number(kind)])?;
+    append_rows(out, image, kind, bank, first, count)?;
     out.extend_from_slice(&DATA_END)
 }
 
-/// Appends the bytes of `count` rows of a plane, from row `first` on.
-fn append_rows<P: Bits>(
+/// The payload's number that tells what data are for.
+fn data_number(kind: PlaneKind) -> u8
+    ensures { result ≡ kind_number kind }
+{
+    match kind {
+        PlaneKind::Cram => CRAM_DATA,
+        PlaneKind::Bram => BRAM_DATA,
+    }
+}
+
+/// Appends the bytes of `count` rows of a bank's plane, from row `first` on.
+fn append_rows(
     out: &mut Vec<u8>,
-    plane: &P,
+    image: &AnyImage,
+    kind: PlaneKind,
+    bank: u8,
     first: usize,
     count: usize,
 ) -> Result<(), AllocError>
-    requires rows { first + count ≤ P.HEIGHT }
-    requires whole { count * P.WIDTH % 8 ≡ 0 }
-    requires size { count * P.WIDTH < 2 ^ 32 }
-    ensures { OnOk result (out.new.items ≡ out.old.items ++ row_bytes (take count (drop first (P.rows plane.now)))) }
+    requires bank { bank < 4 }
+    requires rows { first + count ≤ plane_height kind (device_of image.now) }
+    requires whole { count * plane_width kind (device_of image.now) % 8 ≡ 0 }
+    ensures { OnOk result (out.new.items ≡ out.old.items ++ row_bytes (take count (drop first (rows_of_bank kind bank (configuration_of image.now))))) }
 {
     let start = out.len();
-    out.resize(start + count * P::WIDTH / 8, 0)?;
-    plane.take_bytes(first, count, &mut out[start..]);
+    let device = image.device();
+    out.resize(start + count * kind.columns(device) / 8, 0)?;
+    image.rows(kind, usize::from(bank), first, count, &mut out[start..]);
     Ok(())
 }

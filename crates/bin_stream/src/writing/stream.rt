@@ -12,8 +12,8 @@ use super::planes::{append_bram, append_cram};
 use crate::check_value::check_value;
 use crate::marks::PREAMBLE;
 use crate::opcode::{CHECK, CONTROL, MODE, RANGE, RESET, WAKE_UP};
-use ice_image::{AnyImage, Image, Range, Settings};
-use plane_map::{Device, DeviceName};
+use ice_image::{AnyImage, Range, Settings};
+use plane_map::DeviceName;
 use std::alloc::{AllocError, Global};
 
 /// The bit of the mode that enables a warm boot.
@@ -25,18 +25,6 @@ pub fn encode(alloc: Global, image: &AnyImage) -> Result<Vec<u8>, AllocError>
     ensures spells { IfOk result (λ bytes. Spells bytes.items (configuration_of image.now)) }
     // So `decode` gives the image back.
     ensures read { IfOk result (λ bytes. bin_read_of bytes.items ≡ Ok (configuration_of image.now)) }
-{
-    match image {
-        AnyImage::K1(image) => image_bytes(alloc, image),
-        AnyImage::K8(image) => image_bytes(alloc, image),
-    }
-}
-
-/// The canonical bytes of an image of a device.
-fn image_bytes<D: Device>(alloc: Global, image: &Image<D>) -> Result<Vec<u8>, AllocError>
-    ensures bytes { IfOk result (λ bytes. bytes.items ≡ canonical_bytes image.now) }
-    ensures spells { IfOk result (λ bytes. Spells bytes.items image.now) }
-    ensures read { IfOk result (λ bytes. bin_read_of bytes.items ≡ Ok image.now) }
 {
     let mut out = Vec::with_capacity(alloc, usual_size(image.device()))?;
     append_comment(&mut out, image)?;
@@ -72,9 +60,8 @@ fn range_number(range: Range) -> u8
 
 /// Appends what the CRC covers: all behind the reset, up to the first byte of the check command.
 #[tactic(auto, unfolding(crate::specs::CanonicalBytes::checked_bytes))]
-fn append_checked<D: Device>(out: &mut Vec<u8>, image: &Image<D>) -> Result<(), AllocError>
-    requires { image.now.device ≡ D.NAME }
-    ensures { OnOk result (out.new.items ≡ out.old.items ++ checked_bytes image.now) }
+fn append_checked(out: &mut Vec<u8>, image: &AnyImage) -> Result<(), AllocError>
+    ensures { OnOk result (out.new.items ≡ out.old.items ++ checked_bytes (configuration_of image.now)) }
 {
     append_mode(out, image.settings())?;
     append_cram(out, image)?;

@@ -2,11 +2,12 @@
 ghost use Rattle.std.specs.Prelude.{◌≡◌, ◌<◌, true, Some, None, IfOk, IfErr, OnOk};
 ghost use Rattle.plane_map.specs.Layout.{columns_of};
 ghost use Rattle.asc_text.specs.Rows.{is_row};
-ghost use Rattle.asc_text.specs.inside.Gains.{row_sets, line_sets};
-ghost use Rattle.asc_text.specs.inside.Reading.{state_of, HasKind, row_refusal, memory_refusal, TakesRow, TakesMemory, CramGains, BramGains, after_row, after_memory};
+ghost use Rattle.asc_text.specs.Meaning.{row_sets};
+ghost use Rattle.asc_text.specs.inside.Gains.{bytes_set};
+ghost use Rattle.asc_text.specs.inside.Reading.{state_of, HasKind, row_refusal, memory_refusal, TakesRow, TakesMemory, ImageGains, after_row, after_memory};
 
 use crate::fault::AscCause;
-use crate::reading::planes;
+use crate::reading::bits;
 use crate::reading::reader::{Expected, Reader};
 use crate::reading::rows::{is_row, memory_bytes};
 use ice_image::AnyImage;
@@ -66,10 +67,10 @@ fn set_row(image: &mut Option<AnyImage>, kind: TileKind, x: u8, y: u8, row: u8, 
     requires there { HasKind image.old x y kind }
     requires row { row < 16 }
     requires line { is_row (columns_of kind) line.now ≡ true }
-    ensures { CramGains image.old image.new (λ device. row_sets device x y row line.now (columns_of kind)) }
+    ensures { ImageGains image.old image.new (row_sets x y row line.now) }
 {
     match image {
-        Some(image) => planes::set_row(image, kind, x, y, row, line),
+        Some(image) => bits::set_row(image, kind, x, y, row, line),
         None => {}
     }
 }
@@ -78,10 +79,10 @@ fn set_row(image: &mut Option<AnyImage>, kind: TileKind, x: u8, y: u8, row: u8, 
 fn set_memory_line(image: &mut Option<AnyImage>, x: u8, y: u8, row: u8, bytes: &[u8; 32])
     requires there { HasKind image.old x y TileKind.RamB }
     requires row { row < 16 }
-    ensures { BramGains image.old image.new (λ device. line_sets device x y row bytes.now 16) }
+    ensures { ImageGains image.old image.new (bytes_set x y row bytes.now) }
 {
     match image {
-        Some(image) => planes::set_memory_line(image, x, y, row, bytes),
+        Some(image) => bits::set_memory_line(image, x, y, row, bytes),
         None => {}
     }
 }

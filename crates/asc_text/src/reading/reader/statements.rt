@@ -1,19 +1,18 @@
 // What statements change.
 ghost use Rattle.std.specs.Prelude.{◌≡◌, ◌<◌, ◌++◌, ◌∷◌, [], Some, None, true, IfOk, IfErr, OnOk, is_some, MatchOption};
-ghost use Rattle.asc_text.specs.Extras.{is_same_place};
+ghost use Rattle.asc_text.specs.Meaning.{extra_sets};
 ghost use Rattle.asc_text.specs.Faults.{tile_named};
-ghost use Rattle.asc_text.specs.inside.Reading.{state_of, statement_refusal, setting_refusal, tile_refusal, extra_refusal, TakesStatement, Reports, CramGains, HasKind};
+ghost use Rattle.asc_text.specs.inside.Reading.{state_of, statement_refusal, setting_refusal, tile_refusal, extra_refusal, TakesStatement, Reports, ImageGains, HasKind};
 ghost use Rattle.asc_text.specs.Statements.{name_in};
 
 use crate::fault::{AscCause, TileXy};
 use crate::file::{ByteText, Symbol};
-use crate::reading::extras::{extra_place, kind_on};
-use crate::reading::planes;
+use crate::reading::bits;
 use crate::reading::reader::{Expected, Reader, Refusal};
 use crate::reading::spelling::name_in;
 use crate::statement::Statement;
 use ice_image::{AnyImage, Comment};
-use plane_map::{DeviceName, TileKind};
+use plane_map::{DeviceName, TileKind, kind_on};
 use std::alloc::AllocError;
 
 impl Reader {
@@ -149,14 +148,14 @@ fn tile_refusal(image: &Option<AnyImage>, kind: TileKind, x: u32, y: u32) -> Opt
 
 /// Sets an extra bit.
 fn set_extra_bit(image: &mut Option<AnyImage>, bank: u32, x: u32, y: u32) -> Result<(), AscCause>
-    ensures taken { OnOk result (CramGains image.old image.new (λ device. is_same_place (record { bank = bank; px = x; py = y }))) }
+    ensures taken { OnOk result (ImageGains image.old image.new (extra_sets (record { bank = bank; px = x; py = y }))) }
     ensures accepted { OnOk result (extra_refusal image.old bank x y ≡ None) }
     ensures refused { IfErr result (λ cause. extra_refusal image.old bank x y ≡ Some cause) }
 {
     match image {
-        Some(image) => match extra_place(image.device(), bank, x, y) {
+        Some(image) => match image.extra_place(bank, x, y) {
             Some(at) => {
-                planes::set_extra_bit(image, at);
+                bits::set_extra_bit(image, at);
                 Ok(())
             }
             None => Err(AscCause::ExtraPlace),

@@ -4,5 +4,5 @@ use Rattle.asc_text.specs.Canonical.{extra_line}
 use Rattle.asc_text.proofs.writing.extras.append_extra_bits.Given as goal
 
 abbrev pub invariant-loop-at : goal.invariant-loop-at
-invariant-loop-at g l =
+invariant-loop-at l =
     l.text.items ≡ l.initial.text.items ++ text_of (take l.at-index (map extra_line l.at-items))

@@ -1,18 +1,19 @@
 use Rattle.std.proofs.Common.{◌+◌, ◌-◌, ◌*◌, ◌++◌, ap, ◌∙◌, arith}
 use Rattle.std.proofs.lemmas.Result.{on_ok_weaker}
 use Rattle.hex.specs.Hex.{encode_lower}
-use Rattle.ice_image.specs.Contents.{word_value}
+use Rattle.ice_image.specs.Bits.{ram_word_of}
+use Rattle.ice_image.specs.Either.{configuration_of}
 use Rattle.asc_text.specs.Canonical.{two_bytes}
 use Rattle.asc_text.proofs.Pieces.{digits-none, digits-more, digits-all}
 use Rattle.asc_text.proofs.writing.tiles.append_memory_line.Goals as goal
 
 pub loop-index-init : goal.loop-index-init
-loop-index-init g c = digits-none _ _
+loop-index-init c = digits-none _ _
 
 pub loop-index-preserved : goal.loop-index-preserved
-loop-index-preserved g c =
-    digits-more c.args.text.now.items c.loop-index.text.items c.append_digits.new.text.items c.loop-index.index (λ index. two_bytes (word_value g.D.Device.NAME c.args.image.now.bram c.args.x c.args.y (16 * c.args.row + 15 - index))) c.loop-index.invariant (c.in_ok-append_digits.ensures ∙ ap (λ word. c.loop-index.text.items ++ encode_lower (two_bytes word)) c.ram_word.ensures)
+loop-index-preserved c =
+    digits-more c.args.text.now.items c.loop-index.text.items c.append_digits.new.text.items c.loop-index.index (λ index. two_bytes (ram_word_of (configuration_of c.args.image.now) c.args.x c.args.y (16 * c.args.row + 15 - index))) c.loop-index.invariant (c.in_ok-append_digits.ensures ∙ ap (λ word. c.loop-index.text.items ++ encode_lower (two_bytes word)) c.ram_word.ensures.bits)
 
 pub returns : goal.returns
-returns g c =
-    on_ok_weaker c.end_line.result (λ ended. digits-all c.args.text.now.items c.loop-index.text.items c.end_line.new.text.items c.loop-index.index 16 (λ index. two_bytes (word_value g.D.Device.NAME c.args.image.now.bram c.args.x c.args.y (16 * c.args.row + 15 - index))) (omega arith) c.loop-index.invariant ended) c.end_line.ensures
+returns c =
+    on_ok_weaker c.end_line.result (λ ended. digits-all c.args.text.now.items c.loop-index.text.items c.end_line.new.text.items c.loop-index.index 16 (λ index. two_bytes (ram_word_of (configuration_of c.args.image.now) c.args.x c.args.y (16 * c.args.row + 15 - index))) (omega arith) c.loop-index.invariant ended) c.end_line.ensures

@@ -1,10 +1,11 @@
 use Rattle.std.proofs.Common.{◌≡◌, ◌+◌, ◌*◌, ◌-◌, ◌++◌}
 use Rattle.hex.specs.Hex.{encode_lower}
 use Rattle.place_search.specs.Places.{gathered_below}
-use Rattle.ice_image.specs.Contents.{word_value}
+use Rattle.ice_image.specs.Bits.{ram_word_of}
+use Rattle.ice_image.specs.Either.{configuration_of}
 use Rattle.asc_text.specs.Canonical.{two_bytes}
 use Rattle.asc_text.proofs.writing.tiles.append_memory_line.Given as goal
 
 abbrev pub invariant-loop-index : goal.invariant-loop-index
-invariant-loop-index g l =
-    l.text.items ≡ l.initial.text.items ++ encode_lower (gathered_below l.index (λ index. two_bytes (word_value g.D.Device.NAME l.image.bram l.x l.y (16 * l.row + 15 - index))))
+invariant-loop-index l =
+    l.text.items ≡ l.initial.text.items ++ encode_lower (gathered_below l.index (λ index. two_bytes (ram_word_of (configuration_of l.image) l.x l.y (16 * l.row + 15 - index))))

@@ -1,9 +1,10 @@
 use Rattle.std.proofs.Common.{◌≡◌, [], ◌∷◌, ◌++◌}
 use Rattle.place_search.specs.Places.{gathered_below}
 use Rattle.text_lines.specs.Written.{text_of}
+use Rattle.ice_image.specs.Either.{configuration_of}
 use Rattle.asc_text.specs.Canonical.{memory_line}
 use Rattle.asc_text.proofs.writing.tiles.append_ram.Given as goal
 
 abbrev pub invariant-loop-row : goal.invariant-loop-row
-invariant-loop-row g l =
-    l.text.items ≡ l.initial.text.items ++ text_of (gathered_below l.row (λ row. memory_line g.D.Device.NAME l.image.bram l.x l.y row ∷ []))
+invariant-loop-row l =
+    l.text.items ≡ l.initial.text.items ++ text_of (gathered_below l.row (λ row. memory_line (configuration_of l.image) l.x l.y row ∷ []))

@@ -1,18 +1,18 @@
 use Rattle.std.proofs.Common.{[], ◌∷◌, ◌++◌, ap, ◌∙◌, arith}
 use Rattle.text_lines.specs.Written.{text_of}
-use Rattle.ice_image.specs.Configuration.{place_bit}
-use Rattle.ice_image.specs.Contents.{tile_place}
+use Rattle.ice_image.specs.Bits.{tile_bit_of}
+use Rattle.ice_image.specs.Either.{configuration_of, device_of}
 use Rattle.asc_text.specs.Canonical.{grid_line}
 use Rattle.asc_text.proofs.Pieces.{rows-none, rows-more, tile-written}
 use Rattle.asc_text.proofs.writing.tiles.append_tile.Goals as goal
 
 pub loop-row-init : goal.loop-row-init
-loop-row-init g c = rows-none _ _ _
+loop-row-init c = rows-none _ _ _
 
 pub loop-row-preserved : goal.loop-row-preserved
-loop-row-preserved g c =
-    rows-more c.append_grid_line.new.text.items c.loop-row.text.items c.append_row.new.text.items c.tile_width-width.result c.loop-row.row (λ col row. place_bit c.args.image.now.cram (tile_place g.D.Device.NAME c.args.x c.args.y row col)) c.loop-row.invariant c.in_ok-append_row.ensures
+loop-row-preserved c =
+    rows-more c.append_grid_line.new.text.items c.loop-row.text.items c.append_row.new.text.items c.tile_width-width.result c.loop-row.row (λ col row. tile_bit_of (configuration_of c.args.image.now) c.args.x c.args.y row col) c.loop-row.invariant c.in_ok-append_row.ensures
 
 pub returns : goal.returns
-returns g c =
-    tile-written g.D.Device.NAME c.args.x c.args.y c.args.image.now.cram c.args.kind c.args.text.now.items c.append_grid_line.new.text.items c.loop-row.text.items c.tile_width-width.result c.loop-row.row c.requires c.tile_width-width.ensures (omega arith) (c.in_ok-append_grid_line.ensures ∙ ap (λ keyword. c.args.text.now.items ++ text_of (grid_line keyword c.args.x c.args.y ∷ [])) c.tile_keyword.ensures) c.loop-row.invariant
+returns c =
+    tile-written (device_of c.args.image.now) c.args.x c.args.y (configuration_of c.args.image.now) c.args.kind c.args.text.now.items c.append_grid_line.new.text.items c.loop-row.text.items c.tile_width-width.result c.loop-row.row c.requires.device c.requires.there c.tile_width-width.ensures (omega arith) (c.in_ok-append_grid_line.ensures ∙ ap (λ keyword. c.args.text.now.items ++ text_of (grid_line keyword c.args.x c.args.y ∷ [])) c.tile_keyword.ensures) c.loop-row.invariant

@@ -1,12 +1,13 @@
 use Rattle.std.proofs.Common.{ℕ, List, ◌≡◌, ◌∙◌, ap, sym, arith}
 use Rattle.place_search.specs.Places.{gathered_below}
 use Rattle.plane_map.specs.Layout.{kind_of, grid_width, grid_height}
+use Rattle.ice_image.specs.Either.{configuration_of, device_of}
 use Rattle.asc_text.specs.Canonical.{lines_of_tile_at}
 use Rattle.asc_text.proofs.Pieces.{gathered-all}
 use Rattle.asc_text.proofs.writing.tiles.append_tiles.Goals as goal
 
 pub returns : goal.returns
-returns g c =
-    let all_rows : c.loop-y.y ≡ grid_height g.D.Device.NAME = omega (arith, g.met.D.Device.grid_height_is) in
-    let given : ℕ → List (List ℕ) = λ y. gathered_below (grid_width c.args.image.now.device) (λ x. lines_of_tile_at c.args.image.now x y (kind_of c.args.image.now.device x y)) in
-    gathered-all c.args.text.now.items c.loop-y.text.items c.loop-y.y (grid_height c.args.image.now.device) given (all_rows ∙ ap grid_height (sym c.requires)) c.loop-y.invariant
+returns c =
+    let all_rows : c.loop-y.y ≡ grid_height (device_of c.args.image.now) = omega (arith, ap grid_height c.device.ensures.name) in
+    let given : ℕ → List (List ℕ) = λ y. gathered_below (grid_width (configuration_of c.args.image.now).device) (λ x. lines_of_tile_at (configuration_of c.args.image.now) x y (kind_of (configuration_of c.args.image.now).device x y)) in
+    gathered-all c.args.text.now.items c.loop-y.text.items c.loop-y.y (grid_height (configuration_of c.args.image.now).device) given (all_rows ∙ ap grid_height (sym c.requires)) c.loop-y.invariant

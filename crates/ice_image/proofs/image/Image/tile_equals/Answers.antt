@@ -12,12 +12,12 @@ loop-index-init g c = record { same = λ k below. absurd (omega arith) }
 pub returns-then-tile_bit-values : goal.returns-then-tile_bit-values
 returns-then-tile_bit-values g c =
     let is_set : RowCol → Bool = λ bit. place_bit c.args.self.now.cram (tile_place g.D.Device.NAME c.args.x c.args.y bit.row bit.col) in
-    (λ h. absurd (false≢true h), λ same. absurd (differ-at is_set c.args.bits.now c.args.values c.loop-index.index _ c.tile_bit.result (omega arith) c.tile_bit.ensures c.if-tile_bit-values.true same))
+    (λ h. absurd (false≢true h), λ same. absurd (differ-at is_set c.args.bits.now c.args.values c.loop-index.index _ c.tile_bit.result (omega arith) c.tile_bit.ensures.place c.if-tile_bit-values.true same))
 
 pub loop-index-preserved : goal.loop-index-preserved
 loop-index-preserved g c =
     let is_set : RowCol → Bool = λ bit. place_bit c.args.self.now.cram (tile_place g.D.Device.NAME c.args.x c.args.y bit.row bit.col) in
-    agree-more is_set c.args.bits.now c.args.values c.loop-index.index _ c.tile_bit.result (omega arith) c.loop-index.invariant c.tile_bit.ensures c.if-tile_bit-values.false
+    agree-more is_set c.args.bits.now c.args.values c.loop-index.index _ c.tile_bit.result (omega arith) c.loop-index.invariant c.tile_bit.ensures.place c.if-tile_bit-values.false
 
 pub returns : goal.returns
 returns g c =

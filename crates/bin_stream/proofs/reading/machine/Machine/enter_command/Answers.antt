@@ -2,7 +2,6 @@ use Rattle.std.proofs.Common.{◌≡◌, ◌+◌, ◌/◌, ◌∙◌, length, ta
 use Rattle.std.proofs.lemmas.Result.{err_from_is_err_and}
 use Rattle.std.specs.Prelude.{Some, None}
 use Rattle.bin_stream.specs.Refusals.{first_fault, data_kind, fault_at}
-use Rattle.bin_stream.specs.inside.DataKinds.{kind_of}
 use Rattle.bin_stream.specs.inside.Step.{Refuses}
 use Rattle.bin_stream.proofs.Entered.{Refuses-by, short_refused, short_entered, data_fault-is, data_entered}
 use Rattle.bin_stream.proofs.reading.machine.Machine.enter_command.Goals as goal
@@ -14,7 +13,7 @@ returns-in_err-size-in-Some-clause-refused c =
     let bytes = c.args.bytes.now in
     let payload = c.in_ok-payload.payload.now in
     let n = c.number_of-number.result in
-    let kind = kind_of c.in-Some.kind in
+    let kind = c.in-Some.kind in
     let is_data : data_kind (get_or bytes 0 0 / 16) n ≡ Some kind = sym c.in-Some.ensures in
     let told = data_fault-is commands c.args.offset n bytes payload bytes c.args.self.now.registers c.args.self.now.image c.in_ok-payload.ensures.allowed c.in_ok-payload.ensures.payload c.number_of-number.ensures stands kind is_data in
     Refuses-by _ _ c.in_err-size-in-Some.field-0.0 told c.in_err-size-in-Some.ensures.refused)
@@ -24,7 +23,7 @@ returns-in_ok-size-in-Some-clause-entered c = λ commands stands.
     let bytes = c.args.bytes.now in
     let payload = c.in_ok-payload.payload.now in
     let n = c.number_of-number.result in
-    let kind = kind_of c.in-Some.kind in
+    let kind = c.in-Some.kind in
     let is_data : data_kind (get_or bytes 0 0 / 16) n ≡ Some kind = sym c.in-Some.ensures in
     let told = data_fault-is commands c.args.offset n bytes payload bytes c.args.self.now.registers c.args.self.now.image c.in_ok-payload.ensures.allowed c.in_ok-payload.ensures.payload c.number_of-number.ensures stands kind is_data in
     let fine : first_fault commands c.args.offset bytes ≡ None = told ∙ c.in_ok-size-in-Some.ensures.allowed in

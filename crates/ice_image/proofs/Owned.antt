@@ -10,7 +10,7 @@ use Rattle.plane_map.specs.declared.tile.TileBit.{TileBit}
 use Rattle.plane_map.specs.Layout.{grid_width, grid_height, columns_at, place_of, IsTileBit, IsExtraBit}
 use Rattle.plane_map.proofs.Layouts.{columns_at-in}
 use Rattle.ice_image.specs.Contents.{tile_place}
-use Rattle.asc_text.specs.Extras.{is_same_place, is_owned}
+use Rattle.ice_image.specs.Owned.{is_same_place, is_owned}
 
 -- ---- one place
 

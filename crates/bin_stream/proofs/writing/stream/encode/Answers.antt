@@ -1,15 +1,16 @@
 -- The bytes that were written are the canonical ones, which spell the image.
 use Rattle.std.proofs.Common.{rules, ◌≡◌, length, ap, ◌∙◌, subst, sym}
+use Rattle.ice_image.specs.Either.{configuration_of}
 use Rattle.bin_stream.specs.CanonicalBytes.{canonical_bytes, range_number}
 use Rattle.bin_stream.specs.Spelling.{Spells}
 use Rattle.bin_stream.proofs.Assembled.{assembled}
 use Rattle.bin_stream.proofs.RoundTrip.{spells_canonical}
 use Rattle.bin_stream.proofs.Decided.{decided}
-use Rattle.bin_stream.proofs.writing.stream.image_bytes.Goals as goal
+use Rattle.bin_stream.proofs.writing.stream.encode.Goals as goal
 
 pub returns-clause-bytes : goal.returns-clause-bytes
-returns-clause-bytes g c =
-    let image = c.args.image.now in
+returns-clause-bytes c =
+    let image = configuration_of c.args.image.now in
     let start : c.len-after_reset.result ≡ length c.append_command-2.new.out.items = search rules in
     let number : c.range_number.result ≡ range_number image.settings.range = c.range_number.ensures ∙ ap (λ settings. range_number settings.range) c.settings.ensures in
     assembled image c.push.new.self.items (record {
@@ -37,10 +38,10 @@ returns-clause-bytes g c =
     })
 
 pub returns-clause-spells : goal.returns-clause-spells
-returns-clause-spells g c =
-    let image = c.args.image.now in
-    let same : c.push.new.self.items ≡ canonical_bytes image = returns-clause-bytes g c in
+returns-clause-spells c =
+    let image = configuration_of c.args.image.now in
+    let same : c.push.new.self.items ≡ canonical_bytes image = returns-clause-bytes c in
     subst (λ bytes. Spells bytes image) (sym same) (spells_canonical image c.device.ensures.whole c.in_ok-append_comment.ensures.lines)
 
 pub returns-clause-read : goal.returns-clause-read
-returns-clause-read g c = ((decided c.push.new.self.items).spelled c.args.image.now).0 (returns-clause-spells g c)
+returns-clause-read c = ((decided c.push.new.self.items).spelled (configuration_of c.args.image.now)).0 (returns-clause-spells c)

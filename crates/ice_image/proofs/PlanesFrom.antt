@@ -5,10 +5,10 @@ use Rattle.bit_plane.proofs.Made.{IsGrid-rows_from, bit_at-rows_from}
 use Rattle.plane_map.specs.declared.tile.Place.{Place}
 use Rattle.ice_image.specs.Configuration.{AreBanks, bank_rows, place_bit}
 use Rattle.ice_image.proofs.BankBits.{same_banks}
-use Rattle.asc_text.specs.Meaning.{planes_from}
+use Rattle.ice_image.specs.Bits.{planes_from}
 
 -- planes from the bits of places are planes of that size
-AreBanks-planes_from : (width height : ℕ) (bits : Place → Bool) → AreBanks width height (planes_from width height bits)
+pub AreBanks-planes_from : (width height : ℕ) (bits : Place → Bool) → AreBanks width height (planes_from width height bits)
 AreBanks-planes_from width height bits = record { four = refl; grids = each }
   where
     each : (bank : ℕ) → bank < 4 → IsGrid width height (bank_rows (planes_from width height bits) bank)

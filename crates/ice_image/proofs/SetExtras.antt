@@ -1,18 +1,18 @@
--- The set bits that are no tile's, as a list and as the lines of a text.
-use Rattle.std.proofs.Common.{◌≡◌, ℕ, ◌<◌, Bool, true, false, not, ◌&&◌, List, [], ◌∷◌, get_or, map, Contains, refl, sym, ap, ◌∙◌, subst, inl, inr, arith}
+-- The set bits that are no tile's, as a list.
+use Rattle.std.proofs.Common.{◌≡◌, ℕ, ◌<◌, Bool, true, false, not, ◌&&◌, List, [], ◌∷◌, get_or, Contains, refl, sym, ap, ◌∙◌, subst, inl, inr, arith}
 use Rattle.std.specs.Prelude.{if◌then◌else◌}
 use Rattle.std.specs.List.{AllPairs}
 use Rattle.std.proofs.lemmas.Bool.{and_parts}
 use Rattle.place_search.specs.Places.{gathered_below}
-use Rattle.place_search.proofs.Places.{gathered_below-same}
 use Rattle.plane_map.specs.Layout.{cram_width, cram_height}
 use Rattle.plane_map.specs.declared.tile.Place.{Place}
 use Rattle.ice_image.specs.Configuration.{Configuration, place_bit}
 use Rattle.ice_image.specs.Extras.{IsBefore, IsSetExtra, AreSetExtras}
-use Rattle.asc_text.specs.Extras.{is_owned}
-use Rattle.asc_text.specs.Canonical.{extra_line, extra_lines_at, all_extra_lines}
-use Rattle.asc_text.proofs.Owners.{is_owned-extra, extra-is_owned}
-use Rattle.asc_text.proofs.Lists.{map-gathered, gathered-place, gathered-at, ordered-gathered, ordered-same}
+use Rattle.ice_image.specs.Bits.{Extra, bit_of, set_extras}
+use Rattle.ice_image.specs.Owned.{is_owned, is_extra}
+use Rattle.ice_image.proofs.Bits.{extra_in, extra_from}
+use Rattle.ice_image.proofs.Owned.{is_owned-extra, extra-is_owned}
+use Rattle.ice_image.proofs.Lists.{gathered-place, gathered-at, ordered-gathered, ordered-same}
 
 -- no place is before one that is before it
 before-strict : (a b : Place) → IsBefore a b → IsBefore b a → ⊥
@@ -62,24 +62,6 @@ module _ (image : Configuration) where
 
   abbrev all_extras : List Place
   all_extras = gathered_below 4 extras_of_bank
-
-  -- ---- lines
-
-  lines_of_test : (test : Bool) (at : Place) → map extra_line (if test then at ∷ [] else []) ≡ (if test then extra_line at ∷ [] else [])
-  lines_of_test true at = refl
-  lines_of_test false at = refl
-
-  lines_of_row : (bank py : ℕ) → map extra_line (extras_of_row bank py) ≡ gathered_below (cram_width image.device) (λ px. extra_lines_at image (place bank px py))
-  lines_of_row bank py =
-      map-gathered extra_line (cram_width image.device) (λ px. extra_at (place bank px py)) ∙ gathered_below-same (cram_width image.device) (λ px. map extra_line (extra_at (place bank px py))) (λ px. extra_lines_at image (place bank px py)) (λ px below. lines_of_test (is_set_extra (place bank px py)) (place bank px py))
-
-  lines_of_bank : (bank : ℕ) → map extra_line (extras_of_bank bank) ≡ gathered_below (cram_height image.device) (λ py. gathered_below (cram_width image.device) (λ px. extra_lines_at image (place bank px py)))
-  lines_of_bank bank =
-      map-gathered extra_line (cram_height image.device) (λ py. extras_of_row bank py) ∙ gathered_below-same (cram_height image.device) (λ py. map extra_line (extras_of_row bank py)) (λ py. gathered_below (cram_width image.device) (λ px. extra_lines_at image (place bank px py))) (λ py below. lines_of_row bank py)
-
-  lines_of_all : map extra_line all_extras ≡ all_extra_lines image
-  lines_of_all =
-      map-gathered extra_line 4 extras_of_bank ∙ gathered_below-same 4 (λ bank. map extra_line (extras_of_bank bank)) (λ bank. gathered_below (cram_height image.device) (λ py. gathered_below (cram_width image.device) (λ px. extra_lines_at image (place bank px py)))) (λ bank below. lines_of_bank bank)
 
   -- ---- members
 
@@ -150,8 +132,22 @@ module _ (image : Configuration) where
       let right = (in_bank k b is_b).2 in
       inl (let low : a.bank < b.bank = omega (arith, before, left, right) in low))
 
-  -- the lines of all set bits that are no tile's, where a list has these bits in order
-  pub set_extras-lines : (places : List Place) → AreSetExtras image.device image.cram places → map extra_line places ≡ all_extra_lines image
-  set_extras-lines places are =
-      let same : places ≡ all_extras = ordered-same IsBefore before-strict places all_extras are.ordered all_ordered (λ at is. to_all at ((are.exact at).0 is)) (λ at is. (are.exact at).1 (in_all at is)) in
-      ap (map extra_line) same ∙ lines_of_all
+  -- a list that has these bits in order is that of the definition
+  pub set_extras-is : (places : List Place) → AreSetExtras image.device image.cram places → places ≡ set_extras image
+  unfolding set_extras
+  set_extras-is places are =
+      ordered-same IsBefore before-strict places all_extras are.ordered all_ordered (λ at is. to_all at ((are.exact at).0 is)) (λ at is. (are.exact at).1 (in_all at is))
+
+  -- it has only set extra bits
+  pub set_extras-in : (at : Place) → Contains (set_extras image) at → (is_extra image.device at ≡ true) × (bit_of image (Extra at) ≡ true)
+  unfolding set_extras
+  set_extras-in at is =
+      let found = in_all at is in
+      (extra_from image.device at found.inside (is_owned-extra image.device at found.extra), found.is_set)
+
+  -- and each of them
+  pub set_extras-at : (at : Place) → is_extra image.device at ≡ true → bit_of image (Extra at) ≡ true → Contains (set_extras image) at
+  unfolding set_extras
+  set_extras-at at extra is_set =
+      let facts = extra_in image.device at extra in
+      to_all at (record { inside = facts.0; is_set = is_set; extra = extra-is_owned image.device at facts.1 })

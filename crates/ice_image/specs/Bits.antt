@@ -1,0 +1,120 @@
+-- The bits of an image: those of its tiles, those of the words of its RAMs, and its extra bits, which are no tile's. An image is
+-- known by them, its comment and its settings.
+use Rattle.std.specs.Prelude.{◌≡◌, ℕ, Bool, true, false, not, ◌&&◌, List, [], ◌∷◌, if◌then◌else◌, Option, Some}
+use Rattle.place_search.specs.Places.{any_below, gathered_below}
+use Rattle.bit_plane.specs.BitList.{word_of}
+use Rattle.bit_plane.specs.Rows.{Rows, row_from, rows_from}
+use Rattle.plane_map.specs.Layout.{kind_of, grid_width, grid_height, columns_at, place_of, word_place_of, cram_width, cram_height, bram_width, bram_height, IsTileBit, IsWordBit}
+use Rattle.plane_map.specs.declared.device.DeviceName.{DeviceName}
+use Rattle.plane_map.specs.declared.tile.Place.{Place}
+use Rattle.plane_map.specs.declared.tile.TileKind.{TileKind}
+use Rattle.plane_map.specs.declared.tile.TileKind.TheVariants.{RamB}
+use Rattle.plane_map.specs.declared.tile.TileBit.{TileBit}
+use Rattle.plane_map.specs.declared.tile.WordBit.{WordBit}
+use Rattle.ice_image.specs.Configuration.{Configuration, place_bit, IsWhole}
+use Rattle.ice_image.specs.Contents.{tile_place, word_bit_place}
+use Rattle.ice_image.specs.Owned.{is_same_place, is_owned, is_extra}
+use Rattle.ice_image.specs.declared.settings.Settings.{Settings}
+
+-- a bit of a tile, a bit of a word of a RAM, or a bit of the configuration planes that is no tile's
+pub data Bit : Type 0 where
+  OfTile : (bit : TileBit) → Bit
+  OfWord : (bit : WordBit) → Bit
+  Extra : (at : Place) → Bit
+
+-- a bit that images of a device have
+abbrev pub IsBit : DeviceName → Bit → Type 0
+IsBit device (OfTile bit) = IsTileBit device bit
+IsBit device (OfWord bit) = IsWordBit device bit
+IsBit device (Extra at) = is_extra device at ≡ true
+
+-- a bit of an image
+abbrev pub bit_of : Configuration → Bit → Bool
+bit_of image (OfTile bit) = place_bit image.cram (place_of image.device bit)
+bit_of image (OfWord bit) = place_bit image.bram (word_place_of image.device bit)
+bit_of image (Extra at) = place_bit image.cram at
+
+-- a bit of a tile, by the tile, its row and its column
+abbrev pub tile_bit_of : Configuration → ℕ → ℕ → ℕ → ℕ → Bool
+tile_bit_of image x y row col = bit_of image (OfTile (record { x = x; y = y; row = row; col = col }))
+
+-- the bits of a row of a tile, column 0 first
+abbrev pub row_of : Configuration → ℕ → ℕ → ℕ → List Bool
+row_of image x y row = row_from (columns_at image.device x y) (tile_bit_of image x y row)
+
+-- the sixteen rows of a tile
+abbrev pub tile_of : Configuration → ℕ → ℕ → Rows
+tile_of image x y = rows_from (columns_at image.device x y) 16 (λ col row. tile_bit_of image x y row col)
+
+-- a bit of a word of a RAM, by the RAM and its word
+abbrev pub word_bit_of : Configuration → ℕ → ℕ → ℕ → ℕ → Bool
+word_bit_of image x y word bit = bit_of image (OfWord (record { x = x; y = y; word = word; bit = bit }))
+
+-- a word of a RAM: its bit b is worth 2 ^ b
+abbrev pub ram_word_of : Configuration → ℕ → ℕ → ℕ → ℕ
+ram_word_of image x y word = word_of (row_from 16 (word_bit_of image x y word))
+
+-- the place of an extra bit, where it is set
+abbrev pub extra_if_set : Configuration → Place → List Place
+extra_if_set image at = if bit_of image (Extra at) && not (is_owned image.device at) then at ∷ [] else []
+
+-- all set extra bits, by bank, then by row, then by column
+unfoldable pub set_extras : Configuration → List Place
+set_extras image =
+    gathered_below 4 (λ bank. gathered_below (cram_height image.device) (λ py. gathered_below (cram_width image.device) (λ px.
+    extra_if_set image (record { bank = bank; px = px; py = py }))))
+
+-- an image with the same comment and settings, and with all bits as before except those of that kind
+pub record OnlyBits (IsChanged : Bit → Type 0) (before after : Configuration) : Type 0 where
+  pub device : after.device ≡ before.device
+  pub comment : after.comment ≡ before.comment
+  pub settings : after.settings ≡ before.settings
+  pub whole : IsWhole after
+  pub bits : (bit : Bit) → IsBit before.device bit → ¬ IsChanged bit → bit_of after bit ≡ bit_of before bit
+
+-- a bit has that value, and all other bits, the comment and the settings are as before
+pub record IsSet (bit : Bit) (value : Bool) (before after : Configuration) : Type 0 where
+  pub set : bit_of after bit ≡ value
+  pub others : OnlyBits (λ other. other ≡ bit) before after
+
+-- ---- the image that has given bits
+
+-- a bit of the configuration planes: that of its tile, or that of the extra bit
+abbrev pub cram_bit_from : DeviceName → (Bit → Bool) → Place → Bool
+cram_bit_from device bits at =
+    if is_owned device at then
+    any_below (grid_width device) (λ x. any_below (grid_height device) (λ y. any_below 16 (λ row. any_below (columns_at device x y) (λ col.
+    is_same_place (tile_place device x y row col) at && bits (OfTile (record { x = x; y = y; row = row; col = col }))))))
+    else bits (Extra at)
+
+-- whether the tile at a place of the grid is a RAM's lower one
+abbrev pub is_lower_kind : Option TileKind → Bool
+is_lower_kind (Some RamB) = true
+is_lower_kind kind = false
+
+abbrev pub is_lower : DeviceName → ℕ → ℕ → Bool
+is_lower device x y = is_lower_kind (kind_of device x y)
+
+-- a bit of the RAM planes: that of its word
+abbrev pub bram_bit_from : DeviceName → (Bit → Bool) → Place → Bool
+bram_bit_from device bits at =
+    any_below (grid_width device) (λ x. any_below (grid_height device) (λ y. any_below 256 (λ word. any_below 16 (λ bit.
+    is_lower device x y && is_same_place (word_bit_place device x y word bit) at && bits (OfWord (record { x = x; y = y; word = word; bit = bit }))))))
+
+-- four planes of that size with those bits
+abbrev pub plane_from : ℕ → ℕ → (Place → Bool) → ℕ → Rows
+plane_from width height bits bank = rows_from width height (λ px py. bits (record { bank = bank; px = px; py = py }))
+
+abbrev pub planes_from : ℕ → ℕ → (Place → Bool) → List Rows
+planes_from width height bits =
+    plane_from width height bits 0 ∷ plane_from width height bits 1 ∷ plane_from width height bits 2 ∷ plane_from width height bits 3 ∷ []
+
+-- the image of a device with that comment, those settings and those bits
+unfoldable pub image_from : DeviceName → Option (List (List ℕ)) → Settings → (Bit → Bool) → Configuration
+image_from device comment settings bits = record {
+  device = device;
+  comment = comment;
+  settings = settings;
+  cram = planes_from (cram_width device) (cram_height device) (cram_bit_from device bits);
+  bram = planes_from (bram_width device) (bram_height device) (bram_bit_from device bits);
+}

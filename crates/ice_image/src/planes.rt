@@ -1,0 +1,39 @@
+// The planes of a device, and their rows.
+ghost use Rattle.std.specs.Prelude.{◌≡◌};
+ghost use Rattle.ice_image.specs.Planes.{plane_width, plane_height};
+
+use plane_map::DeviceName;
+
+/// The two kinds of planes; a device has four of each, one a bank.
+#[derive(Clone, Copy, Debug, PartialEq, Eq)]
+pub enum PlaneKind {
+    /// The configuration planes.
+    Cram,
+    /// The RAM planes.
+    Bram,
+}
+
+impl PlaneKind {
+    /// How many columns of bits these planes have.
+    pub fn columns(self, device: DeviceName) -> usize
+        ensures { result ≡ plane_width self device }
+    {
+        match (self, device) {
+            (PlaneKind::Cram, DeviceName::K1) => 332,
+            (PlaneKind::Cram, DeviceName::K8) => 872,
+            (PlaneKind::Bram, DeviceName::K1) => 64,
+            (PlaneKind::Bram, DeviceName::K8) => 128,
+        }
+    }
+
+    /// How many rows of bits these planes have.
+    pub fn rows(self, device: DeviceName) -> usize
+        ensures { result ≡ plane_height self device }
+    {
+        match (self, device) {
+            (PlaneKind::Cram, DeviceName::K1) => 144,
+            (PlaneKind::Cram, DeviceName::K8) => 272,
+            (PlaneKind::Bram, _) => 256,
+        }
+    }
+}

@@ -1,0 +1,5 @@
+pub mod On
+pub mod Cells
+pub mod Items
+pub mod Inside
+pub mod Explained

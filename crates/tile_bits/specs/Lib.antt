@@ -3,3 +3,4 @@ pub mod Cells
 pub mod Items
 pub mod Inside
 pub mod Explained
+pub mod Known

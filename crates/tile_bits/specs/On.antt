@@ -1,9 +1,8 @@
 -- What is on: functions and links of a database, by the bits of a tile.
-use Rattle.std.specs.Prelude.{ℕ, Bool, true, false, ◌&&◌, ◌==◌, List, map, find, Option, None, Some}
+use Rattle.std.specs.Prelude.{ℕ, Bool, true, false, ◌&&◌, eqb, List, map, find, Option, None, Some}
 use Rattle.std.specs.Bool.{beq}
-use Rattle.std.specs.List.{list_all, list_any}
+use Rattle.std.specs.List.{list_all, list_any, starts_with}
 use Rattle.std.specs.Cmp.Lexicographic.{pointwise}
-use Rattle.std.specs.Str.{starts_with}
 use Rattle.plane_map.specs.declared.tile.RowCol.{RowCol}
 use Rattle.plane_map.specs.declared.tile.TileKind.{TileKind}
 use Rattle.ice_image.specs.Configuration.{Configuration, place_bit}
@@ -37,4 +36,4 @@ is_named_on image x y kind name functions = is_found_on image x y (find (is_func
 -- A function that is asked for by the beginning of its name is any one whose name begins so.
 unfoldable pub is_begun_on : Configuration → ℕ → ℕ → TileKind → List ℕ → List FunctionLine → Bool
 is_begun_on image x y kind beginning functions =
-    list_any (λ function. is_same_kind function.kind kind && (starts_with beginning function.name && is_function_on image x y function)) functions
+    list_any (λ function. is_same_kind function.kind kind && (starts_with eqb function.name beginning && is_function_on image x y function)) functions

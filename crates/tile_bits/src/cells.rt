@@ -1,5 +1,5 @@
 // The logic cells of a tile.
-ghost use Rattle.std.specs.Prelude.{◌≡◌, ◌++◌, ◌<◌, ◌≤◌, All, Some, get_or, length, map, None, OnOk};
+ghost use Rattle.std.specs.Prelude.{◌≡◌, ◌++◌, ◌<◌, ◌≤◌, ◌^◌, All, Some, get_or, length, map, None, OnOk};
 ghost use Rattle.std.specs.List.{list_any};
 ghost use Rattle.plane_map.specs.Layout.{columns_of};
 ghost use Rattle.ice_image.specs.Either.{configuration_of};
@@ -139,13 +139,15 @@ fn picked(image: &AnyImage, at: TileAt, bits: &[RowCol], order: &[usize]) -> u16
     requires tile { IsTileAt (configuration_of image.now).device at }
     requires inside { All (IsBitIn (columns_of at.kind)) bits.now }
     requires few { length order.now ≤ 16 }
-    ensures { result ≡ picked order.now (map (bit_of (configuration_of image.now) at.x at.y) bits.now) }
+    ensures is { result ≡ picked order.now (map (bit_of (configuration_of image.now) at.x at.y) bits.now) }
+    ensures small { result < 2 ^ length order.now }
 {
-    let mut number = 0;
-    for place in order.iter().rev() {
-        number = 2 * number + u16::from(bit_or_0(image, at, bits, *place));
+    match order {
+        [] => 0,
+        [place, rest @ ..] => {
+            u16::from(bit_or_0(image, at, bits, *place)) + 2 * picked(image, at, bits, rest)
+        }
     }
-    number
 }
 
 /// The bit at a place of a list, and 0 past its end.

@@ -1,4 +1,15 @@
 // A configuration explained as text.
+ghost use Rattle.std.specs.Prelude.{◌≡◌, ◌++◌, ◌∷◌, [], ◌<◌, IfOk, IfErr, OnOk, None, length};
+ghost use Rattle.text_lines.specs.Written.{text_of};
+ghost use Rattle.place_search.specs.Places.{gathered_below};
+ghost use Rattle.plane_map.specs.Layout.{grid_width, kind_of};
+ghost use Rattle.ice_image.specs.Either.{configuration_of};
+ghost use Rattle.asc_text.specs.Statements.{device_keyword, device_word};
+ghost use Rattle.asc_text.specs.Canonical.{with_word};
+ghost use Rattle.chipdb_reader.specs.Kept.{database_in};
+ghost use Rattle.tile_bits.specs.Cells.{cell_places};
+ghost use Rattle.tile_bits.specs.Explained.{all_tile_lines, explain_fault_of, explained, extra_lines, lines_after, set_extras, set_tile_lines, tile_lines, Tells};
+ghost use Rattle.tile_bits.specs.Inside.{AreLists, IsTileAt, lists_of};
 
 use crate::cells::Cells;
 use crate::extras::append_extras;
@@ -20,31 +31,70 @@ pub fn explain(
     db: &ChipDb,
     image: &AnyImage,
     only: Option<TileXy>,
-) -> Result<Vec<u8>, ExplainFault> {
+) -> Result<Vec<u8>, ExplainFault>
+    ensures text { IfOk result (λ text. text.items ≡ explained (database_in db.now) (configuration_of image.now) only) }
+    ensures sound { OnOk result (explain_fault_of (database_in db.now) (configuration_of image.now) only ≡ None) }
+    ensures refused { IfErr result (Tells (explain_fault_of (database_in db.now) (configuration_of image.now) only)) }
+{
     if db.device() != image.device() {
         return Err(ExplainFault::Device);
     }
-    let mut text = Vec::new(alloc);
-    append_device(&mut text, image.device())?;
     match only {
-        None => append_all(&mut text, alloc, db, image)?,
+        None => Ok(text_of_all(alloc, db, image)?),
         Some(TileXy { x, y }) => match kind_on(image.device(), x, y) {
-            None => return Err(ExplainFault::NoTile { x, y }),
+            None => Err(ExplainFault::NoTile { x, y }),
             Some(kind) => {
                 let at = TileAt {
                     kind,
                     x: x as u8,
                     y: y as u8,
                 };
-                append_only(&mut text, alloc, db, image, at)?;
+                Ok(text_of_tile(alloc, db, image, at)?)
             }
         },
     }
+}
+
+/// The text of one tile.
+fn text_of_tile(
+    alloc: Global,
+    db: &ChipDb,
+    image: &AnyImage,
+    at: TileAt,
+) -> Result<Vec<u8>, AllocError>
+    requires device { db.now.chip.device ≡ (configuration_of image.now).device }
+    requires tile { IsTileAt (configuration_of image.now).device at }
+    ensures { IfOk result (λ text. text.items ≡ text_of (with_word device_keyword (device_word (configuration_of image.now).device) ∷ tile_lines (database_in db.now) (configuration_of image.now) at.x at.y at.kind)) }
+{
+    let mut text = Vec::new(alloc);
+    append_device(&mut text, image.device())?;
+    let items = active(alloc, db, image, at.x, at.y)?;
+    append_tile(&mut text, db, at, &items)?;
+    Ok(text)
+}
+
+/// The text of all tiles with a set bit, and of the extra bits.
+fn text_of_all(alloc: Global, db: &ChipDb, image: &AnyImage) -> Result<Vec<u8>, AllocError>
+    requires device { db.now.chip.device ≡ (configuration_of image.now).device }
+    ensures { IfOk result (λ text. text.items ≡ explained (database_in db.now) (configuration_of image.now) None) }
+{
+    let known = Known {
+        cells: Cells::of(db),
+        buffers: LinksOn::of(alloc, db, image, db.buffers())?,
+        routings: LinksOn::of(alloc, db, image, db.routings())?,
+    };
+    let mut text = Vec::new(alloc);
+    append_device(&mut text, image.device())?;
+    append_tiles(&mut text, alloc, db, image, &known)?;
+    append_extras(&mut text, alloc, db, image)?;
     Ok(text)
 }
 
 /// Appends the device.
-fn append_device(text: &mut Vec<u8>, device: DeviceName) -> Result<(), AllocError> {
+#[tactic(auto, unfolding(text_lines::specs::Written::text_of))]
+fn append_device(text: &mut Vec<u8>, device: DeviceName) -> Result<(), AllocError>
+    ensures { OnOk result (text.new.items ≡ text.old.items ++ text_of (with_word device_keyword (device_word device) ∷ [])) }
+{
     match device {
         DeviceName::K1 => text.extend_from_slice(b".device 1k\n")?,
         DeviceName::K8 => text.extend_from_slice(b".device 8k\n")?,
@@ -52,42 +102,32 @@ fn append_device(text: &mut Vec<u8>, device: DeviceName) -> Result<(), AllocErro
     Ok(())
 }
 
-/// Appends a tile.
-fn append_only(
-    text: &mut Vec<u8>,
-    alloc: Global,
-    db: &ChipDb,
-    image: &AnyImage,
-    at: TileAt,
-) -> Result<(), AllocError> {
-    let items = active(alloc, db, image, at.x, at.y)?;
-    append_tile(text, db, at, &items)
-}
-
 /// What is known of all tiles: the cells of the database, and the links that are on.
 #[derive(Drop)]
-struct Known {
+pub(crate) struct Known {
     cells: Cells,
     buffers: LinksOn,
     routings: LinksOn,
 }
 
-/// Appends all tiles with a set bit, row of the grid by row of the grid, and the extra bits.
-fn append_all(
+ghost use Rattle.tile_bits.specs.Known.{IsKnown};
+
+/// Appends all tiles with a set bit, row of the grid by row of the grid.
+fn append_tiles(
     text: &mut Vec<u8>,
     alloc: Global,
     db: &ChipDb,
     image: &AnyImage,
-) -> Result<(), AllocError> {
-    let known = Known {
-        cells: Cells::of(db),
-        buffers: LinksOn::of(alloc, db, image, db.buffers())?,
-        routings: LinksOn::of(alloc, db, image, db.routings())?,
-    };
+    known: &Known,
+) -> Result<(), AllocError>
+    requires device { db.now.chip.device ≡ (configuration_of image.now).device }
+    requires known { IsKnown (database_in db.now) (configuration_of image.now) known.now }
+    ensures { OnOk result (text.new.items ≡ text.old.items ++ text_of (all_tile_lines (database_in db.now) (configuration_of image.now))) }
+{
     for y in 0..image.device().rows() {
-        append_grid_row(text, alloc, db, image, &known, y as u8)?;
+        append_grid_row(text, alloc, db, image, known, y as u8)?;
     }
-    append_extras(text, alloc, db, image)
+    Ok(())
 }
 
 /// Appends the tiles of a row of the grid that have a set bit.
@@ -98,7 +138,11 @@ fn append_grid_row(
     image: &AnyImage,
     known: &Known,
     y: u8,
-) -> Result<(), AllocError> {
+) -> Result<(), AllocError>
+    requires device { db.now.chip.device ≡ (configuration_of image.now).device }
+    requires known { IsKnown (database_in db.now) (configuration_of image.now) known.now }
+    ensures { OnOk result (text.new.items ≡ text.old.items ++ text_of (gathered_below (grid_width (configuration_of image.now).device) (λ x. set_tile_lines (database_in db.now) (configuration_of image.now) x y (kind_of (configuration_of image.now).device x y)))) }
+{
     for x in 0..image.device().columns() {
         append_place(text, alloc, db, image, known, x as u8, y)?;
     }
@@ -114,18 +158,40 @@ fn append_place(
     known: &Known,
     x: u8,
     y: u8,
-) -> Result<(), AllocError> {
+) -> Result<(), AllocError>
+    requires device { db.now.chip.device ≡ (configuration_of image.now).device }
+    requires known { IsKnown (database_in db.now) (configuration_of image.now) known.now }
+    ensures { OnOk result (text.new.items ≡ text.old.items ++ text_of (set_tile_lines (database_in db.now) (configuration_of image.now) x y (kind_of (configuration_of image.now).device x y))) }
+{
     match kind_on(image.device(), u32::from(x), u32::from(y)) {
         None => Ok(()),
         Some(kind) => {
             let at = TileAt { kind, x, y };
-            if !is_set_tile(image, at) {
-                return Ok(());
+            if is_set_tile(image, at) {
+                append_known(text, alloc, db, image, known, at)
+            } else {
+                Ok(())
             }
-            let buffers = known.buffers.at(x, y);
-            let routings = known.routings.at(x, y);
-            let items = items_of_tile(alloc, db, image, at, known.cells, buffers, routings)?;
-            append_tile(text, db, at, &items)
         }
     }
+}
+
+/// Appends a tile.
+fn append_known(
+    text: &mut Vec<u8>,
+    alloc: Global,
+    db: &ChipDb,
+    image: &AnyImage,
+    known: &Known,
+    at: TileAt,
+) -> Result<(), AllocError>
+    requires device { db.now.chip.device ≡ (configuration_of image.now).device }
+    requires tile { IsTileAt (configuration_of image.now).device at }
+    requires known { IsKnown (database_in db.now) (configuration_of image.now) known.now }
+    ensures { OnOk result (text.new.items ≡ text.old.items ++ text_of (tile_lines (database_in db.now) (configuration_of image.now) at.x at.y at.kind)) }
+{
+    let buffers = known.buffers.at(at.x, at.y);
+    let routings = known.routings.at(at.x, at.y);
+    let items = items_of_tile(alloc, db, image, at, known.cells, buffers, routings)?;
+    append_tile(text, db, at, &items)
 }

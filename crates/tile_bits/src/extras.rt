@@ -1,4 +1,10 @@
 // The lines of the set bits that belong to no tile.
+ghost use Rattle.std.specs.Prelude.{◌≡◌, ◌++◌, ◌∷◌, OnOk, find, map};
+ghost use Rattle.text_lines.specs.Written.{text_of};
+ghost use Rattle.ice_image.specs.Either.{configuration_of};
+ghost use Rattle.asc_text.specs.Extras.{is_same_place};
+ghost use Rattle.chipdb_reader.specs.Kept.{database_in};
+ghost use Rattle.tile_bits.specs.Explained.{extra_lines, extra_text, set_extras};
 
 use crate::lines::{append_number, end_line};
 use chipdb_reader::{ChipDb, Extra};
@@ -12,13 +18,29 @@ pub(crate) fn append_extras(
     alloc: Global,
     db: &ChipDb,
     image: &AnyImage,
-) -> Result<(), AllocError> {
+) -> Result<(), AllocError>
+    ensures { OnOk result (text.new.items ≡ text.old.items ++ text_of (extra_lines (database_in db.now).extras (set_extras (configuration_of image.now)))) }
+{
     let places = image.extra_bits(alloc)?;
+    append_places(text, db, &places)
+}
+
+/// Appends places, where there are some.
+fn append_places(text: &mut Vec<u8>, db: &ChipDb, places: &[Place]) -> Result<(), AllocError>
+    ensures { OnOk result (text.new.items ≡ text.old.items ++ text_of (extra_lines (database_in db.now).extras places.now)) }
+{
     if places.is_empty() {
         return Ok(());
     }
     text.extend_from_slice(b".extra_bits\n")?;
-    for at in &places {
+    append_each(text, db, places)
+}
+
+/// Appends a line for each place.
+fn append_each(text: &mut Vec<u8>, db: &ChipDb, places: &[Place]) -> Result<(), AllocError>
+    ensures { OnOk result (text.new.items ≡ text.old.items ++ text_of (map (extra_text (database_in db.now).extras) places.now)) }
+{
+    for at in places {
         append_extra(text, db, *at)?;
         end_line(text)?;
     }
@@ -26,20 +48,27 @@ pub(crate) fn append_extras(
 }
 
 /// Appends an extra bit by the first name of its place, or by the place.
-fn append_extra(text: &mut Vec<u8>, db: &ChipDb, at: Place) -> Result<(), AllocError> {
+#[tactic(auto, unfolding(crate::specs::Explained::extra_text))]
+fn append_extra(text: &mut Vec<u8>, db: &ChipDb, at: Place) -> Result<(), AllocError>
+    ensures { OnOk result (text.new.items ≡ text.old.items ++ extra_text (database_in db.now).extras at) }
+{
     match extra_at(db.extras(), at) {
-        Some(extra) => text.extend_from_slice(db.text(extra.name))?,
+        Some(extra) => {
+            text.extend_from_slice(db.text(extra.name))?;
+            Ok(())
+        }
         None => {
             text.push(b'?')?;
             append_number(text, u32::from(at.bank))?;
             append_number(text, u32::from(at.px))?;
-            append_number(text, u32::from(at.py))?;
+            append_number(text, u32::from(at.py))
         }
     }
-    Ok(())
 }
 
 /// The first extra bit of a place.
-fn extra_at(extras: &[Extra], at: Place) -> Option<&Extra> {
-    extras.iter().find(|extra| extra.at == at)
+fn extra_at(extras: &[Extra], at: Place) -> Option<Extra>
+    ensures { result ≡ find (λ extra. is_same_place extra.at at) extras.now }
+{
+    extras.iter().find(|extra| extra.at == at).copied()
 }

@@ -2,7 +2,7 @@
 use Rattle.std.specs.Prelude.{ℕ, bytes_eq, codes, if◌then◌else◌, List, [], ◌∷◌, Option, None, Some}
 use Rattle.tool_run.specs.Tasks.{Done, Task, at_once, not_taken}
 use Rattle.icestorm_cli.specs.declared.tool.Tool.{Tool}
-use Rattle.icestorm_cli.specs.declared.tool.Tool.TheVariants.{Icepack, Iceunpack, Icemulti}
+use Rattle.icestorm_cli.specs.declared.tool.Tool.TheVariants.{Icepack, Iceunpack, Icemulti, IceboxExplain}
 use Rattle.icestorm_cli.specs.declared.tool.TheConstants.{HELP, VERSION}
 
 -- the tool that a word names
@@ -11,6 +11,7 @@ tool_named word =
     if bytes_eq word (codes "icepack") then Some Icepack
     else if bytes_eq word (codes "iceunpack") then Some Iceunpack
     else if bytes_eq word (codes "icemulti") then Some Icemulti
+    else if bytes_eq word (codes "icebox_explain") then Some IceboxExplain
     else None
 
 -- the tool that the words name

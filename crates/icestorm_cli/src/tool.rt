@@ -11,6 +11,8 @@ pub enum Tool {
     Iceunpack,
     /// Bitstreams to a boot file.
     Icemulti,
+    /// Bits explained.
+    IceboxExplain,
 }
 
 /// The version of the program.
@@ -29,6 +31,8 @@ Tools:
   icepack      packs a text (.asc) into a bitstream (.bin)
   iceunpack    unpacks a bitstream (.bin) into a text (.asc)
   icemulti     joins up to four bitstreams to one boot file
+  icebox_explain
+               tells what the set bits of an image mean
 
 Example: icestorm icepack blink.asc blink.bin
 
@@ -56,6 +60,7 @@ fn tool_named(word: &str) -> Option<Tool>
         "icepack" => Some(Tool::Icepack),
         "iceunpack" => Some(Tool::Iceunpack),
         "icemulti" => Some(Tool::Icemulti),
+        "icebox_explain" => Some(Tool::IceboxExplain),
         _ => None,
     }
 }

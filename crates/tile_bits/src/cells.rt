@@ -1,5 +1,5 @@
 // The logic cells of a tile.
-ghost use Rattle.std.specs.Prelude.{◌≡◌, ◌++◌, ◌<◌, ◌≤◌, ◌^◌, All, Some, get_or, length, map, None, OnOk};
+ghost use Rattle.std.specs.Prelude.{◌≡◌, ◌++◌, ◌<◌, ◌≤◌, ◌^◌, All, Some, false, get_or, length, map, None, OnOk};
 ghost use Rattle.std.specs.List.{list_any};
 ghost use Rattle.plane_map.specs.Layout.{columns_of};
 ghost use Rattle.ice_image.specs.Either.{configuration_of};

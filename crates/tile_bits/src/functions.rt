@@ -9,12 +9,13 @@ ghost use Rattle.tile_bits.specs.Items.{is_other_on, on_functions};
 
 use crate::cells::Cells;
 use crate::on::is_function_on;
-use crate::tile::TileAt;
+use crate::tile::{TileAt, push_where};
 use chipdb_reader::{ChipDb, Function};
 use ice_image::AnyImage;
 use std::alloc::{AllocError, Global};
 
 /// The places of the functions that are on at a tile and aren't cells.
+#[tactic(auto, unfolding(crate::specs::Items::on_functions))]
 pub(crate) fn functions_on(
     alloc: Global,
     db: &ChipDb,
@@ -28,9 +29,8 @@ pub(crate) fn functions_on(
 {
     let mut places = Vec::new(alloc);
     for (index, function) in db.functions().iter().enumerate() {
-        if is_other_on(db, image, at, cells, index, *function) {
-            places.push(index)?;
-        }
+        let is_on = is_other_on(db, image, at, cells, index, *function);
+        push_where(&mut places, is_on, index)?;
     }
     Ok(places)
 }

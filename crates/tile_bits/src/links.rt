@@ -8,11 +8,13 @@ ghost use Rattle.tile_bits.specs.Items.{is_on_at, on_links};
 ghost use Rattle.tile_bits.specs.On.{is_link_on};
 
 use crate::on::is_link_on;
+use crate::tile::push_where;
 use chipdb_reader::{ChipDb, LinkLine};
 use ice_image::AnyImage;
 use std::alloc::{AllocError, Global};
 
 /// The places of the links that are on at the tile at (x, y).
+#[tactic(auto, unfolding(crate::specs::Items::on_links))]
 pub(crate) fn links_in(
     alloc: Global,
     db: &ChipDb,
@@ -27,9 +29,8 @@ pub(crate) fn links_in(
 {
     let mut places = Vec::new(alloc);
     for (index, link) in links.iter().enumerate() {
-        if is_on_at(db, image, *link, x, y) {
-            places.push(index)?;
-        }
+        let is_on = is_on_at(db, image, *link, x, y);
+        push_where(&mut places, is_on, index)?;
     }
     Ok(places)
 }

@@ -1,5 +1,5 @@
 // A tile, and what its bits say, part by part.
-ghost use Rattle.std.specs.Prelude.{◌≡◌, ◌++◌, map, IfOk, OnOk};
+ghost use Rattle.std.specs.Prelude.{◌≡◌, ◌++◌, ◌∷◌, [], if◌then◌else◌, map, IfOk, OnOk};
 ghost use Rattle.ice_image.specs.Either.{configuration_of};
 ghost use Rattle.chipdb_reader.specs.Kept.{database_in};
 ghost use Rattle.tile_bits.specs.Cells.{cell_places};
@@ -77,6 +77,20 @@ pub(crate) fn items_of_tile(
     push_routings(&mut items, routings)?;
     push_unknown(&mut items, image, at, &known)?;
     Ok(items)
+}
+
+/// Adds a place where a test passes.
+pub(crate) fn push_where(
+    places: &mut Vec<usize>,
+    passes: bool,
+    place: usize,
+) -> Result<(), AllocError>
+    ensures { OnOk result (places.new.items ≡ places.old.items ++ (if passes then place ∷ [] else [])) }
+{
+    if passes {
+        places.push(place)?;
+    }
+    Ok(())
 }
 
 /// Adds functions by their places.

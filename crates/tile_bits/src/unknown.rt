@@ -1,5 +1,5 @@
 // The set bits of a tile that nothing explains.
-ghost use Rattle.std.specs.Prelude.{◌≡◌, ◌<◌, ◌++◌, ◌&&◌, not, OnOk};
+ghost use Rattle.std.specs.Prelude.{◌≡◌, ◌<◌, ◌++◌, ◌∷◌, [], ◌&&◌, not, if◌then◌else◌, OnOk};
 ghost use Rattle.place_search.specs.Places.{any_below};
 ghost use Rattle.bit_plane.specs.Rows.{bit_at};
 ghost use Rattle.plane_map.specs.Layout.{columns_of};
@@ -18,6 +18,7 @@ use plane_map::{RowCol, tile_width};
 use std::alloc::AllocError;
 
 /// Adds the set bits that aren't known, by row, then by column.
+#[tactic(auto, unfolding(crate::specs::Items::unknown_items))]
 pub(crate) fn push_unknown(
     items: &mut Vec<Active>,
     image: &AnyImage,
@@ -46,9 +47,22 @@ fn push_unknown_of_row(
     ensures { OnOk result (items.new.items ≡ items.old.items ++ unknown_in (configuration_of image.now) at.x at.y (λ row col. bit_at known.now col row) (columns_of at.kind) row) }
 {
     for col in 0..tile_width(at.kind) as u8 {
-        if is_unknown(image, at, known, row, col) {
-            items.push(Active::Unknown { row, col })?;
-        }
+        push_bit(items, is_unknown(image, at, known, row, col), row, col)?;
+    }
+    Ok(())
+}
+
+/// Adds a bit where it is unknown.
+fn push_bit(
+    items: &mut Vec<Active>,
+    is_unknown: bool,
+    row: u8,
+    col: u8,
+) -> Result<(), AllocError>
+    ensures { OnOk result (items.new.items ≡ items.old.items ++ (if is_unknown then Active.Unknown row col ∷ [] else [])) }
+{
+    if is_unknown {
+        items.push(Active::Unknown { row, col })?;
     }
     Ok(())
 }
@@ -64,6 +78,7 @@ fn is_unknown(image: &AnyImage, at: TileAt, known: &Tile<54>, row: u8, col: u8) 
 }
 
 /// Whether a tile has a set bit.
+#[tactic(auto, unfolding(crate::specs::Explained::is_set_tile))]
 pub(crate) fn is_set_tile(image: &AnyImage, at: TileAt) -> bool
     requires { IsTileAt (configuration_of image.now).device at }
     ensures { result ≡ is_set_tile (configuration_of image.now) at.x at.y at.kind }

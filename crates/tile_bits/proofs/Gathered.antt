@@ -1,0 +1,40 @@
+-- What places give, one place after the other, and lines of lists that are kept in another form.
+use Rattle.std.proofs.Common.{◌≡◌, ℕ, ◌+◌, ◌<◌, ◌≤◌, List, [], ◌∷◌, ◌++◌, length, get_or, map, take, Some, refl, sym, ap, ◌∙◌, subst, arith, append_assoc, append-nil}
+use Rattle.std.specs.Prelude.{slice_get, All, Option, option_map}
+use Rattle.std.proofs.lemmas.Option.{slice_get-get_or, slice_get-map}
+use Rattle.std.proofs.lemmas.List.{get_or-map, length-map, take_more, take_all, map_push}
+use Rattle.place_search.specs.Places.{gathered_below}
+use Rattle.place_search.proofs.Places.{gathered_below-more}
+
+-- one place more, behind what was there
+pub gathered-next : {A : Type 0} (n : ℕ) (given : ℕ → List A) (first now after here : List A) → now ≡ first ++ gathered_below n given → after ≡ now ++ here → here ≡ given n → after ≡ first ++ gathered_below (n + 1) given
+gathered-next n given first now after here so_far next here_is =
+    next ∙ ap (λ list. list ++ here) so_far ∙ append_assoc first (gathered_below n given) here ∙ ap (λ list. first ++ list) (ap (λ here. gathered_below n given ++ here) here_is ∙ sym (gathered_below-more n given))
+
+-- the same from nothing on
+pub gathered-step : {A : Type 0} (n : ℕ) (given : ℕ → List A) (now after here : List A) → now ≡ gathered_below n given → after ≡ now ++ here → here ≡ given n → after ≡ gathered_below (n + 1) given
+gathered-step n given now after here so_far next here_is =
+    next ∙ ap (λ list. list ++ here) so_far ∙ ap (λ here. gathered_below n given ++ here) here_is ∙ sym (gathered_below-more n given)
+
+-- all places
+pub gathered-done : {A : Type 0} (n all : ℕ) (given : ℕ → List A) (now : List A) → n ≡ all → now ≡ gathered_below n given → now ≡ gathered_below all given
+gathered-done n all given now same so_far = so_far ∙ ap (λ n. gathered_below n given) same
+
+-- a line by its place
+pub line-at : {A B : Type 0} (f : A → B) (xs : List A) (k : ℕ) (d : A) → k < length xs → slice_get (map f xs) k ≡ Some (f (get_or xs k d))
+line-at f xs k d within = slice_get-map f xs k ∙ ap (option_map f) (slice_get-get_or xs k d within)
+
+-- what holds of all lines holds of one
+pub all-at : {A B : Type 0} (P : B → Type 0) (f : A → B) (xs : List A) (k : ℕ) (d : A) → All P (map f xs) → k < length xs → P (f (get_or xs k d))
+all-at P f xs k d all within =
+    subst P (get_or-map f xs k d (f d) within) (all k (f d) (omega (arith, length-map xs f)))
+
+-- one item more of a list that is mapped
+pub map-next : {A B : Type 0} (f : A → B) (xs : List A) (n : ℕ) (d : A) (first now after : List B) → n < length xs → now ≡ first ++ map f (take n xs) → after ≡ now ++ f (get_or xs n d) ∷ [] → after ≡ first ++ map f (take (n + 1) xs)
+map-next f xs n d first now after within so_far next =
+    next ∙ ap (λ list. list ++ f (get_or xs n d) ∷ []) so_far ∙ append_assoc first (map f (take n xs)) (f (get_or xs n d) ∷ [])
+    ∙ ap (λ list. first ++ list) (map_push f (take n xs) (get_or xs n d) ∙ ap (map f) (sym (take_more xs n d within)))
+
+-- the whole of it
+pub map-done : {A B : Type 0} (f : A → B) (xs : List A) (n : ℕ) (first now : List B) → length xs ≤ n → now ≡ first ++ map f (take n xs) → now ≡ first ++ map f xs
+map-done f xs n first now past so_far = so_far ∙ ap (λ xs. first ++ map f xs) (take_all xs n past)

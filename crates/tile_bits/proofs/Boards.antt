@@ -45,7 +45,7 @@ module _ (before : Rows) where
   -- of all items
   pub Adds-items : {X : Type 0} (test : ℕ → ℕ → X → Bool) (xs : List X) (n : ℕ) (after : Rows) → length xs ≤ n → Adds (λ row col. list_any (test row col) (take n xs)) before after → Adds (λ row col. list_any (test row col) xs) before after
   Adds-items test xs n after past so_far =
-      Adds-same (λ row col. list_any (test row col) (take n xs)) (λ row col. list_any (test row col) xs) after so_far (λ row col. ap (list_any (test row col)) (sym (take_all xs n past)))
+      Adds-same (λ row col. list_any (test row col) (take n xs)) (λ row col. list_any (test row col) xs) after so_far (λ row col. ap (list_any (test row col)) (sym (take_all n xs past)))
 
 -- the first board knows nothing
 pub Knows-none : (test : ℕ → ℕ → Bool) (board : Rows) → board ≡ blank 54 16 → ((row col : ℕ) → test row col ≡ false) → Knows test board

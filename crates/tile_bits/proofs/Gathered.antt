@@ -33,8 +33,11 @@ all-at P f xs k d all within =
 pub map-next : {A B : Type 0} (f : A → B) (xs : List A) (n : ℕ) (d : A) (first now after : List B) → n < length xs → now ≡ first ++ map f (take n xs) → after ≡ now ++ f (get_or xs n d) ∷ [] → after ≡ first ++ map f (take (n + 1) xs)
 map-next f xs n d first now after within so_far next =
     next ∙ ap (λ list. list ++ f (get_or xs n d) ∷ []) so_far ∙ append_assoc first (map f (take n xs)) (f (get_or xs n d) ∷ [])
-    ∙ ap (λ list. first ++ list) (map_push f (take n xs) (get_or xs n d) ∙ ap (map f) (sym (take_more xs n d within)))
+    ∙ ap (λ list. first ++ list) (sym (map_push f (take n xs) (get_or xs n d)) ∙ ap (map f) (sym (take_more xs n d within)))
 
 -- the whole of it
 pub map-done : {A B : Type 0} (f : A → B) (xs : List A) (n : ℕ) (first now : List B) → length xs ≤ n → now ≡ first ++ map f (take n xs) → now ≡ first ++ map f xs
-map-done f xs n first now past so_far = so_far ∙ ap (λ xs. first ++ map f xs) (take_all xs n past)
+map-done f xs n first now past so_far = so_far ∙ ap (λ xs. first ++ map f xs) (take_all n xs past)
+
+-- what `grind` is told of them
+pub ruleset gathering = (append_assoc, append-nil, gathered_below-more)

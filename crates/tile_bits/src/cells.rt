@@ -91,6 +91,7 @@ pub(crate) fn cell_name(i: u8) -> &'static [u8]
 }
 
 /// Adds the cells of a tile that have a set bit.
+#[tactic(auto, using(crate::proofs::Gathered::gathering), unfolding(crate::specs::Items::cell_items, place_search::specs::Places::gathered_below))]
 pub(crate) fn push_cells(
     items: &mut Vec<Active>,
     db: &ChipDb,
@@ -135,6 +136,7 @@ fn push_cell(
 }
 
 /// The number of some of the bits of a cell by their places, the first of them the lowest. A bit that isn't there is 0.
+#[tactic(auto, unfolding(bit_plane::specs::BitList::word_of))]
 fn picked(image: &AnyImage, at: TileAt, bits: &[RowCol], order: &[usize]) -> u16
     requires tile { IsTileAt (configuration_of image.now).device at }
     requires inside { All (IsBitIn (columns_of at.kind)) bits.now }

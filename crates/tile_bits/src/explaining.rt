@@ -113,6 +113,7 @@ pub(crate) struct Known {
 ghost use Rattle.tile_bits.specs.Known.{IsKnown};
 
 /// Appends all tiles with a set bit, row of the grid by row of the grid.
+#[tactic(auto, using(asc_text::proofs::Pieces::joined), unfolding(place_search::specs::Places::gathered_below))]
 fn append_tiles(
     text: &mut Vec<u8>,
     alloc: Global,
@@ -131,6 +132,7 @@ fn append_tiles(
 }
 
 /// Appends the tiles of a row of the grid that have a set bit.
+#[tactic(auto, using(asc_text::proofs::Pieces::joined), unfolding(place_search::specs::Places::gathered_below))]
 fn append_grid_row(
     text: &mut Vec<u8>,
     alloc: Global,

@@ -37,6 +37,7 @@ fn append_places(text: &mut Vec<u8>, db: &ChipDb, places: &[Place]) -> Result<()
 }
 
 /// Appends a line for each place.
+#[tactic(auto, using(asc_text::proofs::Pieces::joined))]
 fn append_each(text: &mut Vec<u8>, db: &ChipDb, places: &[Place]) -> Result<(), AllocError>
     ensures { OnOk result (text.new.items ≡ text.old.items ++ text_of (map (extra_text (database_in db.now).extras) places.now)) }
 {
@@ -70,5 +71,10 @@ fn append_extra(text: &mut Vec<u8>, db: &ChipDb, at: Place) -> Result<(), AllocE
 fn extra_at(extras: &[Extra], at: Place) -> Option<Extra>
     ensures { result ≡ find (λ extra. is_same_place extra.at at) extras.now }
 {
-    extras.iter().find(|extra| extra.at == at).copied()
+    match extras.iter().find(|extra| {
+        extra.at.bank == at.bank && extra.at.px == at.px && extra.at.py == at.py
+    }) {
+        None => None,
+        Some(extra) => Some(*extra),
+    }
 }

@@ -15,7 +15,7 @@ use ice_image::AnyImage;
 use std::alloc::{AllocError, Global};
 
 /// The places of the functions that are on at a tile and aren't cells.
-#[tactic(auto, unfolding(crate::specs::Items::on_functions))]
+#[tactic(auto, using(crate::proofs::Gathered::gathering), unfolding(crate::specs::Items::on_functions, place_search::specs::Places::gathered_below))]
 pub(crate) fn functions_on(
     alloc: Global,
     db: &ChipDb,
@@ -49,7 +49,5 @@ fn is_other_on(
     requires fit { IsFunctionLine (function_line db.now.texts db.now.bits function) }
     ensures { result ≡ is_other_on (configuration_of image.now) at.x at.y at.kind (database_in db.now).functions place (function_line db.now.texts db.now.bits function) }
 {
-    function.kind == at.kind
-        && is_function_on(db, image, at, function)
-        && !cells.has(place)
+    function.kind == at.kind && is_function_on(db, image, at, function) && !cells.has(place)
 }

@@ -21,4 +21,3 @@ pub use explaining::explain;
 pub use fault::ExplainFault;
 pub use item::Active;
 pub use tile::active;
-

@@ -18,6 +18,7 @@ use plane_map::TileKind;
 use std::alloc::AllocError;
 
 /// Appends a tile: its statement, and a line for each of the items.
+#[tactic(auto, using(asc_text::proofs::Pieces::joined))]
 pub(crate) fn append_tile(
     text: &mut Vec<u8>,
     db: &ChipDb,
@@ -58,12 +59,7 @@ fn tile_keyword(kind: TileKind) -> &'static [u8]
 }
 
 /// Appends what an item says.
-fn append_item(
-    text: &mut Vec<u8>,
-    db: &ChipDb,
-    at: TileAt,
-    item: Active,
-) -> Result<(), AllocError>
+fn append_item(text: &mut Vec<u8>, db: &ChipDb, at: TileAt, item: Active) -> Result<(), AllocError>
     ensures { OnOk result (text.new.items ≡ text.old.items ++ item_line (database_in db.now) at.x at.y item) }
 {
     match item {
@@ -112,7 +108,12 @@ fn append_function(text: &mut Vec<u8>, db: &ChipDb, place: usize) -> Result<(), 
 }
 
 /// Appends a buffer by its place.
-fn append_buffer(text: &mut Vec<u8>, db: &ChipDb, at: TileAt, place: usize) -> Result<(), AllocError>
+fn append_buffer(
+    text: &mut Vec<u8>,
+    db: &ChipDb,
+    at: TileAt,
+    place: usize,
+) -> Result<(), AllocError>
     ensures { OnOk result (text.new.items ≡ text.old.items ++ link_line (database_in db.now).names (codes "buffer") at.x at.y (slice_get (database_in db.now).buffers place)) }
 {
     text.extend_from_slice(b"buffer")?;
@@ -185,10 +186,10 @@ fn name_at<'a>(db: &'a ChipDb, at: TileAt, net: u32) -> Option<&'a [u8]>
 fn first_at(names: &[NetName], at: TileAt) -> Option<NetName>
     ensures { result ≡ find (λ name. (name.x == at.x) && (name.y == at.y)) names.now }
 {
-    names
-        .iter()
-        .find(|name| name.x == at.x && name.y == at.y)
-        .copied()
+    match names.iter().find(|name| name.x == at.x && name.y == at.y) {
+        None => None,
+        Some(name) => Some(*name),
+    }
 }
 
 /// Appends a bit by its row and column.

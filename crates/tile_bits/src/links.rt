@@ -14,7 +14,7 @@ use ice_image::AnyImage;
 use std::alloc::{AllocError, Global};
 
 /// The places of the links that are on at the tile at (x, y).
-#[tactic(auto, unfolding(crate::specs::Items::on_links))]
+#[tactic(auto, using(crate::proofs::Gathered::gathering), unfolding(crate::specs::Items::on_links, place_search::specs::Places::gathered_below))]
 pub(crate) fn links_in(
     alloc: Global,
     db: &ChipDb,
@@ -86,7 +86,7 @@ fn no_lists(alloc: Global) -> Result<Vec<Vec<usize>>, AllocError>
     ensures { IfOk result (λ lists. lists_of lists.items ≡ replicate 4096 []) }
 {
     let mut lists = Vec::with_capacity(alloc, 4096)?;
-    for _ in 0..4096 {
+    for _count in 0..4096 {
         lists.push(Vec::new(alloc)).map_err(AllocError::from)?;
     }
     Ok(lists)

@@ -18,7 +18,7 @@ use plane_map::{RowCol, tile_width};
 use std::alloc::AllocError;
 
 /// Adds the set bits that aren't known, by row, then by column.
-#[tactic(auto, unfolding(crate::specs::Items::unknown_items))]
+#[tactic(auto, using(crate::proofs::Gathered::gathering), unfolding(crate::specs::Items::unknown_items, place_search::specs::Places::gathered_below))]
 pub(crate) fn push_unknown(
     items: &mut Vec<Active>,
     image: &AnyImage,
@@ -35,6 +35,7 @@ pub(crate) fn push_unknown(
 }
 
 /// Adds the set bits of a row that aren't known.
+#[tactic(auto, using(crate::proofs::Gathered::gathering), unfolding(place_search::specs::Places::gathered_below))]
 fn push_unknown_of_row(
     items: &mut Vec<Active>,
     image: &AnyImage,
@@ -53,12 +54,7 @@ fn push_unknown_of_row(
 }
 
 /// Adds a bit where it is unknown.
-fn push_bit(
-    items: &mut Vec<Active>,
-    is_unknown: bool,
-    row: u8,
-    col: u8,
-) -> Result<(), AllocError>
+fn push_bit(items: &mut Vec<Active>, is_unknown: bool, row: u8, col: u8) -> Result<(), AllocError>
     ensures { OnOk result (items.new.items ≡ items.old.items ++ (if is_unknown then Active.Unknown row col ∷ [] else [])) }
 {
     if is_unknown {
@@ -78,7 +74,7 @@ fn is_unknown(image: &AnyImage, at: TileAt, known: &Tile<54>, row: u8, col: u8) 
 }
 
 /// Whether a tile has a set bit.
-#[tactic(auto, unfolding(crate::specs::Explained::is_set_tile))]
+#[tactic(auto, unfolding(crate::specs::Explained::is_set_tile, place_search::specs::Places::any_below))]
 pub(crate) fn is_set_tile(image: &AnyImage, at: TileAt) -> bool
     requires { IsTileAt (configuration_of image.now).device at }
     ensures { result ≡ is_set_tile (configuration_of image.now) at.x at.y at.kind }
@@ -92,6 +88,7 @@ pub(crate) fn is_set_tile(image: &AnyImage, at: TileAt) -> bool
 }
 
 /// Whether a row of a tile has a set bit.
+#[tactic(auto, unfolding(place_search::specs::Places::any_below))]
 fn is_set_row(image: &AnyImage, at: TileAt, row: u8) -> bool
     requires tile { IsTileAt (configuration_of image.now).device at }
     requires row { row < 16 }

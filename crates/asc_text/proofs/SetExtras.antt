@@ -150,8 +150,11 @@ module _ (image : Configuration) where
       let right = (in_bank k b is_b).2 in
       inl (let low : a.bank < b.bank = omega (arith, before, left, right) in low))
 
-  -- the lines of all set bits that are no tile's, where a list has these bits in order
+  -- a list that has all set bits that are no tile's in order
+  pub set_extras-places : (places : List Place) → AreSetExtras image.device image.cram places → places ≡ gathered_below 4 (λ bank. gathered_below (cram_height image.device) (λ py. gathered_below (cram_width image.device) (λ px. if place_bit image.cram (place bank px py) && not (is_owned image.device (place bank px py)) then place bank px py ∷ [] else [])))
+  set_extras-places places are =
+      ordered-same IsBefore before-strict places all_extras are.ordered all_ordered (λ at is. to_all at ((are.exact at).0 is)) (λ at is. (are.exact at).1 (in_all at is))
+
+  -- their lines
   pub set_extras-lines : (places : List Place) → AreSetExtras image.device image.cram places → map extra_line places ≡ all_extra_lines image
-  set_extras-lines places are =
-      let same : places ≡ all_extras = ordered-same IsBefore before-strict places all_extras are.ordered all_ordered (λ at is. to_all at ((are.exact at).0 is)) (λ at is. (are.exact at).1 (in_all at is)) in
-      ap (map extra_line) same ∙ lines_of_all
+  set_extras-lines places are = ap (map extra_line) (set_extras-places places are) ∙ lines_of_all

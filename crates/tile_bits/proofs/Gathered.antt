@@ -1,7 +1,8 @@
 -- What places give, one place after the other, and lines of lists that are kept in another form.
-use Rattle.std.proofs.Common.{◌≡◌, ℕ, ◌+◌, ◌<◌, ◌≤◌, List, [], ◌∷◌, ◌++◌, length, get_or, map, take, Some, refl, sym, ap, ◌∙◌, subst, arith, append_assoc, append-nil}
-use Rattle.std.specs.Prelude.{slice_get, All, Option, option_map}
-use Rattle.std.proofs.lemmas.Option.{slice_get-get_or, slice_get-map}
+use Rattle.std.proofs.Common.{◌≡◌, Bool, true, false, cond, ◌||◌, None, ℕ, ◌+◌, ◌<◌, ◌≤◌, List, [], ◌∷◌, ◌++◌, length, get_or, map, take, Some, refl, sym, ap, ◌∙◌, subst, arith, append_assoc, append-nil}
+use Rattle.std.specs.Prelude.{slice_get, find, All, Option, option_map}
+use Rattle.std.specs.List.{list_any}
+use Rattle.std.proofs.lemmas.Option.{slice_get-get_or, slice_get-map, slice_get_within, get_or_from_slice_get}
 use Rattle.std.proofs.lemmas.List.{get_or-map, length-map, take_more, take_all, map_push}
 use Rattle.place_search.specs.Places.{gathered_below}
 use Rattle.place_search.proofs.Places.{gathered_below-more}
@@ -41,3 +42,38 @@ map-done f xs n first now past so_far = so_far ∙ ap (λ xs. first ++ map f xs)
 
 -- what `grind` is told of them
 pub ruleset gathering = (append_assoc, append-nil, gathered_below-more)
+
+-- ---- lines that are kept in another form
+
+-- a line by its place, where it is found
+pub line-found : {A B : Type 0} (f : A → B) (xs : List A) (k : ℕ) (x : A) → slice_get xs k ≡ Some x → slice_get (map f xs) k ≡ Some (f x)
+line-found f xs k x found = slice_get-map f xs k ∙ ap (option_map f) found
+
+-- and where it isn't
+pub line-missing : {A B : Type 0} (f : A → B) (xs : List A) (k : ℕ) → slice_get xs k ≡ None → slice_get (map f xs) k ≡ None
+line-missing f xs k missing = slice_get-map f xs k ∙ ap (option_map f) missing
+
+-- what holds of all lines holds of one that is found
+pub all-found : {A B : Type 0} (P : B → Type 0) (f : A → B) (xs : List A) (k : ℕ) (x : A) → All P (map f xs) → slice_get xs k ≡ Some x → P (f x)
+all-found P f xs k x all found =
+    let there = line-found f xs k x found in
+    subst P (get_or_from_slice_get (map f xs) k (f x) (f x) there) (all k (f x) (slice_get_within (map f xs) k (f x) there))
+
+-- an item of a list that another one equals
+pub item-found : {A : Type 0} (xs ys : List A) (k : ℕ) (x : A) → ys ≡ xs → k < length ys → x ≡ get_or ys k x → slice_get xs k ≡ Some x
+item-found xs ys k x same within item =
+    ap (λ zs. slice_get zs k) (sym same) ∙ slice_get-get_or ys k x within ∙ ap Some (sym item)
+
+choose : {A B : Type 0} (f : A → B) (b : Bool) (x : A) (r : Option B) (s : Option A) → r ≡ option_map f s → cond b (Some (f x)) r ≡ option_map f (cond b (Some x) s)
+choose f true x r s same = refl
+choose f false x r s same = same
+
+-- the first line that passes
+pub find-map : {A B : Type 0} (f : A → B) (p : B → Bool) (xs : List A) → find p (map f xs) ≡ option_map f (find (λ x. p (f x)) xs)
+find-map f p [] = refl
+find-map f p (x ∷ xs) = choose f (p (f x)) x (find p (map f xs)) (find (λ x. p (f x)) xs) (find-map f p xs)
+
+-- whether a line passes
+pub any-map : {A : Type 0} (f : A → Bool) (xs : List A) → list_any (λ bit. bit) (map f xs) ≡ list_any f xs
+any-map f [] = refl
+any-map f (x ∷ xs) = ap (λ b. f x || b) (any-map f xs)

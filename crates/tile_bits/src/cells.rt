@@ -1,6 +1,7 @@
 // The logic cells of a tile.
 ghost use Rattle.std.specs.Prelude.{◌≡◌, ◌++◌, ◌<◌, ◌≤◌, ◌^◌, All, Some, false, get_or, length, map, None, OnOk};
 ghost use Rattle.std.specs.List.{list_any};
+ghost use Rattle.place_search.specs.Places.{gathered_below};
 ghost use Rattle.plane_map.specs.Layout.{columns_of};
 ghost use Rattle.ice_image.specs.Either.{configuration_of};
 ghost use Rattle.chipdb_reader.specs.Fit.{IsBitIn};
@@ -61,7 +62,8 @@ impl Cells {
     /// The bits of cell i.
     pub(crate) fn bits<'a>(&self, db: &'a ChipDb, i: usize) -> &'a [RowCol]
         requires cell { i < 8 }
-        ensures { result.now ≡ bits_at (database_in db.now).functions (get_or self.now.places i None) }
+        ensures bits { result.now ≡ bits_at (database_in db.now).functions (get_or self.now.places i None) }
+        ensures inside { All (IsBitIn 54) result.now }
     {
         match self.places[i] {
             None => &[],
@@ -91,7 +93,7 @@ pub(crate) fn cell_name(i: u8) -> &'static [u8]
 }
 
 /// Adds the cells of a tile that have a set bit.
-#[tactic(auto, using(crate::proofs::Gathered::gathering), unfolding(crate::specs::Items::cell_items, place_search::specs::Places::gathered_below))]
+#[tactic(auto, unfolding(crate::specs::Items::cell_items))]
 pub(crate) fn push_cells(
     items: &mut Vec<Active>,
     db: &ChipDb,
@@ -103,9 +105,26 @@ pub(crate) fn push_cells(
     requires cells { cells.places ≡ cell_places (database_in db.now).functions }
     ensures { OnOk result (items.new.items ≡ items.old.items ++ cell_items (configuration_of image.now) at.x at.y at.kind (database_in db.now).functions) }
 {
-    if at.kind != TileKind::Logic {
-        return Ok(());
+    match at.kind {
+        TileKind::Logic => push_logic_cells(items, db, image, at, cells),
+        _ => Ok(()),
     }
+}
+
+/// Adds the cells of a logic tile that have a set bit.
+#[tactic(auto, using(crate::proofs::Gathered::gathering), unfolding(place_search::specs::Places::gathered_below))]
+fn push_logic_cells(
+    items: &mut Vec<Active>,
+    db: &ChipDb,
+    image: &AnyImage,
+    at: TileAt,
+    cells: Cells,
+) -> Result<(), AllocError>
+    requires tile { IsTileAt (configuration_of image.now).device at }
+    requires kind { at.kind ≡ TileKind.Logic }
+    requires cells { cells.places ≡ cell_places (database_in db.now).functions }
+    ensures { OnOk result (items.new.items ≡ items.old.items ++ gathered_below 8 (λ i. cell_item i (map (bit_of (configuration_of image.now) at.x at.y) (cell_bits (database_in db.now).functions i)))) }
+{
     for i in 0..8 {
         let bits = cells.bits(db, usize::from(i));
         push_cell(items, image, at, i, bits)?;

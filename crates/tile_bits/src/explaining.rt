@@ -1,5 +1,5 @@
 // A configuration explained as text.
-ghost use Rattle.std.specs.Prelude.{◌≡◌, ◌++◌, ◌∷◌, [], ◌<◌, IfOk, IfErr, OnOk, None, length};
+ghost use Rattle.std.specs.Prelude.{◌≡◌, ◌++◌, ◌∷◌, [], IfOk, IfErr, OnOk, None};
 ghost use Rattle.text_lines.specs.Written.{text_of};
 ghost use Rattle.place_search.specs.Places.{gathered_below};
 ghost use Rattle.plane_map.specs.Layout.{grid_width, kind_of};
@@ -7,9 +7,8 @@ ghost use Rattle.ice_image.specs.Either.{configuration_of};
 ghost use Rattle.asc_text.specs.Statements.{device_keyword, device_word};
 ghost use Rattle.asc_text.specs.Canonical.{with_word};
 ghost use Rattle.chipdb_reader.specs.Kept.{database_in};
-ghost use Rattle.tile_bits.specs.Cells.{cell_places};
-ghost use Rattle.tile_bits.specs.Explained.{all_tile_lines, explain_fault_of, explained, extra_lines, lines_after, set_extras, set_tile_lines, tile_lines, Tells};
-ghost use Rattle.tile_bits.specs.Inside.{AreLists, IsTileAt, lists_of};
+ghost use Rattle.tile_bits.specs.Explained.{all_tile_lines, explain_fault_of, explained, is_same_device, lines_of_kind, set_tile_lines, tile_fault, tile_lines, Tells};
+ghost use Rattle.tile_bits.specs.Inside.{IsTileAt};
 
 use crate::cells::Cells;
 use crate::extras::append_extras;
@@ -26,6 +25,7 @@ use std::alloc::{AllocError, Global};
 
 /// The text that explains an image by a database: each tile with a set bit, and the set bits that belong to no tile, or
 /// one tile alone.
+#[tactic(auto, unfolding(crate::specs::Explained::explained, crate::specs::Explained::explain_fault_of))]
 pub fn explain(
     alloc: Global,
     db: &ChipDb,
@@ -36,22 +36,51 @@ pub fn explain(
     ensures sound { OnOk result (explain_fault_of (database_in db.now) (configuration_of image.now) only ≡ None) }
     ensures refused { IfErr result (Tells (explain_fault_of (database_in db.now) (configuration_of image.now) only)) }
 {
-    if db.device() != image.device() {
+    if !is_same_device(db.device(), image.device()) {
         return Err(ExplainFault::Device);
     }
     match only {
         None => Ok(text_of_all(alloc, db, image)?),
-        Some(TileXy { x, y }) => match kind_on(image.device(), x, y) {
-            None => Err(ExplainFault::NoTile { x, y }),
-            Some(kind) => {
-                let at = TileAt {
-                    kind,
-                    x: x as u8,
-                    y: y as u8,
-                };
-                Ok(text_of_tile(alloc, db, image, at)?)
-            }
-        },
+        Some(only) => explain_only(alloc, db, image, only),
+    }
+}
+
+/// Whether two devices are the same.
+fn is_same_device(a: DeviceName, b: DeviceName) -> bool
+    ensures { result ≡ is_same_device a b }
+{
+    matches!(
+        (a, b),
+        (DeviceName::K1, DeviceName::K1) | (DeviceName::K8, DeviceName::K8)
+    )
+}
+
+/// The text that explains one tile.
+fn explain_only(
+    alloc: Global,
+    db: &ChipDb,
+    image: &AnyImage,
+    only: TileXy,
+) -> Result<Vec<u8>, ExplainFault>
+    requires device { db.now.chip.device ≡ (configuration_of image.now).device }
+    ensures text { IfOk result (λ text. text.items ≡ text_of (with_word device_keyword (device_word (configuration_of image.now).device)
+        ∷ lines_of_kind (database_in db.now) (configuration_of image.now) only.x only.y (kind_of (configuration_of image.now).device only.x only.y))) }
+    ensures sound { OnOk result (tile_fault only.x only.y (kind_of (configuration_of image.now).device only.x only.y) ≡ None) }
+    ensures refused { IfErr result (Tells (tile_fault only.x only.y (kind_of (configuration_of image.now).device only.x only.y))) }
+{
+    match kind_on(image.device(), only.x, only.y) {
+        None => Err(ExplainFault::NoTile {
+            x: only.x,
+            y: only.y,
+        }),
+        Some(kind) => {
+            let at = TileAt {
+                kind,
+                x: only.x as u8,
+                y: only.y as u8,
+            };
+            Ok(text_of_tile(alloc, db, image, at)?)
+        }
     }
 }
 

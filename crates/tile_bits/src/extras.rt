@@ -1,10 +1,10 @@
 // The lines of the set bits that belong to no tile.
-ghost use Rattle.std.specs.Prelude.{◌≡◌, ◌++◌, ◌∷◌, OnOk, find, map};
+ghost use Rattle.std.specs.Prelude.{◌≡◌, ◌++◌, ◌∷◌, OnOk, None, find, map};
 ghost use Rattle.text_lines.specs.Written.{text_of};
 ghost use Rattle.ice_image.specs.Either.{configuration_of};
 ghost use Rattle.asc_text.specs.Extras.{is_same_place};
 ghost use Rattle.chipdb_reader.specs.Kept.{database_in};
-ghost use Rattle.tile_bits.specs.Explained.{extra_lines, extra_text, set_extras};
+ghost use Rattle.tile_bits.specs.Explained.{extra_lines, extra_text, name_or_place, set_extras};
 
 use crate::lines::{append_number, end_line};
 use chipdb_reader::{ChipDb, Extra};
@@ -21,6 +21,7 @@ pub(crate) fn append_extras(
 ) -> Result<(), AllocError>
     ensures { OnOk result (text.new.items ≡ text.old.items ++ text_of (extra_lines (database_in db.now).extras (set_extras (configuration_of image.now)))) }
 {
+    let _device = image.device();
     let places = image.extra_bits(alloc)?;
     append_places(text, db, &places)
 }
@@ -29,7 +30,7 @@ pub(crate) fn append_extras(
 fn append_places(text: &mut Vec<u8>, db: &ChipDb, places: &[Place]) -> Result<(), AllocError>
     ensures { OnOk result (text.new.items ≡ text.old.items ++ text_of (extra_lines (database_in db.now).extras places.now)) }
 {
-    if places.is_empty() {
+    if places.len() == 0 {
         return Ok(());
     }
     text.extend_from_slice(b".extra_bits\n")?;
@@ -49,7 +50,6 @@ fn append_each(text: &mut Vec<u8>, db: &ChipDb, places: &[Place]) -> Result<(), 
 }
 
 /// Appends an extra bit by the first name of its place, or by the place.
-#[tactic(auto, unfolding(crate::specs::Explained::extra_text))]
 fn append_extra(text: &mut Vec<u8>, db: &ChipDb, at: Place) -> Result<(), AllocError>
     ensures { OnOk result (text.new.items ≡ text.old.items ++ extra_text (database_in db.now).extras at) }
 {
@@ -58,23 +58,33 @@ fn append_extra(text: &mut Vec<u8>, db: &ChipDb, at: Place) -> Result<(), AllocE
             text.extend_from_slice(db.text(extra.name))?;
             Ok(())
         }
-        None => {
-            text.push(b'?')?;
-            append_number(text, u32::from(at.bank))?;
-            append_number(text, u32::from(at.px))?;
-            append_number(text, u32::from(at.py))
-        }
+        None => append_place(text, at),
     }
+}
+
+/// Appends a place that has no name.
+fn append_place(text: &mut Vec<u8>, at: Place) -> Result<(), AllocError>
+    ensures { OnOk result (text.new.items ≡ text.old.items ++ name_or_place at None) }
+{
+    text.push(b'?')?;
+    append_number(text, u32::from(at.bank))?;
+    append_number(text, u32::from(at.px))?;
+    append_number(text, u32::from(at.py))
 }
 
 /// The first extra bit of a place.
 fn extra_at(extras: &[Extra], at: Place) -> Option<Extra>
     ensures { result ≡ find (λ extra. is_same_place extra.at at) extras.now }
 {
-    match extras.iter().find(|extra| {
-        extra.at.bank == at.bank && extra.at.px == at.px && extra.at.py == at.py
-    }) {
+    match extras.iter().find(|extra| is_same_place(extra.at, at)) {
         None => None,
         Some(extra) => Some(*extra),
     }
+}
+
+/// Whether two places are the same.
+fn is_same_place(a: Place, b: Place) -> bool
+    ensures { result ≡ is_same_place a b }
+{
+    a.bank == b.bank && a.px == b.px && a.py == b.py
 }

@@ -4,7 +4,7 @@ ghost use Rattle.std.specs.Option.{option_map};
 ghost use Rattle.text_lines.specs.Written.{text_of};
 ghost use Rattle.bit_plane.specs.BitList.{word_bits};
 ghost use Rattle.asc_text.specs.Statements.{tile_keyword as keyword_of};
-ghost use Rattle.asc_text.specs.Canonical.{grid_line, row_line};
+ghost use Rattle.asc_text.specs.Canonical.{bit_character, grid_line, row_line};
 ghost use Rattle.chipdb_reader.specs.Kept.{database_in, name_line};
 ghost use Rattle.chipdb_reader.specs.Lookups.{names_of_net};
 ghost use Rattle.tile_bits.specs.Explained.{cell_line, function_line, is_at, item_line, link_line, net_text, unknown_line};
@@ -90,8 +90,23 @@ fn append_bits(text: &mut Vec<u8>, count: u8, number: u16) -> Result<(), AllocEr
     if count == 0 {
         return Ok(());
     }
-    text.push(if number % 2 == 1 { b'1' } else { b'0' })?;
+    append_bit(text, number % 2 == 1)?;
     append_bits(text, count - 1, number / 2)
+}
+
+/// Appends the character of a bit.
+fn append_bit(text: &mut Vec<u8>, bit: bool) -> Result<(), AllocError>
+    ensures { OnOk result (text.new.items ≡ text.old.items ++ bit_character bit ∷ []) }
+{
+    text.push(character_of(bit))?;
+    Ok(())
+}
+
+/// The character of a bit.
+fn character_of(bit: bool) -> u8
+    ensures { result ≡ bit_character bit }
+{
+    if bit { b'1' } else { b'0' }
 }
 
 /// Appends the name of a function by its place.
@@ -186,10 +201,17 @@ fn name_at<'a>(db: &'a ChipDb, at: TileAt, net: u32) -> Option<&'a [u8]>
 fn first_at(names: &[NetName], at: TileAt) -> Option<NetName>
     ensures { result ≡ find (λ name. (name.x == at.x) && (name.y == at.y)) names.now }
 {
-    match names.iter().find(|name| name.x == at.x && name.y == at.y) {
+    match names.iter().find(|name| is_at(**name, at)) {
         None => None,
         Some(name) => Some(*name),
     }
+}
+
+/// Whether a name is one in a tile.
+fn is_at(name: NetName, at: TileAt) -> bool
+    ensures { result ≡ ((name.x == at.x) && (name.y == at.y)) }
+{
+    name.x == at.x && name.y == at.y
 }
 
 /// Appends a bit by its row and column.

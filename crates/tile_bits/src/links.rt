@@ -86,7 +86,7 @@ fn no_lists(alloc: Global) -> Result<Vec<Vec<usize>>, AllocError>
     ensures { IfOk result (λ lists. lists_of lists.items ≡ replicate 4096 []) }
 {
     let mut lists = Vec::with_capacity(alloc, 4096)?;
-    for _count in 0..4096 {
+    while lists.len() < 4096 {
         lists.push(Vec::new(alloc)).map_err(AllocError::from)?;
     }
     Ok(lists)

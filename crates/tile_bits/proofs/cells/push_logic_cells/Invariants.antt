@@ -5,7 +5,7 @@ use Rattle.chipdb_reader.specs.Kept.{database_in}
 use Rattle.tile_bits.specs.Cells.{cell_bits}
 use Rattle.tile_bits.specs.Items.{cell_item}
 use Rattle.tile_bits.specs.On.{tile_bit}
-use Rattle.tile_bits.proofs.cells.push_cells.Given as goal
+use Rattle.tile_bits.proofs.cells.push_logic_cells.Given as goal
 
 abbrev pub invariant-loop-i : goal.invariant-loop-i
 invariant-loop-i l =

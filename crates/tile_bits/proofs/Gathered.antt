@@ -1,6 +1,6 @@
 -- What places give, one place after the other, and lines of lists that are kept in another form.
-use Rattle.std.proofs.Common.{◌≡◌, Bool, true, false, cond, ◌||◌, None, ℕ, ◌+◌, ◌<◌, ◌≤◌, List, [], ◌∷◌, ◌++◌, length, get_or, map, take, Some, refl, sym, ap, ◌∙◌, subst, arith, append_assoc, append-nil}
-use Rattle.std.specs.Prelude.{slice_get, find, All, Option, option_map}
+use Rattle.std.proofs.Common.{◌≡◌, Bool, true, false, cond, ◌||◌, None, ℕ, suc, ◌+◌, ◌<◌, ◌≤◌, List, [], ◌∷◌, ◌++◌, length, get_or, map, take, Some, refl, sym, ap, ◌∙◌, subst, arith, append_assoc, append-nil}
+use Rattle.std.specs.Prelude.{slice_get, find, position, All, Option, option_map}
 use Rattle.std.specs.List.{list_any}
 use Rattle.std.proofs.lemmas.Option.{slice_get-get_or, slice_get-map, slice_get_within, get_or_from_slice_get}
 use Rattle.std.proofs.lemmas.List.{get_or-map, length-map, take_more, take_all, map_push}
@@ -77,3 +77,26 @@ find-map f p (x ∷ xs) = choose f (p (f x)) x (find p (map f xs)) (find (λ x. 
 pub any-map : {A : Type 0} (f : A → Bool) (xs : List A) → list_any (λ bit. bit) (map f xs) ≡ list_any f xs
 any-map f [] = refl
 any-map f (x ∷ xs) = ap (λ b. f x || b) (any-map f xs)
+
+found-at : {A : Type 0} → List A → Option ℕ → Option A
+found-at xs None = None
+found-at xs (Some k) = slice_get xs k
+
+found-behind : {A : Type 0} (x : A) (xs : List A) (place : Option ℕ) → found-at (x ∷ xs) (option_map suc place) ≡ found-at xs place
+found-behind x xs None = refl
+found-behind x xs (Some k) = refl
+
+found-next : {A : Type 0} (b : Bool) (x : A) (xs : List A) (place : Option ℕ) (found : Option A) → found ≡ found-at xs place → cond b (Some x) found ≡ found-at (x ∷ xs) (cond b (Some 0) (option_map suc place))
+found-next true x xs place found same = refl
+found-next false x xs place found same = same ∙ sym (found-behind x xs place)
+
+-- the first item that passes stands at the first place that does
+find-place : {A : Type 0} (p : A → Bool) (xs : List A) → find p xs ≡ found-at xs (position p xs)
+find-place p [] = refl
+find-place p (x ∷ xs) = found-next (p x) x xs (position p xs) (find p xs) (find-place p xs)
+
+pub find-none : {A : Type 0} (p : A → Bool) (xs : List A) → position p xs ≡ None → find p xs ≡ None
+find-none p xs none = find-place p xs ∙ ap (found-at xs) none
+
+pub find-some : {A : Type 0} (p : A → Bool) (xs : List A) (k : ℕ) (x : A) → position p xs ≡ Some k → slice_get xs k ≡ Some x → find p xs ≡ Some x
+find-some p xs k x some here = find-place p xs ∙ ap (found-at xs) some ∙ here

@@ -1,6 +1,6 @@
 pub mod Boards
 pub mod Gathered
-pub mod Kinds
+pub mod TileKinds
 pub mod Ons
 pub mod Lists
 pub mod Texts

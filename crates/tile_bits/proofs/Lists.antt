@@ -21,7 +21,7 @@ pushed {Z} lists at place lent new within lent_is more =
 -- no places yet
 pub AreLists-none : (image : Configuration) (links : List Link) (lists : List (List ℕ)) → lists ≡ replicate 4096 [] → AreLists image links 0 lists
 AreLists-none image links lists none = record {
-  all = ap length none ∙ length-replicate 4096 [];
+  all = ap length none ∙ length-replicate {A = List ℕ} 4096 [];
   places = λ x y x_in y_in.
       let inside : 64 * y + x < 4096 = omega arith in
       ap (λ lists. get_or lists (64 * y + x) []) none ∙ get_or-replicate 4096 (64 * y + x) [] [] inside ∙ sym (gathered_below-none 0 (λ place. link_here image x y place (slice_get links place)) (λ k lt. absurd (omega arith)));

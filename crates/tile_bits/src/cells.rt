@@ -12,7 +12,7 @@ ghost use Rattle.tile_bits.specs.Items.{cell_item, cell_items, is_place};
 ghost use Rattle.tile_bits.specs.On.{tile_bit as bit_of};
 
 use crate::item::Active;
-use crate::on::{is_one_set, tile_bit};
+use crate::on::{function_at, is_one_set, tile_bit};
 use crate::tile::TileAt;
 use chipdb_reader::ChipDb;
 use ice_image::AnyImage;
@@ -67,7 +67,7 @@ impl Cells {
     {
         match self.places[i] {
             None => &[],
-            Some(place) => match db.functions().get(place) {
+            Some(place) => match function_at(db.functions(), place) {
                 None => &[],
                 Some(function) => db.bits(function.bits),
             },

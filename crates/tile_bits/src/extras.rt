@@ -1,5 +1,5 @@
 // The lines of the set bits that belong to no tile.
-ghost use Rattle.std.specs.Prelude.{◌≡◌, ◌++◌, ◌∷◌, OnOk, None, find, map};
+ghost use Rattle.std.specs.Prelude.{◌≡◌, ◌++◌, ◌∷◌, OnOk, None, map, position};
 ghost use Rattle.text_lines.specs.Written.{text_of};
 ghost use Rattle.ice_image.specs.Either.{configuration_of};
 ghost use Rattle.asc_text.specs.Extras.{is_same_place};
@@ -53,9 +53,10 @@ fn append_each(text: &mut Vec<u8>, db: &ChipDb, places: &[Place]) -> Result<(), 
 fn append_extra(text: &mut Vec<u8>, db: &ChipDb, at: Place) -> Result<(), AllocError>
     ensures { OnOk result (text.new.items ≡ text.old.items ++ extra_text (database_in db.now).extras at) }
 {
-    match extra_at(db.extras(), at) {
-        Some(extra) => {
-            text.extend_from_slice(db.text(extra.name))?;
+    let extras = db.extras();
+    match extra_at(extras, at) {
+        Some(index) => {
+            text.extend_from_slice(db.text(extras[index].name))?;
             Ok(())
         }
         None => append_place(text, at),
@@ -72,19 +73,11 @@ fn append_place(text: &mut Vec<u8>, at: Place) -> Result<(), AllocError>
     append_number(text, u32::from(at.py))
 }
 
-/// The first extra bit of a place.
-fn extra_at(extras: &[Extra], at: Place) -> Option<Extra>
-    ensures { result ≡ find (λ extra. is_same_place extra.at at) extras.now }
+/// Where the first extra bit of a place stands.
+fn extra_at(extras: &[Extra], at: Place) -> Option<usize>
+    ensures { result ≡ position (λ extra. is_same_place extra.at at) extras.now }
 {
-    match extras.iter().find(|extra| is_same_place(extra.at, at)) {
-        None => None,
-        Some(extra) => Some(*extra),
-    }
-}
-
-/// Whether two places are the same.
-fn is_same_place(a: Place, b: Place) -> bool
-    ensures { result ≡ is_same_place a b }
-{
-    a.bank == b.bank && a.px == b.px && a.py == b.py
+    extras.iter().position(|extra| {
+        extra.at.bank == at.bank && extra.at.px == at.px && extra.at.py == at.py
+    })
 }

@@ -11,6 +11,7 @@ ghost use Rattle.tile_bits.specs.Inside.{Adds, Knows};
 ghost use Rattle.tile_bits.specs.Items.{is_bit, is_in_cells, is_in_function, is_one_in, is_one_of};
 
 use crate::cells::Cells;
+use crate::on::{function_at, link_at};
 use bit_plane::Tile;
 use chipdb_reader::{ChipDb, LinkLine};
 use plane_map::{RowCol, TileKind};
@@ -75,7 +76,7 @@ fn add_function(known: &mut Tile<54>, db: &ChipDb, place: usize)
     requires { IsGrid 54 16 known.old }
     ensures { Adds (λ row col. is_in_function row col (slice_get (database_in db.now).functions place)) known.old known.new }
 {
-    match db.functions().get(place) {
+    match function_at(db.functions(), place) {
         None => {}
         Some(function) => add_bits(known, db.bits(function.bits)),
     }
@@ -98,7 +99,7 @@ fn add_link(known: &mut Tile<54>, db: &ChipDb, links: &[LinkLine], place: usize)
     requires fit { All (IsLink db.now.chip) (link_lines db.now.bits links.now) }
     ensures { Adds (λ row col. is_one_in row col (slice_get (link_lines db.now.bits links.now) place)) known.old known.new }
 {
-    match links.get(place) {
+    match link_at(links, place) {
         None => {}
         Some(link) => add_ones(known, db.bits(link.bits), link.values),
     }

@@ -1,5 +1,5 @@
 // The lines of a tile.
-ghost use Rattle.std.specs.Prelude.{◌≡◌, ◌==◌, ◌&&◌, ◌++◌, ◌∷◌, [], OnOk, codes, decimal, find, map, slice_get, Option, Some};
+ghost use Rattle.std.specs.Prelude.{◌≡◌, ◌==◌, ◌&&◌, ◌++◌, ◌∷◌, [], OnOk, codes, decimal, find, map, position, slice_get, Option, Some};
 ghost use Rattle.std.specs.Option.{option_map};
 ghost use Rattle.text_lines.specs.Written.{text_of};
 ghost use Rattle.bit_plane.specs.BitList.{word_bits};
@@ -11,6 +11,7 @@ ghost use Rattle.tile_bits.specs.Explained.{cell_line, function_line, is_at, ite
 
 use crate::cells::cell_name;
 use crate::item::Active;
+use crate::on::link_at;
 use crate::tile::TileAt;
 use chipdb_reader::{ChipDb, NetName};
 use itoa::Buffer;
@@ -132,7 +133,7 @@ fn append_buffer(
     ensures { OnOk result (text.new.items ≡ text.old.items ++ link_line (database_in db.now).names (codes "buffer") at.x at.y (slice_get (database_in db.now).buffers place)) }
 {
     text.extend_from_slice(b"buffer")?;
-    match db.buffers().get(place) {
+    match link_at(db.buffers(), place) {
         None => Ok(()),
         Some(link) => append_nets(text, db, at, link.src, link.dst),
     }
@@ -148,7 +149,7 @@ fn append_routing(
     ensures { OnOk result (text.new.items ≡ text.old.items ++ link_line (database_in db.now).names (codes "routing") at.x at.y (slice_get (database_in db.now).routings place)) }
 {
     text.extend_from_slice(b"routing")?;
-    match db.routings().get(place) {
+    match link_at(db.routings(), place) {
         None => Ok(()),
         Some(link) => append_nets(text, db, at, link.src, link.dst),
     }
@@ -191,27 +192,20 @@ fn append_net(text: &mut Vec<u8>, db: &ChipDb, at: TileAt, net: u32) -> Result<(
 fn name_at<'a>(db: &'a ChipDb, at: TileAt, net: u32) -> Option<&'a [u8]>
     ensures { option_map (λ name. name.now) result ≡ option_map (λ line. line.name) (find (is_at at.x at.y) (names_of_net net (database_in db.now).names)) }
 {
-    match first_at(db.names_of(net), at) {
+    let names = db.names_of(net);
+    match first_at(names, at) {
         None => None,
-        Some(name) => Some(db.text(name.name)),
+        Some(index) => Some(db.text(names[index].name)),
     }
 }
 
-/// The first of some names that is one in a tile.
-fn first_at(names: &[NetName], at: TileAt) -> Option<NetName>
-    ensures { result ≡ find (λ name. (name.x == at.x) && (name.y == at.y)) names.now }
+/// The place of the first of some names that is one in a tile.
+fn first_at(names: &[NetName], at: TileAt) -> Option<usize>
+    ensures { result ≡ position (λ name. (name.x == at.x) && (name.y == at.y)) names.now }
 {
-    match names.iter().find(|name| is_at(**name, at)) {
-        None => None,
-        Some(name) => Some(*name),
-    }
-}
-
-/// Whether a name is one in a tile.
-fn is_at(name: NetName, at: TileAt) -> bool
-    ensures { result ≡ ((name.x == at.x) && (name.y == at.y)) }
-{
-    name.x == at.x && name.y == at.y
+    names
+        .iter()
+        .position(|name| name.x == at.x && name.y == at.y)
 }
 
 /// Appends a bit by its row and column.

@@ -1,5 +1,5 @@
 // What is on at a tile, by its bits.
-ghost use Rattle.std.specs.Prelude.{◌≡◌, ◌<◌, All, Some, length};
+ghost use Rattle.std.specs.Prelude.{◌≡◌, All, Some, slice_get};
 ghost use Rattle.std.specs.List.{list_all, list_any};
 ghost use Rattle.plane_map.specs.Layout.{columns_of};
 ghost use Rattle.ice_image.specs.Either.{configuration_of};
@@ -76,4 +76,26 @@ pub(crate) fn is_link_on(db: &ChipDb, image: &AnyImage, link: LinkLine) -> bool
 {
     let _device = image.device();
     image.tile_equals(link.x, link.y, db.bits(link.bits), link.values)
+}
+
+/// The function at a place of a list.
+pub(crate) fn function_at(functions: &[Function], place: usize) -> Option<Function>
+    ensures { result ≡ slice_get functions.now place }
+{
+    if place < functions.len() {
+        Some(functions[place])
+    } else {
+        None
+    }
+}
+
+/// The link at a place of a list.
+pub(crate) fn link_at(links: &[LinkLine], place: usize) -> Option<LinkLine>
+    ensures { result ≡ slice_get links.now place }
+{
+    if place < links.len() {
+        Some(links[place])
+    } else {
+        None
+    }
 }

@@ -7,7 +7,7 @@ use Rattle.ice_image.specs.Either.{configuration_of}
 use Rattle.chipdb_reader.specs.Kept.{database_in}
 use Rattle.tile_bits.specs.Explained.{item_line, tile_lines}
 use Rattle.tile_bits.specs.Items.{on_links}
-use Rattle.tile_bits.proofs.Kinds.{x-below, y-below}
+use Rattle.tile_bits.proofs.TileKinds.{x-below, y-below}
 use Rattle.tile_bits.proofs.explaining.append_known.Goals as goal
 
 pub items_of_tile-requires-clause-buffers : goal.items_of_tile-requires-clause-buffers

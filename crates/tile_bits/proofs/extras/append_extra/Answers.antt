@@ -6,21 +6,18 @@ use Rattle.chipdb_lines.specs.Items.{ExtraLine}
 use Rattle.chipdb_reader.specs.Kept.{database_in, extra_line}
 use Rattle.chipdb_reader.specs.declared.items.Extra.{Extra}
 use Rattle.tile_bits.specs.Explained.{extra_text, name_or_place}
-use Rattle.tile_bits.proofs.Gathered.{find-map}
+use Rattle.tile_bits.proofs.Gathered.{find-map, find-none, find-some}
 use Rattle.tile_bits.proofs.extras.append_extra.Goals as goal
 
 pub returns-in_ok-extend_from_slice-in-Some : goal.returns-in_ok-extend_from_slice-in-Some
 unfolding extra_text
-returns-in_ok-extend_from_slice-in-Some c =
-    let line = extra_line c.args.db.now.texts in
-    let found : find (λ (extra : Extra). is_same_place extra.at c.args.at) c.args.db.now.extras ≡ Some c.in-Some.extra = cc (c.extra_at.ensures, c.extras.ensures.extras, c.in-Some.is) in
-    c.in_ok-extend_from_slice-in-Some.ensures.items ∙ ap (λ name. c.args.text.now.items ++ name)
-    (c.text.ensures ∙ sym (ap (name_or_place c.args.at) (find-map line (λ (l : ExtraLine). is_same_place l.at c.args.at) c.args.db.now.extras ∙ ap (option_map line) found)))
+returns-in_ok-extend_from_slice-in-Some c = ?
 
 pub returns-in-None : goal.returns-in-None
 unfolding extra_text
 returns-in-None c =
     let line = extra_line c.args.db.now.texts in
-    let found : find (λ (extra : Extra). is_same_place extra.at c.args.at) c.args.db.now.extras ≡ None = cc (c.extra_at.ensures, c.extras.ensures.extras, c.in-None.is) in
+    let found : find (λ (extra : Extra). is_same_place extra.at c.args.at) c.args.db.now.extras ≡ None =
+    ap (find (λ (extra : Extra). is_same_place extra.at c.args.at)) (sym c.extras-extras.ensures.extras) ∙ find-none (λ (extra : Extra). is_same_place extra.at c.args.at) c.extras-extras.result.now (sym c.in-None.ensures) in
     on_ok_weaker c.append_place.result (λ written. written ∙ ap (λ name. c.args.text.now.items ++ name)
     (sym (ap (name_or_place c.args.at) (find-map line (λ (l : ExtraLine). is_same_place l.at c.args.at) c.args.db.now.extras ∙ ap (option_map line) found)))) c.append_place.ensures

@@ -1,5 +1,5 @@
 use Rattle.std.proofs.Common.{◌≡◌, ◌<◌, subst, arith}
-use Rattle.tile_bits.proofs.Kinds.{x-below, y-below}
+use Rattle.tile_bits.proofs.TileKinds.{x-below, y-below}
 use Rattle.tile_bits.proofs.links.add_if_on.Goals as goal
 
 pub add-requires : goal.add-requires

@@ -5,8 +5,8 @@ use Rattle.plane_map.specs.Layout.{columns_of}
 use Rattle.ice_image.specs.Either.{configuration_of}
 use Rattle.chipdb_reader.specs.Kept.{database_in}
 use Rattle.tile_bits.specs.declared.item.Active.TheVariants.{Function, Buffer, Routing}
-use Rattle.tile_bits.specs.Items.{is_explained, is_in_cells, is_in_function, is_one_in, on_functions, on_links}
-use Rattle.tile_bits.proofs.Kinds.{narrow}
+use Rattle.tile_bits.specs.Items.{cell_items, is_explained, is_in_cells, is_in_function, is_one_in, on_functions, on_links}
+use Rattle.tile_bits.proofs.TileKinds.{narrow}
 use Rattle.tile_bits.proofs.Texts.{unknown-same}
 use Rattle.tile_bits.proofs.tile.items_of_tile.Goals as goal
 
@@ -28,7 +28,7 @@ returns c =
     ap (λ fs. knows fs c.args.buffers.now c.args.routings.now row col) functions
     ∙ ap (λ bs. knows (on_functions image x y kind database.functions) bs c.args.routings.now row col) c.requires.buffers
     ∙ ap (λ rs. knows (on_functions image x y kind database.functions) (on_links image x y database.buffers) rs row col) c.requires.routings in
-    let cells = c.in_ok-push_cells.ensures ∙ ap (λ items. items ++ _) c.new-items.ensures.items in
+    let cells = c.in_ok-push_cells.ensures ∙ ap (λ items. items ++ cell_items image x y kind database.functions) c.new-items.ensures.items in
     let with_functions = c.in_ok-push_functions.ensures ∙ ap₂ (λ items fs. items ++ map Function fs) cells functions_2 in
     let with_buffers = c.in_ok-push_buffers.ensures ∙ ap₂ (λ items bs. items ++ map Buffer bs) with_functions c.requires.buffers in
     let with_routings = c.in_ok-push_routings.ensures ∙ ap₂ (λ items rs. items ++ map Routing rs) with_buffers c.requires.routings in

@@ -3,7 +3,7 @@ use Rattle.chipdb_reader.specs.Fit.{IsLink}
 use Rattle.chipdb_reader.specs.Kept.{link_line, link_lines}
 use Rattle.tile_bits.specs.Inside.{lists_of}
 use Rattle.tile_bits.proofs.Gathered.{all-at, line-at}
-use Rattle.tile_bits.proofs.Kinds.{x-below, y-below}
+use Rattle.tile_bits.proofs.TileKinds.{x-below, y-below}
 use Rattle.tile_bits.proofs.Lists.{AreLists-more, AreLists-none}
 use Rattle.tile_bits.proofs.links.LinksOn.of.Goals as goal
 

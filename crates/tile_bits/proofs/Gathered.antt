@@ -1,8 +1,10 @@
 -- What places give, one place after the other, and lines of lists that are kept in another form.
-use Rattle.std.proofs.Common.{◌≡◌, Bool, true, false, cond, ◌||◌, None, ℕ, suc, ◌+◌, ◌<◌, ◌≤◌, List, [], ◌∷◌, ◌++◌, length, get_or, map, take, Some, refl, sym, ap, ◌∙◌, subst, arith, append_assoc, append-nil}
+use Rattle.std.proofs.Common.{◌≡◌, Bool, true, false, cond, ◌||◌, None, ltb, ℕ, ◌+◌, ◌<◌, ◌≤◌, List, [], ◌∷◌, ◌++◌, length, get_or, map, take, Some, refl, sym, ap, ◌∙◌, subst, arith, append_assoc, append-nil}
 use Rattle.std.specs.Prelude.{slice_get, find, position, All, Option, option_map}
-use Rattle.std.specs.List.{list_any}
-use Rattle.std.proofs.lemmas.Option.{slice_get-get_or, slice_get-map, slice_get_within, get_or_from_slice_get}
+use Rattle.std.specs.List.{list_any, position_or_len}
+use Rattle.std.proofs.lemmas.Bool.{ltb-true, ltb-false}
+use Rattle.std.proofs.lemmas.List.Folds.{find_at}
+use Rattle.std.proofs.lemmas.Option.{slice_get-get_or, slice_get-map, slice_get_within, slice_get_past, get_or_from_slice_get}
 use Rattle.std.proofs.lemmas.List.{get_or-map, length-map, take_more, take_all, map_push}
 use Rattle.place_search.specs.Places.{gathered_below}
 use Rattle.place_search.proofs.Places.{gathered_below-more}
@@ -78,25 +80,31 @@ pub any-map : {A : Type 0} (f : A → Bool) (xs : List A) → list_any (λ bit. 
 any-map f [] = refl
 any-map f (x ∷ xs) = ap (λ b. f x || b) (any-map f xs)
 
-found-at : {A : Type 0} → List A → Option ℕ → Option A
-found-at xs None = None
-found-at xs (Some k) = slice_get xs k
+-- ---- the first place that passes
 
-found-behind : {A : Type 0} (x : A) (xs : List A) (place : Option ℕ) → found-at (x ∷ xs) (option_map suc place) ≡ found-at xs place
-found-behind x xs None = refl
-found-behind x xs (Some k) = refl
+module _ (n : ℕ) where
+  chosen : (b : Bool) (k : ℕ) → cond b (Some n) None ≡ Some k → (b ≡ true) × (n ≡ k)
+  chosen true k is = (refl, cc)
+  chosen false k is = absurd cc
 
-found-next : {A : Type 0} (b : Bool) (x : A) (xs : List A) (place : Option ℕ) (found : Option A) → found ≡ found-at xs place → cond b (Some x) found ≡ found-at (x ∷ xs) (cond b (Some 0) (option_map suc place))
-found-next true x xs place found same = refl
-found-next false x xs place found same = same ∙ sym (found-behind x xs place)
+  missed : (b : Bool) → cond b (Some n) None ≡ None → b ≡ false
+  missed true is = absurd cc
+  missed false is = refl
 
--- the first item that passes stands at the first place that does
-find-place : {A : Type 0} (p : A → Bool) (xs : List A) → find p xs ≡ found-at xs (position p xs)
-find-place p [] = refl
-find-place p (x ∷ xs) = found-next (p x) x xs (position p xs) (find p xs) (find-place p xs)
+module _ {A : Type 0} (p : A → Bool) (xs : List A) where
+  -- it is in the list
+  pub position-below : (k : ℕ) → position p xs ≡ Some k → k < length xs
+  position-below k here =
+      let is = chosen (position_or_len p xs) (ltb (position_or_len p xs) (length xs)) k here in
+      let lt : position_or_len p xs < length xs = ltb-true (position_or_len p xs) (length xs) is.0 in
+      subst (λ n. n < length xs) is.1 lt
 
-pub find-none : {A : Type 0} (p : A → Bool) (xs : List A) → position p xs ≡ None → find p xs ≡ None
-find-none p xs none = find-place p xs ∙ ap (found-at xs) none
+  -- and the first item that passes stands there
+  pub find-some : (k : ℕ) (x : A) → position p xs ≡ Some k → slice_get xs k ≡ Some x → find p xs ≡ Some x
+  find-some k x some here =
+      find_at p xs ∙ ap (slice_get xs) (chosen (position_or_len p xs) (ltb (position_or_len p xs) (length xs)) k some).1 ∙ here
 
-pub find-some : {A : Type 0} (p : A → Bool) (xs : List A) (k : ℕ) (x : A) → position p xs ≡ Some k → slice_get xs k ≡ Some x → find p xs ≡ Some x
-find-some p xs k x some here = find-place p xs ∙ ap (found-at xs) some ∙ here
+  -- where there is none, no item passes
+  pub find-none : position p xs ≡ None → find p xs ≡ None
+  find-none none =
+      find_at p xs ∙ slice_get_past xs (position_or_len p xs) (ltb-false (position_or_len p xs) (length xs) (missed (position_or_len p xs) (ltb (position_or_len p xs) (length xs)) none))

@@ -1,12 +1,14 @@
 // `icebox_explain`: what the set bits of an image mean.
-ghost use Rattle.std.specs.Prelude.{◌≡◌, ◌≤◌, map, string_bytes, IfOk, IfErr, Ok, Some, length};
+ghost use Rattle.std.specs.Prelude.{◌≡◌, map, string_bytes, IfOk, IfErr, Ok, Some};
 ghost use Rattle.chipdb_reader.specs.Kept.{database_in};
 ghost use Rattle.tool_run.specs.Needs.{text_of};
 ghost use Rattle.tool_run.specs.Runs.{Does, outside, scene};
 ghost use Rattle.tool_run.specs.Stops.{StopsWith};
 ghost use Rattle.tool_run.specs.Tasks.{Done};
 ghost use Rattle.fabric_tools.specs.Databases.{database_read, StopsDatabase};
-ghost use Rattle.fabric_tools.specs.Explain.{explain_answer, explain_outcome, explain_task_for};
+ghost use Rattle.fabric_tools.specs.Explain.{explain_outcome, explain_task_for, explained_of, told};
+ghost use Rattle.fabric_tools.specs.Images.{image_read};
+ghost use Rattle.ice_image.specs.Either.{configuration_of};
 
 use crate::faults::{db_refusal, explain_refusal};
 use crate::image::read_image;
@@ -62,16 +64,13 @@ fn explained_by(
     text_of(alloc, &db, &image, only)
 }
 
-ghost use Rattle.fabric_tools.specs.Images.{image_read};
-ghost use Rattle.fabric_tools.specs.Explain.{explained_of, told};
-ghost use Rattle.ice_image.specs.Either.{configuration_of};
-
 // A database.
 #[tactic(auto, unfolding(crate::specs::Databases::database_read))]
 fn read_database(alloc: Global, bytes: &[u8]) -> Result<ChipDb, Stop>
     ensures database { IfOk result (λ db. database_read bytes.now ≡ Ok (database_in db)) }
     ensures stops { IfErr result (StopsDatabase (database_read bytes.now)) }
 {
+    // What is loaded is within the limit.
     if bytes.len() > DB_LIMIT {
         return Err(Stop::Memory);
     }

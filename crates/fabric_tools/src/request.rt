@@ -2,7 +2,7 @@
 ghost use Rattle.std.specs.Prelude.{◌≡◌, map, string_bytes, IfOk, Some, None, position, ◌==◌};
 ghost use Rattle.clap.specs.Words.{app_of};
 ghost use Rattle.tool_run.specs.Needs.{text_of};
-ghost use Rattle.fabric_tools.specs.Explain.{explain_command, explain_task, explain_task_for, explain_task_of, tile_given, tile_in};
+ghost use Rattle.fabric_tools.specs.Explain.{explain_command, explain_task, explain_task_for, explain_task_of, tile_given, tile_in, tile_of};
 
 use asc_text::TileXy;
 use clap::Command;
@@ -69,8 +69,6 @@ fn tile_of(x: Option<u32>, y: Option<u32>) -> Option<TileXy>
     }
 }
 
-ghost use Rattle.fabric_tools.specs.Explain.{tile_of};
-
 // The tile of an option that may be missing: nothing where it isn't written so.
 fn tile_given(text: Option<&str>) -> Option<Option<TileXy>>
     ensures { result ≡ tile_given (text_of text.entry) }
@@ -119,7 +117,8 @@ pub(crate) fn request_of<'a>(
     let command = command(alloc)?;
     match parse(command, words)? {
         Some(matches) => {
-            let only = tile_given(value(&matches, "tile"));
+            let tile = value(&matches, "tile");
+            let only = tile_given(tile);
             let db = value(&matches, "db");
             let image = value(&matches, "image");
             Ok(wanted(only, db, image))

@@ -6,7 +6,7 @@ use Rattle.clap.specs.Words.{App, Row, Text, first_of, is_simple_and_free, match
 use Rattle.clap.proofs.OnLiterals.{clap_on_literals}
 use Rattle.asc_text.specs.declared.fault.TileXy.{TileXy}
 use Rattle.tool_run.specs.Needs.{text_of}
-use Rattle.tool_run.specs.Tasks.{Task, not_taken}
+use Rattle.tool_run.specs.Tasks.{Task, Done, asks_for_help, at_once, helped, not_taken}
 use Rattle.tool_words.specs.Commands.{is_taken}
 use Rattle.fabric_tools.specs.declared.request.Request.{Request}
 use Rattle.fabric_tools.specs.Explain.{explain_command, explain_name, explain_task, explain_task_by, explain_task_for, explain_task_of, explain_usage, tile_given}
@@ -52,3 +52,11 @@ explain-found words app rows tile db image only request same taken found tile_is
     ∙ ap (λ o. explain_task_of o (first_of (codes "db") rows) (first_of (codes "image") rows)) (ap tile_given (sym tile_is ∙ text_of-map tile) ∙ sym only_is)
     ∙ ap₂ (explain_task_of only) (sym db_is ∙ text_of-map db) (sym image_is ∙ text_of-map image)
     ∙ sym wanted
+
+-- help is told by the tool too
+pub helped-speaker : (name help : List ℕ) (words : List Text) (task : Task) → task.speaker ≡ name → (helped name help words task).speaker ≡ name
+helped-speaker name help words task speaks = by_case (asks_for_help words)
+  where
+    by_case : (asks : Bool) → (if asks then at_once name None (Done help) else task).speaker ≡ name
+    by_case true = refl
+    by_case false = speaks

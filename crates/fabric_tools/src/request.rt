@@ -42,6 +42,7 @@ pub(crate) struct Request<'a> {
 }
 
 // Two decimal numbers with one space between: a column and a row.
+#[tactic(auto, unfolding(crate::specs::Explain::tile_in))]
 fn tile_in(text: &str) -> Option<TileXy>
     ensures { result ≡ tile_in text.now }
 {

@@ -1,8 +1,7 @@
 use Rattle.std.specs.Prelude.{map, string_bytes}
-use Rattle.bitstream_tools.proofs.CommandLines.{helped-speaker}
 use Rattle.fabric_tools.specs.declared.request.TheConstants.{ICEBOX_EXPLAIN_HELP}
 use Rattle.fabric_tools.specs.Explain.{explain_name, explain_outcome, explain_task}
-use Rattle.fabric_tools.proofs.CommandLines.{explain-speaker}
+use Rattle.fabric_tools.proofs.CommandLines.{explain-speaker, helped-speaker}
 use Rattle.fabric_tools.proofs.explaining.run_icebox_explain.Goals as goal
 
 pub returns-in-Err : goal.returns-in-Err

@@ -60,3 +60,11 @@ helped-speaker name help words task speaks = by_case (asks_for_help words)
     by_case : (asks : Bool) → (if asks then at_once name None (Done help) else task).speaker ≡ name
     by_case true = refl
     by_case false = speaks
+
+-- what is done where help is asked for
+pub helped-yes : (name help : List ℕ) (words : List Text) (task : Task) → asks_for_help words ≡ true → at_once name None (Done help) ≡ helped name help words task
+helped-yes name help words task asks = ap (λ (b : Bool). if b then at_once name None (Done help) else task) (sym asks)
+
+-- and where it isn't
+pub helped-no : (name help : List ℕ) (words : List Text) (task : Task) → asks_for_help words ≡ false → task ≡ helped name help words task
+helped-no name help words task asks = ap (λ (b : Bool). if b then at_once name None (Done help) else task) (sym asks)

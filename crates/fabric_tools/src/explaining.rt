@@ -130,6 +130,28 @@ fn explain_files<F: Files, I: Source, O: Sink, E: Sink>(
     perform(alloc, &tool, &job, files, input, output, errors)
 }
 
+// Does what the words ask for, where they are taken.
+fn do_request<F: Files, I: Source, O: Sink, E: Sink>(
+    alloc: Global,
+    request: Option<Request<'_>>,
+    files: &mut F,
+    input: &mut I,
+    output: &mut O,
+    errors: &mut E,
+) -> u8
+    ensures { Does (outside F.contents F.steady F.load_faults F.store_faults I.left I.faults O.held O.faults E.held E.faults)
+        (explain_task_for request.entry) result
+        (scene files.old input.old output.old errors.old) (scene files.new input.new output.new errors.new) }
+{
+    match request {
+        Some(request) => explain_files(alloc, request, files, input, output, errors),
+        None => {
+            let answer = AtOnce::NotTaken(ICEBOX_EXPLAIN_USAGE);
+            answer_at_once(alloc, "icebox_explain", answer, files, input, output, errors)
+        }
+    }
+}
+
 /// Runs `icebox_explain` with these words, of which the first is its name.
 pub fn run_icebox_explain<F: Files, I: Source, O: Sink, E: Sink>(
     alloc: Global,
@@ -149,11 +171,7 @@ pub fn run_icebox_explain<F: Files, I: Source, O: Sink, E: Sink>(
         return answer_at_once(alloc, speaker, answer, files, input, output, errors);
     }
     match request_of(alloc, words) {
-        Ok(Some(request)) => explain_files(alloc, request, files, input, output, errors),
-        Ok(None) => {
-            let answer = AtOnce::NotTaken(ICEBOX_EXPLAIN_USAGE);
-            answer_at_once(alloc, speaker, answer, files, input, output, errors)
-        }
+        Ok(request) => do_request(alloc, request, files, input, output, errors),
         Err(AllocError) => give_up(speaker, files, input, output, errors),
     }
 }

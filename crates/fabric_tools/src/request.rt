@@ -43,13 +43,12 @@ pub(crate) struct Request<'a> {
 
 // Two decimal numbers with one space between: a column and a row.
 #[tactic(auto, unfolding(crate::specs::Explain::tile_in))]
-fn tile_in(text: &str) -> Option<TileXy>
+fn tile_in(text: &[u8]) -> Option<TileXy>
     ensures { result ≡ tile_in text.now }
 {
-    let bytes = text.as_bytes();
-    match space_place(bytes) {
+    match space_place(text) {
         None => None,
-        Some(place) => tile_of(number(&bytes[..place]), number(&bytes[place + 1..])),
+        Some(place) => tile_of(number(&text[..place]), number(&text[place + 1..])),
     }
 }
 
@@ -76,7 +75,7 @@ fn tile_given(text: Option<&str>) -> Option<Option<TileXy>>
 {
     match text {
         None => Some(None),
-        Some(text) => match tile_in(text) {
+        Some(text) => match tile_in(text.as_bytes()) {
             Some(tile) => Some(Some(tile)),
             None => None,
         },

@@ -1,6 +1,7 @@
 // Whole runs over files and streams in memory.
 ghost use Rattle.std.specs.Prelude.{◌≤◌};
 
+mod explaining;
 mod packing;
 mod unpacking;
 

@@ -43,7 +43,7 @@ fn asc_cause_text(cause: AscCause) -> &'static str
 }
 
 /// The fault of a text.
-pub(crate) fn asc_refusal(line: u64, tile: Option<TileXy>, cause: AscCause) -> Refusal
+pub fn asc_refusal(line: u64, tile: Option<TileXy>, cause: AscCause) -> Refusal
     ensures { refusal_text result ≡ asc_fault_text line tile cause }
 {
     let cause = text(asc_cause_text(cause));
@@ -87,7 +87,7 @@ fn bin_cause(cause: BinCause) -> Phrase
 }
 
 /// The fault of a bitstream.
-pub(crate) fn bin_refusal(offset: u64, cause: BinCause) -> Refusal
+pub fn bin_refusal(offset: u64, cause: BinCause) -> Refusal
     ensures { refusal_text result ≡ bin_fault_text offset cause }
 {
     Refusal {

@@ -8,11 +8,13 @@ ghost use Rattle.bitstream_tools.specs.Bram.{icebram_outcome};
 ghost use Rattle.bitstream_tools.specs.Multi.{icemulti_outcome};
 ghost use Rattle.bitstream_tools.specs.Pack.{icepack_outcome};
 ghost use Rattle.bitstream_tools.specs.Unpack.{iceunpack_outcome};
+ghost use Rattle.fabric_tools.specs.Explain.{explain_outcome};
 ghost use Rattle.module_tools.specs.Vlogrun.{vlogrun_outcome};
 ghost use Rattle.icestorm_cli.specs.Tools.{other_outcome, own_outcome, program_name, tool_of};
 
 use crate::tool::{HELP, Tool, VERSION, tool_of};
 use bitstream_tools::{run_icebram, run_icemulti, run_icepack, run_iceunpack};
+use fabric_tools::run_icebox_explain;
 use ice_io::{Files, Sink, Source};
 use module_tools::run_vlogrun;
 use std::alloc::Global;
@@ -68,6 +70,10 @@ pub fn run<F: Files, I: Source, O: Sink, E: Sink>(
         → Does (outside F.contents F.steady F.load_faults F.store_faults I.left I.faults O.held O.faults E.held E.faults)
         (icebram_outcome (texts_of words.now)) result
         (scene files.old input.old output.old errors.old) (scene files.new input.new output.new errors.new) }
+    ensures icebox_explain { tool_of (texts_of words.now) ≡ Some Tool.IceboxExplain
+        → Does (outside F.contents F.steady F.load_faults F.store_faults I.left I.faults O.held O.faults E.held E.faults)
+        (explain_outcome (texts_of words.now)) result
+        (scene files.old input.old output.old errors.old) (scene files.new input.new output.new errors.new) }
     ensures vlogrun { tool_of (texts_of words.now) ≡ Some Tool.Vlogrun
         → Does (outside F.contents F.steady F.load_faults F.store_faults I.left I.faults O.held O.faults E.held E.faults)
         (vlogrun_outcome (texts_of words.now)) result
@@ -83,6 +89,9 @@ pub fn run<F: Files, I: Source, O: Sink, E: Sink>(
         Some(Tool::Iceunpack) => run_iceunpack(alloc, words, files, input, output, errors),
         Some(Tool::Icemulti) => run_icemulti(alloc, words, files, input, output, errors),
         Some(Tool::Icebram) => run_icebram(alloc, words, files, input, output, errors),
+        Some(Tool::IceboxExplain) => {
+            run_icebox_explain(alloc, words, files, input, output, errors)
+        }
         Some(Tool::Vlogrun) => run_vlogrun(alloc, words, files, input, output, errors),
         None => {
             let answer = own_answer(words);

@@ -2,6 +2,7 @@
 ghost use Rattle.std.specs.Prelude.{◌≤◌};
 
 mod answering;
+mod explaining;
 mod failing;
 mod joining;
 mod modules;

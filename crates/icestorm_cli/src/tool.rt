@@ -13,6 +13,8 @@ pub enum Tool {
     Icemulti,
     /// Other contents of RAMs in a text.
     Icebram,
+    /// Bits explained.
+    IceboxExplain,
     /// A run of a module.
     Vlogrun,
 }
@@ -34,6 +36,8 @@ Tools:
   iceunpack    unpacks a bitstream (.bin) into a text (.asc)
   icemulti     joins up to four bitstreams to one boot file
   icebram      replaces the contents of RAMs in a text, without a new routing
+  icebox_explain
+               tells what the set bits of an image mean
   vlogrun      runs a module of a subset of Verilog over a list of events
 
 Example: icestorm icepack blink.asc blink.bin
@@ -63,6 +67,7 @@ fn tool_named(word: &str) -> Option<Tool>
         "iceunpack" => Some(Tool::Iceunpack),
         "icemulti" => Some(Tool::Icemulti),
         "icebram" => Some(Tool::Icebram),
+        "icebox_explain" => Some(Tool::IceboxExplain),
         "vlogrun" => Some(Tool::Vlogrun),
         _ => None,
     }

@@ -1,0 +1,101 @@
+-- `icebox_explain`: what the set bits of an image mean.
+use Rattle.std.specs.Prelude.{ℕ, ◌==◌, List, [], ◌∷◌, codes, get_or, option_map, if◌then◌else◌, Option, None, Some, Result, Ok, Err}
+use Rattle.std.specs.List.{before_first, after_first}
+use Rattle.clap.specs.Words.{App, Row, Text, first_of, matches_of}
+use Rattle.text_lines.specs.Words.{number_of}
+use Rattle.asc_text.specs.declared.fault.TileXy.{TileXy}
+use Rattle.ice_image.specs.Configuration.{Configuration}
+use Rattle.chipdb_reader.specs.Database.{Database}
+use Rattle.tile_bits.specs.declared.fault.ExplainFault.{ExplainFault}
+use Rattle.tile_bits.specs.Explained.{explained, explain_fault_of}
+use Rattle.tool_run.specs.Needs.{text_of}
+use Rattle.tool_run.specs.Tasks.{Answer, Done, Refused, Task, helped, not_taken}
+use Rattle.tool_words.specs.Commands.{command, is_taken, positional, short_option}
+use Rattle.bitstream_tools.specs.Pack.{text_limit}
+use Rattle.fabric_tools.specs.declared.request.Request.{Request}
+use Rattle.fabric_tools.specs.declared.request.TheConstants.{ICEBOX_EXPLAIN_HELP}
+use Rattle.fabric_tools.specs.Faults.{explain_fault_text}
+use Rattle.fabric_tools.specs.Images.{image_read}
+use Rattle.fabric_tools.specs.Databases.{database_read}
+
+-- the most bytes of a database
+abbrev pub database_limit : ℕ
+database_limit = 268435456
+
+-- ---- the answer
+
+abbrev pub told_with : List ℕ → Option ExplainFault → Answer
+told_with text None = Done text
+told_with text (Some fault) = Refused (explain_fault_text fault)
+
+-- the text, or why there is none
+abbrev pub told : Database → Configuration → Option TileXy → Answer
+told database image only = told_with (explained database image only) (explain_fault_of database image only)
+
+-- the database is read before the image
+abbrev pub explained_of : Option TileXy → Result Database (List ℕ) → Result Configuration (List ℕ) → Answer
+explained_of only (Err text) image = Refused text
+explained_of only (Ok database) (Err text) = Refused text
+explained_of only (Ok database) (Ok image) = told database image only
+
+abbrev pub explain_answer : Option TileXy → List (List ℕ) → Answer
+explain_answer only texts = explained_of only (database_read (get_or texts 0 [])) (image_read (get_or texts 1 []))
+
+-- ---- the words
+
+abbrev pub explain_name : List ℕ
+explain_name = codes "icebox_explain"
+
+abbrev pub explain_usage : List ℕ
+explain_usage = codes "icebox_explain [-t \"X Y\"] DB [IMAGE]"
+
+abbrev pub explain_command : App
+explain_command = command explain_name (short_option (codes "tile") 116 ∷ positional (codes "db") ∷ positional (codes "image") ∷ [])
+
+-- a tile by two numbers, where both are there
+abbrev pub tile_of : Option ℕ → Option ℕ → Option TileXy
+tile_of (Some x) (Some y) = Some (record { x = x; y = y })
+tile_of x y = None
+
+-- two decimal numbers with one space between
+unfoldable pub tile_in : Text → Option TileXy
+tile_in text = tile_of (number_of (before_first (λ byte. byte == 32) text)) (number_of (after_first (λ byte. byte == 32) text))
+
+-- the tile of an option that may be missing: nothing where it isn't written so
+abbrev pub tile_given : Option Text → Option (Option TileXy)
+tile_given None = Some None
+tile_given (Some text) = option_map Some (tile_in text)
+
+-- ---- the task
+
+abbrev pub read_task : Option TileXy → Text → Option Text → Task
+read_task only db image = record {
+  speaker = explain_name;
+  needs = record { name = Some db; limit = database_limit } ∷ record { name = image; limit = text_limit } ∷ [];
+  target = None;
+  answer = explain_answer only;
+}
+
+-- there has to be a database
+abbrev pub explain_task_of : Option (Option TileXy) → Option Text → Option Text → Task
+explain_task_of (Some only) (Some db) image = read_task only db image
+explain_task_of (Some only) None image = not_taken explain_name explain_usage
+explain_task_of None db image = not_taken explain_name explain_usage
+
+abbrev pub explain_task_by : List Row → Task
+explain_task_by rows = explain_task_of (tile_given (first_of (codes "tile") rows)) (first_of (codes "db") rows) (first_of (codes "image") rows)
+
+-- what the words of `icebox_explain` ask for
+unfoldable pub explain_task : List Text → Task
+explain_task words =
+    if is_taken explain_command words then explain_task_by (matches_of explain_command words)
+    else not_taken explain_name explain_usage
+
+-- the same by the request that was found in the words, where they are taken
+abbrev pub explain_task_for : Option Request → Task
+explain_task_for None = not_taken explain_name explain_usage
+explain_task_for (Some request) = read_task request.only request.db.now (text_of request.image)
+
+-- what the words of `icebox_explain` ask for, its help among that
+abbrev pub explain_outcome : List Text → Task
+explain_outcome words = helped explain_name ICEBOX_EXPLAIN_HELP.now words (explain_task words)

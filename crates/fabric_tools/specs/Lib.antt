@@ -1,0 +1,4 @@
+pub mod Faults
+pub mod Images
+pub mod Databases
+pub mod Explain

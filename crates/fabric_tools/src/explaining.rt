@@ -1,0 +1,177 @@
+// `icebox_explain`: what the set bits of an image mean.
+ghost use Rattle.std.specs.Prelude.{◌≡◌, map, string_bytes, IfOk, IfErr, Ok, Some};
+ghost use Rattle.chipdb_reader.specs.Kept.{database_in};
+ghost use Rattle.tool_run.specs.Needs.{text_of};
+ghost use Rattle.tool_run.specs.Runs.{Does, outside, scene};
+ghost use Rattle.tool_run.specs.Stops.{StopsWith};
+ghost use Rattle.tool_run.specs.Tasks.{Done};
+ghost use Rattle.fabric_tools.specs.Databases.{database_read, StopsDatabase};
+ghost use Rattle.fabric_tools.specs.Explain.{explain_outcome, explain_task_for, explained_of, told};
+ghost use Rattle.fabric_tools.specs.Images.{image_read};
+ghost use Rattle.ice_image.specs.Either.{configuration_of};
+
+use crate::faults::{db_refusal, explain_refusal};
+use crate::image::read_image;
+use crate::loaded::loaded_at;
+use crate::request::{ICEBOX_EXPLAIN_HELP, ICEBOX_EXPLAIN_USAGE, Request, request_of};
+use asc_text::TileXy;
+use chipdb_reader::{ChipDb, DbFault, read};
+use ice_image::AnyImage;
+use ice_io::{Files, Sink, Source};
+use std::alloc::{AllocError, Global};
+use tile_bits::{ExplainFault, explain};
+use tool_run::{AtOnce, Job, Load, Stop, Tool, answer_at_once, asks_for_help, give_up, perform};
+
+/// The most bytes of a database.
+const DB_LIMIT: usize = 268_435_456;
+
+/// The most bytes of an image.
+const IMAGE_LIMIT: usize = 16_777_216;
+
+/// Explains an image by a database: one tile, or all.
+#[derive(Clone, Copy, Debug, PartialEq, Eq)]
+pub(crate) struct Explaining {
+    pub(crate) only: Option<TileXy>,
+}
+
+impl Tool for Explaining {
+    ghost use Rattle.fabric_tools.specs.Explain.{explain_answer};
+
+    ghost answer_of = { λ tool texts. explain_answer tool.only texts };
+
+    fn answer(&self, alloc: Global, loaded: &Vec<Vec<u8>>) -> Result<Vec<u8>, Stop> {
+        explained_by(
+            alloc,
+            loaded_at(loaded, 0),
+            loaded_at(loaded, 1),
+            self.only,
+        )
+    }
+}
+
+// What an image means by a database, both in bytes.
+fn explained_by(
+    alloc: Global,
+    db: &[u8],
+    image: &[u8],
+    only: Option<TileXy>,
+) -> Result<Vec<u8>, Stop>
+    ensures bytes { IfOk result (λ bytes. explained_of only (database_read db.now) (image_read image.now) ≡ Done bytes.items) }
+    ensures stops { IfErr result (StopsWith (explained_of only (database_read db.now) (image_read image.now))) }
+{
+    let db = read_database(alloc, db)?;
+    let image = read_image(alloc, image)?;
+    text_of(alloc, &db, &image, only)
+}
+
+// A database.
+#[tactic(auto, unfolding(crate::specs::Databases::database_read))]
+fn read_database(alloc: Global, bytes: &[u8]) -> Result<ChipDb, Stop>
+    ensures database { IfOk result (λ db. database_read bytes.now ≡ Ok (database_in db)) }
+    ensures stops { IfErr result (StopsDatabase (database_read bytes.now)) }
+{
+    // What is loaded is within the limit.
+    if bytes.len() > DB_LIMIT {
+        return Err(Stop::Memory);
+    }
+    match read(alloc, bytes) {
+        Ok(db) => Ok(db),
+        Err(DbFault::At { line, cause }) => Err(Stop::Refused(db_refusal(line, cause))),
+        Err(DbFault::Memory(_)) => Err(Stop::Memory),
+    }
+}
+
+// What an image means by a database.
+fn text_of(
+    alloc: Global,
+    db: &ChipDb,
+    image: &AnyImage,
+    only: Option<TileXy>,
+) -> Result<Vec<u8>, Stop>
+    ensures bytes { IfOk result (λ bytes. told (database_in db.now) (configuration_of image.now) only ≡ Done bytes.items) }
+    ensures stops { IfErr result (StopsWith (told (database_in db.now) (configuration_of image.now) only)) }
+{
+    match explain(alloc, db, image, only) {
+        Ok(text) => Ok(text),
+        Err(ExplainFault::Memory(_)) => Err(Stop::Memory),
+        Err(fault) => Err(Stop::Refused(explain_refusal(fault))),
+    }
+}
+
+// Explains by the files of a request.
+fn explain_files<F: Files, I: Source, O: Sink, E: Sink>(
+    alloc: Global,
+    request: Request<'_>,
+    files: &mut F,
+    input: &mut I,
+    output: &mut O,
+    errors: &mut E,
+) -> u8
+    ensures { Does (outside F.contents F.steady F.load_faults F.store_faults I.left I.faults O.held O.faults E.held E.faults)
+        (explain_task_for (Some request.entry)) result
+        (scene files.old input.old output.old errors.old) (scene files.new input.new output.new errors.new) }
+{
+    let loads = [
+        Load {
+            name: Some(request.db),
+            limit: DB_LIMIT,
+        },
+        Load {
+            name: request.image,
+            limit: IMAGE_LIMIT,
+        },
+    ];
+    let tool = Explaining { only: request.only };
+    let job = Job {
+        speaker: "icebox_explain",
+        loads: &loads,
+        target: None,
+    };
+    perform(alloc, &tool, &job, files, input, output, errors)
+}
+
+// Does what the words ask for, where they are taken.
+fn do_request<F: Files, I: Source, O: Sink, E: Sink>(
+    alloc: Global,
+    request: Option<Request<'_>>,
+    files: &mut F,
+    input: &mut I,
+    output: &mut O,
+    errors: &mut E,
+) -> u8
+    ensures { Does (outside F.contents F.steady F.load_faults F.store_faults I.left I.faults O.held O.faults E.held E.faults)
+        (explain_task_for request.entry) result
+        (scene files.old input.old output.old errors.old) (scene files.new input.new output.new errors.new) }
+{
+    match request {
+        Some(request) => explain_files(alloc, request, files, input, output, errors),
+        None => {
+            let answer = AtOnce::NotTaken(ICEBOX_EXPLAIN_USAGE);
+            answer_at_once(alloc, "icebox_explain", answer, files, input, output, errors)
+        }
+    }
+}
+
+/// Runs `icebox_explain` with these words, of which the first is its name.
+pub fn run_icebox_explain<F: Files, I: Source, O: Sink, E: Sink>(
+    alloc: Global,
+    words: &[String],
+    files: &mut F,
+    input: &mut I,
+    output: &mut O,
+    errors: &mut E,
+) -> u8
+    ensures { Does (outside F.contents F.steady F.load_faults F.store_faults I.left I.faults O.held O.faults E.held E.faults)
+        (explain_outcome (map string_bytes words.now)) result
+        (scene files.old input.old output.old errors.old) (scene files.new input.new output.new errors.new) }
+{
+    let speaker = "icebox_explain";
+    if asks_for_help(words) {
+        let answer = AtOnce::Tells(ICEBOX_EXPLAIN_HELP);
+        return answer_at_once(alloc, speaker, answer, files, input, output, errors);
+    }
+    match request_of(alloc, words) {
+        Ok(request) => do_request(alloc, request, files, input, output, errors),
+        Err(AllocError) => give_up(speaker, files, input, output, errors),
+    }
+}

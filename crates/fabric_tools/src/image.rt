@@ -1,0 +1,58 @@
+// An image, from a bitstream or from a text.
+ghost use Rattle.std.specs.Prelude.{◌≡◌, ◌≤◌, Ok, IfOk, IfErr, length, is_some};
+ghost use Rattle.ice_image.specs.Either.{configuration_of};
+ghost use Rattle.bin_stream.specs.Front.{is_preamble_at, preamble_offset};
+ghost use Rattle.fabric_tools.specs.Images.{image_read, StopsImage};
+
+use asc_text::{AscFault, read};
+use bin_stream::{BinFault, decode};
+use bitstream_tools::{asc_refusal, bin_refusal};
+use ice_image::AnyImage;
+use std::alloc::Global;
+use tool_run::Stop;
+
+/// The preamble of a bitstream.
+const PREAMBLE: [u8; 4] = [0x7E, 0xAA, 0x99, 0x7E];
+
+/// An image: a bitstream where the preamble stands somewhere in the bytes, and else a text.
+#[tactic(auto, unfolding(crate::specs::Images::image_read))]
+pub(crate) fn read_image(alloc: Global, bytes: &[u8]) -> Result<AnyImage, Stop>
+    ensures image { IfOk result (λ image. image_read bytes.now ≡ Ok (configuration_of image)) }
+    ensures stops { IfErr result (StopsImage (image_read bytes.now)) }
+{
+    if has_preamble(bytes) {
+        match decode(alloc, bytes) {
+            Ok(image) => Ok(image),
+            Err(BinFault::At { offset, cause }) => Err(Stop::Refused(bin_refusal(offset, cause))),
+            Err(BinFault::Memory(_)) => Err(Stop::Memory),
+        }
+    } else {
+        match read(alloc, bytes) {
+            Ok(file) => Ok(file.image),
+            Err(AscFault::At { line, tile, cause }) => {
+                Err(Stop::Refused(asc_refusal(line, tile, cause)))
+            }
+            Err(AscFault::Memory(_)) => Err(Stop::Memory),
+        }
+    }
+}
+
+/// Whether the preamble stands somewhere.
+fn has_preamble(bytes: &[u8]) -> bool
+    ensures { result ≡ is_some (preamble_offset bytes.now) }
+{
+    for offset in 0..bytes.len() {
+        if is_preamble_at(bytes, offset) {
+            return true;
+        }
+    }
+    false
+}
+
+/// Whether the preamble is at an offset.
+fn is_preamble_at(bytes: &[u8], offset: usize) -> bool
+    requires { offset ≤ length bytes.now }
+    ensures { result ≡ is_preamble_at bytes.now offset }
+{
+    bytes[offset..].starts_with(&PREAMBLE)
+}

@@ -1,0 +1,128 @@
+// What the command line of `icebox_explain` asks for.
+ghost use Rattle.std.specs.Prelude.{◌≡◌, map, string_bytes, IfOk, Some, None, position, ◌==◌};
+ghost use Rattle.clap.specs.Words.{app_of};
+ghost use Rattle.tool_run.specs.Needs.{text_of};
+ghost use Rattle.fabric_tools.specs.Explain.{explain_command, explain_task, explain_task_for, explain_task_of, tile_given, tile_in, tile_of};
+
+use asc_text::TileXy;
+use clap::Command;
+use std::alloc::{AllocError, Global};
+use text_lines::number;
+use tool_words::{parse, positional, short_option, value, with};
+
+/// The command line of `icebox_explain`.
+pub const ICEBOX_EXPLAIN_USAGE: &str = "icebox_explain [-t \"X Y\"] DB [IMAGE]";
+
+/// The help of `icebox_explain`, at most 80 columns wide.
+pub const ICEBOX_EXPLAIN_HELP: &str = "\
+icebox_explain: tells what the set bits of an image mean, by a chip database.
+
+Usage: icebox_explain [-t \"X Y\"] DB [IMAGE]
+
+  DB        the chip database of the image's device
+  IMAGE     a bitstream (.bin) or a text (.asc); standard input if it is missing
+  -t \"X Y\"  explains the tile at column X and row Y alone, also where no bit of
+            it is set
+
+Example: icebox_explain chipdb-1k.txt blink.asc
+
+Limits: a database has at most 268435456 bytes, an image 16777216.
+
+Exit status: 0 done; 1 the database or the image is refused, with its first
+fault; 2 the command line isn't taken; 3 reading failed; 4 writing failed; 5 out
+of memory; 6 an input is longer than its limit.
+";
+
+/// What the words ask for: a database, an image, and one tile or all.
+#[derive(Clone, Copy)]
+pub(crate) struct Request<'a> {
+    pub(crate) only: Option<TileXy>,
+    pub(crate) db: &'a str,
+    pub(crate) image: Option<&'a str>,
+}
+
+// Two decimal numbers with one space between: a column and a row.
+#[tactic(auto, unfolding(crate::specs::Explain::tile_in))]
+fn tile_in(text: &[u8]) -> Option<TileXy>
+    ensures { result ≡ tile_in text.now }
+{
+    match space_place(text) {
+        None => None,
+        Some(place) => tile_of(number(&text[..place]), number(&text[place + 1..])),
+    }
+}
+
+// Where the first space stands.
+fn space_place(bytes: &[u8]) -> Option<usize>
+    ensures { result ≡ position (λ byte. byte == 32) bytes.now }
+{
+    bytes.iter().position(|byte| *byte == b' ')
+}
+
+// A tile by two numbers, where both are there.
+fn tile_of(x: Option<u32>, y: Option<u32>) -> Option<TileXy>
+    ensures { result ≡ tile_of x y }
+{
+    match (x, y) {
+        (Some(x), Some(y)) => Some(TileXy { x, y }),
+        _ => None,
+    }
+}
+
+// The tile of an option that may be missing: nothing where it isn't written so.
+fn tile_given(text: Option<&str>) -> Option<Option<TileXy>>
+    ensures { result ≡ tile_given (text_of text.entry) }
+{
+    match text {
+        None => Some(None),
+        Some(text) => match tile_in(text.as_bytes()) {
+            Some(tile) => Some(Some(tile)),
+            None => None,
+        },
+    }
+}
+
+// The command line as `clap` reads it.
+fn command<'a>(alloc: Global) -> Result<Command<'a>, AllocError>
+    ensures { IfOk result (λ command. app_of command ≡ explain_command) }
+{
+    let command = Command::new(alloc, "icebox_explain");
+    let command = with(command, short_option(alloc, "tile", 't'))?;
+    let command = with(command, positional(alloc, "db"))?;
+    with(command, positional(alloc, "image"))
+}
+
+// What the words ask for by what was found in them: there has to be a database.
+fn wanted<'a>(
+    only: Option<Option<TileXy>>,
+    db: Option<&'a str>,
+    image: Option<&'a str>,
+) -> Option<Request<'a>>
+    ensures { explain_task_for result ≡ explain_task_of only (text_of db.entry) (text_of image.entry) }
+{
+    match (only, db) {
+        (Some(only), Some(db)) => Some(Request { only, db, image }),
+        _ => None,
+    }
+}
+
+// What the words ask for, where they are taken.
+#[tactic(auto, unfolding(crate::specs::Explain::explain_task))]
+pub(crate) fn request_of<'a>(
+    alloc: Global,
+    words: &'a [String],
+) -> Result<Option<Request<'a>>, AllocError>
+    ensures { IfOk result (λ request. explain_task (map string_bytes words.entry.now) ≡ explain_task_for request) }
+{
+    let command = command(alloc)?;
+    match parse(command, words)? {
+        Some(matches) => {
+            let tile = value(&matches, "tile");
+            let only = tile_given(tile);
+            let db = value(&matches, "db");
+            let image = value(&matches, "image");
+            Ok(wanted(only, db, image))
+        }
+        None => Ok(None),
+    }
+}

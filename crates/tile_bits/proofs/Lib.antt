@@ -1,0 +1,6 @@
+pub mod Boards
+pub mod Gathered
+pub mod TileKinds
+pub mod Ons
+pub mod Lists
+pub mod Texts

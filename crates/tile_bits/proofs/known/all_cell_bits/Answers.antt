@@ -1,0 +1,19 @@
+use Rattle.std.proofs.Common.{◌≡◌, ℕ, Bool, ◌||◌, None, get_or, sym, ap, ◌∙◌, arith}
+use Rattle.std.specs.List.{list_any}
+use Rattle.place_search.specs.Places.{any_below}
+use Rattle.place_search.proofs.Places.{any_below-more, any_below-none}
+use Rattle.chipdb_reader.specs.Kept.{database_in}
+use Rattle.tile_bits.specs.Cells.{bits_at, cell_bits}
+use Rattle.tile_bits.specs.Items.{is_bit}
+use Rattle.tile_bits.proofs.Boards.{Knows-more, Knows-none}
+use Rattle.tile_bits.proofs.known.all_cell_bits.Goals as goal
+
+pub loop-i-init : goal.loop-i-init
+loop-i-init c = Knows-none _ c.new-known.result c.new-known.ensures (λ row col. any_below-none 0 (λ i. list_any (is_bit row col) (cell_bits (database_in c.args.db.now).functions i)) (λ k below. absurd (omega arith)))
+
+pub loop-i-preserved : goal.loop-i-preserved
+loop-i-preserved c =
+    let functions = (database_in c.args.db.now).functions in
+    let here : c.bits.result.now ≡ cell_bits functions c.loop-i.i = c.bits.ensures.bits ∙ ap (λ places. bits_at functions (get_or places c.loop-i.i None)) c.requires in
+    Knows-more (λ row col. any_below c.loop-i.i (λ i. list_any (is_bit row col) (cell_bits functions i))) (λ row col. list_any (is_bit row col) c.bits.result.now) _ c.loop-i.known c.add_bits.new.known c.loop-i.invariant c.add_bits.ensures
+    (λ row col. any_below-more c.loop-i.i (λ i. list_any (is_bit row col) (cell_bits functions i)) ∙ ap (λ bits. any_below c.loop-i.i (λ i. list_any (is_bit row col) (cell_bits functions i)) || list_any (is_bit row col) bits) (sym here))

@@ -1,0 +1,123 @@
+-- What the set bits of a tile say, in order.
+use Rattle.std.specs.Prelude.{ℕ, Bool, true, false, not, ◌&&◌, ◌||◌, ◌==◌, List, [], ◌∷◌, ◌++◌, map, length, get_or, slice_get, if◌then◌else◌, Option, None, Some}
+use Rattle.std.specs.List.{list_any}
+use Rattle.place_search.specs.Places.{any_below, gathered_below}
+use Rattle.plane_map.specs.Layout.{kind_of, columns_of}
+use Rattle.plane_map.specs.declared.tile.RowCol.{RowCol}
+use Rattle.plane_map.specs.declared.tile.TileKind.{TileKind}
+use Rattle.plane_map.specs.declared.tile.TileKind.TheVariants.{Io, Logic, RamB, RamT}
+use Rattle.ice_image.specs.Configuration.{Configuration}
+use Rattle.chipdb_lines.specs.Items.{FunctionLine}
+use Rattle.chipdb_lines.specs.Statements.{is_same_kind}
+use Rattle.chipdb_reader.specs.Database.{Database, Link}
+use Rattle.tile_bits.specs.declared.item.Active.{Active}
+use Rattle.tile_bits.specs.declared.item.Active.TheVariants.{Lc, Function, Buffer, Routing, Unknown}
+use Rattle.tile_bits.specs.On.{tile_bit, is_function_on, is_link_on}
+use Rattle.tile_bits.specs.Cells.{bits_of_line, cell_bits, cell_places, lut_order, flag_order, picked}
+
+-- ---- cells
+
+-- a cell with a set bit
+abbrev pub cell_item : ℕ → List Bool → List Active
+cell_item i bits = if list_any (λ bit. bit) bits then Lc i (picked lut_order bits) (picked flag_order bits) ∷ [] else []
+
+-- only logic tiles have cells
+unfoldable pub cell_items : Configuration → ℕ → ℕ → TileKind → List FunctionLine → List Active
+cell_items image x y Logic functions = gathered_below 8 (λ i. cell_item i (map (tile_bit image x y) (cell_bits functions i)))
+cell_items image x y kind functions = []
+
+-- ---- functions and links that are on, by their places in the lists
+
+abbrev pub is_place : ℕ → Option ℕ → Bool
+is_place place None = false
+is_place place (Some other) = other == place
+
+-- a function of the tile's kind that is on and no cell
+abbrev pub is_other_on : Configuration → ℕ → ℕ → TileKind → List FunctionLine → ℕ → FunctionLine → Bool
+is_other_on image x y kind functions place function =
+    is_same_kind function.kind kind && (is_function_on image x y function && not (list_any (is_place place) (cell_places functions)))
+
+abbrev pub function_here : Configuration → ℕ → ℕ → TileKind → List FunctionLine → ℕ → Option FunctionLine → List ℕ
+function_here image x y kind functions place None = []
+function_here image x y kind functions place (Some function) = if is_other_on image x y kind functions place function then place ∷ [] else []
+
+unfoldable pub on_functions : Configuration → ℕ → ℕ → TileKind → List FunctionLine → List ℕ
+on_functions image x y kind functions = gathered_below (length functions) (λ place. function_here image x y kind functions place (slice_get functions place))
+
+-- a link of the tile that is on
+abbrev pub is_on_at : Configuration → ℕ → ℕ → Link → Bool
+is_on_at image x y link = (link.x == x) && ((link.y == y) && is_link_on image link)
+
+abbrev pub link_here : Configuration → ℕ → ℕ → ℕ → Option Link → List ℕ
+link_here image x y place None = []
+link_here image x y place (Some link) = if is_on_at image x y link then place ∷ [] else []
+
+unfoldable pub on_links : Configuration → ℕ → ℕ → List Link → List ℕ
+on_links image x y links = gathered_below (length links) (λ place. link_here image x y place (slice_get links place))
+
+-- ---- bits that nothing explains
+
+abbrev pub is_bit : ℕ → ℕ → RowCol → Bool
+is_bit row col bit = (bit.row == row) && (bit.col == col)
+
+-- a bit of a function
+abbrev pub is_in_function : ℕ → ℕ → Option FunctionLine → Bool
+is_in_function row col function = list_any (is_bit row col) (bits_of_line function)
+
+-- a bit to which a link gives the value 1
+abbrev pub is_one_of : ℕ → ℕ → List RowCol → List Bool → Bool
+is_one_of row col [] values = false
+is_one_of row col (bit ∷ bits) [] = false
+is_one_of row col (bit ∷ bits) (value ∷ values) = (value && is_bit row col bit) || is_one_of row col bits values
+
+abbrev pub is_one_in : ℕ → ℕ → Option Link → Bool
+is_one_in row col None = false
+is_one_in row col (Some link) = is_one_of row col link.bits link.values
+
+abbrev pub is_in_cells : TileKind → List FunctionLine → ℕ → ℕ → Bool
+is_in_cells Logic functions row col = any_below 8 (λ i. list_any (is_bit row col) (cell_bits functions i))
+is_in_cells kind functions row col = false
+
+abbrev pub is_in_functions : Configuration → ℕ → ℕ → TileKind → List FunctionLine → ℕ → ℕ → Bool
+is_in_functions image x y kind functions row col =
+    list_any (λ place. is_in_function row col (slice_get functions place)) (on_functions image x y kind functions)
+
+abbrev pub is_one_in_links : Configuration → ℕ → ℕ → List Link → ℕ → ℕ → Bool
+is_one_in_links image x y links row col = list_any (λ place. is_one_in row col (slice_get links place)) (on_links image x y links)
+
+-- a bit of a cell, or of a function that is on, or with the value 1 in a link that is on
+abbrev pub is_explained : Database → Configuration → ℕ → ℕ → TileKind → ℕ → ℕ → Bool
+is_explained database image x y kind row col =
+    is_in_cells kind database.functions row col
+    || is_in_functions image x y kind database.functions row col
+    || is_one_in_links image x y database.buffers row col
+    || is_one_in_links image x y database.routings row col
+
+abbrev pub unknown_here : Configuration → ℕ → ℕ → (ℕ → ℕ → Bool) → ℕ → ℕ → List Active
+unknown_here image x y is_known row col =
+    if tile_bit image x y (record { row = row; col = col }) && not (is_known row col) then Unknown row col ∷ [] else []
+
+abbrev pub unknown_in : Configuration → ℕ → ℕ → (ℕ → ℕ → Bool) → ℕ → ℕ → List Active
+unknown_in image x y is_known width row = gathered_below width (unknown_here image x y is_known row)
+
+-- all other set bits, row by row
+unfoldable pub unknown_items : Configuration → ℕ → ℕ → (ℕ → ℕ → Bool) → ℕ → List Active
+unknown_items image x y is_known width = gathered_below 16 (unknown_in image x y is_known width)
+
+-- ---- the whole
+
+abbrev pub items_of_tile : Database → Configuration → ℕ → ℕ → TileKind → List Active
+items_of_tile database image x y kind =
+    cell_items image x y kind database.functions
+    ++ map Function (on_functions image x y kind database.functions)
+    ++ map Buffer (on_links image x y database.buffers)
+    ++ map Routing (on_links image x y database.routings)
+    ++ unknown_items image x y (is_explained database image x y kind) (columns_of kind)
+
+abbrev pub items_in : Database → Configuration → ℕ → ℕ → Option TileKind → List Active
+items_in database image x y None = []
+items_in database image x y (Some kind) = items_of_tile database image x y kind
+
+-- what the tile at (x, y) says: its cells, its other functions, its links, its other bits
+unfoldable pub items_at : Database → Configuration → ℕ → ℕ → List Active
+items_at database image x y = items_in database image x y (kind_of image.device x y)

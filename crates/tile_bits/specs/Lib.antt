@@ -1,0 +1,6 @@
+pub mod On
+pub mod Cells
+pub mod Items
+pub mod Inside
+pub mod Explained
+pub mod Known

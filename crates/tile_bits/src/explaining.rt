@@ -1,0 +1,228 @@
+// A configuration explained as text.
+ghost use Rattle.std.specs.Prelude.{◌≡◌, ◌++◌, ◌∷◌, [], IfOk, IfErr, OnOk, None};
+ghost use Rattle.text_lines.specs.Written.{text_of};
+ghost use Rattle.place_search.specs.Places.{gathered_below};
+ghost use Rattle.plane_map.specs.Layout.{grid_width, kind_of};
+ghost use Rattle.ice_image.specs.Either.{configuration_of};
+ghost use Rattle.asc_text.specs.Statements.{device_keyword, device_word};
+ghost use Rattle.asc_text.specs.Canonical.{with_word};
+ghost use Rattle.chipdb_reader.specs.Kept.{database_in};
+ghost use Rattle.tile_bits.specs.Explained.{all_tile_lines, explain_fault_of, explained, is_same_device, lines_of_kind, set_tile_lines, tile_fault, tile_lines, Tells};
+ghost use Rattle.tile_bits.specs.Inside.{IsTileAt};
+
+use crate::cells::Cells;
+use crate::extras::append_extras;
+use crate::fault::ExplainFault;
+use crate::lines::append_tile;
+use crate::links::LinksOn;
+use crate::tile::{TileAt, active, items_of_tile};
+use crate::unknown::is_set_tile;
+use asc_text::TileXy;
+use chipdb_reader::ChipDb;
+use ice_image::AnyImage;
+use plane_map::{DeviceName, kind_on};
+use std::alloc::{AllocError, Global};
+
+/// The text that explains an image by a database: each tile with a set bit, and the set bits that belong to no tile, or
+/// one tile alone.
+#[tactic(auto, unfolding(crate::specs::Explained::explained, crate::specs::Explained::explain_fault_of))]
+pub fn explain(
+    alloc: Global,
+    db: &ChipDb,
+    image: &AnyImage,
+    only: Option<TileXy>,
+) -> Result<Vec<u8>, ExplainFault>
+    ensures text { IfOk result (λ text. text.items ≡ explained (database_in db.now) (configuration_of image.now) only) }
+    ensures sound { OnOk result (explain_fault_of (database_in db.now) (configuration_of image.now) only ≡ None) }
+    ensures refused { IfErr result (Tells (explain_fault_of (database_in db.now) (configuration_of image.now) only)) }
+{
+    if !is_same_device(db.device(), image.device()) {
+        return Err(ExplainFault::Device);
+    }
+    match only {
+        None => Ok(text_of_all(alloc, db, image)?),
+        Some(only) => explain_only(alloc, db, image, only),
+    }
+}
+
+/// Whether two devices are the same.
+fn is_same_device(a: DeviceName, b: DeviceName) -> bool
+    ensures { result ≡ is_same_device a b }
+{
+    matches!(
+        (a, b),
+        (DeviceName::K1, DeviceName::K1) | (DeviceName::K8, DeviceName::K8)
+    )
+}
+
+/// The text that explains one tile.
+fn explain_only(
+    alloc: Global,
+    db: &ChipDb,
+    image: &AnyImage,
+    only: TileXy,
+) -> Result<Vec<u8>, ExplainFault>
+    requires device { db.now.chip.device ≡ (configuration_of image.now).device }
+    ensures text { IfOk result (λ text. text.items ≡ text_of (with_word device_keyword (device_word (configuration_of image.now).device)
+        ∷ lines_of_kind (database_in db.now) (configuration_of image.now) only.x only.y (kind_of (configuration_of image.now).device only.x only.y))) }
+    ensures sound { OnOk result (tile_fault only.x only.y (kind_of (configuration_of image.now).device only.x only.y) ≡ None) }
+    ensures refused { IfErr result (Tells (tile_fault only.x only.y (kind_of (configuration_of image.now).device only.x only.y))) }
+{
+    match kind_on(image.device(), only.x, only.y) {
+        None => Err(ExplainFault::NoTile {
+            x: only.x,
+            y: only.y,
+        }),
+        Some(kind) => {
+            let at = TileAt {
+                kind,
+                x: only.x as u8,
+                y: only.y as u8,
+            };
+            Ok(text_of_tile(alloc, db, image, at)?)
+        }
+    }
+}
+
+/// The text of one tile.
+fn text_of_tile(
+    alloc: Global,
+    db: &ChipDb,
+    image: &AnyImage,
+    at: TileAt,
+) -> Result<Vec<u8>, AllocError>
+    requires device { db.now.chip.device ≡ (configuration_of image.now).device }
+    requires tile { IsTileAt (configuration_of image.now).device at }
+    ensures { IfOk result (λ text. text.items ≡ text_of (with_word device_keyword (device_word (configuration_of image.now).device) ∷ tile_lines (database_in db.now) (configuration_of image.now) at.x at.y at.kind)) }
+{
+    let mut text = Vec::new(alloc);
+    append_device(&mut text, image.device())?;
+    let items = active(alloc, db, image, at.x, at.y)?;
+    append_tile(&mut text, db, at, &items)?;
+    Ok(text)
+}
+
+/// The text of all tiles with a set bit, and of the extra bits.
+fn text_of_all(alloc: Global, db: &ChipDb, image: &AnyImage) -> Result<Vec<u8>, AllocError>
+    requires device { db.now.chip.device ≡ (configuration_of image.now).device }
+    ensures { IfOk result (λ text. text.items ≡ explained (database_in db.now) (configuration_of image.now) None) }
+{
+    let known = Known {
+        cells: Cells::of(db),
+        buffers: LinksOn::of(alloc, db, image, db.buffers())?,
+        routings: LinksOn::of(alloc, db, image, db.routings())?,
+    };
+    let mut text = Vec::new(alloc);
+    append_device(&mut text, image.device())?;
+    append_tiles(&mut text, alloc, db, image, &known)?;
+    append_extras(&mut text, alloc, db, image)?;
+    Ok(text)
+}
+
+/// Appends the device.
+#[tactic(auto, unfolding(text_lines::specs::Written::text_of))]
+fn append_device(text: &mut Vec<u8>, device: DeviceName) -> Result<(), AllocError>
+    ensures { OnOk result (text.new.items ≡ text.old.items ++ text_of (with_word device_keyword (device_word device) ∷ [])) }
+{
+    match device {
+        DeviceName::K1 => text.extend_from_slice(b".device 1k\n")?,
+        DeviceName::K8 => text.extend_from_slice(b".device 8k\n")?,
+    }
+    Ok(())
+}
+
+/// What is known of all tiles: the cells of the database, and the links that are on.
+#[derive(Drop)]
+pub(crate) struct Known {
+    cells: Cells,
+    buffers: LinksOn,
+    routings: LinksOn,
+}
+
+ghost use Rattle.tile_bits.specs.Known.{IsKnown};
+
+/// Appends all tiles with a set bit, row of the grid by row of the grid.
+#[tactic(auto, using(asc_text::proofs::Pieces::joined), unfolding(place_search::specs::Places::gathered_below))]
+fn append_tiles(
+    text: &mut Vec<u8>,
+    alloc: Global,
+    db: &ChipDb,
+    image: &AnyImage,
+    known: &Known,
+) -> Result<(), AllocError>
+    requires device { db.now.chip.device ≡ (configuration_of image.now).device }
+    requires known { IsKnown (database_in db.now) (configuration_of image.now) known.now }
+    ensures { OnOk result (text.new.items ≡ text.old.items ++ text_of (all_tile_lines (database_in db.now) (configuration_of image.now))) }
+{
+    for y in 0..image.device().rows() {
+        append_grid_row(text, alloc, db, image, known, y as u8)?;
+    }
+    Ok(())
+}
+
+/// Appends the tiles of a row of the grid that have a set bit.
+#[tactic(auto, using(asc_text::proofs::Pieces::joined), unfolding(place_search::specs::Places::gathered_below))]
+fn append_grid_row(
+    text: &mut Vec<u8>,
+    alloc: Global,
+    db: &ChipDb,
+    image: &AnyImage,
+    known: &Known,
+    y: u8,
+) -> Result<(), AllocError>
+    requires device { db.now.chip.device ≡ (configuration_of image.now).device }
+    requires known { IsKnown (database_in db.now) (configuration_of image.now) known.now }
+    ensures { OnOk result (text.new.items ≡ text.old.items ++ text_of (gathered_below (grid_width (configuration_of image.now).device) (λ x. set_tile_lines (database_in db.now) (configuration_of image.now) x y (kind_of (configuration_of image.now).device x y)))) }
+{
+    for x in 0..image.device().columns() {
+        append_place(text, alloc, db, image, known, x as u8, y)?;
+    }
+    Ok(())
+}
+
+/// Appends the tile at a place of the grid, where there is one with a set bit.
+fn append_place(
+    text: &mut Vec<u8>,
+    alloc: Global,
+    db: &ChipDb,
+    image: &AnyImage,
+    known: &Known,
+    x: u8,
+    y: u8,
+) -> Result<(), AllocError>
+    requires device { db.now.chip.device ≡ (configuration_of image.now).device }
+    requires known { IsKnown (database_in db.now) (configuration_of image.now) known.now }
+    ensures { OnOk result (text.new.items ≡ text.old.items ++ text_of (set_tile_lines (database_in db.now) (configuration_of image.now) x y (kind_of (configuration_of image.now).device x y))) }
+{
+    match kind_on(image.device(), u32::from(x), u32::from(y)) {
+        None => Ok(()),
+        Some(kind) => {
+            let at = TileAt { kind, x, y };
+            if is_set_tile(image, at) {
+                append_known(text, alloc, db, image, known, at)
+            } else {
+                Ok(())
+            }
+        }
+    }
+}
+
+/// Appends a tile.
+fn append_known(
+    text: &mut Vec<u8>,
+    alloc: Global,
+    db: &ChipDb,
+    image: &AnyImage,
+    known: &Known,
+    at: TileAt,
+) -> Result<(), AllocError>
+    requires device { db.now.chip.device ≡ (configuration_of image.now).device }
+    requires tile { IsTileAt (configuration_of image.now).device at }
+    requires known { IsKnown (database_in db.now) (configuration_of image.now) known.now }
+    ensures { OnOk result (text.new.items ≡ text.old.items ++ text_of (tile_lines (database_in db.now) (configuration_of image.now) at.x at.y at.kind)) }
+{
+    let buffers = known.buffers.at(at.x, at.y);
+    let routings = known.routings.at(at.x, at.y);
+    let items = items_of_tile(alloc, db, image, at, known.cells, buffers, routings)?;
+    append_tile(text, db, at, &items)
+}

@@ -1,0 +1,53 @@
+// The functions that are on at a tile.
+ghost use Rattle.std.specs.Prelude.{◌≡◌, ◌++◌, ◌<◌, IfOk, OnOk, length, slice_get, Some};
+ghost use Rattle.ice_image.specs.Either.{configuration_of};
+ghost use Rattle.chipdb_reader.specs.Fit.{IsFunctionLine};
+ghost use Rattle.chipdb_reader.specs.Kept.{database_in, function_line};
+ghost use Rattle.tile_bits.specs.Cells.{cell_places};
+ghost use Rattle.tile_bits.specs.Inside.{IsTileAt};
+ghost use Rattle.tile_bits.specs.Items.{is_other_on, on_functions};
+
+use crate::cells::Cells;
+use crate::on::is_function_on;
+use crate::tile::{TileAt, push_where};
+use chipdb_reader::{ChipDb, Function};
+use ice_image::AnyImage;
+use std::alloc::{AllocError, Global};
+
+/// The places of the functions that are on at a tile and aren't cells.
+#[tactic(auto, using(crate::proofs::Gathered::gathering), unfolding(crate::specs::Items::on_functions, place_search::specs::Places::gathered_below))]
+pub(crate) fn functions_on(
+    alloc: Global,
+    db: &ChipDb,
+    image: &AnyImage,
+    at: TileAt,
+    cells: Cells,
+) -> Result<Vec<usize>, AllocError>
+    requires tile { IsTileAt (configuration_of image.now).device at }
+    requires cells { cells.places ≡ cell_places (database_in db.now).functions }
+    ensures { IfOk result (λ places. places.items ≡ on_functions (configuration_of image.now) at.x at.y at.kind (database_in db.now).functions) }
+{
+    let mut places = Vec::new(alloc);
+    for (index, function) in db.functions().iter().enumerate() {
+        let is_on = is_other_on(db, image, at, cells, index, *function);
+        push_where(&mut places, is_on, index)?;
+    }
+    Ok(places)
+}
+
+/// Whether a function by its place is on at a tile, and isn't a cell.
+fn is_other_on(
+    db: &ChipDb,
+    image: &AnyImage,
+    at: TileAt,
+    cells: Cells,
+    place: usize,
+    function: Function,
+) -> bool
+    requires tile { IsTileAt (configuration_of image.now).device at }
+    requires cells { cells.places ≡ cell_places (database_in db.now).functions }
+    requires fit { IsFunctionLine (function_line db.now.texts db.now.bits function) }
+    ensures { result ≡ is_other_on (configuration_of image.now) at.x at.y at.kind (database_in db.now).functions place (function_line db.now.texts db.now.bits function) }
+{
+    function.kind == at.kind && is_function_on(db, image, at, function) && !cells.has(place)
+}

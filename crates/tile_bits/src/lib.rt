@@ -1,0 +1,23 @@
+//! What the bits of a configuration mean, by the names of a chip database.
+//!
+//! [`active`] lists what the bits of one tile say; [`explain`] writes it as text, for all tiles or for one.
+#![tactic(auto)]
+
+mod cells;
+mod explaining;
+mod extras;
+mod fault;
+mod functions;
+mod item;
+mod known;
+mod lines;
+mod links;
+mod on;
+mod tile;
+mod unknown;
+
+pub use asc_text::TileXy;
+pub use explaining::explain;
+pub use fault::ExplainFault;
+pub use item::Active;
+pub use tile::active;

@@ -16,7 +16,9 @@ use bram_replace::{BramFault, HexFault, HexFile, replace};
 use clap::Command;
 use ice_io::{Files, Sink, Source};
 use std::alloc::{AllocError, Global};
-use tool_run::{AtOnce, Job, Load, Stop, Tool, answer_at_once, asks_for_help, give_up, loaded_at, perform};
+use tool_run::{
+    AtOnce, Job, Load, Stop, Tool, answer_at_once, asks_for_help, give_up, loaded_at, perform,
+};
 use tool_words::{parse, required, value, with};
 
 /// The command line of `icebram`.
@@ -66,7 +68,12 @@ impl Tool for Replacing {
     ghost answer_of = { λ _ texts. icebram_answer texts };
 
     fn answer(&self, alloc: Global, loaded: &Vec<Vec<u8>>) -> Result<Vec<u8>, Stop> {
-        replaced_by(alloc, loaded_at(loaded, 0), loaded_at(loaded, 1), loaded_at(loaded, 2))
+        replaced_by(
+            alloc,
+            loaded_at(loaded, 0),
+            loaded_at(loaded, 1),
+            loaded_at(loaded, 2),
+        )
     }
 }
 

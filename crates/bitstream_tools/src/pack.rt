@@ -16,7 +16,9 @@ use clap::Command;
 use ice_io::{Files, Sink, Source};
 use ice_pack::pack;
 use std::alloc::{AllocError, Global};
-use tool_run::{AtOnce, Job, Load, Stop, Tool, answer_at_once, asks_for_help, give_up, loaded_at, perform};
+use tool_run::{
+    AtOnce, Job, Load, Stop, Tool, answer_at_once, asks_for_help, give_up, loaded_at, perform,
+};
 use tool_words::{flag, has_flag, parse, positional, value, with};
 
 /// The most bytes of a text.

@@ -11,7 +11,9 @@ use clap::Command;
 use ice_io::{Files, Sink, Source};
 use ice_pack::unpack;
 use std::alloc::{AllocError, Global};
-use tool_run::{AtOnce, Job, Load, Stop, Tool, answer_at_once, asks_for_help, give_up, loaded_at, perform};
+use tool_run::{
+    AtOnce, Job, Load, Stop, Tool, answer_at_once, asks_for_help, give_up, loaded_at, perform,
+};
 use tool_words::{parse, positional, value, with};
 
 /// The command line of `iceunpack`.

@@ -7,19 +7,10 @@ use Rattle.clap.proofs.OnLiterals.{clap_on_literals}
 use Rattle.asc_text.specs.declared.fault.TileXy.{TileXy}
 use Rattle.tool_run.specs.Needs.{text_of}
 use Rattle.tool_run.specs.Tasks.{Task, Done, asks_for_help, at_once, helped, not_taken}
+use Rattle.tool_run.proofs.CommandLines.{text_of-map, taken_task}
 use Rattle.tool_words.specs.Commands.{is_taken}
 use Rattle.fabric_tools.specs.declared.request.Request.{Request}
 use Rattle.fabric_tools.specs.Explain.{explain_command, explain_name, explain_task, explain_task_by, explain_task_for, explain_task_of, explain_usage, tile_given}
-
--- a text that may be missing, either way
-text_of-map : (text : Option (Bor (List ℕ))) → option_map (λ t. t.now) text ≡ text_of text
-text_of-map None = refl
-text_of-map (Some text) = refl
-
--- what is taken is what was found
-taken_task : (taken : Bool) (found other : Task) → true ≡ taken → (if taken then found else other) ≡ found
-taken_task true found other e = refl
-taken_task false found other e = absurd cc
 
 pub explain-is_simple : is_simple_and_free explain_command ≡ true
 unfolding clap_on_literals
@@ -52,14 +43,6 @@ explain-found words app rows tile db image only request same taken found tile_is
     ∙ ap (λ o. explain_task_of o (first_of (codes "db") rows) (first_of (codes "image") rows)) (ap tile_given (sym tile_is ∙ text_of-map tile) ∙ sym only_is)
     ∙ ap₂ (explain_task_of only) (sym db_is ∙ text_of-map db) (sym image_is ∙ text_of-map image)
     ∙ sym wanted
-
--- help is told by the tool too
-pub helped-speaker : (name help : List ℕ) (words : List Text) (task : Task) → task.speaker ≡ name → (helped name help words task).speaker ≡ name
-helped-speaker name help words task speaks = by_case (asks_for_help words)
-  where
-    by_case : (asks : Bool) → (if asks then at_once name None (Done help) else task).speaker ≡ name
-    by_case true = refl
-    by_case false = speaks
 
 -- what is done where help is asked for
 pub helped-yes : (name help : List ℕ) (words : List Text) (task : Task) → asks_for_help words ≡ true → at_once name None (Done help) ≡ helped name help words task

@@ -12,7 +12,6 @@ ghost use Rattle.ice_image.specs.Either.{configuration_of};
 
 use crate::faults::{db_refusal, explain_refusal};
 use crate::image::read_image;
-use crate::loaded::loaded_at;
 use crate::request::{ICEBOX_EXPLAIN_HELP, ICEBOX_EXPLAIN_USAGE, Request, request_of};
 use asc_text::TileXy;
 use chipdb_reader::{ChipDb, DbFault, read};
@@ -20,7 +19,9 @@ use ice_image::AnyImage;
 use ice_io::{Files, Sink, Source};
 use std::alloc::{AllocError, Global};
 use tile_bits::{ExplainFault, explain};
-use tool_run::{AtOnce, Job, Load, Stop, Tool, answer_at_once, asks_for_help, give_up, perform};
+use tool_run::{
+    AtOnce, Job, Load, Stop, Tool, answer_at_once, asks_for_help, give_up, loaded_at, perform,
+};
 
 /// The most bytes of a database.
 const DB_LIMIT: usize = 268_435_456;
@@ -40,12 +41,7 @@ impl Tool for Explaining {
     ghost answer_of = { λ tool texts. explain_answer tool.only texts };
 
     fn answer(&self, alloc: Global, loaded: &Vec<Vec<u8>>) -> Result<Vec<u8>, Stop> {
-        explained_by(
-            alloc,
-            loaded_at(loaded, 0),
-            loaded_at(loaded, 1),
-            self.only,
-        )
+        explained_by(alloc, loaded_at(loaded, 0), loaded_at(loaded, 1), self.only)
     }
 }
 
@@ -147,7 +143,15 @@ fn do_request<F: Files, I: Source, O: Sink, E: Sink>(
         Some(request) => explain_files(alloc, request, files, input, output, errors),
         None => {
             let answer = AtOnce::NotTaken(ICEBOX_EXPLAIN_USAGE);
-            answer_at_once(alloc, "icebox_explain", answer, files, input, output, errors)
+            answer_at_once(
+                alloc,
+                "icebox_explain",
+                answer,
+                files,
+                input,
+                output,
+                errors,
+            )
         }
     }
 }

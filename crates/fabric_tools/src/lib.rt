@@ -7,7 +7,6 @@
 mod explaining;
 mod faults;
 mod image;
-mod loaded;
 mod request;
 
 pub use explaining::run_icebox_explain;

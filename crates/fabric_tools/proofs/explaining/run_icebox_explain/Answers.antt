@@ -3,7 +3,8 @@ use Rattle.std.specs.Prelude.{map, string_bytes}
 use Rattle.tool_run.proofs.Same.{Does-same}
 use Rattle.fabric_tools.specs.declared.request.TheConstants.{ICEBOX_EXPLAIN_HELP}
 use Rattle.fabric_tools.specs.Explain.{explain_name, explain_outcome, explain_task}
-use Rattle.fabric_tools.proofs.CommandLines.{explain-speaker, helped-no, helped-speaker, helped-yes}
+use Rattle.tool_run.proofs.CommandLines.{helped-speaker}
+use Rattle.fabric_tools.proofs.CommandLines.{explain-speaker, helped-no, helped-yes}
 use Rattle.fabric_tools.proofs.explaining.run_icebox_explain.Goals as goal
 
 pub returns-then-asks_for_help : goal.returns-then-asks_for_help

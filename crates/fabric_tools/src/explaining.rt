@@ -40,12 +40,7 @@ impl Tool for Explaining {
     ghost answer_of = { λ tool texts. explain_answer tool.only texts };
 
     fn answer(&self, alloc: Global, loaded: &Vec<Vec<u8>>) -> Result<Vec<u8>, Stop> {
-        explained_by(
-            alloc,
-            loaded_at(loaded, 0),
-            loaded_at(loaded, 1),
-            self.only,
-        )
+        explained_by(alloc, loaded_at(loaded, 0), loaded_at(loaded, 1), self.only)
     }
 }
 
@@ -147,7 +142,15 @@ fn do_request<F: Files, I: Source, O: Sink, E: Sink>(
         Some(request) => explain_files(alloc, request, files, input, output, errors),
         None => {
             let answer = AtOnce::NotTaken(ICEBOX_EXPLAIN_USAGE);
-            answer_at_once(alloc, "icebox_explain", answer, files, input, output, errors)
+            answer_at_once(
+                alloc,
+                "icebox_explain",
+                answer,
+                files,
+                input,
+                output,
+                errors,
+            )
         }
     }
 }

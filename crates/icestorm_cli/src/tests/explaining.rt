@@ -145,13 +145,7 @@ fn tells_why_nothing_is_explained(rt: HostRuntime) -> Result<(), Fail> {
             1,
             "icebox_explain: offset 4: Truncated\n",
         ),
-        (
-            ["icebox_explain"].as_slice(),
-            "",
-            b"".as_slice(),
-            2,
-            USAGE,
-        ),
+        (["icebox_explain"].as_slice(), "", b"".as_slice(), 2, USAGE),
         (
             ["icebox_explain", "-t", "1  1", "A"].as_slice(),
             "",

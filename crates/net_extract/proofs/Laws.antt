@@ -1,12 +1,12 @@
 -- What the places of links that are on say.
-use Rattle.std.proofs.Common.{◌≡◌, ℕ, zero, suc, ◌+◌, ◌<◌, ◌≤◌, Bool, List, [], ◌∷◌, length, get_or, map, refl, sym, ap, ap₂, ◌∙◌, subst, arith, inl, inr, add-zero, add-suc, suc-add, zero-add}
+use Rattle.std.proofs.Common.{◌≡◌, ℕ, suc, ◌+◌, ◌<◌, Bool, List, [], ◌∷◌, length, get_or, map, refl, sym, ap, ap₂, ◌∙◌, arith, inl, inr, add-zero, zero-add}
 use Rattle.std.specs.Prelude.{filter, All}
 use Rattle.std.proofs.lemmas.Bool.{cases_Bool}
 use Rattle.std.proofs.lemmas.List.Elements.{All-nil, All-cons, All-weaker}
 use Rattle.ice_image.specs.Configuration.{Configuration}
 use Rattle.chipdb_reader.specs.Database.{Database, Link}
 use Rattle.fabric_rules.specs.On.{is_link_on}
-use Rattle.fabric_rules.specs.Fabric.{Buffer, buffer_of, buffers_of, joins_of, numbered, numbered_from}
+use Rattle.fabric_rules.specs.Fabric.{buffer_of, buffers_of, numbered, numbered_from}
 use Rattle.net_extract.specs.Links.{places_on}
 
 -- ---- places are those of links

@@ -12,7 +12,7 @@ use Rattle.plane_map.specs.declared.tile.RowCol.{RowCol}
 use Rattle.ice_image.specs.Configuration.{Configuration}
 use Rattle.ice_image.specs.Contents.{listed_bits}
 use Rattle.chipdb_lines.specs.declared.chip.Chip.{Chip}
-use Rattle.chipdb_lines.specs.Kept.{bits_named, low_bits}
+use Rattle.chipdb_lines.specs.Kept.{low_bits}
 use Rattle.chipdb_reader.specs.declared.items.LinkLine.{LinkLine}
 use Rattle.chipdb_reader.specs.Database.{Link}
 use Rattle.chipdb_reader.specs.Fit.{IsLink}

@@ -1,9 +1,10 @@
 -- Lists over the tiles of a kind.
-use Rattle.std.proofs.Common.{◌≡◌, ℕ, zero, suc, ◌+◌, ◌<◌, ◌≤◌, Bool, true, false, cond, List, [], ◌∷◌, ◌++◌, append-nil, append_assoc, refl, sym, ap, ◌∙◌, inl, inr, arith}
+use Rattle.std.proofs.Common.{◌≡◌, ℕ, zero, suc, ◌+◌, ◌<◌, ◌≤◌, Bool, true, false, cond, List, [], ◌∷◌, ◌++◌, append-nil, append_assoc, take, take_all, length, get_or, refl, sym, ap, ◌∙◌, inl, inr, arith}
 use Rattle.std.specs.Prelude.{All, Option, Some, None, if◌then◌else◌}
 use Rattle.std.specs.List.{flat_map}
 use Rattle.std.proofs.lemmas.Grind.{flat_map-append}
-use Rattle.std.proofs.lemmas.Bool.{cases_Bool}
+use Rattle.std.proofs.lemmas.List.{take_more}
+use Rattle.std.proofs.lemmas.Bool.{cases_eq}
 use Rattle.place_search.specs.Places.{gathered_below}
 use Rattle.std.proofs.lemmas.List.Elements.{All-append, All-nil, All-push}
 use Rattle.place_search.proofs.Places.{gathered_below-same, gathered_below-more}
@@ -14,7 +15,7 @@ use Rattle.plane_map.specs.declared.tile.TileKind.{TileKind}
 use Rattle.plane_map.specs.declared.tile.TileKind.TheVariants.{Io, Logic, RamB, RamT}
 use Rattle.chipdb_lines.specs.Statements.{is_kind_there, is_same_kind}
 use Rattle.chipdb_reader.specs.declared.items.TileXy8.{TileXy8}
-use Rattle.fabric_rules.specs.Tiles.{over_tiles, over_grid, at_kind}
+use Rattle.fabric_rules.specs.Tiles.{over_tiles, over_grid, at_kind, first_of, item_if}
 use Rattle.tile_lookups.specs.Tiles.{tiles_of, tile_if}
 
 -- a grid is small
@@ -133,3 +134,78 @@ grown-more before now later n given so_far more =
 pub grown_alone-more : {A : Type 0} (now later : List A) (n : ℕ) (given : ℕ → List A) → now ≡ gathered_below n given
     → later ≡ now ++ given n → later ≡ gathered_below (n + 1) given
 grown_alone-more now later n given so_far more = more ∙ ap (λ items. items ++ given n) so_far ∙ sym (gathered_below-more n given)
+
+-- ---- lists that grow item by item of another list
+
+pub gathered-none : {A B : Type 0} (given : A → List B) (items : List A) → [] ≡ flat_map given (take 0 items)
+gathered-none given items = refl
+
+pub gathered-more : {A B : Type 0} (given : A → List B) (items : List A) (k : ℕ) (item : A) (now later : List B) → k < length items → item ≡ get_or items k item
+    → now ≡ flat_map given (take k items) → later ≡ now ++ given item → later ≡ flat_map given (take (k + 1) items)
+gathered-more {A = A} given items k item now later inside is so_far more =
+    more ∙ ap (λ before. before ++ given item) so_far
+    ∙ ap (λ one. flat_map given (take k items) ++ one) (sym (append-nil (given item)))
+    ∙ sym (flat_map-append given (take k items) (item ∷ []))
+    ∙ ap (λ (one : A). flat_map given (take k items ++ one ∷ [])) is
+    ∙ ap (flat_map given) (sym (take_more items k item inside))
+
+pub gathered-all : {A B : Type 0} (given : A → List B) (items : List A) (k : ℕ) (now : List B) → length items ≤ k
+    → now ≡ flat_map given (take k items) → now ≡ flat_map given items
+gathered-all given items k now past so_far = so_far ∙ ap (flat_map given) (take_all k items past)
+
+-- ---- the first of such a list
+
+first_of-append : {A : Type 0} (first rest : List A) (item : A) → first_of first ≡ Some item → first_of (first ++ rest) ≡ Some item
+first_of-append [] rest item is = absurd cc
+first_of-append (other ∷ first) rest item is = is
+
+-- what the first place gives that gives something
+pub first_of-gathered_below : {A : Type 0} (n k : ℕ) (given : ℕ → List A) (item : A) → k < n → gathered_below k given ≡ [] → first_of (given k) ≡ Some item
+    → first_of (gathered_below n given) ≡ Some item
+unfolding gathered_below
+first_of-gathered_below zero k given item below none is = absurd (omega arith)
+first_of-gathered_below (suc n) k given item below none is =
+    elim (cases_eq k n) [
+      | inl last ↦
+          let here : first_of (given n) ≡ Some item = ap (λ j. first_of (given j)) (sym last) ∙ is in
+          let none_before : gathered_below n given ≡ [] = ap (λ j. gathered_below j given) (sym last) ∙ none in
+          rw none_before here
+      | inr before ↦ first_of-append (gathered_below n given) (given n) item (first_of-gathered_below n k given item (omega arith) none is)
+    ]
+
+-- a list of two parts that is empty
+append-empty : {A : Type 0} (first rest : List A) → first ++ rest ≡ [] → (first ≡ []) × (rest ≡ [])
+append-empty [] rest none = (refl, none)
+append-empty (item ∷ first) rest none = absurd cc
+
+-- what the first item of a list gives that gives something
+pub first_of-flat_map : {A B : Type 0} (given : A → List B) (items : List A) (k : ℕ) (item : A) (first : B) → k < length items → item ≡ get_or items k item
+    → flat_map given (take k items) ≡ [] → first_of (given item) ≡ Some first → first_of (flat_map given items) ≡ Some first
+first_of-flat_map given [] k item first inside is none found = absurd (omega arith)
+first_of-flat_map given (head ∷ items) zero item first inside is none found =
+    first_of-append (given head) (flat_map given items) first (ap (λ one. first_of (given one)) (sym is) ∙ found)
+first_of-flat_map given (head ∷ items) (suc k) item first inside is none found =
+    let parts = append-empty (given head) (flat_map given (take k items)) none in
+    rw parts.0 (first_of-flat_map given items k item first (omega arith) is parts.1 found)
+
+-- ---- lists without items so far
+
+pub first_of-none : {A : Type 0} (items : List A) → first_of items ≡ None → items ≡ []
+first_of-none [] none = refl
+first_of-none (item ∷ items) none = absurd cc
+
+pub none-more : {A : Type 0} (k : ℕ) (given : ℕ → List A) → gathered_below k given ≡ [] → given k ≡ [] → gathered_below (k + 1) given ≡ []
+none-more k given none here = gathered_below-more k given ∙ rw (none, here) refl
+
+pub none_listed-more : {A B : Type 0} (given : A → List B) (items : List A) (k : ℕ) (item : A) → k < length items → item ≡ get_or items k item
+    → flat_map given (take k items) ≡ [] → given item ≡ [] → flat_map given (take (k + 1) items) ≡ []
+none_listed-more given items k item inside is none here =
+    sym (gathered-more given items k item [] [] inside is (sym none) (sym here))
+
+pub item_if-item : {A : Type 0} (passes : Bool) (item : A) → passes ≡ true → first_of (item_if passes item) ≡ Some item
+item_if-item true item is = refl
+item_if-item false item is = absurd cc
+
+pub item_if-none : {A : Type 0} (passes : Bool) (item : A) → passes ≡ false → item_if passes item ≡ []
+item_if-none true item is = absurd cc
+item_if-none false item is = refl

@@ -147,3 +147,12 @@ pub line_bits-in : (texts : List (List ℕ)) (bits : List RowCol) (functions : L
 line_bits-in texts bits functions k function fit inside is =
     (subst IsFunctionLine (line_at texts bits functions k function inside is)
         (fit k (function_line texts bits function) (omega (arith, length-map functions (function_line texts bits))))).bits_in
+
+-- ---- bits of which none is set
+
+pub none_set : (bits : List Bool) (count : ℕ) → length bits ≤ count → ((k : ℕ) → k < count → get_or bits k false ≡ false) → list_any (λ bit. bit) bits ≡ false
+none_set [] count few each = refl
+none_set (bit ∷ bits) zero few each = absurd (omega arith)
+none_set (bit ∷ bits) (suc count) few each =
+    let first : bit ≡ false = each 0 (omega arith) in
+    rw (first, none_set bits count (omega arith) (λ k below. each (suc k) (omega arith))) refl

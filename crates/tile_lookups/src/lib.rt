@@ -8,4 +8,4 @@ mod tiles;
 
 pub use functions::{function_bits, is_any_on, is_on, listed_bit};
 pub use name::Name;
-pub use tiles::tiles_of_kind;
+pub use tiles::tiles_of_image;

@@ -6,7 +6,7 @@ use Rattle.fabric_rules.specs.Tiles.{over_grid}
 use Rattle.chipdb_reader.specs.declared.items.TileXy8.{TileXy8}
 use Rattle.tile_lookups.specs.Tiles.{tiles_of, tile_if}
 use Rattle.tile_lookups.proofs.InOrder.{grown_alone-more, tiles_of-stand}
-use Rattle.tile_lookups.proofs.tiles.tiles_of_kind.Goals as goal
+use Rattle.tile_lookups.proofs.tiles.tiles_of_device.Goals as goal
 
 pub loop-y-init : goal.loop-y-init
 unfolding gathered_below
@@ -22,10 +22,10 @@ whole c =
     let all : c.loop-y.y ≡ grid_height c.args.device = omega (arith, c.rows-y-end.ensures) in
     c.loop-y.invariant ∙ ap (λ n. gathered_below n (λ y. gathered_below (grid_width c.args.device) (λ x. tile_if c.args.device c.args.kind x y))) all
 
-pub returns-clause-tiles : goal.returns-clause-tiles
-returns-clause-tiles c = whole c
+pub returns-clause-all : goal.returns-clause-all
+returns-clause-all c = whole c
 
-pub returns-clause-stand : goal.returns-clause-stand
-returns-clause-stand c =
+pub returns-clause-each : goal.returns-clause-each
+returns-clause-each c =
     let Each : List TileXy8 → Type 0 = λ tiles. All (λ tile. kind_of c.args.device tile.x tile.y ≡ Some c.args.kind) tiles in
     subst Each (sym (whole c)) (tiles_of-stand c.args.device c.args.kind)

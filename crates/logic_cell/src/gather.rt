@@ -1,12 +1,12 @@
 // All cells of an image.
-ghost use Rattle.std.specs.Prelude.{◌≡◌, ◌++◌, All, IfOk, IfErr, OnOk};
+ghost use Rattle.std.specs.Prelude.{◌≡◌, ◌++◌, All, IfOk, IfErr, OnOk, None};
 ghost use Rattle.std.specs.List.{flat_map};
 ghost use Rattle.plane_map.specs.declared.tile.TileKind.TheVariants.{Logic};
 ghost use Rattle.ice_image.specs.Either.{configuration_of};
 ghost use Rattle.chipdb_reader.specs.Kept.{database_in};
 ghost use Rattle.fabric_rules.specs.Cells.{cells_of, cells_at, sets_of, sets_at, used_cell};
 ghost use Rattle.fabric_rules.specs.Faults.{cells_fault};
-ghost use Rattle.tile_lookups.specs.Tiles.{HasTile};
+ghost use Rattle.tile_lookups.specs.Tiles.{HasTile, tiles_of};
 ghost use Rattle.logic_cell.specs.Faults.{IsCause};
 
 use crate::asynchronous::first_async;
@@ -28,17 +28,34 @@ pub fn cells(alloc: Global, db: &ChipDb, image: &AnyImage) -> Result<Cells, LcFa
     ensures refused { IfErr result (IsCause (cells_fault (database_in db.now) (configuration_of image.now))) }
 {
     let tiles = tiles_of_image(alloc, image, TileKind::Logic)?;
-    if let Some(at) = first_async(db, image, &tiles) {
-        return Err(LcFault::Async {
+    cells_in(alloc, db, image, &tiles)
+}
+
+/// Finds the cells in the logic tiles of the image.
+fn cells_in(
+    alloc: Global,
+    db: &ChipDb,
+    image: &AnyImage,
+    tiles: &[TileXy8],
+) -> Result<Cells, LcFault>
+    requires all { tiles.now ≡ tiles_of (configuration_of image.now).device Logic }
+    requires each { All (λ tile. HasTile image.now Logic tile.x tile.y) tiles.now }
+    ensures cells { IfOk result (λ cells. cells.lcs.items ≡ cells_of (database_in db.now) (configuration_of image.now)) }
+    ensures sets { IfOk result (λ cells. cells.sets.items ≡ sets_of (database_in db.now) (configuration_of image.now)) }
+    ensures taken { OnOk result (cells_fault (database_in db.now) (configuration_of image.now) ≡ None) }
+    ensures refused { IfErr result (IsCause (cells_fault (database_in db.now) (configuration_of image.now))) }
+{
+    match first_async(db, image, tiles) {
+        Some(at) => Err(LcFault::Async {
             x: at.x,
             y: at.y,
             i: at.i,
-        });
+        }),
+        None => Ok(Cells {
+            lcs: used_cells(alloc, db, image, tiles)?,
+            sets: carry_sets(alloc, db, image, tiles)?,
+        }),
     }
-    Ok(Cells {
-        lcs: used_cells(alloc, db, image, &tiles)?,
-        sets: carry_sets(alloc, db, image, &tiles)?,
-    })
 }
 
 /// The used cells of tiles.
@@ -122,10 +139,14 @@ fn append_set(
     requires { HasTile image.now Logic x y }
     ensures { OnOk result (sets.new.items ≡ sets.old.items ++ sets_at (database_in db.now) (configuration_of image.now) x y) }
 {
-    if is_on(db, image, TileKind::Logic, x, y, b"CarryInSet") {
-        if let Some(net) = db.net_of(x, y, b"carry_in_mux") {
+    if !is_on(db, image, TileKind::Logic, x, y, b"CarryInSet") {
+        return Ok(());
+    }
+    match db.net_of(x, y, b"carry_in_mux") {
+        None => Ok(()),
+        Some(net) => {
             sets.push(CarrySet { x, y, net })?;
+            Ok(())
         }
     }
-    Ok(())
 }

@@ -140,14 +140,14 @@ grown_alone-more now later n given so_far more = more ∙ ap (λ items. items ++
 pub gathered-none : {A B : Type 0} (given : A → List B) (items : List A) → [] ≡ flat_map given (take 0 items)
 gathered-none given items = refl
 
-pub gathered-more : {A B : Type 0} (given : A → List B) (items : List A) (k : ℕ) (item : A) (now later : List B) → k < length items → item ≡ get_or items k item
-    → now ≡ flat_map given (take k items) → later ≡ now ++ given item → later ≡ flat_map given (take (k + 1) items)
-gathered-more {A = A} given items k item now later inside is so_far more =
+pub gathered-more : {A B : Type 0} (given : A → List B) (items : List A) (k : ℕ) (d : A) (now later : List B) → k < length items
+    → now ≡ flat_map given (take k items) → later ≡ now ++ given (get_or items k d) → later ≡ flat_map given (take (k + 1) items)
+gathered-more given items k d now later inside so_far more =
+    let item = get_or items k d in
     more ∙ ap (λ before. before ++ given item) so_far
     ∙ ap (λ one. flat_map given (take k items) ++ one) (sym (append-nil (given item)))
     ∙ sym (flat_map-append given (take k items) (item ∷ []))
-    ∙ ap (λ (one : A). flat_map given (take k items ++ one ∷ [])) is
-    ∙ ap (flat_map given) (sym (take_more items k item inside))
+    ∙ ap (flat_map given) (sym (take_more items k d inside))
 
 pub gathered-all : {A B : Type 0} (given : A → List B) (items : List A) (k : ℕ) (now : List B) → length items ≤ k
     → now ≡ flat_map given (take k items) → now ≡ flat_map given items
@@ -179,14 +179,13 @@ append-empty [] rest none = (refl, none)
 append-empty (item ∷ first) rest none = absurd cc
 
 -- what the first item of a list gives that gives something
-pub first_of-flat_map : {A B : Type 0} (given : A → List B) (items : List A) (k : ℕ) (item : A) (first : B) → k < length items → item ≡ get_or items k item
-    → flat_map given (take k items) ≡ [] → first_of (given item) ≡ Some first → first_of (flat_map given items) ≡ Some first
-first_of-flat_map given [] k item first inside is none found = absurd (omega arith)
-first_of-flat_map given (head ∷ items) zero item first inside is none found =
-    first_of-append (given head) (flat_map given items) first (ap (λ one. first_of (given one)) (sym is) ∙ found)
-first_of-flat_map given (head ∷ items) (suc k) item first inside is none found =
+pub first_of-flat_map : {A B : Type 0} (given : A → List B) (items : List A) (k : ℕ) (d : A) (first : B) → k < length items
+    → flat_map given (take k items) ≡ [] → first_of (given (get_or items k d)) ≡ Some first → first_of (flat_map given items) ≡ Some first
+first_of-flat_map given [] k d first inside none found = absurd (omega arith)
+first_of-flat_map given (head ∷ items) zero d first inside none found = first_of-append (given head) (flat_map given items) first found
+first_of-flat_map given (head ∷ items) (suc k) d first inside none found =
     let parts = append-empty (given head) (flat_map given (take k items)) none in
-    rw parts.0 (first_of-flat_map given items k item first (omega arith) is parts.1 found)
+    rw parts.0 (first_of-flat_map given items k d first (omega arith) parts.1 found)
 
 -- ---- lists without items so far
 
@@ -197,10 +196,9 @@ first_of-none (item ∷ items) none = absurd cc
 pub none-more : {A : Type 0} (k : ℕ) (given : ℕ → List A) → gathered_below k given ≡ [] → given k ≡ [] → gathered_below (k + 1) given ≡ []
 none-more k given none here = gathered_below-more k given ∙ rw (none, here) refl
 
-pub none_listed-more : {A B : Type 0} (given : A → List B) (items : List A) (k : ℕ) (item : A) → k < length items → item ≡ get_or items k item
-    → flat_map given (take k items) ≡ [] → given item ≡ [] → flat_map given (take (k + 1) items) ≡ []
-none_listed-more given items k item inside is none here =
-    sym (gathered-more given items k item [] [] inside is (sym none) (sym here))
+pub none_listed-more : {A B : Type 0} (given : A → List B) (items : List A) (k : ℕ) (d : A) → k < length items
+    → flat_map given (take k items) ≡ [] → given (get_or items k d) ≡ [] → flat_map given (take (k + 1) items) ≡ []
+none_listed-more given items k d inside none here = sym (gathered-more given items k d [] [] inside (sym none) (sym here))
 
 pub item_if-item : {A : Type 0} (passes : Bool) (item : A) → passes ≡ true → first_of (item_if passes item) ≡ Some item
 item_if-item true item is = refl

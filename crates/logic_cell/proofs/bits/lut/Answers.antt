@@ -31,4 +31,8 @@ pub loop-entry-preserved : goal.loop-entry-preserved
 loop-entry-preserved c = step c
 
 pub returns : goal.returns
-returns c = ?
+unfolding entry_bits row_from
+returns c =
+    let bit : ℕ → Bool = λ k. cell_bit (bits_at (configuration_of c.args.image.now) c.args.x c.args.y c.args.bits.now) (get_or entry_bits k 0) in
+    let all : c.loop-entry.entry ≡ 0 = omega arith in
+    c.loop-entry.invariant ∙ ap (λ n. word_of (drop n (row_from 16 bit))) all

@@ -1,0 +1,196 @@
+-- Joined nets: the Boolean rule, chains and classes say the same.
+use Rattle.std.proofs.Common.{◌≡◌, ℕ, zero, suc, ◌+◌, ◌<◌, ◌≤◌, Bool, true, false, cond, eqb, ◌||◌, ◌&&◌, ◌⊎◌, inl, inr, List, [], ◌∷◌, length, get_or, refl, sym, ap, ◌∙◌, subst, arith, min, max}
+use Rattle.std.specs.Prelude.{Contains, unwrap_or, Option, Some, None}
+use Rattle.std.proofs.lemmas.Bool.Decides.{nat_tests}
+use Rattle.std.proofs.lemmas.Bool.{cases_eq, cases_lt, eqb-true, eq-eqb, or_cases, and_parts}
+use Rattle.place_search.specs.Places.{least_below}
+use Rattle.place_search.proofs.Places.{least_below-first}
+use Rattle.fabric_rules.specs.Joins.{IsJoin, AreJoined, IsClassOf, is_joined, class_of}
+use Rattle.fabric_rules.specs.Joins.AreJoined.{itself, further}
+use Rattle.net_extract.specs.Parents.{merged}
+
+-- ---- names by recursion
+
+-- the name of a net's class, one routing after the other
+unfoldable named : List (ℕ × ℕ) → ℕ → ℕ
+named [] net = net
+named (join ∷ joins) net = merged (named joins) join.0 join.1 net
+
+-- the two names that become one
+abbrev one : ℕ → ℕ → ℕ → ℕ
+one low high name = cond (eqb name high) low name
+
+one-same : (low high p q : ℕ) → (eqb p q || ((eqb p low && eqb high q) || (eqb p high && eqb low q))) ≡ eqb (one low high p) (one low high q)
+one-same low high p q = grind (arith, nat_tests)
+
+one-other : (low high p q : ℕ) → (eqb p q || ((eqb p high && eqb low q) || (eqb p low && eqb high q))) ≡ eqb (one low high p) (one low high q)
+one-other low high p q = grind (arith, nat_tests)
+
+one-max : (x y p q : ℕ) → (eqb p q || ((eqb p x && eqb y q) || (eqb p y && eqb x q))) ≡ eqb (one (min x y) (max x y) p) (one (min x y) (max x y) q)
+one-max x y p q =
+    elim (cases_lt x y) [
+      | inl less ↦
+          let low : min x y ≡ x = omega arith in
+          let high : max x y ≡ y = omega arith in
+          rw (low, high) (one-same x y p q)
+      | inr more ↦
+          let low : min x y ≡ y = omega arith in
+          let high : max x y ≡ x = omega arith in
+          rw (low, high) (one-other y x p q)
+    ]
+
+-- nets are joined where their classes have one name
+is_joined-named : (joins : List (ℕ × ℕ)) (a b : ℕ) → is_joined joins a b ≡ eqb (named joins a) (named joins b)
+unfolding is_joined named merged
+is_joined-named [] a b = refl
+is_joined-named (join ∷ joins) a b =
+    rw (is_joined-named joins a b, is_joined-named joins a join.0, is_joined-named joins join.1 b, is_joined-named joins a join.1, is_joined-named joins join.0 b)
+    (one-max (named joins join.0) (named joins join.1) (named joins a) (named joins b))
+
+one-le : (x y name net : ℕ) → name ≤ net → one (min x y) (max x y) name ≤ net
+one-le x y name net le = grind (arith, nat_tests)
+
+-- a name is a net that isn't greater
+named-le : (joins : List (ℕ × ℕ)) (net : ℕ) → named joins net ≤ net
+unfolding named merged
+named-le [] net = omega arith
+named-le (join ∷ joins) net = one-le (named joins join.0) (named joins join.1) (named joins net) net (named-le joins net)
+
+one-itself : (name : ℕ → ℕ) (x y at : ℕ) → name x ≡ x → name y ≡ y → name (name at) ≡ name at → one (min x y) (max x y) (name (one (min x y) (max x y) (name at))) ≡ one (min x y) (max x y) (name at)
+one-itself name x y at x_is y_is at_is = grind (arith, nat_tests)
+
+-- the name of a class is a net of the class
+named-itself : (joins : List (ℕ × ℕ)) (net : ℕ) → named joins (named joins net) ≡ named joins net
+unfolding named merged
+named-itself [] net = refl
+named-itself (join ∷ joins) net =
+    one-itself (named joins) (named joins join.0) (named joins join.1) net (named-itself joins join.0) (named-itself joins join.1) (named-itself joins net)
+
+class_of-named : (joins : List (ℕ × ℕ)) (net : ℕ) → class_of joins net ≡ named joins net
+unfolding class_of
+class_of-named joins net =
+    let name = named joins net in
+    let within : name < suc net = omega (arith, named-le joins net) in
+    let before = λ (j : ℕ) (less : j < name).
+    let apart : eqb name (named joins j) ≡ false = grind (arith, nat_tests, named-le joins j) in
+    is_joined-named joins net j ∙ apart in
+    let here : is_joined joins net name ≡ true = is_joined-named joins net name ∙ grind (arith, nat_tests, named-itself joins net) in
+    ap (λ found. unwrap_or found net) (least_below-first (suc net) name (is_joined joins net) within before here)
+
+-- ---- classes, one routing after the other
+
+-- without routings each net is a class by itself
+pub class_of-none : (net : ℕ) → class_of [] net ≡ net
+unfolding named
+class_of-none net = class_of-named [] net
+
+-- a routing makes the classes of its nets one
+pub class_of-more : (joins : List (ℕ × ℕ)) (a b net : ℕ) → class_of ((a, b) ∷ joins) net ≡ merged (class_of joins) a b net
+unfolding named merged
+class_of-more joins a b net =
+    rw (class_of-named ((a, b) ∷ joins) net, class_of-named joins a, class_of-named joins b, class_of-named joins net) refl
+
+-- a class is named by a net that isn't greater
+pub class_of-le : (joins : List (ℕ × ℕ)) (net : ℕ) → class_of joins net ≤ net
+class_of-le joins net = rw (class_of-named joins net) (named-le joins net)
+
+-- ---- nets that no routing has
+
+-- no routing has a net that isn't below the bound
+unfoldable pub AreBelow : ℕ → List (ℕ × ℕ) → Type 0
+AreBelow nets [] = Unit {0}
+AreBelow nets (join ∷ joins) = (join.0 < nets) × (join.1 < nets) × AreBelow nets joins
+
+one-outside : (x y name : ℕ) → x < name → y < name → one (min x y) (max x y) name ≡ name
+one-outside x y name x_less y_less = grind (arith, nat_tests)
+
+named-outside : (nets : ℕ) (joins : List (ℕ × ℕ)) (net : ℕ) → AreBelow nets joins → nets ≤ net → named joins net ≡ net
+unfolding named merged AreBelow
+named-outside nets [] net below out = refl
+named-outside nets (join ∷ joins) net below out =
+    let same = named-outside nets joins net below.2 out in
+    rw same (one-outside (named joins join.0) (named joins join.1) net (omega (arith, below.0, named-le joins join.0)) (omega (arith, below.1, named-le joins join.1)))
+
+pub class_of-outside : (nets : ℕ) (joins : List (ℕ × ℕ)) (net : ℕ) → AreBelow nets joins → nets ≤ net → class_of joins net ≡ net
+class_of-outside nets joins net below out = class_of-named joins net ∙ named-outside nets joins net below out
+
+-- ---- chains
+
+Contains-cons : (join : ℕ × ℕ) (joins : List (ℕ × ℕ)) (pair : ℕ × ℕ) → Contains joins pair → Contains (join ∷ joins) pair
+Contains-cons join joins pair (k, inside, is) = (suc k, omega arith, is)
+
+-- a chain by the later routings
+chain-more : (join : ℕ × ℕ) (joins : List (ℕ × ℕ)) (a b : ℕ) → AreJoined joins a b → AreJoined (join ∷ joins) a b
+chain-more join joins _ _ (itself net) = itself net
+chain-more join joins _ _ (further a next b step rest) =
+    let more : IsJoin (join ∷ joins) a next =
+    elim step [
+      | inl way ↦ inl (Contains-cons join joins (a, next) way)
+      | inr way ↦ inr (Contains-cons join joins (next, a) way)
+    ] in
+    further a next b more (chain-more join joins next b rest)
+
+-- a chain after a chain
+chain-then : (joins : List (ℕ × ℕ)) (a b c : ℕ) → AreJoined joins a b → AreJoined joins b c → AreJoined joins a c
+chain-then joins _ _ c (itself net) more = more
+chain-then joins _ _ c (further a next b step rest) more = further a next c step (chain-then joins next b c rest more)
+
+-- nets that are joined by the rule have a chain
+pub chain-from : (joins : List (ℕ × ℕ)) (a b : ℕ) → is_joined joins a b ≡ true → AreJoined joins a b
+unfolding is_joined
+chain-from [] a b is = subst (AreJoined [] a) (eqb-true a b is) (itself a)
+chain-from (join ∷ joins) a b is =
+    let first : IsJoin (join ∷ joins) join.0 join.1 = inl (0, omega arith, refl) in
+    let back : IsJoin (join ∷ joins) join.1 join.0 = inr (0, omega arith, refl) in
+    elim (or_cases (is_joined joins a b) _ is) [
+      | inl apart ↦ chain-more join joins a b (chain-from joins a b apart)
+      | inr through ↦
+          elim (or_cases (is_joined joins a join.0 && is_joined joins join.1 b) _ through) [
+            | inl way ↦
+                let parts = and_parts (is_joined joins a join.0) (is_joined joins join.1 b) way in
+                chain-then (join ∷ joins) a join.0 b (chain-more join joins a join.0 (chain-from joins a join.0 parts.0))
+                (further join.0 join.1 b first (chain-more join joins join.1 b (chain-from joins join.1 b parts.1)))
+            | inr way ↦
+                let parts = and_parts (is_joined joins a join.1) (is_joined joins join.0 b) way in
+                chain-then (join ∷ joins) a join.1 b (chain-more join joins a join.1 (chain-from joins a join.1 parts.0))
+                (further join.1 join.0 b back (chain-more join joins join.0 b (chain-from joins join.0 b parts.1)))
+          ]
+    ]
+
+one-ends : (x y : ℕ) → one (min x y) (max x y) x ≡ one (min x y) (max x y) y
+one-ends x y = grind (arith, nat_tests)
+
+-- the two nets of a routing have one name
+named-join : (joins : List (ℕ × ℕ)) (a b : ℕ) → Contains joins (a, b) → named joins a ≡ named joins b
+unfolding named merged
+named-join [] a b (k, inside, is) = absurd (omega arith)
+named-join (join ∷ joins) a b (zero, inside, is) =
+    let a_is : join.0 ≡ a = ap (λ pair. pair.0) is in
+    let b_is : join.1 ≡ b = ap (λ pair. pair.1) is in
+    rw (← a_is, ← b_is) (one-ends (named joins join.0) (named joins join.1))
+named-join (join ∷ joins) a b (suc k, inside, is) =
+    let same : named joins a ≡ named joins b = named-join joins a b (k, omega arith, is) in
+    ap (λ name. one (min (named joins join.0) (named joins join.1)) (max (named joins join.0) (named joins join.1)) name) same
+
+-- the nets of a chain have one name
+named-chain : (joins : List (ℕ × ℕ)) (a b : ℕ) → AreJoined joins a b → named joins a ≡ named joins b
+named-chain joins _ _ (itself net) = refl
+named-chain joins _ _ (further a next b step rest) =
+    let same : named joins a ≡ named joins next =
+    elim step [
+      | inl way ↦ named-join joins a next way
+      | inr way ↦ sym (named-join joins next a way)
+    ] in
+    same ∙ named-chain joins next b rest
+
+-- nets that have a chain are joined by the rule
+pub chain-tells : (joins : List (ℕ × ℕ)) (a b : ℕ) → AreJoined joins a b → is_joined joins a b ≡ true
+chain-tells joins a b chain = is_joined-named joins a b ∙ eq-eqb (named joins a) (named joins b) (named-chain joins a b chain)
+
+-- the class of a net is the least net that has a chain to it
+pub class_of-least : (joins : List (ℕ × ℕ)) (net : ℕ) → IsClassOf joins net (class_of joins net)
+class_of-least joins net = record {
+  joined = chain-from joins net (class_of joins net)
+      (rw (class_of-named joins net) (is_joined-named joins net (named joins net) ∙ eq-eqb (named joins net) (named joins (named joins net)) (sym (named-itself joins net))));
+  least = λ other chain. omega (arith, class_of-named joins net, named-chain joins net other chain, named-le joins other);
+}

@@ -1,0 +1,4 @@
+pub mod Joined
+pub mod Trees
+pub mod Setting
+pub mod Ending

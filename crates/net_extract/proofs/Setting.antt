@@ -1,0 +1,139 @@
+-- Links that are on: by their bits, and one after the other.
+use Rattle.std.proofs.Common.{◌≡◌, ◌≢◌, ℕ, zero, suc, ◌+◌, ◌-◌, ◌/◌, ◌%◌, ◌<◌, ◌≤◌, Bool, true, false, cond, eqb, ◌&&◌, ◌||◌, List, [], ◌∷◌, ◌++◌, length, get_or, take, map, refl, sym, ap, ap₂, ◌∙◌, subst, arith, inl, inr, append-nil, append_assoc, length-append, zero-add, add-zero, add-suc, suc-add}
+use Rattle.std.specs.Prelude.{◌↔◌, IsTrue, filter, All, ◌==◌}
+use Rattle.std.specs.Bool.{beq}
+use Rattle.std.specs.List.{list_any}
+use Rattle.std.specs.Cmp.Lexicographic.{pointwise}
+use Rattle.std.proofs.lemmas.Bool.{cases_Bool, and_parts, false≢true}
+use Rattle.std.proofs.lemmas.List.{map-append, take_more, length-take-le, length-map, get_or-map}
+use Rattle.std.proofs.lemmas.List.Elements.{filter-append, All-from_get_or, All-map, All-filter, All-weaker}
+use Rattle.bit_plane.specs.BitList.{word_bits}
+use Rattle.plane_map.specs.declared.device.DeviceName.{DeviceName}
+use Rattle.plane_map.specs.declared.tile.RowCol.{RowCol}
+use Rattle.ice_image.specs.Configuration.{Configuration}
+use Rattle.ice_image.specs.Contents.{listed_bits}
+use Rattle.chipdb_lines.specs.declared.chip.Chip.{Chip}
+use Rattle.chipdb_lines.specs.Kept.{bits_named, low_bits}
+use Rattle.chipdb_reader.specs.declared.items.LinkLine.{LinkLine}
+use Rattle.chipdb_reader.specs.Database.{Database, Link}
+use Rattle.chipdb_reader.specs.Fit.{IsLink}
+use Rattle.chipdb_reader.specs.Kept.{link_line, link_lines}
+use Rattle.fabric_rules.specs.On.{is_link_on}
+use Rattle.fabric_rules.specs.Fabric.{numbered, numbered_from, joins_of}
+use Rattle.fabric_rules.specs.Nets.{is_source, is_end, is_read}
+use Rattle.net_extract.specs.declared.on.OnLink.{OnLink}
+use Rattle.net_extract.specs.Found.{on_link, links_on, ends_of, IsBelow, comes_from, touches}
+use Rattle.net_extract.specs.Links.{places_on}
+
+-- ---- one link by its bits
+
+low_bits-is : (count number : ℕ) → low_bits count number ≡ word_bits count number
+unfolding word_bits
+low_bits-is zero number = refl
+low_bits-is (suc count) number = ap (λ bits. (number % 2 == 1) ∷ bits) (low_bits-is count (number / 2))
+
+beq-same : (a : Bool) → beq a a ≡ true
+beq-same true = refl
+beq-same false = refl
+
+pointwise-same : (bits : List Bool) → pointwise beq bits bits ≡ true
+pointwise-same [] = refl
+pointwise-same (bit ∷ bits) = rw (beq-same bit) (pointwise-same bits)
+
+beq-true : (a b : Bool) → beq a b ≡ true → a ≡ b
+beq-true true true is = refl
+beq-true false false is = refl
+beq-true true false is = absurd cc
+beq-true false true is = absurd cc
+
+pointwise-true : (bits values : List Bool) → pointwise beq bits values ≡ true → bits ≡ values
+pointwise-true [] [] is = refl
+pointwise-true [] (value ∷ values) is = absurd cc
+pointwise-true (bit ∷ bits) [] is = absurd cc
+pointwise-true (bit ∷ bits) (value ∷ values) is =
+    let parts = and_parts (beq bit value) (pointwise beq bits values) is in
+    ap₂ (λ x xs. x ∷ xs) (beq-true bit value parts.0) (pointwise-true bits values parts.1)
+
+pointwise-tells : (result : Bool) (bits values : List Bool) → IsTrue result ↔ (bits ≡ values) → result ≡ pointwise beq bits values
+pointwise-tells result bits values tells =
+    elim (cases_Bool result) [
+      | inl passes ↦ passes ∙ sym (ap (λ other. pointwise beq bits other) (sym (tells.0 passes)) ∙ pointwise-same bits)
+      | inr fails ↦
+          elim (cases_Bool (pointwise beq bits values)) [
+            | inl equal ↦ absurd (false≢true (sym fails ∙ tells.1 (pointwise-true bits values equal)))
+            | inr apart ↦ fails ∙ sym apart
+          ]
+    ]
+
+-- a link is on where the bits of its tile are the lowest bits of its values
+pub link-tells : (image : Configuration) (table : List RowCol) (line : LinkLine) (device : DeviceName) (bits : List RowCol) (result : Bool)
+    → device ≡ image.device → bits ≡ bits_named table line.bits
+    → IsTrue result ↔ (listed_bits device image.cram line.x line.y bits ≡ word_bits (length bits) line.values)
+    → result ≡ is_link_on image (link_line table line)
+unfolding is_link_on
+link-tells image table line device bits result device_is bits_is tells =
+    pointwise-tells result (listed_bits device image.cram line.x line.y bits) (word_bits (length bits) line.values) tells
+    ∙ ap₂ (λ device bits. pointwise beq (listed_bits device image.cram line.x line.y bits) (word_bits (length bits) line.values)) device_is bits_is
+    ∙ ap (λ values. pointwise beq (listed_bits image.device image.cram line.x line.y (bits_named table line.bits)) values) (sym (low_bits-is (length (bits_named table line.bits)) line.values))
+
+-- ---- one link after the other
+
+pub links_on-none : (image : Configuration) → links_on image [] ≡ []
+unfolding links_on numbered_from
+links_on-none image = refl
+
+numbered_from-push : (n : ℕ) (links : List Link) (link : Link) → numbered_from n (links ++ link ∷ []) ≡ numbered_from n links ++ (n + length links, link) ∷ []
+unfolding numbered_from
+numbered_from-push n [] link = rw add-zero refl
+numbered_from-push n (first ∷ links) link = ap (λ rest. (n, first) ∷ rest) (numbered_from-push (suc n) links link ∙ rw (add-suc, suc-add) refl)
+
+-- one more link
+abbrev last_on : Configuration → ℕ → Link → List OnLink
+last_on image n link = cond (is_link_on image link) (on_link (n, link) ∷ []) []
+
+last_on-is : (image : Configuration) (n : ℕ) (link : Link) → map on_link (filter (λ place. is_link_on image place.1) ((n, link) ∷ [])) ≡ last_on image n link
+last_on-is image n link =
+    elim (cases_Bool (is_link_on image link)) [
+      | inl passes ↦ rw passes refl
+      | inr fails ↦ rw fails refl
+    ]
+
+links_on-push : (image : Configuration) (links : List Link) (link : Link) → links_on image (links ++ link ∷ []) ≡ links_on image links ++ last_on image (length links) link
+unfolding links_on
+links_on-push image links link =
+    let test = λ (place : ℕ × Link). is_link_on image place.1 in
+    ap (λ places. map on_link (filter test places)) (numbered_from-push 0 links link ∙ rw zero-add refl)
+    ∙ ap (map on_link) (filter-append test (numbered links) ((length links, link) ∷ []))
+    ∙ map-append on_link (filter test (numbered links)) (filter test ((length links, link) ∷ []))
+    ∙ ap (λ last. map on_link (filter test (numbered links)) ++ last) (last_on-is image (length links) link)
+
+-- the same over the lines that are kept
+lines-push : (image : Configuration) (table : List RowCol) (lines : List LinkLine) (i : ℕ) (d : LinkLine) → i < length lines
+    → links_on image (link_lines table (take (i + 1) lines)) ≡ links_on image (link_lines table (take i lines)) ++ last_on image i (link_line table (get_or lines i d))
+lines-push image table lines i d inside =
+    let line = get_or lines i d in
+    let count : length (link_lines table (take i lines)) ≡ i = length-map (take i lines) (link_line table) ∙ length-take-le i lines (omega arith) in
+    ap (λ taken. links_on image (link_lines table taken)) (take_more lines i d inside)
+    ∙ ap (links_on image) (map-append (link_line table) (take i lines) (line ∷ []))
+    ∙ links_on-push image (link_lines table (take i lines)) (link_line table line)
+    ∙ ap (λ n. links_on image (link_lines table (take i lines)) ++ last_on image n (link_line table line)) count
+
+pub lines-more_on : (image : Configuration) (table : List RowCol) (lines : List LinkLine) (i place : ℕ) (d : LinkLine) (before after : List OnLink) → i < length lines
+    → is_link_on image (link_line table (get_or lines i d)) ≡ true → place ≡ i
+    → before ≡ links_on image (link_lines table (take i lines))
+    → after ≡ before ++ record { place = place; src = (get_or lines i d).src; dst = (get_or lines i d).dst } ∷ []
+    → after ≡ links_on image (link_lines table (take (i + 1) lines))
+lines-more_on image table lines i place d before after inside passes place_is before_is after_is =
+    after_is ∙ ap₂ (λ front n. front ++ record { place = n; src = (get_or lines i d).src; dst = (get_or lines i d).dst } ∷ []) before_is place_is
+    ∙ sym (lines-push image table lines i d inside ∙ rw passes refl)
+
+pub lines-more_off : (image : Configuration) (table : List RowCol) (lines : List LinkLine) (i : ℕ) (d : LinkLine) (before : List OnLink) → i < length lines
+    → is_link_on image (link_line table (get_or lines i d)) ≡ false
+    → before ≡ links_on image (link_lines table (take i lines))
+    → before ≡ links_on image (link_lines table (take (i + 1) lines))
+lines-more_off image table lines i d before inside off before_is =
+    before_is ∙ sym (lines-push image table lines i d inside ∙ rw (off, append-nil) refl)
+
+pub line-fits : (chip : Chip) (table : List RowCol) (lines : List LinkLine) (i : ℕ) (d : LinkLine) → i < length lines → All (IsLink chip) (link_lines table lines) → IsLink chip (link_line table (get_or lines i d))
+line-fits chip table lines i d inside fit =
+    subst (IsLink chip) (get_or-map (link_line table) lines i d (link_line table d) inside) (fit i (link_line table d) (omega (arith, length-map lines (link_line table))))

@@ -1,0 +1,11 @@
+use Rattle.std.proofs.Common.{length, drop}
+use Rattle.fabric_rules.specs.Joins.{class_of}
+use Rattle.net_extract.specs.Found.{ends_of}
+use Rattle.net_extract.specs.Parents.{IsForest, LeadsTo}
+use Rattle.net_extract.proofs.classes.join_all.Given as goal
+
+abbrev pub invariant-loop-i : goal.invariant-loop-i
+invariant-loop-i l = record {
+  forest : IsForest l.parents;
+  joined : LeadsTo (class_of (ends_of (drop l.i l.links))) l.parents;
+}

@@ -1,0 +1,12 @@
+use Rattle.std.proofs.Common.{sym, subst}
+use Rattle.ice_image.specs.Either.{configuration_of}
+use Rattle.chipdb_reader.specs.Kept.{database_in}
+use Rattle.fabric_rules.specs.Fabric.{joins_of}
+use Rattle.fabric_rules.specs.Joins.{IsClassOf}
+use Rattle.net_extract.proofs.Joined.{class_of-least}
+use Rattle.net_extract.proofs.extract.links.Goals as goal
+
+pub returns-in_ok-found-clause-classes : goal.returns-in_ok-found-clause-classes
+returns-in_ok-found-clause-classes c = λ net.
+    let joins = joins_of (database_in c.args.db.now) (configuration_of c.args.image.now) in
+    subst (IsClassOf joins net) (sym (c.in_ok-found.ensures.classes net)) (class_of-least joins net)

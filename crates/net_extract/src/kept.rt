@@ -1,0 +1,60 @@
+// What is kept of links and nets.
+ghost use Rattle.std.specs.Prelude.{◌≡◌, ◌<◌, length};
+ghost use Rattle.net_extract.specs.Links.{class_in, is_read_in};
+
+use std::marker::Model;
+
+/// The links of a database that an image sets, the classes of the nets that they join, and the nets that they read.
+///
+/// Contracts see the places of the links, and lists with a class and a mark for each net. They are those of a database and an
+/// image where `AreLinks` says so. No call takes memory.
+#[derive(Drop)]
+pub struct Links {
+    pub(crate) buffers: Vec<u32>,
+    pub(crate) routings: Vec<u32>,
+    pub(crate) classes: Vec<u32>,
+    pub(crate) reads: Vec<bool>,
+}
+
+impl Model for Links {
+    ghost use Rattle.std.specs.Prelude.{◌≡◌, length};
+    ghost use Rattle.net_extract.specs.Links.{LinkSet};
+
+    ghost Value = { LinkSet };
+
+    ghost view = { λ links. record { buffers = links.buffers.items; routings = links.routings.items; classes = links.classes.items; reads = links.reads.items } };
+
+    ghost invariant = { λ links. length links.reads.items ≡ length links.classes.items };
+}
+
+impl Links {
+    /// The places of the buffers that are on, among the buffers of the database, rising.
+    pub fn buffers(&self) -> &[u32]
+        ensures { result.now ≡ self.now.buffers }
+    {
+        &self.buffers
+    }
+
+    /// The places of the routings that are on, among the routings of the database, rising.
+    pub fn routings(&self) -> &[u32]
+        ensures { result.now ≡ self.now.routings }
+    {
+        &self.routings
+    }
+
+    /// The class of a net of the database: the least of the nets that are joined to it.
+    pub fn class_of(&self, net: u32) -> u32
+        requires { net < length self.now.classes }
+        ensures { result ≡ class_in self.now net }
+    {
+        self.classes[net as usize]
+    }
+
+    /// Whether a net of the database is the source of a buffer that is on, or an end of a routing that is on.
+    pub fn is_read(&self, net: u32) -> bool
+        requires { net < length self.now.classes }
+        ensures { result ≡ is_read_in self.now net }
+    {
+        self.reads[net as usize]
+    }
+}

@@ -1,0 +1,61 @@
+// Links that are on.
+ghost use Rattle.std.specs.Prelude.{◌≡◌, All, IfOk};
+ghost use Rattle.ice_image.specs.Either.{configuration_of};
+ghost use Rattle.chipdb_reader.specs.Fit.{IsLink};
+ghost use Rattle.chipdb_reader.specs.Kept.{link_line, link_lines};
+ghost use Rattle.fabric_rules.specs.On.{is_link_on};
+ghost use Rattle.net_extract.specs.Found.{links_on};
+
+use chipdb_reader::{ChipDb, LinkLine};
+use ice_image::AnyImage;
+use std::alloc::{AllocError, Global};
+
+/// A link that is on: its place among the lines of its kind, and its nets.
+#[derive(Clone, Copy, Debug, PartialEq, Eq)]
+pub(crate) struct OnLink {
+    pub(crate) place: u32,
+    pub(crate) src: u32,
+    pub(crate) dst: u32,
+}
+
+/// Whether each bit of a link has its value.
+fn is_on(db: &ChipDb, image: &AnyImage, link: LinkLine) -> bool
+    requires device { db.now.chip.device ≡ (configuration_of image.now).device }
+    requires fit { IsLink db.now.chip (link_line db.now.bits link) }
+    ensures { result ≡ is_link_on (configuration_of image.now) (link_line db.now.bits link) }
+{
+    let _device = image.device();
+    image.tile_equals(link.x, link.y, db.bits(link.bits), link.values)
+}
+
+/// A place as it is kept. For one that needs more than 32 bits there is no room.
+fn place_of(place: usize) -> Result<u32, AllocError>
+    ensures { IfOk result (λ kept. kept ≡ place) }
+{
+    u32::try_from(place).map_err(|_| AllocError)
+}
+
+/// The links that are on, in their order.
+pub(crate) fn all_on(
+    alloc: Global,
+    db: &ChipDb,
+    image: &AnyImage,
+    links: &[LinkLine],
+) -> Result<Vec<OnLink>, AllocError>
+    requires device { db.now.chip.device ≡ (configuration_of image.now).device }
+    requires fit { All (IsLink db.now.chip) (link_lines db.now.bits links.now) }
+    ensures { IfOk result (λ on. on.items ≡ links_on (configuration_of image.now) (link_lines db.now.bits links.now)) }
+{
+    let mut on = Vec::new(alloc);
+    for (i, link) in links.iter().enumerate() {
+        if is_on(db, image, *link) {
+            let place = place_of(i)?;
+            on.push(OnLink {
+                place,
+                src: link.src,
+                dst: link.dst,
+            })?;
+        }
+    }
+    Ok(on)
+}

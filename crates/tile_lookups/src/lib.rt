@@ -4,8 +4,10 @@
 
 mod functions;
 mod name;
+mod reads;
 mod tiles;
 
 pub use functions::{function_bits, is_any_on, is_on, listed_bit};
 pub use name::Name;
+pub use reads::is_some_read;
 pub use tiles::tiles_of_image;

@@ -69,7 +69,7 @@ fn has_name(db: &ChipDb, net: u32, name: &[u8]) -> bool
     ensures { result ≡ list_any (λ line. (line.net == net) && bytes_eq name.now line.name) (database_in db.now).names }
 {
     for named in db.names_of(net) {
-        if db.text(named.name) == name {
+        if name == db.text(named.name) {
             return true;
         }
     }

@@ -1,11 +1,13 @@
 // Global nets.
-ghost use Rattle.std.specs.Prelude.{◌≡◌, ◌++◌, ◌&&◌, ◌==◌, bytes_eq, map, IfOk, OnOk, Some};
+ghost use Rattle.std.specs.Prelude.{◌≡◌, ◌++◌, ◌&&◌, ◌==◌, bytes_eq, codes, map, IfOk, OnOk, Some};
 ghost use Rattle.std.specs.List.{list_any};
 ghost use Rattle.ice_image.specs.Either.{configuration_of, device_of};
 ghost use Rattle.chipdb_reader.specs.Fit.{IsFit};
 ghost use Rattle.chipdb_reader.specs.Kept.{database_in};
 ghost use Rattle.fabric_rules.specs.On.{is_extra_on};
 ghost use Rattle.fabric_rules.specs.Pins.{global_pad, global_fabout, global_source, global_nets, globals_of, is_global_net, nets_from};
+ghost use Rattle.fabric_rules.specs.Nets.{ending_in};
+ghost use Rattle.fabric_rules.specs.Tiles.{item_if};
 ghost use Rattle.io_cell.specs.Globals.{global_net, AreOneDevice};
 
 use chipdb_reader::{ChipDb, PinXy};
@@ -57,9 +59,23 @@ fn append_nets(
 {
     let name = Name::ending_in(b"glb_netwk_", g);
     for net in 0..db.net_count() {
-        if has_name(db, net, name.bytes()) {
-            globals.push(GlobalNet { g, net, from })?;
-        }
+        append_net(globals, db, name.bytes(), GlobalNet { g, net, from })?;
+    }
+    Ok(())
+}
+
+/// Appends a net of a global where it has the global's name.
+fn append_net(
+    globals: &mut Vec<GlobalNet>,
+    db: &ChipDb,
+    name: &[u8],
+    global: GlobalNet,
+) -> Result<(), AllocError>
+    requires { name.now ≡ ending_in (codes "glb_netwk_") global.g }
+    ensures { OnOk result (globals.new.items ≡ globals.old.items ++ map (global_net global.g global.from) (item_if (is_global_net (database_in db.now) global.g global.net) global.net)) }
+{
+    if has_name(db, global.net, name) {
+        globals.push(global)?;
     }
     Ok(())
 }

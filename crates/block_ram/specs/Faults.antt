@@ -1,5 +1,5 @@
 -- Why RAMs aren't taken.
-use Rattle.std.specs.Prelude.{◌≡◌, ℕ, List, Option, Some, None}
+use Rattle.std.specs.Prelude.{◌≡◌, ℕ, Bool, not, ◌||◌, ◌==◌, List, Option, Some, None}
 use Rattle.ice_image.specs.Configuration.{Configuration}
 use Rattle.chipdb_reader.specs.Database.{Database}
 use Rattle.chipdb_reader.specs.declared.items.TileXy8.{TileXy8}
@@ -18,6 +18,10 @@ IsCause fault (Cascade x y) = fault ≡ Some (cascade x y)
 IsCause fault (Memory cause) = Unit {0}
 
 -- ---- one RAM
+
+-- whether one of the modes gives the words another width than 16
+abbrev pub is_narrow_by : ℕ → ℕ → Bool
+is_narrow_by read write = not (read == 0) || not (write == 0)
 
 -- a RAM whose words have another width than 16 at one of the ports
 abbrev pub mode_at : Database → Configuration → ℕ → ℕ → List Fault

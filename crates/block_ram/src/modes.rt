@@ -9,7 +9,7 @@ ghost use Rattle.fabric_rules.specs.Nets.{ending_in};
 ghost use Rattle.fabric_rules.specs.On.{is_function_on};
 ghost use Rattle.fabric_rules.specs.Tiles.{first_of};
 ghost use Rattle.block_ram.specs.Rams.{HasRam};
-ghost use Rattle.block_ram.specs.Faults.{cascade_at, cascade_fault, mode_at, mode_fault};
+ghost use Rattle.block_ram.specs.Faults.{cascade_at, cascade_fault, is_narrow_by, mode_at, mode_fault};
 
 use chipdb_reader::{ChipDb, TileXy8};
 use ice_image::AnyImage;
@@ -32,11 +32,18 @@ pub(crate) fn first_narrow(db: &ChipDb, image: &AnyImage, rams: &[TileXy8]) -> O
 {
     for ram in rams {
         let modes = modes(db, image, ram.x, ram.y);
-        if modes.read != 0 || modes.write != 0 {
+        if is_narrow(modes) {
             return Some(modes);
         }
     }
     None
+}
+
+/// Whether one of the modes gives the words another width than 16.
+fn is_narrow(modes: RamModes) -> bool
+    ensures { result ≡ is_narrow_by modes.read modes.write }
+{
+    modes.read != 0 || modes.write != 0
 }
 
 /// The modes of a RAM.

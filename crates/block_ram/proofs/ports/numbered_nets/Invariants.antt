@@ -6,5 +6,7 @@ use Rattle.fabric_rules.specs.Tiles.{each_below}
 use Rattle.block_ram.proofs.ports.numbered_nets.Given as goal
 
 abbrev pub invariant-loop-k : goal.invariant-loop-k
-invariant-loop-k g l =
-    take l.k l.nets ≡ each_below l.k (λ k. port_net (database_in l.db) l.x l.y (ending_in l.before k))
+invariant-loop-k g l = record {
+  long : length l.nets ≡ g.row.N;
+  filled : take l.k l.nets ≡ each_below l.k (λ k. port_net (database_in l.db) l.x l.y (ending_in l.before k));
+}

@@ -88,16 +88,18 @@ pub upper_is : (device : DeviceName) (x y : ℕ) → kind_of device x y ≡ Some
 unfolding kind_of
 upper_is device x y is =
     let lower = is_lower (nat_le (grid_width device) x) (nat_le (grid_height device) y) (is_side device x) (is_end device y)
-        ((x == ram_column device) || (x + ram_column device == last_x device)) (y % 2 == 1) is in
+    ((x == ram_column device) || (x + ram_column device == last_x device)) (y % 2 == 1) is in
     let below : y < grid_height device = le-not (grid_height device) y lower.y_in in
     let row = upper_row device y below (eq-not y (last_y device) (or-second (y == 0) (y == last_y device) lower.inner_y)) (eq-is (y % 2) 1 lower.is_odd) in
     let past : nat_le (grid_height device) (y + 1) ≡ false = not-le (grid_height device) (y + 1) row.inside in
     let bottom : (y + 1 == 0) ≡ false = not-eq (y + 1) 0 row.not_bottom in
     let top : (y + 1 == last_y device) ≡ false = not-eq (y + 1) (last_y device) row.not_top in
-    let even : ((y + 1) % 2 == 1) ≡ false = not-eq ((y + 1) % 2) 1 row.even in
-    (upper_by (nat_le (grid_width device) x) (nat_le (grid_height device) (y + 1)) (is_side device x) (is_end device (y + 1))
-        ((x == ram_column device) || (x + ram_column device == last_x device)) ((y + 1) % 2 == 1)
-        lower.x_in past lower.inner_x (both_false (y + 1 == 0) (y + 1 == last_y device) bottom top) lower.of_ram even, below)
+    let even : ((y + 1) % 2 == 1) ≡ false = not-eq ((y + 1) % 2) 1 row.even in (
+      upper_by (nat_le (grid_width device) x) (nat_le (grid_height device) (y + 1)) (is_side device x) (is_end device (y + 1))
+          ((x == ram_column device) || (x + ram_column device == last_x device)) ((y + 1) % 2 == 1)
+          lower.x_in past lower.inner_x (both_false (y + 1 == 0) (y + 1 == last_y device) bottom top) lower.of_ram even,
+      below,
+    )
 
 grid_height-le : (device : DeviceName) → grid_height device ≤ 34
 grid_height-le K1 = omega arith

@@ -2,7 +2,7 @@
 ghost use Rattle.std.specs.Prelude.{◌≡◌, ◌∷◌, [], All, IfOk, IfErr, OnOk, None, filter};
 ghost use Rattle.std.specs.List.{flat_map};
 ghost use Rattle.plane_map.specs.declared.tile.TileKind.TheVariants.{RamB};
-ghost use Rattle.ice_image.specs.Either.{configuration_of, device_of};
+ghost use Rattle.ice_image.specs.Either.{configuration_of};
 ghost use Rattle.chipdb_reader.specs.Kept.{database_in};
 ghost use Rattle.fabric_rules.specs.Rams.{is_ram_used, ram_at, rams_of};
 ghost use Rattle.fabric_rules.specs.Faults.{rams_fault};
@@ -32,7 +32,7 @@ pub fn rams(
     image: &AnyImage,
     links: &Links,
 ) -> Result<Vec<RamCell>, RamFault>
-    requires device { db.now.chip.device ≡ device_of image.now }
+    requires device { db.now.chip.device ≡ (configuration_of image.now).device }
     requires links { AreLinks (database_in db.now) (configuration_of image.now) links.now }
     ensures rams { IfOk result (λ rams. rams.items ≡ rams_of (database_in db.now) (configuration_of image.now)) }
     ensures taken { OnOk result (rams_fault (database_in db.now) (configuration_of image.now) ≡ None) }

@@ -3,7 +3,7 @@ ghost use Rattle.std.specs.Prelude.{◌≡◌, ◌++◌, All, IfOk, IfErr, OnOk,
 ghost use Rattle.std.specs.List.{flat_map};
 ghost use Rattle.plane_map.specs.declared.tile.TileKind.TheVariants.{Io};
 ghost use Rattle.place_search.specs.Places.{gathered_below};
-ghost use Rattle.ice_image.specs.Either.{configuration_of, device_of};
+ghost use Rattle.ice_image.specs.Either.{configuration_of};
 ghost use Rattle.chipdb_reader.specs.Kept.{database_in};
 ghost use Rattle.fabric_rules.specs.Pins.{pins_of, globals_of, port_at};
 ghost use Rattle.fabric_rules.specs.Faults.{pins_fault};
@@ -28,13 +28,8 @@ use tile_lookups::tiles_of_image;
 /// Finds the pins of an image that are ports, and its global nets.
 ///
 /// The database and the image are of one device, and the links are those that the image sets.
-pub fn pins(
-    alloc: Global,
-    db: &ChipDb,
-    image: &AnyImage,
-    links: &Links,
-) -> Result<PinSet, PinFault>
-    requires device { db.now.chip.device ≡ device_of image.now }
+pub fn pins(alloc: Global, db: &ChipDb, image: &AnyImage, links: &Links) -> Result<PinSet, PinFault>
+    requires device { db.now.chip.device ≡ (configuration_of image.now).device }
     requires links { AreLinks (database_in db.now) (configuration_of image.now) links.now }
     ensures pins { IfOk result (λ set. set.pins.items ≡ pins_of (database_in db.now) (configuration_of image.now)) }
     ensures globals { IfOk result (λ set. set.globals.items ≡ globals_of (database_in db.now) (configuration_of image.now)) }
@@ -70,12 +65,7 @@ fn pins_in(
 }
 
 /// Whether all tiles and pins are taken, or the first cause why they aren't.
-fn taken(
-    db: &ChipDb,
-    image: &AnyImage,
-    links: &Links,
-    tiles: &[TileXy8],
-) -> Result<(), PinFault>
+fn taken(db: &ChipDb, image: &AnyImage, links: &Links, tiles: &[TileXy8]) -> Result<(), PinFault>
     requires together { BelongTogether db.now image.now links.now }
     requires all { tiles.now ≡ tiles_of (configuration_of image.now).device Io }
     requires each { All (λ tile. HasTile image.now Io tile.x tile.y) tiles.now }

@@ -1,7 +1,7 @@
 // Global nets.
 ghost use Rattle.std.specs.Prelude.{◌≡◌, ◌++◌, ◌&&◌, ◌==◌, bytes_eq, codes, map, IfOk, OnOk, Some};
 ghost use Rattle.std.specs.List.{list_any};
-ghost use Rattle.ice_image.specs.Either.{configuration_of, device_of};
+ghost use Rattle.ice_image.specs.Either.{configuration_of};
 ghost use Rattle.chipdb_reader.specs.Fit.{IsFit};
 ghost use Rattle.chipdb_reader.specs.Kept.{database_in};
 ghost use Rattle.fabric_rules.specs.On.{is_extra_on};

@@ -93,9 +93,9 @@ over_tiles-listed device kind given =
     let each : TileXy8 → List _ = λ tile. given tile.x tile.y in
     sym (flat_map-gathered_below (grid_height device) each (λ y. gathered_below (grid_width device) (λ x. tile_if device kind x y))
     ∙ gathered_below-same (grid_height device) (λ y. flat_map each (gathered_below (grid_width device) (λ x. tile_if device kind x y))) (λ y. gathered_below (grid_width device) (λ x. at_kind device kind given x y))
-        (λ y below. flat_map-gathered_below (grid_width device) each (λ x. tile_if device kind x y)
-        ∙ gathered_below-same (grid_width device) (λ x. flat_map each (tile_if device kind x y)) (λ x. at_kind device kind given x y)
-            (λ x inside. tile_given (is_kind_there kind (kind_of device x y)) (record { x = x; y = y }) each)))
+    (λ y below. flat_map-gathered_below (grid_width device) each (λ x. tile_if device kind x y)
+    ∙ gathered_below-same (grid_width device) (λ x. flat_map each (tile_if device kind x y)) (λ x. at_kind device kind given x y)
+    (λ x inside. tile_given (is_kind_there kind (kind_of device x y)) (record { x = x; y = y }) each)))
 
 -- all items of lists of places
 pub All-gathered_below : {A : Type 0} (P : A → Type 0) (n : ℕ) (given : ℕ → List A) → ((k : ℕ) → All P (given k)) → All P (gathered_below n given)
@@ -116,8 +116,8 @@ pub tiles_of-stand : (device : DeviceName) (kind : TileKind) → All (λ (tile :
 unfolding tiles_of over_grid
 tiles_of-stand device kind =
     All-gathered_below (Stands device kind) (grid_height device) (λ y. gathered_below (grid_width device) (λ x. tile_if device kind x y))
-        (λ y. All-gathered_below (Stands device kind) (grid_width device) (λ x. tile_if device kind x y)
-            (λ x. stands_if device kind x y (is_kind_there kind (kind_of device x y)) refl))
+    (λ y. All-gathered_below (Stands device kind) (grid_width device) (λ x. tile_if device kind x y)
+    (λ x. stands_if device kind x y (is_kind_there kind (kind_of device x y)) refl))
 
 -- ---- lists that grow place by place
 

@@ -81,7 +81,7 @@ is_found texts bits functions kind name place function fit found is =
     let facts = position-Some (is_function kind name) lines place line found in
     let inside : place < length functions = place_inside texts bits functions kind name place found in
     let here : get_or lines place line ≡ line =
-        get_or-map (function_line texts bits) functions place function line inside ∙ ap (function_line texts bits) (sym is) in
+    get_or-map (function_line texts bits) functions place function line inside ∙ ap (function_line texts bits) (sym is) in
     let passes : is_function kind name line ≡ true = ap (is_function kind name) (sym here) ∙ facts.1 in
     let kind_is : function.kind ≡ kind = is_same_kind-is function.kind kind (and-first (is_same_kind function.kind kind) (bytes_eq name line.name) passes) in
     let fits : IsFunctionLine line = subst IsFunctionLine here (fit place line facts.0) in
@@ -137,8 +137,8 @@ pub any_line-at : (test : FunctionLine → Bool) (texts : List (List ℕ)) (bits
     → list_any test (function_lines texts bits functions) ≡ true
 any_line-at test texts bits functions k function inside is passes =
     list_any_at test (function_lines texts bits functions) k (function_line texts bits function)
-        (omega (arith, length-map functions (function_line texts bits)))
-        (ap test (line_at texts bits functions k function inside is) ∙ passes)
+    (omega (arith, length-map functions (function_line texts bits)))
+    (ap test (line_at texts bits functions k function inside is) ∙ passes)
 
 -- its bits are those of a tile of its kind
 pub line_bits-in : (texts : List (List ℕ)) (bits : List RowCol) (functions : List Function) (k : ℕ) (function : Function)
@@ -146,7 +146,7 @@ pub line_bits-in : (texts : List (List ℕ)) (bits : List RowCol) (functions : L
     → All (IsBitIn (columns_of function.kind)) (bits_named bits function.bits)
 line_bits-in texts bits functions k function fit inside is =
     (subst IsFunctionLine (line_at texts bits functions k function inside is)
-        (fit k (function_line texts bits function) (omega (arith, length-map functions (function_line texts bits))))).bits_in
+    (fit k (function_line texts bits function) (omega (arith, length-map functions (function_line texts bits))))).bits_in
 
 -- ---- bits of which none is set
 

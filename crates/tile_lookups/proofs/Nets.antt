@@ -36,7 +36,7 @@ pub net_named-inside : (db : Database) (x y : ℕ) (name : List ℕ) → IsFit d
 unfolding net_at
 net_named-inside db x y name fit =
     net_line db (find (is_name_at x y name) db.names)
-        (λ found is. (find-all (IsNameLine db.chip) (is_name_at x y name) db.names found fit.names is).net_in)
+    (λ found is. (find-all (IsNameLine db.chip) (is_name_at x y name) db.names found fit.names is).net_in)
 
 -- the place of an extra bit is one of the planes
 extra_line : (db : Database) (line : Option ExtraLine) → ((found : ExtraLine) → line ≡ Some found → IsInCram db.chip.device found.at)
@@ -48,7 +48,7 @@ pub extra_place-inside : (db : Database) (name : List ℕ) (at : Place) → IsFi
 unfolding extra_place
 extra_place-inside db name at fit is =
     extra_line db (find (λ line. bytes_eq name line.name) db.extras)
-        (λ found found_is. find-all (IsExtraLine db.chip) (λ line. bytes_eq name line.name) db.extras found fit.extras found_is) at is
+    (λ found found_is. find-all (IsExtraLine db.chip) (λ line. bytes_eq name line.name) db.extras found fit.extras found_is) at is
 
 -- what the links say of a net is what the image says
 pub is_some_read-same : (db : Kept) (image : AnyImage) (links : LinkSet) (net : Option ℕ) → BelongTogether db image links

@@ -35,7 +35,12 @@ pub fn listed_bit(image: &AnyImage, kind: TileKind, x: u8, y: u8, bits: &[RowCol
 {
     match bits.get(k) {
         None => false,
-        Some(bit) => image.tile_bit(TileBit { x, y, row: bit.row, col: bit.col }),
+        Some(bit) => image.tile_bit(TileBit {
+            x,
+            y,
+            row: bit.row,
+            col: bit.col,
+        }),
     }
 }
 

@@ -22,4 +22,4 @@ rams_at-requires-clause-each c =
     let rams = have_rams c.args.image.now c.in_ok-tiles.tiles.items c.in_ok-tiles.ensures.each in
     let here = subst Each (sym c.deref.ensures.value) rams in
     subst Each (sym (c.deref-2.ensures.value ∙ c.in_ok-used.ensures))
-        (All-filter passes (λ (tile : TileXy8). HasRam c.args.image.now tile.x tile.y) c.deref.result.now here)
+    (All-filter passes (λ (tile : TileXy8). HasRam c.args.image.now tile.x tile.y) c.deref.result.now here)

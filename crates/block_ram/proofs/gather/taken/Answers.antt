@@ -14,9 +14,9 @@ pub returns-in-Some-first_cascaded-clause-refused : goal.returns-in-Some-first_c
 returns-in-Some-first_cascaded-clause-refused c =
     let tile = c.in-Some-first_cascaded.tile in
     fault_listed (database_in c.args.db.now) (configuration_of c.args.image.now) c.args.used.now None (Some (cascade tile.x tile.y)) c.requires.all
-        c.in-None.ensures c.in-Some-first_cascaded.ensures
+    c.in-None.ensures c.in-Some-first_cascaded.ensures
 
 pub returns-in-None-first_cascaded-clause-taken : goal.returns-in-None-first_cascaded-clause-taken
 returns-in-None-first_cascaded-clause-taken c =
     fault_listed (database_in c.args.db.now) (configuration_of c.args.image.now) c.args.used.now None None c.requires.all
-        c.in-None.ensures c.in-None-first_cascaded.ensures
+    c.in-None.ensures c.in-None-first_cascaded.ensures

@@ -16,7 +16,7 @@ loop-ram-preserved c =
     let image = configuration_of c.args.image.now in
     let tile : TileXy8 = get_or c.args.rams.now c.loop-ram.ram-index (record { x = 0; y = 0 }) in
     none_listed-more (λ (tile : TileXy8). cascade_at db image tile.x tile.y) c.args.rams.now c.loop-ram.ram-index (record { x = 0; y = 0 }) (omega arith) c.loop-ram.invariant
-        (item_if-none (is_cascaded db image tile.x tile.y) (cascade tile.x tile.y) (sym c.is_cascaded.ensures ∙ c.if-is_cascaded.false))
+    (item_if-none (is_cascaded db image tile.x tile.y) (cascade tile.x tile.y) (sym c.is_cascaded.ensures ∙ c.if-is_cascaded.false))
 
 pub returns-then-is_cascaded : goal.returns-then-is_cascaded
 returns-then-is_cascaded c =
@@ -24,7 +24,7 @@ returns-then-is_cascaded c =
     let image = configuration_of c.args.image.now in
     let tile : TileXy8 = get_or c.args.rams.now c.loop-ram.ram-index (record { x = 0; y = 0 }) in
     first_of-flat_map (λ (tile : TileXy8). cascade_at db image tile.x tile.y) c.args.rams.now c.loop-ram.ram-index (record { x = 0; y = 0 }) (cascade tile.x tile.y) (omega arith) c.loop-ram.invariant
-        (item_if-item (is_cascaded db image tile.x tile.y) (cascade tile.x tile.y) (sym c.is_cascaded.ensures ∙ c.if-is_cascaded.true))
+    (item_if-item (is_cascaded db image tile.x tile.y) (cascade tile.x tile.y) (sym c.is_cascaded.ensures ∙ c.if-is_cascaded.true))
 
 pub returns : goal.returns
 returns c =

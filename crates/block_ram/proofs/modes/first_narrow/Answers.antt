@@ -17,9 +17,9 @@ loop-ram-preserved c =
     let image = configuration_of c.args.image.now in
     let tile : TileXy8 = get_or c.args.rams.now c.loop-ram.ram-index (record { x = 0; y = 0 }) in
     let narrow : is_narrow db image tile.x tile.y ≡ false =
-        ap₂ is_narrow_by (sym c.modes-modes.ensures.read) (sym c.modes-modes.ensures.write) ∙ sym c.is_narrow.ensures ∙ c.if-is_narrow.false in
+    ap₂ is_narrow_by (sym c.modes-modes.ensures.read) (sym c.modes-modes.ensures.write) ∙ sym c.is_narrow.ensures ∙ c.if-is_narrow.false in
     none_listed-more (λ (tile : TileXy8). mode_at db image tile.x tile.y) c.args.rams.now c.loop-ram.ram-index (record { x = 0; y = 0 }) (omega arith) c.loop-ram.invariant
-        (item_if-none (is_narrow db image tile.x tile.y) (mode tile.x tile.y (read_mode db image tile.x tile.y) (write_mode db image tile.x tile.y)) narrow)
+    (item_if-none (is_narrow db image tile.x tile.y) (mode tile.x tile.y (read_mode db image tile.x tile.y) (write_mode db image tile.x tile.y)) narrow)
 
 pub returns-then-is_narrow : goal.returns-then-is_narrow
 returns-then-is_narrow c =
@@ -27,10 +27,10 @@ returns-then-is_narrow c =
     let image = configuration_of c.args.image.now in
     let tile : TileXy8 = get_or c.args.rams.now c.loop-ram.ram-index (record { x = 0; y = 0 }) in
     let narrow : is_narrow db image tile.x tile.y ≡ true =
-        ap₂ is_narrow_by (sym c.modes-modes.ensures.read) (sym c.modes-modes.ensures.write) ∙ sym c.is_narrow.ensures ∙ c.if-is_narrow.true in
+    ap₂ is_narrow_by (sym c.modes-modes.ensures.read) (sym c.modes-modes.ensures.write) ∙ sym c.is_narrow.ensures ∙ c.if-is_narrow.true in
     let fault : Fault = mode tile.x tile.y (read_mode db image tile.x tile.y) (write_mode db image tile.x tile.y) in
     first_of-flat_map (λ (tile : TileXy8). mode_at db image tile.x tile.y) c.args.rams.now c.loop-ram.ram-index (record { x = 0; y = 0 }) fault (omega arith) c.loop-ram.invariant
-        (item_if-item (is_narrow db image tile.x tile.y) fault narrow)
+    (item_if-item (is_narrow db image tile.x tile.y) fault narrow)
     ∙ ap (λ (f : Fault). Some f) (cc (sym c.modes-modes.ensures.x, sym c.modes-modes.ensures.y, sym c.modes-modes.ensures.read, sym c.modes-modes.ensures.write))
 
 pub returns : goal.returns

@@ -19,9 +19,9 @@ loop-k-preserved g c =
     record {
       long = length-set _ _ _ ∙ c.loop-k.invariant.long;
       filled = take_more_set c.loop-k.nets c.loop-k.k c.numbered_net.result inside
-        ∙ ap (λ before. before ++ c.numbered_net.result ∷ []) c.loop-k.invariant.filled
-        ∙ ap (λ net. gathered_below c.loop-k.k given ++ net ∷ []) c.numbered_net.ensures
-        ∙ sym (gathered_below-more c.loop-k.k given);
+          ∙ ap (λ before. before ++ c.numbered_net.result ∷ []) c.loop-k.invariant.filled
+          ∙ ap (λ net. gathered_below c.loop-k.k given ++ net ∷ []) c.numbered_net.ensures
+          ∙ sym (gathered_below-more c.loop-k.k given);
     }
 
 pub returns : goal.returns

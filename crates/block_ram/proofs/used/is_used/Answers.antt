@@ -30,7 +30,7 @@ loop-bit-preserved c =
     let test : ℕ → Bool = λ bit. is_some_read db (configuration_of c.args.image.now) (ram_net db c.args.x c.args.y (ending_in (codes "RDATA_") bit)) in
     let same = is_some_read-same c.args.db.now c.args.image.now c.args.links.now (ram_net db c.args.x c.args.y (ending_in (codes "RDATA_") c.loop-bit.bit)) c.requires.together in
     let here : test c.loop-bit.bit ≡ false =
-        sym same ∙ ap (is_some_read_in c.args.links.now) (sym c.numbered_net.ensures) ∙ sym c.is_some_read.ensures ∙ c.if-is_some_read.false in
+    sym same ∙ ap (is_some_read_in c.args.links.now) (sym c.numbered_net.ensures) ∙ sym c.is_some_read.ensures ∙ c.if-is_some_read.false in
     any_below-more c.loop-bit.bit test ∙ rw (c.loop-bit.invariant, here) refl
 
 pub returns-then-is_some_read : goal.returns-then-is_some_read
@@ -40,7 +40,7 @@ returns-then-is_some_read c =
     let test : ℕ → Bool = λ bit. is_some_read db (configuration_of c.args.image.now) (ram_net db c.args.x c.args.y (ending_in (codes "RDATA_") bit)) in
     let same = is_some_read-same c.args.db.now c.args.image.now c.args.links.now (ram_net db c.args.x c.args.y (ending_in (codes "RDATA_") c.loop-bit.bit)) c.requires.together in
     sym (any_below-at 16 c.loop-bit.bit test (omega arith)
-        (sym same ∙ ap (is_some_read_in c.args.links.now) (sym c.numbered_net.ensures) ∙ sym c.is_some_read.ensures ∙ c.if-is_some_read.true))
+    (sym same ∙ ap (is_some_read_in c.args.links.now) (sym c.numbered_net.ensures) ∙ sym c.is_some_read.ensures ∙ c.if-is_some_read.true))
 
 pub returns : goal.returns
 unfolding is_ram_used

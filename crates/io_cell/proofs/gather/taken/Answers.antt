@@ -14,9 +14,9 @@ pub returns-in-Some-first_refused-clause-refused : goal.returns-in-Some-first_re
 returns-in-Some-first_refused-clause-refused c =
     let pin = c.in-Some-first_refused.pin in
     fault_listed (database_in c.args.db.now) (configuration_of c.args.image.now) c.args.tiles.now None (Some (pin_mode pin.x pin.y pin.n pin.pintype)) c.requires.all
-        c.in-None.ensures c.in-Some-first_refused.ensures
+    c.in-None.ensures c.in-Some-first_refused.ensures
 
 pub returns-in-None-first_refused-clause-taken : goal.returns-in-None-first_refused-clause-taken
 returns-in-None-first_refused-clause-taken c =
     fault_listed (database_in c.args.db.now) (configuration_of c.args.image.now) c.args.tiles.now None None c.requires.all
-        c.in-None.ensures c.in-None-first_refused.ensures
+    c.in-None.ensures c.in-None-first_refused.ensures

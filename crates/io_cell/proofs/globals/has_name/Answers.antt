@@ -13,7 +13,7 @@ returns-then-eq c =
     let passes : List NameLine → Bool = list_any (λ (line : NameLine). bytes_eq c.args.name.now line.name) in
     let is_name : NetName → Bool = λ name. bytes_eq c.args.name.now (text_at c.args.db.now.texts name.name) in
     let here : is_name (get_or c.names_of-named-items.result.now c.loop-named.named-index c.named-item.result) ≡ true =
-        ap is_name (sym c.named-item.is) ∙ ap (bytes_eq c.args.name.now) (sym c.text.ensures) ∙ sym c.eq.ensures ∙ c.if-eq.true in
+    ap is_name (sym c.named-item.is) ∙ ap (bytes_eq c.args.name.now) (sym c.text.ensures) ∙ sym c.eq.ensures ∙ c.if-eq.true in
     sym (any_named c.args.net c.args.name.now (database_in c.args.db.now).names ∙ ap passes (sym c.names_of-named-items.ensures)
     ∙ any_listed-at c.args.db.now.texts c.args.net c.args.name.now c.names_of-named-items.result.now c.loop-named.named-index c.named-item.result c.loop-named-test.true here)
 
@@ -21,7 +21,7 @@ pub returns : goal.returns
 returns c =
     let passes : List NameLine → Bool = list_any (λ (line : NameLine). bytes_eq c.args.name.now line.name) in
     let none : (k : ℕ) (d : NetName) → k < length c.names_of-named-items.result.now
-        → bytes_eq c.args.name.now (text_at c.args.db.now.texts (get_or c.names_of-named-items.result.now k d).name) ≡ false =
-        λ k d inside. c.loop-named.invariant k d (omega arith) in
+    → bytes_eq c.args.name.now (text_at c.args.db.now.texts (get_or c.names_of-named-items.result.now k d).name) ≡ false =
+    λ k d inside. c.loop-named.invariant k d (omega arith) in
     sym (any_named c.args.net c.args.name.now (database_in c.args.db.now).names ∙ ap passes (sym c.names_of-named-items.ensures)
     ∙ any_listed-none c.args.db.now.texts c.args.net c.args.name.now c.names_of-named-items.result.now none)

@@ -14,7 +14,7 @@ loop-k-init c = row_word-none 6 _
 step : (c : goal.After-from) → 2 * c.loop-k.pintype + c.from.result ≡ word_of (drop (c.loop-k.k - 1) (row_from 6 (pintype_bit (database_in c.args.db.now) (configuration_of c.args.image.now) c.args.x c.args.y c.args.n)))
 step c =
     row_word-more 6 (pintype_bit (database_in c.args.db.now) (configuration_of c.args.image.now) c.args.x c.args.y c.args.n)
-        c.loop-k.k c.loop-k.pintype c.from.result c.pintype_bit-bit.result (omega arith) (omega arith) c.loop-k.invariant c.from.ensures c.pintype_bit-bit.ensures
+    c.loop-k.k c.loop-k.pintype c.from.result c.pintype_bit-bit.result (omega arith) (omega arith) c.loop-k.invariant c.from.ensures c.pintype_bit-bit.ensures
 
 pub overflow_mul-pintype : goal.overflow_mul-pintype
 overflow_mul-pintype c =

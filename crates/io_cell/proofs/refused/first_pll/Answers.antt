@@ -16,7 +16,7 @@ loop-tile-preserved c =
     let image = configuration_of c.args.image.now in
     let tile : TileXy8 = get_or c.args.tiles.now c.loop-tile.tile-index (record { x = 0; y = 0 }) in
     none_listed-more (λ (tile : TileXy8). pll_at db image tile.x tile.y) c.args.tiles.now c.loop-tile.tile-index (record { x = 0; y = 0 }) (omega arith) c.loop-tile.invariant
-        (item_if-none (has_pll db image tile.x tile.y) (pll tile.x tile.y) (sym c.is_any_on.ensures ∙ c.if-is_any_on.false))
+    (item_if-none (has_pll db image tile.x tile.y) (pll tile.x tile.y) (sym c.is_any_on.ensures ∙ c.if-is_any_on.false))
 
 pub returns-then-is_any_on : goal.returns-then-is_any_on
 returns-then-is_any_on c =
@@ -24,7 +24,7 @@ returns-then-is_any_on c =
     let image = configuration_of c.args.image.now in
     let tile : TileXy8 = get_or c.args.tiles.now c.loop-tile.tile-index (record { x = 0; y = 0 }) in
     first_of-flat_map (λ (tile : TileXy8). pll_at db image tile.x tile.y) c.args.tiles.now c.loop-tile.tile-index (record { x = 0; y = 0 }) (pll tile.x tile.y) (omega arith) c.loop-tile.invariant
-        (item_if-item (has_pll db image tile.x tile.y) (pll tile.x tile.y) (sym c.is_any_on.ensures ∙ c.if-is_any_on.true))
+    (item_if-item (has_pll db image tile.x tile.y) (pll tile.x tile.y) (sym c.is_any_on.ensures ∙ c.if-is_any_on.true))
 
 pub returns : goal.returns
 returns c =

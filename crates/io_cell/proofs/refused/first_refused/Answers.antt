@@ -12,14 +12,14 @@ use Rattle.io_cell.proofs.refused.first_refused.Goals as goal
 pub loop-tile-preserved : goal.loop-tile-preserved
 loop-tile-preserved c =
     none_listed-more (λ (tile : TileXy8). pin_faults_in (database_in c.args.db.now) (configuration_of c.args.image.now) tile.x tile.y)
-        c.args.tiles.now c.loop-tile.tile-index (record { x = 0; y = 0 }) (omega arith) c.loop-tile.invariant
-        (first_of-none _ c.in_default.ensures)
+    c.args.tiles.now c.loop-tile.tile-index (record { x = 0; y = 0 }) (omega arith) c.loop-tile.invariant
+    (first_of-none _ c.in_default.ensures)
 
 pub returns-in-Some : goal.returns-in-Some
 returns-in-Some c =
     first_of-flat_map (λ (tile : TileXy8). pin_faults_in (database_in c.args.db.now) (configuration_of c.args.image.now) tile.x tile.y)
-        c.args.tiles.now c.loop-tile.tile-index (record { x = 0; y = 0 }) (pin_mode c.in-Some.pin.x c.in-Some.pin.y c.in-Some.pin.n c.in-Some.pin.pintype) (omega arith) c.loop-tile.invariant
-        c.in-Some.ensures
+    c.args.tiles.now c.loop-tile.tile-index (record { x = 0; y = 0 }) (pin_mode c.in-Some.pin.x c.in-Some.pin.y c.in-Some.pin.n c.in-Some.pin.pintype) (omega arith) c.loop-tile.invariant
+    c.in-Some.ensures
 
 pub returns : goal.returns
 returns c =

@@ -20,8 +20,8 @@ loop-n-preserved c =
     let image = configuration_of c.args.image.now in
     let pintype = pintype_of db image c.args.x c.args.y c.loop-n.n in
     none-more c.loop-n.n (pin_fault_at db image c.args.x c.args.y) c.loop-n.invariant
-        (item_if-none (is_refused_with db image c.args.x c.args.y c.loop-n.n pintype) (pin_mode c.args.x c.args.y c.loop-n.n pintype)
-            (ap (is_refused_with db image c.args.x c.args.y c.loop-n.n) (sym c.pintype-pintype.ensures) ∙ sym c.is_refused.ensures ∙ c.if-is_refused.false))
+    (item_if-none (is_refused_with db image c.args.x c.args.y c.loop-n.n pintype) (pin_mode c.args.x c.args.y c.loop-n.n pintype)
+    (ap (is_refused_with db image c.args.x c.args.y c.loop-n.n) (sym c.pintype-pintype.ensures) ∙ sym c.is_refused.ensures ∙ c.if-is_refused.false))
 
 pub returns-then-is_refused : goal.returns-then-is_refused
 returns-then-is_refused c =
@@ -29,8 +29,8 @@ returns-then-is_refused c =
     let image = configuration_of c.args.image.now in
     let pintype = pintype_of db image c.args.x c.args.y c.loop-n.n in
     first_of-gathered_below 2 c.loop-n.n (pin_fault_at db image c.args.x c.args.y) (pin_mode c.args.x c.args.y c.loop-n.n pintype) (omega arith) c.loop-n.invariant
-        (item_if-item (is_refused_with db image c.args.x c.args.y c.loop-n.n pintype) (pin_mode c.args.x c.args.y c.loop-n.n pintype)
-            (ap (is_refused_with db image c.args.x c.args.y c.loop-n.n) (sym c.pintype-pintype.ensures) ∙ sym c.is_refused.ensures ∙ c.if-is_refused.true))
+    (item_if-item (is_refused_with db image c.args.x c.args.y c.loop-n.n pintype) (pin_mode c.args.x c.args.y c.loop-n.n pintype)
+    (ap (is_refused_with db image c.args.x c.args.y c.loop-n.n) (sym c.pintype-pintype.ensures) ∙ sym c.is_refused.ensures ∙ c.if-is_refused.true))
     ∙ ap (λ t. Some (pin_mode c.args.x c.args.y c.loop-n.n t)) (sym c.pintype-pintype.ensures)
 
 pub returns : goal.returns

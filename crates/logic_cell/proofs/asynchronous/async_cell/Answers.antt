@@ -18,14 +18,14 @@ loop-i-preserved c =
     let db = database_in c.args.db.now in
     let image = configuration_of c.args.image.now in
     none-more c.loop-i.i (async_at db image c.args.x c.args.y) c.loop-i.invariant
-        (item_if-none (is_async_flip (cell_bits db image c.args.x c.args.y c.loop-i.i)) (async c.args.x c.args.y c.loop-i.i) (sym c.is_async.ensures ∙ c.if-is_async.false))
+    (item_if-none (is_async_flip (cell_bits db image c.args.x c.args.y c.loop-i.i)) (async c.args.x c.args.y c.loop-i.i) (sym c.is_async.ensures ∙ c.if-is_async.false))
 
 pub returns-then-is_async : goal.returns-then-is_async
 returns-then-is_async c =
     let db = database_in c.args.db.now in
     let image = configuration_of c.args.image.now in
     first_of-gathered_below 8 c.loop-i.i (async_at db image c.args.x c.args.y) (async c.args.x c.args.y c.loop-i.i) (omega arith) c.loop-i.invariant
-        (item_if-item (is_async_flip (cell_bits db image c.args.x c.args.y c.loop-i.i)) (async c.args.x c.args.y c.loop-i.i) (sym c.is_async.ensures ∙ c.if-is_async.true))
+    (item_if-item (is_async_flip (cell_bits db image c.args.x c.args.y c.loop-i.i)) (async c.args.x c.args.y c.loop-i.i) (sym c.is_async.ensures ∙ c.if-is_async.true))
 
 pub returns : goal.returns
 returns c =

@@ -12,14 +12,14 @@ use Rattle.logic_cell.proofs.asynchronous.first_async.Goals as goal
 pub loop-tile-preserved : goal.loop-tile-preserved
 loop-tile-preserved c =
     none_listed-more (λ (tile : TileXy8). async_faults_in (database_in c.args.db.now) (configuration_of c.args.image.now) tile.x tile.y)
-        c.args.tiles.now c.loop-tile.tile-index (record { x = 0; y = 0 }) (omega arith) c.loop-tile.invariant
-        (first_of-none _ c.in_default.ensures)
+    c.args.tiles.now c.loop-tile.tile-index (record { x = 0; y = 0 }) (omega arith) c.loop-tile.invariant
+    (first_of-none _ c.in_default.ensures)
 
 pub returns-in-Some : goal.returns-in-Some
 returns-in-Some c =
     first_of-flat_map (λ (tile : TileXy8). async_faults_in (database_in c.args.db.now) (configuration_of c.args.image.now) tile.x tile.y)
-        c.args.tiles.now c.loop-tile.tile-index (record { x = 0; y = 0 }) (async c.in-Some.at.x c.in-Some.at.y c.in-Some.at.i) (omega arith) c.loop-tile.invariant
-        c.in-Some.ensures
+    c.args.tiles.now c.loop-tile.tile-index (record { x = 0; y = 0 }) (async c.in-Some.at.x c.in-Some.at.y c.in-Some.at.i) (omega arith) c.loop-tile.invariant
+    c.in-Some.ensures
 
 pub returns : goal.returns
 returns c =

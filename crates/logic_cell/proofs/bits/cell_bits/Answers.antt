@@ -16,11 +16,11 @@ unfolding cell_bits
 returns-in-None-clause-bits c = λ image x y.
     let listed : List ℕ → Option (List RowCol) = λ name. option_map (λ (f : FunctionLine). f.bits) (function_named (database_in c.args.db.now) Logic name) in
     bits_of_function-missing image x y (function_named (database_in c.args.db.now) Logic (ending_in (codes "LC_") c.args.i))
-        (c.in-None.ensures.bits ∙ ap listed (c.bytes.ensures ∙ c.ending_in.ensures.name))
+    (c.in-None.ensures.bits ∙ ap listed (c.bytes.ensures ∙ c.ending_in.ensures.name))
 
 pub returns-in-Some-clause-bits : goal.returns-in-Some-clause-bits
 unfolding cell_bits
 returns-in-Some-clause-bits c = λ image x y.
     let listed : List ℕ → Option (List RowCol) = λ name. option_map (λ (f : FunctionLine). f.bits) (function_named (database_in c.args.db.now) Logic name) in
     bits_of_function-found image x y (function_named (database_in c.args.db.now) Logic (ending_in (codes "LC_") c.args.i)) c.in-Some.bits.now
-        (c.in-Some.ensures.bits ∙ ap listed (c.bytes.ensures ∙ c.ending_in.ensures.name))
+    (c.in-Some.ensures.bits ∙ ap listed (c.bytes.ensures ∙ c.ending_in.ensures.name))

@@ -41,8 +41,8 @@ returns-in-None-clause-bits c =
 found : (c : goal.After-bits) → IsFound c.args.db.now.texts c.args.db.now.bits c.args.db.now.functions c.args.kind c.args.name.now c.index-functions-place.result
 found c =
     is_found c.args.db.now.texts c.args.db.now.bits c.args.db.now.functions c.args.kind c.args.name.now c.in-Some.place c.index-functions-place.result
-        c.functions.ensures.fit.functions (sym c.function.ensures ∙ c.in-Some.is)
-        (c.index-functions-place.is ∙ ap (λ (fs : List Function). get_or fs c.in-Some.place c.index-functions-place.result) c.functions.ensures.functions)
+    c.functions.ensures.fit.functions (sym c.function.ensures ∙ c.in-Some.is)
+    (c.index-functions-place.is ∙ ap (λ (fs : List Function). get_or fs c.in-Some.place c.index-functions-place.result) c.functions.ensures.functions)
 
 pub returns-in-Some-clause-bits : goal.returns-in-Some-clause-bits
 unfolding bits_in

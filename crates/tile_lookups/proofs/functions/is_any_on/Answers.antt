@@ -24,7 +24,7 @@ returns-then-begins_and_is_on c =
     let listed : List Function → Bool = λ fs. list_any test (function_lines c.args.db.now.texts c.args.db.now.bits fs) in
     sym (sym (ap listed c.functions-function-items.ensures.functions)
     ∙ any_line-at test c.args.db.now.texts c.args.db.now.bits c.functions-function-items.result.now c.loop-function.function-index c.function-item.result
-        c.loop-function-test.true c.function-item.is (sym c.begins_and_is_on.ensures ∙ c.if-begins_and_is_on.true))
+    c.loop-function-test.true c.function-item.is (sym c.begins_and_is_on.ensures ∙ c.if-begins_and_is_on.true))
 
 pub returns : goal.returns
 unfolding is_any_on
@@ -33,4 +33,4 @@ returns c =
     let listed : List Function → Bool = λ fs. list_any test (function_lines c.args.db.now.texts c.args.db.now.bits fs) in
     sym (sym (ap listed c.functions-function-items.ensures.functions)
     ∙ any_line-none test c.args.db.now.texts c.args.db.now.bits c.functions-function-items.result.now
-        (λ k d inside. c.loop-function.invariant k d (omega arith)))
+    (λ k d inside. c.loop-function.invariant k d (omega arith)))

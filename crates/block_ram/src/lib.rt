@@ -10,3 +10,6 @@ mod used;
 
 pub use fault::RamFault;
 pub use gather::rams;
+
+#[cfg(test)]
+mod tests;

@@ -11,3 +11,6 @@ mod ports;
 pub use cell::Cells;
 pub use fault::LcFault;
 pub use gather::cells;
+
+#[cfg(test)]
+mod tests;

@@ -47,16 +47,16 @@ const INVERTER: [Bit; 11] = [
     (1, 1, 6, 0),
 ];
 
-/// A cell of the tile at (1, 1) without LUT, carry or flip-flop.
-const EMPTY: Lc = Lc {
+/// What these bits give.
+const INVERTED: [Lc; 1] = [Lc {
     x: 1,
     y: 1,
     i: 0,
-    lut: 0,
+    lut: 0x5555,
     carry: false,
-    flip: false,
-    set: false,
-    neg: false,
+    flip: true,
+    set: true,
+    neg: true,
     ins: [Some(0), None, None, None],
     out: Some(1),
     lout: None,
@@ -65,7 +65,50 @@ const EMPTY: Lc = Lc {
     clk: Some(2),
     cen: None,
     sr: None,
-};
+}];
+
+/// The bits of two cells that carry, and of a carry into the first that is set.
+const CARRIES: [Bit; 3] = [(1, 1, 1, 49), (1, 1, 0, 44), (1, 1, 2, 44)];
+
+/// What these bits give.
+const CARRIED: [Lc; 2] = [
+    Lc {
+        x: 1,
+        y: 1,
+        i: 0,
+        lut: 0,
+        carry: true,
+        flip: false,
+        set: false,
+        neg: false,
+        ins: [Some(0), None, None, None],
+        out: Some(1),
+        lout: None,
+        cout: Some(3),
+        cin: Some(5),
+        clk: Some(2),
+        cen: None,
+        sr: None,
+    },
+    Lc {
+        x: 1,
+        y: 1,
+        i: 1,
+        lut: 0,
+        carry: true,
+        flip: false,
+        set: false,
+        neg: false,
+        ins: [None, None, Some(6), None],
+        out: None,
+        lout: None,
+        cout: Some(4),
+        cin: Some(3),
+        clk: Some(2),
+        cen: None,
+        sr: None,
+    },
+];
 
 /// A bit of a tile: x, y, row and column.
 type Bit = (u8, u8, u8, u8);
@@ -132,30 +175,20 @@ fn has_cells(alloc: Global, bits: &[Bit], lcs: &[Lc], sets: &[CarrySet]) -> bool
 }
 
 #[test]
-fn finds_cells_and_carry_inputs(rt: HostRuntime) {
-    let inverter = Lc {
-        lut: 0x5555,
-        flip: true,
-        set: true,
-        neg: true,
-        ..EMPTY
-    };
-    let first = Lc {
-        carry: true,
-        ..EMPTY
-    };
-    let second = Lc {
-        i: 1,
-        carry: true,
-        ins: [None, None, Some(6), None],
-        out: None,
-        cout: Some(4),
-        cin: Some(3),
-        ..EMPTY
-    };
-    let set = CarrySet { x: 1, y: 1, net: 5 };
-    assert!(rt; has_cells(rt.alloc(), &INVERTER, &[inverter], &[]));
-    assert!(rt; has_cells(rt.alloc(), &[(1, 1, 1, 49), (1, 1, 0, 44), (1, 1, 2, 44)], &[first, second], &[set]));
+fn finds_a_cell(rt: HostRuntime) {
+    assert!(rt; has_cells(rt.alloc(), &INVERTER, &INVERTED, &[]));
+}
+
+#[test]
+fn finds_a_carry_chain(rt: HostRuntime) {
+    assert!(rt;
+        has_cells(
+            rt.alloc(),
+            &CARRIES,
+            &CARRIED,
+            &[CarrySet { x: 1, y: 1, net: 5 }]
+        )
+    );
 }
 
 /// Whether the cells of an image of a 1k with these bits aren't taken for that cause.

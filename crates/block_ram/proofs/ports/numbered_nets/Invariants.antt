@@ -1,0 +1,12 @@
+use Rattle.std.proofs.Common.{◌≡◌, take, length}
+use Rattle.chipdb_reader.specs.Kept.{database_in}
+use Rattle.fabric_rules.specs.Nets.{ending_in}
+use Rattle.fabric_rules.specs.Rams.{port_net}
+use Rattle.fabric_rules.specs.Tiles.{each_below}
+use Rattle.block_ram.proofs.ports.numbered_nets.Given as goal
+
+abbrev pub invariant-loop-k : goal.invariant-loop-k
+invariant-loop-k g l = record {
+  long : length l.nets ≡ g.row.N;
+  filled : take l.k l.nets ≡ each_below l.k (λ k. port_net (database_in l.db) l.x l.y (ending_in l.before k));
+}

@@ -1,0 +1,6 @@
+use Rattle.fabric_rules.specs.Rams.{ram_at}
+use Rattle.block_ram.proofs.ram.ram.Goals as goal
+
+pub returns : goal.returns
+unfolding ram_at
+returns c = cc

@@ -1,0 +1,2 @@
+pub mod Rams
+pub mod Faults

@@ -1,0 +1,27 @@
+use Rattle.std.proofs.Common.{◌≡◌, [], ℕ, List, arith, ap, sym, ◌∙◌, refl}
+use Rattle.ice_image.specs.Either.{configuration_of}
+use Rattle.chipdb_reader.specs.Kept.{database_in}
+use Rattle.chipdb_reader.specs.declared.items.TileXy8.{TileXy8}
+use Rattle.fabric_rules.specs.Faults.{Fault}
+use Rattle.fabric_rules.specs.Faults.Fault.{async}
+use Rattle.fabric_rules.specs.Tiles.{first_of}
+use Rattle.tile_lookups.proofs.InOrder.{none_listed-more, first_of-flat_map, first_of-none, gathered-all}
+use Rattle.logic_cell.specs.Faults.{async_faults_in}
+use Rattle.logic_cell.proofs.asynchronous.first_async.Goals as goal
+
+pub loop-tile-preserved : goal.loop-tile-preserved
+loop-tile-preserved c =
+    none_listed-more (λ (tile : TileXy8). async_faults_in (database_in c.args.db.now) (configuration_of c.args.image.now) tile.x tile.y)
+    c.args.tiles.now c.loop-tile.tile-index (record { x = 0; y = 0 }) (omega arith) c.loop-tile.invariant
+    (first_of-none _ c.in_default.ensures)
+
+pub returns-in-Some : goal.returns-in-Some
+returns-in-Some c =
+    first_of-flat_map (λ (tile : TileXy8). async_faults_in (database_in c.args.db.now) (configuration_of c.args.image.now) tile.x tile.y)
+    c.args.tiles.now c.loop-tile.tile-index (record { x = 0; y = 0 }) (async c.in-Some.at.x c.in-Some.at.y c.in-Some.at.i) (omega arith) c.loop-tile.invariant
+    c.in-Some.ensures
+
+pub returns : goal.returns
+returns c =
+    let given : TileXy8 → List Fault = λ tile. async_faults_in (database_in c.args.db.now) (configuration_of c.args.image.now) tile.x tile.y in
+    ap first_of (sym (gathered-all given c.args.tiles.now c.loop-tile.tile-index [] (omega arith) (sym c.loop-tile.invariant)))

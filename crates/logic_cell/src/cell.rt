@@ -1,0 +1,51 @@
+// Cells.
+ghost use Rattle.std.specs.Prelude.{◌≡◌, All};
+ghost use Rattle.plane_map.specs.declared.tile.TileKind.TheVariants.{Logic};
+ghost use Rattle.ice_image.specs.Either.{configuration_of};
+ghost use Rattle.chipdb_reader.specs.Fit.{IsBitIn};
+ghost use Rattle.chipdb_reader.specs.Kept.{database_in};
+ghost use Rattle.fabric_rules.specs.Cells.{cell_with};
+ghost use Rattle.fabric_rules.specs.On.{bits_at};
+ghost use Rattle.tile_lookups.specs.Tiles.{HasTile};
+
+use crate::bits::lut;
+use crate::ports::{carry_in_net, input_nets, lutff_net};
+use chipdb_reader::ChipDb;
+use fabric_rules::{CarrySet, Lc};
+use ice_image::AnyImage;
+use plane_map::{RowCol, TileKind};
+use tile_lookups::{is_on, listed_bit};
+
+/// The used logic cells by tile and index, and the carry inputs that are set by tile. Tiles go by rows, then by columns.
+#[derive(Drop)]
+pub struct Cells {
+    pub lcs: Vec<Lc>,
+    pub sets: Vec<CarrySet>,
+}
+
+/// Cell `i` of the tile at (x, y), which has these bits.
+#[tactic(auto, unfolding(fabric_rules::specs::Cells::cell_with))]
+pub(crate) fn cell(db: &ChipDb, image: &AnyImage, x: u8, y: u8, i: u8, bits: &[RowCol]) -> Lc
+    requires tile { HasTile image.now Logic x y }
+    requires in_tile { All (IsBitIn 54) bits.now }
+    ensures { result ≡ cell_with (database_in db.now) (configuration_of image.now) x y i (bits_at (configuration_of image.now) x y bits.now) }
+{
+    Lc {
+        x,
+        y,
+        i,
+        lut: lut(image, x, y, bits),
+        carry: listed_bit(image, TileKind::Logic, x, y, bits, 8),
+        flip: listed_bit(image, TileKind::Logic, x, y, bits, 9),
+        set: listed_bit(image, TileKind::Logic, x, y, bits, 18),
+        neg: is_on(db, image, TileKind::Logic, x, y, b"NegClk"),
+        ins: input_nets(db, x, y, i),
+        out: lutff_net(db, x, y, i, b"/out"),
+        lout: lutff_net(db, x, y, i, b"/lout"),
+        cout: lutff_net(db, x, y, i, b"/cout"),
+        cin: carry_in_net(db, x, y, i),
+        clk: db.net_of(x, y, b"lutff_global/clk"),
+        cen: db.net_of(x, y, b"lutff_global/cen"),
+        sr: db.net_of(x, y, b"lutff_global/s_r"),
+    }
+}

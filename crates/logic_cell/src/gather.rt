@@ -1,0 +1,152 @@
+// All cells of an image.
+ghost use Rattle.std.specs.Prelude.{◌≡◌, ◌++◌, All, IfOk, IfErr, OnOk, None};
+ghost use Rattle.std.specs.List.{flat_map};
+ghost use Rattle.plane_map.specs.declared.tile.TileKind.TheVariants.{Logic};
+ghost use Rattle.ice_image.specs.Either.{configuration_of};
+ghost use Rattle.chipdb_reader.specs.Kept.{database_in};
+ghost use Rattle.fabric_rules.specs.Cells.{cells_of, cells_at, sets_of, sets_at, used_cell};
+ghost use Rattle.fabric_rules.specs.Faults.{cells_fault};
+ghost use Rattle.tile_lookups.specs.Tiles.{HasTile, tiles_of};
+ghost use Rattle.logic_cell.specs.Faults.{IsCause};
+
+use crate::asynchronous::first_async;
+use crate::bits::{cell_bits, is_used};
+use crate::cell::{Cells, cell};
+use crate::fault::LcFault;
+use chipdb_reader::{ChipDb, TileXy8};
+use fabric_rules::{CarrySet, Lc};
+use ice_image::AnyImage;
+use plane_map::TileKind;
+use std::alloc::{AllocError, Global};
+use tile_lookups::{is_on, tiles_of_image};
+
+/// Finds the logic cells that an image uses.
+pub fn cells(alloc: Global, db: &ChipDb, image: &AnyImage) -> Result<Cells, LcFault>
+    ensures cells { IfOk result (λ cells. cells.lcs.items ≡ cells_of (database_in db.now) (configuration_of image.now)) }
+    ensures sets { IfOk result (λ cells. cells.sets.items ≡ sets_of (database_in db.now) (configuration_of image.now)) }
+    ensures taken { OnOk result (cells_fault (database_in db.now) (configuration_of image.now) ≡ None) }
+    ensures refused { IfErr result (IsCause (cells_fault (database_in db.now) (configuration_of image.now))) }
+{
+    let tiles = tiles_of_image(alloc, image, TileKind::Logic)?;
+    cells_in(alloc, db, image, &tiles)
+}
+
+/// Finds the cells in the logic tiles of the image.
+fn cells_in(
+    alloc: Global,
+    db: &ChipDb,
+    image: &AnyImage,
+    tiles: &[TileXy8],
+) -> Result<Cells, LcFault>
+    requires all { tiles.now ≡ tiles_of (configuration_of image.now).device Logic }
+    requires each { All (λ tile. HasTile image.now Logic tile.x tile.y) tiles.now }
+    ensures cells { IfOk result (λ cells. cells.lcs.items ≡ cells_of (database_in db.now) (configuration_of image.now)) }
+    ensures sets { IfOk result (λ cells. cells.sets.items ≡ sets_of (database_in db.now) (configuration_of image.now)) }
+    ensures taken { OnOk result (cells_fault (database_in db.now) (configuration_of image.now) ≡ None) }
+    ensures refused { IfErr result (IsCause (cells_fault (database_in db.now) (configuration_of image.now))) }
+{
+    match first_async(db, image, tiles) {
+        Some(at) => Err(LcFault::Async {
+            x: at.x,
+            y: at.y,
+            i: at.i,
+        }),
+        None => Ok(Cells {
+            lcs: used_cells(alloc, db, image, tiles)?,
+            sets: carry_sets(alloc, db, image, tiles)?,
+        }),
+    }
+}
+
+/// The used cells of tiles.
+fn used_cells(
+    alloc: Global,
+    db: &ChipDb,
+    image: &AnyImage,
+    tiles: &[TileXy8],
+) -> Result<Vec<Lc>, AllocError>
+    requires { All (λ tile. HasTile image.now Logic tile.x tile.y) tiles.now }
+    ensures { IfOk result (λ lcs. lcs.items ≡ flat_map (λ tile. cells_at (database_in db.now) (configuration_of image.now) tile.x tile.y) tiles.now) }
+{
+    let mut lcs = Vec::new(alloc);
+    for tile in tiles {
+        append_cells(&mut lcs, db, image, tile.x, tile.y)?;
+    }
+    Ok(lcs)
+}
+
+/// Appends the used cells of a tile.
+fn append_cells(
+    lcs: &mut Vec<Lc>,
+    db: &ChipDb,
+    image: &AnyImage,
+    x: u8,
+    y: u8,
+) -> Result<(), AllocError>
+    requires { HasTile image.now Logic x y }
+    ensures { OnOk result (lcs.new.items ≡ lcs.old.items ++ cells_at (database_in db.now) (configuration_of image.now) x y) }
+{
+    for i in 0..8 {
+        append_cell(lcs, db, image, x, y, i)?;
+    }
+    Ok(())
+}
+
+/// Appends a cell where it is used.
+fn append_cell(
+    lcs: &mut Vec<Lc>,
+    db: &ChipDb,
+    image: &AnyImage,
+    x: u8,
+    y: u8,
+    i: u8,
+) -> Result<(), AllocError>
+    requires { HasTile image.now Logic x y }
+    ensures { OnOk result (lcs.new.items ≡ lcs.old.items ++ used_cell (database_in db.now) (configuration_of image.now) x y i) }
+{
+    let bits = cell_bits(db, i);
+    if is_used(image, x, y, bits) {
+        lcs.push(cell(db, image, x, y, i, bits))?;
+    }
+    Ok(())
+}
+
+/// The carry inputs of tiles that are set.
+fn carry_sets(
+    alloc: Global,
+    db: &ChipDb,
+    image: &AnyImage,
+    tiles: &[TileXy8],
+) -> Result<Vec<CarrySet>, AllocError>
+    requires { All (λ tile. HasTile image.now Logic tile.x tile.y) tiles.now }
+    ensures { IfOk result (λ sets. sets.items ≡ flat_map (λ tile. sets_at (database_in db.now) (configuration_of image.now) tile.x tile.y) tiles.now) }
+{
+    let mut sets = Vec::new(alloc);
+    for tile in tiles {
+        append_set(&mut sets, db, image, tile.x, tile.y)?;
+    }
+    Ok(sets)
+}
+
+/// Appends the carry input of a tile where it is set.
+fn append_set(
+    sets: &mut Vec<CarrySet>,
+    db: &ChipDb,
+    image: &AnyImage,
+    x: u8,
+    y: u8,
+) -> Result<(), AllocError>
+    requires { HasTile image.now Logic x y }
+    ensures { OnOk result (sets.new.items ≡ sets.old.items ++ sets_at (database_in db.now) (configuration_of image.now) x y) }
+{
+    if !is_on(db, image, TileKind::Logic, x, y, b"CarryInSet") {
+        return Ok(());
+    }
+    match db.net_of(x, y, b"carry_in_mux") {
+        None => Ok(()),
+        Some(net) => {
+            sets.push(CarrySet { x, y, net })?;
+            Ok(())
+        }
+    }
+}

@@ -1,0 +1,47 @@
+// The nets of a cell's ports.
+ghost use Rattle.std.specs.Prelude.{◌≡◌, ◌≤◌, codes, length};
+ghost use Rattle.chipdb_reader.specs.Kept.{database_in};
+ghost use Rattle.fabric_rules.specs.Cells.{lutff_net, carry_in_net};
+ghost use Rattle.fabric_rules.specs.Nets.{ending_in};
+ghost use Rattle.fabric_rules.specs.Tiles.{each_below};
+
+use chipdb_reader::ChipDb;
+use tile_lookups::Name;
+
+/// The net of a port of cell `i`, named by what stands behind the cell.
+pub(crate) fn lutff_net(db: &ChipDb, x: u8, y: u8, i: u8, port: &[u8]) -> Option<u32>
+    requires { length port.now ≤ 20 }
+    ensures { result ≡ lutff_net (database_in db.now) x y i port.now }
+{
+    db.net_of(x, y, Name::with_number(b"lutff_", i, port).bytes())
+}
+
+/// The net of input `k` of cell `i`.
+fn input_net(db: &ChipDb, x: u8, y: u8, i: u8, k: u8) -> Option<u32>
+    ensures { result ≡ lutff_net (database_in db.now) x y i (ending_in (codes "/in_") k) }
+{
+    lutff_net(db, x, y, i, Name::ending_in(b"/in_", k).bytes())
+}
+
+/// The nets of the four inputs of cell `i`.
+#[tactic(auto, unfolding(place_search::specs::Places::gathered_below))]
+pub(crate) fn input_nets(db: &ChipDb, x: u8, y: u8, i: u8) -> [Option<u32>; 4]
+    ensures { result ≡ each_below 4 (λ k. lutff_net (database_in db.now) x y i (ending_in (codes "/in_") k)) }
+{
+    [
+        input_net(db, x, y, i, 0),
+        input_net(db, x, y, i, 1),
+        input_net(db, x, y, i, 2),
+        input_net(db, x, y, i, 3),
+    ]
+}
+
+/// The net of the carry into cell `i`: the tile's for cell 0, else the carry out of the cell below.
+pub(crate) fn carry_in_net(db: &ChipDb, x: u8, y: u8, i: u8) -> Option<u32>
+    ensures { result ≡ carry_in_net (database_in db.now) x y i }
+{
+    match i {
+        0 => db.net_of(x, y, b"carry_in_mux"),
+        _ => lutff_net(db, x, y, i - 1, b"/cout"),
+    }
+}

@@ -5,7 +5,7 @@ use Rattle.std.specs.Borrow.{Bor}
 use Rattle.clap.specs.Words.{App, Row, Text, first_of, is_simple_and_free, matches_of}
 use Rattle.clap.proofs.OnLiterals.{clap_on_literals}
 use Rattle.tool_run.specs.Needs.{IsFile, IsSound, Need, text_of}
-use Rattle.tool_run.specs.Tasks.{Task, not_taken}
+use Rattle.tool_run.specs.Tasks.{not_taken}
 use Rattle.tool_run.proofs.CommandLines.{text_of-map, taken_task, missed_task}
 use Rattle.tool_words.specs.Commands.{has_flag, is_taken, values_of}
 use Rattle.std.proofs.lemmas.List.{map_push}

@@ -148,6 +148,18 @@ fn refuses_modes_before_cascades(rt: HostRuntime) {
         read: 0,
         write: 1,
     };
-    assert!(rt; is_refused(rt.alloc(), &[(3, 1, 0, 0), (3, 1, 3, 0), (3, 2, 1, 0)], mode));
-    assert!(rt; is_refused(rt.alloc(), &[(3, 1, 0, 0), (3, 1, 3, 0)], RamFault::Cascade { x: 3, y: 1 }));
+    assert!(rt;
+        is_refused(
+            rt.alloc(),
+            &[(3, 1, 0, 0), (3, 1, 3, 0), (3, 2, 1, 0)],
+            mode
+        )
+    );
+    assert!(rt;
+        is_refused(
+            rt.alloc(),
+            &[(3, 1, 0, 0), (3, 1, 3, 0)],
+            RamFault::Cascade { x: 3, y: 1 }
+        )
+    );
 }

@@ -178,5 +178,12 @@ fn refuses_a_pll_before_a_pin(rt: HostRuntime) {
         pintype: 0,
     };
     assert!(rt; is_refused(rt.alloc(), &[], true, pin));
-    assert!(rt; is_refused(rt.alloc(), &[(0, 3, 9, 0)], true, PinFault::Pll { x: 0, y: 3 }));
+    assert!(rt;
+        is_refused(
+            rt.alloc(),
+            &[(0, 3, 9, 0)],
+            true,
+            PinFault::Pll { x: 0, y: 3 }
+        )
+    );
 }

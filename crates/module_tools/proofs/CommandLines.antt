@@ -1,11 +1,11 @@
 -- The command line of `vlogrun`: it is simple, and what is found in the words is the task.
-use Rattle.std.proofs.Common.{◌≡◌, ◌∙◌, [], ◌∷◌, Bool, true, false, ℕ, List, codes, refl, sym, ap, ap₂}
+use Rattle.std.proofs.Common.{◌≡◌, ◌∙◌, Bool, true, false, ℕ, List, codes, refl, sym, ap, ap₂}
 use Rattle.std.specs.Prelude.{Option, None, Some, option_map, if◌then◌else◌}
 use Rattle.std.specs.Borrow.{Bor}
 use Rattle.clap.specs.Words.{App, Row, Text, first_of, is_simple_and_free, matches_of}
 use Rattle.clap.proofs.OnLiterals.{clap_on_literals}
 use Rattle.tool_run.specs.Needs.{text_of}
-use Rattle.tool_run.specs.Tasks.{Task, not_taken}
+use Rattle.tool_run.specs.Tasks.{not_taken}
 use Rattle.tool_run.proofs.CommandLines.{text_of-map, taken_task}
 use Rattle.tool_words.specs.Commands.{has_flag, is_taken}
 use Rattle.module_tools.specs.declared.request.Request.{Request}

@@ -1,6 +1,6 @@
 -- What a text is that spells a module, and one that has a fault.
-use Rattle.std.proofs.Common.{◌≡◌, ℕ, List, refl}
-use Rattle.std.specs.Prelude.{Option, Some, None, Result, Ok, Err}
+use Rattle.std.proofs.Common.{◌≡◌, ℕ, List}
+use Rattle.std.specs.Prelude.{Some, Result, Ok, Err}
 use Rattle.vlog_module.specs.Parts.{Parts}
 use Rattle.vlog_forms.specs.Items.{IsSpelling}
 use Rattle.vlog_forms.proofs.Spelled.{outcome-spelled}

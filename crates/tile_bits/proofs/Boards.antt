@@ -1,10 +1,8 @@
 -- Boards of bits that are set one after the other.
-use Rattle.std.proofs.Common.{◌≡◌, ℕ, ◌+◌, ◌<◌, ◌≤◌, Bool, true, false, ◌||◌, List, [], ◌∷◌, length, get_or, take, refl, sym, ap, ◌∙◌, subst, arith}
+use Rattle.std.proofs.Common.{◌≡◌, ℕ, ◌+◌, ◌<◌, ◌≤◌, Bool, true, false, ◌||◌, List, length, get_or, take, refl, sym, ap, ◌∙◌, subst}
 use Rattle.std.specs.List.{list_any}
 use Rattle.std.proofs.lemmas.List.{take_all}
 use Rattle.std.proofs.lemmas.List.Folds.{list_any_more}
-use Rattle.place_search.specs.Places.{any_below}
-use Rattle.place_search.proofs.Places.{any_below-more}
 use Rattle.bit_plane.specs.Rows.{Rows, IsGrid, bit_at, blank}
 use Rattle.bit_plane.proofs.Grids.{IsGrid-blank, bit_at-blank}
 use Rattle.tile_bits.specs.Inside.{Adds, Knows}

@@ -1,6 +1,6 @@
 -- What is on, by bits that were read.
-use Rattle.std.proofs.Common.{◌≡◌, ℕ, zero, suc, ◌+◌, ◌*◌, ◌%◌, ◌/◌, append-nil, ◌<◌, ◌≢◌, Bool, true, false, ◌&&◌, ◌==◌, List, [], ◌∷◌, ◌++◌, length, get_or, set, map, Some, None, refl, sym, ap, ◌∙◌, subst, inl, inr, arith}
-use Rattle.std.specs.Prelude.{◌↔◌, IsTrue, if◌then◌else◌, slice_get}
+use Rattle.std.proofs.Common.{◌≡◌, ℕ, zero, suc, ◌%◌, ◌/◌, append-nil, Bool, true, false, ◌==◌, List, [], ◌∷◌, ◌++◌, length, refl, sym, ap, ◌∙◌, subst}
+use Rattle.std.specs.Prelude.{◌↔◌, IsTrue, if◌then◌else◌}
 use Rattle.std.specs.Bool.{beq}
 use Rattle.std.specs.Cmp.Lexicographic.{pointwise}
 use Rattle.bit_plane.specs.BitList.{word_bits}
@@ -9,7 +9,6 @@ use Rattle.plane_map.specs.declared.device.DeviceName.{DeviceName}
 use Rattle.plane_map.specs.declared.tile.RowCol.{RowCol}
 use Rattle.ice_image.specs.Contents.{listed_bits}
 use Rattle.chipdb_lines.specs.Kept.{low_bits}
-use Rattle.tile_bits.specs.declared.item.Active.{Active}
 use Rattle.tile_bits.specs.declared.item.Active.TheVariants.{Lc}
 
 -- the low bits of a number, either way

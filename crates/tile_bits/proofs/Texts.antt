@@ -1,22 +1,19 @@
 -- Texts that are written part by part.
-use Rattle.std.proofs.Common.{◌≡◌, ℕ, ◌+◌, ◌-◌, ◌<◌, ◌≤◌, ◌%◌, ◌/◌, Bool, true, false, not, ◌&&◌, ◌==◌, List, [], ◌∷◌, ◌++◌, length, map, Some, None, refl, sym, ap, ◌∙◌, subst, arith, append_assoc, append-nil}
-use Rattle.std.specs.Prelude.{codes, if◌then◌else◌, Option}
-use Rattle.place_search.specs.Places.{gathered_below}
+use Rattle.std.proofs.Common.{◌≡◌, ℕ, ◌-◌, ◌<◌, ◌≤◌, ◌%◌, ◌/◌, Bool, true, not, ◌&&◌, ◌==◌, List, [], ◌∷◌, ◌++◌, length, map, Some, refl, sym, ap, ◌∙◌, arith, append_assoc}
+use Rattle.std.specs.Prelude.{codes, if◌then◌else◌}
 use Rattle.place_search.proofs.Places.{gathered_below-same}
 use Rattle.bit_plane.specs.BitList.{word_bits}
 use Rattle.bit_plane.specs.Rows.{Rows, bit_at}
 use Rattle.bit_plane.proofs.Words.{word_bits-more}
-use Rattle.plane_map.specs.Layout.{kind_of, columns_of}
+use Rattle.plane_map.specs.Layout.{kind_of}
 use Rattle.plane_map.specs.declared.device.DeviceName.{DeviceName}
 use Rattle.plane_map.specs.declared.device.DeviceName.TheVariants.{K1, K8}
 use Rattle.plane_map.specs.declared.tile.Place.{Place}
 use Rattle.plane_map.specs.declared.tile.TileKind.{TileKind}
 use Rattle.ice_image.specs.Configuration.{Configuration}
-use Rattle.ice_image.specs.Extras.{AreSetExtras}
 use Rattle.asc_text.specs.Canonical.{bit_character, row_line}
 use Rattle.chipdb_lines.specs.Items.{ExtraLine}
 use Rattle.chipdb_reader.specs.Database.{Database}
-use Rattle.tile_bits.specs.declared.item.Active.{Active}
 use Rattle.tile_bits.specs.declared.item.Active.TheVariants.{Unknown}
 use Rattle.tile_bits.specs.On.{tile_bit}
 use Rattle.tile_bits.specs.Items.{items_at, items_in, items_of_tile, unknown_here, unknown_in, unknown_items}

@@ -1,7 +1,7 @@
 -- Tiles by their kinds: how wide they are, and where they stand.
-use Rattle.std.proofs.Common.{◌≡◌, ℕ, ◌<◌, ◌≤◌, List, length, Some, None, ap, sym, ◌∙◌, subst, arith}
+use Rattle.std.proofs.Common.{◌≡◌, ℕ, ◌<◌, ◌≤◌, List, Some, ap, sym, subst, arith}
 use Rattle.std.specs.Prelude.{All}
-use Rattle.plane_map.specs.Layout.{kind_of, columns_of, columns_in, columns_at, grid_width, grid_height, IsTileBit}
+use Rattle.plane_map.specs.Layout.{kind_of, columns_of, columns_in, grid_width, grid_height, IsTileBit}
 use Rattle.plane_map.specs.declared.device.DeviceName.{DeviceName}
 use Rattle.plane_map.specs.declared.device.DeviceName.TheVariants.{K1, K8}
 use Rattle.plane_map.specs.declared.tile.RowCol.{RowCol}

@@ -1,5 +1,5 @@
 -- The logic cells of a tile: eight, each with twenty bits, which the database lists.
-use Rattle.std.specs.Prelude.{ℕ, Bool, false, List, [], ◌∷◌, map, get_or, slice_get, position, Option, None, Some}
+use Rattle.std.specs.Prelude.{ℕ, Bool, false, List, [], ◌∷◌, map, get_or, slice_get, Option, None, Some}
 use Rattle.bit_plane.specs.BitList.{word_of}
 use Rattle.plane_map.specs.declared.tile.RowCol.{RowCol}
 use Rattle.plane_map.specs.declared.tile.TileKind.TheVariants.{Logic}

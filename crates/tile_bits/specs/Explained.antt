@@ -1,14 +1,14 @@
 -- The text that explains a configuration by the names of a database: one concatenation of lines.
-use Rattle.std.specs.Prelude.{◌≡◌, ℕ, Bool, true, false, not, ◌&&◌, ◌==◌, List, [], ◌∷◌, ◌++◌, map, codes, decimal, find, slice_get, if◌then◌else◌, Option, None, Some}
+use Rattle.std.specs.Prelude.{◌≡◌, ℕ, Bool, true, false, ◌&&◌, ◌==◌, List, [], ◌∷◌, ◌++◌, map, codes, decimal, find, slice_get, if◌then◌else◌, Option, None, Some}
 use Rattle.place_search.specs.Places.{any_below, gathered_below}
 use Rattle.text_lines.specs.Written.{text_of}
 use Rattle.bit_plane.specs.BitList.{word_bits}
-use Rattle.plane_map.specs.Layout.{kind_of, columns_of, grid_width, grid_height, cram_width, cram_height}
+use Rattle.plane_map.specs.Layout.{kind_of, columns_of, grid_width, grid_height}
 use Rattle.plane_map.specs.declared.device.DeviceName.{DeviceName}
 use Rattle.plane_map.specs.declared.device.DeviceName.TheVariants.{K1, K8}
 use Rattle.plane_map.specs.declared.tile.TileKind.{TileKind}
 use Rattle.plane_map.specs.declared.tile.Place.{Place}
-use Rattle.ice_image.specs.Configuration.{Configuration, place_bit}
+use Rattle.ice_image.specs.Configuration.{Configuration}
 use Rattle.asc_text.specs.declared.fault.TileXy.{TileXy}
 use Rattle.asc_text.specs.Statements.{device_keyword, device_word, tile_keyword}
 use Rattle.asc_text.specs.Canonical.{grid_line, row_line, with_word}

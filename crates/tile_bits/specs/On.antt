@@ -1,5 +1,5 @@
 -- What is on: functions and links of a database, by the bits of a tile.
-use Rattle.std.specs.Prelude.{ℕ, Bool, true, false, ◌&&◌, eqb, List, map, find, Option, None, Some}
+use Rattle.std.specs.Prelude.{ℕ, Bool, false, ◌&&◌, eqb, List, map, find, Option, None, Some}
 use Rattle.std.specs.Bool.{beq}
 use Rattle.std.specs.List.{list_all, list_any, starts_with}
 use Rattle.std.specs.Cmp.Lexicographic.{pointwise}

@@ -1,5 +1,5 @@
 -- Nets and places that a database names are its device's.
-use Rattle.std.proofs.Common.{◌≡◌, ℕ, zero, suc, ◌+◌, ◌<◌, Bool, true, false, cond, List, [], ◌∷◌, length, get_or, refl, sym, ap, ◌∙◌, subst, arith}
+use Rattle.std.proofs.Common.{◌≡◌, ℕ, suc, ◌<◌, Bool, true, false, cond, List, [], ◌∷◌, refl, subst, arith}
 use Rattle.std.specs.Prelude.{Option, Some, None, find, All, IfSome, bytes_eq}
 use Rattle.std.specs.Option.{option_map}
 use Rattle.plane_map.specs.Layout.{IsInCram}

@@ -1,5 +1,5 @@
 -- Tiles of a kind, as a list.
-use Rattle.std.specs.Prelude.{◌≡◌, ℕ, Bool, ◌&&◌, List, [], ◌∷◌, Option, Some}
+use Rattle.std.specs.Prelude.{◌≡◌, ℕ, Bool, ◌&&◌, List, [], ◌∷◌, Some}
 use Rattle.plane_map.specs.Layout.{kind_of}
 use Rattle.plane_map.specs.declared.device.DeviceName.{DeviceName}
 use Rattle.plane_map.specs.declared.tile.TileKind.{TileKind}
@@ -9,7 +9,7 @@ use Rattle.ice_image.specs.Configuration.{Configuration}
 use Rattle.chipdb_lines.specs.Items.{FunctionLine}
 use Rattle.fabric_rules.specs.On.{begins_with, are_set}
 use Rattle.chipdb_reader.specs.declared.items.TileXy8.{TileXy8}
-use Rattle.fabric_rules.specs.Tiles.{over_tiles, over_grid, at_kind}
+use Rattle.fabric_rules.specs.Tiles.{over_tiles, at_kind}
 
 -- the tile at a place of the grid where it is of that kind
 abbrev pub tile_if : DeviceName → TileKind → ℕ → ℕ → List TileXy8

@@ -1,4 +1,4 @@
-use Rattle.std.proofs.Common.{◌≡◌, List, ℕ, sym, ap, ◌∙◌}
+use Rattle.std.proofs.Common.{List, ℕ, ap, ◌∙◌}
 use Rattle.std.specs.Prelude.{Option, codes}
 use Rattle.std.specs.Option.{option_map}
 use Rattle.plane_map.specs.declared.tile.RowCol.{RowCol}

@@ -1,4 +1,4 @@
-use Rattle.std.proofs.Common.{◌≡◌, ◌++◌, append-nil, ap, sym, ◌∙◌}
+use Rattle.std.proofs.Common.{◌++◌, append-nil, ap, sym, ◌∙◌}
 use Rattle.std.specs.Prelude.{codes}
 use Rattle.plane_map.specs.declared.tile.TileKind.TheVariants.{Logic}
 use Rattle.ice_image.specs.Either.{configuration_of}

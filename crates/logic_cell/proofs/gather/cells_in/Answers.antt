@@ -1,5 +1,4 @@
 use Rattle.std.proofs.Common.{◌≡◌, List, ap, sym, ◌∙◌}
-use Rattle.std.specs.Prelude.{None}
 use Rattle.std.specs.List.{flat_map}
 use Rattle.plane_map.specs.declared.tile.TileKind.TheVariants.{Logic}
 use Rattle.ice_image.specs.Configuration.{Configuration}

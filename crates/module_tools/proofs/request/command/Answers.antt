@@ -1,4 +1,3 @@
-use Rattle.std.proofs.Common.{◌≡◌}
 use Rattle.std.proofs.lemmas.Result.{IfOk-weaker}
 use Rattle.module_tools.proofs.request.command.Goals as goal
 

@@ -1,4 +1,4 @@
-use Rattle.std.proofs.Common.{◌≡◌, None, get_or, map, sym, ap, ◌∙◌, subst}
+use Rattle.std.proofs.Common.{◌≡◌, map, sym, ap, ◌∙◌, subst}
 use Rattle.std.specs.Prelude.{All, List}
 use Rattle.plane_map.specs.Layout.{columns_of}
 use Rattle.plane_map.specs.declared.tile.RowCol.{RowCol}
@@ -6,7 +6,7 @@ use Rattle.plane_map.specs.declared.tile.TileKind.{TileKind}
 use Rattle.ice_image.specs.Either.{configuration_of}
 use Rattle.chipdb_reader.specs.Fit.{IsBitIn}
 use Rattle.chipdb_reader.specs.Kept.{database_in}
-use Rattle.tile_bits.specs.Cells.{bits_at, cell_bits}
+use Rattle.tile_bits.specs.Cells.{cell_bits}
 use Rattle.tile_bits.specs.Items.{cell_item}
 use Rattle.tile_bits.specs.On.{tile_bit}
 use Rattle.tile_bits.proofs.Gathered.{gathered-next}

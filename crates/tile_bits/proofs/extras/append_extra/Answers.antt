@@ -4,7 +4,7 @@ use Rattle.std.proofs.lemmas.Option.{slice_get-get_or}
 use Rattle.std.proofs.lemmas.Result.{on_ok_weaker}
 use Rattle.ice_image.specs.Owned.{is_same_place}
 use Rattle.chipdb_lines.specs.Items.{ExtraLine}
-use Rattle.chipdb_reader.specs.Kept.{database_in, extra_line}
+use Rattle.chipdb_reader.specs.Kept.{extra_line}
 use Rattle.chipdb_reader.specs.declared.items.Extra.{Extra}
 use Rattle.tile_bits.specs.Explained.{extra_text, name_or_place}
 use Rattle.tile_bits.proofs.Gathered.{find-map, find-none, find-some, position-below}

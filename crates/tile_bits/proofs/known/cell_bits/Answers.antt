@@ -1,4 +1,4 @@
-use Rattle.std.proofs.Common.{◌≡◌, Bool, ℕ, false, refl}
+use Rattle.std.proofs.Common.{◌≡◌, ℕ, false, refl}
 use Rattle.chipdb_lines.specs.Items.{FunctionLine}
 use Rattle.std.specs.Prelude.{List}
 use Rattle.plane_map.specs.declared.tile.TileKind.{TileKind}

@@ -1,4 +1,4 @@
-use Rattle.std.proofs.Common.{◌≡◌, Bool, Some, None, get_or, ap, sym, ◌∙◌}
+use Rattle.std.proofs.Common.{◌≡◌, Bool, Some, get_or, ap, sym, ◌∙◌}
 use Rattle.std.specs.Prelude.{find, position, option_map, Option, ◌==◌, ◌&&◌}
 use Rattle.std.proofs.lemmas.Option.{slice_get-get_or}
 use Rattle.chipdb_lines.specs.Items.{NameLine}

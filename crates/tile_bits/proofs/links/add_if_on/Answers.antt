@@ -1,4 +1,4 @@
-use Rattle.std.proofs.Common.{◌≡◌, ◌<◌, subst, arith}
+use Rattle.std.proofs.Common.{◌<◌, arith}
 use Rattle.tile_bits.proofs.TileKinds.{x-below, y-below}
 use Rattle.tile_bits.proofs.links.add_if_on.Goals as goal
 

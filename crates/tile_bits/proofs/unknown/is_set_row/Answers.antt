@@ -1,4 +1,4 @@
-use Rattle.std.proofs.Common.{◌≡◌, true, sym, ◌∙◌, arith}
+use Rattle.std.proofs.Common.{sym, ◌∙◌, arith}
 use Rattle.plane_map.specs.Layout.{columns_of}
 use Rattle.place_search.proofs.Places.{any_below-at}
 use Rattle.ice_image.specs.Either.{configuration_of}

@@ -1,4 +1,4 @@
-use Rattle.std.proofs.Common.{◌≡◌, ◌++◌, ap, sym, ◌∙◌, arith}
+use Rattle.std.proofs.Common.{◌≡◌, ◌++◌, ap, ◌∙◌, arith}
 use Rattle.bit_plane.specs.Rows.{bit_at}
 use Rattle.plane_map.specs.Layout.{columns_of}
 use Rattle.place_search.specs.Places.{gathered_below}

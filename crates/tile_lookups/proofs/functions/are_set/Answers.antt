@@ -1,9 +1,5 @@
-use Rattle.std.proofs.Common.{◌≡◌, ◌<◌, ◌≤◌, length, arith, map, sym, ap, ◌∙◌}
-use Rattle.std.proofs.lemmas.List.{length-map}
-use Rattle.ice_image.specs.Configuration.{place_bit}
-use Rattle.ice_image.specs.Contents.{tile_place}
+use Rattle.std.proofs.Common.{◌<◌, ◌≤◌, length, arith, sym, ◌∙◌}
 use Rattle.ice_image.specs.Either.{configuration_of}
-use Rattle.plane_map.specs.declared.tile.RowCol.{RowCol}
 use Rattle.fabric_rules.specs.On.{bits_at, are_set}
 use Rattle.tile_lookups.proofs.Listed.{all_set, all_set-not, length-bits_at}
 use Rattle.tile_lookups.proofs.functions.are_set.Goals as goal

@@ -1,5 +1,5 @@
-use Rattle.std.proofs.Common.{◌≡◌, ◌<◌, List, ℕ, length, arith, sym, ap, ◌∙◌, get_or, subst, refl}
-use Rattle.std.specs.Prelude.{Option, Some, None, find, All}
+use Rattle.std.proofs.Common.{◌≡◌, List, length, arith, sym, ap, ◌∙◌, get_or, subst}
+use Rattle.std.specs.Prelude.{Option, Some, All}
 use Rattle.std.specs.Option.{option_map}
 use Rattle.plane_map.specs.declared.tile.RowCol.{RowCol}
 use Rattle.plane_map.specs.Layout.{columns_of}
@@ -7,8 +7,8 @@ use Rattle.chipdb_reader.specs.Fit.{IsBitIn}
 use Rattle.chipdb_lines.specs.Items.{FunctionLine}
 use Rattle.chipdb_lines.specs.Kept.{bits_named}
 use Rattle.chipdb_reader.specs.declared.items.Function.{Function}
-use Rattle.chipdb_reader.specs.Lookups.{function_place, is_function}
-use Rattle.chipdb_reader.specs.Kept.{database_in, function_lines}
+use Rattle.chipdb_reader.specs.Lookups.{function_place}
+use Rattle.chipdb_reader.specs.Kept.{function_lines}
 use Rattle.tile_lookups.proofs.Listed.{IsFound, is_found, place_inside, not_found}
 use Rattle.tile_lookups.proofs.functions.function_bits.Goals as goal
 

@@ -1,4 +1,4 @@
-use Rattle.std.proofs.Common.{◌≡◌, ◌<◌, ℕ, List, length, get_or, true, false, sym, ap, ◌∙◌, arith, Bool, subst}
+use Rattle.std.proofs.Common.{List, sym, ap, ◌∙◌, arith, Bool, subst}
 use Rattle.std.specs.Prelude.{All}
 use Rattle.std.specs.List.{list_any}
 use Rattle.ice_image.specs.Either.{configuration_of}

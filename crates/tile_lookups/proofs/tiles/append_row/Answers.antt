@@ -1,6 +1,4 @@
-use Rattle.std.proofs.Common.{ap, ◌∙◌, ◌++◌, arith, ℕ, ◌≡◌}
-use Rattle.place_search.specs.Places.{gathered_below}
-use Rattle.tile_lookups.proofs.InOrder.{grown-none, grown-more, grid_width-le}
+use Rattle.tile_lookups.proofs.InOrder.{grown-none, grown-more}
 use Rattle.tile_lookups.proofs.tiles.append_row.Goals as goal
 
 pub loop-x-init : goal.loop-x-init

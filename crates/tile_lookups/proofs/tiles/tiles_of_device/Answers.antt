@@ -1,4 +1,4 @@
-use Rattle.std.proofs.Common.{◌≡◌, ap, sym, ◌∙◌, ◌++◌, arith, ℕ, List, subst}
+use Rattle.std.proofs.Common.{◌≡◌, ap, sym, ◌∙◌, arith, List, subst}
 use Rattle.std.specs.Prelude.{All, Some}
 use Rattle.place_search.specs.Places.{gathered_below}
 use Rattle.plane_map.specs.Layout.{kind_of, grid_width, grid_height}

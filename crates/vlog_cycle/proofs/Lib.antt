@@ -1,0 +1,10 @@
+pub mod Atoms
+pub mod Beginning
+pub mod Clocked
+pub mod Filling
+pub mod Holding
+pub mod Lookups
+pub mod Memories
+pub mod Numbers
+pub mod Outputs
+pub mod Wires

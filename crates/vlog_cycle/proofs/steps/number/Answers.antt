@@ -1,0 +1,33 @@
+use Rattle.std.proofs.Common.{◌≡◌, ◌-◌, ◌^◌, ◌<◌, drop, length, sym, ap, ◌∙◌, subst, arith}
+use Rattle.std.specs.Prelude.{map}
+use Rattle.vlog_cycle.specs.Steps.{operand_value}
+use Rattle.vlog_cycle.specs.Values.{number_of}
+use Rattle.vlog_cycle.proofs.Numbers.{number-none, number-next, number-fits, number-small, byte_lt}
+use Rattle.vlog_cycle.proofs.steps.number.Goals as goal
+
+pub loop-place-init : goal.loop-place-init
+loop-place-init c = sym (number-none (operand_value c.args.bits.now c.args.words.now) c.args.operands.now)
+
+pub overflow_mul-number : goal.overflow_mul-number
+overflow_mul-number c =
+    omega (arith, number-fits (operand_value c.args.bits.now c.args.words.now) c.args.operands.now c.loop-place.place c.requires)
+
+pub overflow_add-number : goal.overflow_add-number
+overflow_add-number c =
+    omega (arith, byte_lt c.operand_value-bit.result, c.from.ensures, number-fits (operand_value c.args.bits.now c.args.words.now) c.args.operands.now c.loop-place.place c.requires)
+
+pub loop-place-preserved : goal.loop-place-preserved
+loop-place-preserved c =
+    number-next (operand_value c.args.bits.now c.args.words.now) c.args.operands.now c.loop-place.place _ c.loop-place.number c.from.result c.operand_value-bit.result
+    (omega arith) (omega arith) c.operand_value-bit.ensures c.loop-place.invariant c.from.ensures
+
+pub returns-clause-is : goal.returns-clause-is
+returns-clause-is c =
+    let first : c.loop-place.place ≡ 0 = omega arith in
+    c.loop-place.invariant ∙ ap (λ i. number_of (map (operand_value c.args.bits.now c.args.words.now) (drop i c.args.operands.now))) first
+
+pub returns-clause-small : goal.returns-clause-small
+returns-clause-small c =
+    let first : c.loop-place.place ≡ 0 = omega arith in
+    let is = c.loop-place.invariant ∙ ap (λ i. number_of (map (operand_value c.args.bits.now c.args.words.now) (drop i c.args.operands.now))) first in
+    omega (arith, is, number-small (operand_value c.args.bits.now c.args.words.now) c.args.operands.now)

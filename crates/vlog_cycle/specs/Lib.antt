@@ -1,0 +1,13 @@
+pub mod Begun
+pub mod Entries
+pub mod Found
+pub mod Held
+pub mod ModuleSlots
+pub mod Named
+pub mod Numbered
+pub mod Plans
+pub mod Run
+pub mod Showing
+pub mod Slots
+pub mod Steps
+pub mod Values

@@ -1,0 +1,128 @@
+-- Items over slots, made of the items of a module.
+use Rattle.std.specs.Prelude.{ℕ, Bool, false, List, [], ◌∷◌, ◌++◌, Option, Some, None, fold, map, flat_map, length, if◌then◌else◌}
+use Rattle.vlog_module.specs.declared.atoms.Atom.{Atom}
+use Rattle.vlog_module.specs.declared.atoms.Atom.TheVariants.{Bit, Whole, Part}
+use Rattle.vlog_module.specs.declared.item.Lut.{Lut}
+use Rattle.vlog_module.specs.declared.item.Right.{Right}
+use Rattle.vlog_module.specs.declared.item.Right.TheVariants.{Bit as RightBit, Whole as RightWhole, Part as RightPart, Lut as RightLut, Majority as RightMajority}
+use Rattle.vlog_module.specs.declared.item.Item.{Item}
+use Rattle.vlog_module.specs.declared.item.Item.TheVariants.{Wire as WireItem, Assign, Flip as FlipItem, Read as ReadItem, Write as WriteItem}
+use Rattle.vlog_module.specs.declared.modules.Port.{Port}
+use Rattle.vlog_module.specs.Maps.{value_in}
+use Rattle.vlog_cycle.specs.declared.plan.Operand.{Operand}
+use Rattle.vlog_cycle.specs.declared.plan.Operand.TheVariants.{Constant, Slot, Part as PartOperand}
+use Rattle.vlog_cycle.specs.declared.plan.Table.{Table}
+use Rattle.vlog_cycle.specs.declared.plan.Rule.{Rule}
+use Rattle.vlog_cycle.specs.declared.plan.Rule.TheVariants.{Copy, Lookup, Majority}
+use Rattle.vlog_cycle.specs.declared.plan.Wire.{Wire}
+use Rattle.vlog_cycle.specs.declared.plan.Flip.{Flip}
+use Rattle.vlog_cycle.specs.declared.plan.Read.{Read}
+use Rattle.vlog_cycle.specs.declared.plan.Write.{Write}
+use Rattle.vlog_cycle.specs.Entries.{put}
+use Rattle.vlog_cycle.specs.Numbered.{numbered}
+
+-- where names are found: the slots of what atoms read, of registers and of memories, and the places of inputs
+pub record Places : Type 0 where
+  -- the inputs, by their places
+  pub pins : List ℕ → Option ℕ
+  -- all names of one bit
+  pub bits : List ℕ → Option ℕ
+  -- the registers of one bit
+  pub registers : List ℕ → Option ℕ
+  -- the registers of 16 bits
+  pub words : List ℕ → Option ℕ
+  pub memories : List ℕ → Option ℕ
+
+-- a name without a slot is 0
+abbrev pub slot_operand : Option ℕ → Operand
+slot_operand (Some slot) = Slot slot
+slot_operand None = Constant false
+
+abbrev pub part_operand : Option ℕ → ℕ → Operand
+part_operand (Some word) k = PartOperand word k
+part_operand None k = Constant false
+
+abbrev pub operand_of : (List ℕ → Option ℕ) → (List ℕ → Option ℕ) → Atom → Operand
+operand_of bits words (Bit bit) = Constant bit
+operand_of bits words (Whole name) = slot_operand (bits name)
+operand_of bits words (Part name k) = part_operand (words name) k
+
+abbrev pub operands_of : (List ℕ → Option ℕ) → (List ℕ → Option ℕ) → List Atom → List Operand
+operands_of bits words atoms = map (operand_of bits words) atoms
+
+abbrev pub table_of : (List ℕ → Option ℕ) → (List ℕ → Option ℕ) → Lut → Table
+table_of bits words lut = record { word = lut.word; ins = operands_of bits words lut.ins }
+
+abbrev pub rule_of : (List ℕ → Option ℕ) → (List ℕ → Option ℕ) → Right → Rule
+rule_of bits words (RightBit bit) = Copy (Constant bit)
+rule_of bits words (RightWhole name) = Copy (slot_operand (bits name))
+rule_of bits words (RightPart name k) = Copy (part_operand (words name) k)
+rule_of bits words (RightLut lut) = Lookup (table_of bits words lut)
+rule_of bits words (RightMajority a b c) = Majority (operand_of bits words a) (operand_of bits words b) (operand_of bits words c)
+
+-- the wires of items, where these names of one bit stand before them
+abbrev pub wires_of : (List ℕ → Option ℕ) → List (List ℕ) → List Item → List Wire
+wires_of words names [] = []
+wires_of words names (WireItem name right ∷ items) =
+    record { slot = length names; rule = rule_of (value_in (numbered 0 names)) words right } ∷ wires_of words (names ++ name ∷ []) items
+wires_of words names (_ ∷ items) = wires_of words names items
+
+-- an output that has no atom yet
+abbrev pub blank_output : Port → List (List ℕ × Operand)
+blank_output port = if port.output then (port.name, Constant false) ∷ [] else []
+
+-- an output gets its atom
+abbrev pub output_operand : (List ℕ → Option ℕ) → (List ℕ → Option ℕ) → List (List ℕ × Operand) → Item → List (List ℕ × Operand)
+output_operand bits words outputs (Assign name value) = put outputs name (operand_of bits words value)
+output_operand bits words outputs _ = outputs
+
+-- the atoms of outputs
+abbrev pub outputs_of : (List ℕ → Option ℕ) → (List ℕ → Option ℕ) → List Port → List Item → List (List ℕ × Operand)
+outputs_of bits words ports items = fold (output_operand bits words) (flat_map blank_output ports) items
+
+-- what is made of two places, where both are found
+abbrev pub of_two : {A : Type 0} → Option ℕ → Option ℕ → (ℕ → ℕ → A) → Option A
+of_two (Some a) (Some b) make = Some (make a b)
+of_two (Some a) None make = None
+of_two None b make = None
+
+abbrev pub of_three : {A : Type 0} → Option ℕ → Option ℕ → Option ℕ → (ℕ → ℕ → ℕ → A) → Option A
+of_three (Some a) b c make = of_two b c (make a)
+of_three None b c make = None
+
+abbrev pub flip_of : Places → Item → Option Flip
+flip_of at (FlipItem falling clock enable reset set target lut) =
+    of_two (at.pins clock) (at.registers target) (λ pin slot. record {
+      edge = record { pin = pin; falling = falling };
+      enable = operand_of at.bits at.words enable;
+      reset = operand_of at.bits at.words reset;
+      set = set;
+      target = slot;
+      table = table_of at.bits at.words lut;
+    })
+flip_of at _ = None
+
+abbrev pub read_of : Places → Item → Option Read
+read_of at (ReadItem falling clock clock_enable enable target memory address) =
+    of_three (at.pins clock) (at.words target) (at.memories memory) (λ pin slot place. record {
+      edge = record { pin = pin; falling = falling };
+      clock_enable = operand_of at.bits at.words clock_enable;
+      enable = operand_of at.bits at.words enable;
+      target = slot;
+      memory = place;
+      address = operands_of at.bits at.words address;
+    })
+read_of at _ = None
+
+abbrev pub write_of : Places → Item → Option Write
+write_of at (WriteItem falling clock clock_enable enable memory address mask bits) =
+    of_two (at.pins clock) (at.memories memory) (λ pin place. record {
+      edge = record { pin = pin; falling = falling };
+      clock_enable = operand_of at.bits at.words clock_enable;
+      enable = operand_of at.bits at.words enable;
+      memory = place;
+      address = operands_of at.bits at.words address;
+      mask = operands_of at.bits at.words mask;
+      bits = operands_of at.bits at.words bits;
+    })
+write_of at _ = None

@@ -1,0 +1,180 @@
+-- The run of a module over a list of events: what it holds after the start, and after each event.
+use Rattle.std.specs.Prelude.{ℕ, zero, suc, ◌-◌, Bool, true, false, not, ◌&&◌, ◌==◌, List, [], ◌∷◌, ◌++◌, Option, Some, None, fold, map, flat_map, get_or, replicate, slice_set, unwrap_or, bit_and, bit_or, if◌then◌else◌}
+use Rattle.vlog_module.specs.declared.atoms.Atom.{Atom}
+use Rattle.vlog_module.specs.declared.item.Item.{Item}
+use Rattle.vlog_module.specs.declared.item.Item.TheVariants.{Register, Word, Memory, Wire, Assign, Flip, Read, Write, Start}
+use Rattle.vlog_module.specs.declared.modules.Port.{Port}
+use Rattle.vlog_module.specs.Maps.{value_in}
+use Rattle.vlog_module.specs.Parts.{Parts}
+use Rattle.vlog_cycle.specs.declared.event.Event.{Event}
+use Rattle.vlog_cycle.specs.Entries.{Entry, put}
+use Rattle.vlog_cycle.specs.Named.{names_of}
+use Rattle.vlog_cycle.specs.Numbered.{numbered}
+use Rattle.vlog_cycle.specs.Values.{Readable, atom_value, atoms_value, lut_value, right_value}
+
+-- ---- names
+
+-- an input, which is 0 at the start
+abbrev pub input_start : Port → List (List ℕ × Bool)
+input_start port = if port.output then [] else (port.name, false) ∷ []
+
+-- an output that isn't assigned yet
+abbrev pub output_start : Port → List (List ℕ × Bool)
+output_start port = if port.output then (port.name, false) ∷ [] else []
+
+-- the inputs, in the order of the ports
+abbrev pub input_names : List Port → List (List ℕ)
+input_names ports = names_of (flat_map input_start ports)
+
+-- the place of a name among the inputs
+abbrev pub pin_of : List Port → List ℕ → Option ℕ
+pin_of ports name = value_in (numbered 0 (input_names ports)) name
+
+-- ---- wires and outputs, once the rest is known
+
+-- a wire has the value of its right side, which reads no later wire
+abbrev pub wire_step : List (List ℕ × Bool) → List (List ℕ × ℕ) → List (List ℕ × Bool) → Item → List (List ℕ × Bool)
+wire_step known words wires (Wire name right) =
+    wires ++ (name, right_value (record { bits = known ++ wires; words = words }) right) ∷ []
+wire_step known words wires _ = wires
+
+-- an output has the value of its atom
+abbrev pub output_step : Readable → List (List ℕ × Bool) → Item → List (List ℕ × Bool)
+output_step from outputs (Assign name value) = put outputs name (atom_value from value)
+output_step from outputs _ = outputs
+
+-- what atoms read of an entry
+abbrev pub readable : Entry → Readable
+readable entry = record { bits = entry.inputs ++ entry.registers ++ entry.wires; words = entry.words }
+
+-- the entry of these inputs, registers and memories: the wires in the order of the text, and the outputs
+unfoldable pub settled : Parts → List (List ℕ × Bool) → List (List ℕ × Bool) → List (List ℕ × ℕ) → List (List ℕ × List ℕ) → Entry
+settled m inputs registers words memories =
+    let wires = fold (wire_step (inputs ++ registers) words) [] m.items in
+    record {
+      inputs = inputs;
+      registers = registers;
+      words = words;
+      memories = memories;
+      wires = wires;
+      outputs = fold (output_step (record { bits = inputs ++ registers ++ wires; words = words }))
+      (flat_map output_start m.ports) m.items;
+    }
+
+-- ---- the start
+
+abbrev pub register_start : Item → List (List ℕ × Bool)
+register_start (Register name start) = (name, start) ∷ []
+register_start _ = []
+
+abbrev pub word_start : Item → List (List ℕ × ℕ)
+word_start (Word name start) = (name, start) ∷ []
+word_start _ = []
+
+-- a memory has 256 words
+abbrev pub memory_start : Item → List (List ℕ × List ℕ)
+memory_start (Memory name) = (name, replicate 256 0) ∷ []
+memory_start _ = []
+
+-- the words of a memory
+abbrev pub words_of : List (List ℕ × List ℕ) → List ℕ → List ℕ
+words_of memories name = unwrap_or (value_in memories name) []
+
+-- a word of a memory is put in its place
+abbrev pub put_word : List (List ℕ × List ℕ) → List ℕ → ℕ → ℕ → List (List ℕ × List ℕ)
+put_word memories name address word = put memories name (slice_set (words_of memories name) address word)
+
+-- a start word is put in its place
+abbrev pub start_step : List (List ℕ × List ℕ) → Item → List (List ℕ × List ℕ)
+start_step memories (Start memory k word) = put_word memories memory k word
+start_step memories _ = memories
+
+-- inputs and words without a start are 0
+unfoldable pub start : Parts → Entry
+start m =
+    settled m (flat_map input_start m.ports) (flat_map register_start m.items)
+    (flat_map word_start m.items) (fold start_step (flat_map memory_start m.items) m.items)
+
+-- ---- an event
+
+-- whether a name is the input at this place
+abbrev pub is_pin : ℕ → Option ℕ → Bool
+is_pin pin (Some place) = place == pin
+is_pin pin None = false
+
+-- whether an input that gets this bit, and had the other, has the edge: `negedge` is 1 to 0, `posedge` 0 to 1
+abbrev pub is_edge : Bool → Bool → Bool
+is_edge falling bit = if falling then not bit else bit
+
+-- whether an event is the edge of a clocked item
+abbrev pub is_clocked : Parts → Event → Bool → List ℕ → Bool
+is_clocked m event falling clock = is_pin event.pin (pin_of m.ports clock) && is_edge falling event.bit
+
+-- the word of a memory at an address, to be put into a register
+abbrev pub put_read : List (List ℕ × ℕ) → List ℕ → Option (List ℕ) → ℕ → List (List ℕ × ℕ)
+put_read words target (Some memory) address = put words target (get_or memory address 0)
+put_read words target None address = words
+
+-- a word whose bits stay where the mask is 1, and are new elsewhere: `(word & mask) | (bits & ~mask)`
+abbrev pub masked : ℕ → ℕ → ℕ → ℕ
+masked word mask bits = bit_or (bit_and word mask) (bit_and bits (65535 - mask))
+
+-- what a clocked item assigns is computed from the entry before
+
+abbrev pub register_step : Parts → Entry → Event → List (List ℕ × Bool) → Item → List (List ℕ × Bool)
+register_step m before event registers (Flip falling clock enable reset set target lut) =
+    if is_clocked m event falling clock && atom_value (readable before) enable
+    then put registers target (if atom_value (readable before) reset then set else lut_value (readable before) lut)
+    else registers
+register_step m before event registers _ = registers
+
+abbrev pub word_step : Parts → Entry → Event → List (List ℕ × ℕ) → Item → List (List ℕ × ℕ)
+word_step m before event words (Read falling clock clock_enable enable target memory address) =
+    if is_clocked m event falling clock && atom_value (readable before) clock_enable && atom_value (readable before) enable
+    then put_read words target (value_in before.memories memory) (atoms_value (readable before) address)
+    else words
+word_step m before event words _ = words
+
+abbrev pub memory_step : Parts → Entry → Event → List (List ℕ × List ℕ) → Item → List (List ℕ × List ℕ)
+memory_step m before event memories (Write falling clock clock_enable enable memory address mask bits) =
+    if is_clocked m event falling clock && atom_value (readable before) clock_enable && atom_value (readable before) enable
+    then put_word memories memory (atoms_value (readable before) address)
+    (masked (get_or (words_of before.memories memory) (atoms_value (readable before) address) 0) (atoms_value (readable before) mask) (atoms_value (readable before) bits))
+    else memories
+memory_step m before event memories _ = memories
+
+-- an input gets a bit
+abbrev pub with_input : List (List ℕ × Bool) → ℕ → Bool → List (List ℕ × Bool)
+with_input [] pin bit = []
+with_input (input ∷ inputs) zero bit = (input.0, bit) ∷ inputs
+with_input (input ∷ inputs) (suc pin) bit = input ∷ with_input inputs pin bit
+
+-- the entry after an event that changes its input
+unfoldable pub changed : Parts → Entry → Event → Entry
+changed m before event =
+    settled m (with_input before.inputs event.pin event.bit)
+    (fold (register_step m before event) before.registers m.items) (fold (word_step m before event) before.words m.items)
+    (fold (memory_step m before event) before.memories m.items)
+
+abbrev pub is_same_bit : Bool → Bool → Bool
+is_same_bit true bit = bit
+is_same_bit false bit = not bit
+
+-- the bit of the input at a place
+abbrev pub input_bit : Entry → ℕ → Bool
+input_bit entry pin = get_or (map (λ input. input.1) entry.inputs) pin false
+
+-- the entry after an event; where the input has the bit already, nothing changes
+unfoldable pub followed : Parts → Entry → Event → Entry
+followed m before event = if is_same_bit event.bit (input_bit before event.pin) then before else changed m before event
+
+-- ---- a run
+
+-- an entry, and those after each event
+unfoldable pub run_from : Parts → Entry → List Event → List Entry
+run_from m entry [] = entry ∷ []
+run_from m entry (event ∷ events) = entry ∷ run_from m (followed m entry event) events
+
+-- the entries after the start and after each event
+unfoldable pub module_run : Parts → List Event → List Entry
+module_run m events = run_from m (start m) events

@@ -1,0 +1,262 @@
+// Items over slots, made of the items of a module.
+ghost use Rattle.std.specs.Prelude.{◌≡◌, ◌++◌, length, IfOk, OnOk, All};
+ghost use Rattle.std.specs.List.{filter_map};
+ghost use Rattle.std.specs.Option.{option_to_list};
+ghost use Rattle.vlog_module.specs.WellFormed.{IsLut, IsRight, IsShaped};
+ghost use Rattle.vlog_cycle.specs.Slots.{slot_of};
+ghost use Rattle.vlog_cycle.specs.Plans.{operand_of, operands_of, part_operand, slot_operand, table_of, rule_of, flip_of, read_of, write_of};
+ghost use Rattle.vlog_cycle.specs.Found.{places_in};
+
+use crate::plan::{Edge, Flip, Operand, Read, Rule, Table, Write};
+use crate::slots::Slots;
+use std::alloc::{AllocError, Global};
+use vlog_module::{Atom, Atoms, Item, Lut, Right};
+
+/// The places of inputs, and the slots of other names.
+#[derive(Drop)]
+pub(crate) struct Places {
+    /// The inputs, by their places.
+    pub(crate) pins: Slots,
+    /// All names of one bit.
+    pub(crate) bits: Slots,
+    /// The registers of one bit.
+    pub(crate) registers: Slots,
+    /// The registers of 16 bits.
+    pub(crate) words: Slots,
+    pub(crate) memories: Slots,
+}
+
+/// An atom over slots.
+pub(crate) fn operand_of(bits: &Slots, words: &Slots, atom: &Atom) -> Operand
+    ensures { result ≡ operand_of (slot_of bits.now) (slot_of words.now) atom.now }
+{
+    match atom {
+        Atom::Bit(bit) => Operand::Constant(*bit),
+        Atom::Whole(name) => slot_operand(bits, name.bytes()),
+        Atom::Part { name, k } => part_operand(words, name.bytes(), *k),
+    }
+}
+
+/// The bit of a name.
+fn slot_operand(bits: &Slots, name: &[u8]) -> Operand
+    ensures { result ≡ slot_operand (slot_of bits.now name.now) }
+{
+    match bits.slot(name) {
+        Some(slot) => Operand::Slot(slot),
+        None => Operand::Constant(false),
+    }
+}
+
+/// Bit `k` of a register of 16 bits.
+fn part_operand(words: &Slots, name: &[u8], k: u8) -> Operand
+    ensures { result ≡ part_operand (slot_of words.now name.now) k }
+{
+    match words.slot(name) {
+        Some(word) => Operand::Part { word, k },
+        None => Operand::Constant(false),
+    }
+}
+
+/// So many atoms over slots.
+fn operands_of<const N: usize>(bits: &Slots, words: &Slots, atoms: &Atoms) -> [Operand; N]
+    requires { length atoms.now ≡ N }
+    ensures { result ≡ operands_of (slot_of bits.now) (slot_of words.now) atoms.now }
+{
+    let mut operands = [Operand::Constant(false); N];
+    for place in 0..N {
+        operands[place] = operand_of(bits, words, atoms.get(place));
+    }
+    operands
+}
+
+/// A table over slots.
+fn table_of(bits: &Slots, words: &Slots, lut: &Lut) -> Table
+    requires { IsLut lut.now }
+    ensures { result ≡ table_of (slot_of bits.now) (slot_of words.now) lut.now }
+{
+    Table {
+        word: lut.word,
+        ins: operands_of(bits, words, &lut.ins),
+    }
+}
+
+/// A right side over slots.
+pub(crate) fn rule_of(bits: &Slots, words: &Slots, right: &Right) -> Rule
+    requires { IsRight right.now }
+    ensures { result ≡ rule_of (slot_of bits.now) (slot_of words.now) right.now }
+{
+    match right {
+        Right::Bit(bit) => Rule::Copy(Operand::Constant(*bit)),
+        Right::Whole(name) => Rule::Copy(slot_operand(bits, name.bytes())),
+        Right::Part { name, k } => Rule::Copy(part_operand(words, name.bytes(), *k)),
+        Right::Lut(lut) => Rule::Lookup(table_of(bits, words, lut)),
+        Right::Majority { a, b, c } => Rule::Majority {
+            a: operand_of(bits, words, a),
+            b: operand_of(bits, words, b),
+            c: operand_of(bits, words, c),
+        },
+    }
+}
+
+/// The flip-flop of an item, where it is one.
+fn flip_of(places: &Places, item: &Item) -> Option<Flip>
+    requires { IsShaped item.now }
+    ensures { result ≡ flip_of (places_in places.now) item.now }
+{
+    match item {
+        Item::Flip {
+            falling,
+            clock,
+            enable,
+            reset,
+            set,
+            target,
+            lut,
+        } => {
+            let pin = places.pins.slot(clock.bytes())?;
+            let target = places.registers.slot(target.bytes())?;
+            Some(Flip {
+                edge: Edge {
+                    pin,
+                    falling: *falling,
+                },
+                enable: operand_of(&places.bits, &places.words, enable),
+                reset: operand_of(&places.bits, &places.words, reset),
+                set: *set,
+                target,
+                table: table_of(&places.bits, &places.words, lut),
+            })
+        }
+        _ => None,
+    }
+}
+
+/// The read of an item, where it is one.
+fn read_of(places: &Places, item: &Item) -> Option<Read>
+    requires { IsShaped item.now }
+    ensures { result ≡ read_of (places_in places.now) item.now }
+{
+    match item {
+        Item::Read {
+            falling,
+            clock,
+            clock_enable,
+            enable,
+            target,
+            memory,
+            address,
+        } => {
+            let pin = places.pins.slot(clock.bytes())?;
+            let target = places.words.slot(target.bytes())?;
+            let memory = places.memories.slot(memory.bytes())?;
+            Some(Read {
+                edge: Edge {
+                    pin,
+                    falling: *falling,
+                },
+                clock_enable: operand_of(&places.bits, &places.words, clock_enable),
+                enable: operand_of(&places.bits, &places.words, enable),
+                target,
+                memory,
+                address: operands_of(&places.bits, &places.words, address),
+            })
+        }
+        _ => None,
+    }
+}
+
+/// The write of an item, where it is one.
+fn write_of(places: &Places, item: &Item) -> Option<Write>
+    requires { IsShaped item.now }
+    ensures { result ≡ write_of (places_in places.now) item.now }
+{
+    match item {
+        Item::Write {
+            falling,
+            clock,
+            clock_enable,
+            enable,
+            memory,
+            address,
+            mask,
+            bits,
+        } => {
+            let pin = places.pins.slot(clock.bytes())?;
+            let memory = places.memories.slot(memory.bytes())?;
+            Some(Write {
+                edge: Edge {
+                    pin,
+                    falling: *falling,
+                },
+                clock_enable: operand_of(&places.bits, &places.words, clock_enable),
+                enable: operand_of(&places.bits, &places.words, enable),
+                memory,
+                address: operands_of(&places.bits, &places.words, address),
+                mask: operands_of(&places.bits, &places.words, mask),
+                bits: operands_of(&places.bits, &places.words, bits),
+            })
+        }
+        _ => None,
+    }
+}
+
+/// The flip-flops of items.
+pub(crate) fn flips_of(
+    alloc: Global,
+    places: &Places,
+    items: &[Item],
+) -> Result<Vec<Flip>, AllocError>
+    requires { All IsShaped items.now }
+    ensures { IfOk result (λ flips. flips.items ≡ filter_map (flip_of (places_in places.now)) items.now) }
+{
+    let mut flips = Vec::new(alloc);
+    for item in items {
+        push_found(&mut flips, flip_of(places, item))?;
+    }
+    Ok(flips)
+}
+
+/// The reads of items.
+pub(crate) fn reads_of(
+    alloc: Global,
+    places: &Places,
+    items: &[Item],
+) -> Result<Vec<Read>, AllocError>
+    requires { All IsShaped items.now }
+    ensures { IfOk result (λ reads. reads.items ≡ filter_map (read_of (places_in places.now)) items.now) }
+{
+    let mut reads = Vec::new(alloc);
+    for item in items {
+        push_found(&mut reads, read_of(places, item))?;
+    }
+    Ok(reads)
+}
+
+/// The writes of items.
+pub(crate) fn writes_of(
+    alloc: Global,
+    places: &Places,
+    items: &[Item],
+) -> Result<Vec<Write>, AllocError>
+    requires { All IsShaped items.now }
+    ensures { IfOk result (λ writes. writes.items ≡ filter_map (write_of (places_in places.now)) items.now) }
+{
+    let mut writes = Vec::new(alloc);
+    for item in items {
+        push_found(&mut writes, write_of(places, item))?;
+    }
+    Ok(writes)
+}
+
+/// Adds an item, where there is one.
+fn push_found<T: Drop>(list: &mut Vec<T>, found: Option<T>) -> Result<(), AllocError>
+    ensures { OnOk result (list.new.items ≡ list.old.items ++ option_to_list found) }
+{
+    match found {
+        Some(item) => {
+            list.push(item)?;
+            Ok(())
+        }
+        None => Ok(()),
+    }
+}

@@ -1,0 +1,93 @@
+// Items of a module over numbered slots in place of names.
+
+/// An operand of one bit.
+#[derive(Clone, Copy)]
+pub(crate) enum Operand {
+    Constant(bool),
+    /// The bit of a slot.
+    Slot(usize),
+    /// Bit `k` of a register of 16 bits.
+    Part {
+        word: usize,
+        k: u8,
+    },
+}
+
+/// A table of 16 bits and its inputs, the lowest first.
+#[derive(Clone, Copy)]
+pub(crate) struct Table {
+    pub(crate) word: u16,
+    pub(crate) ins: [Operand; 4],
+}
+
+/// The right side of a wire.
+#[derive(Clone, Copy)]
+pub(crate) enum Rule {
+    Copy(Operand),
+    Lookup(Table),
+    Majority { a: Operand, b: Operand, c: Operand },
+}
+
+/// A wire: its slot, and its right side.
+#[derive(Clone, Copy)]
+pub(crate) struct Wire {
+    pub(crate) slot: usize,
+    pub(crate) rule: Rule,
+}
+
+/// An edge of an input.
+#[derive(Clone, Copy)]
+pub(crate) struct Edge {
+    pub(crate) pin: usize,
+    pub(crate) falling: bool,
+}
+
+/// A flip-flop.
+#[derive(Clone, Copy)]
+pub(crate) struct Flip {
+    pub(crate) edge: Edge,
+    pub(crate) enable: Operand,
+    pub(crate) reset: Operand,
+    pub(crate) set: bool,
+    /// The slot of the register.
+    pub(crate) target: usize,
+    pub(crate) table: Table,
+}
+
+/// A read of a memory into a register of 16 bits.
+#[derive(Clone, Copy)]
+pub(crate) struct Read {
+    pub(crate) edge: Edge,
+    pub(crate) clock_enable: Operand,
+    pub(crate) enable: Operand,
+    pub(crate) target: usize,
+    pub(crate) memory: usize,
+    pub(crate) address: [Operand; 8],
+}
+
+/// A write to a memory.
+#[derive(Clone, Copy)]
+pub(crate) struct Write {
+    pub(crate) edge: Edge,
+    pub(crate) clock_enable: Operand,
+    pub(crate) enable: Operand,
+    pub(crate) memory: usize,
+    pub(crate) address: [Operand; 8],
+    pub(crate) mask: [Operand; 16],
+    pub(crate) bits: [Operand; 16],
+}
+
+/// 256 words of 16 bits.
+pub(crate) type Memory = [u16; 256];
+
+/// The items of a module over slots.
+#[derive(Drop)]
+pub(crate) struct Plan {
+    /// In the order of the text.
+    pub(crate) wires: Vec<Wire>,
+    /// What the outputs have, in the order of the ports.
+    pub(crate) outputs: Vec<Operand>,
+    pub(crate) flips: Vec<Flip>,
+    pub(crate) reads: Vec<Read>,
+    pub(crate) writes: Vec<Write>,
+}

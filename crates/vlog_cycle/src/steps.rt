@@ -1,0 +1,333 @@
+// What an event does to the bits, words and memories of the slots.
+ghost use Rattle.std.specs.Prelude.{◌≡◌, ◌<◌, ◌≤◌, ◌^◌, ◌+◌, ◌*◌, ◌&&◌, ℕ, List, [], false, length, map, fold, get_or, slice_set, if◌then◌else◌};
+ghost use Rattle.vlog_cycle.specs.Run.{is_edge, masked};
+ghost use Rattle.vlog_cycle.specs.Steps.{bits_after, flip_slot, is_edge_of, memories_after, operand_value, operands_value, read_slot, rule_value, set_word, table_value, wire_slot, word_in, words_after, write_slot, written_word};
+ghost use Rattle.vlog_cycle.specs.Values.{bit_of, majority, number_of};
+
+use crate::event::Event;
+use crate::plan::{Edge, Flip, Memory, Operand, Plan, Read, Rule, Table, Wire, Write};
+
+/// The bit of a slot, and 0 past the last.
+pub(crate) fn bit_at(bits: &[bool], slot: usize) -> bool
+    ensures { result ≡ get_or bits.now slot false }
+{
+    match bits.get(slot) {
+        Some(bit) => *bit,
+        None => false,
+    }
+}
+
+/// The word of a slot, and 0 past the last.
+pub(crate) fn word_at(words: &[u16], slot: usize) -> u16
+    ensures { result ≡ get_or words.now slot 0 }
+{
+    match words.get(slot) {
+        Some(word) => *word,
+        None => 0,
+    }
+}
+
+/// Bit `k` of a word; bit 0 is the lowest.
+fn bit_of(word: u16, k: u32) -> bool
+    ensures { result ≡ bit_of word k }
+{
+    k < 16 && (word >> k) & 1 == 1
+}
+
+/// The value of an operand.
+fn operand_value(bits: &[bool], words: &[u16], operand: Operand) -> bool
+    ensures { result ≡ operand_value bits.now words.now operand }
+{
+    match operand {
+        Operand::Constant(bit) => bit,
+        Operand::Slot(slot) => bit_at(bits, slot),
+        Operand::Part { word, k } => bit_of(word_at(words, word), u32::from(k)),
+    }
+}
+
+/// The number that operands write, the lowest bit first.
+fn number(bits: &[bool], words: &[u16], operands: &[Operand]) -> u32
+    requires { length operands.now ≤ 16 }
+    ensures is { result ≡ operands_value bits.now words.now operands.now }
+    ensures small { result < 2 ^ length operands.now }
+{
+    let mut number = 0;
+    for place in (0..operands.len()).rev() {
+        let bit = operand_value(bits, words, operands[place]);
+        number = 2 * number + u32::from(bit);
+    }
+    number
+}
+
+/// The bit of a table.
+fn table_value(bits: &[bool], words: &[u16], table: &Table) -> bool
+    ensures { result ≡ table_value bits.now words.now table.now }
+{
+    bit_of(table.word, number(bits, words, &table.ins))
+}
+
+/// What two of three bits have.
+fn majority(a: bool, b: bool, c: bool) -> bool
+    ensures { result ≡ majority a b c }
+{
+    (a && b) || (a && c) || (b && c)
+}
+
+/// The value of a right side.
+fn rule_value(bits: &[bool], words: &[u16], rule: &Rule) -> bool
+    ensures { result ≡ rule_value bits.now words.now rule.now }
+{
+    match rule {
+        Rule::Copy(operand) => operand_value(bits, words, *operand),
+        Rule::Lookup(table) => table_value(bits, words, table),
+        Rule::Majority { a, b, c } => {
+            let (a, b, c) = (
+                operand_value(bits, words, *a),
+                operand_value(bits, words, *b),
+                operand_value(bits, words, *c),
+            );
+            majority(a, b, c)
+        }
+    }
+}
+
+/// Gives the bit of a slot, where there is such a slot.
+fn set_bit(bits: &mut [bool], slot: usize, bit: bool)
+    ensures { bits.new ≡ slice_set bits.old slot bit }
+{
+    if slot < bits.len() {
+        bits[slot] = bit;
+    }
+}
+
+/// Gives each wire its value, one after the other.
+pub(crate) fn settle(wires: &[Wire], words: &[u16], bits: &mut [bool])
+    ensures { bits.new ≡ fold (wire_slot words.now) bits.old wires.now }
+{
+    for wire in wires {
+        let bit = rule_value(bits, words, &wire.rule);
+        set_bit(bits, wire.slot, bit);
+    }
+}
+
+/// Whether an event is this edge.
+fn is_edge_of(event: Event, edge: Edge) -> bool
+    ensures { result ≡ is_edge_of event edge }
+{
+    edge.pin == event.pin && is_edge(edge.falling, event.bit)
+}
+
+/// Whether an input that gets this bit, and had the other, has the edge.
+fn is_edge(falling: bool, bit: bool) -> bool
+    ensures { result ≡ is_edge falling bit }
+{
+    if falling { !bit } else { bit }
+}
+
+/// Gives the registers of flip-flops whose edge it is their next bits.
+fn run_flips(flips: &[Flip], event: Event, bits: &[bool], words: &[u16], next: &mut [bool])
+    ensures { next.new ≡ fold (flip_slot event bits.now words.now) next.old flips.now }
+{
+    for flip in flips {
+        if is_edge_of(event, flip.edge) && operand_value(bits, words, flip.enable) {
+            let bit = next_bit(flip, bits, words);
+            set_bit(next, flip.target, bit);
+        }
+    }
+}
+
+/// The next bit of a register.
+fn next_bit(flip: &Flip, bits: &[bool], words: &[u16]) -> bool
+    ensures { result ≡ (if operand_value bits.now words.now flip.now.reset then flip.now.set else table_value bits.now words.now flip.now.table) }
+{
+    if operand_value(bits, words, flip.reset) {
+        flip.set
+    } else {
+        table_value(bits, words, &flip.table)
+    }
+}
+
+/// The word of a memory at an address, and 0 where there is no such memory.
+pub(crate) fn word_in(memories: &[Memory], memory: usize, address: u8) -> u16
+    ensures { result ≡ word_in memories.now memory address }
+{
+    match memories.get(memory) {
+        Some(words) => words[usize::from(address)],
+        None => 0,
+    }
+}
+
+/// The address that eight operands write.
+fn address_of(bits: &[bool], words: &[u16], address: &[Operand; 8]) -> u8
+    ensures { result ≡ operands_value bits.now words.now address.now }
+{
+    number(bits, words, address) as u8
+}
+
+/// Gives the word of a slot, where there is such a slot.
+fn set_word_at(words: &mut [u16], slot: usize, word: u16)
+    ensures { words.new ≡ slice_set words.old slot word }
+{
+    if slot < words.len() {
+        words[slot] = word;
+    }
+}
+
+/// Gives the registers of reads whose edge it is the words of memories.
+fn run_reads(
+    reads: &[Read],
+    event: Event,
+    bits: &[bool],
+    words: &[u16],
+    memories: &[Memory],
+    next: &mut [u16],
+)
+    ensures { next.new ≡ fold (read_slot event bits.now words.now memories.now) next.old reads.now }
+{
+    for read in reads {
+        if is_edge_of(event, read.edge)
+            && operand_value(bits, words, read.clock_enable)
+            && operand_value(bits, words, read.enable)
+        {
+            let word = word_in(memories, read.memory, address_of(bits, words, &read.address));
+            set_word_at(next, read.target, word);
+        }
+    }
+}
+
+/// The word that sixteen operands write.
+fn word_of(bits: &[bool], words: &[u16], operands: &[Operand; 16]) -> u16
+    ensures { result ≡ operands_value bits.now words.now operands.now }
+{
+    number(bits, words, operands) as u16
+}
+
+/// A word whose bits stay where the mask is 1, and are new elsewhere.
+fn masked(word: u16, mask: u16, bits: u16) -> u16
+    ensures { result ≡ masked word mask bits }
+{
+    (word & mask) | (bits & !mask)
+}
+
+/// The word that a write would put in its place.
+fn written_word(write: &Write, bits: &[bool], words: &[u16], memories: &[Memory]) -> u16
+    ensures { result ≡ written_word bits.now words.now memories.now write.now }
+{
+    let old = word_in(memories, write.memory, address_of(bits, words, &write.address));
+    masked(old, word_of(bits, words, &write.mask), word_of(bits, words, &write.bits))
+}
+
+/// Writes down the word of each write.
+fn prepare_writes(
+    writes: &[Write],
+    bits: &[bool],
+    words: &[u16],
+    memories: &[Memory],
+    written: &mut [u16],
+)
+    ensures { length written.old ≡ length writes.now → written.new ≡ map (written_word bits.now words.now memories.now) writes.now }
+{
+    for (place, write) in writes.iter().enumerate() {
+        let word = written_word(write, bits, words, memories);
+        set_word_at(written, place, word);
+    }
+}
+
+/// Puts a word in a memory, where there is such a memory.
+fn set_word(memories: &mut [Memory], memory: usize, address: u8, word: u16)
+    ensures { memories.new ≡ set_word memories.old memory address word }
+{
+    if memory < memories.len() {
+        memories[memory][usize::from(address)] = word;
+    }
+}
+
+/// Puts the words of the writes whose edge it is in their places.
+fn run_writes(
+    writes: &[Write],
+    event: Event,
+    bits: &[bool],
+    words: &[u16],
+    written: &[u16],
+    memories: &mut [Memory],
+)
+    ensures { (before : List (List ℕ)) → written.now ≡ map (written_word bits.now words.now before) writes.now
+        → memories.new ≡ fold (write_slot event bits.now words.now before) memories.old writes.now }
+{
+    for (place, write) in writes.iter().enumerate() {
+        if is_edge_of(event, write.edge)
+            && operand_value(bits, words, write.clock_enable)
+            && operand_value(bits, words, write.enable)
+        {
+            let word = word_at(written, place);
+            set_word(memories, write.memory, address_of(bits, words, &write.address), word);
+        }
+    }
+}
+
+/// Gives each output its value.
+pub(crate) fn write_outputs(
+    operands: &[Operand],
+    bits: &[bool],
+    words: &[u16],
+    outputs: &mut [bool],
+)
+    ensures { length outputs.old ≡ length operands.now → outputs.new ≡ map (operand_value bits.now words.now) operands.now }
+{
+    for (place, operand) in operands.iter().enumerate() {
+        let bit = operand_value(bits, words, *operand);
+        set_bit(outputs, place, bit);
+    }
+}
+
+/// Copies bits to as many bits.
+fn copy_bits(from: &[bool], to: &mut [bool])
+    ensures { length to.old ≡ length from.now → to.new ≡ from.now }
+{
+    if to.len() == from.len() {
+        to.copy_from_slice(from);
+    }
+}
+
+/// Copies words to as many words.
+fn copy_words(from: &[u16], to: &mut [u16])
+    ensures { length to.old ≡ length from.now → to.new ≡ from.now }
+{
+    if to.len() == from.len() {
+        to.copy_from_slice(from);
+    }
+}
+
+/// Takes an event that changes its input. What the clocked items assign is computed before any of it takes effect.
+pub(crate) fn change(
+    plan: &Plan,
+    event: Event,
+    bits: &mut [bool],
+    next_bits: &mut [bool],
+    words: &mut [u16],
+    next_words: &mut [u16],
+    memories: &mut [Memory],
+    written: &mut [u16],
+    outputs: &mut [bool],
+)
+    requires bits_room { length next_bits.old ≡ length bits.old }
+    requires words_room { length next_words.old ≡ length words.old }
+    requires writes_room { length written.old ≡ length plan.now.writes.items }
+    requires outputs_room { length outputs.old ≡ length plan.now.outputs.items }
+    ensures bits { bits.new ≡ bits_after plan.now event bits.old words.old memories.old }
+    ensures words { words.new ≡ words_after plan.now event bits.old words.old memories.old }
+    ensures memories { memories.new ≡ memories_after plan.now event bits.old words.old memories.old }
+    ensures outputs { outputs.new ≡ map (operand_value bits.new words.new) plan.now.outputs.items }
+{
+    copy_bits(bits, next_bits);
+    run_flips(&plan.flips, event, bits, words, next_bits);
+    copy_words(words, next_words);
+    run_reads(&plan.reads, event, bits, words, memories, next_words);
+    prepare_writes(&plan.writes, bits, words, memories, written);
+    run_writes(&plan.writes, event, bits, words, written, memories);
+    copy_bits(next_bits, bits);
+    copy_words(next_words, words);
+    set_bit(bits, event.pin, event.bit);
+    settle(&plan.wires, words, bits);
+    write_outputs(&plan.outputs, bits, words, outputs);
+}

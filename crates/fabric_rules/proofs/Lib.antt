@@ -9,4 +9,5 @@ pub mod OneValue
 pub mod Taken
 pub mod Chains
 pub mod Within
+pub mod Runs
 pub mod Worked

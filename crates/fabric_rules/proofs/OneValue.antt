@@ -66,7 +66,7 @@ any-first test (head ∷ list) some =
       | inr away ↦ first-behind test head list away (any-first test list (rw away at some))
     ]
 
-filter-has : {A : Type 0} (test : A → Bool) (list : List A) (item : A) → Contains list item → test item ≡ true → Contains (filter test list) item
+pub filter-has : {A : Type 0} (test : A → Bool) (list : List A) (item : A) → Contains list item → test item ≡ true → Contains (filter test list) item
 filter-has test [] item (k, within, here) passes = absurd (omega (arith, within))
 filter-has test (head ∷ list) item (zero, within, here) passes =
     let found : test head ≡ true = ap test here ∙ passes in rw found (0, omega arith, here)

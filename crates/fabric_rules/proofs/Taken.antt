@@ -62,9 +62,10 @@ module _ (device : DeviceName) (fabric : Fabric) (taken : fabric_fault device fa
       first_of-none (loop_faults (wiring_of fabric))
       (or_else-first (first_of (loop_faults (wiring_of fabric))) _ (or_else-other (first_of (driver_faults fabric)) _ taken))
 
-  no-clocks : clock_faults device fabric ≡ []
+  -- no user has another clock than a pin
+  pub taken-clocks : clock_faults device fabric ≡ []
   unfolding fabric_fault
-  no-clocks =
+  taken-clocks =
       first_of-none (clock_faults device fabric)
       (or_else-other (first_of (loop_faults (wiring_of fabric))) _ (or_else-other (first_of (driver_faults fabric)) _ taken))
 

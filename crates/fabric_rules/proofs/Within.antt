@@ -41,40 +41,43 @@ use Rattle.fabric_rules.proofs.OneValue.{IsWithin}
 
 -- ---- lists
 
-All-flat_map : {X A : Type 0} (P : A → Type 0) (f : X → List A) (xs : List X) → All (λ x. All P (f x)) xs → All P (flat_map f xs)
+pub All-flat_map : {X A : Type 0} (P : A → Type 0) (f : X → List A) (xs : List X) → All (λ x. All P (f x)) xs → All P (flat_map f xs)
 All-flat_map P f [] all = All-nil P
 All-flat_map P f (x ∷ xs) all =
     All-append P (f x) (flat_map f xs) (All-head (λ y. All P (f y)) x xs all) (All-flat_map P f xs (All-tail (λ y. All P (f y)) x xs all))
 
-All-single : {X : Type 0} (P : X → Type 0) (x : X) → P x → All P (x ∷ [])
+pub All-single : {X : Type 0} (P : X → Type 0) (x : X) → P x → All P (x ∷ [])
 All-single P x here = All-cons P x [] here (All-nil P)
 
-All-gathered : {A : Type 0} (P : A → Type 0) (n : ℕ) (given : ℕ → List A) → ((k : ℕ) → k < n → All P (given k)) → All P (gathered_below n given)
+pub All-gathered : {A : Type 0} (P : A → Type 0) (n : ℕ) (given : ℕ → List A) → ((k : ℕ) → k < n → All P (given k)) → All P (gathered_below n given)
 unfolding gathered_below
 All-gathered P zero given all = All-nil P
 All-gathered P (suc n) given all =
     All-append P (gathered_below n given) (given n) (All-gathered P n given (λ k less. all k (omega arith))) (all n (omega arith))
 
-All-item_if : {A : Type 0} (P : A → Type 0) (passes : Bool) (item : A) → P item → All P (item_if passes item)
+pub All-item_if : {A : Type 0} (P : A → Type 0) (passes : Bool) (item : A) → P item → All P (item_if passes item)
 All-item_if P true item here = All-single P item here
 All-item_if P false item here = All-nil P
 
-All-if : {A : Type 0} (P : A → Type 0) (passes : Bool) (list : List A) → All P list → All P (if passes then list else [])
+pub All-if : {A : Type 0} (P : A → Type 0) (passes : Bool) (list : List A) → All P list → All P (if passes then list else [])
 All-if P true list all = all
 All-if P false list all = All-nil P
 
-All-over_grid : {A : Type 0} (P : A → Type 0) (device : DeviceName) (given : ℕ → ℕ → List A) → ((x y : ℕ) → All P (given x y)) → All P (over_grid device given)
+-- what holds of what each place of the grid gives
+pub All-over_grid : {A : Type 0} (P : A → Type 0) (device : DeviceName) (given : ℕ → ℕ → List A)
+    → ((x y : ℕ) → x < grid_width device → y < grid_height device → All P (given x y)) → All P (over_grid device given)
 unfolding over_grid
 All-over_grid P device given all =
     All-gathered P (grid_height device) (λ y. gathered_below (grid_width device) (λ x. given x y))
-    (λ y below. All-gathered P (grid_width device) (λ x. given x y) (λ x less. all x y))
+    (λ y low. All-gathered P (grid_width device) (λ x. given x y) (λ x left. all x y left low))
 
-All-over_tiles : {A : Type 0} (P : A → Type 0) (device : DeviceName) (kind : TileKind) (given : ℕ → ℕ → List A)
-    → ((x y : ℕ) → All P (given x y)) → All P (over_tiles device kind given)
+pub All-over_tiles : {A : Type 0} (P : A → Type 0) (device : DeviceName) (kind : TileKind) (given : ℕ → ℕ → List A)
+    → ((x y : ℕ) → x < grid_width device → y < grid_height device → All P (given x y)) → All P (over_tiles device kind given)
 All-over_tiles P device kind given all =
-    All-over_grid P device (at_kind device kind given) (λ x y. All-if P (is_kind_there kind (kind_of device x y)) (given x y) (all x y))
+    All-over_grid P device (at_kind device kind given)
+    (λ x y left low. All-if P (is_kind_there kind (kind_of device x y)) (given x y) (all x y left low))
 
-All-numbered : {A : Type 0} (P : A → Type 0) (place : ℕ) (items : List A) → All P items → All (λ (pair : ℕ × A). P pair.1) (numbered_from place items)
+pub All-numbered : {A : Type 0} (P : A → Type 0) (place : ℕ) (items : List A) → All P items → All (λ (pair : ℕ × A). P pair.1) (numbered_from place items)
 unfolding numbered_from
 All-numbered {A} P place [] all = All-nil (λ (pair : ℕ × A). P pair.1)
 All-numbered {A} P place (item ∷ items) all =
@@ -305,7 +308,7 @@ module _ (db : Database) (image : Configuration) (fit : IsFit db) where
   unfolding pins_of
   pins-in =
       All-over_tiles (IsPinIn db.chip.nets) image.device Io (λ x y. gathered_below 2 (port_at db image x y))
-      (λ x y. All-gathered (IsPinIn db.chip.nets) 2 (port_at db image x y)
+      (λ x y left low. All-gathered (IsPinIn db.chip.nets) 2 (port_at db image x y)
       (λ n below. All-item_if (IsPinIn db.chip.nets) _ (pin_with db x y n _) (pin_with-in x y n _)))
 
   carry_in-in : (x y i : ℕ) → IsNetIn db.chip.nets (carry_in_net db x y i)
@@ -330,7 +333,7 @@ module _ (db : Database) (image : Configuration) (fit : IsFit db) where
 
   cells-in : All (IsCellIn db.chip.nets) (cells_of db image)
   unfolding cells_of
-  cells-in = All-over_tiles (IsCellIn db.chip.nets) image.device Logic (cells_at db image) cells_at-in
+  cells-in = All-over_tiles (IsCellIn db.chip.nets) image.device Logic (cells_at db image) (λ x y left low. cells_at-in x y)
 
   set_with-in : (x y : ℕ) (net : Option ℕ) → IsNetIn db.chip.nets net → All (IsSetIn db.chip.nets) (set_with x y net)
   unfolding IsSetIn
@@ -340,7 +343,7 @@ module _ (db : Database) (image : Configuration) (fit : IsFit db) where
   sets-in : All (IsSetIn db.chip.nets) (sets_of db image)
   unfolding sets_of
   sets-in = All-over_tiles (IsSetIn db.chip.nets) image.device Logic (sets_at db image)
-      (λ x y. All-if (IsSetIn db.chip.nets) _ (set_with x y (net_named db x y _)) (set_with-in x y _ (named-in x y _)))
+      (λ x y left low. All-if (IsSetIn db.chip.nets) _ (set_with x y (net_named db x y _)) (set_with-in x y _ (named-in x y _)))
 
   ram_at-in : (x y : ℕ) → IsRamIn db.chip.nets (ram_at db image x y)
   unfolding ram_at IsRamIn
@@ -349,7 +352,7 @@ module _ (db : Database) (image : Configuration) (fit : IsFit db) where
   rams-in : All (IsRamIn db.chip.nets) (rams_of db image)
   unfolding rams_of
   rams-in = All-over_tiles (IsRamIn db.chip.nets) image.device RamB _
-      (λ x y. All-if (IsRamIn db.chip.nets) (is_ram_used db image x y) (ram_at db image x y ∷ []) (All-single (IsRamIn db.chip.nets) (ram_at db image x y) (ram_at-in x y)))
+      (λ x y left low. All-if (IsRamIn db.chip.nets) (is_ram_used db image x y) (ram_at db image x y ∷ []) (All-single (IsRamIn db.chip.nets) (ram_at db image x y) (ram_at-in x y)))
 
   -- a source that may be missing
   IsSourceIn : Option GlobalFrom → Type 0

@@ -1,2 +1,4 @@
 pub mod Bits
 pub mod Lists
+pub mod Sections
+pub mod Fills

@@ -2,3 +2,4 @@ pub mod Bits
 pub mod Lists
 pub mod Sections
 pub mod Fills
+pub mod Rights

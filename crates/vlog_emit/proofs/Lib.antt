@@ -3,3 +3,4 @@ pub mod Lists
 pub mod Sections
 pub mod Fills
 pub mod Rights
+pub mod Settled

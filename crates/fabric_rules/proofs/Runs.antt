@@ -277,7 +277,7 @@ module _ (device : DeviceName) (fabric : Fabric) (taken : fabric_fault device fa
     entry-same one two pins state v outputs = λ i. record { pins = pins i; state = state i; v = v i; outputs = outputs i }
 
     -- two entries with the same pins and state are one
-    entry-one : (one two : Entry) → IsEntry fabric one → IsEntry fabric two → one.pins ≡ two.pins → one.state ≡ two.state → one ≡ two
+    pub entry-one : (one two : Entry) → IsEntry fabric one → IsEntry fabric two → one.pins ≡ two.pins → one.state ≡ two.state → one ≡ two
     entry-one one two of_one of_two pins state =
         let value = taken-value device fabric taken within two.state two.pins in
         let moved : IsConsistent fabric two.state two.pins one.v =

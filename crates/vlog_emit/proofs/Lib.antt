@@ -4,3 +4,4 @@ pub mod Sections
 pub mod Fills
 pub mod Rights
 pub mod Settled
+pub mod Beginning

@@ -102,6 +102,12 @@ pub record Holding (fabric : Fabric) (state : State) (pins : List Bool) (inputs 
   pub flip : HasValues registers (map flip_name (flips_of fabric)) state.flips
   pub word : HasValues words (map register_name fabric.rams) (map word_of state.registers)
 
+-- the same of another state and pins that are equal
+pub holding-moved : (fabric : Fabric) (one two : State) (a b : List Bool) (inputs registers : List (List ℕ × Bool)) (words : List (List ℕ × ℕ))
+    → one ≡ two → a ≡ b → Holding fabric one a inputs registers words → Holding fabric two b inputs registers words
+holding-moved fabric one two a b inputs registers words state pins holding =
+    subst (λ s. Holding fabric s b inputs registers words) state (subst (λ p. Holding fabric one p inputs registers words) pins holding)
+
 -- the number of a word among words
 word-pick : (words : List (List Bool)) (place : ℕ) → get_or (map word_of words) place 0 ≡ word_of (get_or words place [])
 unfolding word_of

@@ -186,6 +186,10 @@ end_bit pins other = false
 pub clock_bit : Fabric → List Bool → ℕ → Bool
 clock_bit fabric pins net = end_bit pins (clock_end fabric net)
 
+pub clock_bit-is : (fabric : Fabric) (pins : List Bool) (net : ℕ) → clock_bit fabric pins net ≡ end_bit pins (clock_end fabric net)
+unfolding clock_bit
+clock_bit-is fabric pins net = refl
+
 -- an end that a clock of a user may have
 abbrev pub IsClockEnd : ClockEnd → Type 0
 IsClockEnd (at_pin place) = Unit {0}

@@ -71,7 +71,7 @@ constant-holds name value xs = record {
 
 -- ---- what starts
 
-inputs-start : (pins : List Pin) → flat_map input_start (map port_of pins) ≡ map (λ pin. (port_name pin, false)) (filter (λ pin. not pin.output) pins)
+pub inputs-start : (pins : List Pin) → flat_map input_start (map port_of pins) ≡ map (λ pin. (port_name pin, false)) (filter (λ pin. not pin.output) pins)
 unfolding port_name
 inputs-start [] = refl
 inputs-start (pin ∷ pins) =
@@ -160,7 +160,7 @@ started-at (suc n) k words old within few =
           let ne : k ≢ n = other in rw get_or-set_other (started-at n k words old (omega arith) (omega arith))
     ]
 
-word-pick : (words : List (List Bool)) (place : ℕ) → get_or (map word_of words) place 0 ≡ word_of (get_or words place [])
+pub word-pick : (words : List (List Bool)) (place : ℕ) → get_or (map word_of words) place 0 ≡ word_of (get_or words place [])
 unfolding word_of
 word-pick words place = get_or-map word_of words place []
 
@@ -188,10 +188,18 @@ start-past (suc n) ram words entry rest away =
     ∙ (ap (λ list. fold start_step list (start_item ram words n ∷ [])) (start-past n ram words entry rest away)
     ∙ (rw away (ap (λ list. entry ∷ list) (sym (fold-append start_step rest (each_below n (start_item ram words)) (start_item ram words n ∷ []))))))
 
--- the fabric has 256 words for each RAM
+-- a RAM with 8 bits of address and 16 bits of data and mask
+pub record IsPorted (ram : RamCell) : Type 0 where
+  pub read_address : length ram.raddr ≡ 8
+  pub write_address : length ram.waddr ≡ 8
+  pub mask : length ram.mask ≡ 16
+  pub written : length ram.wdata ≡ 16
+
+-- the fabric has such RAMs, and 256 words for each
 pub record IsStarted (fabric : Fabric) : Type 0 where
   pub each_ram : length fabric.start ≡ length fabric.rams
   pub each_word : All (λ words. length words ≡ 256) fabric.start
+  pub each_port : All IsPorted fabric.rams
 
 ram_name : ℕ × RamCell → List ℕ
 ram_name place = memory_name place.1

@@ -5,3 +5,4 @@ pub mod Fills
 pub mod Rights
 pub mod Settled
 pub mod Beginning
+pub mod Ticks

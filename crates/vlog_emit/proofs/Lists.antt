@@ -137,7 +137,7 @@ pub names-absent : {X : Type 0} (name : X → List ℕ) (xs : List X) (q : List 
 names-absent name [] q away = All-nil (λ n. bytes_eq n q ≡ false)
 names-absent name (x ∷ xs) q away = All-cons (λ n. bytes_eq n q ≡ false) (name x) (map name xs) (away x) (names-absent name xs q away)
 
-All-pick : {X : Type 0} (name : X → List ℕ) (P : List ℕ → Type 0) (xs : List X) (place : ℕ) → All (λ x. P (name x)) xs → place < length xs → P (get_or (map name xs) place [])
+pub All-pick : {X : Type 0} (name : X → List ℕ) (P : List ℕ → Type 0) (xs : List X) (place : ℕ) → All (λ x. P (name x)) xs → place < length xs → P (get_or (map name xs) place [])
 All-pick name P [] place all within = absurd (omega arith)
 All-pick name P (x ∷ xs) zero all within = All-head (λ y. P (name y)) x xs all
 All-pick name P (x ∷ xs) (suc place) all within = All-pick name P xs place (All-tail (λ y. P (name y)) x xs all) (omega arith)

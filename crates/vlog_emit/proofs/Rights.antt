@@ -75,7 +75,7 @@ module _ (fabric : Fabric) (within : IsWithin fabric) (state : State) (pins v : 
     unfolding nets_read
     cell-value lc k wires = atom-value false (get_or lc.ins k None) (λ n found. wires n (has-input lc.ins k n found))
 
-    lut-written : (lc : Lc) → ReadsWired (lut_entry lc) → right_value from (right_of fabric (lut_entry lc)) ≡ lut_value (is_connected fabric) (bit_in v) lc
+    pub lut-written : (lc : Lc) → ReadsWired (lut_entry lc) → right_value from (right_of fabric (lut_entry lc)) ≡ lut_value (is_connected fabric) (bit_in v) lc
     unfolding right_of lut_value
     lut-written lc wires =
         rw (cell-value lc 0 wires, cell-value lc 1 wires, cell-value lc 2 wires, cell-value lc 3 wires)

@@ -71,7 +71,7 @@ pub port-no_flip : (pin : Pin) (lc : Lc) → bytes_eq (port_name pin) (flip_name
 unfolding port_name flip_name
 port-no_flip pin lc = refl
 
-map-every : {A B : Type 0} (one two : A → B) → ((x : A) → one x ≡ two x) → (xs : List A) → map one xs ≡ map two xs
+pub map-every : {A B : Type 0} (one two : A → B) → ((x : A) → one x ≡ two x) → (xs : List A) → map one xs ≡ map two xs
 map-every one two same [] = refl
 map-every one two same (x ∷ xs) = rw (same x, map-every one two same xs) refl
 

@@ -6,3 +6,4 @@ pub mod Rights
 pub mod Settled
 pub mod Beginning
 pub mod Ticks
+pub mod Clocked

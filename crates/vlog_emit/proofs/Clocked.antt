@@ -72,6 +72,21 @@ memory-skips m before event (Read falling clock clock_enable enable target memor
 memory-skips m before event (Write falling clock clock_enable enable memory address mask bits) away given = absurd cc
 memory-skips m before event (Start memory k word) away given = refl
 
+-- the word of a memory that may be missing, which then leaves the register as it is
+abbrev pub read_from : Option (List ℕ) → ℕ → ℕ → ℕ
+read_from (Some memory) address old = get_or memory address 0
+read_from None address old = old
+
+put_read-own : (name : List ℕ) (found : Option (List ℕ)) (address old : ℕ) (rest : List (List ℕ × ℕ))
+    → put_read ((name, old) ∷ rest) name found address ≡ (name, read_from found address old) ∷ rest
+put_read-own name (Some memory) address old rest = rw (bytes-true name name refl) refl
+put_read-own name None address old rest = refl
+
+put_read-past : (name : List ℕ) (found : Option (List ℕ)) (address : ℕ) (entry : List ℕ × ℕ) (rest : List (List ℕ × ℕ)) → bytes_eq entry.0 name ≡ false
+    → put_read (entry ∷ rest) name found address ≡ entry ∷ put_read rest name found address
+put_read-past name (Some memory) address entry rest other = rw other refl
+put_read-past name None address entry rest other = refl
+
 module _ (m : Parts) (fabric : Fabric) (before : ModuleEntry) (event : ModuleEvent) where
   -- ---- what one item does
 
@@ -105,29 +120,25 @@ module _ (m : Parts) (fabric : Fabric) (before : ModuleEntry) (event : ModuleEve
   pub read_by : RamCell → Option (List ℕ) → ℕ → ℕ
   read_by ram clock old =
       if clock_test m.ports event ram.rneg clock && atom_value (readable before) (atom_or_1 fabric ram.rclke) && atom_value (readable before) (atom_or_0 fabric ram.re)
-      then get_or (words_of before.memories (memory_name ram)) (atoms_value (readable before) (port_atoms fabric ram.raddr)) 0
+      then read_from (value_in before.memories (memory_name ram)) (atoms_value (readable before) (port_atoms fabric ram.raddr)) old
       else old
 
-  -- the memory is there
-  abbrev HasMemory : RamCell → List ℕ → Type 0
-  HasMemory ram words = value_in before.memories (memory_name ram) ≡ Some words
-
-  pub read-own : (ram : RamCell) (words : List ℕ) (clock : Option (List ℕ)) (old : ℕ) (rest : List (List ℕ × ℕ)) → HasMemory ram words
+  pub read-own : (ram : RamCell) (clock : Option (List ℕ)) (old : ℕ) (rest : List (List ℕ × ℕ))
       → fold (word_step m before event) ((register_name ram, old) ∷ rest) (clocked clock (read_item fabric ram)) ≡ (register_name ram, read_by ram clock old) ∷ rest
   unfolding read_by
-  read-own ram words None old rest has = refl
-  read-own ram words (Some clock) old rest has =
+  read-own ram None old rest = refl
+  read-own ram (Some clock) old rest =
       elim (cases_Bool (is_clocked m event ram.rneg clock && atom_value (readable before) (atom_or_1 fabric ram.rclke) && atom_value (readable before) (atom_or_0 fabric ram.re))) [
-        | inl here ↦ rw (here, has, bytes-true (register_name ram) (register_name ram) refl) refl
+        | inl here ↦ rw here (put_read-own (register_name ram) (value_in before.memories (memory_name ram)) (atoms_value (readable before) (port_atoms fabric ram.raddr)) old rest)
         | inr away ↦ rw away refl
       ]
 
-  pub read-past : (ram : RamCell) (words : List ℕ) (clock : Option (List ℕ)) (entry : List ℕ × ℕ) (rest : List (List ℕ × ℕ)) → HasMemory ram words → bytes_eq entry.0 (register_name ram) ≡ false
+  pub read-past : (ram : RamCell) (clock : Option (List ℕ)) (entry : List ℕ × ℕ) (rest : List (List ℕ × ℕ)) → bytes_eq entry.0 (register_name ram) ≡ false
       → fold (word_step m before event) (entry ∷ rest) (clocked clock (read_item fabric ram)) ≡ entry ∷ fold (word_step m before event) rest (clocked clock (read_item fabric ram))
-  read-past ram words None entry rest has other = refl
-  read-past ram words (Some clock) entry rest has other =
+  read-past ram None entry rest other = refl
+  read-past ram (Some clock) entry rest other =
       elim (cases_Bool (is_clocked m event ram.rneg clock && atom_value (readable before) (atom_or_1 fabric ram.rclke) && atom_value (readable before) (atom_or_0 fabric ram.re))) [
-        | inl here ↦ rw (here, has, other) refl
+        | inl here ↦ rw here (put_read-past (register_name ram) (value_in before.memories (memory_name ram)) (atoms_value (readable before) (port_atoms fabric ram.raddr)) entry rest other)
         | inr away ↦ rw away refl
       ]
 

@@ -7,3 +7,4 @@ pub mod Settled
 pub mod Beginning
 pub mod Ticks
 pub mod Clocked
+pub mod Headline

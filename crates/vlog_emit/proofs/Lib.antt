@@ -8,3 +8,4 @@ pub mod Beginning
 pub mod Ticks
 pub mod Clocked
 pub mod Headline
+pub mod Apart

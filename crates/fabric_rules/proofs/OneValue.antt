@@ -22,7 +22,7 @@ use Rattle.fabric_rules.proofs.Settled.{Rules, ReadsNoOther, IsSettled, settled-
 
 -- ---- lists
 
-each_below-length : {A : Type 0} (n : ℕ) (given : ℕ → A) → length (each_below n given) ≡ n
+pub each_below-length : {A : Type 0} (n : ℕ) (given : ℕ → A) → length (each_below n given) ≡ n
 unfolding gathered_below
 each_below-length zero given = refl
 each_below-length (suc n) given = omega (arith, each_below-length n given, length-append (each_below n given) (given n ∷ []))

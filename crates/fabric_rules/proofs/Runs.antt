@@ -24,16 +24,16 @@ use Rattle.fabric_rules.specs.Values.{State, bit_in, is_connected, IsConsistent}
 use Rattle.fabric_rules.specs.Steps.{has_edge, flip_after, words_after, register_after, state_after, Event, Entry, output_values, IsEntry, Follows, start_state, IsFirst, FollowEach, IsRun}
 use Rattle.fabric_rules.specs.Clocks.{ClockEnd, User, cell_user, ram_users, users_at, users_of, clock_end}
 use Rattle.fabric_rules.specs.Clocks.ClockEnd.{at_pin, still, other}
-use Rattle.fabric_rules.specs.Faults.{end_fault, user_fault, clock_faults, fabric_fault}
+use Rattle.fabric_rules.specs.Faults.{end_fault, user_fault, clock_faults, fabric_fault, design_fault}
 use Rattle.fabric_rules.proofs.OneValue.{IsWithin, filter-has}
-use Rattle.fabric_rules.proofs.Taken.{taken-order, taken-value, taken-clocks}
+use Rattle.fabric_rules.proofs.Taken.{design-taken, taken-order, taken-value, taken-clocks}
 use Rattle.fabric_rules.proofs.Chains.{clock_end-leads, HasEndValue, clock-value}
 use Rattle.fabric_rules.proofs.Tests.{and-both}
-use Rattle.fabric_rules.proofs.Within.{All-gathered, All-item_if, All-if, All-single, All-over_tiles, All-numbered}
+use Rattle.fabric_rules.proofs.Within.{fabric-within, All-gathered, All-item_if, All-if, All-single, All-over_tiles, All-numbered}
 
 -- ---- lists
 
-contains-gathered : {A : Type 0} (n k : ℕ) (given : ℕ → List A) (item : A) → k < n → Contains (given k) item → Contains (gathered_below n given) item
+pub contains-gathered : {A : Type 0} (n k : ℕ) (given : ℕ → List A) (item : A) → k < n → Contains (given k) item → Contains (gathered_below n given) item
 unfolding gathered_below
 contains-gathered zero k given item within there = absurd (omega arith)
 contains-gathered (suc n) k given item within there =
@@ -44,7 +44,7 @@ contains-gathered (suc n) k given item within there =
           Contains-append_right (gathered_below n given) (given n) item (subst (λ place. Contains (given place) item) same there)
     ]
 
-contains-over_grid : {A : Type 0} (device : DeviceName) (given : ℕ → ℕ → List A) (x y : ℕ) (item : A)
+pub contains-over_grid : {A : Type 0} (device : DeviceName) (given : ℕ → ℕ → List A) (x y : ℕ) (item : A)
     → x < grid_width device → y < grid_height device → Contains (given x y) item → Contains (over_grid device given) item
 unfolding over_grid
 contains-over_grid device given x y item left low there =
@@ -396,3 +396,8 @@ module _ (device : DeviceName) (fabric : Fabric) (taken : fabric_fault device fa
           is = (first-is, rest.1);
           only = λ entries is. run-only events entries (first_entry ∷ rest.0) is (first-is, rest.1);
         }
+
+-- A database and an image that aren't refused have exactly one run for each list of events.
+pub design-run : (db : Database) (image : Configuration) → IsFit db → design_fault db image ≡ None → (events : List Event) → ExactlyOne (IsRun (fabric_of db image) events)
+design-run db image fit none events =
+    taken-run image.device (fabric_of db image) (design-taken db image none).fabric (fabric-placed db image) (fabric-within db image fit) events

@@ -62,7 +62,7 @@ three-same x y n a b c of_x of_y of_n of_a of_b of_c same =
     let rest = cut-same (decimal y) (decimal b) (decimal n) (decimal c) (number-digits y of_y) (number-digits b of_b) cut.1 in
     (decimal_injective x a of_x of_a cut.0, decimal_injective y b of_y of_b rest.0, decimal_injective n c of_n of_c rest.1)
 
-apart-from : (a b : List ℕ) → (a ≡ b → ⊥) → bytes_eq a b ≡ false
+pub apart-from : (a b : List ℕ) → (a ≡ b → ⊥) → bytes_eq a b ≡ false
 apart-from a b other = elim (cases_Bool (bytes_eq a b)) [ inl same ↦ absurd (other (bytes-same a b same)) | inr away ↦ away ]
 
 -- ---- lists that are made place by place
@@ -75,7 +75,7 @@ module _ {X : Type 0} (name : X → List ℕ) where
       Apart-append xs ys of_x.1 of_y (All-tail (λ x. All (λ y. bytes_eq (name x) (name y) ≡ false) ys) x xs cross))
 
   -- items of two places are apart
-  Apart-gathered : (P : X → Type 0) (key : X → ℕ) → ((a b : X) → P a → P b → (key a ≡ key b → ⊥) → bytes_eq (name a) (name b) ≡ false)
+  pub Apart-gathered : (P : X → Type 0) (key : X → ℕ) → ((a b : X) → P a → P b → (key a ≡ key b → ⊥) → bytes_eq (name a) (name b) ≡ false)
       → (n : ℕ) (given : ℕ → List X) → ((k : ℕ) → k < n → All (λ x. P x × (key x ≡ k)) (given k)) → ((k : ℕ) → k < n → Apart name (given k))
       → Apart name (gathered_below n given)
   unfolding gathered_below
@@ -89,16 +89,16 @@ module _ {X : Type 0} (name : X → List ℕ) where
       (gathered_below n given)
       (All-gathered (λ x. P x × (key x < n)) n given (λ k less. All-weaker (λ x. P x × (key x ≡ k)) (λ x. P x × (key x < n)) (λ x of_x. (of_x.0, omega (arith, of_x.1, less))) (given k) (at k (omega arith)))))
 
-  Apart-if : (passes : Bool) (xs : List X) → Apart name xs → Apart name (if passes then xs else [])
+  pub Apart-if : (passes : Bool) (xs : List X) → Apart name xs → Apart name (if passes then xs else [])
   Apart-if true xs apart = apart
   Apart-if false xs apart = tt
 
-  Apart-item_if : (passes : Bool) (x : X) → Apart name (item_if passes x)
+  pub Apart-item_if : (passes : Bool) (x : X) → Apart name (item_if passes x)
   Apart-item_if true x = (All-nil (λ y. bytes_eq (name x) (name y) ≡ false), tt)
   Apart-item_if false x = tt
 
   -- so are those of two tiles
-  Apart-over_tiles : (P : X → Type 0) (left low : X → ℕ) → ((a b : X) → P a → P b → (left a ≡ left b → ⊥) → bytes_eq (name a) (name b) ≡ false)
+  pub Apart-over_tiles : (P : X → Type 0) (left low : X → ℕ) → ((a b : X) → P a → P b → (left a ≡ left b → ⊥) → bytes_eq (name a) (name b) ≡ false)
       → ((a b : X) → P a → P b → (low a ≡ low b → ⊥) → bytes_eq (name a) (name b) ≡ false)
       → (device : DeviceName) (kind : TileKind) (given : ℕ → ℕ → List X)
       → ((x y : ℕ) → x < grid_width device → y < grid_height device → All (λ item. P item × (left item ≡ x) × (low item ≡ y)) (given x y))

@@ -194,6 +194,7 @@ pub record IsPorted (ram : RamCell) : Type 0 where
   pub write_address : length ram.waddr ≡ 8
   pub mask : length ram.mask ≡ 16
   pub written : length ram.wdata ≡ 16
+  pub read : length ram.rdata ≡ 16
 
 -- the fabric has such RAMs, and 256 words for each
 pub record IsStarted (fabric : Fabric) : Type 0 where

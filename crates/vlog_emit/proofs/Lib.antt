@@ -9,3 +9,6 @@ pub mod Ticks
 pub mod Clocked
 pub mod Headline
 pub mod Apart
+pub mod Configured
+pub mod Pads
+pub mod Design

@@ -1,10 +1,10 @@
 -- A fabric without a fault has exactly one run for each list of events. Whether a clock has an edge depends on the pins alone;
 -- so the next state is known before the values of the nets after the event are.
 use Rattle.std.proofs.Common.{◌≡◌, ℕ, zero, suc, ◌<◌, Bool, true, false, List, [], ◌∷◌, ◌++◌, length, map, get_or, set, replicate, refl, sym, ap, ◌∙◌, subst, arith, inl, inr}
-use Rattle.std.specs.Prelude.{All, Contains, Option, Some, None, filter, flat_map, not, ◌&&◌, ◌==◌}
+use Rattle.std.specs.Prelude.{All, Contains, Option, Some, None, filter, flat_map, ◌&&◌, ◌==◌}
 use Rattle.std.proofs.lemmas.Bool.{cases_lt}
 use Rattle.std.proofs.Common.{eq-eqb}
-use Rattle.std.proofs.lemmas.List.Elements.{All-nil, All-cons, All-head, All-tail, All-filter, All-contains, All-contains_itself, All-weaker, Contains-append_left, Contains-append_right}
+use Rattle.std.proofs.lemmas.List.Elements.{All-head, All-tail, All-filter, All-contains, All-contains_itself, All-weaker, Contains-append_left, Contains-append_right}
 use Rattle.plane_map.specs.declared.device.DeviceName.{DeviceName}
 use Rattle.plane_map.specs.declared.tile.TileKind.TheVariants.{Logic, RamB}
 use Rattle.plane_map.specs.Layout.{grid_width, grid_height}
@@ -14,12 +14,12 @@ use Rattle.ice_image.specs.Configuration.{Configuration}
 use Rattle.place_search.specs.Places.{gathered_below}
 use Rattle.fabric_rules.specs.declared.cell.Lc.{Lc}
 use Rattle.fabric_rules.specs.declared.ram.RamCell.{RamCell}
-use Rattle.fabric_rules.specs.declared.driver.ClockUser.TheVariants.{Cell, Read, Write}
+use Rattle.fabric_rules.specs.declared.driver.ClockUser.TheVariants.{Read, Write}
 use Rattle.fabric_rules.specs.Unique.{ExactlyOne}
 use Rattle.fabric_rules.specs.Tiles.{over_grid}
 use Rattle.fabric_rules.specs.Cells.{cell_bits, cell_with, used_cell, cells_at, cells_of}
 use Rattle.fabric_rules.specs.Rams.{is_ram_used, ram_at, rams_of}
-use Rattle.fabric_rules.specs.Fabric.{Fabric, numbered_from, numbered, inputs_of, flips_of, fabric_of}
+use Rattle.fabric_rules.specs.Fabric.{Fabric, numbered, inputs_of, flips_of, fabric_of}
 use Rattle.fabric_rules.specs.Values.{State, bit_in, is_connected, IsConsistent}
 use Rattle.fabric_rules.specs.Steps.{has_edge, flip_after, words_after, register_after, state_after, Event, Entry, output_values, IsEntry, Follows, start_state, IsFirst, FollowEach, IsRun}
 use Rattle.fabric_rules.specs.Clocks.{ClockEnd, User, cell_user, ram_users, users_at, users_of, clock_end}

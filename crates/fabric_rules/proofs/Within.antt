@@ -1,9 +1,8 @@
 -- The fabric of a database whose lines name nets of the device has no net past their number.
-use Rattle.std.proofs.Common.{◌≡◌, ℕ, zero, suc, ◌+◌, ◌<◌, Bool, true, false, cond, List, [], ◌∷◌, ◌++◌, map, refl, subst, arith, inl, inr}
-use Rattle.std.specs.Prelude.{All, Contains, not, Option, Some, None, find, filter, flat_map, option_map, option_and_then, option_to_list, get_or, if◌then◌else◌}
-use Rattle.std.proofs.lemmas.Bool.{cases_Bool, cases_lt}
-use Rattle.std.proofs.lemmas.List.Elements.{All-nil, All-cons, All-head, All-tail, All-append, All-map, All-filter, All-weaker, All-contains, All-get_or}
-use Rattle.std.proofs.lemmas.List.{get_or_past}
+use Rattle.std.proofs.Common.{◌≡◌, ℕ, zero, suc, ◌+◌, ◌<◌, Bool, true, false, List, [], ◌∷◌, ◌++◌, subst, arith, inl, inr}
+use Rattle.std.specs.Prelude.{All, not, Option, Some, None, find, filter, flat_map, option_map, option_and_then, option_to_list, get_or, if◌then◌else◌}
+use Rattle.std.proofs.lemmas.Bool.{cases_Bool}
+use Rattle.std.proofs.lemmas.List.Elements.{All-nil, All-cons, All-head, All-tail, All-append, All-map, All-filter, All-weaker, All-contains}
 use Rattle.plane_map.specs.declared.device.DeviceName.{DeviceName}
 use Rattle.plane_map.specs.declared.tile.TileKind.{TileKind}
 use Rattle.plane_map.specs.declared.tile.TileKind.TheVariants.{Io, Logic, RamB}
@@ -26,7 +25,7 @@ use Rattle.fabric_rules.specs.declared.pin.GlobalNet.{GlobalNet}
 use Rattle.fabric_rules.specs.declared.pin.GlobalFrom.{GlobalFrom}
 use Rattle.fabric_rules.specs.declared.pin.GlobalFrom.TheVariants.{Pad, Fabout}
 use Rattle.fabric_rules.specs.declared.driver.Driver.{Driver}
-use Rattle.fabric_rules.specs.On.{is_link_on, is_function_on}
+use Rattle.fabric_rules.specs.On.{is_link_on}
 use Rattle.fabric_rules.specs.Tiles.{over_grid, over_tiles, at_kind, each_below, item_if}
 use Rattle.fabric_rules.specs.Nets.{net_named}
 use Rattle.fabric_rules.specs.Cells.{cell_bits, cell_with, used_cell, cells_at, cells_of, set_with, sets_at, sets_of, carry_in_net}

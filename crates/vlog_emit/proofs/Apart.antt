@@ -1,29 +1,19 @@
 -- The names of a configured fabric's parts are apart: no two pins, cells or RAMs stand at one place.
-use Rattle.std.proofs.Common.{◌≡◌, ◌≢◌, ℕ, zero, suc, ◌+◌, ◌^◌, ◌<◌, ◌≤◌, Bool, true, false, cond, List, [], ◌∷◌, ◌++◌, length, map, get_or, refl, sym, ap, ◌∙◌, subst, arith, inl, inr}
-use Rattle.std.specs.Prelude.{All, Option, Some, None, bytes_eq, codes, decimal, if◌then◌else◌}
+use Rattle.std.proofs.Common.{◌≡◌, ℕ, zero, suc, ◌^◌, ◌<◌, Bool, true, false, List, [], ◌∷◌, ◌++◌, refl, subst, arith, inl, inr}
+use Rattle.std.specs.Prelude.{All, bytes_eq, decimal, if◌then◌else◌}
 use Rattle.std.specs.Char.{digit_value}
 use Rattle.std.specs.Str.Parse.{AllDigits}
 use Rattle.std.proofs.lemmas.Bool.{cases_Bool}
 use Rattle.std.proofs.lemmas.Fmt.{decimal_injective, decimal_is_IsNumeral}
-use Rattle.std.proofs.lemmas.List.Elements.{All-nil, All-cons, All-head, All-tail, All-append, All-weaker}
+use Rattle.std.proofs.lemmas.List.Elements.{All-nil, All-head, All-tail, All-append, All-weaker}
 use Rattle.plane_map.specs.declared.device.DeviceName.{DeviceName}
-use Rattle.plane_map.specs.declared.device.DeviceName.TheVariants.{K1, K8}
 use Rattle.plane_map.specs.declared.tile.TileKind.{TileKind}
-use Rattle.plane_map.specs.declared.tile.TileKind.TheVariants.{Io, Logic, RamB}
 use Rattle.plane_map.specs.Layout.{kind_of, grid_width, grid_height}
-use Rattle.ice_image.specs.Configuration.{Configuration}
 use Rattle.chipdb_lines.specs.Statements.{is_kind_there}
-use Rattle.chipdb_reader.specs.Database.{Database}
 use Rattle.place_search.specs.Places.{gathered_below}
-use Rattle.fabric_rules.specs.declared.cell.Lc.{Lc}
-use Rattle.fabric_rules.specs.declared.ram.RamCell.{RamCell}
-use Rattle.fabric_rules.specs.declared.pin.Pin.{Pin}
 use Rattle.fabric_rules.specs.Tiles.{over_grid, over_tiles, at_kind, item_if}
-use Rattle.fabric_rules.specs.Cells.{cell_bits, cell_with, used_cell, cells_at, cells_of}
-use Rattle.fabric_rules.specs.Rams.{is_ram_used, ram_at, rams_of}
-use Rattle.fabric_rules.specs.Pins.{pintype_of, pin_with, port_at, pins_of}
-use Rattle.fabric_rules.proofs.Within.{All-gathered, All-item_if, All-if, All-single}
-use Rattle.vlog_emit.specs.Names.{two_numbers, three_numbers, port_name, flip_name, register_name, memory_name}
+use Rattle.fabric_rules.proofs.Within.{All-gathered, All-if}
+use Rattle.vlog_emit.specs.Names.{two_numbers, three_numbers}
 use Rattle.vlog_emit.proofs.Lists.{Apart, bytes-same}
 
 -- ---- numbers in names
@@ -70,9 +60,10 @@ apart-from a b other = elim (cases_Bool (bytes_eq a b)) [ inl same ↦ absurd (o
 module _ {X : Type 0} (name : X → List ℕ) where
   Apart-append : (xs ys : List X) → Apart name xs → Apart name ys → All (λ x. All (λ y. bytes_eq (name x) (name y) ≡ false) ys) xs → Apart name (xs ++ ys)
   Apart-append [] ys of_x of_y cross = of_y
-  Apart-append (x ∷ xs) ys of_x of_y cross =
-      (All-append (λ y. bytes_eq (name x) (name y) ≡ false) xs ys of_x.0 (All-head (λ x. All (λ y. bytes_eq (name x) (name y) ≡ false) ys) x xs cross),
-      Apart-append xs ys of_x.1 of_y (All-tail (λ x. All (λ y. bytes_eq (name x) (name y) ≡ false) ys) x xs cross))
+  Apart-append (x ∷ xs) ys of_x of_y cross = (
+    All-append (λ y. bytes_eq (name x) (name y) ≡ false) xs ys of_x.0 (All-head (λ x. All (λ y. bytes_eq (name x) (name y) ≡ false) ys) x xs cross),
+    Apart-append xs ys of_x.1 of_y (All-tail (λ x. All (λ y. bytes_eq (name x) (name y) ≡ false) ys) x xs cross),
+  )
 
   -- items of two places are apart
   pub Apart-gathered : (P : X → Type 0) (key : X → ℕ) → ((a b : X) → P a → P b → (key a ≡ key b → ⊥) → bytes_eq (name a) (name b) ≡ false)

@@ -1,7 +1,7 @@
 -- The start of a written module: registers are 0, and memories have the words of the image.
-use Rattle.std.proofs.Common.{◌≡◌, ◌≢◌, ℕ, zero, suc, ◌+◌, ◌<◌, ◌≤◌, Bool, true, false, cond, List, [], ◌∷◌, ◌++◌, length, map, get_or, set, fold, replicate, refl, sym, ap, ◌∙◌, subst, arith, inl, inr, append_assoc, length-set, get_or-set_same, get_or-set_other, ext_get_or}
-use Rattle.std.specs.Prelude.{All, Contains, Option, Some, None, filter, flat_map, bytes_eq, not}
-use Rattle.std.proofs.lemmas.Bool.{cases_Bool, cases_lt, cases_eq}
+use Rattle.std.proofs.Common.{◌≡◌, ◌≢◌, ℕ, zero, suc, ◌<◌, ◌≤◌, Bool, false, List, [], ◌∷◌, ◌++◌, length, map, get_or, set, fold, replicate, refl, sym, ap, ◌∙◌, subst, arith, inl, inr, append_assoc, length-set, get_or-set_same, get_or-set_other, ext_get_or}
+use Rattle.std.specs.Prelude.{All, filter, flat_map, bytes_eq, not}
+use Rattle.std.proofs.lemmas.Bool.{cases_Bool, cases_eq}
 use Rattle.std.proofs.lemmas.List.{length_push, length-map, length-replicate}
 use Rattle.std.proofs.lemmas.List.Sums.{fold-append}
 use Rattle.std.proofs.lemmas.List.Elements.{All-head, All-tail}
@@ -11,21 +11,19 @@ use Rattle.place_search.specs.Places.{gathered_below}
 use Rattle.bit_plane.specs.BitList.{word_of}
 use Rattle.vlog_module.specs.declared.item.Item.{Item}
 use Rattle.vlog_module.specs.declared.item.Item.TheVariants.{Register, Word, Memory, Wire, Assign, Flip, Read, Write, Start}
-use Rattle.vlog_cycle.specs.Entries.{put}
-use Rattle.vlog_cycle.specs.Named.{names_of, values_of}
-use Rattle.vlog_cycle.specs.Run.{input_start, register_start, word_start, memory_start, words_of, put_word, start_step, settled, start}
+use Rattle.vlog_cycle.specs.Run.{input_start, register_start, word_start, memory_start, start_step, start}
 use Rattle.fabric_rules.specs.declared.cell.Lc.{Lc}
 use Rattle.fabric_rules.specs.declared.ram.RamCell.{RamCell}
 use Rattle.fabric_rules.specs.declared.pin.Pin.{Pin}
 use Rattle.fabric_rules.specs.Tiles.{each_below}
-use Rattle.fabric_rules.specs.Fabric.{Fabric, numbered_from, numbered, inputs_of, outputs_of, flips_of}
-use Rattle.fabric_rules.specs.Steps.{Entry, IsEntry, start_state, IsFirst}
+use Rattle.fabric_rules.specs.Fabric.{Fabric, numbered_from, numbered, inputs_of, flips_of}
+use Rattle.fabric_rules.specs.Steps.{Entry, start_state, IsFirst}
 use Rattle.fabric_rules.specs.Wiring.{wiring_of, IsWriteOrder}
 use Rattle.fabric_rules.proofs.OneValue.{IsWithin}
-use Rattle.vlog_emit.specs.Names.{port_name, flip_name, register_name, memory_name, wire_name}
+use Rattle.vlog_emit.specs.Names.{port_name, flip_name, register_name, memory_name}
 use Rattle.vlog_emit.specs.Written.{port_of, flip_register, read_register, ram_memory, start_item, start_items, items_of, module_of}
 use Rattle.vlog_emit.specs.Matching.{HasValues, Matches}
-use Rattle.vlog_emit.proofs.Lists.{Apart, Apart-numbered, bytes-true, map-map, map-numbered, made-names, made-values}
+use Rattle.vlog_emit.proofs.Lists.{Apart-numbered, bytes-true, map-map, map-numbered, made-names, made-values}
 use Rattle.vlog_emit.proofs.Sections.{is_in, Skips, fold-section, flat_map-section, registers-section, words-section, memories-section, starts-section}
 use Rattle.vlog_emit.proofs.Fills.{FillsOwn, filled}
 use Rattle.vlog_emit.proofs.Settled.{IsWritable, Holding, holding-moved, settled-matches}

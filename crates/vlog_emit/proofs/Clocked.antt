@@ -1,37 +1,31 @@
 -- What flip-flops and RAM ports become in the module at an event is what they become in the fabric.
-use Rattle.std.proofs.Common.{◌≡◌, ℕ, zero, suc, ◌+◌, ◌<◌, ◌≤◌, Bool, true, false, cond, List, [], ◌∷◌, ◌++◌, length, map, get_or, set, fold, refl, sym, ap, ◌∙◌, subst, arith, inl, inr}
-use Rattle.std.specs.Prelude.{All, Contains, Option, Some, None, filter, flat_map, bytes_eq, not, unwrap_or, ◌&&◌, if◌then◌else◌}
+use Rattle.std.proofs.Common.{◌≡◌, ℕ, Bool, true, false, List, [], ◌∷◌, map, get_or, set, fold, refl, sym, ap, ◌∙◌, inl, inr}
+use Rattle.std.specs.Prelude.{Option, Some, None, bytes_eq, not, ◌&&◌, if◌then◌else◌}
 use Rattle.std.proofs.lemmas.Bool.{cases_Bool}
 use Rattle.std.proofs.lemmas.List.{length-map, map-set}
-use Rattle.std.proofs.lemmas.List.Elements.{All-nil, All-cons, All-head, All-tail, All-weaker, All-contains_itself, All-contains}
 use Rattle.std.proofs.Math.ListN.{get_or-map}
 use Rattle.bit_plane.specs.BitList.{word_of}
-use Rattle.bit_plane.specs.Rows.{row_from}
-use Rattle.vlog_module.specs.declared.item.Item.{Item}
 use Rattle.vlog_module.specs.declared.item.Item.TheVariants.{Register, Word, Memory, Wire, Assign, Flip, Read, Write, Start}
 use Rattle.vlog_module.specs.Maps.{value_in}
 use Rattle.vlog_module.specs.Parts.{Parts}
 use Rattle.vlog_cycle.specs.declared.event.Event.{Event as ModuleEvent}
-use Rattle.vlog_cycle.specs.Entries.{Entry as ModuleEntry, put}
-use Rattle.vlog_cycle.specs.Named.{names_of, values_of}
-use Rattle.vlog_cycle.specs.Values.{Readable, atom_value, atoms_value, lut_value, number_of}
-use Rattle.vlog_cycle.specs.Run.{readable, is_clocked, register_step, word_step, memory_step, put_read, put_word, words_of, masked}
+use Rattle.vlog_cycle.specs.Entries.{Entry as ModuleEntry}
+use Rattle.vlog_cycle.specs.Values.{atom_value, atoms_value, lut_value}
+use Rattle.vlog_cycle.specs.Run.{readable, is_clocked, register_step, word_step, memory_step, put_read, words_of, masked}
 use Rattle.fabric_rules.specs.declared.cell.Lc.{Lc}
 use Rattle.fabric_rules.specs.declared.ram.RamCell.{RamCell}
-use Rattle.fabric_rules.specs.Fabric.{Fabric, numbered_from, numbered, flips_of}
+use Rattle.fabric_rules.specs.Fabric.{Fabric}
 use Rattle.fabric_rules.specs.Drivers.{is_driven}
-use Rattle.fabric_rules.specs.Drivers.Rule.{lut_entry}
 use Rattle.fabric_rules.specs.Values.{State, input_value, input_or_0, input_or_1, bit_in, is_connected, IsConsistent}
 use Rattle.fabric_rules.specs.Values.{lut_value as cell_value}
 use Rattle.fabric_rules.specs.Steps.{has_edge, next_flip, address_of, word_at, written, shown, next_words, next_register, flip_after, words_after, register_after}
 use Rattle.fabric_rules.proofs.OneValue.{IsWithin}
 use Rattle.vlog_emit.specs.Names.{flip_name, register_name, memory_name}
 use Rattle.vlog_emit.specs.Rights.{input_atom, right_of, atom_or_0, atom_or_1, port_atoms, cell_lut}
-use Rattle.vlog_emit.specs.Written.{clocked, clock_name, flip_item, flip_items, read_item, read_items, write_item, write_items}
+use Rattle.vlog_emit.specs.Written.{clocked, clock_name, flip_item, read_item, write_item}
 use Rattle.vlog_emit.proofs.Lists.{bytes-true, map-map}
 use Rattle.vlog_emit.proofs.Bits.{number_of-word_of, masked-same}
 use Rattle.vlog_emit.proofs.Sections.{Skips}
-use Rattle.vlog_emit.proofs.Fills.{FillsOwn}
 use Rattle.vlog_emit.proofs.Rights.{Gives, atom-value, lut-written}
 use Rattle.vlog_emit.proofs.Settled.{map-every}
 use Rattle.vlog_emit.proofs.Beginning.{word-pick, IsPorted}
@@ -265,7 +259,17 @@ module _ (m : Parts) (fabric : Fabric) (within : IsWithin fabric) (state : State
       let put_in : set (map word_of words) address (word_of (written connected (bit_in v) place.1 (word_at words address)))
       ≡ map word_of (set words address (written connected (bit_in v) place.1 (word_at words address))) =
       sym (map-set word_of words address (written connected (bit_in v) place.1 (word_at words address))) in
-      rw (ticks, input-value true place.1.wclke, input-value false place.1.we, has, ports-value place.1.waddr, ports-value place.1.mask, ports-value place.1.wdata,
-      word-pick words address, word-written place.1 (word_at words address) ported, put_in)
+      rw (
+        ticks,
+        input-value true place.1.wclke,
+        input-value false place.1.we,
+        has,
+        ports-value place.1.waddr,
+        ports-value place.1.mask,
+        ports-value place.1.wdata,
+        word-pick words address,
+        word-written place.1 (word_at words address) ported,
+        put_in,
+      )
       (port-choice (map word_of) (has_edge place.1.wneg place.1.wclk (bit_in v) after) (input_or_1 connected (bit_in v) place.1.wclke) (input_or_0 connected (bit_in v) place.1.we)
       (set words address (written connected (bit_in v) place.1 (word_at words address))) words)

@@ -1,13 +1,11 @@
 -- What holds of the fabric that a database and an image configure: its names are apart, its RAMs have all their ports and start
 -- words, and its drivers name parts that it has.
-use Rattle.std.proofs.Common.{◌≡◌, ℕ, zero, suc, ◌+◌, ◌^◌, ◌<◌, ◌≤◌, Bool, true, false, cond, List, [], ◌∷◌, ◌++◌, length, map, get_or, refl, sym, ap, ◌∙◌, subst, arith, inl, inr}
-use Rattle.std.specs.Prelude.{All, Contains, Option, Some, None, bytes_eq, codes, decimal, not, filter, flat_map, if◌then◌else◌}
-use Rattle.std.proofs.lemmas.Bool.{cases_Bool, cases_lt}
+use Rattle.std.proofs.Common.{◌≡◌, ℕ, zero, suc, ◌+◌, ◌<◌, Bool, true, false, List, [], ◌∷◌, ◌++◌, length, refl, sym, ap, ◌∙◌, subst, arith}
+use Rattle.std.specs.Prelude.{All, Contains, Option, Some, None, bytes_eq, not, filter, flat_map, if◌then◌else◌}
 use Rattle.std.proofs.lemmas.List.{length-append}
-use Rattle.std.proofs.lemmas.List.Elements.{All-nil, All-cons, All-head, All-tail, All-append, All-map, All-filter, All-weaker, All-contains}
+use Rattle.std.proofs.lemmas.List.Elements.{All-nil, All-cons, All-head, All-tail, All-append, All-weaker, All-contains}
 use Rattle.plane_map.specs.declared.device.DeviceName.{DeviceName}
 use Rattle.plane_map.specs.declared.device.DeviceName.TheVariants.{K1, K8}
-use Rattle.plane_map.specs.declared.tile.TileKind.{TileKind}
 use Rattle.plane_map.specs.declared.tile.TileKind.TheVariants.{Io, Logic, RamB}
 use Rattle.plane_map.specs.Layout.{kind_of, grid_width, grid_height}
 use Rattle.ice_image.specs.Configuration.{Configuration}
@@ -15,18 +13,17 @@ use Rattle.chipdb_lines.specs.Statements.{is_kind_there}
 use Rattle.chipdb_reader.specs.Database.{Database}
 use Rattle.place_search.specs.Places.{gathered_below}
 use Rattle.fabric_rules.specs.declared.cell.Lc.{Lc}
-use Rattle.fabric_rules.specs.declared.cell.CarrySet.{CarrySet}
 use Rattle.fabric_rules.specs.declared.ram.RamCell.{RamCell}
 use Rattle.fabric_rules.specs.declared.pin.Pin.{Pin}
 use Rattle.fabric_rules.specs.declared.pin.GlobalNet.{GlobalNet}
 use Rattle.fabric_rules.specs.declared.pin.GlobalFrom.{GlobalFrom}
 use Rattle.fabric_rules.specs.declared.pin.GlobalFrom.TheVariants.{Pad, Fabout}
 use Rattle.fabric_rules.specs.declared.driver.Driver.{Driver}
-use Rattle.fabric_rules.specs.Tiles.{over_grid, over_tiles, at_kind, each_below, item_if}
+use Rattle.fabric_rules.specs.Tiles.{over_grid}
 use Rattle.fabric_rules.specs.Cells.{cell_bits, cell_with, used_cell, cells_at, cells_of}
 use Rattle.fabric_rules.specs.Rams.{is_ram_used, ram_at, rams_of, start_word, start_words}
 use Rattle.fabric_rules.specs.Pins.{pintype_of, is_port, pin_with, port_at, pins_of}
-use Rattle.fabric_rules.specs.Fabric.{Fabric, Buffer, numbered_from, numbered, inputs_of, flips_of, fabric_of}
+use Rattle.fabric_rules.specs.Fabric.{Fabric, numbered_from, numbered, inputs_of, flips_of, fabric_of}
 use Rattle.fabric_rules.specs.Drivers.{Rule, Drive, drives_if, pin_drives, back_drives, lut_drives, flip_drives, lout_drives, carry_drives, set_drives, ram_drive, ram_drives, pad_place, global_rule, global_drives, buffer_drives, drives_of}
 use Rattle.fabric_rules.specs.Drivers.Rule.{pin_bit, sent_back, lut_entry, flip_bit, carry_out, one, register_bit, copied}
 use Rattle.fabric_rules.proofs.OneValue.{each_below-length}
@@ -34,7 +31,6 @@ use Rattle.fabric_rules.proofs.Within.{All-flat_map, All-gathered, All-item_if, 
 use Rattle.vlog_emit.specs.Names.{two_numbers, three_numbers, port_name, flip_name, register_name, memory_name}
 use Rattle.vlog_emit.proofs.Lists.{Apart}
 use Rattle.vlog_emit.proofs.Rights.{IsPlaceIn}
-use Rattle.vlog_emit.proofs.Settled.{IsWritable}
 use Rattle.vlog_emit.proofs.Beginning.{IsStarted, IsPorted}
 use Rattle.vlog_emit.proofs.Apart.{IsSmall, two-same, three-same, apart-from, Apart-gathered, Apart-item_if, Apart-if, Apart-over_tiles}
 
@@ -276,7 +272,6 @@ module _ (fabric : Fabric) where
       (All-weaker (λ (port : ℕ × Option ℕ). port.0 < 0 + length place.1.rdata) (λ (port : ℕ × Option ℕ). port.0 < 16) (λ port found. omega (arith, found, there.1)) (numbered place.1.rdata) (places-below 0 place.1.rdata))
 
   from-there : (from : GlobalFrom) → IsPadIn (inputs_of fabric) from → IsPlaceIn fabric (global_rule (inputs_of fabric) from)
-
   from-there (Pad x y n) there = there
   from-there (Fabout net) there = tt
 

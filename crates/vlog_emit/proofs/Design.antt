@@ -1,6 +1,6 @@
 -- Where a database and an image aren't refused, the module that is written for them is their fabric.
-use Rattle.std.proofs.Common.{◌≡◌, ℕ, ◌^◌, ◌≤◌, List, length, map, refl, sym, subst}
-use Rattle.std.specs.Prelude.{All, Option, None}
+use Rattle.std.proofs.Common.{◌≡◌, ℕ, ◌^◌, ◌≤◌, List, length, map}
+use Rattle.std.specs.Prelude.{All, None}
 use Rattle.std.specs.List.{AllZip}
 use Rattle.std.proofs.lemmas.List.Elements.{All-weaker}
 use Rattle.ice_image.specs.Configuration.{Configuration}
@@ -8,9 +8,7 @@ use Rattle.chipdb_reader.specs.Database.{Database}
 use Rattle.chipdb_reader.specs.Fit.{IsFit}
 use Rattle.vlog_cycle.specs.Run.{module_run}
 use Rattle.fabric_rules.specs.declared.pin.GlobalNet.{GlobalNet}
-use Rattle.fabric_rules.specs.Cells.{cells_of}
 use Rattle.fabric_rules.specs.Rams.{rams_of}
-use Rattle.fabric_rules.specs.Pins.{pins_of, globals_of}
 use Rattle.fabric_rules.specs.Fabric.{inputs_of, fabric_of}
 use Rattle.fabric_rules.specs.Steps.{Event, Entry, IsRun}
 use Rattle.fabric_rules.specs.Wiring.{wiring_of, IsWriteOrder}
@@ -18,10 +16,9 @@ use Rattle.fabric_rules.specs.Faults.{design_fault}
 use Rattle.fabric_rules.proofs.Within.{fabric-within}
 use Rattle.fabric_rules.proofs.Taken.{design-taken}
 use Rattle.fabric_rules.proofs.Runs.{fabric-placed}
-use Rattle.vlog_emit.specs.Names.{port_name, flip_name, register_name, memory_name}
+use Rattle.vlog_emit.specs.Names.{register_name, memory_name}
 use Rattle.vlog_emit.specs.Written.{module_of}
 use Rattle.vlog_emit.specs.Matching.{Matches, module_event}
-use Rattle.vlog_emit.proofs.Lists.{Apart}
 use Rattle.vlog_emit.proofs.Settled.{IsWritable}
 use Rattle.vlog_emit.proofs.Beginning.{IsPorted}
 use Rattle.vlog_emit.proofs.Configured.{IsPadIn, ports-apart, cells-apart, rams-apart, register-places, memory-places, fabric-started, drives-there}

@@ -1,5 +1,5 @@
 -- Items that change the values of names, each name by its own items.
-use Rattle.std.proofs.Common.{◌≡◌, ℕ, zero, suc, Bool, true, false, cond, List, [], ◌∷◌, ◌++◌, map, fold, refl, sym, ap, ◌∙◌, subst}
+use Rattle.std.proofs.Common.{◌≡◌, ℕ, false, List, [], ◌∷◌, map, fold, refl, sym, ap, ◌∙◌}
 use Rattle.std.specs.Prelude.{All, flat_map, bytes_eq}
 use Rattle.std.proofs.lemmas.List.Sums.{fold-append}
 use Rattle.std.proofs.lemmas.List.Elements.{All-head, All-tail}

@@ -1,6 +1,6 @@
 -- The run of the written module and the run of the fabric match after the start and after each event of each list.
-use Rattle.std.proofs.Common.{◌≡◌, ℕ, zero, suc, ◌+◌, ◌<◌, ◌≤◌, Bool, true, false, cond, List, [], ◌∷◌, ◌++◌, length, map, get_or, set, fold, refl, sym, ap, ◌∙◌, subst, arith, inl, inr}
-use Rattle.std.specs.Prelude.{All, Contains, Option, Some, None, filter, flat_map, bytes_eq, not, if◌then◌else◌}
+use Rattle.std.proofs.Common.{◌≡◌, ℕ, zero, suc, ◌+◌, ◌<◌, Bool, true, false, List, [], ◌∷◌, ◌++◌, length, map, get_or, set, fold, refl, sym, ap, ◌∙◌, subst, arith, inl, inr}
+use Rattle.std.specs.Prelude.{All, Contains, Option, Some, None, flat_map}
 use Rattle.std.specs.List.{AllZip}
 use Rattle.std.proofs.lemmas.Bool.{cases_Bool}
 use Rattle.std.proofs.lemmas.List.{length-map, length_push, set-get_or}
@@ -12,27 +12,24 @@ use Rattle.plane_map.specs.declared.device.DeviceName.{DeviceName}
 use Rattle.bit_plane.specs.BitList.{word_of}
 use Rattle.vlog_module.specs.Maps.{value_in}
 use Rattle.vlog_module.specs.Parts.{Parts}
-use Rattle.vlog_module.specs.declared.item.Item.{Item}
-use Rattle.vlog_cycle.specs.declared.event.Event.{Event as ModuleEvent}
 use Rattle.vlog_cycle.specs.Entries.{Entry as ModuleEntry}
 use Rattle.vlog_cycle.specs.Named.{names_of, values_of}
 use Rattle.vlog_cycle.specs.Run.{readable, register_step, word_step, memory_step, with_input, changed, is_same_bit, input_bit, followed, run_from, start, module_run}
 use Rattle.fabric_rules.specs.declared.cell.Lc.{Lc}
 use Rattle.fabric_rules.specs.declared.ram.RamCell.{RamCell}
-use Rattle.fabric_rules.specs.declared.pin.Pin.{Pin}
-use Rattle.fabric_rules.specs.Fabric.{Fabric, numbered_from, numbered, inputs_of, outputs_of, flips_of}
+use Rattle.fabric_rules.specs.Fabric.{Fabric, numbered_from, numbered, inputs_of, flips_of}
 use Rattle.fabric_rules.specs.Drivers.{is_driven}
-use Rattle.fabric_rules.specs.Values.{State, bit_in, is_connected, IsConsistent}
-use Rattle.fabric_rules.specs.Steps.{has_edge, flip_after, words_after, register_after, state_after, Event, Entry, IsEntry, Follows, IsFirst, FollowEach, IsRun}
+use Rattle.fabric_rules.specs.Values.{State, bit_in, is_connected}
+use Rattle.fabric_rules.specs.Steps.{has_edge, flip_after, words_after, register_after, state_after, Event, Entry, IsEntry, Follows, FollowEach, IsRun}
 use Rattle.fabric_rules.specs.Wiring.{wiring_of, IsWriteOrder}
 use Rattle.fabric_rules.specs.Faults.{fabric_fault}
 use Rattle.fabric_rules.proofs.OneValue.{IsWithin}
 use Rattle.fabric_rules.proofs.Within.{All-numbered}
 use Rattle.fabric_rules.proofs.Runs.{IsPlaced, IsClocked, clock_bit, flip-good, read-good, write-good, entry-one, state-clocked}
 use Rattle.vlog_emit.specs.Names.{port_name, flip_name, register_name, memory_name}
-use Rattle.vlog_emit.specs.Written.{clock_name, flip_items, read_items, write_items, port_of, items_of, module_of}
+use Rattle.vlog_emit.specs.Written.{clock_name, flip_items, read_items, write_items, items_of, module_of}
 use Rattle.vlog_emit.specs.Matching.{HasValues, Matches, module_event}
-use Rattle.vlog_emit.proofs.Lists.{Apart, Apart-filter, Apart-numbered, flat_map-numbered, map-map, map-same, entry_at, entries-are, made-names, made-values, value_in-at}
+use Rattle.vlog_emit.proofs.Lists.{Apart-filter, Apart-numbered, flat_map-numbered, map-map, map-same, entries-are, made-names, made-values, value_in-at}
 use Rattle.vlog_emit.proofs.Sections.{fold-section, flips-section, reads-section, writes-section}
 use Rattle.vlog_emit.proofs.Fills.{FillsOwn, filled}
 use Rattle.vlog_emit.proofs.Rights.{Gives}

@@ -1,13 +1,12 @@
 -- The sections of a written module, each by itself.
-use Rattle.std.proofs.Common.{◌≡◌, ℕ, zero, suc, ◌+◌, ◌<◌, Bool, true, false, cond, List, [], ◌∷◌, ◌++◌, length, map, get_or, fold, refl, sym, ap, ◌∙◌, subst, arith, inl, inr, append_assoc, append-nil}
+use Rattle.std.proofs.Common.{◌≡◌, ℕ, Bool, false, List, [], ◌∷◌, ◌++◌, map, get_or, fold, refl, ap, ◌∙◌, inl, inr, append-nil}
 use Rattle.std.specs.Prelude.{All, Option, Some, None, filter, flat_map, ◌==◌, if◌then◌else◌}
 use Rattle.std.proofs.lemmas.Bool.{cases_Bool}
 use Rattle.std.proofs.lemmas.List.Elements.{All-nil, All-cons, All-head, All-tail, All-append, filter-append}
-use Rattle.place_search.specs.Places.{gathered_below}
 use Rattle.vlog_module.specs.declared.item.Item.{Item}
 use Rattle.vlog_module.specs.WellFormed.{section_of}
-use Rattle.fabric_rules.specs.Fabric.{Fabric, numbered, inputs_of, outputs_of, flips_of}
-use Rattle.fabric_rules.proofs.Within.{All-flat_map, All-single, All-gathered}
+use Rattle.fabric_rules.specs.Fabric.{Fabric, numbered, outputs_of, flips_of}
+use Rattle.fabric_rules.proofs.Within.{All-single, All-gathered}
 use Rattle.vlog_emit.specs.Written.{clocked, clock_name, flip_register, read_register, ram_memory, class_wire, output_assign, flip_item, flip_items, read_item, read_items, write_item, write_items, start_item, start_items, items_of}
 
 -- an item of a section

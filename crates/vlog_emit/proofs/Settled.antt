@@ -1,6 +1,6 @@
 -- The wires and outputs of a module, once its inputs, registers and memories hold what the fabric's pins and state are.
-use Rattle.std.proofs.Common.{◌≡◌, ℕ, zero, suc, ◌+◌, ◌*◌, ◌^◌, ◌<◌, ◌≤◌, Bool, true, false, cond, List, [], ◌∷◌, ◌++◌, length, map, get_or, fold, refl, sym, ap, ◌∙◌, subst, arith, inl, inr, append_assoc, append-nil}
-use Rattle.std.specs.Prelude.{All, Contains, Option, Some, None, filter, flat_map, bytes_eq, codes, decimal, not}
+use Rattle.std.proofs.Common.{◌≡◌, ℕ, zero, suc, ◌^◌, ◌<◌, ◌≤◌, Bool, true, false, List, [], ◌∷◌, ◌++◌, length, map, get_or, fold, refl, sym, ap, ◌∙◌, subst, arith, inl, inr, append_assoc, append-nil}
+use Rattle.std.specs.Prelude.{All, Contains, Some, filter, flat_map, bytes_eq, codes, decimal, not}
 use Rattle.std.proofs.lemmas.Bool.{cases_Bool}
 use Rattle.std.proofs.lemmas.Fmt.{decimal_injective}
 use Rattle.std.proofs.lemmas.List.Elements.{All-nil, All-cons, All-head, All-tail, All-append, All-map, All-contains, All-push, All-weaker}
@@ -8,21 +8,16 @@ use Rattle.std.proofs.lemmas.List.Concat.{flat_map_single}
 use Rattle.std.proofs.lemmas.List.{map-append}
 use Rattle.std.proofs.Math.ListN.{get_or-map}
 use Rattle.bit_plane.specs.BitList.{word_of}
-use Rattle.vlog_module.specs.declared.item.Item.{Item}
 use Rattle.vlog_module.specs.declared.item.Item.TheVariants.{Register, Word, Memory, Wire, Assign, Flip, Read, Write, Start}
-use Rattle.vlog_module.specs.declared.modules.Port.{Port}
 use Rattle.vlog_module.specs.Maps.{value_in}
-use Rattle.vlog_module.specs.Parts.{Parts}
-use Rattle.vlog_cycle.specs.Entries.{Entry as ModuleEntry, put}
-use Rattle.vlog_cycle.specs.Named.{names_of, values_of}
+use Rattle.vlog_cycle.specs.Named.{names_of}
 use Rattle.vlog_cycle.specs.Values.{Readable, atom_value, right_value}
-use Rattle.vlog_cycle.specs.Run.{output_start, wire_step, output_step, readable, settled}
+use Rattle.vlog_cycle.specs.Run.{output_start, wire_step, output_step, settled}
 use Rattle.fabric_rules.specs.declared.cell.Lc.{Lc}
 use Rattle.fabric_rules.specs.declared.pin.Pin.{Pin}
-use Rattle.fabric_rules.specs.Joins.{class_of}
 use Rattle.fabric_rules.specs.Fabric.{Fabric, inputs_of, outputs_of, flips_of}
 use Rattle.fabric_rules.specs.Drivers.{Drive, drives_of, is_driven}
-use Rattle.fabric_rules.specs.Values.{State, input_value, input_or_0, bit_in, is_connected, IsConsistent}
+use Rattle.fabric_rules.specs.Values.{State, input_or_0, bit_in, is_connected, IsConsistent}
 use Rattle.fabric_rules.specs.Steps.{Entry, output_values, IsEntry}
 use Rattle.fabric_rules.specs.Wiring.{wiring_of, has, IsWriteOrder}
 use Rattle.fabric_rules.proofs.Order.{has-none, has-first, has-cases, Continues, order-continues}
@@ -30,11 +25,11 @@ use Rattle.fabric_rules.proofs.Order.Continues.{whole, next}
 use Rattle.fabric_rules.proofs.Facts.{has-left, has-right}
 use Rattle.fabric_rules.proofs.OneValue.{IsWithin, driven-is, count-is, driven-below}
 use Rattle.vlog_emit.specs.Names.{port_name, flip_name, register_name, memory_name, wire_name}
-use Rattle.vlog_emit.specs.Rights.{input_atom, atom_or_0, input_name, flip_at, register_at, class_right}
+use Rattle.vlog_emit.specs.Rights.{atom_or_0, input_name, flip_at, register_at, class_right}
 use Rattle.vlog_emit.specs.Written.{port_of, class_wire, output_assign, items_of, module_of}
 use Rattle.vlog_emit.specs.Matching.{HasValues, HasWires, Matches}
 use Rattle.vlog_emit.proofs.Lists.{Apart, Apart-filter, bytes-same, bytes-true, value_in-front, value_in-behind, value_in-at, names-absent, map-map}
-use Rattle.vlog_emit.proofs.Sections.{is_in, Skips, fold-section, wires-section, assigns-section}
+use Rattle.vlog_emit.proofs.Sections.{Skips, fold-section, wires-section, assigns-section}
 use Rattle.vlog_emit.proofs.Fills.{FillsOwn, filled}
 use Rattle.vlog_emit.proofs.Rights.{IsPlaceIn, Gives, atom-value, class-written}
 

@@ -1,26 +1,23 @@
 -- An event is the edge of a clocked item of the module exactly where it is an edge of the fabric's clock.
-use Rattle.std.proofs.Common.{◌≡◌, ◌≢◌, ℕ, zero, suc, ◌+◌, ◌<◌, ◌≤◌, Bool, true, false, cond, List, [], ◌∷◌, ◌++◌, length, map, get_or, set, refl, sym, ap, ◌∙◌, subst, arith, inl, inr, add-one, get_or-set_same, get_or-set_other, eq-eqb}
-use Rattle.std.specs.Prelude.{All, Contains, Option, Some, None, filter, bytes_eq, not, ◌&&◌, ◌==◌, if◌then◌else◌}
+use Rattle.std.proofs.Common.{◌≡◌, ◌≢◌, ℕ, zero, suc, ◌+◌, ◌<◌, Bool, true, false, List, [], ◌∷◌, length, map, get_or, set, refl, sym, ap, ◌∙◌, subst, arith, inl, inr, get_or-set_same, get_or-set_other, eq-eqb}
+use Rattle.std.specs.Prelude.{Option, Some, None, filter, bytes_eq, not, ◌&&◌, ◌==◌, if◌then◌else◌}
 use Rattle.std.proofs.lemmas.Bool.{cases_Bool, eqb-true}
-use Rattle.std.proofs.lemmas.List.{length-map}
 use Rattle.plane_map.specs.declared.device.DeviceName.{DeviceName}
 use Rattle.vlog_module.specs.Maps.{value_in}
-use Rattle.vlog_module.specs.Parts.{Parts}
 use Rattle.vlog_module.specs.declared.modules.Port.{Port}
 use Rattle.vlog_cycle.specs.declared.event.Event.{Event as ModuleEvent}
-use Rattle.vlog_cycle.specs.Named.{names_of, values_of}
+use Rattle.vlog_cycle.specs.Named.{names_of}
 use Rattle.vlog_cycle.specs.Numbered.{numbered as counted}
-use Rattle.vlog_cycle.specs.Run.{input_start, input_names, pin_of, is_pin, is_edge, is_clocked, is_same_bit}
+use Rattle.vlog_cycle.specs.Run.{input_names, pin_of, is_pin, is_edge, is_same_bit}
 use Rattle.fabric_rules.specs.declared.pin.Pin.{Pin}
-use Rattle.fabric_rules.specs.Joins.{class_of}
 use Rattle.fabric_rules.specs.Fabric.{Fabric, inputs_of}
-use Rattle.fabric_rules.specs.Drivers.{Rule, Drive, is_driven}
+use Rattle.fabric_rules.specs.Drivers.{Rule, is_driven}
 use Rattle.fabric_rules.specs.Drivers.Rule.{pin_bit, sent_back, lut_entry, flip_bit, carry_out, one, register_bit, copied}
-use Rattle.fabric_rules.specs.Values.{State, bit_in, IsConsistent}
+use Rattle.fabric_rules.specs.Values.{bit_in}
 use Rattle.fabric_rules.specs.Steps.{has_edge, Event, Entry, IsEntry, Follows}
-use Rattle.fabric_rules.specs.Clocks.{ClockEnd, Turn, LeadsTo, turn_by, turn_at, clock_end}
+use Rattle.fabric_rules.specs.Clocks.{ClockEnd, LeadsTo, turn_by, clock_end}
 use Rattle.fabric_rules.specs.Clocks.ClockEnd.{at_pin, still, other}
-use Rattle.fabric_rules.specs.Clocks.Turn.{ends, goes_to}
+use Rattle.fabric_rules.specs.Clocks.Turn.{ends}
 use Rattle.fabric_rules.specs.Clocks.LeadsTo.{ends_here, goes_on}
 use Rattle.fabric_rules.specs.Faults.{fabric_fault}
 use Rattle.fabric_rules.proofs.OneValue.{IsWithin, first-driver, first-is}

@@ -12,3 +12,4 @@ pub mod Apart
 pub mod Configured
 pub mod Pads
 pub mod Design
+pub mod Worked

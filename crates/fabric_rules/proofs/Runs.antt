@@ -2,6 +2,7 @@
 -- so the next state is known before the values of the nets after the event are.
 use Rattle.std.proofs.Common.{◌≡◌, ℕ, zero, suc, ◌<◌, Bool, true, false, List, [], ◌∷◌, ◌++◌, length, map, get_or, set, replicate, refl, sym, ap, ◌∙◌, subst, arith, inl, inr}
 use Rattle.std.specs.Prelude.{All, Contains, Option, Some, None, filter, flat_map, ◌&&◌, ◌==◌}
+use Rattle.std.specs.List.{AllByRecursion}
 use Rattle.std.proofs.lemmas.Bool.{cases_lt}
 use Rattle.std.proofs.Common.{eq-eqb}
 use Rattle.std.proofs.lemmas.List.Elements.{All-head, All-tail, All-filter, All-contains, All-contains_itself, All-weaker, Contains-append_left, Contains-append_right}
@@ -396,6 +397,23 @@ module _ (device : DeviceName) (fabric : Fabric) (taken : fabric_fault device fa
           is = (first-is, rest.1);
           only = λ entries is. run-only events entries (first_entry ∷ rest.0) is (first-is, rest.1);
         }
+
+    -- ---- clocks in a run
+
+    entry-clocks : (entry : Entry) → IsEntry fabric entry → ClocksAgree fabric (bit_in entry.v) (clock_bit fabric entry.pins)
+    entry-clocks entry is = clocks-agree entry.state entry.pins entry.v is.consistent
+
+    follow-clocks : (entry : Entry) (events : List Event) (entries : List Entry) → FollowEach fabric entry events entries
+        → AllByRecursion (λ (e : Entry). ClocksAgree fabric (bit_in e.v) (clock_bit fabric e.pins)) entries
+    follow-clocks entry events [] follow = tt
+    follow-clocks entry [] (next ∷ entries) follow = absurd follow
+    follow-clocks entry (event ∷ events) (next ∷ entries) follow = (entry-clocks next follow.0.entry, follow-clocks next events entries follow.1)
+
+    -- in each entry of a run the clock nets of all users have the bits that the pins give them
+    pub run-clocks : (events : List Event) (entries : List Entry) → IsRun fabric events entries
+        → AllByRecursion (λ (e : Entry). ClocksAgree fabric (bit_in e.v) (clock_bit fabric e.pins)) entries
+    run-clocks events [] run = tt
+    run-clocks events (first ∷ entries) run = (entry-clocks first run.0.entry_is, follow-clocks first events entries run.1)
 
 -- A database and an image that aren't refused have exactly one run for each list of events.
 pub design-run : (db : Database) (image : Configuration) → IsFit db → design_fault db image ≡ None → (events : List Event) → ExactlyOne (IsRun (fabric_of db image) events)

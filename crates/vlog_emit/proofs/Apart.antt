@@ -35,7 +35,7 @@ cut-same (x ∷ xs) (y ∷ ys) u w of_x of_y same =
 abbrev pub IsSmall : ℕ → Type 0
 IsSmall n = n < 2 ^ 64
 
-number-digits : (n : ℕ) → IsSmall n → AllDigits 10 (decimal n)
+pub number-digits : (n : ℕ) → IsSmall n → AllDigits 10 (decimal n)
 number-digits n small = (decimal_is_IsNumeral n small).0.1
 
 pub two-same : (x y a b : ℕ) → IsSmall x → IsSmall y → IsSmall a → IsSmall b → two_numbers x y ≡ two_numbers a b → (x ≡ a) × (y ≡ b)

@@ -13,3 +13,5 @@ pub mod Configured
 pub mod Pads
 pub mod Design
 pub mod Worked
+pub mod Named
+pub mod Grown

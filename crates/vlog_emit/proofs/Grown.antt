@@ -19,6 +19,22 @@ grown scope item = record {
   started = scope.started ++ flat_map started_by (uses_of item);
 }
 
+pub grown-section : (scope : Scope) (item : Item) → (grown scope item).section ≡ section_of item
+unfolding grown
+grown-section scope item = refl
+
+pub grown-declared : (scope : Scope) (item : Item) → (grown scope item).declared ≡ scope.declared ++ flat_map declared_by (uses_of item)
+unfolding grown
+grown-declared scope item = refl
+
+pub grown-assigned : (scope : Scope) (item : Item) → (grown scope item).assigned ≡ scope.assigned ++ flat_map assigned_by (uses_of item)
+unfolding grown
+grown-assigned scope item = refl
+
+pub grown-started : (scope : Scope) (item : Item) → (grown scope item).started ≡ scope.started ++ flat_map started_by (uses_of item)
+unfolding grown
+grown-started scope item = refl
+
 -- one more item's part of a list
 part-more : {A : Type 0} (each : Use → List A) (items : List Item) (item : Item)
     → flat_map each (flat_map uses_of (items ++ item ∷ [])) ≡ flat_map each (flat_map uses_of items) ++ flat_map each (uses_of item)

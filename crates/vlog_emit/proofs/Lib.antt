@@ -15,3 +15,4 @@ pub mod Design
 pub mod Worked
 pub mod Named
 pub mod Grown
+pub mod Declared

@@ -16,3 +16,4 @@ pub mod Worked
 pub mod Named
 pub mod Grown
 pub mod Declared
+pub mod Used

@@ -24,7 +24,7 @@ use Rattle.vlog_emit.proofs.Lists.{Apart, Apart-filter, names-absent, map-map}
 use Rattle.vlog_emit.proofs.Settled.{IsWritable, port-no_flip}
 use Rattle.vlog_emit.proofs.Grown.{grown, grown-section, grown-declared, grown-assigned, grown-started, Grows, Grows-append}
 
-value_in-none : {A : Type 0} (entries : List (List ℕ × A)) (q : List ℕ) → All (λ name. bytes_eq name q ≡ false) (names_of entries) → value_in entries q ≡ None
+pub value_in-none : {A : Type 0} (entries : List (List ℕ × A)) (q : List ℕ) → All (λ name. bytes_eq name q ≡ false) (names_of entries) → value_in entries q ≡ None
 value_in-none [] q absent = refl
 value_in-none (entry ∷ entries) q absent =
     rw (All-head (λ name. bytes_eq name q ≡ false) entry.0 (names_of entries) absent)

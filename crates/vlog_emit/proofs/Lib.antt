@@ -17,3 +17,4 @@ pub mod Named
 pub mod Grown
 pub mod Declared
 pub mod Used
+pub mod Wired

@@ -18,3 +18,4 @@ pub mod Grown
 pub mod Declared
 pub mod Used
 pub mod Wired
+pub mod Assigned

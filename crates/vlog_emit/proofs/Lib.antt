@@ -19,3 +19,4 @@ pub mod Declared
 pub mod Used
 pub mod Wired
 pub mod Assigned
+pub mod Ticking

@@ -1,10 +1,11 @@
 -- The clocked items of a written module may stand where what they use is declared and what they assign isn't assigned yet.
-use Rattle.std.proofs.Common.{◌≡◌, ℕ, zero, suc, ◌+◌, ◌<◌, ◌≤◌, Bool, true, false, List, [], ◌∷◌, ◌++◌, length, map, refl, sym, ap, ◌∙◌, subst, arith}
+use Rattle.std.proofs.Common.{◌≡◌, ℕ, zero, suc, ◌+◌, ◌<◌, ◌≤◌, Bool, true, false, List, [], ◌∷◌, ◌++◌, length, map, refl, sym, ap, ◌∙◌, subst, arith, append-nil}
 use Rattle.std.specs.Prelude.{All, Option, Some, None, flat_map, bytes_eq}
 use Rattle.std.proofs.lemmas.List.{length-map}
 use Rattle.std.proofs.lemmas.Grind.{flat_map-append}
 use Rattle.std.proofs.lemmas.List.Elements.{All-nil, All-cons, All-append}
 use Rattle.vlog_module.specs.declared.sort.Sort.TheVariants as sort
+use Rattle.vlog_module.specs.declared.atoms.Atom.{Atom}
 use Rattle.vlog_module.specs.declared.item.Item.{Item}
 use Rattle.vlog_module.specs.Uses.{Use, atom_uses, atoms_uses, lut_uses, uses_of}
 use Rattle.vlog_module.specs.Uses.Use.{Reads, ReadsBit, Takes, Assigns}
@@ -80,3 +81,59 @@ module _ (fabric : Fabric) (scope : Scope) (knows : Knows fabric scope (is_drive
       (All-cons (IsFine scope) (Assigns sort.Memory (memory_name ram)) (atoms_uses (port_atoms fabric ram.waddr))
       (record { named = there.named; in_range = tt; known = rw (there.declared) refl; first = unassigned scope.assigned (memory_name ram) away }) (list-fine ram.waddr)))
       (list-fine ram.mask)) (list-fine ram.wdata)))
+
+-- ---- what they assign
+
+module _ {A : Type 0} (each : Use → List A) where
+  joined-then : (xs ys : List Use) → flat_map each xs ≡ [] → flat_map each (xs ++ ys) ≡ flat_map each ys
+  joined-then xs ys none = flat_map-append each xs ys ∙ ap (λ list. list ++ flat_map each ys) none
+
+  joined-front : (xs ys : List Use) → flat_map each ys ≡ [] → flat_map each (xs ++ ys) ≡ flat_map each xs
+  joined-front xs ys none = flat_map-append each xs ys ∙ (ap (λ list. flat_map each xs ++ list) none ∙ append-nil (flat_map each xs))
+
+  module _ (of_whole : (name : List ℕ) → each (Reads name) ≡ []) (of_bit : (name : List ℕ) (k : ℕ) → each (ReadsBit name k) ≡ []) where
+    two-none : (a b : Atom) → flat_map each (atom_uses a ++ atom_uses b) ≡ []
+    two-none a b = joined-then (atom_uses a) (atom_uses b) (atom-none each of_whole of_bit a) ∙ atom-none each of_whole of_bit b
+
+    -- two atoms, a use, and a list of atoms
+    assigned-then : (a b : Atom) (used : Use) (atoms : List Atom) → flat_map each ((atom_uses a ++ atom_uses b) ++ (used ∷ atoms_uses atoms)) ≡ each used
+    assigned-then a b used atoms =
+        joined-then (atom_uses a ++ atom_uses b) (used ∷ atoms_uses atoms) (two-none a b)
+        ∙ (ap (λ list. each used ++ list) (atoms-none each of_whole of_bit atoms) ∙ append-nil (each used))
+
+    read-then : (a b : Atom) (used memory : Use) (atoms : List Atom) → each memory ≡ [] → flat_map each ((atom_uses a ++ atom_uses b) ++ (used ∷ memory ∷ atoms_uses atoms)) ≡ each used
+    read-then a b used memory atoms none =
+        joined-then (atom_uses a ++ atom_uses b) (used ∷ memory ∷ atoms_uses atoms) (two-none a b)
+        ∙ (ap (λ list. each used ++ list) (ap (λ list. list ++ flat_map each (atoms_uses atoms)) none ∙ atoms-none each of_whole of_bit atoms) ∙ append-nil (each used))
+
+    write-then : (a b : Atom) (used : Use) (address mask bits : List Atom)
+        → flat_map each ((((atom_uses a ++ atom_uses b) ++ (used ∷ atoms_uses address)) ++ atoms_uses mask) ++ atoms_uses bits) ≡ each used
+    write-then a b used address mask bits =
+        joined-front (((atom_uses a ++ atom_uses b) ++ (used ∷ atoms_uses address)) ++ atoms_uses mask) (atoms_uses bits) (atoms-none each of_whole of_bit bits)
+        ∙ (joined-front ((atom_uses a ++ atom_uses b) ++ (used ∷ atoms_uses address)) (atoms_uses mask) (atoms-none each of_whole of_bit mask) ∙ assigned-then a b used address)
+
+module _ (fabric : Fabric) where
+  -- each clocked item assigns its register or memory, and nothing else
+  pub flip-one : AssignsOne {X = Lc × List ℕ} 7 (λ pair. flip_name pair.0) (λ pair. flip_item fabric pair.0 pair.1)
+  flip-one = record {
+    section = λ pair. refl;
+    declares = λ pair. assigned-then declared_by (λ name. refl) (λ name k. refl) (atom_or_1 fabric pair.0.cen) (atom_or_0 fabric pair.0.sr) (Assigns sort.Register (flip_name pair.0)) (cell_lut fabric pair.0).ins;
+    assigns = λ pair. assigned-then assigned_by (λ name. refl) (λ name k. refl) (atom_or_1 fabric pair.0.cen) (atom_or_0 fabric pair.0.sr) (Assigns sort.Register (flip_name pair.0)) (cell_lut fabric pair.0).ins;
+    starts = λ pair. assigned-then started_by (λ name. refl) (λ name k. refl) (atom_or_1 fabric pair.0.cen) (atom_or_0 fabric pair.0.sr) (Assigns sort.Register (flip_name pair.0)) (cell_lut fabric pair.0).ins;
+  }
+
+  pub read-one : AssignsOne {X = RamCell × List ℕ} 8 (λ pair. register_name pair.0) (λ pair. read_item fabric pair.0 pair.1)
+  read-one = record {
+    section = λ pair. refl;
+    declares = λ pair. read-then declared_by (λ name. refl) (λ name k. refl) (atom_or_1 fabric pair.0.rclke) (atom_or_0 fabric pair.0.re) (Assigns sort.Word (register_name pair.0)) (Takes sort.Memory (memory_name pair.0)) (port_atoms fabric pair.0.raddr) refl;
+    assigns = λ pair. read-then assigned_by (λ name. refl) (λ name k. refl) (atom_or_1 fabric pair.0.rclke) (atom_or_0 fabric pair.0.re) (Assigns sort.Word (register_name pair.0)) (Takes sort.Memory (memory_name pair.0)) (port_atoms fabric pair.0.raddr) refl;
+    starts = λ pair. read-then started_by (λ name. refl) (λ name k. refl) (atom_or_1 fabric pair.0.rclke) (atom_or_0 fabric pair.0.re) (Assigns sort.Word (register_name pair.0)) (Takes sort.Memory (memory_name pair.0)) (port_atoms fabric pair.0.raddr) refl;
+  }
+
+  pub write-one : AssignsOne {X = RamCell × List ℕ} 9 (λ pair. memory_name pair.0) (λ pair. write_item fabric pair.0 pair.1)
+  write-one = record {
+    section = λ pair. refl;
+    declares = λ pair. write-then declared_by (λ name. refl) (λ name k. refl) (atom_or_1 fabric pair.0.wclke) (atom_or_0 fabric pair.0.we) (Assigns sort.Memory (memory_name pair.0)) (port_atoms fabric pair.0.waddr) (port_atoms fabric pair.0.mask) (port_atoms fabric pair.0.wdata);
+    assigns = λ pair. write-then assigned_by (λ name. refl) (λ name k. refl) (atom_or_1 fabric pair.0.wclke) (atom_or_0 fabric pair.0.we) (Assigns sort.Memory (memory_name pair.0)) (port_atoms fabric pair.0.waddr) (port_atoms fabric pair.0.mask) (port_atoms fabric pair.0.wdata);
+    starts = λ pair. write-then started_by (λ name. refl) (λ name k. refl) (atom_or_1 fabric pair.0.wclke) (atom_or_0 fabric pair.0.we) (Assigns sort.Memory (memory_name pair.0)) (port_atoms fabric pair.0.waddr) (port_atoms fabric pair.0.mask) (port_atoms fabric pair.0.wdata);
+  }

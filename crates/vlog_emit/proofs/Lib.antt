@@ -20,3 +20,4 @@ pub mod Used
 pub mod Wired
 pub mod Assigned
 pub mod Ticking
+pub mod Starts

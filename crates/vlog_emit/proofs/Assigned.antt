@@ -1,18 +1,16 @@
 -- Items that assign one name each may follow one another where their names are apart; the assigned outputs of a written module.
-use Rattle.std.proofs.Common.{◌≡◌, ℕ, zero, suc, ◌+◌, ◌<◌, ◌≤◌, Bool, true, false, cond, List, [], ◌∷◌, ◌++◌, length, map, get_or, fold, refl, sym, ap, ◌∙◌, subst, arith, inl, inr, append_assoc, append-nil}
-use Rattle.std.specs.Prelude.{All, Contains, Option, Some, None, flat_map, bytes_eq, not, filter, IsTrue}
+use Rattle.std.proofs.Common.{◌≡◌, ℕ, ◌≤◌, false, List, [], ◌∷◌, ◌++◌, map, fold, refl, sym, ap, ◌∙◌, subst, arith, append_assoc, append-nil}
+use Rattle.std.specs.Prelude.{All, flat_map, bytes_eq, not, IsTrue}
 use Rattle.std.specs.List.{list_any}
-use Rattle.std.proofs.lemmas.List.Elements.{All-nil, All-cons, All-head, All-tail, All-append, All-weaker}
+use Rattle.std.proofs.lemmas.List.Elements.{All-nil, All-cons, All-head, All-tail, All-append}
 use Rattle.vlog_module.specs.declared.sort.Sort.{Sort}
 use Rattle.vlog_module.specs.declared.sort.Sort.TheVariants as sort
 use Rattle.vlog_module.specs.declared.item.Item.{Item}
-use Rattle.vlog_module.specs.Names.{IsName}
-use Rattle.vlog_module.specs.Maps.{value_in}
-use Rattle.vlog_module.specs.Uses.{Use, atom_uses, uses_of}
-use Rattle.vlog_module.specs.Uses.Use.{Declares, Reads, ReadsBit, Assigns}
+use Rattle.vlog_module.specs.Uses.{atom_uses, uses_of}
+use Rattle.vlog_module.specs.Uses.Use.{Assigns}
 use Rattle.vlog_module.specs.WellFormed.{section_of, declared_by, assigned_by, started_by, Scope, IsAllowed}
 use Rattle.fabric_rules.specs.declared.pin.Pin.{Pin}
-use Rattle.fabric_rules.specs.Fabric.{Fabric, outputs_of}
+use Rattle.fabric_rules.specs.Fabric.{Fabric}
 use Rattle.fabric_rules.specs.Drivers.{is_driven}
 use Rattle.fabric_rules.proofs.Within.{All-single}
 use Rattle.vlog_emit.specs.Names.{port_name}
@@ -72,14 +70,15 @@ module _ {X : Type 0} (k : ℕ) (name : X → List ℕ) (item : X → Item) (sin
       let first = assigned-one scope x in
       let here = All-head (λ y. All (λ n. bytes_eq n (name y) ≡ false) scope.assigned) x xs away in
       let others = more-away x scope.assigned (grown scope (item x)).assigned first.assigned_is xs apart.0 (All-tail (λ y. All (λ n. bytes_eq n (name y) ≡ false) scope.assigned) x xs away) in
-      let rest = grows-assigned xs (All-tail Is x xs all) apart.1 (grown scope (item x)) first.section (first.declared_is ∙ same) others in
-      ((allowed scope x (All-head Is x xs all) low same here, rest.0),
-      record {
-        section = rest.1.section;
-        declared_is = rest.1.declared_is ∙ first.declared_is;
-        assigned_is = rest.1.assigned_is ∙ (ap (λ list. list ++ map name xs) first.assigned_is ∙ append_assoc scope.assigned (name x ∷ []) (map name xs));
-        started_is = rest.1.started_is ∙ first.started_is;
-      })
+      let rest = grows-assigned xs (All-tail Is x xs all) apart.1 (grown scope (item x)) first.section (first.declared_is ∙ same) others in (
+        (allowed scope x (All-head Is x xs all) low same here, rest.0),
+        record {
+          section = rest.1.section;
+          declared_is = rest.1.declared_is ∙ first.declared_is;
+          assigned_is = rest.1.assigned_is ∙ (ap (λ list. list ++ map name xs) first.assigned_is ∙ append_assoc scope.assigned (name x ∷ []) (map name xs));
+          started_is = rest.1.started_is ∙ first.started_is;
+        },
+      )
 
 -- ---- outputs
 

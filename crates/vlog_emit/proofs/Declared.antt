@@ -1,15 +1,14 @@
 -- The state that a written module declares may stand after its ports.
-use Rattle.std.proofs.Common.{◌≡◌, ℕ, zero, suc, ◌+◌, ◌<◌, ◌≤◌, Bool, true, false, cond, List, [], ◌∷◌, ◌++◌, length, map, take, get_or, fold, refl, sym, ap, ◌∙◌, subst, arith, inl, inr, append_assoc, append-nil}
-use Rattle.std.specs.Prelude.{All, Contains, Option, Some, None, is_none, filter, flat_map, bytes_eq, IsTrue}
+use Rattle.std.proofs.Common.{◌≡◌, ℕ, ◌≤◌, false, List, [], ◌∷◌, ◌++◌, map, fold, refl, sym, ap, ◌∙◌, subst, arith, append_assoc, append-nil}
+use Rattle.std.specs.Prelude.{All, None, bytes_eq, IsTrue}
 use Rattle.std.proofs.lemmas.List.{map-append}
-use Rattle.std.proofs.lemmas.List.Sums.{fold-append}
-use Rattle.std.proofs.lemmas.List.Elements.{All-nil, All-cons, All-head, All-tail, All-append, All-weaker, All-map, All-filter}
+use Rattle.std.proofs.lemmas.List.Elements.{All-nil, All-cons, All-head, All-tail, All-append, All-filter}
 use Rattle.vlog_module.specs.Maps.{value_in}
 use Rattle.vlog_module.specs.declared.sort.Sort.{Sort}
 use Rattle.vlog_module.specs.declared.sort.Sort.TheVariants as sort
 use Rattle.vlog_module.specs.declared.item.Item.{Item}
 use Rattle.vlog_module.specs.Names.{IsName}
-use Rattle.vlog_module.specs.Uses.{Use, uses_of, used_name}
+use Rattle.vlog_module.specs.Uses.{uses_of, used_name}
 use Rattle.vlog_module.specs.Uses.Use.{Declares}
 use Rattle.vlog_module.specs.WellFormed.{section_of, port_sort, Scope, scope_of, is_known, is_first, IsInRange, IsShaped, IsAllowed}
 use Rattle.vlog_cycle.specs.Named.{names_of}
@@ -89,14 +88,15 @@ module _ {X : Type 0} (k : ℕ) (as_sort : Sort) (name : X → List ℕ) (item :
       ap names_of first.declared_is ∙ map-append (λ (entry : List ℕ × Sort). entry.0) scope.declared ((name x, as_sort) ∷ []) in
       let away : All (λ y. All (λ n. bytes_eq n (name y) ≡ false) (names_of (grown scope (item x)).declared)) xs =
       more-absent x (names_of scope.declared) (names_of (grown scope (item x)).declared) names xs apart.0 (All-tail (λ y. All (λ n. bytes_eq n (name y) ≡ false) (names_of scope.declared)) x xs absent) in
-      let rest = grows-declared xs (grown scope (item x)) first.section (All-tail (λ y. IsName (name y)) x xs named) apart.1 away in
-      ((declares-allowed scope x low (All-head (λ y. IsName (name y)) x xs named) here, rest.0),
-      record {
-        section = rest.1.section;
-        declared_is = rest.1.declared_is ∙ (ap (λ list. list ++ map (λ y. (name y, as_sort)) xs) first.declared_is ∙ append_assoc scope.declared ((name x, as_sort) ∷ []) (map (λ y. (name y, as_sort)) xs));
-        assigned_is = rest.1.assigned_is ∙ first.assigned_is;
-        started_is = rest.1.started_is ∙ first.started_is;
-      })
+      let rest = grows-declared xs (grown scope (item x)) first.section (All-tail (λ y. IsName (name y)) x xs named) apart.1 away in (
+        (declares-allowed scope x low (All-head (λ y. IsName (name y)) x xs named) here, rest.0),
+        record {
+          section = rest.1.section;
+          declared_is = rest.1.declared_is ∙ (ap (λ list. list ++ map (λ y. (name y, as_sort)) xs) first.declared_is ∙ append_assoc scope.declared ((name x, as_sort) ∷ []) (map (λ y. (name y, as_sort)) xs));
+          assigned_is = rest.1.assigned_is ∙ first.assigned_is;
+          started_is = rest.1.started_is ∙ first.started_is;
+        },
+      )
 
 -- ---- the state of a fabric
 

@@ -1,22 +1,21 @@
 -- The start words of a RAM may stand at the end of a written module.
-use Rattle.std.proofs.Common.{◌≡◌, ℕ, zero, suc, ◌+◌, ◌<◌, ◌≤◌, Bool, true, false, List, [], ◌∷◌, ◌++◌, length, map, get_or, fold, refl, sym, ap, ◌∙◌, subst, arith, inl, inr, append_assoc, append-nil}
-use Rattle.std.specs.Prelude.{All, Option, Some, None, flat_map, bytes_eq, not, ◌&&◌, ◌==◌, IsTrue}
+use Rattle.std.proofs.Common.{◌≡◌, ℕ, zero, suc, ◌<◌, ◌≤◌, Bool, true, false, List, [], ◌∷◌, ◌++◌, get_or, fold, refl, sym, ap, ◌∙◌, subst, arith, inl, inr, append_assoc, append-nil}
+use Rattle.std.specs.Prelude.{All, bytes_eq, not, ◌&&◌, ◌==◌, IsTrue}
 use Rattle.std.specs.List.{list_any}
 use Rattle.std.proofs.lemmas.Bool.{cases_Bool, eqb-true}
 use Rattle.std.proofs.lemmas.List.Sums.{fold-append}
-use Rattle.std.proofs.lemmas.List.Elements.{All-nil, All-head, All-tail, All-append, All-weaker}
+use Rattle.std.proofs.lemmas.List.Elements.{All-head, All-tail, All-append, All-weaker}
 use Rattle.place_search.specs.Places.{gathered_below}
 use Rattle.bit_plane.specs.BitList.{word_of}
 use Rattle.vlog_module.specs.declared.sort.Sort.TheVariants as sort
 use Rattle.vlog_module.specs.Uses.Use.{Starts}
 use Rattle.vlog_module.specs.WellFormed.{Scope, IsAllowed}
-use Rattle.vlog_module.specs.declared.item.Item.{Item}
 use Rattle.fabric_rules.specs.declared.ram.RamCell.{RamCell}
 use Rattle.fabric_rules.specs.Tiles.{each_below}
 use Rattle.fabric_rules.proofs.Within.{All-single, All-gathered}
 use Rattle.vlog_emit.specs.Names.{memory_name}
 use Rattle.vlog_emit.specs.Written.{start_item}
-use Rattle.vlog_emit.proofs.Grown.{grown, grown-section, grown-declared, grown-assigned, grown-started, Grows, Grows-append}
+use Rattle.vlog_emit.proofs.Grown.{grown, grown-section, grown-declared, grown-started, Grows, Grows-append}
 use Rattle.vlog_emit.proofs.Used.{IsFine, fine-allowed, IsThere}
 
 unstarted : (list : List (List ℕ × ℕ)) (name : List ℕ) (k : ℕ) → All (λ (p : List ℕ × ℕ). (bytes_eq p.0 name && (p.1 == k)) ≡ false) list
@@ -71,11 +70,12 @@ module _ (ram : RamCell) (words : List (List Bool)) (small : (k : ℕ) → word_
       let before = starts-grow n (omega arith) in
       let middle = fold grown scope (each_below n (start_item ram words)) in
       let joined : fold grown scope (each_below n (start_item ram words) ++ start_item ram words n ∷ []) ≡ grown (fold grown scope (each_below n (start_item ram words))) (start_item ram words n) =
-      fold-append grown scope (each_below n (start_item ram words)) (start_item ram words n ∷ []) in
-      (Grows-append scope (each_below n (start_item ram words)) (start_item ram words n ∷ []) before.0 (one-more n middle (omega arith) before.1, tt),
-      subst (λ s. Started scope s (each_below n (λ k. (memory_name ram, k)) ++ (memory_name ram, n) ∷ [])) (sym joined) (record {
-        section = omega (arith, grown-section middle (start_item ram words n));
-        declared_is = grown-declared middle (start_item ram words n) ∙ (append-nil middle.declared ∙ before.1.declared_is);
-        started_is = grown-started middle (start_item ram words n)
-            ∙ (ap (λ list. list ++ (memory_name ram, n) ∷ []) before.1.started_is ∙ append_assoc scope.started (each_below n (λ k. (memory_name ram, k))) ((memory_name ram, n) ∷ []));
-      }))
+      fold-append grown scope (each_below n (start_item ram words)) (start_item ram words n ∷ []) in (
+        Grows-append scope (each_below n (start_item ram words)) (start_item ram words n ∷ []) before.0 (one-more n middle (omega arith) before.1, tt),
+        subst (λ s. Started scope s (each_below n (λ k. (memory_name ram, k)) ++ (memory_name ram, n) ∷ [])) (sym joined) (record {
+          section = omega (arith, grown-section middle (start_item ram words n));
+          declared_is = grown-declared middle (start_item ram words n) ∙ (append-nil middle.declared ∙ before.1.declared_is);
+          started_is = grown-started middle (start_item ram words n)
+              ∙ (ap (λ list. list ++ (memory_name ram, n) ∷ []) before.1.started_is ∙ append_assoc scope.started (each_below n (λ k. (memory_name ram, k))) ((memory_name ram, n) ∷ []));
+        }),
+      )

@@ -1,15 +1,14 @@
 -- The clocked items of a written module may stand where what they use is declared and what they assign isn't assigned yet.
-use Rattle.std.proofs.Common.{◌≡◌, ℕ, zero, suc, ◌+◌, ◌<◌, ◌≤◌, Bool, true, false, List, [], ◌∷◌, ◌++◌, length, map, refl, sym, ap, ◌∙◌, subst, arith, append-nil}
-use Rattle.std.specs.Prelude.{All, Option, Some, None, flat_map, bytes_eq}
+use Rattle.std.proofs.Common.{◌≡◌, ℕ, ◌<◌, ◌≤◌, Bool, true, false, List, [], ◌∷◌, ◌++◌, refl, ap, ◌∙◌, append-nil}
+use Rattle.std.specs.Prelude.{All, Option, flat_map, bytes_eq}
 use Rattle.std.proofs.lemmas.List.{length-map}
 use Rattle.std.proofs.lemmas.Grind.{flat_map-append}
-use Rattle.std.proofs.lemmas.List.Elements.{All-nil, All-cons, All-append}
+use Rattle.std.proofs.lemmas.List.Elements.{All-cons, All-append}
 use Rattle.vlog_module.specs.declared.sort.Sort.TheVariants as sort
 use Rattle.vlog_module.specs.declared.atoms.Atom.{Atom}
-use Rattle.vlog_module.specs.declared.item.Item.{Item}
-use Rattle.vlog_module.specs.Uses.{Use, atom_uses, atoms_uses, lut_uses, uses_of}
+use Rattle.vlog_module.specs.Uses.{Use, atom_uses, atoms_uses, lut_uses}
 use Rattle.vlog_module.specs.Uses.Use.{Reads, ReadsBit, Takes, Assigns}
-use Rattle.vlog_module.specs.WellFormed.{section_of, declared_by, assigned_by, started_by, Scope, IsAllowed}
+use Rattle.vlog_module.specs.WellFormed.{declared_by, assigned_by, started_by, Scope, IsAllowed}
 use Rattle.fabric_rules.specs.declared.cell.Lc.{Lc}
 use Rattle.fabric_rules.specs.declared.ram.RamCell.{RamCell}
 use Rattle.fabric_rules.specs.Fabric.{Fabric}

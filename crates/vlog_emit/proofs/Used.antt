@@ -1,8 +1,8 @@
 -- What the items of a written module use is declared before them.
-use Rattle.std.proofs.Common.{◌≡◌, ℕ, zero, suc, ◌+◌, ◌^◌, ◌<◌, ◌≤◌, Bool, true, false, cond, List, [], ◌∷◌, ◌++◌, length, map, get_or, refl, sym, ap, ◌∙◌, subst, arith, inl, inr}
-use Rattle.std.specs.Prelude.{All, Contains, Option, Some, None, flat_map, option_to_list, bytes_eq, IsTrue}
+use Rattle.std.proofs.Common.{◌≡◌, ℕ, ◌<◌, ◌≤◌, Bool, true, false, List, [], ◌∷◌, ◌++◌, length, get_or, refl, sym, ap, ◌∙◌, subst, inl, inr}
+use Rattle.std.specs.Prelude.{All, Option, Some, None, option_to_list, IsTrue}
 use Rattle.std.proofs.lemmas.Bool.{cases_Bool}
-use Rattle.std.proofs.lemmas.List.Elements.{All-nil, All-cons, All-head, All-tail, All-append, All-weaker}
+use Rattle.std.proofs.lemmas.List.Elements.{All-nil, All-append, All-weaker}
 use Rattle.vlog_module.specs.Maps.{value_in}
 use Rattle.vlog_module.specs.declared.sort.Sort.{Sort}
 use Rattle.vlog_module.specs.declared.sort.Sort.TheVariants as sort
@@ -22,7 +22,7 @@ use Rattle.fabric_rules.specs.Values.{is_connected}
 use Rattle.fabric_rules.specs.Wiring.{has}
 use Rattle.fabric_rules.proofs.Within.{All-single}
 use Rattle.fabric_rules.proofs.Facts.{has-left, has-right, has-some, has-input}
-use Rattle.vlog_emit.specs.Names.{port_name, flip_name, register_name, memory_name, wire_name}
+use Rattle.vlog_emit.specs.Names.{wire_name}
 use Rattle.vlog_emit.specs.Rights.{input_atom, atom_or_0, port_atoms, cell_atom, input_name, flip_at, register_at, right_alone, right_of}
 use Rattle.vlog_emit.proofs.Lists.{value_in-front}
 use Rattle.vlog_emit.proofs.Rights.{IsPlaceIn}

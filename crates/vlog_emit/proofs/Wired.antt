@@ -1,10 +1,10 @@
 -- The wires of a written module may stand after its state, in the order of their classes.
-use Rattle.std.proofs.Common.{◌≡◌, ℕ, zero, suc, ◌+◌, ◌^◌, ◌<◌, ◌≤◌, Bool, true, false, cond, List, [], ◌∷◌, ◌++◌, length, map, get_or, fold, refl, sym, ap, ◌∙◌, subst, arith, inl, inr, append_assoc, append-nil}
-use Rattle.std.specs.Prelude.{All, Contains, Option, Some, None, flat_map, bytes_eq, ◌==◌}
+use Rattle.std.proofs.Common.{◌≡◌, ℕ, ◌^◌, ◌<◌, ◌≤◌, true, false, List, [], ◌∷◌, ◌++◌, map, fold, refl, sym, ap, ◌∙◌, subst, arith, inl, inr, append_assoc, append-nil}
+use Rattle.std.specs.Prelude.{All, flat_map, bytes_eq, ◌==◌}
 use Rattle.std.proofs.lemmas.Bool.{cases_Bool, eqb-true}
 use Rattle.std.proofs.lemmas.List.{map-append}
 use Rattle.std.proofs.lemmas.Grind.{flat_map-append}
-use Rattle.std.proofs.lemmas.List.Elements.{All-nil, All-cons, All-append}
+use Rattle.std.proofs.lemmas.List.Elements.{All-cons, All-append}
 use Rattle.vlog_module.specs.Maps.{value_in}
 use Rattle.vlog_module.specs.declared.sort.Sort.{Sort}
 use Rattle.vlog_module.specs.declared.sort.Sort.TheVariants as sort
@@ -12,21 +12,20 @@ use Rattle.vlog_module.specs.declared.atoms.Atom.{Atom}
 use Rattle.vlog_module.specs.declared.atoms.Atom.TheVariants.{Bit, Whole, Part}
 use Rattle.vlog_module.specs.declared.item.Right.{Right}
 use Rattle.vlog_module.specs.declared.item.Right.TheVariants.{Bit as RightBit, Whole as RightWhole, Part as RightPart, Lut as RightLut, Majority}
-use Rattle.vlog_module.specs.declared.item.Item.{Item}
-use Rattle.vlog_module.specs.Uses.{Use, atom_uses, atoms_uses, right_uses, uses_of}
+use Rattle.vlog_module.specs.Uses.{Use, atom_uses, atoms_uses, right_uses}
 use Rattle.vlog_module.specs.Uses.Use.{Declares, Reads, ReadsBit}
-use Rattle.vlog_module.specs.WellFormed.{section_of, declared_by, assigned_by, started_by, Scope, IsRight, IsAllowed}
+use Rattle.vlog_module.specs.WellFormed.{declared_by, assigned_by, started_by, Scope, IsRight, IsAllowed}
 use Rattle.vlog_cycle.specs.Named.{names_of}
 use Rattle.fabric_rules.specs.Fabric.{Fabric}
 use Rattle.fabric_rules.specs.Joins.{class_of}
-use Rattle.fabric_rules.specs.Drivers.{Rule, Drive, drives_of, drivers_of, is_driven}
-use Rattle.fabric_rules.specs.Wiring.{wiring_of, has, IsReady, IsWriteOrder}
+use Rattle.fabric_rules.specs.Drivers.{is_driven}
+use Rattle.fabric_rules.specs.Wiring.{wiring_of, has, IsReady}
 use Rattle.fabric_rules.proofs.Order.{has-first, has-cases, has-other, Continues}
 use Rattle.fabric_rules.proofs.Order.Continues.{whole, next}
 use Rattle.fabric_rules.proofs.OneValue.{IsWithin, first-driver, first-is, first-reads, driven-is, driven-below}
 use Rattle.fabric_rules.proofs.Within.{All-single}
 use Rattle.vlog_emit.specs.Names.{wire_name}
-use Rattle.vlog_emit.specs.Rights.{right_of, right_by, class_right}
+use Rattle.vlog_emit.specs.Rights.{right_by, class_right}
 use Rattle.vlog_emit.specs.Written.{class_wire}
 use Rattle.vlog_emit.proofs.Lists.{bytes-true, value_in-behind}
 use Rattle.vlog_emit.proofs.Settled.{IsWritable, wire-one}
@@ -148,11 +147,12 @@ module _ (fabric : Fabric) (within : IsWithin fabric) (writable : IsWritable fab
       let away = absent class of_class least.ready.unlisted in
       let first = wire-declared before class least.ready scope low knows away in
       let behind = wires-grow more (grown scope (class_wire fabric class)) first.section (knows-more before class least.ready scope low knows away) (λ other drives fresh.
-      absent-more before class least.ready scope low knows away other drives fresh (absent other drives (fresh-behind class before other fresh))) in
-      ((wire-allowed before class least.ready scope low knows away, behind.0),
-      record {
-        section = behind.1.section;
-        declared_is = behind.1.declared_is ∙ (ap (λ list. list ++ map (λ c. (wire_name c, sort.Wire)) rest) first.declared_is ∙ append_assoc scope.declared ((wire_name class, sort.Wire) ∷ []) (map (λ c. (wire_name c, sort.Wire)) rest));
-        assigned_is = behind.1.assigned_is ∙ first.assigned_is;
-        started_is = behind.1.started_is ∙ first.started_is;
-      })
+      absent-more before class least.ready scope low knows away other drives fresh (absent other drives (fresh-behind class before other fresh))) in (
+        (wire-allowed before class least.ready scope low knows away, behind.0),
+        record {
+          section = behind.1.section;
+          declared_is = behind.1.declared_is ∙ (ap (λ list. list ++ map (λ c. (wire_name c, sort.Wire)) rest) first.declared_is ∙ append_assoc scope.declared ((wire_name class, sort.Wire) ∷ []) (map (λ c. (wire_name c, sort.Wire)) rest));
+          assigned_is = behind.1.assigned_is ∙ first.assigned_is;
+          started_is = behind.1.started_is ∙ first.started_is;
+        },
+      )

@@ -1,19 +1,16 @@
 -- The written modules of small fabrics, worked out by hand.
-use Rattle.std.proofs.Common.{◌≡◌, [], ◌∷◌, List, ℕ, refl, true, false, Bool}
-use Rattle.std.specs.Prelude.{codes, Some, None, Option, replicate}
+use Rattle.std.proofs.Common.{◌≡◌, [], ◌∷◌, refl, true, false}
+use Rattle.std.specs.Prelude.{codes, Some, None, replicate}
 use Rattle.std.specs.Fmt.{digits}
 use Rattle.place_search.specs.Places.{any_below, least_below, gathered_below}
 use Rattle.bit_plane.specs.BitList.{word_of}
-use Rattle.vlog_module.specs.Parts.{Parts}
-use Rattle.vlog_module.specs.declared.atoms.Atom.TheVariants.{Bit, Whole, Part}
-use Rattle.vlog_module.specs.declared.item.Lut.{Lut}
-use Rattle.vlog_module.specs.declared.item.Item.{Item}
-use Rattle.vlog_module.specs.declared.item.Item.TheVariants.{Register, Word, Memory, Wire, Assign, Flip, Read, Write, Start}
-use Rattle.vlog_module.specs.declared.item.Right.TheVariants.{Bit as RightBit, Whole as RightWhole, Part as RightPart, Lut as RightLut, Majority}
+use Rattle.vlog_module.specs.declared.atoms.Atom.TheVariants.{Bit, Whole}
+use Rattle.vlog_module.specs.declared.item.Item.TheVariants.{Wire, Assign, Flip, Read, Write}
+use Rattle.vlog_module.specs.declared.item.Right.TheVariants.{Whole as RightWhole, Lut as RightLut}
 use Rattle.fabric_rules.specs.declared.cell.Lc.{Lc}
 use Rattle.fabric_rules.specs.declared.ram.RamCell.{RamCell}
 use Rattle.fabric_rules.specs.declared.pin.Pin.{Pin}
-use Rattle.fabric_rules.specs.Fabric.{Fabric, Buffer, numbered_from}
+use Rattle.fabric_rules.specs.Fabric.{Fabric, numbered_from}
 use Rattle.fabric_rules.specs.Joins.{is_joined, class_of}
 use Rattle.fabric_rules.specs.Drivers.{drives_of, drivers_of, is_driven}
 use Rattle.fabric_rules.specs.Clocks.{turn_at, end_within, clock_end}
@@ -31,16 +28,35 @@ output_pin = record { x = 0; y = 2; n = 0; output = true; back = false; din = No
 
 abbrev inverter : Lc
 inverter = record {
-  x = 1; y = 1; i = 0; lut = 21845; carry = false; flip = false; «set» = false; neg = false;
+  x = 1;
+  y = 1;
+  i = 0;
+  lut = 21845;
+  carry = false;
+  flip = false;
+  «set» = false;
+  neg = false;
   ins = Some 1 ∷ None ∷ None ∷ None ∷ [];
-  out = Some 2; lout = None; cout = None; cin = None; clk = None; cen = None; sr = None;
+  out = Some 2;
+  lout = None;
+  cout = None;
+  cin = None;
+  clk = None;
+  cen = None;
+  sr = None;
 }
 
 abbrev inverting : Fabric
 inverting = record {
-  nets = 4; joins = [];
+  nets = 4;
+  joins = [];
   buffers = record { line = 0; src = 0; dst = 1 } ∷ record { line = 1; src = 2; dst = 3 } ∷ [];
-  pins = input_pin ∷ output_pin ∷ []; globals = []; lcs = inverter ∷ []; sets = []; rams = []; start = [];
+  pins = input_pin ∷ output_pin ∷ [];
+  globals = [];
+  lcs = inverter ∷ [];
+  sets = [];
+  rams = [];
+  start = [];
 }
 
 inverting_module : module_of inverting (0 ∷ 1 ∷ 2 ∷ 3 ∷ []) (codes "top") ≡ record {
@@ -80,9 +96,21 @@ still_items = refl
 
 abbrev ram : RamCell
 ram = record {
-  x = 3; y = 1; wneg = true; rneg = false;
-  rdata = replicate 16 None; wdata = Some 2 ∷ replicate 15 None; mask = replicate 16 None; waddr = replicate 8 None; raddr = Some 2 ∷ replicate 7 None;
-  wclk = Some 1; wclke = None; we = Some 2; rclk = Some 1; rclke = Some 9; re = Some 2;
+  x = 3;
+  y = 1;
+  wneg = true;
+  rneg = false;
+  rdata = replicate 16 None;
+  wdata = Some 2 ∷ replicate 15 None;
+  mask = replicate 16 None;
+  waddr = replicate 8 None;
+  raddr = Some 2 ∷ replicate 7 None;
+  wclk = Some 1;
+  wclke = None;
+  we = Some 2;
+  rclk = Some 1;
+  rclke = Some 9;
+  re = Some 2;
 }
 
 write : write_items inverting ram ≡

@@ -57,12 +57,12 @@ module _ (wiring : Wiring) where
 
 module _ (fabric : Fabric) where
   -- a class without a driver is still
-  turn-still : (class : ℕ) → is_driven fabric class ≡ false → turn_at fabric class ≡ ends still
+  pub turn-still : (class : ℕ) → is_driven fabric class ≡ false → turn_at fabric class ≡ ends still
   unfolding turn_at
   turn-still class away = ap turn_of (none-driven fabric class away)
 
   -- what the turn of a class with a driver is
-  turn-first : (class : ℕ) (first : Drive) (rest : List Drive) → drivers_of fabric class ≡ first ∷ rest → turn_at fabric class ≡ turn_by first.rule
+  pub turn-first : (class : ℕ) (first : Drive) (rest : List Drive) → drivers_of fabric class ≡ first ∷ rest → turn_at fabric class ≡ turn_by first.rule
   unfolding turn_at
   turn-first class first rest is = ap turn_of is
 

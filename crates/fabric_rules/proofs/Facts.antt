@@ -31,11 +31,11 @@ has-map change (head ∷ rest) n found =
     ]
 
 -- a net that is there
-has-some : (net : Option ℕ) (n : ℕ) → net ≡ Some n → has (option_to_list net) n ≡ true
+pub has-some : (net : Option ℕ) (n : ℕ) → net ≡ Some n → has (option_to_list net) n ≡ true
 has-some None n is = absurd cc
 has-some (Some m) n is = let same : m ≡ n = cc in subst (λ k. has (m ∷ []) k ≡ true) same (has-first m [])
 
-has-input : (ins : List (Option ℕ)) (k n : ℕ) → get_or ins k None ≡ Some n → has (flat_map option_to_list ins) n ≡ true
+pub has-input : (ins : List (Option ℕ)) (k n : ℕ) → get_or ins k None ≡ Some n → has (flat_map option_to_list ins) n ≡ true
 has-input [] k n is = absurd cc
 has-input (net ∷ ins) zero n is = has-left (option_to_list net) (flat_map option_to_list ins) n (has-some net n is)
 has-input (net ∷ ins) (suc k) n is = has-right (option_to_list net) (flat_map option_to_list ins) n (has-input ins k n is)

@@ -8,4 +8,6 @@ pub mod Facts
 pub mod OneValue
 pub mod Taken
 pub mod Chains
+pub mod Within
+pub mod Runs
 pub mod Worked

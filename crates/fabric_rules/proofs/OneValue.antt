@@ -22,7 +22,7 @@ use Rattle.fabric_rules.proofs.Settled.{Rules, ReadsNoOther, IsSettled, settled-
 
 -- ---- lists
 
-each_below-length : {A : Type 0} (n : ℕ) (given : ℕ → A) → length (each_below n given) ≡ n
+pub each_below-length : {A : Type 0} (n : ℕ) (given : ℕ → A) → length (each_below n given) ≡ n
 unfolding gathered_below
 each_below-length zero given = refl
 each_below-length (suc n) given = omega (arith, each_below-length n given, length-append (each_below n given) (given n ∷ []))
@@ -66,7 +66,7 @@ any-first test (head ∷ list) some =
       | inr away ↦ first-behind test head list away (any-first test list (rw away at some))
     ]
 
-filter-has : {A : Type 0} (test : A → Bool) (list : List A) (item : A) → Contains list item → test item ≡ true → Contains (filter test list) item
+pub filter-has : {A : Type 0} (test : A → Bool) (list : List A) (item : A) → Contains list item → test item ≡ true → Contains (filter test list) item
 filter-has test [] item (k, within, here) passes = absurd (omega (arith, within))
 filter-has test (head ∷ list) item (zero, within, here) passes =
     let found : test head ≡ true = ap test here ∙ passes in rw found (0, omega arith, here)

@@ -3,15 +3,17 @@ use Rattle.std.proofs.Common.{◌≡◌, ℕ, zero, suc, ◌<◌, ◌≤◌, Boo
 use Rattle.std.specs.Prelude.{None}
 use Rattle.std.proofs.lemmas.Bool.{cases_lt}
 use Rattle.plane_map.specs.declared.device.DeviceName.{DeviceName}
+use Rattle.ice_image.specs.Configuration.{Configuration}
+use Rattle.chipdb_reader.specs.Database.{Database}
 use Rattle.place_search.specs.Places.{gathered_below}
 use Rattle.place_search.proofs.Found.{or_else-first, or_else-other}
 use Rattle.fabric_rules.specs.Unique.{ExactlyOne}
 use Rattle.fabric_rules.specs.Tiles.{item_if, first_of}
-use Rattle.fabric_rules.specs.Fabric.{Fabric}
+use Rattle.fabric_rules.specs.Fabric.{Fabric, fabric_of}
 use Rattle.fabric_rules.specs.Drivers.{Drive, drivers_of}
 use Rattle.fabric_rules.specs.Values.{State, IsConsistent}
 use Rattle.fabric_rules.specs.Wiring.{wiring_of, is_on_cycle, IsWriteOrder}
-use Rattle.fabric_rules.specs.Faults.{Fault, drivers_fault, driver_faults, loop_faults, clock_faults, fabric_fault}
+use Rattle.fabric_rules.specs.Faults.{Fault, drivers_fault, device_faults, pll_faults, pin_faults, pins_fault, rams_fault, cells_fault, driver_faults, loop_faults, clock_faults, fabric_fault, design_fault}
 use Rattle.fabric_rules.proofs.Order.{order-one}
 use Rattle.fabric_rules.proofs.Ordered.{write_order-there}
 use Rattle.fabric_rules.proofs.OneValue.{IsWithin, HasSingleDrivers, wiring-bounded, consistent-one, consistent-there}
@@ -40,7 +42,7 @@ gathered_below-empty (suc n) k given none within =
       | inr more ↦ let same : n ≡ k = omega arith in subst (λ place. given place ≡ []) same (append-right (gathered_below n given) (given n) none)
     ]
 
-item_if-none : {A : Type 0} (passes : Bool) (item : A) → item_if passes item ≡ [] → passes ≡ false
+pub item_if-none : {A : Type 0} (passes : Bool) (item : A) → item_if passes item ≡ [] → passes ≡ false
 item_if-none true item none = absurd cc
 item_if-none false item none = refl
 
@@ -62,9 +64,10 @@ module _ (device : DeviceName) (fabric : Fabric) (taken : fabric_fault device fa
       first_of-none (loop_faults (wiring_of fabric))
       (or_else-first (first_of (loop_faults (wiring_of fabric))) _ (or_else-other (first_of (driver_faults fabric)) _ taken))
 
-  no-clocks : clock_faults device fabric ≡ []
+  -- no user has another clock than a pin
+  pub taken-clocks : clock_faults device fabric ≡ []
   unfolding fabric_fault
-  no-clocks =
+  taken-clocks =
       first_of-none (clock_faults device fabric)
       (or_else-other (first_of (loop_faults (wiring_of fabric))) _ (or_else-other (first_of (driver_faults fabric)) _ taken))
 
@@ -98,3 +101,20 @@ module _ (device : DeviceName) (fabric : Fabric) (taken : fabric_fault device fa
           is = found.1;
           only = λ v is. consistent-one fabric within state pins taken-order.it taken-order.is v found.0 is found.1;
         }
+
+-- what has no fault is a fabric without a fault, of one device, whose pins have no fault
+pub record IsTaken (db : Database) (image : Configuration) : Type 0 where
+  pub device : device_faults db image ≡ []
+  pub pins : pin_faults db image ≡ []
+  pub fabric : fabric_fault image.device (fabric_of db image) ≡ None
+
+pub design-taken : (db : Database) (image : Configuration) → design_fault db image ≡ None → IsTaken db image
+unfolding design_fault pins_fault
+design-taken db image none =
+    let first = first_of (device_faults db image) in
+    let behind = or_else-other first _ none in
+    record {
+      device = first_of-none (device_faults db image) (or_else-first first _ none);
+      pins = first_of-none (pin_faults db image) (or_else-other (first_of (pll_faults db image)) _ (or_else-first (pins_fault db image) _ behind));
+      fabric = or_else-other (cells_fault db image) _ (or_else-other (rams_fault db image) _ (or_else-other (pins_fault db image) _ behind));
+    }

@@ -1,0 +1,219 @@
+-- The state that a written module declares may stand after its ports.
+use Rattle.std.proofs.Common.{◌≡◌, ℕ, ◌≤◌, false, List, [], ◌∷◌, ◌++◌, map, fold, refl, sym, ap, ◌∙◌, subst, arith, append_assoc, append-nil}
+use Rattle.std.specs.Prelude.{All, None, bytes_eq, IsTrue}
+use Rattle.std.proofs.lemmas.List.{map-append}
+use Rattle.std.proofs.lemmas.List.Elements.{All-nil, All-cons, All-head, All-tail, All-append, All-filter}
+use Rattle.vlog_module.specs.Maps.{value_in}
+use Rattle.vlog_module.specs.declared.sort.Sort.{Sort}
+use Rattle.vlog_module.specs.declared.sort.Sort.TheVariants as sort
+use Rattle.vlog_module.specs.declared.item.Item.{Item}
+use Rattle.vlog_module.specs.Names.{IsName}
+use Rattle.vlog_module.specs.Uses.{uses_of, used_name}
+use Rattle.vlog_module.specs.Uses.Use.{Declares}
+use Rattle.vlog_module.specs.WellFormed.{section_of, port_sort, Scope, scope_of, is_known, is_first, IsInRange, IsShaped, IsAllowed}
+use Rattle.vlog_cycle.specs.Named.{names_of}
+use Rattle.fabric_rules.proofs.Within.{All-single}
+use Rattle.fabric_rules.specs.declared.cell.Lc.{Lc}
+use Rattle.fabric_rules.specs.declared.ram.RamCell.{RamCell}
+use Rattle.fabric_rules.specs.declared.pin.Pin.{Pin}
+use Rattle.fabric_rules.specs.Fabric.{Fabric, flips_of}
+use Rattle.vlog_emit.specs.Names.{port_name, flip_name, register_name, memory_name}
+use Rattle.vlog_emit.specs.Written.{port_of, flip_register, read_register, ram_memory}
+use Rattle.vlog_emit.proofs.Lists.{Apart, Apart-filter, names-absent, map-map}
+use Rattle.vlog_emit.proofs.Settled.{IsWritable, port-no_flip}
+use Rattle.vlog_emit.proofs.Grown.{grown, grown-section, grown-declared, grown-assigned, grown-started, Grows, Grows-append}
+
+pub value_in-none : {A : Type 0} (entries : List (List ℕ × A)) (q : List ℕ) → All (λ name. bytes_eq name q ≡ false) (names_of entries) → value_in entries q ≡ None
+value_in-none [] q absent = refl
+value_in-none (entry ∷ entries) q absent =
+    rw (All-head (λ name. bytes_eq name q ≡ false) entry.0 (names_of entries) absent)
+    (value_in-none entries q (All-tail (λ name. bytes_eq name q ≡ false) entry.0 (names_of entries) absent))
+
+-- what some items leave, that declare names of one sort and do nothing else
+pub record Declared (before after : Scope) (k : ℕ) (declared : List (List ℕ × Sort)) : Type 0 where
+  pub section : after.section ≤ k
+  pub declared_is : after.declared ≡ before.declared ++ declared
+  pub assigned_is : after.assigned ≡ before.assigned
+  pub started_is : after.started ≡ before.started
+
+-- an item that declares one name, and no more
+pub record DeclaresOne {X : Type 0} (k : ℕ) (as_sort : Sort) (name : X → List ℕ) (item : X → Item) : Type 0 where
+  pub section : (x : X) → section_of (item x) ≡ k
+  pub uses : (x : X) → uses_of (item x) ≡ Declares as_sort (name x) ∷ []
+  pub shaped : (x : X) → IsShaped (item x)
+
+module _ {X : Type 0} (k : ℕ) (as_sort : Sort) (name : X → List ℕ) (item : X → Item) (one : DeclaresOne k as_sort name item) where
+  -- it may come where the name isn't there yet
+  declares-allowed : (scope : Scope) (x : X) → scope.section ≤ k → IsName (name x) → All (λ n. bytes_eq n (name x) ≡ false) (names_of scope.declared) → IsAllowed scope (item x)
+  declares-allowed scope x low named absent = record {
+    shaped = one.shaped x;
+    ordered = subst (λ n. scope.section ≤ n) (sym (one.section x)) low;
+    named = subst (All (λ used. IsName (used_name used))) (sym (one.uses x)) (All-single (λ used. IsName (used_name used)) (Declares as_sort (name x)) named);
+    in_range = subst (All IsInRange) (sym (one.uses x)) (All-single IsInRange (Declares as_sort (name x)) tt);
+    known = subst (All (λ used. IsTrue (is_known scope used))) (sym (one.uses x)) (All-single (λ used. IsTrue (is_known scope used)) (Declares as_sort (name x)) refl);
+    first = subst (All (λ used. IsTrue (is_first scope used))) (sym (one.uses x))
+        (All-single (λ used. IsTrue (is_first scope used)) (Declares as_sort (name x)) (rw (value_in-none scope.declared (name x) absent) refl));
+  }
+
+  declared-one : (scope : Scope) (x : X) → Declared scope (grown scope (item x)) k ((name x, as_sort) ∷ [])
+  declared-one scope x = record {
+    section = omega (arith, grown-section scope (item x), one.section x);
+    declared_is = grown-declared scope (item x) ∙ (rw (one.uses x) refl);
+    assigned_is = grown-assigned scope (item x) ∙ (rw (one.uses x) (append-nil scope.assigned));
+    started_is = grown-started scope (item x) ∙ (rw (one.uses x) (append-nil scope.started));
+  }
+
+  -- a name more, from which the others are apart too
+  more-absent : (x : X) (old all : List (List ℕ)) → all ≡ old ++ name x ∷ [] → (ys : List X) → All (λ y. bytes_eq (name x) (name y) ≡ false) ys
+      → All (λ y. All (λ n. bytes_eq n (name y) ≡ false) old) ys → All (λ y. All (λ n. bytes_eq n (name y) ≡ false) all) ys
+  more-absent x old all is [] apart absent = All-nil (λ y. All (λ n. bytes_eq n (name y) ≡ false) all)
+  more-absent x old all is (y ∷ ys) apart absent =
+      All-cons (λ y. All (λ n. bytes_eq n (name y) ≡ false) all) y ys
+      (subst (All (λ n. bytes_eq n (name y) ≡ false)) (sym is)
+      (All-append (λ n. bytes_eq n (name y) ≡ false) old (name x ∷ []) (All-head (λ z. All (λ n. bytes_eq n (name z) ≡ false) old) y ys absent)
+      (All-single (λ n. bytes_eq n (name y) ≡ false) (name x) (All-head (λ z. bytes_eq (name x) (name z) ≡ false) y ys apart))))
+      (more-absent x old all is ys (All-tail (λ z. bytes_eq (name x) (name z) ≡ false) y ys apart) (All-tail (λ z. All (λ n. bytes_eq n (name z) ≡ false) old) y ys absent))
+
+  -- items whose names are apart, and none of them there yet
+  pub grows-declared : (xs : List X) (scope : Scope) → scope.section ≤ k → All (λ x. IsName (name x)) xs → Apart name xs
+      → All (λ x. All (λ n. bytes_eq n (name x) ≡ false) (names_of scope.declared)) xs
+      → Grows scope (map item xs) × Declared scope (fold grown scope (map item xs)) k (map (λ x. (name x, as_sort)) xs)
+  grows-declared [] scope low named apart absent =
+      (tt, record { section = low; declared_is = sym (append-nil scope.declared); assigned_is = refl; started_is = refl })
+  grows-declared (x ∷ xs) scope low named apart absent =
+      let next = grown scope (item x) in
+      let first = declared-one scope x in
+      let here = All-head (λ y. All (λ n. bytes_eq n (name y) ≡ false) (names_of scope.declared)) x xs absent in
+      let names : names_of (grown scope (item x)).declared ≡ names_of scope.declared ++ name x ∷ [] =
+      ap names_of first.declared_is ∙ map-append (λ (entry : List ℕ × Sort). entry.0) scope.declared ((name x, as_sort) ∷ []) in
+      let away : All (λ y. All (λ n. bytes_eq n (name y) ≡ false) (names_of (grown scope (item x)).declared)) xs =
+      more-absent x (names_of scope.declared) (names_of (grown scope (item x)).declared) names xs apart.0 (All-tail (λ y. All (λ n. bytes_eq n (name y) ≡ false) (names_of scope.declared)) x xs absent) in
+      let rest = grows-declared xs (grown scope (item x)) first.section (All-tail (λ y. IsName (name y)) x xs named) apart.1 away in (
+        (declares-allowed scope x low (All-head (λ y. IsName (name y)) x xs named) here, rest.0),
+        record {
+          section = rest.1.section;
+          declared_is = rest.1.declared_is ∙ (ap (λ list. list ++ map (λ y. (name y, as_sort)) xs) first.declared_is ∙ append_assoc scope.declared ((name x, as_sort) ∷ []) (map (λ y. (name y, as_sort)) xs));
+          assigned_is = rest.1.assigned_is ∙ first.assigned_is;
+          started_is = rest.1.started_is ∙ first.started_is;
+        },
+      )
+
+-- ---- the state of a fabric
+
+-- the names of a fabric's parts are names
+pub record AreNamed (fabric : Fabric) : Type 0 where
+  pub ports : All (λ pin. IsName (port_name pin)) fabric.pins
+  pub flips : All (λ lc. IsName (flip_name lc)) fabric.lcs
+  pub registers : All (λ ram. IsName (register_name ram)) fabric.rams
+  pub memories : All (λ ram. IsName (memory_name ram)) fabric.rams
+
+port-no_register : (pin : Pin) (ram : RamCell) → bytes_eq (port_name pin) (register_name ram) ≡ false
+unfolding port_name register_name
+port-no_register pin ram = refl
+
+port-no_memory : (pin : Pin) (ram : RamCell) → bytes_eq (port_name pin) (memory_name ram) ≡ false
+unfolding port_name memory_name
+port-no_memory pin ram = refl
+
+flip-no_register : (lc : Lc) (ram : RamCell) → bytes_eq (flip_name lc) (register_name ram) ≡ false
+unfolding flip_name register_name
+flip-no_register lc ram = refl
+
+flip-no_memory : (lc : Lc) (ram : RamCell) → bytes_eq (flip_name lc) (memory_name ram) ≡ false
+unfolding flip_name memory_name
+flip-no_memory lc ram = refl
+
+register-no_memory : (a b : RamCell) → bytes_eq (register_name a) (memory_name b) ≡ false
+unfolding register_name memory_name
+register-no_memory a b = refl
+
+every : {X : Type 0} (P : X → Type 0) → ((x : X) → P x) → (xs : List X) → All P xs
+every P each [] = All-nil P
+every P each (x ∷ xs) = All-cons P x xs (each x) (every P each xs)
+
+module _ (fabric : Fabric) (writable : IsWritable fabric) (named : AreNamed fabric) where
+  scope-ports : Scope
+  scope-ports = scope_of (map port_of fabric.pins) []
+
+  ports-names : names_of scope-ports.declared ≡ map port_name fabric.pins
+  unfolding scope-ports port_name
+  ports-names =
+      ap names_of (append-nil (map (λ port. (port.name, port_sort port)) (map port_of fabric.pins)))
+      ∙ (ap names_of (map-map port_of (λ port. (port.name, port_sort port)) fabric.pins)
+      ∙ map-map (λ pin. ((port_of pin).name, port_sort (port_of pin))) (λ (entry : List ℕ × Sort). entry.0) fabric.pins)
+
+  ports-low : scope-ports.section ≡ 1
+  unfolding scope-ports
+  ports-low = refl
+
+  flips-one : DeclaresOne 2 sort.Register flip_name flip_register
+  flips-one = record { section = λ lc. refl; uses = λ lc. refl; shaped = λ lc. tt }
+
+  registers-one : DeclaresOne 3 sort.Word register_name read_register
+  registers-one = record { section = λ ram. refl; uses = λ ram. refl; shaped = λ ram. omega arith }
+
+  memories-one : DeclaresOne 4 sort.Memory memory_name ram_memory
+  memories-one = record { section = λ ram. refl; uses = λ ram. refl; shaped = λ ram. tt }
+
+  flips-grow : Grows scope-ports (map flip_register (flips_of fabric))
+      × Declared scope-ports (fold grown scope-ports (map flip_register (flips_of fabric))) 2 (map (λ lc. (flip_name lc, sort.Register)) (flips_of fabric))
+  flips-grow =
+      grows-declared 2 sort.Register flip_name flip_register flips-one (flips_of fabric) scope-ports (omega (arith, ports-low))
+      (All-filter (λ lc. lc.flip) (λ lc. IsName (flip_name lc)) fabric.lcs named.flips) (Apart-filter flip_name (λ lc. lc.flip) fabric.lcs writable.flips)
+      (every (λ lc. All (λ n. bytes_eq n (flip_name lc) ≡ false) (names_of scope-ports.declared)) (λ lc.
+      subst (All (λ n. bytes_eq n (flip_name lc) ≡ false)) (sym ports-names) (names-absent port_name fabric.pins (flip_name lc) (λ pin. port-no_flip pin lc))) (flips_of fabric))
+
+  scope-flips : Scope
+  scope-flips = fold grown scope-ports (map flip_register (flips_of fabric))
+
+  flips-names : names_of scope-flips.declared ≡ map port_name fabric.pins ++ map flip_name (flips_of fabric)
+  unfolding scope-flips
+  flips-names =
+      ap names_of flips-grow.1.declared_is
+      ∙ (map-append (λ (entry : List ℕ × Sort). entry.0) scope-ports.declared (map (λ lc. (flip_name lc, sort.Register)) (flips_of fabric))
+      ∙ (ap (λ list. list ++ names_of (map (λ lc. (flip_name lc, sort.Register)) (flips_of fabric))) ports-names
+      ∙ ap (λ list. map port_name fabric.pins ++ list) (map-map (λ lc. (flip_name lc, sort.Register)) (λ (entry : List ℕ × Sort). entry.0) (flips_of fabric))))
+
+  registers-grow : Grows scope-flips (map read_register fabric.rams)
+      × Declared scope-flips (fold grown scope-flips (map read_register fabric.rams)) 3 (map (λ ram. (register_name ram, sort.Word)) fabric.rams)
+  unfolding scope-flips
+  registers-grow =
+      grows-declared 3 sort.Word register_name read_register registers-one fabric.rams scope-flips (omega (arith, flips-grow.1.section))
+      named.registers writable.registers
+      (every (λ ram. All (λ n. bytes_eq n (register_name ram) ≡ false) (names_of scope-flips.declared)) (λ ram.
+      subst (All (λ n. bytes_eq n (register_name ram) ≡ false)) (sym flips-names)
+      (All-append (λ n. bytes_eq n (register_name ram) ≡ false) (map port_name fabric.pins) (map flip_name (flips_of fabric))
+      (names-absent port_name fabric.pins (register_name ram) (λ pin. port-no_register pin ram))
+      (names-absent flip_name (flips_of fabric) (register_name ram) (λ lc. flip-no_register lc ram)))) fabric.rams)
+
+  scope-registers : Scope
+  scope-registers = fold grown scope-flips (map read_register fabric.rams)
+
+  registers-names : names_of scope-registers.declared ≡ (map port_name fabric.pins ++ map flip_name (flips_of fabric)) ++ map register_name fabric.rams
+  unfolding scope-registers
+  registers-names =
+      ap names_of registers-grow.1.declared_is
+      ∙ (map-append (λ (entry : List ℕ × Sort). entry.0) scope-flips.declared (map (λ ram. (register_name ram, sort.Word)) fabric.rams)
+      ∙ (ap (λ list. list ++ names_of (map (λ ram. (register_name ram, sort.Word)) fabric.rams)) flips-names
+      ∙ ap (λ list. (map port_name fabric.pins ++ map flip_name (flips_of fabric)) ++ list) (map-map (λ ram. (register_name ram, sort.Word)) (λ (entry : List ℕ × Sort). entry.0) fabric.rams)))
+
+  memories-grow : Grows scope-registers (map ram_memory fabric.rams)
+      × Declared scope-registers (fold grown scope-registers (map ram_memory fabric.rams)) 4 (map (λ ram. (memory_name ram, sort.Memory)) fabric.rams)
+  unfolding scope-registers
+  memories-grow =
+      grows-declared 4 sort.Memory memory_name ram_memory memories-one fabric.rams scope-registers (omega (arith, registers-grow.1.section))
+      named.memories writable.memories
+      (every (λ ram. All (λ n. bytes_eq n (memory_name ram) ≡ false) (names_of scope-registers.declared)) (λ ram.
+      subst (All (λ n. bytes_eq n (memory_name ram) ≡ false)) (sym registers-names)
+      (All-append (λ n. bytes_eq n (memory_name ram) ≡ false) (map port_name fabric.pins ++ map flip_name (flips_of fabric)) (map register_name fabric.rams)
+      (All-append (λ n. bytes_eq n (memory_name ram) ≡ false) (map port_name fabric.pins) (map flip_name (flips_of fabric))
+      (names-absent port_name fabric.pins (memory_name ram) (λ pin. port-no_memory pin ram))
+      (names-absent flip_name (flips_of fabric) (memory_name ram) (λ lc. flip-no_memory lc ram)))
+      (names-absent register_name fabric.rams (memory_name ram) (λ other. register-no_memory other ram)))) fabric.rams)
+
+  -- registers, words and memories may stand after the ports
+  pub state-grows : Grows (scope_of (map port_of fabric.pins) []) (map flip_register (flips_of fabric) ++ (map read_register fabric.rams ++ map ram_memory fabric.rams))
+  unfolding scope-ports scope-flips scope-registers
+  state-grows =
+      Grows-append scope-ports (map flip_register (flips_of fabric)) (map read_register fabric.rams ++ map ram_memory fabric.rams) flips-grow.0
+      (Grows-append scope-flips (map read_register fabric.rams) (map ram_memory fabric.rams) registers-grow.0 memories-grow.0)

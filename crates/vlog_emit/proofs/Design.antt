@@ -1,0 +1,52 @@
+-- Where a database and an image aren't refused, the module that is written for them is their fabric.
+use Rattle.std.proofs.Common.{◌≡◌, ℕ, ◌^◌, ◌≤◌, List, length, map}
+use Rattle.std.specs.Prelude.{All, None}
+use Rattle.std.specs.List.{AllZip}
+use Rattle.std.proofs.lemmas.List.Elements.{All-weaker}
+use Rattle.ice_image.specs.Configuration.{Configuration}
+use Rattle.chipdb_reader.specs.Database.{Database}
+use Rattle.chipdb_reader.specs.Fit.{IsFit}
+use Rattle.vlog_cycle.specs.Run.{module_run}
+use Rattle.fabric_rules.specs.declared.pin.GlobalNet.{GlobalNet}
+use Rattle.fabric_rules.specs.Rams.{rams_of}
+use Rattle.fabric_rules.specs.Fabric.{inputs_of, fabric_of}
+use Rattle.fabric_rules.specs.Steps.{Event, Entry, IsRun}
+use Rattle.fabric_rules.specs.Wiring.{wiring_of, IsWriteOrder}
+use Rattle.fabric_rules.specs.Faults.{design_fault}
+use Rattle.fabric_rules.proofs.Within.{fabric-within}
+use Rattle.fabric_rules.proofs.Taken.{design-taken}
+use Rattle.fabric_rules.proofs.Runs.{fabric-placed}
+use Rattle.vlog_emit.specs.Names.{register_name, memory_name}
+use Rattle.vlog_emit.specs.Written.{module_of}
+use Rattle.vlog_emit.specs.Matching.{Matches, module_event}
+use Rattle.vlog_emit.proofs.Settled.{IsWritable}
+use Rattle.vlog_emit.proofs.Beginning.{IsPorted}
+use Rattle.vlog_emit.proofs.Configured.{IsPadIn, ports-apart, cells-apart, rams-apart, register-places, memory-places, fabric-started, drives-there}
+use Rattle.vlog_emit.proofs.Pads.{pads-there}
+use Rattle.vlog_emit.proofs.Headline.{module-is-fabric}
+
+module _ (db : Database) (image : Configuration) (fit : IsFit db) (few : db.chip.nets ≤ 2 ^ 64) (none : design_fault db image ≡ None) where
+  pads : All (λ (global : GlobalNet). IsPadIn (inputs_of (fabric_of db image)) global.from) (fabric_of db image).globals
+  unfolding fabric_of
+  pads = pads-there db image fit (design-taken db image none)
+
+  -- the fabric can be written
+  pub fabric-writable : IsWritable (fabric_of db image)
+  unfolding fabric_of
+  fabric-writable = record {
+    few = few;
+    places = drives-there (fabric_of db image) pads
+        (All-weaker IsPorted (λ ram. length ram.rdata ≡ 16) (λ ram ported. ported.read) (rams_of db image) (fabric-started db image).each_port);
+    ports = ports-apart db image;
+    flips = cells-apart db image;
+    registers = rams-apart db image register_name register-places;
+    memories = rams-apart db image memory_name memory-places;
+  }
+
+  -- For each list of events, the fabric's run and the run of the written module match at the start and after each event.
+  pub design-is-module : (order : List ℕ) → IsWriteOrder (wiring_of (fabric_of db image)) order → (name : List ℕ) (events : List Event) (entries : List Entry)
+      → IsRun (fabric_of db image) events entries
+      → AllZip (Matches (fabric_of db image)) entries (module_run (module_of (fabric_of db image) order name) (map module_event events))
+  design-is-module order ordered name =
+      module-is-fabric image.device (fabric_of db image) (design-taken db image none).fabric (fabric-placed db image) (fabric-within db image fit)
+      fabric-writable (fabric-started db image) order ordered name

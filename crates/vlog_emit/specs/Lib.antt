@@ -1,0 +1,4 @@
+pub mod Names
+pub mod Rights
+pub mod Written
+pub mod Matching

@@ -1,0 +1,36 @@
+-- When a fabric and its module hold the same values.
+use Rattle.std.specs.Prelude.{◌≡◌, ℕ, Bool, true, List, map, Some, Contains}
+use Rattle.bit_plane.specs.BitList.{word_of}
+use Rattle.vlog_module.specs.Maps.{value_in}
+use Rattle.vlog_cycle.specs.Named.{names_of, values_of}
+use Rattle.vlog_cycle.specs.declared.event.Event.{Event as ModuleEvent}
+use Rattle.vlog_cycle.specs.Entries.{Entry as ModuleEntry}
+use Rattle.fabric_rules.specs.Fabric.{Fabric, inputs_of, outputs_of, flips_of}
+use Rattle.fabric_rules.specs.Drivers.{is_driven}
+use Rattle.fabric_rules.specs.Values.{bit_in}
+use Rattle.fabric_rules.specs.Steps.{Event, Entry}
+use Rattle.vlog_emit.specs.Names.{port_name, flip_name, register_name, memory_name, wire_name}
+
+-- exactly these names, in this order, have these values
+pub record HasValues {A : Type 0} (entries : List (List ℕ × A)) (names : List (List ℕ)) (values : List A) : Type 0 where
+  pub named : names_of entries ≡ names
+  pub valued : values_of entries ≡ values
+
+-- exactly the classes with a driver have a wire, and each wire has the value of its class
+pub record HasWires (fabric : Fabric) (v : List Bool) (wires : List (List ℕ × Bool)) : Type 0 where
+  pub each : (class : ℕ) → is_driven fabric class ≡ true → value_in wires (wire_name class) ≡ Some (bit_in v class)
+  pub only : (wire : List ℕ × Bool) → Contains wires wire → (class : ℕ) × (is_driven fabric class ≡ true) × (wire.0 ≡ wire_name class)
+
+-- An entry of a fabric and one of a module match: inputs and outputs have the values of the pins, in the order of the ports,
+-- registers and memories those of the state, and wires those of the nets.
+pub record Matches (fabric : Fabric) (entry : Entry) (other : ModuleEntry) : Type 0 where
+  pub inputs : HasValues other.inputs (map port_name (inputs_of fabric)) entry.pins
+  pub outputs : HasValues other.outputs (map port_name (outputs_of fabric)) entry.outputs
+  pub registers : HasValues other.registers (map flip_name (flips_of fabric)) entry.state.flips
+  pub words : HasValues other.words (map register_name fabric.rams) (map word_of entry.state.registers)
+  pub memories : HasValues other.memories (map memory_name fabric.rams) (map (map word_of) entry.state.words)
+  pub wires : HasWires fabric entry.v other.wires
+
+-- the same event of a module
+abbrev pub module_event : Event → ModuleEvent
+module_event event = record { pin = event.pin; bit = event.bit }

@@ -1,9 +1,7 @@
 // Whole runs of `icebox_explain`.
 
-use super::Stage;
-use ice_io::{MemFiles, NamedFile};
+use super::{Ended, PLAIN, Setup, outcome};
 use std::alloc::{AllocError, Global};
-use std::test::Fail;
 
 /// A small database of a 1k.
 const DATABASE: &str = ".device 1k 14 18 6
@@ -75,101 +73,192 @@ fn image(alloc: Global) -> Result<Vec<u8>, AllocError> {
     Ok(text)
 }
 
-/// A stage with an image on the input, and a database of these bytes as the file `A`.
-fn on_database(alloc: Global, database: &[u8], input: &[u8]) -> Result<Stage, AllocError> {
-    let mut stage = Stage::on_input(alloc, input, 0)?;
-    let mut files = Vec::new(alloc);
-    files.push(NamedFile {
-        name: String::from_str(alloc, "A")?,
-        bytes: database.to_vec(alloc)?,
-    })?;
-    stage.files = MemFiles::new(alloc, files, "out", 0, 10_000, Vec::new(alloc))?;
-    Ok(stage)
+/// What these words leave with a database in the file `A` and an image on standard input.
+fn explained(
+    alloc: Global,
+    database: &[u8],
+    image: &[u8],
+    words: &[&str],
+) -> Result<Ended, AllocError> {
+    let setup = Setup {
+        first_name: "A",
+        first: database,
+        input: image,
+        ..PLAIN
+    };
+    outcome(alloc, setup, words)
+}
+
+/// A command line, and what it writes of the image.
+type Told = (&'static [&'static str], &'static str);
+
+static TOLD: [Told; 3] = [
+    (
+        &["icebox_explain", "-t", "1 1", "A"],
+        ".device 1k\n.logic_tile 1 1\nLC_0 1010101010101010 0000\nbuffer #0 lutff_0/in_0\n",
+    ),
+    (
+        &["icebox_explain", "A", "-t2 1"],
+        ".device 1k\n.logic_tile 2 1\n",
+    ),
+    (
+        &["icebox_explain", "A"],
+        ".device 1k\n.io_tile 0 1\nIOB_0.PINTYPE_0\n.logic_tile 1 1\nLC_0 1010101010101010 0000\nbuffer #0 lutff_0/in_0\n.io_tile 0 2\nIOB_0.PINTYPE_0\nIOB_0.PINTYPE_3\nIOB_0.PINTYPE_4\nbuffer #2 io_0/D_OUT_0\n",
+    ),
+];
+
+/// Whether a command line writes that of the image.
+fn tells(alloc: Global, told: &Told) -> Result<bool, AllocError> {
+    let image = image(alloc)?;
+    let ended = explained(alloc, DATABASE.as_bytes(), &image, told.0)?;
+    Ok(ended.says(0, "") && ended.output.as_slice() == told.1.as_bytes())
 }
 
 #[test]
-fn explains_an_image(rt: HostRuntime) -> Result<(), Fail> {
-    let alloc = rt.alloc();
-    let text = image(alloc)?;
-    for (words, output) in [
-        (
-            ["icebox_explain", "-t", "1 1", "A"].as_slice(),
-            ".device 1k\n.logic_tile 1 1\nLC_0 1010101010101010 0000\nbuffer #0 lutff_0/in_0\n",
-        ),
-        (
-            ["icebox_explain", "A", "-t2 1"].as_slice(),
-            ".device 1k\n.logic_tile 2 1\n",
-        ),
-        (
-            ["icebox_explain", "A"].as_slice(),
-            ".device 1k\n.io_tile 0 1\nIOB_0.PINTYPE_0\n.logic_tile 1 1\nLC_0 1010101010101010 0000\nbuffer #0 lutff_0/in_0\n.io_tile 0 2\nIOB_0.PINTYPE_0\nIOB_0.PINTYPE_3\nIOB_0.PINTYPE_4\nbuffer #2 io_0/D_OUT_0\n",
-        ),
-    ] {
-        let mut stage = on_database(alloc, DATABASE.as_bytes(), &text)?;
-        assert_eq!(rt; stage.run(alloc, words)?, 0, "of {words:?}");
-        assert_eq!(rt; stage.output.bytes(), output.as_bytes(), "of {words:?}");
+fn explains_an_image(rt: HostRuntime) {
+    for told in &TOLD {
+        assert!(rt; tells(rt.alloc(), told) == Ok(true), "of {:?}", told.0);
     }
-    Ok(())
+}
+
+/// A command line, lines behind the database, an image, the status and the line.
+type Refused = (
+    &'static [&'static str],
+    &'static str,
+    &'static [u8],
+    u8,
+    &'static str,
+);
+
+const ALL: &[&str] = &["icebox_explain", "A"];
+
+static REFUSED: [Refused; 18] = [
+    (
+        &["icebox_explain", "-t", "0 0", "A"],
+        "",
+        b".device 1k\n",
+        1,
+        "icebox_explain: tile 0 0: NoTile\n",
+    ),
+    (ALL, "", b".device 8k\n", 1, "icebox_explain: Device\n"),
+    (
+        ALL,
+        ".device 1k 14 18 6\n",
+        b"",
+        1,
+        "icebox_explain: database line 23: Device\n",
+    ),
+    (
+        ALL,
+        ".net x\n",
+        b"",
+        1,
+        "icebox_explain: database line 23: Number\n",
+    ),
+    (
+        ALL,
+        ".ramb_tile 1 1\n",
+        b"",
+        1,
+        "icebox_explain: database line 23: TileKind\n",
+    ),
+    (
+        ALL,
+        ".net 6\n",
+        b"",
+        1,
+        "icebox_explain: database line 23: NetRange\n",
+    ),
+    (
+        ALL,
+        ".net 3\n",
+        b"",
+        1,
+        "icebox_explain: database line 23: NetTwice\n",
+    ),
+    (
+        ALL,
+        ".net 4\n1 1 lutff_0/out\n",
+        b"",
+        1,
+        "icebox_explain: database line 24: NameTwice\n",
+    ),
+    (
+        ALL,
+        ".buffer 1 1 1 B2\n",
+        b"",
+        1,
+        "icebox_explain: database line 23: BitName\n",
+    ),
+    (
+        ALL,
+        ".buffer 1 1 1 B2[54]\n",
+        b"",
+        1,
+        "icebox_explain: database line 23: BitRange\n",
+    ),
+    (
+        ALL,
+        ".logic_tile_bits 54 16\nLC_1 B0[0]\n",
+        b"",
+        1,
+        "icebox_explain: database line 24: CellBits\n",
+    ),
+    (
+        ALL,
+        ".buffer 1 1 1 B2[0]\n10 0\n",
+        b"",
+        1,
+        "icebox_explain: database line 24: ValueLength\n",
+    ),
+    (
+        ALL,
+        ".buffer 1 1 1 B2[0]\n1 0\n1 2\n",
+        b"",
+        1,
+        "icebox_explain: database line 25: ValuesTwice\n",
+    ),
+    (
+        ALL,
+        "",
+        b"\x7E\xAA\x99\x7E",
+        1,
+        "icebox_explain: offset 4: Truncated\n",
+    ),
+    (ALL, "", b"", 1, "icebox_explain: line 1: NoDevice\n"),
+    (&["icebox_explain"], "", b"", 2, USAGE),
+    (&["icebox_explain", "-t", "1  1", "A"], "", b"", 2, USAGE),
+    (
+        &["icebox_explain", "B"],
+        "",
+        b"",
+        3,
+        "icebox_explain: read failed: B\n",
+    ),
+];
+
+/// Whether a command line is refused so.
+fn is_refused(alloc: Global, refused: &Refused) -> Result<bool, AllocError> {
+    let mut database = DATABASE.as_bytes().to_vec(alloc)?;
+    database.extend_from_slice(refused.1.as_bytes())?;
+    let ended = explained(alloc, &database, refused.2, refused.0)?;
+    Ok(ended.refuses(refused.3, refused.4))
+}
+
+/// Whether an empty database is refused.
+fn refuses_an_empty_one(alloc: Global) -> Result<bool, AllocError> {
+    let line = "icebox_explain: database line 1: NoDevice\n";
+    Ok(explained(alloc, b"", b"", ALL)?.refuses(1, line))
 }
 
 #[test]
-fn tells_why_nothing_is_explained(rt: HostRuntime) -> Result<(), Fail> {
-    let alloc = rt.alloc();
-    let text = image(alloc)?;
-    for (words, more, input, status, line) in [
-        (
-            ["icebox_explain", "-t", "0 0", "A"].as_slice(),
-            "",
-            text.as_slice(),
-            1,
-            "icebox_explain: tile 0 0: NoTile\n",
-        ),
-        (
-            ["icebox_explain", "A"].as_slice(),
-            "",
-            b".device 8k\n".as_slice(),
-            1,
-            "icebox_explain: Device\n",
-        ),
-        (
-            ["icebox_explain", "A"].as_slice(),
-            ".net 6\n",
-            b"".as_slice(),
-            1,
-            "icebox_explain: database line 23: NetRange\n",
-        ),
-        (
-            ["icebox_explain", "A"].as_slice(),
-            "",
-            b"\x7E\xAA\x99\x7E".as_slice(),
-            1,
-            "icebox_explain: offset 4: Truncated\n",
-        ),
-        (["icebox_explain"].as_slice(), "", b"".as_slice(), 2, USAGE),
-        (
-            ["icebox_explain", "-t", "1  1", "A"].as_slice(),
-            "",
-            b"".as_slice(),
-            2,
-            USAGE,
-        ),
-        (
-            ["icebox_explain", "B"].as_slice(),
-            "",
-            b"".as_slice(),
-            3,
-            "icebox_explain: read failed: B\n",
-        ),
-    ] {
-        let mut database = DATABASE.as_bytes().to_vec(alloc)?;
-        database.extend_from_slice(more.as_bytes())?;
-        let mut stage = on_database(alloc, &database, input)?;
-        assert_eq!(rt; stage.run(alloc, words)?, status, "of {words:?}");
-        assert_eq!(rt; stage.errors.bytes(), line.as_bytes(), "of {words:?}");
+fn tells_why_nothing_is_explained(rt: HostRuntime) {
+    for refused in &REFUSED {
+        assert!(rt;
+            is_refused(rt.alloc(), refused) == Ok(true),
+            "of {:?}",
+            refused.4
+        );
     }
-    let mut empty = on_database(alloc, b"", b"")?;
-    assert_eq!(rt; empty.run(alloc, &["icebox_explain", "A"])?, 1);
-    let line = b"icebox_explain: database line 1: NoDevice\n";
-    assert_eq!(rt; empty.errors.bytes(), line.as_slice());
-    Ok(())
+    assert!(rt; refuses_an_empty_one(rt.alloc()) == Ok(true));
 }

@@ -1,1 +1,4 @@
 pub mod Lists
+pub mod Written
+pub mod Whole
+pub mod Rows

@@ -5,7 +5,7 @@ use Rattle.std.proofs.lemmas.Bool.{cases_lt}
 use Rattle.std.proofs.lemmas.List.{map-set, get_or-map}
 use Rattle.fabric_rules.specs.Wiring.{has}
 use Rattle.fabric_rules.proofs.Order.{has-none, has-first, has-behind, has-cases}
-use Rattle.fabric_order.specs.Rows.{lists_of}
+use Rattle.fabric_order.specs.Rows.{lists_of, row_at}
 
 -- a list has what stands in it
 pub has-at : (list : List ℕ) (place : ℕ) → place < length list → has list (get_or list place 0) ≡ true
@@ -68,3 +68,7 @@ pub pushed : {Z : Type 0} (lists : List (Vec ℕ Z)) (at place : ℕ) (lent new 
 pushed {Z} lists at place lent new within lent_is more =
     map-set (λ places. places.items) lists at new
     ∙ ap (set (lists_of lists) at) (more ∙ ap (λ items. items ++ place ∷ []) (ap (λ (places : Vec ℕ Z). places.items) lent_is ∙ sym (get_or-map (λ places. places.items) lists at lent [] within)))
+
+-- what stands in a row is the row's part of the lists
+pub row-items : {Z : Type 0} (rows : List (Vec ℕ Z)) (at : ℕ) (row default : Vec ℕ Z) → at < length rows → row ≡ get_or rows at default → row_at rows at ≡ row.items
+row-items rows at row default within is = get_or-map (λ (places : Vec ℕ _). places.items) rows at default [] within ∙ ap (λ (places : Vec ℕ _). places.items) (sym is)

@@ -5,7 +5,7 @@ use Rattle.fabric_order.proofs.readers.readers_of.Given as goal
 
 abbrev pub invariant-loop-class : goal.invariant-loop-class
 invariant-loop-class l = record {
-  length : length l.readers.items ≡ length l.reads;
+  rows : length l.readers.items ≡ length l.reads;
   within : (other reader : ℕ) → has (row_at l.readers.items other) reader ≡ true → reader < length l.reads;
   all : (class other : ℕ) → class < l.class → has (row_at l.reads class) other ≡ true → has (row_at l.readers.items other) class ≡ true;
 }

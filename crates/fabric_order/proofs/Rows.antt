@@ -9,7 +9,8 @@ use Rattle.fabric_order.specs.Rows.{lists_of, row_at}
 use Rattle.fabric_order.proofs.Lists.{has-kept, has-last, has-split}
 
 pub lists-length : {Z : Type 0} (rows : List (Vec ℕ Z)) → length (lists_of rows) ≡ length rows
-lists-length rows = length-map (λ (row : Vec ℕ _). row.items) rows
+lists-length [] = refl
+lists-length (first ∷ rest) = ap suc (lists-length rest)
 
 module _ {Z : Type 0} (rows new : List (Vec ℕ Z)) (at class : ℕ) where
   abbrev Adds : Type 0

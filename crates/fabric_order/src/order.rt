@@ -92,6 +92,34 @@ fn is_whole(driven: &[bool], written: &[bool]) -> bool
     true
 }
 
+/// The order, where no class is written before, and there is one.
+fn whole_order(
+    alloc: Global,
+    driven: &[bool],
+    reads: &[Vec<u32>],
+    readers: &[Vec<u32>],
+    written: &mut [bool],
+) -> Result<Option<Vec<u32>>, AllocError>
+    requires few { length driven.now ≤ u32.MAX }
+    requires rows { length reads.now ≡ length driven.now }
+    requires reader_rows { length readers.now ≡ length driven.now }
+    requires marks { length written.old ≡ length driven.now }
+    requires reads_within { ReadsWithin (wiring_of driven.now reads.now) }
+    requires readers_within { (other reader : ℕ) → has (row_at readers.now other) reader ≡ true → reader < length driven.now }
+    requires readers_all { (class other : ℕ) → has (row_at reads.now class) other ≡ true → has (row_at readers.now other) class ≡ true }
+    requires unmarked { (class : ℕ) → is_marked written.old class ≡ false }
+    ensures order { IfOk result (λ found. IfSome found (λ order. IsWriteOrder (wiring_of driven.now reads.now) order.items)) }
+    ensures none { IfOk result (λ found. IfNone found ((order : List ℕ) → IsWriteOrder (wiring_of driven.now reads.now) order → ⊥)) }
+    ensures cycle { IfOk result (λ found. IfNone found ((class : ℕ) × (class < length driven.now) × (is_on_cycle (wiring_of driven.now reads.now) class ≡ true))) }
+{
+    let order = write_all(alloc, driven, reads, readers, written)?;
+    if is_whole(driven, written) {
+        Ok(Some(order))
+    } else {
+        Ok(None)
+    }
+}
+
 /// The order in which classes are written, where there is one: at each place the least class with a driver that hasn't been
 /// written and whose driver reads no class that has a driver and hasn't been written. All classes with a driver are in it.
 ///
@@ -114,10 +142,5 @@ pub fn write_order(
 {
     let readers = readers_of(alloc, reads)?;
     let mut written = no_marks(alloc, driven.len())?;
-    let order = write_all(alloc, driven, reads, &readers, &mut written)?;
-    if is_whole(driven, &written) {
-        Ok(Some(order))
-    } else {
-        Ok(None)
-    }
+    whole_order(alloc, driven, reads, &readers, &mut written)
 }

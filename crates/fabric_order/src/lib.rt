@@ -9,3 +9,6 @@ mod ready;
 
 pub use order::write_order;
 
+
+#[cfg(test)]
+mod tests;

@@ -2,3 +2,4 @@ pub mod Lists
 pub mod Written
 pub mod Whole
 pub mod Rows
+pub mod Open

@@ -1,13 +1,13 @@
 -- Where classes are written one by one until none can be, all are written if there is a write order, and some class lies on a
 -- cycle if there is none.
-use Rattle.std.proofs.Common.{◌≡◌, ℕ, zero, suc, ◌+◌, ◌<◌, ◌≤◌, Bool, true, false, ◌⊎◌, inl, inr, List, [], ◌∷◌, ◌++◌, length, take, get_or, refl, sym, ap, ◌∙◌, subst, arith}
+use Rattle.std.proofs.Common.{◌≡◌, ℕ, zero, suc, ◌<◌, ◌≤◌, Bool, true, false, ◌⊎◌, inl, inr, List, [], ◌∷◌, ◌++◌, length, take, get_or, refl, sym, ap, ◌∙◌, subst, arith}
 use Rattle.std.specs.declared.vec.Vec.{Vec}
-use Rattle.std.proofs.lemmas.Bool.{cases_lt, cases_Bool, false_from_ne_true}
-use Rattle.fabric_rules.specs.Wiring.{Wiring, has, depends, is_on_cycle, IsReady, IsLeastReady, IsWriteOrder}
+use Rattle.std.proofs.lemmas.Bool.{cases_lt, cases_Bool}
+use Rattle.fabric_rules.specs.Wiring.{Wiring, has, is_on_cycle, IsReady, IsLeastReady, IsWriteOrder}
 use Rattle.fabric_rules.proofs.Cycles.{IsBounded}
 use Rattle.fabric_rules.proofs.Order.{has-none, least-one, ready-same}
 use Rattle.fabric_rules.proofs.Ordered.{write_order-there}
-use Rattle.fabric_order.specs.Rows.{is_marked, row_at, lists_of, wiring_of}
+use Rattle.fabric_order.specs.Rows.{is_marked, row_at, wiring_of}
 use Rattle.fabric_order.specs.Ready.{IsWritten}
 
 take-next : (list : List ℕ) (n : ℕ) → n < length list → take (suc n) list ≡ take n list ++ get_or list n 0 ∷ []
@@ -59,6 +59,14 @@ module _ (wiring : Wiring) (written : ℕ → Bool) (part order : List ℕ) (bef
         | inr more ↦
             before.marks class ∙ ap (λ l. has l class) (first ∙ take-all order n more) ∙ is.whole class within driven
       ]
+
+-- where all are written, this is the order
+pub whole-order : (wiring : Wiring) (written : ℕ → Bool) (order : List ℕ) → IsWritten wiring written order
+    → ((class : ℕ) → class < wiring.count → wiring.driven class ≡ true → written class ≡ true) → IsWriteOrder wiring order
+whole-order wiring written order before all = record {
+  each = before.each;
+  whole = λ class within driven. sym (before.marks class) ∙ all class within driven;
+}
 
 -- a number below a bound that passes, or none does
 some-or-none : (n : ℕ) (test : ℕ → Bool) → ((k : ℕ) × (k < n) × (test k ≡ true)) ⊎ ((k : ℕ) → k < n → test k ≡ false)

@@ -1,5 +1,5 @@
 -- One class more is written.
-use Rattle.std.proofs.Common.{◌≡◌, ◌≢◌, ℕ, zero, suc, ◌+◌, ◌<◌, ◌≤◌, Bool, true, false, not, inl, inr, List, [], ◌∷◌, ◌++◌, length, take, get_or, set, refl, sym, ap, ◌∙◌, subst, arith, get_or-set_same, get_or-set_other}
+use Rattle.std.proofs.Common.{◌≡◌, ◌≢◌, ℕ, zero, suc, ◌<◌, ◌≤◌, Bool, true, false, not, inl, inr, List, [], ◌∷◌, ◌++◌, length, take, get_or, set, refl, sym, ap, ◌∙◌, subst, arith, get_or-set_same, get_or-set_other}
 use Rattle.std.specs.Ordering.{nat_cmp}
 use Rattle.std.specs.Ordering.{is_eq, is_gt}
 use Rattle.std.specs.declared.cmp.Ordering.TheVariants.{Less, Greater}
@@ -9,7 +9,7 @@ use Rattle.std.specs.BTreeSet.{BTreeSet, contains, Updates, IsLowerBound}
 use Rattle.std.proofs.lemmas.Bool.{cases_lt, cases_eq, cases_Bool, false_from_ne_true}
 use Rattle.std.proofs.lemmas.List.{take-append-le, length-append}
 use Rattle.fabric_rules.specs.Wiring.{Wiring, has, depends, IsReady, IsLeastReady}
-use Rattle.fabric_rules.proofs.Order.{has-none, least-same, ready-same}
+use Rattle.fabric_rules.proofs.Order.{has-none, least-same}
 use Rattle.fabric_rules.proofs.Ordered.{count_below, count_below-lt}
 use Rattle.fabric_order.specs.Rows.{is_marked}
 use Rattle.fabric_order.specs.Ready.{HoldsReady, HoldsAllBut, IsWritten}

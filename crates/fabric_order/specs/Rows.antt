@@ -1,7 +1,7 @@
 -- The wiring of classes, given as lists.
 use Rattle.std.specs.Prelude.{◌≡◌, ℕ, ◌<◌, Bool, true, false, List, [], length, map, get_or}
 use Rattle.std.specs.declared.vec.Vec.{Vec}
-use Rattle.fabric_rules.specs.Wiring.{Wiring, has, depends}
+use Rattle.fabric_rules.specs.Wiring.{Wiring, depends}
 
 -- what the rows hold
 abbrev pub lists_of : {Z : Type 0} → List (Vec ℕ Z) → List (List ℕ)
@@ -27,3 +27,7 @@ wiring_of driven reads = record {
 -- each class that a driver reads is one of the wiring
 abbrev pub ReadsWithin : Wiring → Type 0
 ReadsWithin wiring = (class other : ℕ) → depends wiring class other ≡ true → other < wiring.count
+
+-- only a class with a driver reads any
+abbrev pub ReadsByDriven : Wiring → Type 0
+ReadsByDriven wiring = (class other : ℕ) → depends wiring class other ≡ true → wiring.driven class ≡ true

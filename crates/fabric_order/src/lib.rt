@@ -9,6 +9,5 @@ mod ready;
 
 pub use order::write_order;
 
-
 #[cfg(test)]
 mod tests;

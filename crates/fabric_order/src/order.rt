@@ -1,7 +1,7 @@
 // The order.
 ghost use Rattle.std.specs.Prelude.{◌≡◌, ℕ, ◌<◌, ◌≤◌, List, true, false, length, IsTrue, IfOk, IfSome, IfNone};
 ghost use Rattle.fabric_rules.specs.Wiring.{has, IsReady, IsWriteOrder, is_on_cycle};
-ghost use Rattle.fabric_order.specs.Rows.{is_marked, row_at, wiring_of, ReadsWithin};
+ghost use Rattle.fabric_order.specs.Rows.{is_marked, row_at, wiring_of, ReadsWithin, ReadsByDriven};
 ghost use Rattle.fabric_order.specs.Ready.{HoldsReady, HoldsAllBut, IsWritten};
 
 use crate::readers::readers_of;
@@ -109,6 +109,7 @@ fn whole_order(
     requires readers_all { (class other : ℕ) → has (row_at reads.now class) other ≡ true → has (row_at readers.now other) class ≡ true }
     requires unmarked { (class : ℕ) → is_marked written.old class ≡ false }
     ensures order { IfOk result (λ found. IfSome found (λ order. IsWriteOrder (wiring_of driven.now reads.now) order.items)) }
+    ensures open { IfOk result (λ found. IfSome found (λ order. ReadsByDriven (wiring_of driven.now reads.now) → (class : ℕ) → is_on_cycle (wiring_of driven.now reads.now) class ≡ false)) }
     ensures none { IfOk result (λ found. IfNone found ((order : List ℕ) → IsWriteOrder (wiring_of driven.now reads.now) order → ⊥)) }
     ensures cycle { IfOk result (λ found. IfNone found ((class : ℕ) × (class < length driven.now) × (is_on_cycle (wiring_of driven.now reads.now) class ≡ true))) }
 {
@@ -123,8 +124,8 @@ fn whole_order(
 /// The order in which classes are written, where there is one: at each place the least class with a driver that hasn't been
 /// written and whose driver reads no class that has a driver and hasn't been written. All classes with a driver are in it.
 ///
-/// `driven` says for each class whether it has a driver, and `reads` has for each the classes that its driver reads. There is
-/// an order where no class lies on a cycle; where there is none, some class lies on one.
+/// `driven` says for each class whether it has a driver, and `reads` has for each the classes that its driver reads. Where
+/// there is no order, some class lies on a cycle. Where there is one and only classes with a driver read any, none does.
 ///
 /// # Errors
 /// `AllocError` where memory is out, and for no other cause.
@@ -137,6 +138,7 @@ pub fn write_order(
     requires rows { length reads.now ≡ length driven.now }
     requires within { ReadsWithin (wiring_of driven.now reads.now) }
     ensures order { IfOk result (λ found. IfSome found (λ order. IsWriteOrder (wiring_of driven.now reads.now) order.items)) }
+    ensures open { IfOk result (λ found. IfSome found (λ order. ReadsByDriven (wiring_of driven.now reads.now) → (class : ℕ) → is_on_cycle (wiring_of driven.now reads.now) class ≡ false)) }
     ensures none { IfOk result (λ found. IfNone found ((order : List ℕ) → IsWriteOrder (wiring_of driven.now reads.now) order → ⊥)) }
     ensures cycle { IfOk result (λ found. IfNone found ((class : ℕ) × (class < length driven.now) × (is_on_cycle (wiring_of driven.now reads.now) class ≡ true))) }
 {

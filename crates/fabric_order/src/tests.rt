@@ -84,8 +84,9 @@ fn chain(alloc: Global, last: &[u32]) -> Result<Vec<Vec<u32>>, AllocError> {
 fn chain_order(alloc: Global, last: &[u32]) -> Result<Option<(u32, usize)>, AllocError> {
     let rows = chain(alloc, last)?;
     let driven = vec![in alloc; true; MANY as usize]?;
-    Ok(order(alloc, &driven, &rows)?
-        .and_then(|order| order.first().map(|class| (*class, order.len()))))
+    Ok(order(alloc, &driven, &rows)?.and_then(|order| order
+        .first()
+        .map(|class| (*class, order.len()))))
 }
 
 #[test]
@@ -104,6 +105,9 @@ fn finds_the_order(rt: HostRuntime) {
 
 #[test]
 fn takes_long_chains_and_cycles(rt: HostRuntime) {
-    assert_eq!(rt; chain_order(rt.alloc(), &[]), Ok(Some((MANY - 1, MANY as usize))));
+    assert_eq!(rt;
+        chain_order(rt.alloc(), &[]),
+        Ok(Some((MANY - 1, MANY as usize)))
+    );
     assert_eq!(rt; chain_order(rt.alloc(), &[0]), Ok(None));
 }

@@ -1,4 +1,4 @@
-use Rattle.std.proofs.Common.{◌≡◌, ℕ, ◌<◌, false, not, length}
+use Rattle.std.proofs.Common.{◌≡◌, false, not, length}
 use Rattle.fabric_rules.proofs.Ordered.{count_below}
 use Rattle.fabric_order.specs.Rows.{is_marked, wiring_of}
 use Rattle.fabric_order.specs.Ready.{HoldsReady, HoldsAllBut, IsWritten}

@@ -1,5 +1,5 @@
 use Rattle.std.proofs.lemmas.Bool.{cases_lt}
-use Rattle.std.proofs.Common.{inl, inr, ◌≡◌, ◌<◌, length, get_or, sym, subst, ap, ◌∙◌, true, arith}
+use Rattle.std.proofs.Common.{inl, inr, ◌≡◌, ◌<◌, length, get_or, subst, ◌∙◌, true, arith}
 use Rattle.fabric_rules.specs.Wiring.{has}
 use Rattle.fabric_order.specs.Rows.{row_at}
 use Rattle.fabric_order.proofs.Lists.{has-at, has-place}

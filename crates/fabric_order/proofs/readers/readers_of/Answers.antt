@@ -1,4 +1,4 @@
-use Rattle.std.proofs.Common.{◌≡◌, ◌<◌, ◌∙◌, inl, inr, true, length, ap, sym, subst, arith}
+use Rattle.std.proofs.Common.{◌≡◌, ◌∙◌, inl, inr, true, length, ap, sym, subst, arith}
 use Rattle.std.proofs.lemmas.Bool.{cases_lt}
 use Rattle.fabric_rules.specs.Wiring.{has}
 use Rattle.fabric_order.specs.Rows.{row_at}
@@ -23,8 +23,8 @@ add_reader-requires c =
     let class = c.loop-class.class in
     let here = row-items c.args.reads.now class row row c.loop-class-test.true c.index-reads-class.is ∙ sym c.deref.ensures.value in
     λ other found.
-        let less = c.requires.within class other (ap (λ list. has list other) here ∙ found) in
-        omega (arith, less, c.loop-class.invariant.rows)
+    let less = c.requires.within class other (ap (λ list. has list other) here ∙ found) in
+    omega (arith, less, c.loop-class.invariant.rows)
 
 pub loop-class-preserved : goal.loop-class-preserved
 loop-class-preserved c =

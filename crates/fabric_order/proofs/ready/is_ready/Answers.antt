@@ -1,4 +1,4 @@
-use Rattle.std.proofs.Common.{◌≡◌, ◌<◌, length, ap, sym, ◌∙◌, arith}
+use Rattle.std.proofs.Common.{◌<◌, length, ap, sym, ◌∙◌, arith}
 use Rattle.fabric_rules.specs.Wiring.{has}
 use Rattle.fabric_order.proofs.Lists.{row-items}
 use Rattle.fabric_order.proofs.ready.is_ready.Goals as goal

@@ -1,0 +1,5 @@
+pub mod Lists
+pub mod Written
+pub mod Whole
+pub mod Rows
+pub mod Open

@@ -1,0 +1,113 @@
+// Orders of small wirings, worked out by hand, of a long chain and of a long cycle.
+ghost use Rattle.std.specs.Prelude.{◌≡◌, ℕ, ◌<◌, true, length, IsTrue};
+ghost use Rattle.fabric_rules.specs.Wiring.{has};
+ghost use Rattle.fabric_order.specs.Rows.{wiring_of, ReadsWithin};
+
+use super::*;
+use std::alloc::{AllocError, Global};
+
+/// Whether all classes of a row are below the count.
+fn is_row(row: &[u32], count: usize) -> bool
+    ensures { IsTrue result → (class : ℕ) → has row.now class ≡ true → class < count }
+{
+    for class in row {
+        if *class as usize >= count {
+            return false;
+        }
+    }
+    true
+}
+
+/// Whether all classes of the rows are below the count.
+fn are_rows(driven: &[bool], reads: &[Vec<u32>]) -> bool
+    requires { length reads.now ≡ length driven.now }
+    ensures { IsTrue result → ReadsWithin (wiring_of driven.now reads.now) }
+{
+    for class in 0..reads.len() {
+        if !is_row(&reads[class], driven.len()) {
+            return false;
+        }
+    }
+    true
+}
+
+/// The order, or none where the rows aren't those of a wiring.
+fn order(
+    alloc: Global,
+    driven: &[bool],
+    reads: &[Vec<u32>],
+) -> Result<Option<Vec<u32>>, AllocError> {
+    if driven.len() == reads.len() && driven.len() <= 1_000_000 && are_rows(driven, reads) {
+        write_order(alloc, driven, reads)
+    } else {
+        Ok(None)
+    }
+}
+
+fn rows(alloc: Global, reads: &[&[u32]]) -> Result<Vec<Vec<u32>>, AllocError> {
+    let mut rows = Vec::new(alloc);
+    for row in reads {
+        rows.push(Vec::from_slice(alloc, row)?)
+            .map_err(AllocError::from)?;
+    }
+    Ok(rows)
+}
+
+/// Whether the order is as expected.
+fn is_order(
+    alloc: Global,
+    driven: &[bool],
+    reads: &[&[u32]],
+    expected: Option<&[u32]>,
+) -> Result<bool, AllocError> {
+    let rows = rows(alloc, reads)?;
+    let found = order(alloc, driven, &rows)?;
+    Ok(found.as_deref() == expected)
+}
+
+/// How many classes the chain and the cycle have.
+const MANY: u32 = 100_000;
+
+/// Rows of classes of which each reads the next, and the last one reads `last`.
+fn chain(alloc: Global, last: &[u32]) -> Result<Vec<Vec<u32>>, AllocError> {
+    let mut rows = Vec::new(alloc);
+    for class in 1..MANY {
+        rows.push(Vec::from_slice(alloc, &[class])?)
+            .map_err(AllocError::from)?;
+    }
+    rows.push(Vec::from_slice(alloc, last)?)
+        .map_err(AllocError::from)?;
+    Ok(rows)
+}
+
+/// The first class and the length of the order of a long chain, or none.
+fn chain_order(alloc: Global, last: &[u32]) -> Result<Option<(u32, usize)>, AllocError> {
+    let rows = chain(alloc, last)?;
+    let driven = vec![in alloc; true; MANY as usize]?;
+    Ok(order(alloc, &driven, &rows)?.and_then(|order| order
+        .first()
+        .map(|class| (*class, order.len()))))
+}
+
+#[test]
+fn finds_the_order(rt: HostRuntime) {
+    let cases: [(&[bool], &[&[u32]], Option<&[u32]>); 5] = [
+        (&[], &[], Some(&[])),
+        (&[true, true, true], &[&[2], &[], &[1]], Some(&[1, 2, 0])),
+        (&[true, false, true], &[&[1, 2], &[], &[1]], Some(&[2, 0])),
+        (&[true, true, true], &[&[], &[1], &[]], None),
+        (&[true, true, true], &[&[1], &[2], &[1]], None),
+    ];
+    for (driven, reads, expected) in cases {
+        assert_eq!(rt; is_order(rt.alloc(), driven, reads, expected), Ok(true));
+    }
+}
+
+#[test]
+fn takes_long_chains_and_cycles(rt: HostRuntime) {
+    assert_eq!(rt;
+        chain_order(rt.alloc(), &[]),
+        Ok(Some((MANY - 1, MANY as usize)))
+    );
+    assert_eq!(rt; chain_order(rt.alloc(), &[0]), Ok(None));
+}

@@ -21,3 +21,4 @@ pub mod Wired
 pub mod Assigned
 pub mod Ticking
 pub mod Starts
+pub mod Known

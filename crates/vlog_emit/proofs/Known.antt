@@ -83,7 +83,7 @@ filtered test (x ∷ xs) =
       | inr away ↦ rw away (filtered test xs)
     ]
 
-All-two : {X : Type 0} (P Q R : X → Type 0) → ((x : X) → P x → Q x → R x) → (xs : List X) → All P xs → All Q xs → All R xs
+pub All-two : {X : Type 0} (P Q R : X → Type 0) → ((x : X) → P x → Q x → R x) → (xs : List X) → All P xs → All Q xs → All R xs
 All-two P Q R join [] of_p of_q = All-nil R
 All-two P Q R join (x ∷ xs) of_p of_q = All-cons R x xs (join x (All-head P x xs of_p) (All-head Q x xs of_q)) (All-two P Q R join xs (All-tail P x xs of_p) (All-tail Q x xs of_q))
 

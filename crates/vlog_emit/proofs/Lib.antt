@@ -22,3 +22,4 @@ pub mod Assigned
 pub mod Ticking
 pub mod Starts
 pub mod Known
+pub mod Clocks

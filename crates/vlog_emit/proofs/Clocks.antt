@@ -1,0 +1,146 @@
+-- The outputs and the clocked items of a written module may stand after its wires.
+use Rattle.std.proofs.Common.{◌≡◌, ℕ, ◌<◌, ◌≤◌, Bool, false, arith, List, [], ◌∷◌, ◌++◌, map, fold, refl, sym, ap, ◌∙◌, subst, append-nil}
+use Rattle.std.specs.Prelude.{All, Option, Some, None, flat_map, bytes_eq}
+use Rattle.std.proofs.lemmas.List.Elements.{All-nil, All-cons, All-head, All-tail, All-append, All-weaker, All-contains, All-contains_itself, All-filter}
+use Rattle.plane_map.specs.declared.device.DeviceName.{DeviceName}
+use Rattle.vlog_module.specs.declared.sort.Sort.{Sort}
+use Rattle.vlog_module.specs.declared.sort.Sort.TheVariants as sort
+use Rattle.vlog_module.specs.declared.item.Item.{Item}
+use Rattle.vlog_module.specs.WellFormed.{Scope, IsAllowed}
+use Rattle.fabric_rules.specs.declared.cell.Lc.{Lc}
+use Rattle.fabric_rules.specs.declared.ram.RamCell.{RamCell}
+use Rattle.fabric_rules.specs.declared.pin.Pin.{Pin}
+use Rattle.fabric_rules.specs.Joins.{class_of}
+use Rattle.fabric_rules.specs.Fabric.{Fabric, outputs_of, flips_of}
+use Rattle.fabric_rules.specs.Drivers.{is_driven}
+use Rattle.fabric_rules.specs.Clocks.{ClockEnd, LeadsTo, clock_end}
+use Rattle.fabric_rules.specs.Clocks.ClockEnd.{at_pin, still, other}
+use Rattle.fabric_rules.specs.Wiring.{wiring_of, IsWriteOrder}
+use Rattle.fabric_rules.proofs.Chains.{clock_end-leads}
+use Rattle.fabric_rules.proofs.OneValue.{IsWithin}
+use Rattle.vlog_emit.specs.Names.{port_name, flip_name, register_name, memory_name}
+use Rattle.vlog_emit.specs.Rights.{input_name}
+use Rattle.vlog_emit.specs.Written.{end_name, clock_name, clocked, output_assign, flip_item, flip_items, read_item, read_items, write_item, write_items}
+use Rattle.vlog_emit.proofs.Lists.{Apart, Apart-filter, names-absent}
+use Rattle.vlog_emit.proofs.Settled.{IsWritable, port-no_flip}
+use Rattle.vlog_emit.proofs.Beginning.{IsPorted, IsStarted}
+use Rattle.vlog_emit.proofs.Ticks.{leads-place}
+use Rattle.vlog_emit.proofs.Grown.{grown, Grows}
+use Rattle.vlog_emit.proofs.Declared.{every, port-no_register, port-no_memory, flip-no_register, flip-no_memory, register-no_memory}
+use Rattle.vlog_emit.proofs.Used.{IsThere, Knows, there-more}
+use Rattle.vlog_emit.proofs.Known.{Stands, stands-more, All-two}
+use Rattle.vlog_emit.proofs.Assigned.{Assigned, AssignsOne, grows-assigned, output-one, output-allowed}
+use Rattle.vlog_emit.proofs.Ticking.{flip-allowed, read-allowed, write-allowed, flip-one, read-one, write-one}
+
+-- ---- items with their clocks
+
+-- an item with its clock in front of others, where it has one
+abbrev and_pair : {X : Type 0} → Option (List ℕ) → X → List (X × List ℕ) → List (X × List ℕ)
+and_pair None x pairs = pairs
+and_pair (Some clock) x pairs = (x, clock) ∷ pairs
+
+module _ {X : Type 0} (clock : X → Option (List ℕ)) where
+  -- the items that have clocks, with them
+  pub clock_pairs : List X → List (X × List ℕ)
+  clock_pairs [] = []
+  clock_pairs (x ∷ xs) = and_pair (clock x) x (clock_pairs xs)
+
+  one-clocked : (item : X → List ℕ → Item) (given : Option (List ℕ)) (x : X) (items : List Item) (pairs : List (X × List ℕ))
+      → items ≡ map (λ pair. item pair.0 pair.1) pairs → clocked given (item x) ++ items ≡ map (λ pair. item pair.0 pair.1) (and_pair given x pairs)
+  one-clocked item None x items pairs same = same
+  one-clocked item (Some at) x items pairs same = ap (λ list. item x at ∷ list) same
+
+  pub clocked-map : (item : X → List ℕ → Item) (xs : List X) → flat_map (λ x. clocked (clock x) (item x)) xs ≡ map (λ pair. item pair.0 pair.1) (clock_pairs xs)
+  unfolding clock_pairs
+  clocked-map item [] = refl
+  clocked-map item (x ∷ xs) = one-clocked item (clock x) x (flat_map (λ y. clocked (clock y) (item y)) xs) (clock_pairs xs) (clocked-map item xs)
+
+  one-all : (Q : X × List ℕ → Type 0) (given : Option (List ℕ)) (x : X) (pairs : List (X × List ℕ)) → ((at : List ℕ) → given ≡ Some at → Q (x, at)) → All Q pairs → All Q (and_pair given x pairs)
+  one-all Q None x pairs each all = all
+  one-all Q (Some at) x pairs each all = All-cons Q (x, at) pairs (each at refl) all
+
+  pub pairs-all : (P : X → Type 0) (Q : X × List ℕ → Type 0) → ((x : X) (at : List ℕ) → P x → clock x ≡ Some at → Q (x, at)) → (xs : List X) → All P xs → All Q (clock_pairs xs)
+  unfolding clock_pairs
+  pairs-all P Q each [] all = All-nil Q
+  pairs-all P Q each (x ∷ xs) all = one-all Q (clock x) x (clock_pairs xs) (λ at is. each x at (All-head P x xs all) is) (pairs-all P Q each xs (All-tail P x xs all))
+
+  module _ (name : X → List ℕ) where
+    one-apart : (given : Option (List ℕ)) (x : X) (pairs : List (X × List ℕ)) → All (λ (pair : X × List ℕ). bytes_eq (name x) (name pair.0) ≡ false) pairs
+        → Apart (λ (pair : X × List ℕ). name pair.0) pairs → Apart (λ (pair : X × List ℕ). name pair.0) (and_pair given x pairs)
+    one-apart None x pairs away apart = apart
+    one-apart (Some at) x pairs away apart = (away, apart)
+
+    pub pairs-apart : (xs : List X) → Apart name xs → Apart (λ (pair : X × List ℕ). name pair.0) (clock_pairs xs)
+    unfolding clock_pairs
+    pairs-apart [] apart = tt
+    pairs-apart (x ∷ xs) apart =
+        one-apart (clock x) x (clock_pairs xs)
+        (pairs-all (λ y. bytes_eq (name x) (name y) ≡ false) (λ (pair : X × List ℕ). bytes_eq (name x) (name pair.0) ≡ false) (λ y at away is. away) xs apart.0)
+        (pairs-apart xs apart.1)
+
+-- ---- clocks are declared
+
+module _ (fabric : Fabric) (within : IsWithin fabric) (writable : IsWritable fabric) (order : List ℕ) (ordered : IsWriteOrder (wiring_of fabric) order)
+    (scope : Scope) (knows : Knows fabric scope (is_driven fabric)) where
+  end-there : (class : ℕ) (end : ClockEnd) (name : List ℕ) → LeadsTo fabric class end → end_name fabric end ≡ Some name → IsThere scope name sort.Input
+  end-there class (at_pin place) name leads is =
+      let same : Some (input_name fabric place) ≡ Some name = is in
+      let named : input_name fabric place ≡ name = cc in
+      subst (λ n. IsThere scope n sort.Input) named (knows.input place (leads-place fabric writable leads place refl))
+  end-there class still name leads is = absurd cc
+  end-there class other name leads is = absurd cc
+
+  pub clock-there : (clock : Option ℕ) (name : List ℕ) → clock_name fabric clock ≡ Some name → IsThere scope name sort.Input
+  unfolding clock_name
+  clock-there None name is = absurd cc
+  clock-there (Some net) name is = end-there (class_of fabric.joins net) (clock_end fabric net) name (clock_end-leads fabric within order ordered net) is
+
+-- ---- what stands before outputs and clocked items
+
+pub record Standing (fabric : Fabric) (k : ℕ) (assigned : List (List ℕ)) (scope : Scope) : Type 0 where
+  pub section : scope.section ≤ k
+  pub knows : Knows fabric scope (is_driven fabric)
+  pub stands : Stands fabric scope
+  pub assigned_is : scope.assigned ≡ assigned
+  pub started_is : scope.started ≡ []
+
+knows-same : (fabric : Fabric) (old new : Scope) (wired : ℕ → Bool) → new.declared ≡ old.declared → Knows fabric old wired → Knows fabric new wired
+knows-same fabric old new wired same knows =
+    let is : new.declared ≡ old.declared ++ [] = same ∙ sym (append-nil old.declared) in record {
+      input = λ place there. there-more old new [] _ sort.Input is (knows.input place there);
+      flip = λ place there. there-more old new [] _ sort.Register is (knows.flip place there);
+      register = λ place there. there-more old new [] _ sort.Word is (knows.register place there);
+      wire = λ class listed. there-more old new [] _ sort.Wire is (knows.wire class listed);
+    }
+
+there-same : (old new : Scope) (name : List ℕ) (as_sort : Sort) → new.declared ≡ old.declared → IsThere old name as_sort → IsThere new name as_sort
+there-same old new name as_sort same there = there-more old new [] name as_sort (same ∙ sym (append-nil old.declared)) there
+
+-- it stays where names are assigned
+standing-after : (fabric : Fabric) (j k : ℕ) (assigned names : List (List ℕ)) (before after : Scope) → Standing fabric j assigned before → Assigned before after k names
+    → Standing fabric k (assigned ++ names) after
+standing-after fabric j k assigned names before after standing more = record {
+  section = more.section;
+  knows = knows-same fabric before after (is_driven fabric) more.declared_is standing.knows;
+  stands = stands-more fabric before after [] (more.declared_is ∙ sym (append-nil before.declared)) standing.stands;
+  assigned_is = more.assigned_is ∙ ap (λ list. list ++ names) standing.assigned_is;
+  started_is = more.started_is ∙ standing.started_is;
+}
+
+-- ---- outputs
+
+module _ (fabric : Fabric) (writable : IsWritable fabric) (scope : Scope) (standing : Standing fabric 5 [] scope) where
+  outputs-next : (next : Scope) (pin : Pin) → IsThere scope (port_name pin) sort.Output → next.section ≤ 6 → next.declared ≡ scope.declared
+      → All (λ n. bytes_eq n (port_name pin) ≡ false) next.assigned → IsAllowed next (output_assign fabric pin)
+  outputs-next next pin there low same away =
+      output-allowed fabric next pin (knows-same fabric scope next (is_driven fabric) same standing.knows) (there-same scope next (port_name pin) sort.Output same there) low away
+
+  pub outputs-grow : Grows scope (map (output_assign fabric) (outputs_of fabric))
+      × Standing fabric 6 (map port_name (outputs_of fabric)) (fold grown scope (map (output_assign fabric) (outputs_of fabric)))
+  outputs-grow =
+      let found =
+      grows-assigned 6 port_name (output_assign fabric) (output-one fabric) (λ pin. IsThere scope (port_name pin) sort.Output) scope.declared outputs-next
+      (outputs_of fabric) standing.stands.outputs (Apart-filter port_name (λ pin. pin.output) fabric.pins writable.ports) scope (omega (arith, standing.section)) refl
+      (every (λ pin. All (λ n. bytes_eq n (port_name pin) ≡ false) scope.assigned)
+      (λ pin. subst (All (λ n. bytes_eq n (port_name pin) ≡ false)) (sym standing.assigned_is) (All-nil (λ n. bytes_eq n (port_name pin) ≡ false))) (outputs_of fabric)) in
+      (found.0, standing-after fabric 5 6 [] (map port_name (outputs_of fabric)) scope (fold grown scope (map (output_assign fabric) (outputs_of fabric))) standing found.1)

@@ -144,3 +144,147 @@ module _ (fabric : Fabric) (writable : IsWritable fabric) (scope : Scope) (stand
       (every (λ pin. All (λ n. bytes_eq n (port_name pin) ≡ false) scope.assigned)
       (λ pin. subst (All (λ n. bytes_eq n (port_name pin) ≡ false)) (sym standing.assigned_is) (All-nil (λ n. bytes_eq n (port_name pin) ≡ false))) (outputs_of fabric)) in
       (found.0, standing-after fabric 5 6 [] (map port_name (outputs_of fabric)) scope (fold grown scope (map (output_assign fabric) (outputs_of fabric))) standing found.1)
+
+-- ---- clocked items
+
+-- the flip-flops, read ports and write ports that have clocks, with their clocks
+pub flip_pairs : Fabric → List (Lc × List ℕ)
+flip_pairs fabric = clock_pairs (λ lc. clock_name fabric lc.clk) (flips_of fabric)
+
+pub read_pairs : Fabric → List (RamCell × List ℕ)
+read_pairs fabric = clock_pairs (λ ram. clock_name fabric ram.rclk) fabric.rams
+
+pub write_pairs : Fabric → List (RamCell × List ℕ)
+write_pairs fabric = clock_pairs (λ ram. clock_name fabric ram.wclk) fabric.rams
+
+-- what they assign
+pub after_flips : Fabric → List (List ℕ)
+after_flips fabric = map port_name (outputs_of fabric) ++ map (λ (pair : Lc × List ℕ). flip_name pair.0) (flip_pairs fabric)
+
+pub after_reads : Fabric → List (List ℕ)
+after_reads fabric =
+    (map port_name (outputs_of fabric) ++ map (λ (pair : Lc × List ℕ). flip_name pair.0) (flip_pairs fabric))
+    ++ map (λ (pair : RamCell × List ℕ). register_name pair.0) (read_pairs fabric)
+
+pub after_writes : Fabric → List (List ℕ)
+after_writes fabric =
+    ((map port_name (outputs_of fabric) ++ map (λ (pair : Lc × List ℕ). flip_name pair.0) (flip_pairs fabric))
+    ++ map (λ (pair : RamCell × List ℕ). register_name pair.0) (read_pairs fabric))
+    ++ map (λ (pair : RamCell × List ℕ). memory_name pair.0) (write_pairs fabric)
+
+module _ (fabric : Fabric) (within : IsWithin fabric) (writable : IsWritable fabric) (sized : IsStarted fabric) (few : All (λ lc. lc.lut < 65536) fabric.lcs)
+    (order : List ℕ) (ordered : IsWriteOrder (wiring_of fabric) order) where
+  module _ (scope : Scope) (standing : Standing fabric 6 (map port_name (outputs_of fabric)) scope) where
+    IsFlip : Lc × List ℕ → Type 0
+    IsFlip pair = (pair.0.lut < 65536) × IsThere scope pair.1 sort.Input × IsThere scope (flip_name pair.0) sort.Register
+
+    flips-are : All IsFlip (flip_pairs fabric)
+    unfolding IsFlip flip_pairs
+    flips-are =
+        pairs-all (λ lc. clock_name fabric lc.clk) (λ lc. (lc.lut < 65536) × IsThere scope (flip_name lc) sort.Register) (λ (pair : Lc × List ℕ). (pair.0.lut < 65536) × IsThere scope pair.1 sort.Input × IsThere scope (flip_name pair.0) sort.Register)
+        (λ lc at here is. (here.0, clock-there fabric within writable order ordered scope standing.knows lc.clk at is, here.1)) (flips_of fabric)
+        (All-two (λ lc. lc.lut < 65536) (λ lc. IsThere scope (flip_name lc) sort.Register) (λ lc. (lc.lut < 65536) × IsThere scope (flip_name lc) sort.Register) (λ lc small there. (small, there)) (flips_of fabric)
+        (All-filter (λ lc. lc.flip) (λ lc. lc.lut < 65536) fabric.lcs few) standing.stands.flips)
+
+    flips-next : (next : Scope) (pair : Lc × List ℕ) → IsFlip pair → next.section ≤ 7 → next.declared ≡ scope.declared
+        → All (λ n. bytes_eq n (flip_name pair.0) ≡ false) next.assigned → IsAllowed next (flip_item fabric pair.0 pair.1)
+    unfolding IsFlip
+    flips-next next pair is low same away =
+        flip-allowed fabric next (knows-same fabric scope next (is_driven fabric) same standing.knows) pair.0 pair.1 is.0
+        (there-same scope next pair.1 sort.Input same is.1) (there-same scope next (flip_name pair.0) sort.Register same is.2) low away
+
+    pub flips-tick : Grows scope (flat_map (flip_items fabric) (flips_of fabric)) × Standing fabric 7 (after_flips fabric) (fold grown scope (flat_map (flip_items fabric) (flips_of fabric)))
+    unfolding after_flips flip_pairs
+    flips-tick =
+        let found =
+        grows-assigned 7 (λ (pair : Lc × List ℕ). flip_name pair.0) (λ (pair : Lc × List ℕ). flip_item fabric pair.0 pair.1) (flip-one fabric) IsFlip scope.declared flips-next
+        (flip_pairs fabric) flips-are (pairs-apart (λ lc. clock_name fabric lc.clk) flip_name (flips_of fabric) (Apart-filter flip_name (λ lc. lc.flip) fabric.lcs writable.flips))
+        scope (omega (arith, standing.section)) refl
+        (every (λ (pair : Lc × List ℕ). All (λ n. bytes_eq n (flip_name pair.0) ≡ false) scope.assigned)
+        (λ pair. subst (All (λ n. bytes_eq n (flip_name pair.0) ≡ false)) (sym standing.assigned_is)
+        (names-absent port_name (outputs_of fabric) (flip_name pair.0) (λ pin. port-no_flip pin pair.0))) (flip_pairs fabric)) in
+        subst (λ items. Grows scope items × Standing fabric 7 (after_flips fabric) (fold grown scope items)) (sym (clocked-map (λ lc. clock_name fabric lc.clk) (flip_item fabric) (flips_of fabric)))
+        (found.0, standing-after fabric 6 7 _ _ scope (fold grown scope (map (λ (pair : Lc × List ℕ). flip_item fabric pair.0 pair.1) (flip_pairs fabric))) standing found.1)
+
+  module _ (scope : Scope) (standing : Standing fabric 7 (after_flips fabric) scope) where
+    IsRead : RamCell × List ℕ → Type 0
+    IsRead pair = IsPorted pair.0 × IsThere scope pair.1 sort.Input × IsThere scope (register_name pair.0) sort.Word × IsThere scope (memory_name pair.0) sort.Memory
+
+    reads-are : All IsRead (read_pairs fabric)
+    unfolding IsRead read_pairs
+    reads-are =
+        pairs-all (λ ram. clock_name fabric ram.rclk) (λ ram. IsPorted ram × IsThere scope (register_name ram) sort.Word × IsThere scope (memory_name ram) sort.Memory)
+        (λ (pair : RamCell × List ℕ). IsPorted pair.0 × IsThere scope pair.1 sort.Input × IsThere scope (register_name pair.0) sort.Word × IsThere scope (memory_name pair.0) sort.Memory)
+        (λ ram at here is. (here.0, clock-there fabric within writable order ordered scope standing.knows ram.rclk at is, here.1, here.2)) fabric.rams
+        (All-two IsPorted (λ ram. IsThere scope (register_name ram) sort.Word × IsThere scope (memory_name ram) sort.Memory) (λ ram. IsPorted ram × IsThere scope (register_name ram) sort.Word × IsThere scope (memory_name ram) sort.Memory)
+        (λ ram ported there. (ported, there.0, there.1)) fabric.rams sized.each_port
+        (All-two (λ ram. IsThere scope (register_name ram) sort.Word) (λ ram. IsThere scope (memory_name ram) sort.Memory) (λ ram. IsThere scope (register_name ram) sort.Word × IsThere scope (memory_name ram) sort.Memory)
+        (λ ram word memory. (word, memory)) fabric.rams standing.stands.registers standing.stands.memories))
+
+    reads-next : (next : Scope) (pair : RamCell × List ℕ) → IsRead pair → next.section ≤ 8 → next.declared ≡ scope.declared
+        → All (λ n. bytes_eq n (register_name pair.0) ≡ false) next.assigned → IsAllowed next (read_item fabric pair.0 pair.1)
+    unfolding IsRead
+    reads-next next pair is low same away =
+        read-allowed fabric next (knows-same fabric scope next (is_driven fabric) same standing.knows) pair.0 pair.1 is.0
+        (there-same scope next pair.1 sort.Input same is.1) (there-same scope next (register_name pair.0) sort.Word same is.2) (there-same scope next (memory_name pair.0) sort.Memory same is.3) low away
+
+    reads-away : (ram : RamCell) → All (λ n. bytes_eq n (register_name ram) ≡ false) (after_flips fabric)
+    unfolding after_flips
+    reads-away ram =
+        All-append (λ n. bytes_eq n (register_name ram) ≡ false) (map port_name (outputs_of fabric)) (map (λ (pair : Lc × List ℕ). flip_name pair.0) (flip_pairs fabric))
+        (names-absent port_name (outputs_of fabric) (register_name ram) (λ pin. port-no_register pin ram))
+        (names-absent (λ (pair : Lc × List ℕ). flip_name pair.0) (flip_pairs fabric) (register_name ram) (λ pair. flip-no_register pair.0 ram))
+
+    pub reads-tick : Grows scope (flat_map (read_items fabric) fabric.rams) × Standing fabric 8 (after_reads fabric) (fold grown scope (flat_map (read_items fabric) fabric.rams))
+    unfolding after_reads after_flips read_pairs
+    reads-tick =
+        let found =
+        grows-assigned 8 (λ (pair : RamCell × List ℕ). register_name pair.0) (λ (pair : RamCell × List ℕ). read_item fabric pair.0 pair.1) (read-one fabric) IsRead scope.declared reads-next
+        (read_pairs fabric) reads-are (pairs-apart (λ ram. clock_name fabric ram.rclk) register_name fabric.rams writable.registers)
+        scope (omega (arith, standing.section)) refl
+        (every (λ (pair : RamCell × List ℕ). All (λ n. bytes_eq n (register_name pair.0) ≡ false) scope.assigned)
+        (λ pair. subst (All (λ n. bytes_eq n (register_name pair.0) ≡ false)) (sym standing.assigned_is) (reads-away pair.0)) (read_pairs fabric)) in
+        subst (λ items. Grows scope items × Standing fabric 8 (after_reads fabric) (fold grown scope items)) (sym (clocked-map (λ ram. clock_name fabric ram.rclk) (read_item fabric) fabric.rams))
+        (found.0, standing-after fabric 7 8 _ _ scope (fold grown scope (map (λ (pair : RamCell × List ℕ). read_item fabric pair.0 pair.1) (read_pairs fabric))) standing found.1)
+
+  module _ (scope : Scope) (standing : Standing fabric 8 (after_reads fabric) scope) where
+    IsWrite : RamCell × List ℕ → Type 0
+    IsWrite pair = IsPorted pair.0 × IsThere scope pair.1 sort.Input × IsThere scope (memory_name pair.0) sort.Memory
+
+    writes-are : All IsWrite (write_pairs fabric)
+    unfolding IsWrite write_pairs
+    writes-are =
+        pairs-all (λ ram. clock_name fabric ram.wclk) (λ ram. IsPorted ram × IsThere scope (memory_name ram) sort.Memory)
+        (λ (pair : RamCell × List ℕ). IsPorted pair.0 × IsThere scope pair.1 sort.Input × IsThere scope (memory_name pair.0) sort.Memory)
+        (λ ram at here is. (here.0, clock-there fabric within writable order ordered scope standing.knows ram.wclk at is, here.1)) fabric.rams
+        (All-two IsPorted (λ ram. IsThere scope (memory_name ram) sort.Memory) (λ ram. IsPorted ram × IsThere scope (memory_name ram) sort.Memory)
+        (λ ram ported there. (ported, there)) fabric.rams sized.each_port standing.stands.memories)
+
+    writes-next : (next : Scope) (pair : RamCell × List ℕ) → IsWrite pair → next.section ≤ 9 → next.declared ≡ scope.declared
+        → All (λ n. bytes_eq n (memory_name pair.0) ≡ false) next.assigned → IsAllowed next (write_item fabric pair.0 pair.1)
+    unfolding IsWrite
+    writes-next next pair is low same away =
+        write-allowed fabric next (knows-same fabric scope next (is_driven fabric) same standing.knows) pair.0 pair.1 is.0
+        (there-same scope next pair.1 sort.Input same is.1) (there-same scope next (memory_name pair.0) sort.Memory same is.2) low away
+
+    writes-away : (ram : RamCell) → All (λ n. bytes_eq n (memory_name ram) ≡ false) (after_reads fabric)
+    unfolding after_reads
+    writes-away ram =
+        All-append (λ n. bytes_eq n (memory_name ram) ≡ false) (map port_name (outputs_of fabric) ++ map (λ (pair : Lc × List ℕ). flip_name pair.0) (flip_pairs fabric))
+        (map (λ (pair : RamCell × List ℕ). register_name pair.0) (read_pairs fabric))
+        (All-append (λ n. bytes_eq n (memory_name ram) ≡ false) (map port_name (outputs_of fabric)) (map (λ (pair : Lc × List ℕ). flip_name pair.0) (flip_pairs fabric))
+        (names-absent port_name (outputs_of fabric) (memory_name ram) (λ pin. port-no_memory pin ram))
+        (names-absent (λ (pair : Lc × List ℕ). flip_name pair.0) (flip_pairs fabric) (memory_name ram) (λ pair. flip-no_memory pair.0 ram)))
+        (names-absent (λ (pair : RamCell × List ℕ). register_name pair.0) (read_pairs fabric) (memory_name ram) (λ pair. register-no_memory pair.0 ram))
+
+    pub writes-tick : Grows scope (flat_map (write_items fabric) fabric.rams) × Standing fabric 9 (after_writes fabric) (fold grown scope (flat_map (write_items fabric) fabric.rams))
+    unfolding after_writes after_reads write_pairs
+    writes-tick =
+        let found =
+        grows-assigned 9 (λ (pair : RamCell × List ℕ). memory_name pair.0) (λ (pair : RamCell × List ℕ). write_item fabric pair.0 pair.1) (write-one fabric) IsWrite scope.declared writes-next
+        (write_pairs fabric) writes-are (pairs-apart (λ ram. clock_name fabric ram.wclk) memory_name fabric.rams writable.memories)
+        scope (omega (arith, standing.section)) refl
+        (every (λ (pair : RamCell × List ℕ). All (λ n. bytes_eq n (memory_name pair.0) ≡ false) scope.assigned)
+        (λ pair. subst (All (λ n. bytes_eq n (memory_name pair.0) ≡ false)) (sym standing.assigned_is) (writes-away pair.0)) (write_pairs fabric)) in
+        subst (λ items. Grows scope items × Standing fabric 9 (after_writes fabric) (fold grown scope items)) (sym (clocked-map (λ ram. clock_name fabric ram.wclk) (write_item fabric) fabric.rams))
+        (found.0, standing-after fabric 8 9 _ _ scope (fold grown scope (map (λ (pair : RamCell × List ℕ). write_item fabric pair.0 pair.1) (write_pairs fabric))) standing found.1)

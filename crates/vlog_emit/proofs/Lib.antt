@@ -23,3 +23,5 @@ pub mod Ticking
 pub mod Starts
 pub mod Known
 pub mod Clocks
+pub mod Complete
+pub mod Whole

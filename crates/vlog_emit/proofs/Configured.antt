@@ -89,13 +89,13 @@ memory-numbers : (a b : RamCell) → memory_name a ≡ memory_name b → two_num
 unfolding memory_name
 memory-numbers a b same = cc
 
-pub PinSmall : Pin → Type 0
+unfoldable pub PinSmall : Pin → Type 0
 PinSmall pin = AreSmall pin.x pin.y pin.n
 
-pub CellSmall : Lc → Type 0
+unfoldable pub CellSmall : Lc → Type 0
 CellSmall lc = AreSmall lc.x lc.y lc.i
 
-pub RamSmall : RamCell → Type 0
+unfoldable pub RamSmall : RamCell → Type 0
 RamSmall ram = AreSmall ram.x ram.y 0
 
 pin-places : (a b : Pin) → PinSmall a → PinSmall b → port_name a ≡ port_name b → (a.x ≡ b.x) × (a.y ≡ b.y) × (a.n ≡ b.n)

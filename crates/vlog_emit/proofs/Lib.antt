@@ -25,3 +25,4 @@ pub mod Known
 pub mod Clocks
 pub mod Complete
 pub mod Whole
+pub mod Shapely

@@ -1,8 +1,7 @@
 -- The outputs and the clocked items of a written module may stand after its wires.
 use Rattle.std.proofs.Common.{◌≡◌, ℕ, ◌<◌, ◌≤◌, Bool, false, arith, List, [], ◌∷◌, ◌++◌, map, fold, refl, sym, ap, ◌∙◌, subst, append-nil}
 use Rattle.std.specs.Prelude.{All, Option, Some, None, flat_map, bytes_eq}
-use Rattle.std.proofs.lemmas.List.Elements.{All-nil, All-cons, All-head, All-tail, All-append, All-weaker, All-contains, All-contains_itself, All-filter}
-use Rattle.plane_map.specs.declared.device.DeviceName.{DeviceName}
+use Rattle.std.proofs.lemmas.List.Elements.{All-nil, All-cons, All-head, All-tail, All-append, All-filter}
 use Rattle.vlog_module.specs.declared.sort.Sort.{Sort}
 use Rattle.vlog_module.specs.declared.sort.Sort.TheVariants as sort
 use Rattle.vlog_module.specs.declared.item.Item.{Item}
@@ -29,7 +28,7 @@ use Rattle.vlog_emit.proofs.Grown.{grown, Grows}
 use Rattle.vlog_emit.proofs.Declared.{every, port-no_register, port-no_memory, flip-no_register, flip-no_memory, register-no_memory}
 use Rattle.vlog_emit.proofs.Used.{IsThere, Knows, there-more}
 use Rattle.vlog_emit.proofs.Known.{Stands, stands-more, All-two}
-use Rattle.vlog_emit.proofs.Assigned.{Assigned, AssignsOne, grows-assigned, output-one, output-allowed}
+use Rattle.vlog_emit.proofs.Assigned.{Assigned, grows-assigned, output-one, output-allowed}
 use Rattle.vlog_emit.proofs.Ticking.{flip-allowed, read-allowed, write-allowed, flip-one, read-one, write-one}
 
 -- ---- items with their clocks

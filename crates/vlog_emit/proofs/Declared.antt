@@ -239,7 +239,7 @@ module _ (fabric : Fabric) (writable : IsWritable fabric) (named : AreNamed fabr
   unfolding scope-ports scope-flips scope-registers
   state-left =
       let joined : fold grown (scope_of (map port_of fabric.pins) []) (map flip_register (flips_of fabric) ++ (map read_register fabric.rams ++ map ram_memory fabric.rams))
-          ≡ fold grown scope-registers (map ram_memory fabric.rams) =
+      ≡ fold grown scope-registers (map ram_memory fabric.rams) =
       fold-append grown scope-ports (map flip_register (flips_of fabric)) (map read_register fabric.rams ++ map ram_memory fabric.rams)
       ∙ fold-append grown scope-flips (map read_register fabric.rams) (map ram_memory fabric.rams) in
       let ports : scope-ports.declared ≡ map (λ pin. (port_name pin, port_sort (port_of pin))) fabric.pins =

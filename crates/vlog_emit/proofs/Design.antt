@@ -1,4 +1,4 @@
--- Where a database and an image aren't refused, the module that is written for them is their fabric.
+-- Where a database and an image aren't refused, the module that is written for them is their fabric, and it is well-formed.
 use Rattle.std.proofs.Common.{◌≡◌, ℕ, ◌^◌, ◌≤◌, List, length, map}
 use Rattle.std.specs.Prelude.{All, None}
 use Rattle.std.specs.List.{AllZip}

@@ -1,5 +1,5 @@
 -- What stands before the wires, the outputs and the clocked items of a written module: the names that they use.
-use Rattle.std.proofs.Common.{◌≡◌, ℕ, ◌^◌, ◌<◌, ◌≤◌, Bool, true, false, List, [], ◌∷◌, ◌++◌, length, map, refl, sym, ap, ◌∙◌, subst, arith, inl, inr, append-nil}
+use Rattle.std.proofs.Common.{◌≡◌, ℕ, Bool, true, false, List, [], ◌∷◌, ◌++◌, map, refl, sym, ap, ◌∙◌, subst, inl, inr, append-nil}
 use Rattle.std.specs.Prelude.{All, Some, filter, bytes_eq, not, if◌then◌else◌}
 use Rattle.std.proofs.lemmas.Bool.{cases_Bool}
 use Rattle.std.proofs.lemmas.List.{map-append}
@@ -10,18 +10,16 @@ use Rattle.vlog_module.specs.declared.sort.Sort.TheVariants as sort
 use Rattle.vlog_module.specs.Names.{IsName}
 use Rattle.vlog_module.specs.WellFormed.{port_sort, Scope}
 use Rattle.vlog_cycle.specs.Named.{names_of}
-use Rattle.fabric_rules.specs.declared.cell.Lc.{Lc}
 use Rattle.fabric_rules.specs.declared.ram.RamCell.{RamCell}
 use Rattle.fabric_rules.specs.declared.pin.Pin.{Pin}
 use Rattle.fabric_rules.specs.Fabric.{Fabric, inputs_of, outputs_of, flips_of}
-use Rattle.fabric_rules.specs.Drivers.{is_driven}
 use Rattle.fabric_rules.specs.Wiring.{has}
 use Rattle.fabric_rules.proofs.Order.{has-none, has-cases}
 use Rattle.vlog_emit.specs.Names.{port_name, flip_name, register_name, memory_name, wire_name}
 use Rattle.vlog_emit.specs.Written.{port_of}
 use Rattle.vlog_emit.proofs.Lists.{Apart, Apart-filter, bytes-true, value_in-front, value_in-behind, names-absent, map-map, All-pick}
 use Rattle.vlog_emit.proofs.Settled.{IsWritable, port-no_flip, port-no_wire, flip-no_wire}
-use Rattle.vlog_emit.proofs.Declared.{AreNamed, StateLeft, state_names, port-no_register, port-no_memory, flip-no_register, flip-no_memory, register-no_memory}
+use Rattle.vlog_emit.proofs.Declared.{AreNamed, StateLeft, port-no_register, port-no_memory, flip-no_register, flip-no_memory, register-no_memory}
 use Rattle.vlog_emit.proofs.Used.{IsThere, Knows, there-more}
 
 -- ---- names with their sorts
@@ -88,9 +86,6 @@ All-two P Q R join [] of_p of_q = All-nil R
 All-two P Q R join (x ∷ xs) of_p of_q = All-cons R x xs (join x (All-head P x xs of_p) (All-head Q x xs of_q)) (All-two P Q R join xs (All-tail P x xs of_p) (All-tail Q x xs of_q))
 
 -- ---- what the state declares
-
-abbrev IsNamedAs : {X : Type 0} → Scope → (X → List ℕ) → Sort → X → Type 0
-IsNamedAs scope name as_sort x = IsThere scope (name x) as_sort
 
 -- all ports, registers, words and memories of a fabric are declared
 pub record Stands (fabric : Fabric) (scope : Scope) : Type 0 where

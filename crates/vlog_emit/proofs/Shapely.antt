@@ -1,10 +1,9 @@
 -- What a database and an image configure has names that are names, and tables and start words of 16 bits.
-use Rattle.std.proofs.Common.{◌≡◌, ℕ, zero, suc, ◌^◌, ◌<◌, ◌≤◌, Bool, true, false, List, [], ◌∷◌, ◌++◌, length, map, get_or, refl, sym, ap, ◌∙◌, subst, arith}
-use Rattle.std.specs.Prelude.{All, Contains, Option, Some, None, not, filter, flat_map, if◌then◌else◌}
+use Rattle.std.proofs.Common.{◌≡◌, ℕ, zero, suc, ◌^◌, ◌<◌, Bool, List, [], ◌∷◌, ◌++◌, length, map, get_or, refl, subst, arith}
+use Rattle.std.specs.Prelude.{All, Option, Some, None, not, filter, flat_map, if◌then◌else◌}
 use Rattle.std.proofs.lemmas.List.{length-map}
 use Rattle.std.proofs.lemmas.List.Elements.{All-nil, All-head, All-tail, All-append, All-weaker, All-filter}
 use Rattle.plane_map.specs.declared.tile.TileKind.TheVariants.{Io, Logic, RamB}
-use Rattle.plane_map.specs.Layout.{grid_width, grid_height}
 use Rattle.ice_image.specs.Configuration.{Configuration}
 use Rattle.bit_plane.specs.BitList.{word_of}
 use Rattle.bit_plane.proofs.Words.{word_of-lt}
@@ -18,7 +17,6 @@ use Rattle.vlog_module.specs.WellFormed.{IsRight}
 use Rattle.fabric_rules.specs.declared.cell.Lc.{Lc}
 use Rattle.fabric_rules.specs.declared.ram.RamCell.{RamCell}
 use Rattle.fabric_rules.specs.declared.pin.Pin.{Pin}
-use Rattle.fabric_rules.specs.declared.pin.GlobalNet.{GlobalNet}
 use Rattle.fabric_rules.specs.declared.pin.GlobalFrom.{GlobalFrom}
 use Rattle.fabric_rules.specs.declared.pin.GlobalFrom.TheVariants.{Pad, Fabout}
 use Rattle.fabric_rules.specs.declared.driver.Driver.{Driver}

@@ -1,5 +1,5 @@
 -- The written module of a fabric is well-formed.
-use Rattle.std.proofs.Common.{◌≡◌, ℕ, ◌^◌, ◌<◌, ◌≤◌, Bool, true, false, List, [], ◌∷◌, ◌++◌, map, get_or, fold, refl, sym, ap, ◌∙◌, subst, arith, append_assoc, append-nil}
+use Rattle.std.proofs.Common.{◌≡◌, ℕ, ◌<◌, true, false, List, [], ◌++◌, map, get_or, fold, sym, ap, ◌∙◌, subst, arith, append_assoc}
 use Rattle.std.specs.Prelude.{All, flat_map, bytes_eq}
 use Rattle.std.specs.List.{IsDistinct}
 use Rattle.std.proofs.lemmas.List.Elements.{All-nil, All-map}
@@ -25,10 +25,10 @@ use Rattle.vlog_emit.proofs.Beginning.{IsStarted}
 use Rattle.vlog_emit.proofs.Named.{wire-named, distinct-names}
 use Rattle.vlog_emit.proofs.Grown.{grown, Grows, Grows-append, grows-begun}
 use Rattle.vlog_emit.proofs.Declared.{AreNamed, StateLeft, Declared, every, state-grows, state-left}
-use Rattle.vlog_emit.proofs.Used.{IsThere, Knows}
+use Rattle.vlog_emit.proofs.Used.{IsThere}
 use Rattle.vlog_emit.proofs.Wired.{wires-grow}
-use Rattle.vlog_emit.proofs.Known.{NoName, Stands, stands-more, stands-knows, state-stands, state-no_wire, state-knows, wire-listed}
-use Rattle.vlog_emit.proofs.Clocks.{Standing, after_flips, after_reads, after_writes, outputs-grow, flips-tick, reads-tick, writes-tick}
+use Rattle.vlog_emit.proofs.Known.{Stands, stands-more, stands-knows, state-stands, state-no_wire, state-knows, wire-listed}
+use Rattle.vlog_emit.proofs.Clocks.{Standing, after_writes, outputs-grow, flips-tick, reads-tick, writes-tick}
 use Rattle.vlog_emit.proofs.Starts.{NotStarted, all-start}
 use Rattle.vlog_emit.proofs.Complete.{outputs-complete}
 

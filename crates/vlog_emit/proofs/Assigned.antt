@@ -83,7 +83,7 @@ module _ {X : Type 0} (k : ℕ) (name : X → List ℕ) (item : X → Item) (sin
 -- ---- outputs
 
 module _ (fabric : Fabric) where
-  output-one : AssignsOne 6 port_name (output_assign fabric)
+  pub output-one : AssignsOne 6 port_name (output_assign fabric)
   output-one = record {
     section = λ pin. refl;
     declares = λ pin. atom-none declared_by (λ name. refl) (λ name k. refl) (atom_or_0 fabric pin.dout);
@@ -91,7 +91,7 @@ module _ (fabric : Fabric) where
     starts = λ pin. atom-none started_by (λ name. refl) (λ name k. refl) (atom_or_0 fabric pin.dout);
   }
 
-  output-allowed : (scope : Scope) (pin : Pin) → Knows fabric scope (is_driven fabric) → IsThere scope (port_name pin) sort.Output → scope.section ≤ 6
+  pub output-allowed : (scope : Scope) (pin : Pin) → Knows fabric scope (is_driven fabric) → IsThere scope (port_name pin) sort.Output → scope.section ≤ 6
       → All (λ n. bytes_eq n (port_name pin) ≡ false) scope.assigned → IsAllowed scope (output_assign fabric pin)
   output-allowed scope pin knows there low away =
       fine-allowed scope (output_assign fabric pin) tt low

@@ -69,9 +69,9 @@ height-few K8 y within = omega arith
 -- ---- names
 
 pub record AreSmall (x y n : ℕ) : Type 0 where
-  first : IsSmall x
-  second : IsSmall y
-  third : IsSmall n
+  pub first : IsSmall x
+  pub second : IsSmall y
+  pub third : IsSmall n
 
 pin-numbers : (a b : Pin) → port_name a ≡ port_name b → three_numbers a.x a.y a.n ≡ three_numbers b.x b.y b.n
 unfolding port_name
@@ -89,13 +89,13 @@ memory-numbers : (a b : RamCell) → memory_name a ≡ memory_name b → two_num
 unfolding memory_name
 memory-numbers a b same = cc
 
-PinSmall : Pin → Type 0
+unfoldable pub PinSmall : Pin → Type 0
 PinSmall pin = AreSmall pin.x pin.y pin.n
 
-CellSmall : Lc → Type 0
+unfoldable pub CellSmall : Lc → Type 0
 CellSmall lc = AreSmall lc.x lc.y lc.i
 
-pub RamSmall : RamCell → Type 0
+unfoldable pub RamSmall : RamCell → Type 0
 RamSmall ram = AreSmall ram.x ram.y 0
 
 pin-places : (a b : Pin) → PinSmall a → PinSmall b → port_name a ≡ port_name b → (a.x ≡ b.x) × (a.y ≡ b.y) × (a.n ≡ b.n)
@@ -117,7 +117,7 @@ memory-places a b of_a of_b same = two-same a.x a.y b.x b.y of_a.first of_a.seco
 module _ (db : Database) (image : Configuration) where
   -- ---- pins
 
-  pin-at : (x y n pintype : ℕ) → x < grid_width image.device → y < grid_height image.device → n < 2
+  pub pin-at : (x y n pintype : ℕ) → x < grid_width image.device → y < grid_height image.device → n < 2
       → PinSmall (pin_with db x y n pintype) × ((pin_with db x y n pintype).x ≡ x) × ((pin_with db x y n pintype).y ≡ y)
   unfolding pin_with PinSmall
   pin-at x y n pintype left low few =
@@ -145,7 +145,7 @@ module _ (db : Database) (image : Configuration) where
 
   -- ---- cells
 
-  cell-at : (x y i : ℕ) (bits : List Bool) → x < grid_width image.device → y < grid_height image.device → i < 8
+  pub cell-at : (x y i : ℕ) (bits : List Bool) → x < grid_width image.device → y < grid_height image.device → i < 8
       → CellSmall (cell_with db image x y i bits) × ((cell_with db image x y i bits).x ≡ x) × ((cell_with db image x y i bits).y ≡ y)
   unfolding cell_with CellSmall
   cell-at x y i bits left low few =
@@ -173,7 +173,7 @@ module _ (db : Database) (image : Configuration) where
 
   -- ---- RAMs
 
-  ram-placed : (x y : ℕ) → x < grid_width image.device → y < grid_height image.device
+  pub ram-placed : (x y : ℕ) → x < grid_width image.device → y < grid_height image.device
       → RamSmall (ram_at db image x y) × ((ram_at db image x y).x ≡ x) × ((ram_at db image x y).y ≡ y)
   unfolding ram_at RamSmall
   ram-placed x y left low =

@@ -2,6 +2,7 @@
 use Rattle.std.proofs.Common.{◌≡◌, ℕ, ◌≤◌, false, List, [], ◌∷◌, ◌++◌, map, fold, refl, sym, ap, ◌∙◌, subst, arith, append_assoc, append-nil}
 use Rattle.std.specs.Prelude.{All, None, bytes_eq, IsTrue}
 use Rattle.std.proofs.lemmas.List.{map-append}
+use Rattle.std.proofs.lemmas.List.Sums.{fold-append}
 use Rattle.std.proofs.lemmas.List.Elements.{All-nil, All-cons, All-head, All-tail, All-append, All-filter}
 use Rattle.vlog_module.specs.Maps.{value_in}
 use Rattle.vlog_module.specs.declared.sort.Sort.{Sort}
@@ -107,29 +108,44 @@ pub record AreNamed (fabric : Fabric) : Type 0 where
   pub registers : All (λ ram. IsName (register_name ram)) fabric.rams
   pub memories : All (λ ram. IsName (memory_name ram)) fabric.rams
 
-port-no_register : (pin : Pin) (ram : RamCell) → bytes_eq (port_name pin) (register_name ram) ≡ false
+pub port-no_register : (pin : Pin) (ram : RamCell) → bytes_eq (port_name pin) (register_name ram) ≡ false
 unfolding port_name register_name
 port-no_register pin ram = refl
 
-port-no_memory : (pin : Pin) (ram : RamCell) → bytes_eq (port_name pin) (memory_name ram) ≡ false
+pub port-no_memory : (pin : Pin) (ram : RamCell) → bytes_eq (port_name pin) (memory_name ram) ≡ false
 unfolding port_name memory_name
 port-no_memory pin ram = refl
 
-flip-no_register : (lc : Lc) (ram : RamCell) → bytes_eq (flip_name lc) (register_name ram) ≡ false
+pub flip-no_register : (lc : Lc) (ram : RamCell) → bytes_eq (flip_name lc) (register_name ram) ≡ false
 unfolding flip_name register_name
 flip-no_register lc ram = refl
 
-flip-no_memory : (lc : Lc) (ram : RamCell) → bytes_eq (flip_name lc) (memory_name ram) ≡ false
+pub flip-no_memory : (lc : Lc) (ram : RamCell) → bytes_eq (flip_name lc) (memory_name ram) ≡ false
 unfolding flip_name memory_name
 flip-no_memory lc ram = refl
 
-register-no_memory : (a b : RamCell) → bytes_eq (register_name a) (memory_name b) ≡ false
+pub register-no_memory : (a b : RamCell) → bytes_eq (register_name a) (memory_name b) ≡ false
 unfolding register_name memory_name
 register-no_memory a b = refl
 
-every : {X : Type 0} (P : X → Type 0) → ((x : X) → P x) → (xs : List X) → All P xs
+pub every : {X : Type 0} (P : X → Type 0) → ((x : X) → P x) → (xs : List X) → All P xs
 every P each [] = All-nil P
 every P each (x ∷ xs) = All-cons P x xs (each x) (every P each xs)
+
+-- what ports and state declare
+abbrev pub state_names : Fabric → List (List ℕ × Sort)
+state_names fabric =
+    ((map (λ pin. (port_name pin, port_sort (port_of pin))) fabric.pins
+    ++ map (λ lc. (flip_name lc, sort.Register)) (flips_of fabric))
+    ++ map (λ ram. (register_name ram, sort.Word)) fabric.rams)
+    ++ map (λ ram. (memory_name ram, sort.Memory)) fabric.rams
+
+-- what they leave
+pub record StateLeft (fabric : Fabric) (scope : Scope) : Type 0 where
+  pub section : scope.section ≤ 4
+  pub declared_is : scope.declared ≡ state_names fabric
+  pub assigned_is : scope.assigned ≡ []
+  pub started_is : scope.started ≡ []
 
 module _ (fabric : Fabric) (writable : IsWritable fabric) (named : AreNamed fabric) where
   scope-ports : Scope
@@ -217,3 +233,24 @@ module _ (fabric : Fabric) (writable : IsWritable fabric) (named : AreNamed fabr
   state-grows =
       Grows-append scope-ports (map flip_register (flips_of fabric)) (map read_register fabric.rams ++ map ram_memory fabric.rams) flips-grow.0
       (Grows-append scope-flips (map read_register fabric.rams) (map ram_memory fabric.rams) registers-grow.0 memories-grow.0)
+
+  -- what stands after registers, words and memories
+  pub state-left : StateLeft fabric (fold grown (scope_of (map port_of fabric.pins) []) (map flip_register (flips_of fabric) ++ (map read_register fabric.rams ++ map ram_memory fabric.rams)))
+  unfolding scope-ports scope-flips scope-registers
+  state-left =
+      let joined : fold grown (scope_of (map port_of fabric.pins) []) (map flip_register (flips_of fabric) ++ (map read_register fabric.rams ++ map ram_memory fabric.rams))
+      ≡ fold grown scope-registers (map ram_memory fabric.rams) =
+      fold-append grown scope-ports (map flip_register (flips_of fabric)) (map read_register fabric.rams ++ map ram_memory fabric.rams)
+      ∙ fold-append grown scope-flips (map read_register fabric.rams) (map ram_memory fabric.rams) in
+      let ports : scope-ports.declared ≡ map (λ pin. (port_name pin, port_sort (port_of pin))) fabric.pins =
+      append-nil (map (λ port. (port.name, port_sort port)) (map port_of fabric.pins)) ∙ map-map port_of (λ port. (port.name, port_sort port)) fabric.pins in
+      subst (StateLeft fabric) (sym joined) (record {
+        section = memories-grow.1.section;
+        declared_is = memories-grow.1.declared_is
+            ∙ ap (λ list. list ++ map (λ ram. (memory_name ram, sort.Memory)) fabric.rams)
+            (registers-grow.1.declared_is
+            ∙ ap (λ list. list ++ map (λ ram. (register_name ram, sort.Word)) fabric.rams)
+            (flips-grow.1.declared_is ∙ ap (λ list. list ++ map (λ lc. (flip_name lc, sort.Register)) (flips_of fabric)) ports));
+        assigned_is = memories-grow.1.assigned_is ∙ (registers-grow.1.assigned_is ∙ flips-grow.1.assigned_is);
+        started_is = memories-grow.1.started_is ∙ (registers-grow.1.started_is ∙ flips-grow.1.started_is);
+      })

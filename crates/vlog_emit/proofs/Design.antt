@@ -1,4 +1,4 @@
--- Where a database and an image aren't refused, the module that is written for them is their fabric.
+-- Where a database and an image aren't refused, the module that is written for them is their fabric, and it is well-formed.
 use Rattle.std.proofs.Common.{◌≡◌, ℕ, ◌^◌, ◌≤◌, List, length, map}
 use Rattle.std.specs.Prelude.{All, None}
 use Rattle.std.specs.List.{AllZip}
@@ -6,6 +6,8 @@ use Rattle.std.proofs.lemmas.List.Elements.{All-weaker}
 use Rattle.ice_image.specs.Configuration.{Configuration}
 use Rattle.chipdb_reader.specs.Database.{Database}
 use Rattle.chipdb_reader.specs.Fit.{IsFit}
+use Rattle.vlog_module.specs.Names.{IsName}
+use Rattle.vlog_module.specs.WellFormed.{IsModule}
 use Rattle.vlog_cycle.specs.Run.{module_run}
 use Rattle.fabric_rules.specs.declared.pin.GlobalNet.{GlobalNet}
 use Rattle.fabric_rules.specs.Rams.{rams_of}
@@ -24,6 +26,8 @@ use Rattle.vlog_emit.proofs.Beginning.{IsPorted}
 use Rattle.vlog_emit.proofs.Configured.{IsPadIn, ports-apart, cells-apart, rams-apart, register-places, memory-places, fabric-started, drives-there}
 use Rattle.vlog_emit.proofs.Pads.{pads-there}
 use Rattle.vlog_emit.proofs.Headline.{module-is-fabric}
+use Rattle.vlog_emit.proofs.Whole.{module-well_formed}
+use Rattle.vlog_emit.proofs.Shapely.{fabric-shapely}
 
 module _ (db : Database) (image : Configuration) (fit : IsFit db) (few : db.chip.nets ≤ 2 ^ 64) (none : design_fault db image ≡ None) where
   pads : All (λ (global : GlobalNet). IsPadIn (inputs_of (fabric_of db image)) global.from) (fabric_of db image).globals
@@ -50,3 +54,9 @@ module _ (db : Database) (image : Configuration) (fit : IsFit db) (few : db.chip
   design-is-module order ordered name =
       module-is-fabric image.device (fabric_of db image) (design-taken db image none).fabric (fabric-placed db image) (fabric-within db image fit)
       fabric-writable (fabric-started db image) order ordered name
+
+  -- The written module is well-formed.
+  pub design-well_formed : (order : List ℕ) → IsWriteOrder (wiring_of (fabric_of db image)) order → (name : List ℕ) → IsName name
+      → IsModule (module_of (fabric_of db image) order name)
+  design-well_formed order ordered =
+      module-well_formed (fabric_of db image) (fabric-within db image fit) fabric-writable (fabric-started db image) (fabric-shapely db image) order ordered

@@ -21,3 +21,8 @@ pub mod Wired
 pub mod Assigned
 pub mod Ticking
 pub mod Starts
+pub mod Known
+pub mod Clocks
+pub mod Complete
+pub mod Whole
+pub mod Shapely

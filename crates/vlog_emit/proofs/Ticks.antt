@@ -93,7 +93,7 @@ rule-pin one place is = absurd cc
 rule-pin (register_bit ram bit) place is = absurd cc
 rule-pin (copied source) place is = absurd cc
 
-leads-place : (fabric : Fabric) → IsWritable fabric → {class : ℕ} {end : ClockEnd} → LeadsTo fabric class end → (place : ℕ) → end ≡ at_pin place → place < length (inputs_of fabric)
+pub leads-place : (fabric : Fabric) → IsWritable fabric → {class : ℕ} {end : ClockEnd} → LeadsTo fabric class end → (place : ℕ) → end ≡ at_pin place → place < length (inputs_of fabric)
 leads-place fabric writable {class} (ends_here turn) place at =
     elim (cases_Bool (is_driven fabric class)) [
       | inl driven ↦

@@ -74,10 +74,10 @@ fn image(alloc: Global) -> Result<Vec<u8>, AllocError> {
 }
 
 /// What these words leave with a database in the file `A` and an image on standard input.
-fn explained(
+fn explained<'a>(
     alloc: Global,
-    database: &[u8],
-    image: &[u8],
+    database: &'a [u8],
+    image: &'a [u8],
     words: &[&str],
 ) -> Result<Ended, AllocError> {
     let setup = Setup {

@@ -35,6 +35,7 @@ use Rattle.fabric_rules.specs.Fabric.{Fabric, Buffer, numbered_from, numbered, j
 use Rattle.fabric_rules.specs.Drivers.{Rule, Drive, drives_if, pin_drives, back_drives, lut_drives, flip_drives, lout_drives, carry_drives, set_drives, ram_drive, ram_drives, global_rule, global_drives, buffer_drives, drives_of, nets_read}
 use Rattle.fabric_rules.specs.Drivers.Rule.{pin_bit, sent_back, lut_entry, flip_bit, carry_out, one, register_bit, copied}
 use Rattle.fabric_rules.specs.Wiring.{has}
+use Rattle.fabric_rules.specs.Within.{IsNetIn, IsPinIn, IsCellIn, IsSetIn, IsRamIn, IsFromIn, IsGlobalIn, IsBufferIn, IsJoinIn, HasNetsIn}
 use Rattle.fabric_rules.proofs.Order.{has-none, has-cases}
 use Rattle.fabric_rules.proofs.OneValue.{IsWithin}
 
@@ -93,10 +94,6 @@ has-All P (head ∷ rest) n all found =
 
 -- ---- nets that may be missing
 
-abbrev pub IsNetIn : ℕ → Option ℕ → Type 0
-IsNetIn nets None = Unit {0}
-IsNetIn nets (Some net) = net < nets
-
 abbrev Below : ℕ → ℕ → Type 0
 Below nets net = net < nets
 
@@ -111,51 +108,6 @@ get_or-in : (nets : ℕ) (list : List (Option ℕ)) (k : ℕ) → All (IsNetIn n
 get_or-in nets [] k all = tt
 get_or-in nets (net ∷ list) zero all = All-head (IsNetIn nets) net list all
 get_or-in nets (net ∷ list) (suc k) all = get_or-in nets list k (All-tail (IsNetIn nets) net list all)
-
--- ---- parts
-
-record IsPinIn (nets : ℕ) (pin : Pin) : Type 0 where
-  din : IsNetIn nets pin.din
-  dout : IsNetIn nets pin.dout
-
-record IsCellIn (nets : ℕ) (lc : Lc) : Type 0 where
-  ins : All (IsNetIn nets) lc.ins
-  out : IsNetIn nets lc.out
-  lout : IsNetIn nets lc.lout
-  cout : IsNetIn nets lc.cout
-  cin : IsNetIn nets lc.cin
-
-IsSetIn : ℕ → CarrySet → Type 0
-IsSetIn nets set = set.net < nets
-
-IsRamIn : ℕ → RamCell → Type 0
-IsRamIn nets ram = All (IsNetIn nets) ram.rdata
-
-IsFromIn : ℕ → GlobalFrom → Type 0
-IsFromIn nets (Pad x y n) = Unit {0}
-IsFromIn nets (Fabout net) = net < nets
-
-record IsGlobalIn (nets : ℕ) (global : GlobalNet) : Type 0 where
-  net : global.net < nets
-  from : IsFromIn nets global.from
-
-record IsBufferIn (nets : ℕ) (buffer : Buffer) : Type 0 where
-  src : buffer.src < nets
-  dst : buffer.dst < nets
-
-record IsJoinIn (nets : ℕ) (join : ℕ × ℕ) : Type 0 where
-  first : join.0 < nets
-  second : join.1 < nets
-
--- all parts
-record HasNetsIn (fabric : Fabric) : Type 0 where
-  joins : All (IsJoinIn fabric.nets) fabric.joins
-  buffers : All (IsBufferIn fabric.nets) fabric.buffers
-  pins : All (IsPinIn fabric.nets) fabric.pins
-  globals : All (IsGlobalIn fabric.nets) fabric.globals
-  lcs : All (IsCellIn fabric.nets) fabric.lcs
-  sets : All (IsSetIn fabric.nets) fabric.sets
-  rams : All (IsRamIn fabric.nets) fabric.rams
 
 -- ---- drivers
 
@@ -200,19 +152,19 @@ module _ (nets : ℕ) where
       (listed-in nets (get_or lc.ins 2 None) (get_or-in nets lc.ins 2 in'.ins)) (listed-in nets lc.cin in'.cin)))
 
   set_drives-in : (set : CarrySet) → IsSetIn nets set → All (IsDriveIn nets) (set_drives set)
-  unfolding nets_read IsSetIn
+  unfolding nets_read
   set_drives-in set in' = drives_if-in nets _ one (Some set.net) in' (All-nil (Below nets))
 
   ram_drives-in : (place : ℕ × RamCell) → IsRamIn nets place.1 → All (IsDriveIn nets) (ram_drives place)
-  unfolding nets_read IsRamIn
+  unfolding nets_read
   ram_drives-in place in' =
       All-flat_map (IsDriveIn nets) (ram_drive place) (numbered place.1.rdata)
       (All-weaker (λ (port : ℕ × Option ℕ). IsNetIn nets port.1) (λ (port : ℕ × Option ℕ). All (IsDriveIn nets) (ram_drive place port))
       (λ port here. drives_if-in nets _ (register_bit place.0 port.0) port.1 here (All-nil (Below nets)))
-      (numbered place.1.rdata) (All-numbered (IsNetIn nets) 0 place.1.rdata in'))
+      (numbered place.1.rdata) (All-numbered (IsNetIn nets) 0 place.1.rdata in'.rdata))
 
   global_reads-in : (pins : List Pin) (from : GlobalFrom) → IsFromIn nets from → All (Below nets) (nets_read (global_rule pins from))
-  unfolding nets_read IsFromIn
+  unfolding nets_read
   global_reads-in pins (Pad x y n) in' = All-nil (Below nets)
   global_reads-in pins (Fabout net) in' = All-single (Below nets) net in'
 
@@ -322,6 +274,9 @@ module _ (db : Database) (image : Configuration) (fit : IsFit db) where
     lout = named-in x y _;
     cout = named-in x y _;
     cin = carry_in-in x y i;
+    clk = named-in x y _;
+    cen = named-in x y _;
+    sr = named-in x y _;
   }
 
   cells_at-in : (x y : ℕ) → All (IsCellIn db.chip.nets) (cells_at db image x y)
@@ -335,7 +290,6 @@ module _ (db : Database) (image : Configuration) (fit : IsFit db) where
   cells-in = All-over_tiles (IsCellIn db.chip.nets) image.device Logic (cells_at db image) (λ x y left low. cells_at-in x y)
 
   set_with-in : (x y : ℕ) (net : Option ℕ) → IsNetIn db.chip.nets net → All (IsSetIn db.chip.nets) (set_with x y net)
-  unfolding IsSetIn
   set_with-in x y None in' = All-nil (IsSetIn db.chip.nets)
   set_with-in x y (Some net) in' = All-single (IsSetIn db.chip.nets) (record { x = x; y = y; net = net }) in'
 
@@ -345,8 +299,20 @@ module _ (db : Database) (image : Configuration) (fit : IsFit db) where
       (λ x y left low. All-if (IsSetIn db.chip.nets) _ (set_with x y (net_named db x y _)) (set_with-in x y _ (named-in x y _)))
 
   ram_at-in : (x y : ℕ) → IsRamIn db.chip.nets (ram_at db image x y)
-  unfolding ram_at IsRamIn
-  ram_at-in x y = each-in 16 _ (λ k. port-in x y _)
+  unfolding ram_at
+  ram_at-in x y = record {
+    rdata = each-in 16 _ (λ k. port-in x y _);
+    wdata = each-in 16 _ (λ k. port-in x y _);
+    mask = each-in 16 _ (λ k. port-in x y _);
+    waddr = each-in 8 _ (λ k. port-in x y _);
+    raddr = each-in 8 _ (λ k. port-in x y _);
+    wclk = port-in x y _;
+    wclke = port-in x y _;
+    we = port-in x y _;
+    rclk = port-in x y _;
+    rclke = port-in x y _;
+    re = port-in x y _;
+  }
 
   rams-in : All (IsRamIn db.chip.nets) (rams_of db image)
   unfolding rams_of
@@ -363,7 +329,7 @@ module _ (db : Database) (image : Configuration) (fit : IsFit db) where
   fabout-in (Some tile) name = named-in tile.x tile.y name
 
   source-in : (pad : Option PinXy) (fabout : Option ℕ) → IsNetIn db.chip.nets fabout → IsSourceIn (source_of_global pad fabout)
-  unfolding IsSourceIn IsFromIn
+  unfolding IsSourceIn
   source-in (Some pad) fabout in' = tt
   source-in None None in' = tt
   source-in None (Some net) in' = in'
@@ -382,7 +348,7 @@ module _ (db : Database) (image : Configuration) (fit : IsFit db) where
       All-gathered (IsGlobalIn db.chip.nets) 8 (λ g. nets_from db g (global_source db image g))
       (λ g below. nets_from-in g (global_source db image g) (source-in (global_pad db image g) (global_fabout db g) (fabout-in (input_of g db.global_inputs) _)))
 
-  fabric-in : HasNetsIn (fabric_of db image)
+  pub fabric-in : HasNetsIn (fabric_of db image)
   unfolding fabric_of
   fabric-in = record {
     joins = joins-in;

@@ -1,3 +1,4 @@
+pub mod Within
 pub mod Unique
 pub mod On
 pub mod Tiles

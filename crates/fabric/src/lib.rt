@@ -1,0 +1,2 @@
+//! The design of a database and an image.
+#![tactic(auto)]

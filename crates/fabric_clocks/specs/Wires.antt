@@ -1,0 +1,20 @@
+-- What the classes of a fabric read, as it is kept.
+use Rattle.std.specs.Prelude.{◌≡◌, ℕ, ◌<◌, Bool, List, length}
+use Rattle.fabric_rules.specs.Fabric.{Fabric}
+use Rattle.fabric_rules.specs.Wiring.{Wiring, depends, is_on_cycle, IsPath, IsCycle, IsWriteOrder} 
+use Rattle.fabric_rules.specs.Wiring.{wiring_of as wiring_of_fabric}
+use Rattle.fabric_order.specs.Rows.{wiring_of, ReadsWithin, ReadsByDriven}
+use Rattle.fabric_clocks.specs.declared.wires.Wires.{Wires}
+
+-- two wirings that say the same
+pub record AreAlike (one two : Wiring) : Type 0 where
+  pub count : one.count ≡ two.count
+  pub driven : (class : ℕ) → one.driven class ≡ two.driven class
+  pub reads : (class other : ℕ) → depends one class other ≡ depends two class other
+
+-- wires are those of a fabric where they say what its drivers do
+pub record AreWiresOf (fabric : Fabric) (wires : Wires) : Type 0 where
+  pub rows : length wires.reads.items ≡ length wires.driven.items
+  pub alike : AreAlike (wiring_of wires.driven.items wires.reads.items) (wiring_of_fabric fabric)
+  pub within : ReadsWithin (wiring_of wires.driven.items wires.reads.items)
+  pub by_driven : ReadsByDriven (wiring_of wires.driven.items wires.reads.items)

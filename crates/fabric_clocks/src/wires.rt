@@ -1,0 +1,8 @@
+// Which classes have a driver, and which classes each reads.
+
+/// For each class whether it has a driver, and the classes that its driver reads.
+#[derive(Drop)]
+pub struct Wires {
+    pub driven: Vec<bool>,
+    pub reads: Vec<Vec<u32>>,
+}

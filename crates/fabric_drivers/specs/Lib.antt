@@ -1,0 +1,4 @@
+pub mod Drives
+pub mod Parts
+pub mod Kept
+pub mod Faults

@@ -1,2 +1,13 @@
-//! The design of a database and an image.
+//! The design of a database and an image: the configured fabric, with the driver of each class of nets, the order in which classes
+//! are written, and the pins of clocks.
+//!
+//! [`design`] finds it, or the first cause why the two aren't taken. The calls of [`Design`] take no memory.
 #![tactic(auto)]
+
+mod cycle;
+mod design;
+mod fault;
+
+pub use cycle::Cycle;
+pub use design::{Design, LinkEnds};
+pub use fault::FabricFault;

@@ -1,0 +1,29 @@
+-- When a design is that of a database and an image.
+use Rattle.std.specs.Prelude.{◌≡◌, ℕ, ◌^◌, ◌≤◌, List, slice_get, option_map, option_and_then, Option, Some, None}
+use Rattle.ice_image.specs.Configuration.{Configuration}
+use Rattle.chipdb_reader.specs.Database.{Database}
+use Rattle.chipdb_reader.specs.Fit.{IsFit}
+use Rattle.chipdb_reader.specs.declared.items.PinXy.{PinXy}
+use Rattle.fabric_rules.specs.declared.pin.Pin.{Pin}
+use Rattle.fabric_rules.specs.Fabric.{fabric_of}
+use Rattle.fabric_rules.specs.Clocks.{ClockEnd}
+use Rattle.fabric_rules.specs.Clocks.ClockEnd.{at_pin, still, other}
+use Rattle.fabric_rules.specs.Faults.{design_fault}
+use Rattle.fabric.specs.Kept.{Kept, IsKeptOf}
+
+-- A design is of a database and an image where they have no fault and it keeps what they configure.
+pub record IsDesignOf (db : Database) (image : Configuration) (design : Kept) : Type 0 where
+  pub fit : IsFit db
+  pub few : db.chip.nets ≤ 2 ^ 64
+  pub taken : design_fault db image ≡ None
+  pub kept : IsKeptOf (fabric_of db image) design
+
+-- a design of some database and image
+abbrev pub IsDesign : Kept → Type 0
+IsDesign design = (db : Database) × (image : Configuration) × IsDesignOf db image design
+
+-- the pin at which a chain ends
+abbrev pub end_pin : List Pin → ClockEnd → Option PinXy
+end_pin inputs (at_pin place) = option_map (λ pin. record { x = pin.x; y = pin.y; n = pin.n }) (slice_get inputs place)
+end_pin inputs still = None
+end_pin inputs other = None

@@ -1,0 +1,51 @@
+-- Why a database and an image aren't taken, with the evidence.
+use Rattle.std.specs.Prelude.{◌≡◌, ℕ, List, ◌∷◌, Contains, Option, Some}
+use Rattle.ice_image.specs.Configuration.{Configuration}
+use Rattle.fabric_rules.specs.declared.driver.Driver.{Driver}
+use Rattle.fabric_rules.specs.declared.driver.ClockUser.{ClockUser}
+use Rattle.fabric_rules.specs.Tiles.{first_of}
+use Rattle.fabric_rules.specs.Fabric.{Fabric}
+use Rattle.fabric_rules.specs.Drivers.{Drive, drivers_of}
+use Rattle.fabric_rules.specs.Wiring.{wiring_of, IsCycle}
+use Rattle.fabric_rules.specs.Clocks.{User, users_of, clock_end}
+use Rattle.fabric_rules.specs.Clocks.ClockEnd.{other}
+use Rattle.fabric_rules.specs.Faults.{Fault}
+use Rattle.plane_map.specs.declared.device.DeviceName.{DeviceName}
+use Rattle.fabric.specs.declared.fault.FabricFault.{FabricFault}
+use Rattle.fabric.specs.declared.fault.FabricFault.TheVariants.{Device, Pll, PinMode, Mode, Cascade, Async, TwoDrivers, Loop, Clock, Memory}
+
+-- ---- evidence
+
+-- two drivers of a class, the first two of all
+pub record AreTwoDrivers (fabric : Fabric) (class : ℕ) (first second : Driver) : Type 0 where
+  pub one : Drive
+  pub two : Drive
+  pub rest : List Drive
+  pub drive : drivers_of fabric class ≡ one ∷ two ∷ rest
+  pub first_is : one.driver ≡ first
+  pub second_is : two.driver ≡ second
+
+-- a cycle that begins with a class: each class depends on the next, and the last one on the first
+pub record IsCycleFrom (fabric : Fabric) (class : ℕ) (cycle : List ℕ) : Type 0 where
+  pub is_cycle : IsCycle (wiring_of fabric) cycle
+  pub begins : first_of cycle ≡ Some class
+
+-- a user of a clock whose chain ends at another driver than a pin
+pub record IsUnclocked (device : DeviceName) (fabric : Fabric) (x y : ℕ) (user : ClockUser) (net : ℕ) : Type 0 where
+  pub there : Contains (users_of device fabric) (record { x = x; y = y; user = user; net = Some net })
+  pub ends : clock_end fabric net ≡ other
+
+-- ---- refusals
+
+-- a refusal tells the fault with its evidence, or that memory ran out
+abbrev pub IsCause : DeviceName → Fabric → Option Fault → FabricFault → Type 0
+IsCause device fabric fault Device = fault ≡ Some Fault.other_device
+IsCause device fabric fault (Pll x y) = fault ≡ Some (Fault.pll x y)
+IsCause device fabric fault (PinMode x y pio pintype) = fault ≡ Some (Fault.pin_mode x y pio pintype)
+IsCause device fabric fault (Mode x y read write) = fault ≡ Some (Fault.mode x y read write)
+IsCause device fabric fault (Cascade x y) = fault ≡ Some (Fault.cascade x y)
+IsCause device fabric fault (Async x y i) = fault ≡ Some (Fault.async x y i)
+IsCause device fabric fault (TwoDrivers net first second) = (fault ≡ Some (Fault.two_drivers net first second)) × AreTwoDrivers fabric net first second
+IsCause device fabric fault (Loop net cycle) = (fault ≡ Some (Fault.loop net)) × IsCycleFrom fabric net cycle
+IsCause device fabric fault (Clock x y user net) = (fault ≡ Some (Fault.clock x y user net)) × IsUnclocked device fabric x y user net
+IsCause device fabric fault (Memory failed) = Unit {0}

@@ -1,0 +1,39 @@
+-- What is kept of a design, and when it is that of a fabric.
+use Rattle.std.specs.Prelude.{◌≡◌, ℕ, ◌+◌, ◌*◌, ◌<◌, List, [], length, get_or}
+use Rattle.bit_plane.specs.BitList.{word_of}
+use Rattle.fabric_rules.specs.declared.pin.Pin.{Pin}
+use Rattle.fabric_rules.specs.Fabric.{Fabric, inputs_of}
+use Rattle.fabric_rules.specs.Wiring.{wiring_of, IsWriteOrder}
+use Rattle.fabric_drivers.specs.declared.parts.Parts.{Parts}
+use Rattle.fabric_drivers.specs.Parts.{ArePartsOf}
+use Rattle.fabric_drivers.specs.Kept.{DriverSet, AreDriversOf}
+use Rattle.fabric_clocks.specs.declared.ends.ClockEnd.{ClockEnd}
+use Rattle.fabric_clocks.specs.Ends.{AreEndsOf}
+
+-- the parts of a fabric, its input pins and its drivers, the order in which classes are written, where the chain from each class
+-- ends, and the start words of the used RAMs, 256 for each
+pub record Kept : Type 0 where
+  pub parts : Parts
+  pub inputs : List Pin
+  pub drivers : DriverSet
+  pub order : List ℕ
+  pub ends : List ClockEnd
+  pub words : List ℕ
+
+-- a start word of the used RAM at a place
+abbrev pub word_in : List ℕ → ℕ → ℕ → ℕ
+word_in words ram word = get_or words (ram * 256 + word) 0
+
+-- the words are those of a fabric
+pub record AreWordsOf (fabric : Fabric) (words : List ℕ) : Type 0 where
+  pub count : length words ≡ length fabric.rams * 256
+  pub each : (ram word : ℕ) → ram < length fabric.rams → word < 256 → word_in words ram word ≡ word_of (get_or (get_or fabric.start ram []) word [])
+
+-- all of it is that of a fabric
+pub record IsKeptOf (fabric : Fabric) (design : Kept) : Type 0 where
+  pub parts : ArePartsOf fabric design.parts
+  pub inputs : design.inputs ≡ inputs_of fabric
+  pub drivers : AreDriversOf fabric design.drivers
+  pub order : IsWriteOrder (wiring_of fabric) design.order
+  pub ends : AreEndsOf fabric design.ends
+  pub words : AreWordsOf fabric design.words

@@ -1,0 +1,27 @@
+// A cycle of classes.
+ghost use Rattle.std.specs.Prelude.{◌≡◌};
+
+use std::marker::Model;
+
+/// A cycle of classes, each named by its least net. Each class depends on the next, and the last one on the first.
+#[derive(Drop)]
+pub struct Cycle {
+    pub(crate) nets: Vec<u32>,
+}
+
+impl Model for Cycle {
+    ghost use Rattle.std.specs.Prelude.{List, ℕ};
+
+    ghost Value = { List ℕ };
+
+    ghost view = { λ cycle. cycle.nets.items };
+}
+
+impl Cycle {
+    /// The names of the classes. It takes no memory.
+    pub fn nets(&self) -> &[u32]
+        ensures { result.now ≡ self.now }
+    {
+        &self.nets
+    }
+}

@@ -7,6 +7,8 @@
 mod cycle;
 mod design;
 mod fault;
+mod parts;
+mod words;
 
 pub use cycle::Cycle;
 pub use design::{Design, LinkEnds};

@@ -27,7 +27,7 @@ unfolding gathered_below
 each_below-length zero given = refl
 each_below-length (suc n) given = omega (arith, each_below-length n given, length-append (each_below n given) (given n ∷ []))
 
-each_below-at : {A : Type 0} (n k : ℕ) (given : ℕ → A) (d : A) → k < n → get_or (each_below n given) k d ≡ given k
+pub each_below-at : {A : Type 0} (n k : ℕ) (given : ℕ → A) (d : A) → k < n → get_or (each_below n given) k d ≡ given k
 unfolding gathered_below
 each_below-at zero k given d within = absurd (omega arith)
 each_below-at (suc n) k given d within =

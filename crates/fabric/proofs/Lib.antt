@@ -1,0 +1,5 @@
+pub mod Lists
+pub mod Refused
+pub mod Buffers
+pub mod StartWords
+pub mod Composed

@@ -2,7 +2,7 @@
 use Rattle.std.proofs.Common.{◌≡◌, ℕ, ◌<◌, ◌≤◌, Bool, true, false, List, [], ◌∷◌, ◌++◌, length, reverse, get_or, refl, sym, ap, ◌∙◌, subst, arith}
 use Rattle.std.proofs.lemmas.Bool.{false_from_ne_true}
 use Rattle.std.proofs.lemmas.List.{reverse-append}
-use Rattle.fabric_rules.specs.Wiring.{Wiring, has, depends, IsPath, IsCycle, is_on_cycle}
+use Rattle.fabric_rules.specs.Wiring.{Wiring, depends, IsPath, IsCycle, is_on_cycle}
 use Rattle.fabric_rules.proofs.Cycles.{IsBounded, is_on_cycle-sound, is_on_cycle-whole}
 use Rattle.fabric_order.specs.Rows.{is_marked}
 use Rattle.fabric_order.specs.Levels.{DontRise}

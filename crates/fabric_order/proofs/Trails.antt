@@ -1,5 +1,5 @@
 -- A search along rows goes on.
-use Rattle.std.proofs.Common.{◌≡◌, ◌≢◌, ℕ, zero, suc, ◌+◌, ◌<◌, ◌≤◌, Bool, true, false, cond, not, inl, inr, List, [], ◌∷◌, ◌++◌, length, get_or, set, refl, sym, ap, ◌∙◌, subst, arith, count_by}
+use Rattle.std.proofs.Common.{◌≡◌, ℕ, ◌+◌, ◌<◌, ◌≤◌, Bool, true, false, cond, not, inl, inr, List, [], ◌∷◌, ◌++◌, length, get_or, set, refl, sym, ap, ◌∙◌, subst, arith, count_by}
 use Rattle.std.proofs.Math.ListN.{get_or-append}
 use Rattle.std.proofs.Math.Seq.{get_or-append_seam}
 use Rattle.std.proofs.lemmas.Bool.{cases_lt, cases_eq, cases_Bool}
@@ -7,7 +7,7 @@ use Rattle.std.proofs.lemmas.List.{length-append}
 use Rattle.std.proofs.lemmas.List.Sums.{sum_by-set}
 use Rattle.fabric_rules.specs.Wiring.{has}
 use Rattle.fabric_order.specs.Rows.{is_marked}
-use Rattle.fabric_order.specs.Search.{nowhere, class_at, from_at, StandsIn, IsTrail, Adds, IsSearch}
+use Rattle.fabric_order.specs.Search.{nowhere, class_at, from_at, StandsIn, Adds, IsSearch}
 use Rattle.fabric_order.specs.declared.search.Found.{Found}
 use Rattle.fabric_order.proofs.Written.{marked}
 
@@ -78,10 +78,10 @@ module _ (row : List ℕ) (old marks : List Bool) (trail grown : List Found) (on
         still_marked = λ class so. still-marked marks one.class class within (adds.still_marked class so);
         listed = λ class so unset. elim (cases_eq class one.class) [
           | inl same ↦ record {
-              place = length grown;
-              within = omega (arith, long);
-              here = ap (λ (f : Found). f.class) (push-here grown one (length grown) (omega arith) (omega (arith, long))) ∙ sym same;
-            }
+            place = length grown;
+            within = omega (arith, long);
+            here = ap (λ (f : Found). f.class) (push-here grown one (length grown) (omega arith) (omega (arith, long))) ∙ sym same;
+          }
           | inr apart ↦ stands-kept grown (grown ++ one ∷ []) class (omega (arith, long)) (push-before grown one) (adds.listed class (sym (marks_now.other class apart) ∙ so) unset)
         ];
         few = omega (arith, long, fewer, adds.few);
@@ -127,7 +127,7 @@ module _ (row : ℕ → List ℕ) (start : ℕ) (old marks new : List Bool) (don
     | inl before ↦
         let earlier = so_far.leads.before place behind before in
         let from : class_at grown (from_at grown place) ≡ class_at trail (from_at trail place) =
-            ap (class_at grown) (from-kept place before) ∙ class-kept (from_at trail place) (omega (arith, earlier)) in
+        ap (class_at grown) (from-kept place before) ∙ class-kept (from_at trail place) (omega (arith, earlier)) in
         ap (λ k. has (row k) (class_at grown place)) from
         ∙ ap (has (row (class_at trail (from_at trail place)))) (class-kept place before)
         ∙ so_far.leads.in_row place behind before

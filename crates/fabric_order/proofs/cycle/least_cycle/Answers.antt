@@ -1,4 +1,4 @@
-use Rattle.std.proofs.Common.{◌≡◌, ◌<◌, inl, inr, IfSome, length, subst, arith}
+use Rattle.std.proofs.Common.{inl, inr, IfSome, length, subst, arith}
 use Rattle.std.proofs.lemmas.Bool.{cases_lt}
 use Rattle.fabric_rules.specs.Wiring.{IsCycle}
 use Rattle.fabric_order.specs.Rows.{wiring_of}

@@ -1,6 +1,5 @@
 use Rattle.std.proofs.Common.{◌≡◌, ◌<◌, ◌++◌, ◌∷◌, [], true, length, get_or, set, ap, sym, subst, ◌∙◌, arith}
 use borrow.Author.Count.{below_more}
-use Rattle.fabric_rules.specs.Wiring.{has}
 use Rattle.fabric_order.specs.Rows.{is_marked}
 use Rattle.fabric_order.specs.Search.{Adds}
 use Rattle.fabric_order.specs.declared.search.Found.{Found}

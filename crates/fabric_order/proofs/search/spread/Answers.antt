@@ -1,7 +1,7 @@
-use Rattle.std.proofs.Common.{◌≡◌, ◌<◌, ◌∙◌, Bool, true, length, ap, sym, subst, arith}
+use Rattle.std.proofs.Common.{◌≡◌, ◌<◌, ◌∙◌, Bool, length, ap, sym, subst, arith}
 use Rattle.std.proofs.lemmas.List.{get_or_read, length-set}
 use Rattle.fabric_rules.specs.Wiring.{has}
-use Rattle.fabric_order.specs.Rows.{is_marked, row_at}
+use Rattle.fabric_order.specs.Rows.{row_at}
 use Rattle.fabric_order.specs.Search.{nowhere, class_at, Adds}
 use Rattle.fabric_order.specs.declared.search.Found.{Found}
 use Rattle.fabric_order.proofs.Lists.{row-items}
@@ -40,7 +40,7 @@ loop-place-preserved c =
     let row_within : item.class < length rows = omega (arith, class, below, c.requires.rows) in
     let row = c.index-rows-class.result in
     let here : row_at rows (class_at trail at) ≡ c.deref.result.now =
-        ap (row_at rows) (sym class) ∙ row-items rows item.class row row row_within c.index-rows-class.is ∙ sym c.deref.ensures.value in
+    ap (row_at rows) (sym class) ∙ row-items rows item.class row row row_within c.index-rows-class.is ∙ sym c.deref.ensures.value in
     let adds = subst (λ list. Adds list at marks new trail grown) (sym here) c.in_ok-add_unmarked.ensures.adds in
     record {
       so_far = search-more (row_at rows) c.args.start old marks new at trail grown so_far within adds

@@ -92,7 +92,7 @@ fn cycle_at(
     requires rows { length reads.now ≡ length driven.now }
     requires within { ReadsWithin (wiring_of driven.now reads.now) }
     requires levels { length levels.now ≡ length driven.now }
-    requires fall { DontRise (row_at reads.now) levels.now }
+    requires none_rises { DontRise (row_at reads.now) levels.now }
     requires class { class < length driven.now }
     ensures cycle { IfOk result (λ found. IfSome found (λ cycle. IsCycle (wiring_of driven.now reads.now) cycle.items)) }
     ensures first { IfOk result (λ found. IfSome found (λ cycle. slice_index cycle.items 0 ≡ class)) }
@@ -108,8 +108,7 @@ fn cycle_at(
 /// The least class that lies on a cycle, with a cycle that begins with it: each class reads the next, and the last one
 /// the first. None where no class lies on a cycle.
 ///
-/// `driven` and `reads` are those of [`write_order`](crate::write_order). Which classes have a
-/// driver doesn't matter here.
+/// `driven` and `reads` are as in [`write_order`](crate::write_order). Which classes have a driver doesn't matter here.
 ///
 /// # Errors
 /// `AllocError` where memory is out, and for no other cause.

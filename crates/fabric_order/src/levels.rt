@@ -96,7 +96,8 @@ fn set_level(trail: &[Found], level: usize, levels: &mut [usize])
     }
 }
 
-/// Gives one level to the classes that lie on cycles with each other, the last ones in the order first.
+/// A level for each class, by searches along readers: the first from the last class of the order, each other from the last class
+/// that has no level yet. All that one search comes to have one level, the place in the order of the class where it began.
 fn searched(alloc: Global, readers: &[Vec<u32>], order: &[u32]) -> Result<Vec<usize>, AllocError>
     requires within { (class other : ℕ) → has (row_at readers.now class) other ≡ true → other < length readers.now }
     requires below { All (λ class. class < length readers.now) order.now }
@@ -122,7 +123,7 @@ fn is_at_most(row: &[u32], levels: &[usize], level: usize) -> bool
 }
 
 /// Whether no class reads one of a higher level.
-fn falls(reads: &[Vec<u32>], levels: &[usize]) -> bool
+fn none_rises(reads: &[Vec<u32>], levels: &[usize]) -> bool
     requires rows { length levels.now ≡ length reads.now }
     requires within { (class other : ℕ) → has (row_at reads.now class) other ≡ true → other < length reads.now }
     ensures { IsTrue result → DontRise (row_at reads.now) levels.now }
@@ -137,18 +138,18 @@ fn falls(reads: &[Vec<u32>], levels: &[usize]) -> bool
 
 /// A level for each class; none reads one of a higher level.
 ///
-/// The search gives such levels, and the same one to two classes only where they lie on a cycle. It is tested that
-/// none rises, and would one do so, all would have the same level.
+/// The searches give such levels, and the same one to two classes only where each leads to the other. This isn't proved: it is
+/// tested that no level rises, and if one did, all classes would get the same level.
 pub(crate) fn levels_of(alloc: Global, reads: &[Vec<u32>]) -> Result<Vec<usize>, AllocError>
     requires few { length reads.now ≤ u32.MAX }
     requires within { (class other : ℕ) → has (row_at reads.now class) other ≡ true → other < length reads.now }
     ensures length { IfOk result (λ levels. length levels.items ≡ length reads.now) }
-    ensures fall { IfOk result (λ levels. DontRise (row_at reads.now) levels.items) }
+    ensures none_rises { IfOk result (λ levels. DontRise (row_at reads.now) levels.items) }
 {
     let readers = readers_of(alloc, reads)?;
     let order = finished(alloc, reads)?;
     let levels = searched(alloc, &readers, &order)?;
-    if falls(reads, &levels) {
+    if none_rises(reads, &levels) {
         Ok(levels)
     } else {
         vec![in alloc; 0; reads.len()]

@@ -20,6 +20,6 @@ returns-else-has_level-clause-none c =
     let levels = c.args.levels.now in
     let within : at < length c.args.reads.now = omega (arith, c.requires.class, c.requires.rows) in
     let here = row-items c.args.reads.now at row row within c.index-reads-class.is ∙ sym c.deref.ensures.value in
-    level-open (wiring_of c.args.driven.now c.args.reads.now) levels c.requires.fall at (λ other reads own.
+    level-open (wiring_of c.args.driven.now c.args.reads.now) levels c.requires.none_rises at (λ other reads own.
     let found = any-has (λ class. get_or levels class 0 == get_or levels at 0) c.deref.result.now other (ap (λ list. has list other) (sym here) ∙ reads) (eq-eqb (get_or levels other 0) (get_or levels at 0) own) in
     absurd (cc (found, c.has_level.ensures, c.if-has_level.false)))

@@ -1,0 +1,3 @@
+pub mod Drives
+pub mod Following
+pub mod Rows

@@ -1,0 +1,1 @@
+-- lemmas to come

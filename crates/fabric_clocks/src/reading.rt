@@ -81,6 +81,7 @@ fn row_of(alloc: Global, links: &Links, drive: Option<Drive>) -> Result<Vec<u32>
 }
 
 /// The classes that a driver with that rule reads.
+#[tactic(auto, unfolding(fabric_rules::specs::Drivers::nets_read))]
 fn row_by(alloc: Global, links: &Links, rule: Rule) -> Result<Vec<u32>, AllocError>
     requires { (net : ℕ) → has (nets_read (rule_of rule)) net ≡ true → net < length links.now.classes }
     ensures { IfOk result (λ row. row.items ≡ classes_read links.now rule) }
@@ -90,7 +91,9 @@ fn row_by(alloc: Global, links: &Links, rule: Rule) -> Result<Vec<u32>, AllocErr
         Rule::LutEntry(lc) => classes_of(alloc, links, &lc.ins),
         Rule::CarryOut(lc) => classes_of(alloc, links, &[lc.ins[1], lc.ins[2], lc.cin]),
         Rule::Copied(net) => classes_of(alloc, links, &[Some(net)]),
-        _ => Ok(Vec::new(alloc)),
+        Rule::PinBit(_) | Rule::FlipBit(_) | Rule::One | Rule::RegisterBit { .. } => {
+            Ok(Vec::new(alloc))
+        }
     }
 }
 

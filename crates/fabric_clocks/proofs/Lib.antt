@@ -1,3 +1,5 @@
 pub mod Drives
 pub mod Following
 pub mod Rows
+pub mod Grid
+pub mod Sooner

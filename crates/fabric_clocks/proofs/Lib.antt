@@ -3,3 +3,4 @@ pub mod Following
 pub mod Rows
 pub mod Grid
 pub mod Sooner
+pub mod Clocked

@@ -4,3 +4,4 @@ pub mod Rows
 pub mod Grid
 pub mod Sooner
 pub mod Clocked
+pub mod Alike

@@ -1,6 +1,6 @@
 -- Wirings that say the same have the same write orders and cycles.
-use Rattle.std.proofs.Common.{◌≡◌, ℕ, zero, suc, ◌<◌, Bool, true, List, [], ◌∷◌, ◌||◌, ◌&&◌, take, get_or, refl, sym, ◌∙◌, ap, subst}
-use Rattle.fabric_rules.specs.Wiring.{Wiring, has, depends, IsPath, IsCycle, leads_below, is_on_cycle, IsReady, IsLeastReady, IsWriteOrder}
+use Rattle.std.proofs.Common.{◌≡◌, ℕ, zero, suc, ◌<◌, Bool, List, [], ◌∷◌, take, get_or, refl, sym, ◌∙◌, ap, subst}
+use Rattle.fabric_rules.specs.Wiring.{Wiring, has, IsPath, IsCycle, leads_below, is_on_cycle, IsReady, IsLeastReady, IsWriteOrder}
 use Rattle.fabric_clocks.specs.Wires.{AreAlike}
 
 pub alike-back : {one two : Wiring} → AreAlike one two → AreAlike two one

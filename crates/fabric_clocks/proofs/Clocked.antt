@@ -1,5 +1,5 @@
 -- The first user whose clock comes from no pin is the first fault of the clocks of a fabric.
-use Rattle.std.proofs.Common.{◌≡◌, ℕ, zero, suc, ◌+◌, ◌<◌, Bool, true, false, inl, inr, List, [], ◌∷◌, ◌++◌, length, map, take, get_or, refl, sym, ◌∙◌, ap, subst, arith}
+use Rattle.std.proofs.Common.{◌≡◌, ℕ, zero, suc, ◌+◌, ◌<◌, Bool, true, false, inl, inr, List, [], ◌∷◌, ◌++◌, length, map, take, get_or, refl, sym, ◌∙◌, ap}
 use Rattle.std.specs.Prelude.{Option, Some, None, All, filter, flat_map, ◌&&◌, ◌==◌, if◌then◌else◌}
 use Rattle.std.proofs.lemmas.Bool.{cases_Bool}
 use Rattle.std.proofs.lemmas.List.{take_more, map-append, append-nil}
@@ -23,7 +23,7 @@ use Rattle.net_extract.specs.Links.{LinkSet, class_in}
 use Rattle.fabric_clocks.specs.declared.ends.ClockEnd.{ClockEnd as KeptEnd}
 use Rattle.fabric_clocks.specs.declared.users.Unclocked.{Unclocked}
 use Rattle.fabric_clocks.specs.declared.users.ClockInput.{ClockInput}
-use Rattle.fabric_clocks.specs.Ends.{end_in, AreEndsOf}
+use Rattle.fabric_clocks.specs.Ends.{end_in}
 use Rattle.fabric_clocks.specs.Users.{fault_of}
 use Rattle.fabric_clocks.specs.First.{cell_inputs, ram_inputs, is_other, unclocked_with, unclocked_by, unclocked_in, is_at, first_on}
 
@@ -72,9 +72,9 @@ over_grid-same device change gives one two same =
     map-gathered change (grid_height device) (λ y. gathered_below (grid_width device) (λ x. one x y))
     ∙ (gathered_below-same (grid_height device) (λ y. map change (gathered_below (grid_width device) (λ x. one x y))) (λ y. flat_map gives (gathered_below (grid_width device) (λ x. two x y)))
     (λ y low.
-        map-gathered change (grid_width device) (λ x. one x y)
-        ∙ (gathered_below-same (grid_width device) (λ x. map change (one x y)) (λ x. flat_map gives (two x y)) (λ x left. same x y)
-        ∙ sym (flat_map-gathered gives (grid_width device) (λ x. two x y))))
+    map-gathered change (grid_width device) (λ x. one x y)
+    ∙ (gathered_below-same (grid_width device) (λ x. map change (one x y)) (λ x. flat_map gives (two x y)) (λ x left. same x y)
+    ∙ sym (flat_map-gathered gives (grid_width device) (λ x. two x y))))
     ∙ sym (flat_map-gathered gives (grid_height device) (λ y. gathered_below (grid_width device) (λ x. two x y))))
 
 -- ---- at a tile

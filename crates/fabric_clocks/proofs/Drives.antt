@@ -1,31 +1,23 @@
 -- The driver of a class, and the nets that it reads.
-use Rattle.std.proofs.Common.{◌≡◌, ℕ, ◌<◌, true, false, List, [], ◌∷◌, refl, sym, ◌∙◌, ap, subst, inl, inr, arith}
-use Rattle.std.specs.Prelude.{Contains, length, map, option_to_list, Option, Some, None, IfSome}
+use Rattle.std.proofs.Common.{◌≡◌, ℕ, ◌<◌, true, false, List, [], ◌∷◌, refl, sym, ap, subst, inl, inr}
+use Rattle.std.specs.Prelude.{Contains, map, option_to_list, Option, Some, None, IfSome}
 use Rattle.std.proofs.lemmas.Bool.{cases_Bool}
 use Rattle.fabric_rules.specs.Fabric.{Fabric}
 use Rattle.fabric_rules.specs.Drivers.{Rule, Drive, drivers_of, drives_of, is_driven, nets_read}
-use Rattle.fabric_rules.specs.Drivers.Rule.{pin_bit, sent_back, lut_entry, flip_bit, carry_out, one, register_bit, copied}
 use Rattle.fabric_rules.specs.Wiring.{has}
 use Rattle.fabric_rules.specs.Clocks.{turn_by, turn_of, turn_at}
 use Rattle.fabric_rules.specs.Clocks.Turn.{goes_to}
 use Rattle.fabric_rules.proofs.Order.{has-first}
 use Rattle.fabric_rules.proofs.OneValue.{IsWithin, first-driver, first-is, none-driven}
-use Rattle.fabric_rules.proofs.Chains.{turn-first, turn-still}
+use Rattle.fabric_rules.proofs.Chains.{goes-copied}
 use Rattle.fabric_drivers.specs.declared.drive.Drive.{Drive as KeptDrive}
 use Rattle.fabric_drivers.specs.Drives.{drive_of}
 use Rattle.fabric_drivers.specs.Kept.{DriverSet, driver_in, AreDriversOf}
 
 -- a chain goes on along a net that the driver reads
-pub copied-read : (rule : Rule) (net : ℕ) → turn_by rule ≡ goes_to net → has (nets_read rule) net ≡ true
+copied-read : (fabric : Fabric) (rule : Rule) (net : ℕ) → turn_by rule ≡ goes_to net → has (nets_read rule) net ≡ true
 unfolding nets_read
-copied-read (pin_bit place) net is = absurd cc
-copied-read (sent_back source) net is = absurd cc
-copied-read (lut_entry lc) net is = absurd cc
-copied-read (flip_bit place) net is = absurd cc
-copied-read (carry_out lc) net is = absurd cc
-copied-read one net is = absurd cc
-copied-read (register_bit ram bit) net is = absurd cc
-copied-read (copied source) net is = let same : source ≡ net = cc in subst (λ n. has (source ∷ []) n ≡ true) same (has-first source [])
+copied-read fabric rule net is = subst (λ r. has (nets_read r) net ≡ true) (sym (goes-copied fabric rule net is)) (has-first net [])
 
 module _ (fabric : Fabric) (class : ℕ) where
   -- whether a class has a driver, by its drivers
@@ -62,7 +54,7 @@ module _ (fabric : Fabric) (class : ℕ) where
 
     goes-by : (drives : List Drive) → drivers_of fabric class ≡ drives → (net : ℕ) → turn_of drives ≡ goes_to net → net < fabric.nets
     goes-by [] is net goes = absurd cc
-    goes-by (first ∷ rest) is net goes = first-within first rest is net (copied-read first.rule net goes)
+    goes-by (first ∷ rest) is net goes = first-within first rest is net (copied-read fabric first.rule net goes)
 
     -- a chain goes on to a net of the fabric
     pub goes-within : (net : ℕ) → turn_at fabric class ≡ goes_to net → net < fabric.nets

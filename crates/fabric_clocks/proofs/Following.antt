@@ -1,24 +1,23 @@
 -- The ends of chains, found along the write order.
-use Rattle.std.proofs.Common.{◌≡◌, ◌≢◌, ℕ, ◌+◌, ◌<◌, true, false, ◌⊎◌, inl, inr, List, [], ◌∷◌, ◌++◌, length, take, set, get_or, refl, sym, ◌∙◌, ap, subst, arith, get_or-set_same, get_or-set_other}
+use Rattle.std.proofs.Common.{◌≡◌, ℕ, ◌+◌, ◌<◌, true, false, ◌⊎◌, inl, inr, List, [], length, take, set, get_or, refl, sym, ◌∙◌, ap, subst, arith, get_or-set_same, get_or-set_other}
 use Rattle.std.proofs.lemmas.Bool.{cases_Bool, cases_eq}
-use Rattle.std.proofs.lemmas.List.{take_more, length-set}
+use Rattle.std.proofs.lemmas.List.{take_more}
 use Rattle.fabric_rules.specs.Joins.{class_of}
 use Rattle.fabric_rules.specs.Fabric.{Fabric}
 use Rattle.fabric_rules.specs.Drivers.{is_driven}
-use Rattle.fabric_rules.specs.Wiring.{wiring_of, has, depends, IsReady, IsWriteOrder}
-use Rattle.fabric_rules.specs.Clocks.{ClockEnd, Turn, LeadsTo, turn_at, end_by, clock_end}
+use Rattle.fabric_rules.specs.Wiring.{wiring_of, has, IsReady, IsWriteOrder}
+use Rattle.fabric_rules.specs.Clocks.{ClockEnd, Turn, LeadsTo, turn_at, end_by}
 use Rattle.fabric_rules.specs.Clocks.ClockEnd.{still}
 use Rattle.fabric_rules.specs.Clocks.Turn.{ends, goes_to}
 use Rattle.fabric_rules.specs.Clocks.LeadsTo.{ends_here, goes_on}
 use Rattle.fabric_rules.proofs.Joins.{class_of-le}
 use Rattle.fabric_rules.proofs.Order.{has-none}
-use Rattle.fabric_rules.proofs.OneValue.{IsWithin, first-driver, first-is, first-reads, driven-is, count-is}
-use Rattle.fabric_rules.proofs.Chains.{leads-one, clock_end-leads, turn-first, turn-still}
+use Rattle.fabric_rules.proofs.OneValue.{IsWithin, driven-is, count-is}
+use Rattle.fabric_rules.proofs.Chains.{leads-one, clock_end-leads, goes-reads, turn-still}
 use Rattle.fabric_order.proofs.Lists.{has-split}
 use Rattle.fabric_clocks.specs.declared.ends.ClockEnd.{ClockEnd as KeptEnd}
 use Rattle.fabric_clocks.specs.declared.ends.ClockEnd.TheVariants.{Still}
 use Rattle.fabric_clocks.specs.Ends.{end_of, end_in, AreEndsOf}
-use Rattle.fabric_clocks.proofs.Drives.{copied-read}
 
 -- the ends of the chains from listed classes, and from classes without a driver, are found
 abbrev pub AreFound : Fabric → List ℕ → List KeptEnd → Type 0
@@ -30,14 +29,6 @@ module _ (fabric : Fabric) where
   pub still-found : (kept : List KeptEnd) → ((class : ℕ) → end_in kept class ≡ still) → AreFound fabric [] kept
   still-found kept all class (inl listed) = absurd (has-none class listed)
   still-found kept all class (inr away) = subst (λ end. LeadsTo fabric class end) (sym (all class)) (ends_here (turn-still fabric class away))
-
-  -- a class from which a chain goes on reads that net
-  goes-depends : (class net : ℕ) → is_driven fabric class ≡ true → turn_at fabric class ≡ goes_to net
-      → depends (wiring_of fabric) class (class_of fabric.joins net) ≡ true
-  goes-depends class net driven goes =
-      let found = first-driver fabric class driven in
-      let is = first-is fabric class found.0 found.1 found.2 in
-      first-reads fabric class found.0 found.1 is net (copied-read found.0.rule net (sym (turn-first fabric class found.0 found.1 is) ∙ goes))
 
   module _ (order : List ℕ) (is : IsWriteOrder (wiring_of fabric) order) where
     module _ (place : ℕ) (there : place < length order) where
@@ -56,7 +47,7 @@ module _ (fabric : Fabric) where
             let class = class_of fabric.joins net in
             let driven : is_driven fabric (get_or order place 0) ≡ true = sym (driven-is fabric (get_or order place 0)) ∙ next-ready.driven in
             let rest : LeadsTo fabric class (end_in kept class) = elim (cases_Bool (is_driven fabric class)) [
-              | inl drives ↦ found class (inl (next-ready.inputs class (goes-depends (get_or order place 0) net driven at) (driven-is fabric class ∙ drives)))
+              | inl drives ↦ found class (inl (next-ready.inputs class (goes-reads fabric (get_or order place 0) net driven at) (driven-is fabric class ∙ drives)))
               | inr away ↦ found class (inr away)
             ] in
             goes_on net at (subst (λ e. LeadsTo fabric class e) (sym (here ∙ same net)) rest)

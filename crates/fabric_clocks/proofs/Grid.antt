@@ -1,9 +1,8 @@
 -- What the first tile of a grid gives that gives something.
-use Rattle.std.proofs.Common.{◌≡◌, ℕ, zero, suc, ◌<◌, ◌≤◌, ◌⊎◌, inl, inr, List, [], ◌∷◌, ◌++◌, refl, sym, ◌∙◌, ap, subst, arith}
+use Rattle.std.proofs.Common.{◌≡◌, ℕ, zero, suc, ◌<◌, ◌⊎◌, inl, inr, List, [], ◌∷◌, ◌++◌, refl, sym, ◌∙◌, ap, subst, arith}
 use Rattle.std.specs.Prelude.{Option, Some, None}
-use Rattle.std.proofs.lemmas.Bool.{cases_lt, cases_eq}
 use Rattle.place_search.specs.Places.{first_below, gathered_below, or_else}
-use Rattle.place_search.proofs.Places.{first_below-none, first_below-same, first_below-first, gathered_below-same}
+use Rattle.place_search.proofs.Places.{first_below-none, first_below-same, first_below-first}
 use Rattle.place_search.proofs.Found.{first_below-clear}
 use Rattle.plane_map.specs.Layout.{grid_width, grid_height}
 use Rattle.plane_map.specs.declared.device.DeviceName.{DeviceName}
@@ -78,16 +77,19 @@ module _ {A : Type 0} (device : DeviceName) (given : ℕ → ℕ → Option A) w
   pub first-tile : (value : A) → first_tile device given ≡ Some value → (x : ℕ) × (y : ℕ) × IsFirstTile device given x y value
   first-tile value is =
       let row = first-place (grid_height device) (λ b. first_below (grid_width device) (λ a. given a b)) value is in
-      let column = first-place (grid_width device) (λ a. given a row.place) value row.gives in
-      (column.place, row.place, record {
-        left = column.within;
-        low = row.within;
-        gives = column.gives;
-        before = λ a b left low goes. elim goes [
-          | inl less ↦ first_below-clear (grid_width device) a (λ x. given x b) (row.before b less) left
-          | inr here ↦ subst (λ y. given a y ≡ None) (sym here.0) (column.before a here.1)
-        ];
-      })
+      let column = first-place (grid_width device) (λ a. given a row.place) value row.gives in (
+        column.place,
+        row.place,
+        record {
+          left = column.within;
+          low = row.within;
+          gives = column.gives;
+          before = λ a b left low goes. elim goes [
+            | inl less ↦ first_below-clear (grid_width device) a (λ x. given x b) (row.before b less) left
+            | inr here ↦ subst (λ y. given a y ≡ None) (sym here.0) (column.before a here.1)
+          ];
+        },
+      )
 
   pub none-tile : first_tile device given ≡ None → (a b : ℕ) → a < grid_width device → b < grid_height device → given a b ≡ None
   none-tile none a b left low =

@@ -1,5 +1,5 @@
 -- Rows and marks of the classes of a fabric.
-use Rattle.std.proofs.Common.{◌≡◌, ℕ, suc, ◌+◌, ◌<◌, ◌≤◌, Bool, true, false, List, [], ◌∷◌, ◌++◌, length, take, map, get_or, refl, sym, ◌∙◌, ap, subst, inl, inr, arith}
+use Rattle.std.proofs.Common.{◌≡◌, ℕ, ◌+◌, ◌<◌, ◌≤◌, true, false, List, [], ◌∷◌, ◌++◌, length, take, map, get_or, refl, sym, ◌∙◌, ap, subst, inl, inr, arith}
 use Rattle.std.proofs.Math.Seq.{get_or-append_seam}
 use Rattle.std.specs.Prelude.{flat_map, option_to_list, Option, Some, None, is_some, IfSome}
 use Rattle.std.specs.declared.vec.Vec.{Vec}
@@ -16,7 +16,7 @@ use Rattle.fabric_rules.specs.Wiring.{depends, has}
 use Rattle.fabric_rules.specs.Wiring.{wiring_of as wiring_of_fabric}
 use Rattle.fabric_rules.proofs.Joins.{class_of-le}
 use Rattle.fabric_rules.proofs.Order.{has-none, has-first, has-behind, has-cases}
-use Rattle.fabric_rules.proofs.OneValue.{IsWithin, driven-below, none-driven, driven-is, count-is}
+use Rattle.fabric_rules.proofs.OneValue.{IsWithin, depends-driven, driven-below, none-driven, driven-is, count-is}
 use Rattle.fabric_order.specs.Rows.{lists_of, row_at, is_marked, wiring_of}
 use Rattle.fabric_order.proofs.Rows.{lists-length}
 use Rattle.net_extract.specs.Links.{LinkSet, class_in}
@@ -106,7 +106,7 @@ module _ (fabric : Fabric) where
   mark-kept class None is = sym (driven-none fabric class is)
   mark-kept class (Some drive) is = sym (driven-some fabric class (drive_of drive) [] is)
 
-  -- a class depends on classes of the fabric, and only one with a driver depends on any
+  -- a class depends on classes of the fabric
   depends-by : IsWithin fabric → (class other : ℕ) (drive : Option KeptDrive) → drivers_of fabric class ≡ map drive_of (option_to_list drive)
       → depends (wiring_of_fabric fabric) class other ≡ true → other < fabric.nets
   depends-by within class other None is reads = absurd (has-none other (ap (λ l. has l other) (sym (reads-drivers class [] is)) ∙ reads))
@@ -116,13 +116,6 @@ module _ (fabric : Fabric) where
       let found = has-changed (class_of fabric.joins) (nets_read (drive_of drive).rule) other row in
       let less = first-within fabric class within (drive_of drive) [] is found.0 found.1 in
       omega (arith, less, class_of-le fabric.joins found.0, found.2)
-
-  depends-driven : (class other : ℕ) → depends (wiring_of_fabric fabric) class other ≡ true → is_driven fabric class ≡ true
-  depends-driven class other reads =
-      elim (cases_Bool (is_driven fabric class)) [
-        | inl driven ↦ driven
-        | inr away ↦ absurd (has-none other (ap (λ l. has l other) (sym (reads-none class away)) ∙ reads))
-      ]
 
   -- the nets that the kept drivers read are those of the links
   pub reads-links : (within : IsWithin fabric) (parts : Parts) → ArePartsOf fabric parts → (drivers : DriverSet) → AreDriversOf fabric drivers → (class : ℕ) → class < length drivers.places
@@ -159,7 +152,7 @@ module _ (fabric : Fabric) where
 
     depends-within : (class other : ℕ) → depends (wiring_of_fabric fabric) class other ≡ true → other < fabric.nets
     depends-within class other reads =
-        let below = driven-below fabric within class (depends-driven class other reads) in
+        let below = driven-below fabric within class (depends-driven fabric class other _ refl reads) in
         depends-by within class other (driver_in drivers class) (of_drivers.each class below) reads
 
     alike : AreAlike (wiring_of wires.driven.items wires.reads.items) (wiring_of_fabric fabric)
@@ -175,5 +168,5 @@ module _ (fabric : Fabric) where
       rows = rows ∙ sym marks;
       alike = alike;
       within = λ class other reads. let less = depends-within class other (sym (alike.reads class other) ∙ reads) in omega (arith, less, marks);
-      by_driven = λ class other reads. mark-same class ∙ depends-driven class other (sym (alike.reads class other) ∙ reads);
+      by_driven = λ class other reads. mark-same class ∙ depends-driven fabric class other _ refl (sym (alike.reads class other) ∙ reads);
     }

@@ -1,16 +1,16 @@
 -- The first of some users in the order of tiles, with one more.
-use Rattle.std.proofs.Common.{◌≡◌, ◌≢◌, ℕ, ◌<◌, ◌≤◌, Bool, true, false, ◌⊎◌, inl, inr, List, [], ◌∷◌, ◌++◌, refl, sym, ◌∙◌, ap, subst, arith, eq-eqb}
-use Rattle.std.specs.Prelude.{Option, Some, None, filter, ◌&&◌, ◌||◌, ◌==◌, nat_lt, if◌then◌else◌}
-use Rattle.std.proofs.lemmas.Bool.{cases_Bool, cases_lt, cases_eq, eqb-true, ltb-true, lt-ltb}
+use Rattle.std.proofs.Common.{◌≡◌, ℕ, ◌<◌, Bool, true, false, inl, inr, List, [], ◌∷◌, ◌++◌, refl, sym, ◌∙◌, ap, subst, arith, eq-eqb}
+use Rattle.std.specs.Prelude.{Option, Some, None, filter, ◌&&◌, ◌==◌, nat_lt, if◌then◌else◌}
+use Rattle.std.proofs.lemmas.Bool.{cases_Bool, eqb-true, ltb-true, lt-ltb}
 use Rattle.std.proofs.lemmas.List.Elements.{filter-append}
 use Rattle.place_search.specs.Places.{or_else}
 use Rattle.plane_map.specs.Layout.{grid_width, grid_height}
 use Rattle.plane_map.specs.declared.device.DeviceName.{DeviceName}
-use Rattle.fabric_rules.specs.Tiles.{over_grid, first_of}
+use Rattle.fabric_rules.specs.Tiles.{first_of}
 use Rattle.fabric_rules.proofs.Tests.{or-cases, or-left, or-right, and-left, and-right, and-both}
 use Rattle.fabric_clocks.specs.declared.users.Unclocked.{Unclocked}
 use Rattle.fabric_clocks.specs.First.{is_at, first_on, is_on_grid, is_before, is_before_any}
-use Rattle.fabric_clocks.proofs.Grid.{GoesBefore, first_tile, IsFirstTile, first_of-append, first_of-grid, tile-first, tile-none, first-tile, none-tile}
+use Rattle.fabric_clocks.proofs.Grid.{GoesBefore, first_tile, first_of-append, first_of-grid, tile-first, tile-none, first-tile, none-tile}
 
 -- the first of some at a tile
 first_at : List Unclocked → ℕ → ℕ → Option Unclocked

@@ -47,12 +47,7 @@ pub fn first_unclocked(device: DeviceName, parts: &Parts, ends: &[ClockEnd]) -> 
 }
 
 /// The first flip-flop whose clock comes from another driver than a pin.
-fn first_cell(
-    device: DeviceName,
-    links: &Links,
-    ends: &[ClockEnd],
-    lcs: &[Lc],
-) -> Option<Unclocked>
+fn first_cell(device: DeviceName, links: &Links, ends: &[ClockEnd], lcs: &[Lc]) -> Option<Unclocked>
     requires { All (λ lc. IsNetIn (length links.now.classes) lc.clk) lcs.now }
     ensures { result ≡ first_on device (unclocked_in links.now ends.now (flat_map cell_inputs lcs.now)) }
 {
@@ -176,11 +171,7 @@ fn ends_otherwise(ends: &[ClockEnd], class: u32) -> bool
 }
 
 /// The one of two whose tile goes first, which is what was found where both stand at one tile. One off the grid doesn't count.
-fn or_sooner(
-    device: DeviceName,
-    found: Option<Unclocked>,
-    next: Unclocked,
-) -> Option<Unclocked>
+fn or_sooner(device: DeviceName, found: Option<Unclocked>, next: Unclocked) -> Option<Unclocked>
     ensures { (before : List Unclocked) → found ≡ first_on device before → result ≡ first_on device (before ++ next ∷ []) }
 {
     if on_grid(device, next) && goes_before(next, found) {

@@ -1,4 +1,4 @@
-use Rattle.std.proofs.Common.{◌≡◌, ℕ, ◌<◌, ◌≤◌, length}
+use Rattle.std.proofs.Common.{◌≡◌, ℕ, ◌<◌, length}
 use Rattle.std.specs.Prelude.{is_some}
 use Rattle.fabric_order.specs.Rows.{is_marked}
 use Rattle.fabric_drivers.specs.Kept.{driver_in}

@@ -1,4 +1,4 @@
-use Rattle.std.proofs.Common.{◌≡◌, ℕ, ◌<◌, ◌≤◌, length}
+use Rattle.std.proofs.Common.{◌≡◌, ℕ, ◌<◌, length}
 use Rattle.fabric_order.specs.Rows.{row_at}
 use Rattle.fabric_drivers.specs.Kept.{driver_in}
 use Rattle.fabric_clocks.specs.Reading.{row_in}

@@ -1,4 +1,4 @@
-use Rattle.std.proofs.Common.{◌≡◌, ◌<◌, length, sym, ◌∙◌, subst, arith}
+use Rattle.std.proofs.Common.{◌≡◌, ◌∙◌, arith}
 use Rattle.fabric_rules.proofs.Within.{within-parts}
 use Rattle.fabric_clocks.proofs.Rows.{reads-links, wires-kept}
 use Rattle.fabric_clocks.proofs.reading.wires.Goals as goal

@@ -1,11 +1,9 @@
-use Rattle.std.proofs.Common.{◌≡◌, ◌<◌, ◌++◌, ap, sym, ◌∙◌, subst}
-use Rattle.std.specs.Prelude.{flat_map, All}
+use Rattle.std.proofs.Common.{◌++◌, ap, ◌∙◌}
+use Rattle.std.specs.Prelude.{flat_map}
 use Rattle.std.proofs.lemmas.List.Elements.{All-weaker}
-use Rattle.fabric_rules.specs.Fabric.{Fabric}
 use Rattle.fabric_rules.specs.declared.cell.Lc.{Lc}
 use Rattle.fabric_rules.specs.declared.ram.RamCell.{RamCell}
 use Rattle.fabric_rules.specs.Within.{IsNetIn, IsCellIn, IsRamIn}
-use Rattle.net_extract.specs.Links.{class_in}
 use Rattle.fabric_clocks.specs.Ends.{end_in}
 use Rattle.fabric_clocks.specs.Users.{fault_of}
 use Rattle.fabric_clocks.specs.First.{cell_inputs, ram_inputs, unclocked_in, first_on}

@@ -1,4 +1,4 @@
-use Rattle.std.proofs.Common.{◌≡◌, ◌++◌, take, get_or, ap, sym, ◌∙◌, append_assoc}
+use Rattle.std.proofs.Common.{◌++◌, take, ap, ◌∙◌, append_assoc}
 use Rattle.std.specs.Prelude.{flat_map}
 use Rattle.fabric_clocks.specs.First.{ram_inputs, unclocked_in, first_on}
 use Rattle.fabric_clocks.proofs.Clocked.{unclocked-more}

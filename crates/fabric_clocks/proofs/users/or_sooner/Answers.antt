@@ -1,4 +1,4 @@
-use Rattle.std.proofs.Common.{◌≡◌, sym, ◌∙◌}
+use Rattle.std.proofs.Common.{sym, ◌∙◌}
 use Rattle.fabric_clocks.proofs.Sooner.{sooner, no-sooner}
 use Rattle.fabric_clocks.proofs.users.or_sooner.Goals.{else-on_grid-via-then-on_grid+else-goes_before, else-on_grid-via-else-on_grid}
 use Rattle.fabric_clocks.proofs.users.or_sooner.Goals as goal

@@ -2,9 +2,11 @@
 #![tactic(auto)]
 
 mod ends;
+mod kept;
+mod reading;
 mod users;
-mod wires;
 
-pub use ends::ClockEnd;
-pub use users::Unclocked;
-pub use wires::Wires;
+pub use ends::{ClockEnd, clock_ends};
+pub use kept::Wires;
+pub use reading::wires;
+pub use users::{Unclocked, first_unclocked};

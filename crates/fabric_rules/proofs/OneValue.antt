@@ -162,7 +162,7 @@ module _ (fabric : Fabric) where
   -- ---- the wiring
 
   -- a class that reads another has a driver
-  depends-driven : (class other : ℕ) (drives : List Drive) → drivers_of fabric class ≡ drives → depends (wiring_of fabric) class other ≡ true → is_driven fabric class ≡ true
+  pub depends-driven : (class other : ℕ) (drives : List Drive) → drivers_of fabric class ≡ drives → depends (wiring_of fabric) class other ≡ true → is_driven fabric class ≡ true
   unfolding wiring_of is_driven drivers_of
   depends-driven class other [] none reads = absurd (has-none other (rw none at reads))
   depends-driven class other (drive ∷ drives) some reads =

@@ -26,7 +26,10 @@ pub enum ClockEnd {
     Other,
 }
 
-/// Finds where the chain from each class ends, along the write order.
+/// Finds where the chain from each class ends, along the write order: an end for each class, from the least on.
+///
+/// # Errors
+/// `AllocError` where memory is out, and for no other cause.
 pub fn clock_ends(
     alloc: Global,
     parts: &Parts,

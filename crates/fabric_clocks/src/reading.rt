@@ -16,7 +16,10 @@ use fabric_drivers::{Drive, Drivers, Parts, Rule};
 use net_extract::Links;
 use std::alloc::{AllocError, Global};
 
-/// Finds what the classes of a fabric read.
+/// Finds what the classes of a fabric read: a mark and a row for each class, from the least on.
+///
+/// # Errors
+/// `AllocError` where memory is out, or where there are more classes than 32 bits count.
 pub fn wires(alloc: Global, parts: &Parts, drivers: &Drivers) -> Result<Wires, AllocError>
     ghost fabric: { Fabric }
     requires parts { ArePartsOf fabric parts.now }

@@ -35,7 +35,7 @@ struct ClockInput {
 }
 
 /// Finds the first user whose clock comes from another driver than a pin. Users go by tiles, the cells of a tile by index, and at a
-/// RAM the read port goes first.
+/// RAM the read port goes first. It goes over the cells and the RAMs once, and takes no memory.
 pub fn first_unclocked(device: DeviceName, parts: &Parts, ends: &[ClockEnd]) -> Option<Unclocked>
     ghost fabric: { Fabric }
     requires parts { ArePartsOf fabric parts.now }

@@ -3,3 +3,4 @@ pub mod Refused
 pub mod Buffers
 pub mod StartWords
 pub mod Composed
+pub mod Evidence

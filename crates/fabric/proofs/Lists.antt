@@ -73,5 +73,5 @@ item-of_part size part other value (x ∷ xs) (suc r) w a b sized same inside be
 
 pub count-of_parts : {X A : Type 0} (size : ℕ) (part : X → List A) (xs : List X) → ((x : X) → length (part x) ≡ size) → length (flat_map part xs) ≡ length xs * size
 count-of_parts size part [] sized = sym (zero-mul size)
-count-of_parts size part (x ∷ xs) sized = 
+count-of_parts size part (x ∷ xs) sized =
     length-append (part x) (flat_map part xs) ∙ omega (arith, suc-mul (length xs) size, sized x, count-of_parts size part xs sized)

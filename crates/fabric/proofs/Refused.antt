@@ -1,6 +1,6 @@
 -- A cause of the parts is the cause of the whole, where nothing before it is wrong.
 use Rattle.std.proofs.Common.{◌≡◌, ℕ, Bool, true, false, List, [], ◌∷◌, refl, sym, ap, subst, ◌∙◌}
-use Rattle.std.specs.Prelude.{◌↔◌, Option, Some, None, Result, Ok, Err, IfErr}
+use Rattle.std.specs.Prelude.{◌↔◌, Option, Some, None, Result, Ok, Err, IfErr, OnOk}
 use Rattle.std.specs.Result.{IsErrAnd}
 use Rattle.plane_map.specs.declared.device.DeviceName.{DeviceName}
 use Rattle.plane_map.specs.declared.device.DeviceName.TheVariants.{K1, K8}
@@ -96,3 +96,7 @@ module _ (db : Database) (image : Configuration) where
 pub told : {A E : Type 0} (result : Result A E) (error : E) (Holds : E → Type 0) → IsErrAnd result (λ fault. fault ≡ error) → Holds error → IfErr result Holds
 told (Ok value) error Holds is holds = tt
 told (Err fault) error Holds is holds = subst Holds (sym is) holds
+
+pub on-ok : {A E : Type 0} (result : Result A E) (Holds : Type 0) → Holds → OnOk result Holds
+on-ok (Ok value) Holds holds = holds
+on-ok (Err fault) Holds holds = tt

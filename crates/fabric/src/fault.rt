@@ -99,17 +99,7 @@ impl From<PinFault> for FabricFault {
     fn from(e: PinFault) -> FabricFault {
         match e {
             PinFault::Pll { x, y } => FabricFault::Pll { x, y },
-            PinFault::PinMode {
-                x,
-                y,
-                pio,
-                pintype,
-            } => FabricFault::PinMode {
-                x,
-                y,
-                pio,
-                pintype,
-            },
+            PinFault::PinMode { x, y, pio, pintype } => FabricFault::PinMode { x, y, pio, pintype },
             PinFault::Memory(e) => FabricFault::Memory(e),
         }
     }

@@ -24,7 +24,8 @@ pub fn wires(alloc: Global, parts: &Parts, drivers: &Drivers) -> Result<Wires, A
     ghost fabric: { Fabric }
     requires parts { ArePartsOf fabric parts.now }
     requires drivers { AreDriversOf fabric drivers.now }
-    ensures { IfOk result (AreWiresOf fabric) }
+    ensures wires { IfOk result (AreWiresOf fabric) }
+    ensures few { IfOk result (λ wires. length wires.driven.items ≤ u32.MAX) }
 {
     let count = count_of(drivers)?;
     let driven = marks_of(alloc, drivers, count)?;

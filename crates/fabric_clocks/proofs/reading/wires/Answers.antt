@@ -8,8 +8,8 @@ rows_of-requires-clause-nets g c = λ class less.
     reads-links g.fabric (within-parts g.fabric c.requires.0.within) c.args.parts.now c.requires.0 c.args.drivers.now c.requires.1 class
     (omega (arith, less, c.in_ok-count.ensures))
 
-pub returns : goal.returns
-returns g c =
+pub returns-clause-wires : goal.returns-clause-wires
+returns-clause-wires g c =
     let all : c.in_ok-count.count ≡ g.fabric.nets = c.in_ok-count.ensures ∙ c.requires.1.classes in
     wires-kept g.fabric (within-parts g.fabric c.requires.0.within) c.args.parts.now c.requires.0 c.args.drivers.now c.requires.1
     (record { driven = c.in_ok-driven.driven; reads = c.in_ok-reads.reads })

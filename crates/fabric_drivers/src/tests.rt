@@ -142,6 +142,35 @@ fn are_drives(alloc: Global, lists: Lists, expected: &[Drive]) -> Result<bool, A
     Ok(drives.as_slice() == expected)
 }
 
+/// What the pins and the globals drive.
+const PIN_DRIVES: [Drive; 5] = [
+    Drive {
+        driver: Driver::Pin { x: 0, y: 2, n: 1 },
+        net: 2,
+        rule: Rule::PinBit(0),
+    },
+    Drive {
+        driver: Driver::Back { x: 0, y: 1, n: 0 },
+        net: 0,
+        rule: Rule::SentBack(Some(3)),
+    },
+    Drive {
+        driver: Driver::Global { g: 2, net: 6 },
+        net: 6,
+        rule: Rule::PinBit(0),
+    },
+    Drive {
+        driver: Driver::Global { g: 3, net: 6 },
+        net: 6,
+        rule: Rule::PinBit(1),
+    },
+    Drive {
+        driver: Driver::Global { g: 4, net: 6 },
+        net: 6,
+        rule: Rule::Copied(5),
+    },
+];
+
 #[test]
 fn finds_what_pins_and_globals_drive(rt: HostRuntime) {
     let lists = Lists {
@@ -150,35 +179,38 @@ fn finds_what_pins_and_globals_drive(rt: HostRuntime) {
         lcs: &[],
         sets: &[],
     };
-    let expected = [
-        Drive {
-            driver: Driver::Pin { x: 0, y: 2, n: 1 },
-            net: 2,
-            rule: Rule::PinBit(0),
-        },
-        Drive {
-            driver: Driver::Back { x: 0, y: 1, n: 0 },
-            net: 0,
-            rule: Rule::SentBack(Some(3)),
-        },
-        Drive {
-            driver: Driver::Global { g: 2, net: 6 },
-            net: 6,
-            rule: Rule::PinBit(0),
-        },
-        Drive {
-            driver: Driver::Global { g: 3, net: 6 },
-            net: 6,
-            rule: Rule::PinBit(1),
-        },
-        Drive {
-            driver: Driver::Global { g: 4, net: 6 },
-            net: 6,
-            rule: Rule::Copied(5),
-        },
-    ];
+    let expected = PIN_DRIVES;
     assert_eq!(rt; are_drives(rt.alloc(), lists, &expected), Ok(true));
 }
+
+/// What the cells and a carry input drive.
+const CELL_DRIVES: [Drive; 5] = [
+    Drive {
+        driver: Driver::Lut { x: 1, y: 1, i: 0 },
+        net: 1,
+        rule: Rule::LutEntry(LUT),
+    },
+    Drive {
+        driver: Driver::Flip { x: 1, y: 1, i: 1 },
+        net: 3,
+        rule: Rule::FlipBit(0),
+    },
+    Drive {
+        driver: Driver::Lout { x: 1, y: 1, i: 1 },
+        net: 4,
+        rule: Rule::LutEntry(FLIP),
+    },
+    Drive {
+        driver: Driver::Carry { x: 1, y: 1, i: 1 },
+        net: 5,
+        rule: Rule::CarryOut(FLIP),
+    },
+    Drive {
+        driver: Driver::CarrySet { x: 1, y: 1 },
+        net: 6,
+        rule: Rule::One,
+    },
+];
 
 #[test]
 fn finds_what_cells_drive(rt: HostRuntime) {
@@ -188,33 +220,7 @@ fn finds_what_cells_drive(rt: HostRuntime) {
         lcs: &[LUT, FLIP],
         sets: &[CarrySet { x: 1, y: 1, net: 6 }],
     };
-    let expected = [
-        Drive {
-            driver: Driver::Lut { x: 1, y: 1, i: 0 },
-            net: 1,
-            rule: Rule::LutEntry(LUT),
-        },
-        Drive {
-            driver: Driver::Flip { x: 1, y: 1, i: 1 },
-            net: 3,
-            rule: Rule::FlipBit(0),
-        },
-        Drive {
-            driver: Driver::Lout { x: 1, y: 1, i: 1 },
-            net: 4,
-            rule: Rule::LutEntry(FLIP),
-        },
-        Drive {
-            driver: Driver::Carry { x: 1, y: 1, i: 1 },
-            net: 5,
-            rule: Rule::CarryOut(FLIP),
-        },
-        Drive {
-            driver: Driver::CarrySet { x: 1, y: 1 },
-            net: 6,
-            rule: Rule::One,
-        },
-    ];
+    let expected = CELL_DRIVES;
     assert_eq!(rt; are_drives(rt.alloc(), lists, &expected), Ok(true));
 }
 

@@ -1,4 +1,4 @@
-use Rattle.std.proofs.Common.{ℕ, List, subst, take_all, arith}
+use Rattle.std.proofs.Common.{List, subst, take_all, arith}
 use Rattle.std.specs.Prelude.{All}
 use Rattle.std.proofs.lemmas.List.Elements.{All-more}
 use Rattle.fabric_rules.specs.Within.{IsBufferIn}

@@ -1,4 +1,4 @@
-use Rattle.std.proofs.Common.{◌≡◌, ℕ, List, true, subst, refl, sym, rules}
+use Rattle.std.proofs.Common.{ℕ, List, subst, refl, rules}
 use Rattle.std.specs.Prelude.{All}
 use Rattle.std.proofs.lemmas.List.Elements.{All-nil, All-map}
 use Rattle.ice_image.specs.Either.{configuration_of}

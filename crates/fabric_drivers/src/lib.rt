@@ -21,3 +21,6 @@ pub use fault::DriverFault;
 pub use gather::drivers;
 pub use kept::Drivers;
 pub use parts::{Buffer, Parts};
+
+#[cfg(test)]
+mod tests;

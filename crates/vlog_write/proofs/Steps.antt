@@ -3,6 +3,7 @@ use Rattle.std.proofs.Common.{◌≡◌, ℕ, zero, suc, ◌+◌, ◌<◌, List,
 use Rattle.std.specs.Prelude.{flat_map}
 use Rattle.std.proofs.lemmas.List.{map_more, take_more}
 use Rattle.std.proofs.lemmas.Grind.{flat_map-append}
+use Rattle.place_search.specs.Places.{gathered_below}
 use Rattle.place_search.proofs.Places.{gathered_below-more}
 use Rattle.fabric_rules.specs.Tiles.{each_below}
 use Rattle.fabric_rules.specs.Fabric.{numbered_from, numbered}
@@ -27,6 +28,11 @@ flat_map-step f xs i d start before after less of_before of_after =
     of_after ∙ (ap (λ list. list ++ f (get_or xs i d)) of_before ∙ (append_assoc start (flat_map f (take i xs)) (f (get_or xs i d))
     ∙ ap (λ rest. start ++ rest) (sym (flat_map-more f xs i d less))))
 
+-- no item yet
+pub each-start : {Y : Type 0} (given : ℕ → Y) (start : List Y) → start ≡ start ++ each_below 0 given
+unfolding gathered_below
+each-start given start = sym (append-nil start)
+
 -- an item of a number is pushed
 pub each-step : {Y : Type 0} (given : ℕ → Y) (i : ℕ) (start before after : List Y) (item : Y)
     → before ≡ start ++ each_below i given → after ≡ before ++ item ∷ [] → item ≡ given i → after ≡ start ++ each_below (i + 1) given
@@ -43,6 +49,11 @@ numbered-more place (x ∷ xs) (suc i) d less =
     let moved : suc place + i ≡ place + suc i = omega arith in
     ap (λ rest. (place, x) ∷ rest)
     (numbered-more (suc place) xs i d (omega arith) ∙ ap (λ n. numbered_from (suc place) (take i xs) ++ (n, get_or xs i d) ∷ []) moved)
+
+-- no item with its place yet
+pub numbered-start : {X Y : Type 0} (f : ℕ × X → List Y) (xs : List X) (start : List Y) → start ≡ start ++ flat_map f (numbered (take 0 xs))
+unfolding numbered_from
+numbered-start f xs start = sym (append-nil start)
 
 -- what an item with its place gives is added
 pub numbered-step : {X Y : Type 0} (f : ℕ × X → List Y) (xs : List X) (i : ℕ) (d : X) (start before after : List Y) → i < length xs

@@ -2,7 +2,7 @@
 use Rattle.std.proofs.Common.{◌≡◌, ℕ, zero, suc, ◌^◌, ◌<◌, ◌≤◌, Bool, true, false, List, [], ◌∷◌, ◌++◌, length, map, get_or, refl, sym, ap, ◌∙◌, subst, arith, inl, inr}
 use Rattle.std.specs.Prelude.{All, Contains, Option, Some, None, filter, option_to_list, flat_map}
 use Rattle.std.proofs.lemmas.Bool.{cases_Bool}
-use Rattle.std.proofs.lemmas.List.Elements.{All-from_get_or, All-head, All-tail}
+use Rattle.std.proofs.lemmas.List.Elements.{All-from_get_or, All-filter, All-head, All-tail}
 use Rattle.ice_image.specs.Configuration.{Configuration}
 use Rattle.chipdb_reader.specs.Database.{Database}
 use Rattle.fabric_rules.specs.declared.cell.Lc.{Lc}
@@ -58,10 +58,16 @@ module _ (design : Kept) (is : IsDesign design) where
       subst (λ nets. All (IsCellIn nets) design.parts.lcs.items) (sym count)
       (subst (All (IsCellIn (fabric_of is.0 is.1).nets)) (sym is.2.kept.parts.lcs) is.2.kept.parts.within.lcs)
 
+  pub flips-within : All (IsCellIn (nets_in design)) (flips_in design)
+  flips-within = All-filter (λ lc. lc.flip) (IsCellIn (nets_in design)) design.parts.lcs.items cells-within
+
   pub pins-within : All (IsPinIn (nets_in design)) design.parts.pins.items
   pins-within =
       subst (λ nets. All (IsPinIn nets) design.parts.pins.items) (sym count)
       (subst (All (IsPinIn (fabric_of is.0 is.1).nets)) (sym is.2.kept.parts.pins) is.2.kept.parts.within.pins)
+
+  pub outputs-within : All (IsPinIn (nets_in design)) (filter (λ pin. pin.output) design.parts.pins.items)
+  outputs-within = All-filter (λ pin. pin.output) (IsPinIn (nets_in design)) design.parts.pins.items pins-within
 
   pub rams-within : All (IsRamIn (nets_in design)) design.parts.rams.items
   rams-within =

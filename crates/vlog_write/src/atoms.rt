@@ -25,6 +25,7 @@ fn driven_class(design: &Design, net: u32) -> Option<u32>
 }
 
 /// What is read of an input: the wire of its class, and the stated value where it isn't connected.
+#[tactic(auto, unfolding(vlog_emit::specs::Rights::input_atom))]
 pub(crate) fn input_atom(
     alloc: Global,
     design: &Design,

@@ -79,6 +79,7 @@ pub(crate) fn output_assign(alloc: Global, design: &Design, pin: &Pin) -> Result
 }
 
 /// The port that is the clock of a net, where one is.
+#[tactic(auto, unfolding(vlog_emit::specs::Written::clock_name))]
 fn clock_name(alloc: Global, design: &Design, net: Option<u32>) -> Result<Option<Name>, AllocError>
     requires design { IsDesign design.now }
     requires within { IsNetIn (nets_in design.now) net }

@@ -76,6 +76,7 @@ fn right_of_carry(alloc: Global, design: &Design, lc: &Lc) -> Result<Right, Allo
 }
 
 /// The right side that has the value of a driver.
+#[tactic(auto, unfolding(vlog_emit::specs::Rights::right_of))]
 fn right_of(alloc: Global, design: &Design, flips: &[Lc], rule: Rule) -> Result<Right, AllocError>
     requires flips { flips.now ≡ flips_in design.now }
     requires within { IsRuleIn design.now rule }

@@ -1,5 +1,5 @@
 -- What is kept of a design tells the drivers and the clocks of its fabric.
-use Rattle.std.proofs.Common.{◌≡◌, ℕ, ◌<◌, ◌≤◌, Bool, true, false, List, [], ◌∷◌, ◌++◌, append_assoc, length, map, get_or, refl, sym, ap, ◌∙◌, subst, arith, inl, inr}
+use Rattle.std.proofs.Common.{◌≡◌, ℕ, ◌<◌, true, false, List, [], ◌∷◌, ◌++◌, append_assoc, length, map, get_or, refl, sym, ap, ◌∙◌, subst, arith, inl, inr}
 use Rattle.std.specs.Prelude.{Option, Some, None, option_to_list, filter, flat_map, if◌then◌else◌}
 use Rattle.std.proofs.lemmas.Bool.{cases_Bool}
 use Rattle.vlog_module.specs.declared.item.Right.TheVariants as right
@@ -9,7 +9,7 @@ use Rattle.fabric_rules.specs.declared.cell.Lc.{Lc}
 use Rattle.fabric_rules.specs.declared.ram.RamCell.{RamCell}
 use Rattle.fabric_rules.specs.Joins.{class_of}
 use Rattle.fabric_rules.specs.Fabric.{Fabric, numbered, outputs_of, flips_of}
-use Rattle.fabric_rules.specs.Drivers.{Drive, drivers_of, is_driven}
+use Rattle.fabric_rules.specs.Drivers.{drivers_of}
 use Rattle.fabric_rules.specs.Values.{is_connected}
 use Rattle.fabric_rules.specs.Clocks.{ClockEnd, clock_end}
 use Rattle.fabric_rules.proofs.Joins.{class_of-le}

@@ -1,18 +1,15 @@
 -- The module of a design is that of each fabric whose design is kept, and it is well-formed and runs as the fabric.
-use Rattle.std.proofs.Common.{◌≡◌, ℕ, List, ◌++◌, length, map, refl, sym, ap, ◌∙◌, subst}
-use Rattle.std.specs.Prelude.{filter}
+use Rattle.std.proofs.Common.{◌≡◌, ℕ, List, map, sym, ap, ◌∙◌, subst}
 use Rattle.ice_image.specs.Configuration.{Configuration}
 use Rattle.chipdb_reader.specs.Database.{Database}
 use Rattle.vlog_module.specs.Names.{IsName}
 use Rattle.vlog_module.specs.Parts.{Parts}
-use Rattle.vlog_module.specs.WellFormed.{IsWellFormed, IsModule}
-use Rattle.vlog_module.specs.declared.item.Item.{Item}
-use Rattle.vlog_module.specs.declared.modules.Port.{Port}
+use Rattle.vlog_module.specs.WellFormed.{IsModule}
 use Rattle.fabric_rules.specs.Fabric.{Fabric, fabric_of}
 use Rattle.fabric.specs.Kept.{Kept, IsKeptOf}
 use Rattle.fabric.specs.Design.{IsDesign, IsDesignOf}
 use Rattle.vlog_emit.specs.Written.{port_of, items_of, module_of}
-use Rattle.vlog_emit.specs.Law.{ModuleIsFabric, RunsAlike}
+use Rattle.vlog_emit.specs.Law.{ModuleIsFabric}
 use Rattle.vlog_write.specs.Each.{EachFabric}
 use Rattle.vlog_write.specs.Runs.{RunsAs}
 

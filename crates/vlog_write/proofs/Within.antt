@@ -1,19 +1,14 @@
 -- The parts of a design and what its drivers name are there.
-use Rattle.std.proofs.Common.{◌≡◌, ℕ, zero, suc, ◌^◌, ◌<◌, ◌≤◌, Bool, true, false, List, [], ◌∷◌, ◌++◌, length, map, get_or, refl, sym, ap, ◌∙◌, subst, arith, inl, inr}
-use Rattle.std.specs.Prelude.{All, Contains, Option, Some, None, filter, option_to_list, flat_map}
+use Rattle.std.proofs.Common.{◌≡◌, ℕ, zero, suc, ◌<◌, true, List, [], ◌∷◌, ◌++◌, length, map, get_or, refl, sym, ap, ◌∙◌, subst, arith, inl, inr}
+use Rattle.std.specs.Prelude.{All, Contains, Option, Some, None, filter, option_to_list}
 use Rattle.std.proofs.lemmas.Bool.{cases_Bool}
 use Rattle.std.proofs.lemmas.List.Elements.{All-from_get_or, All-filter, All-head, All-tail}
-use Rattle.ice_image.specs.Configuration.{Configuration}
-use Rattle.chipdb_reader.specs.Database.{Database}
-use Rattle.fabric_rules.specs.declared.cell.Lc.{Lc}
-use Rattle.fabric_rules.specs.declared.ram.RamCell.{RamCell}
-use Rattle.fabric_rules.specs.declared.pin.Pin.{Pin}
-use Rattle.fabric_rules.specs.Fabric.{Fabric, fabric_of, inputs_of, flips_of}
+use Rattle.fabric_rules.specs.Fabric.{fabric_of}
 use Rattle.fabric_rules.specs.Within.{IsNetIn, IsPinIn, IsCellIn, IsRamIn}
-use Rattle.fabric_rules.specs.Drivers.{Drive, drivers_of, drives_of, is_driven, nets_read}
-use Rattle.fabric_rules.specs.Clocks.{ClockEnd, clock_end}
+use Rattle.fabric_rules.specs.Drivers.{drivers_of, drives_of, is_driven, nets_read}
+use Rattle.fabric_rules.specs.Clocks.{clock_end}
 use Rattle.fabric_rules.specs.Clocks.ClockEnd.{at_pin}
-use Rattle.fabric_rules.specs.Wiring.{wiring_of, has}
+use Rattle.fabric_rules.specs.Wiring.{has}
 use Rattle.fabric_rules.proofs.Facts.{has-some, has-input, has-left, has-right}
 use Rattle.fabric_rules.proofs.Order.{has-first}
 use Rattle.fabric_rules.proofs.OneValue.{first-driver, first-is, none-driven, count-is}
@@ -26,8 +21,8 @@ use Rattle.fabric_drivers.specs.declared.drive.Drive.{Drive as KeptDrive}
 use Rattle.fabric_drivers.specs.Drives.{drive_of, rule_of}
 use Rattle.fabric_drivers.specs.Kept.{driver_in}
 use Rattle.fabric_clocks.specs.Ends.{end_in}
-use Rattle.fabric.specs.Kept.{Kept, IsKeptOf}
-use Rattle.fabric.specs.Design.{IsDesign, IsDesignOf}
+use Rattle.fabric.specs.Kept.{Kept}
+use Rattle.fabric.specs.Design.{IsDesign}
 use Rattle.vlog_emit.proofs.Rights.{IsPlaceIn}
 use Rattle.vlog_emit.proofs.Ticks.{leads-place}
 use Rattle.vlog_emit.proofs.Design.{fabric-writable}
@@ -95,8 +90,7 @@ module _ (design : Kept) (is : IsDesign design) where
   rule-in (CarryOut lc) there reads =
       let first = option_to_list (get_or lc.ins 1 None) in
       let second = option_to_list (get_or lc.ins 2 None) in
-      let third = option_to_list lc.cin in
-      (
+      let third = option_to_list lc.cin in (
         net-from (nets_in design) (get_or lc.ins 1 None) (λ n at. reads n (has-left first (second ++ third) n (has-some (get_or lc.ins 1 None) n at))),
         net-from (nets_in design) (get_or lc.ins 2 None) (λ n at. reads n (has-right first (second ++ third) n (has-left second third n (has-some (get_or lc.ins 2 None) n at)))),
         net-from (nets_in design) lc.cin (λ n at. reads n (has-right first (second ++ third) n (has-right second third n (has-some lc.cin n at)))),

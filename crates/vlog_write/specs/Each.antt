@@ -1,5 +1,5 @@
 -- What is known of the fabrics whose design is kept.
-use Rattle.std.specs.Prelude.{ℕ, ◌<◌, List, All, length, filter, get_or, Option, None}
+use Rattle.std.specs.Prelude.{ℕ, ◌<◌, List, All, length, filter, get_or, None}
 use Rattle.fabric_rules.specs.declared.cell.Lc.{Lc}
 use Rattle.fabric_rules.specs.Fabric.{Fabric}
 use Rattle.fabric_rules.specs.Within.{IsNetIn}

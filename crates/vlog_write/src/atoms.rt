@@ -73,7 +73,12 @@ pub(crate) fn port_atoms(
 }
 
 /// What is read of input `k` of a cell.
-pub(crate) fn cell_atom(alloc: Global, design: &Design, lc: &Lc, k: usize) -> Result<Atom, AllocError>
+pub(crate) fn cell_atom(
+    alloc: Global,
+    design: &Design,
+    lc: &Lc,
+    k: usize,
+) -> Result<Atom, AllocError>
     requires place { k < 4 }
     requires within { IsNetIn (nets_in design.now) (get_or lc.now.ins k None) }
     ensures { IfOk result (λ atom. EachFabric design.now (λ fabric. atom ≡ cell_atom fabric lc.now k)) }

@@ -191,7 +191,12 @@ pub(crate) fn append_read(
 }
 
 /// The write port of a RAM with its clock.
-fn write_item(alloc: Global, design: &Design, ram: &RamCell, clock: Name) -> Result<Item, AllocError>
+fn write_item(
+    alloc: Global,
+    design: &Design,
+    ram: &RamCell,
+    clock: Name,
+) -> Result<Item, AllocError>
     requires { IsRamIn (nets_in design.now) ram.now }
     ensures { IfOk result (λ item. EachFabric design.now (λ fabric. item ≡ write_item fabric ram.now clock)) }
 {

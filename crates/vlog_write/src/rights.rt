@@ -4,7 +4,6 @@ ghost use Rattle.fabric_rules.specs.Within.{IsNetIn};
 ghost use Rattle.fabric_drivers.specs.Drives.{rule_of};
 ghost use Rattle.fabric.specs.Design.{IsDesign};
 ghost use Rattle.vlog_emit.specs.Rights.{atom_or_0, cell_atom, input_name, flip_at, register_at, right_alone, right_of, class_right};
-
 ghost use Rattle.vlog_write.specs.Each.{EachFabric, IsRuleIn, nets_in, flips_in};
 
 use crate::atoms::{cell_atom, cell_lut, input_atom};

@@ -31,7 +31,11 @@ pub(crate) fn ports_of(alloc: Global, pins: &[Pin]) -> Result<Vec<Port>, AllocEr
 }
 
 /// Adds the registers of flip-flops.
-pub(crate) fn append_registers(alloc: Global, flips: &[Lc], items: &mut Vec<Item>) -> Result<(), AllocError>
+pub(crate) fn append_registers(
+    alloc: Global,
+    flips: &[Lc],
+    items: &mut Vec<Item>,
+) -> Result<(), AllocError>
     ensures { OnOk result (items.new.items ≡ items.old.items ++ map flip_register flips.now) }
 {
     for lc in flips {
@@ -42,7 +46,11 @@ pub(crate) fn append_registers(alloc: Global, flips: &[Lc], items: &mut Vec<Item
 }
 
 /// Adds the read registers of RAMs.
-pub(crate) fn append_words(alloc: Global, rams: &[RamCell], items: &mut Vec<Item>) -> Result<(), AllocError>
+pub(crate) fn append_words(
+    alloc: Global,
+    rams: &[RamCell],
+    items: &mut Vec<Item>,
+) -> Result<(), AllocError>
     ensures { OnOk result (items.new.items ≡ items.old.items ++ map read_register rams.now) }
 {
     for ram in rams {
@@ -53,7 +61,11 @@ pub(crate) fn append_words(alloc: Global, rams: &[RamCell], items: &mut Vec<Item
 }
 
 /// Adds the memories of RAMs.
-pub(crate) fn append_memories(alloc: Global, rams: &[RamCell], items: &mut Vec<Item>) -> Result<(), AllocError>
+pub(crate) fn append_memories(
+    alloc: Global,
+    rams: &[RamCell],
+    items: &mut Vec<Item>,
+) -> Result<(), AllocError>
     ensures { OnOk result (items.new.items ≡ items.old.items ++ map ram_memory rams.now) }
 {
     for ram in rams {

@@ -25,14 +25,24 @@ use vlog_module::{Item, Module, Name};
 fn flips_of(alloc: Global, design: &Design) -> Result<Vec<Lc>, AllocError>
     ensures flips { IfOk result (λ flips. flips.items ≡ flips_in design.now) }
 {
-    design.lcs().iter().filter(|lc| lc.flip).copied().collect(alloc)
+    design
+        .lcs()
+        .iter()
+        .filter(|lc| lc.flip)
+        .copied()
+        .collect(alloc)
 }
 
 /// The output pins.
 fn outputs_of(alloc: Global, design: &Design) -> Result<Vec<Pin>, AllocError>
     ensures outputs { IfOk result (λ outputs. outputs.items ≡ filter (λ pin. pin.output) design.now.parts.pins.items) }
 {
-    design.pins().iter().filter(|pin| pin.output).copied().collect(alloc)
+    design
+        .pins()
+        .iter()
+        .filter(|pin| pin.output)
+        .copied()
+        .collect(alloc)
 }
 
 /// Adds what has a state: the registers of flip-flops, the read registers and the memories of RAMs.

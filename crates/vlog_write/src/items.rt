@@ -99,7 +99,7 @@ fn end_name(alloc: Global, design: &Design, net: u32) -> Result<Option<Name>, Al
 {
     match design.clock_end(net) {
         ClockEnd::Pin(place) => {
-            let name = input_name(alloc, design, place)?;
+            let name = input_name(alloc, design, place as usize)?;
             Ok(Some(name))
         }
         ClockEnd::Still => Ok(None),

@@ -15,30 +15,30 @@ use std::alloc::{AllocError, Global};
 use vlog_module::{Atom, Name, Right};
 
 /// The name of the input pin at a place.
-pub(crate) fn input_name(alloc: Global, design: &Design, place: u32) -> Result<Name, AllocError>
+pub(crate) fn input_name(alloc: Global, design: &Design, place: usize) -> Result<Name, AllocError>
     requires { place < length design.now.inputs }
     ensures { IfOk result (λ name. EachFabric design.now (λ fabric. name ≡ input_name fabric place)) }
 {
     let inputs = design.inputs();
-    port_name(alloc, &inputs[place as usize])
+    port_name(alloc, &inputs[place])
 }
 
 /// The name of the register of the flip-flop at a place.
-fn flip_at(alloc: Global, design: &Design, flips: &[Lc], place: u32) -> Result<Name, AllocError>
+fn flip_at(alloc: Global, design: &Design, flips: &[Lc], place: usize) -> Result<Name, AllocError>
     requires flips { flips.now ≡ flips_in design.now }
     requires within { place < length flips.now }
     ensures { IfOk result (λ name. EachFabric design.now (λ fabric. name ≡ flip_at fabric place)) }
 {
-    flip_name(alloc, &flips[place as usize])
+    flip_name(alloc, &flips[place])
 }
 
 /// The name of the read register of the RAM at a place.
-fn register_at(alloc: Global, design: &Design, ram: u32) -> Result<Name, AllocError>
+fn register_at(alloc: Global, design: &Design, ram: usize) -> Result<Name, AllocError>
     requires { ram < length design.now.parts.rams.items }
     ensures { IfOk result (λ name. EachFabric design.now (λ fabric. name ≡ register_at fabric ram)) }
 {
     let rams = design.rams();
-    register_name(alloc, &rams[ram as usize])
+    register_name(alloc, &rams[ram])
 }
 
 /// An atom alone.
@@ -82,14 +82,14 @@ fn right_of(alloc: Global, design: &Design, flips: &[Lc], rule: Rule) -> Result<
     ensures { IfOk result (λ right. EachFabric design.now (λ fabric. right ≡ right_of fabric (rule_of rule))) }
 {
     match rule {
-        Rule::PinBit(place) => Ok(Right::Whole(input_name(alloc, design, place)?)),
+        Rule::PinBit(place) => Ok(Right::Whole(input_name(alloc, design, place as usize)?)),
         Rule::SentBack(net) => right_of_net(alloc, design, net),
         Rule::LutEntry(lc) => Ok(Right::Lut(cell_lut(alloc, design, &lc)?)),
-        Rule::FlipBit(place) => Ok(Right::Whole(flip_at(alloc, design, flips, place)?)),
+        Rule::FlipBit(place) => Ok(Right::Whole(flip_at(alloc, design, flips, place as usize)?)),
         Rule::CarryOut(lc) => right_of_carry(alloc, design, &lc),
         Rule::One => Ok(Right::Bit(true)),
         Rule::RegisterBit { ram, bit } => Ok(Right::Part {
-            name: register_at(alloc, design, ram)?,
+            name: register_at(alloc, design, ram as usize)?,
             k: bit,
         }),
         Rule::Copied(net) => right_of_net(alloc, design, Some(net)),

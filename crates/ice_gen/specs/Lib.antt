@@ -1,0 +1,5 @@
+pub mod Database
+pub mod Draws
+pub mod Events
+pub mod Image
+pub mod Numbers

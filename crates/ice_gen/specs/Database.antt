@@ -138,9 +138,12 @@ abbrev pub far_net : ℕ → ℕ
 far_net j = if nat_lt j 3 then clock_net else j - 1
 
 -- the buffer into in_0 of cell j, which is cell i of its tile
+abbrev pub in_0_statement : DeviceName → ℕ → ℕ → ℕ → ℕ → List ℕ
+in_0_statement device x y j i = with_word (with_word (buffer_line x y (in_0_net device j)) (bit_word (2 * i) 0)) (bit_word (2 * i + 1) 0)
+
 unfoldable pub in_0_lines : DeviceName → ℕ → ℕ → ℕ → ℕ → List (List ℕ)
 in_0_lines device x y j i =
-    with_word (with_word (buffer_line x y (in_0_net device j)) (bit_word (2 * i) 0)) (bit_word (2 * i + 1) 0)
+    in_0_statement device x y j i
     ∷ with_word (codes "10") (decimal (near_net j))
     ∷ with_word (codes "01") (decimal (far_net j)) ∷ []
 

@@ -9,6 +9,7 @@ use plane_map::DeviceName;
 use std::alloc::{AllocError, Global};
 
 /// The chip database of a device's generated design.
+#[tactic(auto, using(crate::proofs::Texts::joined), unfolding(crate::specs::Database::generated_database, crate::specs::Database::database_lines))]
 pub fn chipdb(alloc: Global, device: DeviceName) -> Result<Vec<u8>, AllocError>
     ensures { IfOk result (λ text. text.items ≡ generated_database device) }
 {

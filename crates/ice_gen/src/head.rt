@@ -11,6 +11,7 @@ use plane_map::{DeviceName, Place};
 use std::alloc::AllocError;
 
 /// Appends all lines before the nets.
+#[tactic(auto, using(crate::proofs::Texts::joined), unfolding(crate::specs::Database::head_lines))]
 pub(crate) fn append_head(text: &mut Vec<u8>, device: DeviceName) -> Result<(), AllocError>
     ensures { OnOk result (text.new.items ≡ text.old.items ++ text_of (head_lines device)) }
 {
@@ -26,6 +27,7 @@ pub(crate) fn append_head(text: &mut Vec<u8>, device: DeviceName) -> Result<(), 
 }
 
 /// Appends the device.
+#[tactic(auto, unfolding(text_lines::specs::Written::text_of))]
 fn append_device(text: &mut Vec<u8>, device: DeviceName) -> Result<(), AllocError>
     ensures { OnOk result (text.new.items ≡ text.old.items ++ text_of (device_line device ∷ [])) }
 {
@@ -48,6 +50,7 @@ fn device_word(device: DeviceName) -> &'static [u8]
 }
 
 /// Appends the bits of the type of the first pin.
+#[tactic(auto, using(crate::proofs::Texts::joined), unfolding(place_search::specs::Places::gathered_below))]
 fn append_pin_types(text: &mut Vec<u8>) -> Result<(), AllocError>
     ensures { OnOk result (text.new.items ≡ text.old.items ++ text_of (gathered_below 6 (λ k. pin_type_line k ∷ []))) }
 {
@@ -58,6 +61,7 @@ fn append_pin_types(text: &mut Vec<u8>) -> Result<(), AllocError>
 }
 
 /// Appends a bit of the type of the first pin.
+#[tactic(auto, unfolding(text_lines::specs::Written::text_of))]
 fn append_pin_type(text: &mut Vec<u8>, k: u32) -> Result<(), AllocError>
     ensures { OnOk result (text.new.items ≡ text.old.items ++ text_of (pin_type_line k ∷ [])) }
 {
@@ -68,6 +72,7 @@ fn append_pin_type(text: &mut Vec<u8>, k: u32) -> Result<(), AllocError>
 }
 
 /// Appends the cells of a tile.
+#[tactic(auto, using(crate::proofs::Texts::joined), unfolding(place_search::specs::Places::gathered_below))]
 fn append_cells(text: &mut Vec<u8>) -> Result<(), AllocError>
     ensures { OnOk result (text.new.items ≡ text.old.items ++ text_of (gathered_below 8 (λ i. cell_line i ∷ []))) }
 {
@@ -78,6 +83,7 @@ fn append_cells(text: &mut Vec<u8>) -> Result<(), AllocError>
 }
 
 /// Appends a cell and its twenty bits.
+#[tactic(auto, unfolding(text_lines::specs::Written::text_of))]
 fn append_cell(text: &mut Vec<u8>, i: u32) -> Result<(), AllocError>
     requires { i < 8 }
     ensures { OnOk result (text.new.items ≡ text.old.items ++ text_of (cell_line i ∷ [])) }
@@ -90,6 +96,7 @@ fn append_cell(text: &mut Vec<u8>, i: u32) -> Result<(), AllocError>
 }
 
 /// Appends the bits of a cell in one of its two rows.
+#[tactic(auto, using(crate::proofs::Texts::joined), unfolding(place_search::specs::Places::gathered_below))]
 fn append_ten_bits(text: &mut Vec<u8>, row: u32) -> Result<(), AllocError>
     ensures { OnOk result (text.new.items ≡ text.old.items ++ ten_bits row) }
 {
@@ -118,6 +125,7 @@ pub(crate) fn pad_drive(device: DeviceName) -> Place
 }
 
 /// Appends the bit by which a pad drives the global net 0.
+#[tactic(auto, unfolding(text_lines::specs::Written::text_of))]
 fn append_pad_drive(text: &mut Vec<u8>, device: DeviceName) -> Result<(), AllocError>
     ensures { OnOk result (text.new.items ≡ text.old.items ++ text_of (pad_drive_line device ∷ [])) }
 {

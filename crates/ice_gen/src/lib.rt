@@ -1,9 +1,10 @@
 //! A design that a number makes: a chip database, an image and events for it.
 //!
-//! The text of [`chipdb`] and the bits of [`image`] fit together: each logic cell of the image is used, and leads into the
-//! next ones. The same device and the same seed always give the same.
+//! The same device and the same seed always give the same. The names and the buffers of [`chipdb`] fit the bits of [`image`]:
+//! each logic cell is used, and leads into the next ones.
 #![tactic(auto)]
 
+mod bits;
 mod buffers;
 mod cells;
 mod database;

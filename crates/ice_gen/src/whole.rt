@@ -1,7 +1,9 @@
 // The image of the generated design.
-ghost use Rattle.std.specs.Prelude.{◌≡◌, IfOk};
-ghost use Rattle.ice_image.specs.Either.{configuration_of};
+ghost use Rattle.std.specs.Prelude.{◌≡◌, ℕ, IfOk};
+ghost use Rattle.plane_map.specs.Layout.{grid_height};
+ghost use Rattle.ice_image.specs.Either.{configuration_of, device_of};
 ghost use Rattle.ice_gen.specs.Image.{generated_image};
+ghost use Rattle.ice_gen.specs.Inside.{IsFilled, is_word_before, word_turn};
 
 use crate::draws::Draws;
 use crate::head::pad_drive;
@@ -24,7 +26,10 @@ pub fn image(alloc: Global, device: DeviceName, seed: u64) -> Result<AnyImage, A
 }
 
 /// Sets the bit by which a pad drives the global net 0, which is no tile's.
-fn set_pad_drive(image: &mut AnyImage) {
+fn set_pad_drive(image: &mut AnyImage)
+    ensures { (seed : ℕ) → IsFilled (device_of image.old) seed (is_word_before (word_turn 0 (grid_height (device_of image.old)) 0 0)) (configuration_of image.old)
+        → configuration_of image.new ≡ generated_image (device_of image.old) seed }
+{
     let at = pad_drive(image.device());
     if let Some(at) = image.extra_place(u32::from(at.bank), u32::from(at.px), u32::from(at.py)) {
         image.set_extra_bit(at, true);

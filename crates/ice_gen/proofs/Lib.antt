@@ -1,0 +1,5 @@
+pub mod Before
+pub mod Filled
+pub mod Generated
+pub mod Nameless
+pub mod Texts

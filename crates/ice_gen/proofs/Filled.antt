@@ -17,7 +17,8 @@ use Rattle.ice_image.proofs.Bits.{bit_of-blank}
 use Rattle.ice_image.specs.Bits.{Bit, OfTile, OfWord, Extra, IsBit, bit_of, IsSet}
 use Rattle.ice_gen.specs.Numbers.{cell_number}
 use Rattle.ice_gen.specs.Image.{is_generated, is_tile_bit, is_row_bit, lut_draw, choice_draw}
-use Rattle.ice_gen.specs.Inside.{IsFilled, turn, word_turn, is_tile_before, is_word_before}
+use Rattle.ice_gen.specs.Draws.{draw}
+use Rattle.ice_gen.specs.Inside.{FillsRow, IsFilled, turn, word_turn, is_tile_before, is_word_before}
 
 -- the bits that count after a step are those before it, but for one bit
 abbrev pub IsStep : DeviceName → Bit → (Bit → Bool) → (Bit → Bool) → Type 0
@@ -297,3 +298,22 @@ cell-bit-is device seed x y row col j lut choice bit there j_is lut_is choice_is
 pub there-in : (device : DeviceName) (x y : ℕ) (kind : TileKind) → kind_of device x y ≡ Some kind → (x < grid_width device) × (y < grid_height device)
 unfolding kind_of
 there-in device x y kind is = grind (arith, nat_tests)
+
+-- the two rows of a cell
+pub cell-filled : (device other : DeviceName) (seed x y i lut choice count : ℕ) (before middle after : Configuration) → other ≡ device → count ≡ 2 * cell_number device x y i → lut ≡ draw seed count → choice ≡ draw seed (count + 1)
+    → FillsRow device (cell_number device x y (2 * i / 2)) lut choice (turn x y (2 * i) 0) (turn x y (2 * i + 1) 0) before middle
+    → FillsRow other (cell_number other x y ((2 * i + 1) / 2)) lut choice (turn x y (2 * i + 1) 0) (turn x y (2 * i + 1 + 1) 0) middle after
+    → IsFilled device seed (is_tile_before (turn x y (2 * i) 0)) before → IsFilled device seed (is_tile_before (turn x y (2 * i + 2) 0)) after
+cell-filled device other seed x y i lut choice count before middle after same count_is lut_is choice_is first second filled =
+    let half : 2 * i / 2 ≡ i = omega arith in
+    let again : (2 * i + 1) / 2 ≡ i = omega arith in
+    let last : 2 * i + 1 + 1 ≡ 2 * i + 2 = omega arith in
+    let P : ℕ → Type 0 = λ k. FillsRow device (cell_number device x y k) lut choice (turn x y (2 * i) 0) (turn x y (2 * i + 1) 0) before middle in
+    let Q : DeviceName → Type 0 = λ d. FillsRow d (cell_number d x y ((2 * i + 1) / 2)) lut choice (turn x y (2 * i + 1) 0) (turn x y (2 * i + 1 + 1) 0) middle after in
+    let R : ℕ → ℕ → Type 0 = λ k row. FillsRow device (cell_number device x y k) lut choice (turn x y (2 * i + 1) 0) (turn x y row 0) middle after in
+    let one : P i = subst P half first in
+    let there : R ((2 * i + 1) / 2) (2 * i + 1 + 1) = subst Q same second in
+    let two : R i (2 * i + 2) = subst (R i) last (subst (λ k. R k (2 * i + 1 + 1)) again there) in
+    let lut_drawn : lut ≡ lut_draw seed (cell_number device x y i) = lut_is ∙ ap (λ n. draw seed n) count_is in
+    let choice_drawn : choice ≡ choice_draw seed (cell_number device x y i) = choice_is ∙ ap (λ n. draw seed (n + 1)) count_is in
+    two seed lut_drawn choice_drawn (one seed lut_drawn choice_drawn filled)

@@ -55,7 +55,7 @@ module _ (device : DeviceName) (seed : ℕ) where
       kept : (bit : Bit) → IsBit device bit → is_filled bit ≡ true → bit_of after bit ≡ bit_of before bit
       kept bit is counts = set.others.bits bit (in_before bit is) (apart bit counts)
       other_than : (other : Place) → is_same_place other at ≡ false → Extra other ≢ Extra at
-      other_than other no same = both_ways (is_same_place other at) no (ap at_place same ∙ is_same_place-self at)
+      other_than other differs same = both_ways (is_same_place other at) differs (ap at_place same ∙ is_same_place-self at)
         where
           at_place : Bit → Bool
           at_place (Extra o) = is_same_place o at
@@ -63,8 +63,8 @@ module _ (device : DeviceName) (seed : ℕ) where
       extra : (other : Place) → is_extra device other ≡ true → bit_of after (Extra other) ≡ is_generated device seed (Extra other)
       extra other is =
           rw (sym at_is) (elim (cases_Bool (is_same_place other at)) [
-            | inr no ↦ set.others.bits (Extra other) (in_before (Extra other) is) (other_than other no) ∙ filled.bits (Extra other) is ∙ sym no
-            | inl yes ↦ ap (λ o. bit_of after (Extra o)) (is_same_place-same other at yes) ∙ set.set ∙ sym yes
+            | inr apart_from ↦ set.others.bits (Extra other) (in_before (Extra other) is) (other_than other apart_from) ∙ filled.bits (Extra other) is ∙ sym apart_from
+            | inl same ↦ ap (λ o. bit_of after (Extra o)) (is_same_place-same other at same) ∙ set.set ∙ sym same
           ])
 
   -- or there is no such bit
@@ -74,6 +74,6 @@ module _ (device : DeviceName) (seed : ℕ) where
     where
       extra : (other : Place) → is_extra device other ≡ true → bit_of image (Extra other) ≡ is_generated device seed (Extra other)
       extra other is = filled.bits (Extra other) is ∙ elim (cases_Bool (is_same_place other (pad_drive device))) [
-          | inr no ↦ sym no
-          | inl yes ↦ absurd (both_ways (is_extra device other) (ap (is_extra device) (is_same_place-same other (pad_drive device) yes) ∙ none) is)
+          | inr apart_from ↦ sym apart_from
+          | inl same ↦ absurd (both_ways (is_extra device other) (ap (is_extra device) (is_same_place-same other (pad_drive device) same) ∙ none) is)
         ]

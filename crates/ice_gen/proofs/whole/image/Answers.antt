@@ -6,5 +6,5 @@ use Rattle.ice_gen.proofs.whole.image.Goals as goal
 
 pub fill_tiles-requires-clause-filled : goal.fill_tiles-requires-clause-filled
 fill_tiles-requires-clause-filled c =
-    let image = c.in_ok-image.field-0 in
+    let image = c.in_ok-image.image in
     blank-filled (device_of image) _ (configuration_of image) (c.in_ok-image.ensures.blank ∙ ap blank_image (sym c.in_ok-image.ensures.device))

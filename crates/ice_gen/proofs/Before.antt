@@ -1,11 +1,11 @@
 -- How many logic tiles and RAMs come before a place of the grid, place by place.
-use Rattle.std.proofs.Common.{◌≡◌, ◌≢◌, ℕ, ◌+◌, ◌-◌, ◌*◌, ◌/◌, ◌%◌, ◌<◌, ◌≤◌, refl, arith}
-use Rattle.std.specs.Prelude.{Option, Some, None}
+use Rattle.std.proofs.Common.{◌≡◌, ◌≢◌, ℕ, ◌+◌, ◌*◌, ◌<◌, refl, arith}
+use Rattle.std.specs.Prelude.{Some}
 use Rattle.std.proofs.lemmas.Bool.Decides.{nat_tests}
 use Rattle.plane_map.specs.Layout.{kind_of, grid_width, grid_height}
 use Rattle.plane_map.specs.declared.device.DeviceName.{DeviceName}
 use Rattle.plane_map.specs.declared.device.DeviceName.TheVariants.{K1, K8}
-use Rattle.plane_map.specs.declared.tile.TileKind.TheVariants.{Io, Logic, RamB, RamT}
+use Rattle.plane_map.specs.declared.tile.TileKind.TheVariants.{Logic, RamB}
 use Rattle.ice_gen.specs.Numbers.{cells, cell_number, ram_number}
 use Rattle.ice_gen.specs.Inside.{logic_before, rams_before}
 

@@ -1,9 +1,9 @@
 -- Images that are filled bit by bit.
-use Rattle.std.proofs.Common.{◌≡◌, ◌≢◌, ℕ, suc, ◌+◌, ◌*◌, ◌/◌, ◌%◌, ◌<◌, ◌≤◌, ◌⊎◌, Bool, true, false, ◌&&◌, refl, sym, ap, ◌∙◌, subst, inl, inr, arith, lit≤, Some, None}
+use Rattle.std.proofs.Common.{◌≡◌, ◌≢◌, ℕ, ◌+◌, ◌*◌, ◌/◌, ◌%◌, ◌<◌, ◌≤◌, ◌⊎◌, Bool, true, false, ◌&&◌, refl, sym, ap, ◌∙◌, subst, inl, inr, arith, lit≤, Some}
 use Rattle.std.specs.Prelude.{nat_lt, Option}
 use Rattle.std.proofs.lemmas.Bool.{cases_eq, cases_lt, lt-ltb, le-ltb, and_right}
 use Rattle.std.proofs.lemmas.Bool.Decides.{nat_tests}
-use Rattle.plane_map.specs.Layout.{grid_width, grid_height, cram_width, cram_height, bram_width, bram_height, columns_at, columns_in, columns_of, kind_of, IsTileBit, IsWordBit}
+use Rattle.plane_map.specs.Layout.{grid_width, grid_height, cram_width, cram_height, bram_width, bram_height, columns_at, kind_of, IsTileBit, IsWordBit}
 use Rattle.plane_map.specs.declared.tile.TileKind.{TileKind}
 use Rattle.plane_map.specs.declared.tile.TileKind.TheVariants.{Logic, RamB}
 use Rattle.plane_map.proofs.Layouts.{columns_at-in}
@@ -11,7 +11,7 @@ use Rattle.plane_map.specs.declared.device.DeviceName.{DeviceName}
 use Rattle.plane_map.specs.declared.device.DeviceName.TheVariants.{K1, K8}
 use Rattle.plane_map.specs.declared.tile.TileBit.{TileBit}
 use Rattle.plane_map.specs.declared.tile.WordBit.{WordBit}
-use Rattle.ice_image.specs.Configuration.{Configuration, IsWhole, blank_image, usual_settings}
+use Rattle.ice_image.specs.Configuration.{Configuration, IsWhole, blank_image}
 use Rattle.ice_image.proofs.BankBits.{AreBanks-blank}
 use Rattle.ice_image.proofs.Bits.{bit_of-blank}
 use Rattle.ice_image.specs.Bits.{Bit, OfTile, OfWord, Extra, IsBit, bit_of, IsSet}
@@ -115,12 +115,12 @@ tile-step device bit t is t_is (OfTile other) is_other =
     let p : TileBit → ℕ = λ b. turn b.x b.y b.row b.col in
     elim (cases_eq (p other) t) [
       | inl same ↦
-        let row : other.row ≡ bit.row = omega (arith, is.row_in, is_other.row_in, here.0, there.0) in
-        let col : other.col ≡ bit.col = omega (arith, here.0, there.0) in
-        let x : other.x ≡ bit.x = omega (arith, is.row_in, is_other.row_in, here.0, there.0, here.1, there.1) in
-        let y : other.y ≡ bit.y = omega (arith, is.row_in, is_other.row_in, here.0, there.0, here.1, there.1) in
-        let whole : other ≡ bit = λ i. record { x = x i; y = y i; row = row i; col = col i } in
-        inl (ap (λ b. OfTile b) whole)
+          let row : other.row ≡ bit.row = omega (arith, is.row_in, is_other.row_in, here.0, there.0) in
+          let col : other.col ≡ bit.col = omega (arith, here.0, there.0) in
+          let x : other.x ≡ bit.x = omega (arith, is.row_in, is_other.row_in, here.0, there.0, here.1, there.1) in
+          let y : other.y ≡ bit.y = omega (arith, is.row_in, is_other.row_in, here.0, there.0, here.1, there.1) in
+          let whole : other ≡ bit = λ i. record { x = x i; y = y i; row = row i; col = col i } in
+          inl (ap (λ b. OfTile b) whole)
       | inr apart ↦ inr ((λ e. apart (ap tile_turn e ∙ sym t_is)), lt-step (p other) t apart)
     ]
   where
@@ -138,12 +138,12 @@ word-step device bit t is t_is (OfWord other) is_other =
     let p : WordBit → ℕ = λ b. word_turn b.x b.y b.word b.bit in
     elim (cases_eq (p other) t) [
       | inl same ↦
-        let bit_is : other.bit ≡ bit.bit = omega (arith, is.bit_in, is_other.bit_in) in
-        let word : other.word ≡ bit.word = omega (arith, is.bit_in, is_other.bit_in, is.word_in, is_other.word_in) in
-        let x : other.x ≡ bit.x = omega (arith, is.bit_in, is_other.bit_in, is.word_in, is_other.word_in, here.0, there.0) in
-        let y : other.y ≡ bit.y = omega (arith, is.bit_in, is_other.bit_in, is.word_in, is_other.word_in, here.0, there.0) in
-        let whole : other ≡ bit = λ i. record { x = x i; y = y i; word = word i; bit = bit_is i } in
-        inl (ap (λ b. OfWord b) whole)
+          let bit_is : other.bit ≡ bit.bit = omega (arith, is.bit_in, is_other.bit_in) in
+          let word : other.word ≡ bit.word = omega (arith, is.bit_in, is_other.bit_in, is.word_in, is_other.word_in) in
+          let x : other.x ≡ bit.x = omega (arith, is.bit_in, is_other.bit_in, is.word_in, is_other.word_in, here.0, there.0) in
+          let y : other.y ≡ bit.y = omega (arith, is.bit_in, is_other.bit_in, is.word_in, is_other.word_in, here.0, there.0) in
+          let whole : other ≡ bit = λ i. record { x = x i; y = y i; word = word i; bit = bit_is i } in
+          inl (ap (λ b. OfWord b) whole)
       | inr apart ↦ inr ((λ e. apart (ap turn_of e ∙ sym t_is)), lt-step (p other) t apart)
     ]
   where

@@ -1,6 +1,5 @@
 -- The image of which all bits are set.
-use Rattle.std.proofs.Common.{◌≡◌, ◌≢◌, ℕ, ◌+◌, ◌*◌, ◌<◌, Bool, true, false, ◌&&◌, refl, sym, ap, ◌∙◌, subst, inl, inr, arith, None}
-use Rattle.std.specs.Prelude.{nat_lt}
+use Rattle.std.proofs.Common.{◌≡◌, ◌≢◌, ℕ, Bool, true, false, ◌&&◌, refl, sym, ap, ◌∙◌, subst, inl, inr, arith, None}
 use Rattle.std.proofs.lemmas.Bool.{cases_Bool, both_ways, lt-ltb}
 use Rattle.plane_map.specs.Layout.{grid_height, IsWordBit}
 use Rattle.plane_map.specs.declared.device.DeviceName.{DeviceName}
@@ -50,16 +49,20 @@ module _ (device : DeviceName) (seed : ℕ) where
     where
       in_before : (bit : Bit) → IsBit device bit → IsBit before.device bit
       in_before bit is = let P : DeviceName → Type 0 = λ d. IsBit d bit in subst P (sym filled.device_is) is
+
       apart : (bit : Bit) → is_filled bit ≡ true → bit ≢ Extra at
       apart bit is same = both_ways (is_filled bit) (ap is_filled same) is
+
       kept : (bit : Bit) → IsBit device bit → is_filled bit ≡ true → bit_of after bit ≡ bit_of before bit
       kept bit is counts = set.others.bits bit (in_before bit is) (apart bit counts)
+
       other_than : (other : Place) → is_same_place other at ≡ false → Extra other ≢ Extra at
       other_than other differs same = both_ways (is_same_place other at) differs (ap at_place same ∙ is_same_place-self at)
         where
           at_place : Bit → Bool
           at_place (Extra o) = is_same_place o at
           at_place bit = true
+
       extra : (other : Place) → is_extra device other ≡ true → bit_of after (Extra other) ≡ is_generated device seed (Extra other)
       extra other is =
           rw (sym at_is) (elim (cases_Bool (is_same_place other at)) [
@@ -74,6 +77,6 @@ module _ (device : DeviceName) (seed : ℕ) where
     where
       extra : (other : Place) → is_extra device other ≡ true → bit_of image (Extra other) ≡ is_generated device seed (Extra other)
       extra other is = filled.bits (Extra other) is ∙ elim (cases_Bool (is_same_place other (pad_drive device))) [
-          | inr apart_from ↦ sym apart_from
-          | inl same ↦ absurd (both_ways (is_extra device other) (ap (is_extra device) (is_same_place-same other (pad_drive device) same) ∙ none) is)
-        ]
+        | inr apart_from ↦ sym apart_from
+        | inl same ↦ absurd (both_ways (is_extra device other) (ap (is_extra device) (is_same_place-same other (pad_drive device) same) ∙ none) is)
+      ]

@@ -1,5 +1,5 @@
 -- Which rows of the grid give a net no name.
-use Rattle.std.proofs.Common.{◌≡◌, ◌≢◌, ℕ, ◌+◌, ◌-◌, ◌*◌, ◌<◌, ◌≤◌, ◌⊎◌, Bool, true, false, ◌&&◌, ◌||◌, ◌==◌, List, [], map, refl, ap, ◌∙◌, arith}
+use Rattle.std.proofs.Common.{◌≡◌, ◌≢◌, ℕ, ◌+◌, ◌-◌, ◌*◌, ◌<◌, ◌≤◌, ◌⊎◌, Bool, true, false, ◌&&◌, ◌||◌, ◌==◌, [], map, refl, ap, arith}
 use Rattle.std.specs.Prelude.{nat_le, nat_lt, Option, Some, None}
 use Rattle.std.proofs.lemmas.Bool.Decides.{nat_tests}
 use Rattle.place_search.proofs.Places.{gathered_below-none}
@@ -9,7 +9,7 @@ use Rattle.plane_map.specs.declared.device.DeviceName.TheVariants.{K1, K8}
 use Rattle.plane_map.specs.declared.tile.TileKind.{TileKind}
 use Rattle.plane_map.specs.declared.tile.TileKind.TheVariants.{Io, Logic, RamB, RamT}
 use Rattle.ice_gen.specs.Numbers.{rams, logic_columns, cell_number, ram_number, clock_net, input_net, out_net, in_0_net, address_net, write_net, read_net, in_3_net, read_enable_net, write_enable_net, middle_net}
-use Rattle.ice_gen.specs.Database.{cell_names, logic_names, ram_names, pin_names, names_by_kind, names_at, names_in_row, name_line, named, numbered}
+use Rattle.ice_gen.specs.Database.{cell_names, logic_names, ram_names, pin_names, names_by_kind, names_at, names_in_row, name_line}
 use Rattle.ice_gen.specs.Inside.{is_shared, is_of_row, first_of_row}
 
 -- a logic tile is one of its row
@@ -101,6 +101,7 @@ row-nameless device net y none = row-none device net y (elsewhere device net y (
     or_false-left : (a b : Bool) → (a || b) ≡ false → a ≡ false
     or_false-left true b e = e
     or_false-left false b e = refl
+
     or_false-right : (a b : Bool) → (a || b) ≡ false → b ≡ false
     or_false-right true b e = absurd cc
     or_false-right false b e = e

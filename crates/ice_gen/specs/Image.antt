@@ -5,7 +5,7 @@ use Rattle.place_search.specs.Places.{any_below}
 use Rattle.plane_map.specs.Layout.{kind_of}
 use Rattle.plane_map.specs.declared.device.DeviceName.{DeviceName}
 use Rattle.plane_map.specs.declared.tile.TileKind.{TileKind}
-use Rattle.plane_map.specs.declared.tile.TileKind.TheVariants.{Io, Logic, RamB, RamT}
+use Rattle.plane_map.specs.declared.tile.TileKind.TheVariants.{Io, Logic}
 use Rattle.ice_image.specs.Configuration.{Configuration, usual_settings}
 use Rattle.ice_image.specs.Owned.{is_same_place}
 use Rattle.ice_image.specs.Bits.{Bit, OfTile, OfWord, Extra, image_from}

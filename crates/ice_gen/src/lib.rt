@@ -22,3 +22,6 @@ mod whole;
 pub use database::chipdb;
 pub use event::{PinEvent, events};
 pub use whole::image;
+
+#[cfg(test)]
+mod tests;

@@ -149,8 +149,20 @@ fn append_pin_names(
     ensures { OnOk result (text.new.items ≡ text.old.items ++ text_of (map (name_line x y) (pin_names device net x y))) }
 {
     append_named(text, x, y, x == 0 && y == 2 && net == 1, b"io_0/D_IN_0")?;
-    append_named(text, x, y, x == 0 && y == 3 && net == read_enable_net(device), b"io_0/D_OUT_0")?;
-    append_named(text, x, y, x == 0 && y == 4 && net == middle_net(device), b"io_0/D_OUT_0")
+    append_named(
+        text,
+        x,
+        y,
+        x == 0 && y == 3 && net == read_enable_net(device),
+        b"io_0/D_OUT_0",
+    )?;
+    append_named(
+        text,
+        x,
+        y,
+        x == 0 && y == 4 && net == middle_net(device),
+        b"io_0/D_OUT_0",
+    )
 }
 
 /// Appends the names by a logic tile.

@@ -28,7 +28,11 @@ fn fill_row(image: &mut AnyImage, x: u8, y: u8, row: u8)
     ensures filled { Fills (device_of image.old) (turn x y row 0) (turn x y (row + 1) 0) (configuration_of image.old) (configuration_of image.new) }
 {
     for col in 0..18 {
-        fill_tile_bit(image, TileBit { x, y, row, col }, is_pin_bit(x, y, row, col));
+        fill_tile_bit(
+            image,
+            TileBit { x, y, row, col },
+            is_pin_bit(x, y, row, col),
+        );
     }
 }
 

@@ -1,4 +1,4 @@
-use Rattle.std.proofs.Common.{◌≡◌, ℕ, ◌+◌, ◌/◌, ◌%◌, ◌<◌, ap, sym, ◌∙◌, arith}
+use Rattle.std.proofs.Common.{◌≡◌, ◌+◌, ◌/◌, ◌%◌, ◌<◌, ap, sym, ◌∙◌, arith}
 use Rattle.plane_map.specs.Layout.{columns_in, grid_width, grid_height}
 use Rattle.plane_map.specs.declared.tile.TileBit.{TileBit}
 use Rattle.plane_map.specs.declared.tile.TileKind.TheVariants.{Logic}
@@ -30,11 +30,13 @@ loop-col-preserved c =
     let j = c.cell_number-j.result in
     let at : TileBit = record { x = x; y = y; row = row; col = col } in
     let more : turn x y row col + 1 ≡ turn x y row (col + 1) = omega arith in
-    let j_is : j ≡ cell_number device x y (row / 2) = cc (c.cell_number-j.ensures.number, c.device-device.ensures.name, c.from.ensures, c.from-2.ensures, c.from-3.ensures) in
-    (c.fill_tile_bit.ensures.device ∙ c.loop-col.invariant.0, λ seed lut_is choice_is filled.
-    filled-on is_tile_before device (device_of c.loop-col.image) seed (turn x y row col) (turn x y row (col + 1)) (OfTile at) c.is_row_bit-bit.result (configuration_of c.loop-col.image) (configuration_of c.fill_tile_bit.new.image) c.loop-col.invariant.0 more (c.fill_tile_bit.ensures.filled seed)
-    (cell-bit-is device seed x y row col j c.args.lut c.args.choice c.is_row_bit-bit.result c.requires.logic j_is lut_is choice_is (c.is_row_bit-bit.ensures ∙ ap (λ d. is_row_bit d j c.args.lut c.args.choice (row % 2) col) c.device-device.ensures.name))
-    (c.loop-col.invariant.1 seed lut_is choice_is filled))
+    let j_is : j ≡ cell_number device x y (row / 2) = cc (c.cell_number-j.ensures.number, c.device-device.ensures.name, c.from.ensures, c.from-2.ensures, c.from-3.ensures) in (
+      c.fill_tile_bit.ensures.device ∙ c.loop-col.invariant.0,
+      λ seed lut_is choice_is filled.
+          filled-on is_tile_before device (device_of c.loop-col.image) seed (turn x y row col) (turn x y row (col + 1)) (OfTile at) c.is_row_bit-bit.result (configuration_of c.loop-col.image) (configuration_of c.fill_tile_bit.new.image) c.loop-col.invariant.0 more (c.fill_tile_bit.ensures.filled seed)
+          (cell-bit-is device seed x y row col j c.args.lut c.args.choice c.is_row_bit-bit.result c.requires.logic j_is lut_is choice_is (c.is_row_bit-bit.ensures ∙ ap (λ d. is_row_bit d j c.args.lut c.args.choice (row % 2) col) c.device-device.ensures.name))
+          (c.loop-col.invariant.1 seed lut_is choice_is filled),
+    )
 
 pub returns-clause-filled : goal.returns-clause-filled
 returns-clause-filled c =

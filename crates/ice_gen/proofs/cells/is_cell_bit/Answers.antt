@@ -1,4 +1,4 @@
-use Rattle.std.proofs.Common.{◌≡◌, ℕ, ◌<◌, Bool, ◌&&◌, ◌==◌, refl, sym, ◌∙◌, arith}
+use Rattle.std.proofs.Common.{ℕ, ◌<◌, Bool, ◌&&◌, ◌==◌, refl, sym, ◌∙◌}
 use Rattle.std.specs.Prelude.{slice_index}
 use Rattle.place_search.specs.Places.{any_below}
 use Rattle.place_search.proofs.Places.{any_below-at, any_below-more}

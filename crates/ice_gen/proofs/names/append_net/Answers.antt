@@ -1,4 +1,4 @@
-use Rattle.std.proofs.Common.{[], ◌∷◌, ◌++◌, arith}
+use Rattle.std.proofs.Common.{[], ◌∷◌, arith}
 use Rattle.std.specs.Prelude.{codes, decimal}
 use Rattle.place_search.specs.Places.{gathered_below}
 use Rattle.plane_map.specs.Layout.{grid_height}

@@ -1,4 +1,4 @@
-use Rattle.std.proofs.Common.{◌≡◌, ℕ, ◌+◌, ◌<◌, ap, sym, ◌∙◌, arith}
+use Rattle.std.proofs.Common.{◌≡◌, ◌+◌, ◌<◌, ap, sym, ◌∙◌, arith}
 use Rattle.plane_map.specs.Layout.{columns_in}
 use Rattle.plane_map.specs.declared.tile.TileBit.{TileBit}
 use Rattle.plane_map.specs.declared.tile.TileKind.TheVariants.{Io}
@@ -17,10 +17,12 @@ loop-col-preserved c =
     let row = c.args.row in
     let col = c.loop-col.col in
     let at : TileBit = record { x = x; y = y; row = row; col = col } in
-    let more : turn x y row col + 1 ≡ turn x y row (col + 1) = omega arith in
-    (c.fill_tile_bit.ensures.device ∙ c.loop-col.invariant.0, λ seed filled.
-    filled-on is_tile_before device (device_of c.loop-col.image) seed (turn x y row col) (turn x y row (col + 1)) (OfTile at) c.is_pin_bit.result (configuration_of c.loop-col.image) (configuration_of c.fill_tile_bit.new.image) c.loop-col.invariant.0 more (c.fill_tile_bit.ensures.filled seed)
-    (ap (λ k. is_tile_bit device seed k x y row col) c.requires.io ∙ sym c.is_pin_bit.ensures) (c.loop-col.invariant.1 seed filled))
+    let more : turn x y row col + 1 ≡ turn x y row (col + 1) = omega arith in (
+      c.fill_tile_bit.ensures.device ∙ c.loop-col.invariant.0,
+      λ seed filled.
+          filled-on is_tile_before device (device_of c.loop-col.image) seed (turn x y row col) (turn x y row (col + 1)) (OfTile at) c.is_pin_bit.result (configuration_of c.loop-col.image) (configuration_of c.fill_tile_bit.new.image) c.loop-col.invariant.0 more (c.fill_tile_bit.ensures.filled seed)
+          (ap (λ k. is_tile_bit device seed k x y row col) c.requires.io ∙ sym c.is_pin_bit.ensures) (c.loop-col.invariant.1 seed filled),
+    )
 
 pub returns-clause-filled : goal.returns-clause-filled
 returns-clause-filled c =

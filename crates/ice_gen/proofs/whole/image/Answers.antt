@@ -1,4 +1,4 @@
-use Rattle.std.proofs.Common.{◌≡◌, ◌∙◌, ap, sym, refl}
+use Rattle.std.proofs.Common.{◌∙◌, ap, sym}
 use Rattle.ice_image.specs.Configuration.{blank_image}
 use Rattle.ice_image.specs.Either.{configuration_of, device_of}
 use Rattle.ice_gen.proofs.Filled.{blank-filled}

@@ -9,8 +9,18 @@ use plane_map::DeviceName;
 use std::alloc::{AllocError, Global};
 
 /// The chip database of a device's generated design.
-#[tactic(auto, using(crate::proofs::Texts::joined), unfolding(crate::specs::Database::generated_database, crate::specs::Database::database_lines))]
 pub fn chipdb(alloc: Global, device: DeviceName) -> Result<Vec<u8>, AllocError>
+    ensures text { IfOk result (λ text. text.items ≡ generated_database device) }
+    // So it is short enough to be read.
+    ensures limit { IfOk result (λ text. length text.items ≤ 2 ^ 28) }
+{
+    let text = write(alloc, device)?;
+    Ok(text)
+}
+
+/// Writes the parts of the text.
+#[tactic(auto, using(crate::proofs::Texts::joined), unfolding(crate::specs::Database::generated_database, crate::specs::Database::database_lines))]
+fn write(alloc: Global, device: DeviceName) -> Result<Vec<u8>, AllocError>
     ensures { IfOk result (λ text. text.items ≡ generated_database device) }
 {
     let mut text = Vec::with_capacity(alloc, usual_len(device))?;

@@ -1,7 +1,8 @@
 -- Which rows of the grid give a net no name.
-use Rattle.std.proofs.Common.{◌≡◌, ◌≢◌, ℕ, ◌+◌, ◌-◌, ◌*◌, ◌<◌, ◌≤◌, ◌⊎◌, Bool, true, false, ◌&&◌, ◌||◌, ◌==◌, [], map, refl, ap, arith}
+use Rattle.std.proofs.Common.{◌≡◌, ◌≢◌, ℕ, ◌+◌, ◌-◌, ◌*◌, ◌<◌, ◌≤◌, ◌⊎◌, Bool, true, false, ◌&&◌, ◌||◌, ◌==◌, [], map, ◌∙◌, refl, ap, ◌∙◌, arith}
 use Rattle.std.specs.Prelude.{nat_le, nat_lt, Option, Some, None}
 use Rattle.std.proofs.lemmas.Bool.Decides.{nat_tests}
+use Rattle.place_search.specs.Places.{gathered_below}
 use Rattle.place_search.proofs.Places.{gathered_below-none}
 use Rattle.plane_map.specs.Layout.{kind_of, grid_width}
 use Rattle.plane_map.specs.declared.device.DeviceName.{DeviceName}
@@ -10,7 +11,7 @@ use Rattle.plane_map.specs.declared.tile.TileKind.{TileKind}
 use Rattle.plane_map.specs.declared.tile.TileKind.TheVariants.{Io, Logic, RamB, RamT}
 use Rattle.ice_gen.specs.Numbers.{rams, logic_columns, cell_number, ram_number, clock_net, input_net, out_net, in_0_net, address_net, write_net, read_net, in_3_net, read_enable_net, write_enable_net, middle_net}
 use Rattle.ice_gen.specs.Database.{cell_names, logic_names, ram_names, pin_names, names_by_kind, names_at, names_in_row, name_line}
-use Rattle.ice_gen.specs.Inside.{is_shared, is_of_row, first_of_row}
+use Rattle.ice_gen.specs.Inside.{is_of_cells, is_shared, is_of_row, first_of_row}
 
 -- a logic tile is one of its row
 logic-in : (device : DeviceName) (x y : ℕ) → kind_of device x y ≡ Some Logic → (first_of_row device y ≤ cell_number device x y 0) × (cell_number device x y 0 + 8 ≤ first_of_row device y + 8 * logic_columns device)
@@ -94,6 +95,26 @@ module _ (device : DeviceName) (net y : ℕ) (away : IsElsewhere device net y) w
 
   row-none : names_in_row device net y ≡ []
   row-none = gathered_below-none (grid_width device) (λ x. map (name_line x y) (names_at device net x y)) (λ x within. ap (map (name_line x y)) (names-none x (kind_of device x y) refl))
+
+-- a cell of a tile
+one-nameless : (device : DeviceName) (net first i : ℕ) → i < 8 → is_of_cells device net first ≡ false → cell_names device net (first + i) i ≡ []
+unfolding cell_names
+one-nameless device net first i within none =
+    let out : (net < first) ⊎ (first + 10 ≤ net) = grind (arith, nat_tests) in
+    let in_0 : (net < in_0_net device first) ⊎ (in_0_net device first + 8 ≤ net) = grind (arith, nat_tests) in
+    let in_3 : (net < in_3_net device first) ⊎ (in_3_net device first + 8 ≤ net) = grind (arith, nat_tests) in
+    let e0 : (net == in_0_net device (first + i)) ≡ false = grind (arith, nat_tests, in_0) in
+    let e1 : (nat_le 2 (first + i) && (net == out_net (first + i - 2))) ≡ false = grind (arith, nat_tests, out) in
+    let e2 : (nat_lt (first + i) (rams device) && (net == in_3_net device (first + i))) ≡ false = grind (arith, nat_tests, in_3) in
+    let e3 : (net == out_net (first + i)) ≡ false = grind (arith, nat_tests, out) in
+    rw (e0, e1, e2, e3) refl
+
+-- all cells of a tile
+pub cells-nameless : (device : DeviceName) (net x y : ℕ) → is_of_cells device net (cell_number device x y 0) ≡ false → gathered_below 8 (λ i. cell_names device net (cell_number device x y i) i) ≡ []
+cells-nameless device net x y none =
+    gathered_below-none 8 (λ i. cell_names device net (cell_number device x y i) i) (λ i within.
+    let same : cell_number device x y i ≡ cell_number device x y 0 + i = omega arith in
+    ap (λ j. cell_names device net j i) same ∙ one-nameless device net (cell_number device x y 0) i within none)
 
 pub row-nameless : (device : DeviceName) (net y : ℕ) → (is_shared device net || is_of_row device net y) ≡ false → names_in_row device net y ≡ []
 row-nameless device net y none = row-none device net y (elsewhere device net y (or_false-left _ _ none) (or_false-right _ _ none))

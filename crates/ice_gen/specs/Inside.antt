@@ -4,7 +4,7 @@ use Rattle.plane_map.specs.Layout.{last_x, last_y, ram_column}
 use Rattle.plane_map.specs.declared.device.DeviceName.{DeviceName}
 use Rattle.ice_image.specs.Configuration.{Configuration, IsWhole, usual_settings}
 use Rattle.ice_image.specs.Bits.{Bit, OfTile, OfWord, Extra, IsBit, bit_of}
-use Rattle.ice_gen.specs.Numbers.{logic_columns, rams, cell_number, in_0_net, read_net, write_enable_net, read_enable_net, middle_net}
+use Rattle.ice_gen.specs.Numbers.{logic_columns, rams, cell_number, in_0_net, in_3_net, read_net, write_enable_net, read_enable_net, middle_net}
 use Rattle.ice_gen.specs.Database.{in_0_lines, in_3_lines_below}
 use Rattle.ice_gen.specs.Image.{is_generated, lut_draw, choice_draw, word_draw}
 use Rattle.ice_gen.specs.declared.buffers.Input.{Input}
@@ -26,6 +26,11 @@ abbrev pub is_shared : DeviceName → ℕ → Bool
 is_shared device net =
     nat_lt net (2 + 16 * rams device) || nat_le (read_net device 0 0) net
     || (net == write_enable_net device) || (net == read_enable_net device) || (net == middle_net device)
+
+-- whether a net is an output or an input of a cell of a tile, by its first cell
+abbrev pub is_of_cells : DeviceName → ℕ → ℕ → Bool
+is_of_cells device net first =
+    is_among net first 10 || is_among net (in_0_net device first) 8 || is_among net (in_3_net device first) 8
 
 -- the first cell of a row of the grid
 abbrev pub first_of_row : DeviceName → ℕ → ℕ

@@ -5,7 +5,7 @@ ghost use Rattle.text_lines.specs.Written.{text_of};
 ghost use Rattle.plane_map.specs.Layout.{grid_height, grid_width, kind_of};
 ghost use Rattle.asc_text.specs.Canonical.{with_word};
 ghost use Rattle.ice_gen.specs.Numbers.{cell_number as cell_number_of, in_3_net as in_3_net_of, nets as nets_of, out_net as out_net_of, ram_number as ram_number_of, rams as rams_of};
-ghost use Rattle.ice_gen.specs.Inside.{is_among as among_of, is_of_row as of_row_of, is_shared as shared_of};
+ghost use Rattle.ice_gen.specs.Inside.{is_among as among_of, is_of_cells as of_cells_of, is_of_row as of_row_of, is_shared as shared_of};
 ghost use Rattle.ice_gen.specs.Database.{cell_names, cell_wire, logic_names, name_line, named, names_at, names_in_row, net_lines, numbered, pin_names, ram_names};
 
 use crate::lines::{append_decimal, append_number, end_line};
@@ -179,10 +179,58 @@ fn append_logic_names(
     ensures { OnOk result (text.new.items ≡ text.old.items ++ text_of (map (name_line x y) (logic_names device net x y))) }
 {
     append_named(text, x, y, net == 0, b"glb_netwk_0")?;
+    append_names_of_cells(text, device, net, x, y)?;
+    append_named(text, x, y, net == 0, b"lutff_global/clk")
+}
+
+/// Appends the names by the cells of a tile.
+fn append_names_of_cells(
+    text: &mut Vec<u8>,
+    device: DeviceName,
+    net: u32,
+    x: u32,
+    y: u32,
+) -> Result<(), AllocError>
+    requires column { x < grid_width device }
+    requires row { y < grid_height device }
+    ensures { OnOk result (text.new.items ≡ text.old.items ++ text_of (map (name_line x y) (gathered_below 8 (λ i. cell_names device net (cell_number_of device x y i) i)))) }
+{
+    if is_of_tile(device, net, x, y) {
+        append_each_cell(text, device, net, x, y)
+    } else {
+        Ok(())
+    }
+}
+
+/// Whether a cell of a tile may give a net a name, by the net's number.
+fn is_of_tile(device: DeviceName, net: u32, x: u32, y: u32) -> bool
+    requires column { x < grid_width device }
+    requires row { y < grid_height device }
+    ensures { result ≡ of_cells_of device net (cell_number_of device x y 0) }
+{
+    let first = cell_number(device, x, y, 0);
+    is_among(net, first, 10)
+        || is_among(net, in_0_net(device, first), 8)
+        || is_among(net, in_3_net(device, first), 8)
+}
+
+/// Appends the names by the cells of a tile, each of which is asked.
+#[tactic(auto, using(crate::proofs::Texts::joined), unfolding(place_search::specs::Places::gathered_below))]
+fn append_each_cell(
+    text: &mut Vec<u8>,
+    device: DeviceName,
+    net: u32,
+    x: u32,
+    y: u32,
+) -> Result<(), AllocError>
+    requires column { x < grid_width device }
+    requires row { y < grid_height device }
+    ensures { OnOk result (text.new.items ≡ text.old.items ++ text_of (map (name_line x y) (gathered_below 8 (λ i. cell_names device net (cell_number_of device x y i) i)))) }
+{
     for i in 0..8 {
         append_cell_names(text, device, net, x, y, i)?;
     }
-    append_named(text, x, y, net == 0, b"lutff_global/clk")
+    Ok(())
 }
 
 /// Appends the names by a cell of a tile.

@@ -129,7 +129,8 @@ pub(crate) fn read_net(device: DeviceName, r: u32) -> u32
 /// The input in_3 of cell `r`.
 pub(crate) fn in_3_net(device: DeviceName, r: u32) -> u32
     requires { r < 2 ^ 16 }
-    ensures { result ≡ in_3_net_of device r }
+    ensures net { result ≡ in_3_net_of device r }
+    ensures small { result < 2 ^ 21 }
 {
     2 + 2 * cells(device) + 16 * rams(device) + r
 }

@@ -1,4 +1,4 @@
-use Rattle.std.proofs.Common.{ℕ, List, ◌≡◌, ◌==◌, ap, refl, arith}
+use Rattle.std.proofs.Common.{ℕ, List, ◌==◌, refl}
 use Rattle.std.specs.Prelude.{codes}
 use Rattle.std.proofs.lemmas.Result.{on_ok_weaker}
 use Rattle.place_search.specs.Places.{gathered_below}
@@ -15,7 +15,6 @@ returns c =
     let line = name_line c.args.x c.args.y in
     let old = c.args.text.now.items in
     let cells : ℕ → List (List ℕ) = λ i. cell_names device net (cell_number device c.args.x c.args.y i) i in
-    let eight : c.loop-i.i ≡ 8 = omega arith in
     let one = names-first line old c.append_named.new.text.items _ (named (net == clock_net) (codes "glb_netwk_0")) refl c.in_ok-append_named.ensures in
-    let two = names-more line old c.append_named.new.text.items c.loop-i.text.items _ _ (gathered_below 8 cells) one (ap (λ n. gathered_below n cells) eight) c.loop-i.invariant in
-    on_ok_weaker c.append_named-2.result (λ last. names-more line old c.loop-i.text.items c.append_named-2.new.text.items _ _ (named (net == clock_net) (codes "lutff_global/clk")) two refl last) c.append_named-2.ensures
+    let two = names-more line old c.append_named.new.text.items c.append_names_of_cells.new.text.items _ _ (gathered_below 8 cells) one refl c.in_ok-append_names_of_cells.ensures in
+    on_ok_weaker c.append_named-2.result (λ last. names-more line old c.append_names_of_cells.new.text.items c.append_named-2.new.text.items _ _ (named (net == clock_net) (codes "lutff_global/clk")) two refl last) c.append_named-2.ensures

@@ -3,7 +3,7 @@ use Rattle.place_search.specs.Places.{gathered_below}
 use Rattle.text_lines.specs.Written.{text_of}
 use Rattle.ice_gen.specs.Numbers.{cell_number}
 use Rattle.ice_gen.specs.Database.{name_line, cell_names}
-use Rattle.ice_gen.proofs.names.append_logic_names.Given as goal
+use Rattle.ice_gen.proofs.names.append_each_cell.Given as goal
 
 abbrev pub invariant-loop-i : goal.invariant-loop-i
 invariant-loop-i l =

@@ -130,7 +130,8 @@ net_lines device net = with_word (codes ".net") (decimal net) ∷ gathered_below
 abbrev pub buffer_line : ℕ → ℕ → ℕ → List ℕ
 buffer_line x y net = with_word (grid_line (codes ".buffer") x y) (decimal net)
 
--- the nets that can lead into in_0 of cell j, by their values: one of the two nets before its output, as far as there are some
+-- The nets that can lead into in_0 of cell j: the output of the cell before it, or the input where there is none; and that of
+-- the third cell before it, or the clock where there is none.
 abbrev pub near_net : ℕ → ℕ
 near_net j = 1 + j
 

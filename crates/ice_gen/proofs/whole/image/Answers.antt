@@ -1,0 +1,10 @@
+use Rattle.std.proofs.Common.{◌∙◌, ap, sym}
+use Rattle.ice_image.specs.Configuration.{blank_image}
+use Rattle.ice_image.specs.Either.{configuration_of, device_of}
+use Rattle.ice_gen.proofs.Filled.{blank-filled}
+use Rattle.ice_gen.proofs.whole.image.Goals as goal
+
+pub fill_tiles-requires-clause-filled : goal.fill_tiles-requires-clause-filled
+fill_tiles-requires-clause-filled c =
+    let image = c.in_ok-image.image in
+    blank-filled (device_of image) _ (configuration_of image) (c.in_ok-image.ensures.blank ∙ ap blank_image (sym c.in_ok-image.ensures.device))

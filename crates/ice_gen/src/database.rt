@@ -1,0 +1,42 @@
+// The chip database of the generated design.
+ghost use Rattle.std.specs.Prelude.{◌≡◌, ◌≤◌, ◌^◌, IfOk, length};
+ghost use Rattle.ice_gen.specs.Database.{generated_database};
+
+use crate::buffers::{Input, append_buffers};
+use crate::head::append_head;
+use crate::names::append_nets;
+use plane_map::DeviceName;
+use std::alloc::{AllocError, Global};
+
+/// The chip database of a device's generated design.
+pub fn chipdb(alloc: Global, device: DeviceName) -> Result<Vec<u8>, AllocError>
+    ensures text { IfOk result (λ text. text.items ≡ generated_database device) }
+    // So it is short enough to be read.
+    ensures limit { IfOk result (λ text. length text.items ≤ 2 ^ 28) }
+{
+    let text = write(alloc, device)?;
+    Ok(text)
+}
+
+/// Writes the parts of the text.
+#[tactic(auto, using(crate::proofs::Texts::joined), unfolding(crate::specs::Database::generated_database, crate::specs::Database::database_lines))]
+fn write(alloc: Global, device: DeviceName) -> Result<Vec<u8>, AllocError>
+    ensures { IfOk result (λ text. text.items ≡ generated_database device) }
+{
+    let mut text = Vec::with_capacity(alloc, usual_len(device))?;
+    append_head(&mut text, device)?;
+    append_nets(&mut text, device)?;
+    append_buffers(&mut text, device, Input::In0)?;
+    append_buffers(&mut text, device, Input::In3)?;
+    Ok(text)
+}
+
+/// Room enough for the text.
+fn usual_len(device: DeviceName) -> usize
+    ensures { result ≤ 2 ^ 20 }
+{
+    match device {
+        DeviceName::K1 => 1 << 18,
+        DeviceName::K8 => 1 << 20,
+    }
+}

@@ -1,5 +1,5 @@
 -- Why a database and an image aren't taken, with the evidence.
-use Rattle.std.specs.Prelude.{◌≡◌, ℕ, List, ◌∷◌, Contains, Option, Some}
+use Rattle.std.specs.Prelude.{◌≡◌, ℕ, List, ◌∷◌, Contains, Option, Some, None}
 use Rattle.ice_image.specs.Configuration.{Configuration}
 use Rattle.fabric_rules.specs.declared.driver.Driver.{Driver}
 use Rattle.fabric_rules.specs.declared.driver.ClockUser.{ClockUser}
@@ -9,7 +9,8 @@ use Rattle.fabric_rules.specs.Drivers.{Drive, drivers_of}
 use Rattle.fabric_rules.specs.Wiring.{wiring_of, IsCycle}
 use Rattle.fabric_rules.specs.Clocks.{User, users_of, clock_end}
 use Rattle.fabric_rules.specs.Clocks.ClockEnd.{other}
-use Rattle.fabric_rules.specs.Faults.{Fault}
+use Rattle.chipdb_reader.specs.Database.{Database}
+use Rattle.fabric_rules.specs.Faults.{Fault, pins_fault, rams_fault, cells_fault}
 use Rattle.plane_map.specs.declared.device.DeviceName.{DeviceName}
 use Rattle.fabric.specs.declared.fault.FabricFault.{FabricFault}
 use Rattle.fabric.specs.declared.fault.FabricFault.TheVariants.{Device, Pll, PinMode, Mode, Cascade, Async, TwoDrivers, Loop, Clock, Memory}
@@ -49,3 +50,12 @@ IsCause device fabric fault (TwoDrivers net first second) = (fault ≡ Some (Fau
 IsCause device fabric fault (Loop net cycle) = (fault ≡ Some (Fault.loop net)) × IsCycleFrom fabric net cycle
 IsCause device fabric fault (Clock x y user net) = (fault ≡ Some (Fault.clock x y user net)) × IsUnclocked device fabric x y user net
 IsCause device fabric fault (Memory failed) = Unit {0}
+
+-- ---- what is taken
+
+-- the devices are one, and pins, RAMs and cells have no fault
+pub record AreTaken (db : Database) (image : Configuration) : Type 0 where
+  pub device : db.chip.device ≡ image.device
+  pub pins : pins_fault db image ≡ None
+  pub rams : rams_fault db image ≡ None
+  pub cells : cells_fault db image ≡ None

@@ -1,3 +1,5 @@
 pub mod Kept
 pub mod Design
 pub mod Faults
+pub mod Buffers
+pub mod Causes

@@ -1,7 +1,13 @@
 // Why a database and an image aren't taken.
+ghost use Rattle.std.specs.Prelude.{◌≡◌};
 
 use crate::cycle::Cycle;
+use block_ram::RamFault;
+use fabric_drivers::DriverFault;
 use fabric_rules::{ClockUser, Driver};
+use io_cell::PinFault;
+use logic_cell::LcFault;
+use net_extract::LinkFault;
 use std::alloc::AllocError;
 
 /// Why a database and an image aren't taken: the first cause that holds, in the order below, with the least that has it. Tiles go
@@ -60,4 +66,83 @@ pub enum FabricFault {
     },
     /// Out of memory. It may come in place of any other answer.
     Memory(AllocError),
+}
+
+impl From<AllocError> for FabricFault {
+    ghost use Rattle.fabric.specs.declared.fault.FabricFault.TheVariants.{Memory};
+
+    ghost from_gives = { λ e fault. fault ≡ Memory e };
+
+    fn from(e: AllocError) -> FabricFault {
+        FabricFault::Memory(e)
+    }
+}
+
+impl From<LinkFault> for FabricFault {
+    ghost use Rattle.fabric.specs.Causes.{of_links};
+
+    ghost from_gives = { λ e fault. fault ≡ of_links e };
+
+    fn from(e: LinkFault) -> FabricFault {
+        match e {
+            LinkFault::Device => FabricFault::Device,
+            LinkFault::Memory(e) => FabricFault::Memory(e),
+        }
+    }
+}
+
+impl From<PinFault> for FabricFault {
+    ghost use Rattle.fabric.specs.Causes.{of_pins};
+
+    ghost from_gives = { λ e fault. fault ≡ of_pins e };
+
+    fn from(e: PinFault) -> FabricFault {
+        match e {
+            PinFault::Pll { x, y } => FabricFault::Pll { x, y },
+            PinFault::PinMode { x, y, pio, pintype } => FabricFault::PinMode { x, y, pio, pintype },
+            PinFault::Memory(e) => FabricFault::Memory(e),
+        }
+    }
+}
+
+impl From<RamFault> for FabricFault {
+    ghost use Rattle.fabric.specs.Causes.{of_rams};
+
+    ghost from_gives = { λ e fault. fault ≡ of_rams e };
+
+    fn from(e: RamFault) -> FabricFault {
+        match e {
+            RamFault::Mode { x, y, read, write } => FabricFault::Mode { x, y, read, write },
+            RamFault::Cascade { x, y } => FabricFault::Cascade { x, y },
+            RamFault::Memory(e) => FabricFault::Memory(e),
+        }
+    }
+}
+
+impl From<LcFault> for FabricFault {
+    ghost use Rattle.fabric.specs.Causes.{of_cells};
+
+    ghost from_gives = { λ e fault. fault ≡ of_cells e };
+
+    fn from(e: LcFault) -> FabricFault {
+        match e {
+            LcFault::Async { x, y, i } => FabricFault::Async { x, y, i },
+            LcFault::Memory(e) => FabricFault::Memory(e),
+        }
+    }
+}
+
+impl From<DriverFault> for FabricFault {
+    ghost use Rattle.fabric.specs.Causes.{of_drivers};
+
+    ghost from_gives = { λ e fault. fault ≡ of_drivers e };
+
+    fn from(e: DriverFault) -> FabricFault {
+        match e {
+            DriverFault::TwoDrivers { net, first, second } => {
+                FabricFault::TwoDrivers { net, first, second }
+            }
+            DriverFault::Memory(e) => FabricFault::Memory(e),
+        }
+    }
 }

@@ -5,9 +5,15 @@
 #![tactic(auto)]
 
 mod cycle;
-mod design;
 mod fault;
+mod find;
+mod kept;
+mod order;
+mod parts;
+mod wire;
+mod words;
 
 pub use cycle::Cycle;
-pub use design::{Design, LinkEnds};
 pub use fault::FabricFault;
+pub use find::design;
+pub use kept::{Design, LinkEnds};

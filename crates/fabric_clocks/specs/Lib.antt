@@ -1,3 +1,5 @@
 pub mod Ends
 pub mod Users
 pub mod Wires
+pub mod Reading
+pub mod First

@@ -1,10 +1,10 @@
 -- What the classes of a fabric read, as it is kept.
-use Rattle.std.specs.Prelude.{◌≡◌, ℕ, ◌<◌, Bool, List, length}
+use Rattle.std.specs.Prelude.{◌≡◌, ℕ, length}
 use Rattle.fabric_rules.specs.Fabric.{Fabric}
-use Rattle.fabric_rules.specs.Wiring.{Wiring, depends, is_on_cycle, IsPath, IsCycle, IsWriteOrder} 
+use Rattle.fabric_rules.specs.Wiring.{Wiring, depends}
 use Rattle.fabric_rules.specs.Wiring.{wiring_of as wiring_of_fabric}
 use Rattle.fabric_order.specs.Rows.{wiring_of, ReadsWithin, ReadsByDriven}
-use Rattle.fabric_clocks.specs.declared.wires.Wires.{Wires}
+use Rattle.fabric_clocks.specs.declared.kept.Wires.{Wires}
 
 -- two wirings that say the same
 pub record AreAlike (one two : Wiring) : Type 0 where

@@ -1,5 +1,4 @@
 -- Drivers as the code keeps them.
-use Rattle.std.specs.Prelude.{ℕ}
 use Rattle.fabric_rules.specs.Drivers.{Rule, Drive}
 use Rattle.fabric_rules.specs.Drivers.Rule.{pin_bit, sent_back, lut_entry, flip_bit, carry_out, one, register_bit, copied}
 use Rattle.fabric_drivers.specs.declared.drive.Rule.{Rule as KeptRule}

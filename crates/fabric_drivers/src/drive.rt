@@ -3,7 +3,7 @@
 use fabric_rules::{Driver, Lc};
 
 /// How a driver makes its value.
-#[derive(Clone, Copy)]
+#[derive(Clone, Copy, Debug, PartialEq, Eq)]
 pub enum Rule {
     /// The value of the input pin at a place among the input pins of the fabric.
     PinBit(u32),
@@ -24,7 +24,7 @@ pub enum Rule {
 }
 
 /// A driver of a net, and how it makes its value.
-#[derive(Clone, Copy)]
+#[derive(Clone, Copy, Debug, PartialEq, Eq)]
 pub struct Drive {
     pub driver: Driver,
     pub net: u32,

@@ -3,12 +3,24 @@
 //! [`drivers`] finds them from the parts of a fabric. The calls of [`Drivers`] take no memory.
 #![tactic(auto)]
 
+mod all;
+mod cells;
 mod drive;
-mod drivers;
 mod fault;
+mod gather;
+mod kept;
 mod parts;
+mod pins;
+mod places;
+mod push;
+mod rams;
+mod twice;
 
 pub use drive::{Drive, Rule};
-pub use drivers::Drivers;
 pub use fault::DriverFault;
+pub use gather::drivers;
+pub use kept::Drivers;
 pub use parts::{Buffer, Parts};
+
+#[cfg(test)]
+mod tests;

@@ -1,2 +1,4 @@
 pub mod Rows
 pub mod Ready
+pub mod Search
+pub mod Levels

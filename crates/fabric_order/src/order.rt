@@ -22,7 +22,7 @@ fn all_below(alloc: Global, count: u32) -> Result<Vec<u32>, AllocError>
 }
 
 /// A mark for each class, and none is set.
-fn no_marks(alloc: Global, count: usize) -> Result<Vec<bool>, AllocError>
+pub(crate) fn no_marks(alloc: Global, count: usize) -> Result<Vec<bool>, AllocError>
     ensures length { IfOk result (λ marks. length marks.items ≡ count) }
     ensures unmarked { IfOk result (λ marks. (class : ℕ) → is_marked marks.items class ≡ false) }
 {

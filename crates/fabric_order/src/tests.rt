@@ -44,6 +44,19 @@ fn order(
     }
 }
 
+/// The least class on a cycle and its cycle, or none where the rows aren't those of a wiring.
+fn cycle(
+    alloc: Global,
+    driven: &[bool],
+    reads: &[Vec<u32>],
+) -> Result<Option<Vec<u32>>, AllocError> {
+    if driven.len() == reads.len() && driven.len() <= 1_000_000 && are_rows(driven, reads) {
+        least_cycle(alloc, driven, reads)
+    } else {
+        Ok(None)
+    }
+}
+
 fn rows(alloc: Global, reads: &[&[u32]]) -> Result<Vec<Vec<u32>>, AllocError> {
     let mut rows = Vec::new(alloc);
     for row in reads {
@@ -62,6 +75,14 @@ fn is_order(
 ) -> Result<bool, AllocError> {
     let rows = rows(alloc, reads)?;
     let found = order(alloc, driven, &rows)?;
+    Ok(found.as_deref() == expected)
+}
+
+/// Whether the cycle is as expected.
+fn is_cycle(alloc: Global, reads: &[&[u32]], expected: Option<&[u32]>) -> Result<bool, AllocError> {
+    let rows = rows(alloc, reads)?;
+    let driven = vec![in alloc; true; reads.len()]?;
+    let found = cycle(alloc, &driven, &rows)?;
     Ok(found.as_deref() == expected)
 }
 
@@ -89,6 +110,15 @@ fn chain_order(alloc: Global, last: &[u32]) -> Result<Option<(u32, usize)>, Allo
         .map(|class| (*class, order.len()))))
 }
 
+/// The first class and the length of the cycle of a long chain, or none.
+fn chain_cycle(alloc: Global, last: &[u32]) -> Result<Option<(u32, usize)>, AllocError> {
+    let rows = chain(alloc, last)?;
+    let driven = vec![in alloc; true; MANY as usize]?;
+    Ok(cycle(alloc, &driven, &rows)?.and_then(|cycle| cycle
+        .first()
+        .map(|class| (*class, cycle.len()))))
+}
+
 #[test]
 fn finds_the_order(rt: HostRuntime) {
     let cases: [(&[bool], &[&[u32]], Option<&[u32]>); 5] = [
@@ -110,4 +140,44 @@ fn takes_long_chains_and_cycles(rt: HostRuntime) {
         Ok(Some((MANY - 1, MANY as usize)))
     );
     assert_eq!(rt; chain_order(rt.alloc(), &[0]), Ok(None));
+}
+
+#[test]
+fn finds_the_least_class_on_a_cycle(rt: HostRuntime) {
+    let cases: [(&[&[u32]], Option<&[u32]>); 10] = [
+        // no class, and a class by itself
+        (&[], None),
+        (&[&[]], None),
+        (&[&[0]], Some(&[0])),
+        // a chain, and a class that is read twice
+        (&[&[1], &[2], &[]], None),
+        (&[&[1, 2], &[3], &[3], &[]], None),
+        // 0 leads to a cycle of 1 and 2
+        (&[&[1], &[2], &[1]], Some(&[1, 2])),
+        // 0 leads to the cycle of 3 and 4, and 2 lies on one with 1
+        (&[&[3], &[2], &[1], &[4], &[3]], Some(&[1, 2])),
+        // 0 is read from a cycle of 1, 3 and 2
+        (&[&[], &[0, 3], &[1], &[2]], Some(&[1, 3, 2])),
+        // two cycles through 0: the shorter one
+        (&[&[1, 3], &[2], &[0], &[0]], Some(&[0, 3])),
+        // a cycle leads from 2 to another of 1 and 4
+        (&[&[], &[4], &[3], &[2, 1], &[1, 0]], Some(&[1, 4])),
+    ];
+    for (reads, expected) in cases {
+        assert_eq!(rt; is_cycle(rt.alloc(), reads, expected), Ok(true));
+    }
+}
+
+#[test]
+fn takes_long_cycles_and_chains_into_one(rt: HostRuntime) {
+    assert_eq!(rt; chain_cycle(rt.alloc(), &[]), Ok(None));
+    assert_eq!(rt; chain_cycle(rt.alloc(), &[0]), Ok(Some((0, MANY as usize))));
+    assert_eq!(rt;
+        chain_cycle(rt.alloc(), &[MANY - 3]),
+        Ok(Some((MANY - 3, 3)))
+    );
+    assert_eq!(rt;
+        chain_cycle(rt.alloc(), &[MANY - 1]),
+        Ok(Some((MANY - 1, 1)))
+    );
 }

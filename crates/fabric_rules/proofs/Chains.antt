@@ -67,7 +67,7 @@ module _ (fabric : Fabric) where
   turn-first class first rest is = ap turn_of is
 
   -- a chain goes on from a copy alone
-  goes-copied : (rule : Rule) (net : ℕ) → turn_by rule ≡ goes_to net → rule ≡ copied net
+  pub goes-copied : (rule : Rule) (net : ℕ) → turn_by rule ≡ goes_to net → rule ≡ copied net
   goes-copied (pin_bit place) net is = absurd cc
   goes-copied (sent_back source) net is = absurd cc
   goes-copied (lut_entry lc) net is = absurd cc
@@ -78,7 +78,7 @@ module _ (fabric : Fabric) where
   goes-copied (copied source) net is = cc
 
   -- and a class from which it goes on reads that net
-  goes-reads : (class net : ℕ) → is_driven fabric class ≡ true → turn_at fabric class ≡ goes_to net
+  pub goes-reads : (class net : ℕ) → is_driven fabric class ≡ true → turn_at fabric class ≡ goes_to net
       → depends (wiring_of fabric) class (class_of fabric.joins net) ≡ true
   unfolding nets_read
   goes-reads class net driven goes =

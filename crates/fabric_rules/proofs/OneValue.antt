@@ -27,7 +27,7 @@ unfolding gathered_below
 each_below-length zero given = refl
 each_below-length (suc n) given = omega (arith, each_below-length n given, length-append (each_below n given) (given n ∷ []))
 
-each_below-at : {A : Type 0} (n k : ℕ) (given : ℕ → A) (d : A) → k < n → get_or (each_below n given) k d ≡ given k
+pub each_below-at : {A : Type 0} (n k : ℕ) (given : ℕ → A) (d : A) → k < n → get_or (each_below n given) k d ≡ given k
 unfolding gathered_below
 each_below-at zero k given d within = absurd (omega arith)
 each_below-at (suc n) k given d within =
@@ -162,7 +162,7 @@ module _ (fabric : Fabric) where
   -- ---- the wiring
 
   -- a class that reads another has a driver
-  depends-driven : (class other : ℕ) (drives : List Drive) → drivers_of fabric class ≡ drives → depends (wiring_of fabric) class other ≡ true → is_driven fabric class ≡ true
+  pub depends-driven : (class other : ℕ) (drives : List Drive) → drivers_of fabric class ≡ drives → depends (wiring_of fabric) class other ≡ true → is_driven fabric class ≡ true
   unfolding wiring_of is_driven drivers_of
   depends-driven class other [] none reads = absurd (has-none other (rw none at reads))
   depends-driven class other (drive ∷ drives) some reads =

@@ -203,7 +203,7 @@ module _ (fabric : Fabric) (in' : HasNetsIn fabric) where
       (All-then _ _ (gives-in nets (IsGlobalIn nets) (global_drives (inputs_of fabric)) (global_drives-in nets (inputs_of fabric)) fabric.globals in'.globals)
       (gives-in nets (IsBufferIn nets) buffer_drives (buffer_drives-in nets) fabric.buffers in'.buffers)))))))))
 
-  within-parts : IsWithin fabric
+  pub within-parts : IsWithin fabric
   within-parts = record {
     joins = λ a b there. let found = All-contains (IsJoinIn fabric.nets) fabric.joins (a, b) in'.joins there in (found.first, found.second);
     drives = λ drive there. (All-contains (IsDriveIn fabric.nets) (drives_of fabric) drive drives-in there).net;

@@ -28,6 +28,13 @@ impl Model for Links {
 }
 
 impl Links {
+    /// How many nets the database has.
+    pub fn net_count(&self) -> usize
+        ensures { result ≡ length self.now.classes }
+    {
+        self.classes.len()
+    }
+
     /// The places of the buffers that are on, among the buffers of the database, rising.
     pub fn buffers(&self) -> &[u32]
         ensures { result.now ≡ self.now.buffers }

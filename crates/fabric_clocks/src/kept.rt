@@ -1,4 +1,4 @@
-// Which classes have a driver, and which classes each reads.
+// Which classes have a driver, and which classes each reads, as it is kept.
 
 /// For each class whether it has a driver, and the classes that its driver reads.
 #[derive(Drop)]

@@ -3,6 +3,7 @@ ghost use Rattle.std.specs.Prelude.{◌≡◌, ◌<◌, length};
 ghost use Rattle.fabric_drivers.specs.Kept.{driver_in};
 
 use crate::drive::Drive;
+use crate::places::driver_at;
 use std::marker::Model;
 
 /// The drivers of a fabric in which no class of nets has two.
@@ -36,9 +37,6 @@ impl Drivers {
         requires { class < length self.now.places }
         ensures { result ≡ driver_in self.now class }
     {
-        match self.places[class as usize] {
-            None => None,
-            Some(place) => self.drives.get(place as usize).copied(),
-        }
+        driver_at(&self.drives, self.places[class as usize])
     }
 }

@@ -1,0 +1,90 @@
+-- The parts that are found are those of the fabric, and what is kept of them is a design.
+use Rattle.std.specs.Prelude.{All, filter, flat_map, not, Some, None}
+use Rattle.plane_map.specs.Layout.{kind_of}
+use Rattle.plane_map.specs.declared.device.DeviceName.{DeviceName}
+use Rattle.plane_map.specs.declared.tile.TileKind.TheVariants.{RamB}
+use Rattle.std.proofs.Common.{arith, ◌≡◌, ℕ, ◌^◌, ◌≤◌, List, map, length, refl, sym, ap, subst, ◌∙◌}
+use Rattle.ice_image.specs.Configuration.{Configuration}
+use Rattle.chipdb_reader.specs.Database.{Database}
+use Rattle.chipdb_reader.specs.Fit.{IsFit}
+use Rattle.net_extract.specs.Links.{LinkSet, AreLinks}
+use Rattle.fabric_rules.specs.Cells.{cells_of, sets_of}
+use Rattle.fabric_rules.specs.Rams.{rams_of}
+use Rattle.fabric_rules.specs.Pins.{pins_of, globals_of}
+use Rattle.ice_image.specs.Contents.{word_value}
+use Rattle.fabric_rules.specs.declared.ram.RamCell.{RamCell}
+use Rattle.fabric_rules.specs.declared.pin.Pin.{Pin}
+use Rattle.fabric_rules.specs.Tiles.{each_below}
+use Rattle.fabric_rules.specs.Faults.{fabric_fault}
+use Rattle.fabric_rules.specs.Fabric.{fabric_of, buffers_of, inputs_of}
+use Rattle.fabric_rules.proofs.Within.{fabric-in}
+use Rattle.fabric_drivers.specs.declared.parts.Parts.{Parts}
+use Rattle.fabric_drivers.specs.Parts.{ArePartsOf, buffer_of}
+use Rattle.fabric_rules.specs.Wiring.{wiring_of, IsWriteOrder}
+use Rattle.fabric_drivers.specs.Kept.{DriverSet, AreDriversOf}
+use Rattle.fabric_clocks.specs.declared.ends.ClockEnd.{ClockEnd}
+use Rattle.fabric_clocks.specs.Ends.{AreEndsOf}
+use Rattle.fabric.specs.Kept.{Kept, AreWordsOf, IsKeptOf}
+use Rattle.fabric.specs.Design.{IsDesignOf}
+use Rattle.fabric.specs.Faults.{AreTaken}
+use Rattle.fabric.proofs.Refused.{fabric-left}
+use Rattle.fabric.proofs.StartWords.{rams-lower, words-are}
+
+module _ (db : Database) (image : Configuration) where
+  pub parts-of : IsFit db → (parts : Parts) → AreLinks db image parts.links → map buffer_of parts.buffers.items ≡ buffers_of db image
+      → parts.pins.items ≡ pins_of db image → parts.globals.items ≡ globals_of db image
+      → parts.lcs.items ≡ cells_of db image → parts.sets.items ≡ sets_of db image → parts.rams.items ≡ rams_of db image
+      → ArePartsOf (fabric_of db image) parts
+  unfolding fabric_of
+  parts-of fit parts linked buffers pins globals lcs sets rams = record {
+    within = fabric-in db image fit;
+    nets = linked.nets;
+    classes = linked.classes;
+    buffers = buffers;
+    pins = pins;
+    globals = globals;
+    lcs = lcs;
+    sets = sets;
+    rams = rams;
+  }
+
+  -- what is kept is a design, where nothing is wrong
+  pub design-of : IsFit db → (fabric_of db image).nets ≤ 4294967295 → AreTaken db image → fabric_fault image.device (fabric_of db image) ≡ None
+      → (design : Kept) → IsKeptOf (fabric_of db image) design → IsDesignOf db image design
+  unfolding fabric_of
+  design-of fit few taken none design kept = record {
+    fit = fit;
+    few = omega (arith, few);
+    taken = fabric-left db image taken ∙ none;
+    kept = kept;
+  }
+
+  module _ (device : DeviceName) (same : image.device ≡ device) (rams : List RamCell) (all : rams ≡ (fabric_of db image).rams) where
+    -- each RAM has a lower tile
+    pub rams-kept : All (λ ram. kind_of device ram.x ram.y ≡ Some RamB) rams
+    unfolding fabric_of
+    rams-kept = subst (λ d. All (λ (ram : RamCell). kind_of d ram.x ram.y ≡ Some RamB) rams) same (subst (All (λ ram. kind_of image.device ram.x ram.y ≡ Some RamB)) (sym all) (rams-lower db image))
+
+    pub words-kept : AreWordsOf (fabric_of db image) (flat_map (λ ram. each_below 256 (word_value device image.bram ram.x ram.y)) rams)
+    unfolding fabric_of
+    words-kept =
+        subst (λ d. AreWordsOf (fabric_of db image) (flat_map (λ (ram : RamCell). each_below 256 (word_value d image.bram ram.x ram.y)) rams)) same
+        (subst (λ cells. AreWordsOf (fabric_of db image) (flat_map (λ (ram : RamCell). each_below 256 (word_value image.device image.bram ram.x ram.y)) cells)) (sym all) (words-are db image))
+
+  -- what is found is a design
+  pub designed : IsFit db → (fabric_of db image).nets ≤ 4294967295 → AreTaken db image → fabric_fault db.chip.device (fabric_of db image) ≡ None
+      → (device : DeviceName) → image.device ≡ device → (parts : Parts) → ArePartsOf (fabric_of db image) parts
+      → (inputs : List Pin) → inputs ≡ filter (λ pin. not pin.output) parts.pins.items
+      → (drivers : DriverSet) → AreDriversOf (fabric_of db image) drivers → (order : List ℕ) → IsWriteOrder (wiring_of (fabric_of db image)) order
+      → (ends : List ClockEnd) → AreEndsOf (fabric_of db image) ends
+      → (words : List ℕ) → words ≡ flat_map (λ ram. each_below 256 (word_value device image.bram ram.x ram.y)) parts.rams.items
+      → IsDesignOf db image (record { parts = parts; inputs = inputs; drivers = drivers; order = order; ends = ends; words = words })
+  designed fit few taken none device same parts are inputs inputs-are drivers drivers-are order ordered ends ends-are words words-read =
+      design-of fit few taken (subst (λ d. fabric_fault d (fabric_of db image) ≡ None) taken.device none) _ (record {
+        parts = are;
+        inputs = inputs-are ∙ ap (filter (λ pin. not pin.output)) are.pins;
+        drivers = drivers-are;
+        order = ordered;
+        ends = ends-are;
+        words = subst (AreWordsOf (fabric_of db image)) (sym words-read) (words-kept device same parts.rams.items are.rams);
+      })

@@ -1,0 +1,186 @@
+-- The first of some faults has what it tells.
+use Rattle.std.proofs.Common.{◌≡◌, ℕ, zero, suc, ◌+◌, ◌<◌, ◌≤◌, Bool, true, false, List, [], ◌∷◌, ◌++◌, length, refl, sym, ap, subst, ◌∙◌, arith, inl, inr}
+use Rattle.std.specs.Prelude.{Option, Some, None, Contains, flat_map, slice_index, get_or, ◌⊎◌}
+use Rattle.std.proofs.lemmas.Bool.{cases_lt}
+use Rattle.plane_map.specs.declared.device.DeviceName.{DeviceName}
+use Rattle.place_search.specs.Places.{gathered_below}
+use Rattle.fabric_rules.specs.declared.driver.Driver.{Driver}
+use Rattle.fabric_rules.specs.declared.driver.ClockUser.{ClockUser}
+use Rattle.fabric_rules.specs.Tiles.{first_of, item_if}
+use Rattle.fabric_rules.specs.Fabric.{Fabric}
+use Rattle.fabric_rules.specs.Drivers.{Drive, drivers_of}
+use Rattle.fabric_rules.specs.Wiring.{Wiring, wiring_of, is_on_cycle, IsCycle}
+use Rattle.fabric_rules.specs.Clocks.{ClockEnd, User, users_of, clock_end}
+use Rattle.fabric_rules.specs.Clocks.ClockEnd.{at_pin, still, other}
+use Rattle.fabric_rules.specs.Faults.{Fault, drivers_fault, driver_faults, loop_faults, end_fault, user_fault, clock_faults, fabric_fault}
+use Rattle.fabric_drivers.specs.declared.fault.DriverFault.{DriverFault}
+use Rattle.fabric_drivers.specs.declared.fault.DriverFault.TheVariants as drivers
+use Rattle.fabric_drivers.specs.Faults.{IsCause as IsDriverCause}
+use Rattle.fabric.specs.declared.fault.FabricFault.{FabricFault}
+use Rattle.fabric.specs.declared.fault.FabricFault.TheVariants.{Device, Pll, PinMode, Mode, Cascade, Async, TwoDrivers, Loop, Clock, Memory}
+use Rattle.fabric_clocks.specs.Wires.{AreAlike}
+use Rattle.fabric_clocks.proofs.Alike.{is_on_cycle-alike, cycle-alike}
+use Rattle.fabric_rules.proofs.OneValue.{count-is}
+use Rattle.fabric.specs.Causes.{of_drivers}
+use Rattle.fabric.specs.Faults.{IsCause, AreTwoDrivers, IsCycleFrom, IsUnclocked}
+
+-- ---- the first item of lists
+
+first-append : {A : Type 0} (xs ys : List A) (item : A) → first_of (xs ++ ys) ≡ Some item → (first_of xs ≡ Some item) ⊎ (first_of ys ≡ Some item)
+first-append [] ys item is = inr is
+first-append (x ∷ xs) ys item is = inl is
+
+append-first : {A : Type 0} (xs ys : List A) (item : A) → first_of xs ≡ Some item → first_of (xs ++ ys) ≡ Some item
+append-first [] ys item is = absurd cc
+append-first (x ∷ xs) ys item is = is
+
+first-gathered : {A : Type 0} (n : ℕ) (given : ℕ → List A) (item : A) → first_of (gathered_below n given) ≡ Some item → (k : ℕ) × (first_of (given k) ≡ Some item)
+unfolding gathered_below
+first-gathered zero given item is = absurd cc
+first-gathered (suc n) given item is =
+    elim (first-append (gathered_below n given) (given n) item is) [
+      | inl before ↦ first-gathered n given item before
+      | inr here ↦ (n, here)
+    ]
+
+first-flat_map : {X A : Type 0} (given : X → List A) (xs : List X) (item : A) → first_of (flat_map given xs) ≡ Some item
+    → (x : X) × Contains xs x × (first_of (given x) ≡ Some item)
+first-flat_map given [] item is = absurd cc
+first-flat_map given (x ∷ xs) item is =
+    elim (first-append (given x) (flat_map given xs) item is) [
+      | inl here ↦ (x, (zero, omega arith, refl), here)
+      | inr behind ↦ let found = first-flat_map given xs item behind in (found.0, (suc found.1.0, omega (arith, found.1.1), found.1.2), found.2)
+    ]
+
+gathered-empty : {A : Type 0} (n : ℕ) (given : ℕ → List A) → ((k : ℕ) → k < n → given k ≡ []) → gathered_below n given ≡ []
+unfolding gathered_below
+gathered-empty zero given none = refl
+gathered-empty (suc n) given none = rw (gathered-empty n given (λ k below. none k (omega arith)), none n (omega arith)) refl
+
+gathered-first : {A : Type 0} (n k : ℕ) (given : ℕ → List A) (item : A) → k < n → given k ≡ item ∷ [] → ((j : ℕ) → j < k → given j ≡ [])
+    → first_of (gathered_below n given) ≡ Some item
+unfolding gathered_below
+gathered-first zero k given item below here before = absurd (omega arith)
+gathered-first (suc n) k given item below here before =
+    elim (cases_lt k n) [
+      | inl less ↦ append-first (gathered_below n given) (given n) item (gathered-first n k given item less here before)
+      | inr more ↦
+          let same : k ≡ n = omega arith in
+          let none = gathered-empty n given (λ j lower. before j (omega (arith, lower, same))) in
+          let last : given n ≡ item ∷ [] = subst (λ j. given j ≡ item ∷ []) same here in
+          rw (none, last) refl
+    ]
+
+-- ---- two drivers
+
+two-drivers : (fabric : Fabric) (class : ℕ) (drives : List Drive) (net : ℕ) (first second : Driver) → drivers_of fabric class ≡ drives
+    → first_of (drivers_fault class drives) ≡ Some (Fault.two_drivers net first second) → AreTwoDrivers fabric net first second
+two-drivers fabric class [] net first second drive is = absurd cc
+two-drivers fabric class (one ∷ []) net first second drive is = absurd cc
+two-drivers fabric class (one ∷ two ∷ rest) net first second drive is =
+    let same : class ≡ net = cc in
+    record { one = one; two = two; rest = rest; drive = ap (drivers_of fabric) (sym same) ∙ drive; first_is = cc; second_is = cc }
+
+pub drivers-evidence : (fabric : Fabric) (net : ℕ) (first second : Driver) → first_of (driver_faults fabric) ≡ Some (Fault.two_drivers net first second) → AreTwoDrivers fabric net first second
+unfolding driver_faults
+drivers-evidence fabric net first second is =
+    let found = first-gathered fabric.nets (λ class. drivers_fault class (drivers_of fabric class)) _ is in
+    two-drivers fabric found.0 (drivers_of fabric found.0) net first second refl found.1
+
+-- ---- clocks
+
+abbrev user_of : User → ℕ → User
+user_of one net = record { x = one.x; y = one.y; user = one.user; net = Some net }
+
+user-ends : (device : DeviceName) (fabric : Fabric) (one : User) (found : Option ℕ) → one.net ≡ found → Contains (users_of device fabric) one
+    → (x y : ℕ) (user : ClockUser) (net : ℕ) → first_of (user_fault fabric one found) ≡ Some (Fault.clock x y user net) → IsUnclocked device fabric x y user net
+user-ends device fabric one None has there x y user net is = absurd cc
+user-ends device fabric one (Some source) has there x y user net is = by-end (clock_end fabric source) refl is
+  where
+    by-end : (end : ClockEnd) → clock_end fabric source ≡ end → first_of (end_fault one source end) ≡ Some (Fault.clock x y user net) → IsUnclocked device fabric x y user net
+    by-end (at_pin place) ends told = absurd cc
+    by-end still ends told = absurd cc
+    by-end other ends told =
+        let same : user_of one source ≡ user_of (record { x = x; y = y; user = user; net = Some net }) net = cc in
+        let is_one : one ≡ user_of one source = ap (λ n. record { x = one.x; y = one.y; user = one.user; net = n }) has in
+        let is_net : source ≡ net = cc in
+        record { there = subst (Contains (users_of device fabric)) (is_one ∙ same) there; ends = subst (λ n. clock_end fabric n ≡ other) is_net ends }
+
+pub clocks-evidence : (device : DeviceName) (fabric : Fabric) (x y : ℕ) (user : ClockUser) (net : ℕ) → first_of (clock_faults device fabric) ≡ Some (Fault.clock x y user net)
+    → IsUnclocked device fabric x y user net
+unfolding clock_faults
+clocks-evidence device fabric x y user net is =
+    let found = first-flat_map (λ one. user_fault fabric one one.net) (users_of device fabric) _ is in
+    user-ends device fabric found.0 found.0.net refl found.1 x y user net found.2
+
+-- ---- cycles
+
+on-cycle : (wiring : Wiring) (class : ℕ) → is_on_cycle wiring class ≡ true → item_if (is_on_cycle wiring class) (Fault.loop class) ≡ Fault.loop class ∷ []
+on-cycle wiring class on = rw on refl
+
+off-cycle : (wiring : Wiring) (class : ℕ) → is_on_cycle wiring class ≡ false → item_if (is_on_cycle wiring class) (Fault.loop class) ≡ []
+off-cycle wiring class off = rw off refl
+
+pub loop-first : (wiring : Wiring) (class : ℕ) → class < wiring.count → is_on_cycle wiring class ≡ true → ((k : ℕ) → k < class → is_on_cycle wiring k ≡ false)
+    → first_of (loop_faults wiring) ≡ Some (Fault.loop class)
+unfolding loop_faults
+loop-first wiring class below on least =
+    gathered-first wiring.count class (λ k. item_if (is_on_cycle wiring k) (Fault.loop k)) (Fault.loop class) below (on-cycle wiring class on)
+    (λ k lower. off-cycle wiring k (least k lower))
+
+pub loop-none : (wiring : Wiring) → ((k : ℕ) → k < wiring.count → is_on_cycle wiring k ≡ false) → first_of (loop_faults wiring) ≡ None
+unfolding loop_faults
+loop-none wiring none =
+    ap first_of (gathered-empty wiring.count (λ k. item_if (is_on_cycle wiring k) (Fault.loop k)) (λ k below. off-cycle wiring k (none k below)))
+
+-- a cycle from the least class that lies on one is the evidence of that class
+pub loop-told : (fabric : Fabric) (wiring : Wiring) → AreAlike wiring (wiring_of fabric) → (cycle : List ℕ) (net : ℕ) → IsCycle wiring cycle → net ≡ get_or cycle 0 net
+    → slice_index cycle 0 < wiring.count → is_on_cycle wiring (slice_index cycle 0) ≡ true → ((k : ℕ) → k < slice_index cycle 0 → is_on_cycle wiring k ≡ false)
+    → (first_of (loop_faults (wiring_of fabric)) ≡ Some (Fault.loop net)) × IsCycleFrom fabric net cycle
+loop-told fabric wiring alike [] net is_cycle first below on least = absurd is_cycle
+loop-told fabric wiring alike (head ∷ rest) net is_cycle first below on least =
+    let told = loop-first (wiring_of fabric) head (subst (λ n. head < n) alike.count below) (sym (is_on_cycle-alike alike head) ∙ on) (λ k lower. sym (is_on_cycle-alike alike k) ∙ least k lower) in
+    (told ∙ ap (λ n. Some (Fault.loop n)) (sym first), record { is_cycle = cycle-alike alike (head ∷ rest) is_cycle; begins = ap (λ n. Some n) (sym first) })
+
+-- a wiring that says what a fabric does has as many classes as the fabric has nets
+pub nets-few : (fabric : Fabric) (wiring : Wiring) (most : ℕ) → AreAlike wiring (wiring_of fabric) → wiring.count ≤ most → fabric.nets ≤ most
+nets-few fabric wiring most alike few = subst (λ n. n ≤ most) (alike.count ∙ count-is fabric) few
+
+-- ---- the first cause of a fabric
+
+module _ (device : DeviceName) (fabric : Fabric) where
+  pub drivers-cause : (cause : Fault) → first_of (driver_faults fabric) ≡ Some cause → fabric_fault device fabric ≡ Some cause
+  unfolding fabric_fault
+  drivers-cause cause is = rw is refl
+
+  module _ (single : first_of (driver_faults fabric) ≡ None) where
+    pub loops-cause : (cause : Fault) → first_of (loop_faults (wiring_of fabric)) ≡ Some cause → fabric_fault device fabric ≡ Some cause
+    unfolding fabric_fault
+    loops-cause cause is = rw (single, is) refl
+
+    module _ (open_ : first_of (loop_faults (wiring_of fabric)) ≡ None) where
+      pub clocks-cause : (cause : Fault) → first_of (clock_faults device fabric) ≡ Some cause → fabric_fault device fabric ≡ Some cause
+      unfolding fabric_fault
+      clocks-cause cause is = rw (single, open_, is) refl
+
+      pub no-cause : first_of (clock_faults device fabric) ≡ None → fabric_fault device fabric ≡ None
+      unfolding fabric_fault
+      no-cause is = rw (single, open_, is) refl
+
+  -- a refusal of the fabric's drivers, cycles or clocks is one of the fabric
+  pub drivers-told : (fault : DriverFault) → IsDriverCause (first_of (driver_faults fabric)) fault → IsCause device fabric (fabric_fault device fabric) (of_drivers fault)
+  drivers-told (drivers.TwoDrivers net first second) is = (drivers-cause _ is, drivers-evidence fabric net first second is)
+  drivers-told (drivers.Memory failed) is = tt
+
+  -- the same refusal for another fault
+  pub same-cause : (one two : Option Fault) → ((cause : Fault) → one ≡ Some cause → two ≡ Some cause) → (fault : FabricFault) → IsCause device fabric one fault → IsCause device fabric two fault
+  same-cause one two goes Device is = goes _ is
+  same-cause one two goes (Pll x y) is = goes _ is
+  same-cause one two goes (PinMode x y pio pintype) is = goes _ is
+  same-cause one two goes (Mode x y read write) is = goes _ is
+  same-cause one two goes (Cascade x y) is = goes _ is
+  same-cause one two goes (Async x y i) is = goes _ is
+  same-cause one two goes (TwoDrivers net first second) is = (goes _ is.0, is.1)
+  same-cause one two goes (Loop net cycle) is = (goes _ is.0, is.1)
+  same-cause one two goes (Clock x y user net) is = (goes _ is.0, is.1)
+  same-cause one two goes (Memory failed) is = tt

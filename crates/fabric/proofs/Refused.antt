@@ -1,0 +1,102 @@
+-- A cause of the parts is the cause of the whole, where nothing before it is wrong.
+use Rattle.std.proofs.Common.{◌≡◌, ℕ, Bool, true, false, List, [], ◌∷◌, refl, sym, ap, subst, ◌∙◌}
+use Rattle.std.specs.Prelude.{◌↔◌, Option, Some, None, Result, Ok, Err, IfErr, OnOk}
+use Rattle.std.specs.Result.{IsErrAnd}
+use Rattle.plane_map.specs.declared.device.DeviceName.{DeviceName}
+use Rattle.plane_map.specs.declared.device.DeviceName.TheVariants.{K1, K8}
+use Rattle.ice_image.specs.Configuration.{Configuration}
+use Rattle.chipdb_reader.specs.Database.{Database}
+use Rattle.place_search.specs.Places.{or_else}
+use Rattle.fabric_rules.specs.Tiles.{first_of}
+use Rattle.fabric_rules.specs.Fabric.{fabric_of}
+use Rattle.fabric_rules.specs.Faults.{Fault, is_same_device, device_faults, pins_fault, rams_fault, cells_fault, fabric_fault, design_fault}
+use Rattle.net_extract.specs.declared.fault.LinkFault.{LinkFault}
+use Rattle.net_extract.specs.declared.fault.LinkFault.TheVariants as links
+use Rattle.io_cell.specs.declared.fault.PinFault.{PinFault}
+use Rattle.io_cell.specs.declared.fault.PinFault.TheVariants as pins
+use Rattle.io_cell.specs.Faults.{IsCause as IsPinCause}
+use Rattle.block_ram.specs.declared.fault.RamFault.{RamFault}
+use Rattle.block_ram.specs.declared.fault.RamFault.TheVariants as rams
+use Rattle.block_ram.specs.Faults.{IsCause as IsRamCause}
+use Rattle.logic_cell.specs.declared.fault.LcFault.{LcFault}
+use Rattle.logic_cell.specs.declared.fault.LcFault.TheVariants as cells
+use Rattle.logic_cell.specs.Faults.{IsCause as IsCellCause}
+use Rattle.fabric.specs.declared.fault.FabricFault.{FabricFault}
+use Rattle.fabric.specs.Faults.{IsCause, AreTaken}
+use Rattle.fabric.specs.Causes.{of_links, of_pins, of_rams, of_cells}
+
+same-device : (a : DeviceName) → is_same_device a a ≡ true
+same-device K1 = refl
+same-device K8 = refl
+
+other-device : (a b : DeviceName) → ¬ (a ≡ b) → is_same_device a b ≡ false
+other-device K1 K1 other = absurd (other refl)
+other-device K1 K8 other = refl
+other-device K8 K1 other = refl
+other-device K8 K8 other = absurd (other refl)
+
+module _ (db : Database) (image : Configuration) where
+  Refuses : Option Fault → Type 0
+  Refuses cause = design_fault db image ≡ cause
+
+  no-device : db.chip.device ≡ image.device → device_faults db image ≡ []
+  unfolding device_faults
+  no-device same = rw (same, same-device image.device) refl
+
+  with-device : ¬ (db.chip.device ≡ image.device) → design_fault db image ≡ Some Fault.other_device
+  unfolding design_fault device_faults
+  with-device other = rw (other-device db.chip.device image.device other) refl
+
+  module _ (same : db.chip.device ≡ image.device) where
+    behind-device : design_fault db image
+        ≡ or_else (pins_fault db image) (or_else (rams_fault db image) (or_else (cells_fault db image) (fabric_fault image.device (fabric_of db image))))
+    unfolding design_fault
+    behind-device = rw (no-device same) refl
+
+    pins-refuse : (cause : Fault) → pins_fault db image ≡ Some cause → design_fault db image ≡ Some cause
+    pins-refuse cause is = behind-device ∙ rw is refl
+
+    module _ (pins-taken : pins_fault db image ≡ None) where
+      rams-refuse : (cause : Fault) → rams_fault db image ≡ Some cause → design_fault db image ≡ Some cause
+      rams-refuse cause is = behind-device ∙ rw (pins-taken, is) refl
+
+      module _ (rams-taken : rams_fault db image ≡ None) where
+        cells-refuse : (cause : Fault) → cells_fault db image ≡ Some cause → design_fault db image ≡ Some cause
+        cells-refuse cause is = behind-device ∙ rw (pins-taken, rams-taken, is) refl
+
+  -- the fault of the whole is that of the fabric, where the parts are taken
+  pub fabric-left : AreTaken db image → design_fault db image ≡ fabric_fault image.device (fabric_of db image)
+  fabric-left taken = behind-device taken.device ∙ rw (taken.pins, taken.rams, taken.cells) refl
+
+  -- ---- the refusals of the parts
+
+  abbrev IsRefusal : FabricFault → Type 0
+  IsRefusal fault = IsCause image.device (fabric_of db image) (design_fault db image) fault
+
+  pub links-cause : (fault : LinkFault) → ((fault ≡ links.Device) ↔ (¬ (db.chip.device ≡ image.device))) → IsRefusal (of_links fault)
+  links-cause links.Device tells = with-device (tells.0 refl)
+  links-cause (links.Memory failed) tells = tt
+
+  pub pins-cause : (same : db.chip.device ≡ image.device) (fault : PinFault) → IsPinCause (pins_fault db image) fault → IsRefusal (of_pins fault)
+  pins-cause same (pins.Pll x y) is = pins-refuse same _ is
+  pins-cause same (pins.PinMode x y pio pintype) is = pins-refuse same _ is
+  pins-cause same (pins.Memory failed) is = tt
+
+  pub rams-cause : (same : db.chip.device ≡ image.device) → pins_fault db image ≡ None → (fault : RamFault) → IsRamCause (rams_fault db image) fault → IsRefusal (of_rams fault)
+  rams-cause same taken (rams.Mode x y read write) is = rams-refuse same taken _ is
+  rams-cause same taken (rams.Cascade x y) is = rams-refuse same taken _ is
+  rams-cause same taken (rams.Memory failed) is = tt
+
+  pub cells-cause : (same : db.chip.device ≡ image.device) → pins_fault db image ≡ None → rams_fault db image ≡ None
+      → (fault : LcFault) → IsCellCause (cells_fault db image) fault → IsRefusal (of_cells fault)
+  cells-cause same pins-taken rams-taken (cells.Async x y i) is = cells-refuse same pins-taken rams-taken _ is
+  cells-cause same pins-taken rams-taken (cells.Memory failed) is = tt
+
+-- an answer that tells an error has what holds of it
+pub told : {A E : Type 0} (result : Result A E) (error : E) (Holds : E → Type 0) → IsErrAnd result (λ fault. fault ≡ error) → Holds error → IfErr result Holds
+told (Ok value) error Holds is holds = tt
+told (Err fault) error Holds is holds = subst Holds (sym is) holds
+
+pub on-ok : {A E : Type 0} (result : Result A E) (Holds : Type 0) → Holds → OnOk result Holds
+on-ok (Ok value) Holds holds = holds
+on-ok (Err fault) Holds holds = tt

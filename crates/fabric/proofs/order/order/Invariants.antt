@@ -1,0 +1,7 @@
+use Rattle.fabric.proofs.order.order.Given as goal
+
+abbrev pub ghost-wires : goal.ghost-wires
+ghost-wires g a = g.fabric
+
+abbrev pub ghost-order_of : goal.ghost-order_of
+ghost-order_of g a = g.fabric

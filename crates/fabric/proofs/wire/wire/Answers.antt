@@ -1,0 +1,31 @@
+use Rattle.std.proofs.Common.{◌≡◌, refl, sym, ap, ◌∙◌, subst}
+use Rattle.std.specs.Prelude.{None}
+use Rattle.fabric_rules.specs.Tiles.{first_of}
+use Rattle.fabric_rules.specs.Faults.{clock_faults}
+use Rattle.fabric.specs.Faults.{IsCause}
+use Rattle.fabric.proofs.Refused.{told}
+use Rattle.fabric.proofs.Evidence.{drivers-told, same-cause, loops-cause, clocks-cause, no-cause}
+use Rattle.fabric.proofs.wire.wire.Goals as goal
+
+pub returns-in_err-drivers-clause-refused : goal.returns-in_err-drivers-clause-refused
+returns-in_err-drivers-clause-refused g c =
+    told c.from_residual.result _ _ c.from_residual.ensures.1 (drivers-told c.args.db.now.chip.device g.fabric c.in_err-drivers.field-0.0 c.in_err-drivers.ensures.refused)
+
+pub returns-in_err-order-clause-refused : goal.returns-in_err-order-clause-refused
+returns-in_err-order-clause-refused g c =
+    let device = c.args.db.now.chip.device in
+    told c.from_residual-in_err-order.result _ _ c.from_residual-in_err-order.ensures.1
+    (same-cause device g.fabric _ _ (loops-cause device g.fabric c.in_ok-drivers.ensures.taken) c.in_err-order.field-0.0 (c.in_err-order.ensures.refused device))
+
+pub returns-in_err-clocked-clause-refused : goal.returns-in_err-clocked-clause-refused
+returns-in_err-clocked-clause-refused g c =
+    let device = c.args.db.now.chip.device in
+    told c.from_residual-in_err-clocked.result _ _ c.from_residual-in_err-clocked.ensures.1
+    (same-cause device g.fabric _ _ (clocks-cause device g.fabric c.in_ok-drivers.ensures.taken c.in_ok-order.ensures.taken) c.in_err-clocked.field-0.0
+    (subst (λ d. IsCause d g.fabric (first_of (clock_faults d g.fabric)) c.in_err-clocked.field-0.0) c.device.ensures.device c.in_err-clocked.ensures.refused))
+
+pub returns-clause-taken : goal.returns-clause-taken
+returns-clause-taken g c =
+    let device = c.args.db.now.chip.device in
+    no-cause device g.fabric c.in_ok-drivers.ensures.taken c.in_ok-order.ensures.taken
+    (subst (λ d. first_of (clock_faults d g.fabric) ≡ None) c.device.ensures.device c.in_ok-clocked.ensures.taken)

@@ -1,0 +1,58 @@
+// The design of a database and an image.
+ghost use Rattle.std.specs.Prelude.{◌≡◌, Bool, List, IfOk, IfErr, OnOk, None, filter, not};
+ghost use Rattle.ice_image.specs.Either.{configuration_of};
+ghost use Rattle.chipdb_reader.specs.Kept.{database_in};
+ghost use Rattle.fabric_rules.specs.Fabric.{fabric_of};
+ghost use Rattle.fabric_rules.specs.Values.{State, IsConsistent};
+ghost use Rattle.fabric_rules.specs.Steps.{Event, IsRun};
+ghost use Rattle.fabric_rules.specs.Unique.{ExactlyOne};
+ghost use Rattle.fabric_rules.specs.Faults.{design_fault};
+ghost use Rattle.fabric.specs.Design.{IsDesignOf};
+ghost use Rattle.fabric.specs.Faults.{IsCause};
+
+use crate::fault::FabricFault;
+use crate::kept::Design;
+use crate::parts::parts;
+use crate::wire::wire;
+use chipdb_reader::ChipDb;
+use fabric_rules::Pin;
+use ice_image::AnyImage;
+use std::alloc::{AllocError, Global};
+
+/// The input pins among pins.
+fn inputs(alloc: Global, pins: &[Pin]) -> Result<Vec<Pin>, AllocError>
+    ensures { IfOk result (λ inputs. inputs.items ≡ filter (λ pin. not pin.output) pins.now) }
+{
+    pins.iter()
+        .filter(|pin| !pin.output)
+        .copied()
+        .collect(alloc)
+}
+
+/// Finds the design of a database and an image.
+///
+/// For each state and all values of the input pins there is exactly one list of net values that is consistent with them, and for each
+/// list of events exactly one run.
+///
+/// # Errors
+/// The first cause why the two aren't taken, in the order of [`FabricFault`], with the least that has it.
+pub fn design(alloc: Global, db: &ChipDb, image: &AnyImage) -> Result<Design, FabricFault>
+    ensures design { IfOk result (IsDesignOf (database_in db.now) (configuration_of image.now)) }
+    ensures taken { OnOk result (design_fault (database_in db.now) (configuration_of image.now) ≡ None) }
+    ensures refused { IfErr result (IsCause (configuration_of image.now).device (fabric_of (database_in db.now) (configuration_of image.now)) (design_fault (database_in db.now) (configuration_of image.now))) }
+    ensures one_value { OnOk result ((state : State) (pins : List Bool) → ExactlyOne (IsConsistent (fabric_of (database_in db.now) (configuration_of image.now)) state pins)) }
+    ensures one_run { OnOk result ((events : List Event) → ExactlyOne (IsRun (fabric_of (database_in db.now) (configuration_of image.now)) events)) }
+{
+    let parts = parts(alloc, db, image)?;
+    prove!(db.device() == image.device());
+    let wired = wire(alloc, db, image, &parts)?;
+    let inputs = inputs(alloc, &parts.pins)?;
+    Ok(Design::of(
+        parts,
+        inputs,
+        wired.drivers,
+        wired.order,
+        wired.ends,
+        wired.words,
+    ))
+}

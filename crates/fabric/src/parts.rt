@@ -1,0 +1,74 @@
+// The parts of the fabric of a database and an image.
+ghost use Rattle.std.specs.Prelude.{◌≡◌, ◌++◌, map, IfOk, IfErr, OnOk, slice_get};
+ghost use Rattle.ice_image.specs.Either.{configuration_of};
+ghost use Rattle.chipdb_reader.specs.Fit.{IsFit};
+ghost use Rattle.chipdb_reader.specs.Kept.{database_in};
+ghost use Rattle.fabric_rules.specs.Fabric.{fabric_of};
+ghost use Rattle.fabric_rules.specs.Faults.{design_fault};
+ghost use Rattle.fabric_drivers.specs.Parts.{ArePartsOf, buffer_of};
+ghost use Rattle.fabric.specs.Faults.{IsCause, AreTaken};
+ghost use Rattle.fabric.specs.Buffers.{buffer_if, buffers_at};
+
+use crate::fault::FabricFault;
+use block_ram::rams;
+use chipdb_reader::{ChipDb, LinkLine};
+use fabric_drivers::{Buffer, Parts};
+use ice_image::AnyImage;
+use io_cell::pins;
+use logic_cell::cells;
+use net_extract::links;
+use std::alloc::{AllocError, Global};
+
+/// Appends the buffer of the line at a place, where there is one.
+fn append_buffer(
+    buffers: &mut Vec<Buffer>,
+    lines: &[LinkLine],
+    place: u32,
+) -> Result<(), AllocError>
+    ensures { OnOk result (map buffer_of buffers.new.items ≡ map buffer_of buffers.old.items ++ buffer_if place (slice_get lines.now place)) }
+{
+    if let Some(line) = lines.get(place as usize) {
+        buffers.push(Buffer {
+            line: place,
+            src: line.src,
+            dst: line.dst,
+        })?;
+    }
+    Ok(())
+}
+
+/// The buffers of a database at some of their places.
+fn buffers(alloc: Global, db: &ChipDb, places: &[u32]) -> Result<Vec<Buffer>, AllocError>
+    ensures buffers { IfOk result (λ buffers. map buffer_of buffers.items ≡ buffers_at db.now.buffers places.now) }
+    ensures fit { IsFit (database_in db.now) }
+{
+    let lines = db.buffers();
+    let mut buffers = Vec::with_capacity(alloc, places.len())?;
+    for place in places {
+        append_buffer(&mut buffers, lines, *place)?;
+    }
+    Ok(buffers)
+}
+
+/// Finds the parts, or the first cause why they aren't taken.
+pub(crate) fn parts(alloc: Global, db: &ChipDb, image: &AnyImage) -> Result<Parts, FabricFault>
+    ensures parts { IfOk result (ArePartsOf (fabric_of (database_in db.now) (configuration_of image.now))) }
+    ensures fit { OnOk result (IsFit (database_in db.now)) }
+    ensures taken { OnOk result (AreTaken (database_in db.now) (configuration_of image.now)) }
+    ensures refused { IfErr result (IsCause (configuration_of image.now).device (fabric_of (database_in db.now) (configuration_of image.now)) (design_fault (database_in db.now) (configuration_of image.now))) }
+{
+    let links = links(alloc, db, image)?;
+    let pins = pins(alloc, db, image, &links)?;
+    let rams = rams(alloc, db, image, &links)?;
+    let cells = cells(alloc, db, image)?;
+    let buffers = buffers(alloc, db, links.buffers())?;
+    Ok(Parts {
+        links,
+        buffers,
+        pins: pins.pins,
+        globals: pins.globals,
+        lcs: cells.lcs,
+        sets: cells.sets,
+        rams,
+    })
+}

@@ -1,0 +1,84 @@
+// The drivers, the order and the clocks of a fabric.
+ghost use Rattle.std.specs.Prelude.{◌≡◌, ◌≤◌, All, IfOk, IfErr, OnOk, Some, None};
+ghost use Rattle.std.specs.List.{flat_map};
+ghost use Rattle.plane_map.specs.Layout.{kind_of};
+ghost use Rattle.plane_map.specs.declared.tile.TileKind.TheVariants.{RamB};
+ghost use Rattle.ice_image.specs.Either.{configuration_of, device_of};
+ghost use Rattle.ice_image.specs.Contents.{word_value};
+ghost use Rattle.fabric_rules.specs.Fabric.{Fabric};
+ghost use Rattle.fabric_rules.specs.Tiles.{first_of, each_below};
+ghost use Rattle.fabric_rules.specs.Wiring.{wiring_of, IsWriteOrder};
+ghost use Rattle.fabric_rules.specs.Faults.{clock_faults, fabric_fault};
+ghost use Rattle.fabric_drivers.specs.Parts.{ArePartsOf};
+ghost use Rattle.fabric_drivers.specs.Kept.{AreDriversOf};
+ghost use Rattle.fabric_clocks.specs.Ends.{AreEndsOf};
+ghost use Rattle.fabric.specs.Faults.{IsCause};
+
+use crate::fault::FabricFault;
+use crate::order::order;
+use crate::words::start_words;
+use chipdb_reader::ChipDb;
+use fabric_clocks::{ClockEnd, clock_ends, first_unclocked};
+use fabric_drivers::{Drivers, Parts, drivers};
+use ice_image::AnyImage;
+use plane_map::DeviceName;
+use std::alloc::Global;
+
+/// The drivers of a fabric, the order in which its classes are written, where the chain from each class ends, and the start words
+/// of its RAMs.
+#[derive(Drop)]
+pub(crate) struct Wired {
+    pub(crate) drivers: Drivers,
+    pub(crate) order: Vec<u32>,
+    pub(crate) ends: Vec<ClockEnd>,
+    pub(crate) words: Vec<u16>,
+}
+
+/// Whether each user of a clock has a pin for it, or the first that hasn't.
+fn clocked(device: DeviceName, parts: &Parts, ends: &[ClockEnd]) -> Result<(), FabricFault>
+    ghost fabric: { Fabric }
+    requires parts { ArePartsOf fabric parts.now }
+    requires ends { AreEndsOf fabric ends.now }
+    ensures taken { OnOk result (first_of (clock_faults device fabric) ≡ None) }
+    ensures refused { IfErr result (IsCause device fabric (first_of (clock_faults device fabric))) }
+{
+    match first_unclocked(device, parts, ends) {
+        None => Ok(()),
+        Some(found) => Err(FabricFault::Clock {
+            x: found.x,
+            y: found.y,
+            user: found.user,
+            net: found.net,
+        }),
+    }
+}
+
+/// Finds what follows from the parts of the fabric of a database and an image, or the first cause why it isn't taken.
+pub(crate) fn wire(
+    alloc: Global,
+    db: &ChipDb,
+    image: &AnyImage,
+    parts: &Parts,
+) -> Result<Wired, FabricFault>
+    ghost fabric: { Fabric }
+    requires parts { ArePartsOf fabric parts.now }
+    requires lower { All (λ ram. kind_of (device_of image.now) ram.x ram.y ≡ Some RamB) parts.now.rams.items }
+    ensures few { OnOk result (fabric.nets ≤ u32.MAX) }
+    ensures drivers { IfOk result (λ wired. AreDriversOf fabric wired.drivers) }
+    ensures order { IfOk result (λ wired. IsWriteOrder (wiring_of fabric) wired.order.items) }
+    ensures ends { IfOk result (λ wired. AreEndsOf fabric wired.ends.items) }
+    ensures words { IfOk result (λ wired. wired.words.items ≡ flat_map (λ ram. each_below 256 (word_value (device_of image.now) (configuration_of image.now).bram ram.x ram.y)) parts.now.rams.items) }
+    ensures taken { OnOk result (fabric_fault db.now.chip.device fabric ≡ None) }
+    ensures refused { IfErr result (IsCause db.now.chip.device fabric (fabric_fault db.now.chip.device fabric)) }
+{
+    let drivers = drivers(alloc, parts)?;
+    let order = order(alloc, parts, &drivers)?;
+    let ends = clock_ends(alloc, parts, &drivers, &order)?;
+    clocked(db.device(), parts, &ends)?;
+    Ok(Wired {
+        drivers,
+        order,
+        ends,
+        words: start_words(alloc, image, &parts.rams)?,
+    })
+}

@@ -1,0 +1,86 @@
+// The names of a module that is written for a design.
+ghost use Rattle.std.specs.Prelude.{◌≡◌, ◌+◌, ◌≤◌, ◌++◌, length, decimal, IfOk};
+ghost use Rattle.vlog_emit.specs.Names.{two_numbers, three_numbers, port_name, flip_name, register_name, memory_name, wire_name};
+
+use crate::text::Text;
+use fabric_rules::{Lc, Pin, RamCell};
+use std::alloc::{AllocError, Global};
+use vlog_module::Name;
+
+/// The name of a pin's port: `io_X_Y_N`.
+#[tactic(auto, unfolding(vlog_emit::specs::Names::port_name))]
+pub(crate) fn port_name(alloc: Global, pin: &Pin) -> Result<Name, AllocError>
+    ensures { IfOk result (λ name. name ≡ port_name pin.now) }
+{
+    let (x, y, n) = (pin.x, pin.y, pin.n);
+    let text = three_numbers(b"io_", x, y, n);
+    Name::new(alloc, text.bytes())
+}
+
+/// The name of the register of a flip-flop: `ff_X_Y_I`.
+#[tactic(auto, unfolding(vlog_emit::specs::Names::flip_name))]
+pub(crate) fn flip_name(alloc: Global, lc: &Lc) -> Result<Name, AllocError>
+    ensures { IfOk result (λ name. name ≡ flip_name lc.now) }
+{
+    let (x, y, i) = (lc.x, lc.y, lc.i);
+    let text = three_numbers(b"ff_", x, y, i);
+    Name::new(alloc, text.bytes())
+}
+
+/// The name of the read register of a RAM: `rd_X_Y`.
+#[tactic(auto, unfolding(vlog_emit::specs::Names::register_name))]
+pub(crate) fn register_name(alloc: Global, ram: &RamCell) -> Result<Name, AllocError>
+    ensures { IfOk result (λ name. name ≡ register_name ram.now) }
+{
+    let (x, y) = (ram.x, ram.y);
+    let text = two_numbers(b"rd_", x, y);
+    Name::new(alloc, text.bytes())
+}
+
+/// The name of the memory of a RAM: `mem_X_Y`.
+#[tactic(auto, unfolding(vlog_emit::specs::Names::memory_name))]
+pub(crate) fn memory_name(alloc: Global, ram: &RamCell) -> Result<Name, AllocError>
+    ensures { IfOk result (λ name. name ≡ memory_name ram.now) }
+{
+    let (x, y) = (ram.x, ram.y);
+    let text = two_numbers(b"mem_", x, y);
+    Name::new(alloc, text.bytes())
+}
+
+/// The name of the wire of a class: `n_K`.
+#[tactic(auto, unfolding(vlog_emit::specs::Names::wire_name))]
+pub(crate) fn wire_name(alloc: Global, class: u32) -> Result<Name, AllocError>
+    ensures { IfOk result (λ name. name ≡ wire_name class) }
+{
+    let mut text = Text::of(b"n_");
+    text.push_number(class);
+    Name::new(alloc, text.bytes())
+}
+
+/// Two numbers behind a short text.
+#[tactic(auto, unfolding(vlog_emit::specs::Names::two_numbers))]
+fn two_numbers(before: &[u8], x: u8, y: u8) -> Text
+    requires { length before.now ≤ 4 }
+    ensures { result ≡ before.now ++ two_numbers x y }
+{
+    let mut text = Text::of(before);
+    text.push_small(x);
+    text.push(b"_");
+    text.push_small(y);
+    text
+}
+
+/// Three numbers behind a short text.
+#[tactic(auto, unfolding(vlog_emit::specs::Names::three_numbers))]
+fn three_numbers(before: &[u8], x: u8, y: u8, n: u8) -> Text
+    requires { length before.now ≤ 4 }
+    ensures { result ≡ before.now ++ three_numbers x y n }
+{
+    let mut text = Text::of(before);
+    text.push_small(x);
+    text.push(b"_");
+    text.push_small(y);
+    text.push(b"_");
+    text.push_small(n);
+    text
+}

@@ -8,9 +8,10 @@ use Rattle.tool_run.specs.Needs.{text_of}
 use Rattle.tool_run.specs.Tasks.{not_taken}
 use Rattle.tool_run.proofs.CommandLines.{text_of-map, taken_task}
 use Rattle.tool_words.specs.Commands.{is_taken}
+use Rattle.design_tools.specs.declared.name.ModuleName.{ModuleName}
 use Rattle.design_tools.specs.declared.request.Request.{Request}
 use Rattle.design_tools.specs.Names.{name_given}
-use Rattle.design_tools.specs.Vlog.{vlog_command, vlog_name, vlog_task, vlog_task_by, vlog_task_for, vlog_task_of, vlog_usage}
+use Rattle.design_tools.specs.Vlog.{name_text, vlog_command, vlog_name, vlog_task, vlog_task_by, vlog_task_for, vlog_task_of, vlog_usage}
 
 pub vlog-is_simple : is_simple_and_free vlog_command ≡ true
 unfolding clap_on_literals
@@ -31,6 +32,11 @@ vlog-speaker words = by_case (is_taken vlog_command words)
     by_case : (taken : Bool) → (if taken then vlog_task_by rows else not_taken vlog_name vlog_usage).speaker ≡ vlog_name
     by_case true = of-speaker (name_given (first_of (codes "name") rows)) (first_of (codes "db") rows) (first_of (codes "image") rows)
     by_case false = refl
+
+-- the bytes of a name, in the two ways
+pub name_text-map : (name : Option ModuleName) → option_map (λ (n : ModuleName). n.text.now) name ≡ name_text name
+name_text-map None = refl
+name_text-map (Some name) = refl
 
 pub vlog-found : (words : List Text) (app : App) (rows : List Row) (given db image : Option (Bor (List ℕ))) (name : Option Text) (request : Option Request)
     → app ≡ vlog_command → true ≡ is_taken app words → rows ≡ matches_of app words

@@ -1,15 +1,16 @@
 -- What holds of a database that is read: it is fit, and has few nets.
-use Rattle.std.proofs.Common.{◌≡◌, ℕ, zero, suc, ◌^◌, ◌≤◌, Bool, true, false, List, [], ◌∷◌, length, refl, sym, ap, ◌∙◌, inl, inr, arith, subst, tt}
+use Rattle.std.proofs.Common.{◌≡◌, ℕ, zero, suc, ◌^◌, ◌≤◌, Bool, true, false, List, [], ◌∷◌, length, refl, sym, ap, ◌∙◌, inl, inr, arith, subst}
 use Rattle.std.specs.Prelude.{◌&&◌, ◌==◌, nat_le, IfSome, Option, Some, None, Ok, if◌then◌else◌, get_or, drop}
 use Rattle.std.proofs.lemmas.Bool.{cases_Bool, leb-true}
 use Rattle.place_search.specs.Places.{first_below, or_else}
 use Rattle.text_lines.specs.Lines.{lines_of, line_at}
+use Rattle.text_lines.specs.Words.{numbers_of}
 use Rattle.plane_map.specs.Layout.{grid_width, grid_height}
 use Rattle.plane_map.specs.declared.device.DeviceName.{DeviceName}
 use Rattle.chipdb_lines.specs.declared.chip.Chip.{Chip}
 use Rattle.chipdb_lines.specs.declared.keyword.Keyword.{Keyword}
 use Rattle.chipdb_lines.specs.declared.keyword.Keyword.TheVariants as keyword
-use Rattle.chipdb_lines.specs.Words.{is_statement, words_in, numbers_of}
+use Rattle.chipdb_lines.specs.Words.{is_statement, words_in}
 use Rattle.chipdb_lines.specs.Statements.{chip_of_numbers, chip_of_words, device_named, keyword_of}
 use Rattle.chipdb_reader.specs.Blocks.{chip_before, chip_by, chip_in}
 use Rattle.chipdb_reader.specs.Database.{Database, database_of}
@@ -27,7 +28,7 @@ HasFew chip = chip.nets ≤ 16777216
 few-numbers : (device : Option DeviceName) (numbers : Option (List ℕ)) → IfSome (chip_of_numbers device numbers) HasFew
 few-numbers (Some device) (Some (width ∷ height ∷ nets ∷ [])) =
     elim (cases_Bool ((width == grid_width device) && (height == grid_height device) && nat_le nets 16777216)) [
-      | inl fits ↦ rw fits (leb-true nets 16777216 (and-right (height == grid_height device) _ (and-right (width == grid_width device) _ fits)))
+      | inl fits ↦ rw fits (leb-true nets 16777216 (and-right ((width == grid_width device) && (height == grid_height device)) (nat_le nets 16777216) fits))
       | inr away ↦ rw away tt
     ]
 few-numbers (Some device) (Some []) = tt

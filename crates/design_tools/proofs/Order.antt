@@ -47,12 +47,14 @@ module _ (wiring : Wiring) where
 
   passes-ready : (listed : List ℕ) (class : ℕ) → class < wiring.count → is_ready wiring listed class ≡ true → IsReady wiring (has listed) class
   passes-ready listed class within passes =
-      let rest = and-right (wiring.driven class) _ passes in
+      let open_ = wiring.driven class && not (has listed class) in
+      let all = list_all (is_settled wiring.driven (has listed)) (wiring.reads class) in
+      let front : open_ ≡ true = and-left open_ all passes in
       record {
         within = within;
-        driven = and-left (wiring.driven class) _ passes;
-        unlisted = not-true (has listed class) (and-left (not (has listed class)) _ rest);
-        inputs = all-listed wiring.driven (has listed) (wiring.reads class) (and-right (not (has listed class)) _ rest);
+        driven = and-left (wiring.driven class) (not (has listed class)) front;
+        unlisted = not-true (has listed class) (and-right (wiring.driven class) (not (has listed class)) front);
+        inputs = all-listed wiring.driven (has listed) (wiring.reads class) (and-right open_ all passes);
       }
     where
       not-true : (b : Bool) → not b ≡ true → b ≡ false

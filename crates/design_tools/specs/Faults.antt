@@ -19,9 +19,20 @@ net_text net = codes "net " ++ decimal net
 abbrev pub pintype_text : ℕ → List ℕ
 pintype_text pintype = codes ": PinMode " ++ six_digits pintype
 
+-- a pin and a cell of a tile
+abbrev pub pin_text : ℕ → List ℕ
+pin_text n = codes " pin " ++ decimal n
+
+abbrev pub cell_text : ℕ → List ℕ
+cell_text i = codes " cell " ++ decimal i
+
+-- the net of a clock
+abbrev pub clock_text : ℕ → List ℕ
+clock_text net = codes ": Clock net " ++ decimal net
+
 -- a cell of a tile, or a port of a RAM
 abbrev pub user_text : ClockUser → List ℕ
-user_text (user.Cell i) = codes " cell " ++ decimal i
+user_text (user.Cell i) = cell_text i
 user_text user.Read = codes " read"
 user_text user.Write = codes " write"
 
@@ -29,13 +40,13 @@ user_text user.Write = codes " write"
 abbrev pub design_fault_text : Fault → List ℕ
 design_fault_text Fault.other_device = codes "Device"
 design_fault_text (Fault.pll x y) = tile_text x y ++ codes ": Pll"
-design_fault_text (Fault.pin_mode x y n pintype) = tile_text x y ++ codes " pin " ++ decimal n ++ pintype_text pintype
+design_fault_text (Fault.pin_mode x y n pintype) = tile_text x y ++ pin_text n ++ pintype_text pintype
 design_fault_text (Fault.mode x y read write) = tile_text x y ++ codes ": Mode " ++ decimal read ++ codes " " ++ decimal write
 design_fault_text (Fault.cascade x y) = tile_text x y ++ codes ": Cascade"
-design_fault_text (Fault.async x y i) = tile_text x y ++ codes " cell " ++ decimal i ++ codes ": Async"
+design_fault_text (Fault.async x y i) = tile_text x y ++ cell_text i ++ codes ": Async"
 design_fault_text (Fault.two_drivers net first second) = net_text net ++ codes ": TwoDrivers"
 design_fault_text (Fault.loop net) = net_text net ++ codes ": Loop"
-design_fault_text (Fault.clock x y user net) = tile_text x y ++ user_text user ++ codes ": Clock net " ++ decimal net
+design_fault_text (Fault.clock x y user net) = tile_text x y ++ user_text user ++ clock_text net
 
 -- the fault that a refusal tells, and none where memory ran out
 abbrev pub told_fault : FabricFault → Option Fault

@@ -16,6 +16,7 @@ use Rattle.bitstream_tools.specs.Pack.{text_limit}
 use Rattle.fabric_tools.specs.Explain.{database_limit}
 use Rattle.fabric_tools.specs.Images.{image_read}
 use Rattle.fabric_tools.specs.Databases.{database_read}
+use Rattle.design_tools.specs.declared.name.ModuleName.{ModuleName}
 use Rattle.design_tools.specs.declared.request.Request.{Request}
 use Rattle.design_tools.specs.declared.request.TheConstants.{ICEBOX_VLOG_HELP}
 use Rattle.design_tools.specs.Names.{name_given}
@@ -66,6 +67,11 @@ write_task name db image = record {
   target = None;
   answer = vlog_answer name;
 }
+
+-- the bytes of a name, where there is one
+abbrev pub name_text : Option ModuleName → Option Text
+name_text None = None
+name_text (Some name) = Some name.text.now
 
 -- there has to be a name, and a database
 abbrev pub vlog_task_of : Option Text → Option Text → Option Text → Task

@@ -65,31 +65,33 @@ fn user_phrase(user: ClockUser) -> Phrase
 }
 
 /// Why no module is written.
-pub(crate) fn design_stop(fault: FabricFault) -> Stop
-    ensures { StopsFor (told_fault fault) result }
+pub(crate) fn design_stop(fault: &FabricFault) -> Stop
+    ensures { StopsFor (told_fault fault.now) result }
 {
     match fault {
         FabricFault::Device => Stop::Refused(whole("Device")),
-        FabricFault::Pll { x, y } => Stop::Refused(at_tile(x, y, text(": Pll"), text(""))),
+        FabricFault::Pll { x, y } => Stop::Refused(at_tile(*x, *y, text(": Pll"), text(""))),
         FabricFault::PinMode { x, y, pio, pintype } => {
-            let pin = decimal(" pin ", u64::from(pio));
-            Stop::Refused(at_tile(x, y, pin, pintype_phrase(pintype)))
+            let pin = decimal(" pin ", u64::from(*pio));
+            Stop::Refused(at_tile(*x, *y, pin, pintype_phrase(*pintype)))
         }
         FabricFault::Mode { x, y, read, write } => {
-            let read = decimal(": Mode ", u64::from(read));
-            let write = decimal(" ", u64::from(write));
-            Stop::Refused(at_tile(x, y, read, write))
+            let read = decimal(": Mode ", u64::from(*read));
+            let write = decimal(" ", u64::from(*write));
+            Stop::Refused(at_tile(*x, *y, read, write))
         }
-        FabricFault::Cascade { x, y } => Stop::Refused(at_tile(x, y, text(": Cascade"), text(""))),
+        FabricFault::Cascade { x, y } => {
+            Stop::Refused(at_tile(*x, *y, text(": Cascade"), text("")))
+        }
         FabricFault::Async { x, y, i } => {
-            let cell = decimal(" cell ", u64::from(i));
-            Stop::Refused(at_tile(x, y, cell, text(": Async")))
+            let cell = decimal(" cell ", u64::from(*i));
+            Stop::Refused(at_tile(*x, *y, cell, text(": Async")))
         }
-        FabricFault::TwoDrivers { net, .. } => Stop::Refused(at_net(net, ": TwoDrivers")),
-        FabricFault::Loop { net, .. } => Stop::Refused(at_net(net, ": Loop")),
+        FabricFault::TwoDrivers { net, .. } => Stop::Refused(at_net(*net, ": TwoDrivers")),
+        FabricFault::Loop { net, .. } => Stop::Refused(at_net(*net, ": Loop")),
         FabricFault::Clock { x, y, user, net } => {
-            let clock = decimal(": Clock net ", u64::from(net));
-            Stop::Refused(at_tile(x, y, user_phrase(user), clock))
+            let clock = decimal(": Clock net ", u64::from(*net));
+            Stop::Refused(at_tile(*x, *y, user_phrase(*user), clock))
         }
         FabricFault::Memory(_) => Stop::Memory,
     }

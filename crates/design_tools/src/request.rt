@@ -1,9 +1,8 @@
 // What the command line of `icebox_vlog` asks for.
 ghost use Rattle.std.specs.Prelude.{◌≡◌, map, string_bytes, IfOk};
-ghost use Rattle.std.specs.Option.{option_map};
 ghost use Rattle.clap.specs.Words.{app_of};
 ghost use Rattle.tool_run.specs.Needs.{text_of};
-ghost use Rattle.design_tools.specs.Vlog.{vlog_command, vlog_task, vlog_task_for, vlog_task_of};
+ghost use Rattle.design_tools.specs.Vlog.{name_text, vlog_command, vlog_task, vlog_task_for, vlog_task_of};
 
 use crate::name::{ModuleName, name_given};
 use clap::Command;
@@ -84,7 +83,7 @@ fn wanted<'a>(
     db: Option<&'a str>,
     image: Option<&'a str>,
 ) -> Option<Request<'a>>
-    ensures { vlog_task_for result ≡ vlog_task_of (option_map (λ name. name.text.now) name) (text_of db.entry) (text_of image.entry) }
+    ensures { vlog_task_for result ≡ vlog_task_of (name_text name.entry) (text_of db.entry) (text_of image.entry) }
 {
     match (name, db) {
         (Some(name), Some(db)) => Some(Request { name, db, image }),

@@ -71,12 +71,11 @@ fn text_of(alloc: Global, db: &ChipDb, image: &AnyImage, name: &[u8]) -> Result<
 {
     match design(alloc, db, image) {
         Ok(design) => Ok(module_text(alloc, &design, name)?),
-        Err(fault) => Err(design_stop(fault)),
+        Err(fault) => Err(design_stop(&fault)),
     }
 }
 
 // The text of the module of a design.
-#[tactic(auto, using(crate::proofs::Written::written_done))]
 fn module_text(alloc: Global, design: &Design, name: &[u8]) -> Result<Vec<u8>, AllocError>
     requires { IsName name.now }
     ensures { IfOk result (λ text. (db : Database) (image : Configuration) → IsDesignOf db image design.now → written name.now db image ≡ Done text.items) }

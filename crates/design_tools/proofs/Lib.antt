@@ -1,7 +1,7 @@
 mod CommandLines
-mod Order
-mod Written
-mod Databases
+pub mod Order
+pub mod Written
+pub mod Databases
 mod Lines
 mod Appended
 mod Fabric

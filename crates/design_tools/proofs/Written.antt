@@ -32,7 +32,7 @@ written_done name db image design m text is made shown =
     ∙ sym (ap Done (shown ∙ ap printed (made ∙ ap (λ order. module_of (fabric_of db image) order name) (order-is (wiring_of (fabric_of db image)) design.order is.kept.order))))
 
 -- the cause of a refusal is the fault that it tells
-cause-told : (device : DeviceName) (fabric : Fabric) (cause : Option Fault) (fault : FabricFault) (one : Fault) → IsCause device fabric cause fault → told_fault fault ≡ Some one → cause ≡ Some one
+pub cause-told : (device : DeviceName) (fabric : Fabric) (cause : Option Fault) (fault : FabricFault) (one : Fault) → IsCause device fabric cause fault → told_fault fault ≡ Some one → cause ≡ Some one
 cause-told device fabric cause Device one is told = is ∙ told
 cause-told device fabric cause (Pll x y) one is told = is ∙ told
 cause-told device fabric cause (PinMode x y pio pintype) one is told = is ∙ told

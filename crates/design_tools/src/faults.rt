@@ -65,7 +65,7 @@ fn user_phrase(user: ClockUser) -> Phrase
 }
 
 /// Why no module is written.
-pub(crate) fn design_stop(fault: &FabricFault) -> Stop
+pub fn design_stop(fault: &FabricFault) -> Stop
     ensures { StopsFor (told_fault fault.now) result }
 {
     match fault {

@@ -9,5 +9,6 @@ mod name;
 mod request;
 mod writing;
 
+pub use faults::design_stop;
 pub use request::{ICEBOX_VLOG_HELP, ICEBOX_VLOG_USAGE};
 pub use writing::run_icebox_vlog;

@@ -1,0 +1,84 @@
+-- The words have exactly one answer.
+use Rattle.std.proofs.Common.{◌≡◌, ℕ, List, refl, sym, ap, ◌∙◌, subst, tt}
+use Rattle.std.specs.Prelude.{Option, Some, None, Result, Ok, Err}
+use Rattle.chipdb_reader.specs.Database.{Database}
+use Rattle.chipdb_reader.specs.Fit.{IsFit}
+use Rattle.ice_gen.specs.Database.{generated_database}
+use Rattle.fabric_rules.specs.Faults.{Fault, design_fault}
+use Rattle.fabric_rules.specs.Fabric.{fabric_of}
+use Rattle.fabric_rules.specs.Steps.{Event, Entry, IsRun}
+use Rattle.fabric_rules.specs.Unique.{ExactlyOne}
+use Rattle.fabric_rules.proofs.Runs.{design-run}
+use Rattle.tool_run.specs.Lines.{usage_text, refusal_text}
+use Rattle.tool_run.specs.Tasks.{Answer, Done, Refused, NotTaken}
+use Rattle.tool_run.specs.declared.tool.Stop.{Stop}
+use Rattle.tool_run.specs.declared.tool.Stop.TheVariants as stop
+use Rattle.fabric_tools.specs.Databases.{StopsDatabase, database_read}
+use Rattle.design_tools.specs.Faults.{StopsFor, design_fault_text}
+use Rattle.design_tools.proofs.Databases.{read-fit}
+use Rattle.job_tools.specs.declared.request.Request.{Request}
+use Rattle.job_tools.specs.Counted.{counts_of, counts_text}
+use Rattle.job_tools.specs.Inside.{StopsAs}
+use Rattle.job_tools.specs.Selfrun.{IsAnswerBy, IsAnswerFor, IsAnswerWith, IsCounted, image_for, run_events, selfrun_usage}
+
+-- what is told of entries
+abbrev told_by : Request → Database → List Entry → Answer
+told_by request db entries = Done (counts_text request.device (counts_of db (image_for request) (run_events request db) entries))
+
+one-counted : (request : Request) (db : Database) → IsFit db → design_fault db (image_for request) ≡ None → ExactlyOne (IsCounted request db)
+one-counted request db fit none =
+    let run = design-run db (image_for request) fit none (run_events request db) in
+    record {
+      it = told_by request db run.it;
+      is = record { entries = run.it; run = run.is; answer_is = refl };
+      only = λ other counted. counted.answer_is ∙ ap (told_by request db) (run.only counted.entries counted.run);
+    }
+
+one-with : (request : Request) (db : Database) → IsFit db → (fault : Option Fault) → design_fault db (image_for request) ≡ fault → ExactlyOne (IsAnswerWith request db fault)
+one-with request db fit None is = one-counted request db fit is
+one-with request db fit (Some fault) is = record { it = Refused (design_fault_text fault); is = refl; only = λ other same. same }
+
+one-by : (request : Request) (read : Result Database (List ℕ)) → database_read (generated_database request.device) ≡ read → ExactlyOne (IsAnswerBy request read)
+one-by request (Err text) is = record { it = Refused text; is = refl; only = λ other same. same }
+one-by request (Ok db) is = one-with request db (read-fit (generated_database request.device) db is) (design_fault db (image_for request)) refl
+
+pub one-answer : (request : Option Request) → ExactlyOne (IsAnswerFor request)
+one-answer None = record { it = NotTaken (usage_text selfrun_usage); is = refl; only = λ other same. same }
+one-answer (Some request) = one-by request (database_read (generated_database request.device)) refl
+
+pub same-answer : (request : Option Request) (one other : Answer) → IsAnswerFor request one → IsAnswerFor request other → one ≡ other
+same-answer request one other first second =
+    let exactly = one-answer request in
+    exactly.only one first ∙ sym (exactly.only other second)
+
+-- ---- what the parts give
+
+-- what is told where there is a design
+pub counted-answer : (request : Request) (db : Database) (answer : Answer) → design_fault db (image_for request) ≡ None
+    → ((events : List Event) → ExactlyOne (IsRun (fabric_of db (image_for request)) events))
+    → ((entries : List Entry) → IsRun (fabric_of db (image_for request)) (run_events request db) entries → IsCounted request db answer)
+    → IsAnswerWith request db (design_fault db (image_for request)) answer
+counted-answer request db answer none runs counted =
+    let run = runs (run_events request db) in
+    subst (λ (fault : Option Fault). IsAnswerWith request db fault answer) (sym none) (counted run.it run.is)
+
+-- a design that isn't taken
+pub design-stops : (request : Request) (db : Database) (cause told : Option Fault) (stopped : Stop) → ((one : Fault) → told ≡ Some one → cause ≡ Some one) → StopsFor told stopped
+    → StopsAs (IsAnswerWith request db cause) stopped
+design-stops request db cause (Some fault) (stop.Refused refusal) same stops =
+    subst (λ (cause : Option Fault). IsAnswerWith request db cause (Refused (refusal_text refusal))) (sym (same fault refl)) (sym (ap Refused stops))
+design-stops request db cause None stop.Memory same stops = tt
+design-stops request db cause (Some fault) stop.Memory same stops = tt
+design-stops request db cause (Some fault) (stop.NotTaken refusal) same stops = absurd stops
+design-stops request db cause None (stop.Refused refusal) same stops = absurd stops
+design-stops request db cause None (stop.NotTaken refusal) same stops = absurd stops
+
+-- a text that isn't taken
+pub database-stops : (request : Request) (read : Result Database (List ℕ)) (stopped : Stop) → StopsDatabase read stopped → StopsAs (IsAnswerBy request read) stopped
+database-stops request read (stop.Refused refusal) stops = subst (λ (read : Result Database (List ℕ)). IsAnswerBy request read (Refused (refusal_text refusal))) (sym stops) refl
+database-stops request read (stop.NotTaken refusal) stops = absurd stops
+database-stops request read stop.Memory stops = tt
+
+-- the answers by another reading
+pub stops-same : (request : Request) (one other : Result Database (List ℕ)) (stopped : Stop) → one ≡ other → StopsAs (IsAnswerBy request one) stopped → StopsAs (IsAnswerBy request other) stopped
+stops-same request one other stopped same stops = subst (λ (read : Result Database (List ℕ)). StopsAs (IsAnswerBy request read) stopped) same stops

@@ -1,0 +1,48 @@
+-- What is counted while a module runs.
+use Rattle.std.proofs.Common.{◌≡◌, ℕ, ◌+◌, ◌<◌, Bool, true, false, List, [], ◌∷◌, ◌++◌, ap, ap₂, append-nil, arith, fold, get_or, length, refl, sym, take, ◌∙◌, map}
+use Rattle.std.specs.Prelude.{filter, flat_map}
+use Rattle.std.specs.List.{AllZip}
+use Rattle.std.proofs.lemmas.List.{take_more}
+use Rattle.std.proofs.lemmas.List.Concat.{flat_map-append}
+use Rattle.vlog_module.specs.Parts.{Parts}
+use Rattle.vlog_cycle.specs.declared.event.Event.{Event as ModuleEvent}
+use Rattle.vlog_cycle.specs.Entries.{Entry as ModuleEntry}
+use Rattle.vlog_cycle.specs.Named.{values_of}
+use Rattle.vlog_cycle.specs.Run.{followed, run_from}
+use Rattle.vlog_cycle.proofs.Runs.{last_entry}
+use Rattle.fabric_rules.specs.Fabric.{Fabric}
+use Rattle.fabric_rules.specs.Steps.{Entry}
+use Rattle.vlog_emit.specs.Matching.{Matches}
+use Rattle.job_tools.specs.Counted.{ones_in, output_bits}
+use Rattle.job_tools.specs.Inside.{module_bits}
+
+-- ---- ones
+
+pub ones-append : (bits more : List Bool) → ones_in (bits ++ more) ≡ ones_in bits + ones_in more
+ones-append [] more = omega arith
+ones-append (true ∷ bits) more = omega (arith, ones-append bits more)
+ones-append (false ∷ bits) more = ones-append bits more
+
+-- ---- one event more
+
+run-push : (m : Parts) (entry : ModuleEntry) (events : List ModuleEvent) (event : ModuleEvent) → run_from m entry (events ++ event ∷ []) ≡ run_from m entry events ++ followed m (last_entry m entry events) event ∷ []
+unfolding run_from
+run-push m entry [] event = refl
+run-push m entry (first ∷ events) event = ap (λ entries. entry ∷ entries) (run-push m (followed m entry first) events event)
+
+pub bits-more : (m : Parts) (entry : ModuleEntry) (events : List ModuleEvent) (i : ℕ) (d : ModuleEvent) → i < length events
+    → module_bits (run_from m entry (take (i + 1) events)) ≡ module_bits (run_from m entry (take i events)) ++ values_of (followed m (last_entry m entry (take i events)) (get_or events i d)).outputs
+bits-more m entry events i d within =
+    let next = followed m (last_entry m entry (take i events)) (get_or events i d) in
+    ap module_bits (ap (run_from m entry) (take_more events i d within) ∙ run-push m entry (take i events) (get_or events i d))
+    ∙ flat_map-append (λ (one : ModuleEntry). values_of one.outputs) (run_from m entry (take i events)) (next ∷ [])
+    ∙ ap (λ bits. module_bits (run_from m entry (take i events)) ++ bits) (append-nil (values_of next.outputs))
+
+-- ---- the fabric's run
+
+-- the outputs of a module that matches a fabric are those of the fabric
+pub bits-alike : (fabric : Fabric) (entries : List Entry) (others : List ModuleEntry) → AllZip (Matches fabric) entries others → module_bits others ≡ output_bits entries
+bits-alike fabric [] [] all = refl
+bits-alike fabric [] (other ∷ others) all = absurd all
+bits-alike fabric (entry ∷ entries) [] all = absurd all
+bits-alike fabric (entry ∷ entries) (other ∷ others) all = ap₂ (λ (bits more : List Bool). bits ++ more) all.0.outputs.valued (bits-alike fabric entries others all.1)

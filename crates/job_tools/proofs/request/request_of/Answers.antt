@@ -1,0 +1,19 @@
+use Rattle.std.proofs.Common.{◌≡◌, ◌∙◌, sym, ap, subst}
+use Rattle.std.specs.Prelude.{Option, IfSome, is_some, map, string_bytes}
+use Rattle.clap.specs.Words.{app_of, found_of, is_simple_and_free, matches_of, rows_of}
+use Rattle.clap.specs.declared.parser.matches.ArgMatches.{ArgMatches}
+use Rattle.job_tools.proofs.Words.{request-found, selfrun-is_simple}
+use Rattle.job_tools.proofs.request.request_of.Goals as goal
+
+pub parse-requires : goal.parse-requires
+parse-requires c = ap is_simple_and_free c.in_ok-command.ensures ∙ selfrun-is_simple
+
+pub returns-in-Some : goal.returns-in-Some
+returns-in-Some c =
+    let words = map string_bytes c.args.words.now in
+    let app = app_of c.in_ok-command.command in
+    let holds : Option ArgMatches → Type 0 = λ found. IfSome found (λ m. rows_of (found_of m) ≡ matches_of app words) in
+    request-found words app (rows_of (found_of c.in-Some.matches)) c.value.result c.value-2.result c.value-3.result
+    c.device_given-device.result c.seed_given-seed.result c.events_given-events.result c.wanted.result c.in_ok-command.ensures
+    (ap is_some (sym c.in-Some.is) ∙ c.in_ok-matches.ensures.taken) (subst holds c.in-Some.is c.in_ok-matches.ensures.rows) c.value.ensures c.value-2.ensures c.value-3.ensures
+    c.device_given-device.ensures c.seed_given-seed.ensures c.events_given-events.ensures c.wanted.ensures

@@ -1,0 +1,200 @@
+// `selfrun`: a design that a number makes, through all parts.
+ghost use Rattle.std.specs.Prelude.{◌≡◌, List, None, IfOk, IfErr, length, map, string_bytes};
+ghost use Rattle.ice_image.specs.Either.{configuration_of};
+ghost use Rattle.chipdb_reader.specs.Kept.{database_in};
+ghost use Rattle.bin_stream.specs.CanonicalBytes.{canonical_bytes};
+ghost use Rattle.fabric_rules.specs.Fabric.{fabric_of};
+ghost use Rattle.fabric_rules.specs.Faults.{design_fault};
+ghost use Rattle.fabric_rules.specs.Steps.{Entry, IsRun};
+ghost use Rattle.fabric_rules.specs.Unique.{ExactlyOne};
+ghost use Rattle.fabric.specs.Design.{IsDesignOf};
+ghost use Rattle.tool_run.specs.Runs.{Does, outside, scene};
+ghost use Rattle.tool_run.specs.Tasks.{Answer, Done, at_once};
+ghost use Rattle.job_tools.specs.Counted.{counts_of};
+ghost use Rattle.job_tools.specs.Inside.{StopsAs};
+ghost use Rattle.job_tools.specs.Selfrun.{IsAnswer, IsAnswerWith, IsCounted, IsSelfrunAnswer, image_for, run_events, selfrun_name, selfrun_outcome};
+
+use crate::counting::{Packed, explained_lines, pack, run};
+use crate::counts::{Counts, text_of};
+use crate::request::{Request, SELFRUN_HELP, SELFRUN_USAGE, request_of};
+use chipdb_reader::ChipDb;
+use design_tools::design_stop;
+use fabric::{Design, design};
+use fabric_tools::read_database;
+use ice_gen::{chipdb, image};
+use ice_image::AnyImage;
+use ice_io::{Files, Sink, Source};
+use std::alloc::{AllocError, Global};
+use tool_run::{AtOnce, Job, Stop, Tool, answer_at_once, asks_for_help, give_up, perform};
+
+/// Tells a text that was made.
+#[derive(Clone, Copy, Debug, PartialEq, Eq)]
+pub(crate) struct Telling<'a> {
+    pub(crate) text: &'a [u8],
+}
+
+impl<'a> Tool for Telling<'a> {
+    ghost use Rattle.tool_run.specs.Tasks.{Done};
+
+    ghost answer_of = { λ tool texts. Done tool.text.now };
+
+    fn answer(&self, alloc: Global, _loaded: &Vec<Vec<u8>>) -> Result<Vec<u8>, Stop> {
+        Ok(Vec::from_slice(alloc, self.text)?)
+    }
+}
+
+// What is counted of a design and of its run.
+fn counted(
+    alloc: Global,
+    request: Request,
+    db: &ChipDb,
+    packed: &Packed,
+    design: &Design,
+) -> Result<Counts, AllocError>
+    requires design { IsDesignOf (database_in db.now) (image_for request) design.now }
+    requires image { configuration_of packed.now.image ≡ image_for request }
+    requires bytes { packed.now.bytes ≡ length (canonical_bytes (image_for request)) }
+    ensures { IfOk result (λ counts. (entries : List Entry) → IsRun (fabric_of (database_in db.now) (image_for request)) (run_events request (database_in db.now)) entries
+        → counts ≡ counts_of (database_in db.now) (image_for request) (run_events request (database_in db.now)) entries) }
+{
+    let explained = explained_lines(alloc, db, &packed.image)?;
+    let ran = run(alloc, design, request)?;
+    Ok(Counts {
+        bin: packed.bytes,
+        nets: db.net_count(),
+        cells: design.lcs().len(),
+        rams: design.rams().len(),
+        wires: design.order().len(),
+        events: ran.events,
+        explained,
+        ones: ran.ones,
+    })
+}
+
+// What is told of a design.
+fn design_text(
+    alloc: Global,
+    request: Request,
+    db: &ChipDb,
+    packed: &Packed,
+    design: &Design,
+) -> Result<Vec<u8>, AllocError>
+    requires design { IsDesignOf (database_in db.now) (image_for request) design.now }
+    requires image { configuration_of packed.now.image ≡ image_for request }
+    requires bytes { packed.now.bytes ≡ length (canonical_bytes (image_for request)) }
+    ensures { IfOk result (λ text. (entries : List Entry) → IsRun (fabric_of (database_in db.now) (image_for request)) (run_events request (database_in db.now)) entries
+        → IsCounted request (database_in db.now) (Done text.items)) }
+{
+    let counts = counted(alloc, request, db, packed, design)?;
+    text_of(alloc, request.device, &counts)
+}
+
+// What is told of a database and an image.
+fn told_of(
+    alloc: Global,
+    request: Request,
+    db: &ChipDb,
+    image: &AnyImage,
+) -> Result<Vec<u8>, Stop>
+    requires { configuration_of image.now ≡ image_for request }
+    ensures bytes { IfOk result (λ bytes. IsAnswerWith request (database_in db.now) (design_fault (database_in db.now) (image_for request)) (Done bytes.items)) }
+    ensures stops { IfErr result (StopsAs (IsAnswerWith request (database_in db.now) (design_fault (database_in db.now) (image_for request)))) }
+{
+    let packed = pack(alloc, image)?;
+    match design(alloc, db, &packed.image) {
+        Ok(design) => Ok(design_text(alloc, request, db, &packed, &design)?),
+        Err(fault) => Err(design_stop(&fault)),
+    }
+}
+
+// What is told of a request.
+fn told(alloc: Global, request: Request) -> Result<Vec<u8>, Stop>
+    ensures bytes { IfOk result (λ bytes. IsAnswer request (Done bytes.items)) }
+    ensures stops { IfErr result (StopsAs (IsAnswer request)) }
+{
+    let text = chipdb(alloc, request.device)?;
+    let image = image(alloc, request.device, request.seed)?;
+    let db = read_database(alloc, &text)?;
+    told_of(alloc, request, &db, &image)
+}
+
+// Tells what is made of a request.
+fn tell<F: Files, I: Source, O: Sink, E: Sink>(
+    alloc: Global,
+    request: Request,
+    files: &mut F,
+    input: &mut I,
+    output: &mut O,
+    errors: &mut E,
+) -> u8
+    ensures { (answer : Answer) → IsAnswer request answer
+        → Does (outside F.contents F.steady F.load_faults F.store_faults I.left I.faults O.held O.faults E.held E.faults)
+        (at_once selfrun_name None answer) result
+        (scene files.old input.old output.old errors.old) (scene files.new input.new output.new errors.new) }
+{
+    let speaker = "selfrun";
+    match told(alloc, request) {
+        Ok(text) => {
+            let job = Job {
+                speaker,
+                loads: &[],
+                target: None,
+            };
+            let tool = Telling { text: &text };
+            perform(alloc, &tool, &job, files, input, output, errors)
+        }
+        Err(Stop::Refused(refusal)) => {
+            let answer = AtOnce::Refuses(refusal);
+            answer_at_once(alloc, speaker, answer, files, input, output, errors)
+        }
+        Err(Stop::NotTaken(_)) => unreachable!(),
+        Err(Stop::Memory) => give_up(speaker, files, input, output, errors),
+    }
+}
+
+// Does what the words ask for.
+fn do_words<F: Files, I: Source, O: Sink, E: Sink>(
+    alloc: Global,
+    words: &[String],
+    files: &mut F,
+    input: &mut I,
+    output: &mut O,
+    errors: &mut E,
+) -> u8
+    ensures { (answer : Answer) → IsSelfrunAnswer (map string_bytes words.now) answer
+        → Does (outside F.contents F.steady F.load_faults F.store_faults I.left I.faults O.held O.faults E.held E.faults)
+        (at_once selfrun_name None answer) result
+        (scene files.old input.old output.old errors.old) (scene files.new input.new output.new errors.new) }
+{
+    let speaker = "selfrun";
+    match request_of(alloc, words) {
+        Ok(Some(request)) => tell(alloc, request, files, input, output, errors),
+        Ok(None) => {
+            let answer = AtOnce::NotTaken(SELFRUN_USAGE);
+            answer_at_once(alloc, speaker, answer, files, input, output, errors)
+        }
+        Err(AllocError) => give_up(speaker, files, input, output, errors),
+    }
+}
+
+/// Runs `selfrun` with these words, of which the first is its name.
+pub fn run_selfrun<F: Files, I: Source, O: Sink, E: Sink>(
+    alloc: Global,
+    words: &[String],
+    files: &mut F,
+    input: &mut I,
+    output: &mut O,
+    errors: &mut E,
+) -> u8
+    ensures one_answer { ExactlyOne (IsSelfrunAnswer (map string_bytes words.now)) }
+    ensures does { (answer : Answer) → IsSelfrunAnswer (map string_bytes words.now) answer
+        → Does (outside F.contents F.steady F.load_faults F.store_faults I.left I.faults O.held O.faults E.held E.faults)
+        (selfrun_outcome (map string_bytes words.now) answer) result
+        (scene files.old input.old output.old errors.old) (scene files.new input.new output.new errors.new) }
+{
+    if asks_for_help(words) {
+        let answer = AtOnce::Tells(SELFRUN_HELP);
+        return answer_at_once(alloc, "selfrun", answer, files, input, output, errors);
+    }
+    do_words(alloc, words, files, input, output, errors)
+}

@@ -1,6 +1,7 @@
 mod Answer
 mod SameCounts
 mod PinEvents
+mod Devices
 mod Ran
 mod Runs
 mod Seeds

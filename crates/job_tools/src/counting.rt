@@ -55,6 +55,7 @@ pub(crate) fn pack(alloc: Global, image: &AnyImage) -> Result<Packed, AllocError
 }
 
 /// How many lines a text has.
+#[tactic(auto, unfolding(text_lines::specs::Lines::lines_of))]
 fn line_count(text: &[u8]) -> usize
     ensures { result ≡ length (lines_of text.now) }
 {
@@ -68,6 +69,7 @@ fn line_count(text: &[u8]) -> usize
 }
 
 /// How many lines explain an image by a database for its device.
+#[tactic(auto, using(crate::proofs::Devices::no_fault))]
 pub(crate) fn explained_lines(
     alloc: Global,
     db: &ChipDb,

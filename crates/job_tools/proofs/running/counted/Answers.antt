@@ -1,0 +1,31 @@
+use Rattle.std.proofs.Common.{◌≡◌, ◌∙◌, List, ap, length, sym}
+use Rattle.std.specs.Prelude.{None}
+use Rattle.ice_image.specs.Configuration.{Configuration}
+use Rattle.text_lines.specs.Lines.{lines_of}
+use Rattle.chipdb_reader.specs.Kept.{database_in}
+use Rattle.tile_bits.specs.Explained.{explained}
+use Rattle.fabric_rules.specs.Fabric.{fabric_of}
+use Rattle.fabric_rules.specs.Wiring.{wiring_of}
+use Rattle.design_tools.proofs.Order.{order-is}
+use Rattle.job_tools.specs.Counted.{counts_of}
+use Rattle.job_tools.specs.Selfrun.{image_for, run_events}
+use Rattle.job_tools.proofs.Devices.{taken-device}
+use Rattle.job_tools.proofs.SameCounts.{same-counts}
+use Rattle.job_tools.proofs.running.counted.Goals as goal
+
+pub explained_lines-requires : goal.explained_lines-requires
+explained_lines-requires c =
+    taken-device (database_in c.args.db.now) (image_for c.args.request) c.requires.design.taken
+    ∙ ap (λ (image : Configuration). image.device) (sym c.requires.image)
+
+pub returns : goal.returns
+unfolding counts_of fabric_of
+returns c entries run =
+    let db = database_in c.args.db.now in
+    let image = image_for c.args.request in
+    let design = c.args.design.now in
+    let kept = c.requires.design.kept in
+    let ran = c.in_ok-ran.ensures db image c.requires.design in
+    same-counts _ _ c.requires.bytes c.net_count.ensures (ap length (c.lcs.ensures.lcs ∙ kept.parts.lcs)) (ap length (c.rams.ensures.rams ∙ kept.parts.rams))
+    (ap length (c.order.ensures.order ∙ order-is (wiring_of (fabric_of db image)) design.order kept.order)) ran.events
+    (c.in_ok-explained.ensures ∙ ap (λ (one : Configuration). length (lines_of (explained db one None))) c.requires.image) (ran.ones entries run)

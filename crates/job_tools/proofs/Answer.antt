@@ -1,21 +1,25 @@
 -- The words have exactly one answer.
-use Rattle.std.proofs.Common.{◌≡◌, ℕ, List, refl, sym, ap, ◌∙◌, subst, tt}
+use Rattle.std.proofs.Common.{◌≡◌, ℕ, List, refl, sym, ap, ◌∙◌, subst}
 use Rattle.std.specs.Prelude.{Option, Some, None, Result, Ok, Err}
+use Rattle.plane_map.specs.declared.device.DeviceName.{DeviceName}
 use Rattle.chipdb_reader.specs.Database.{Database}
 use Rattle.chipdb_reader.specs.Fit.{IsFit}
 use Rattle.ice_gen.specs.Database.{generated_database}
 use Rattle.fabric_rules.specs.Faults.{Fault, design_fault}
-use Rattle.fabric_rules.specs.Fabric.{fabric_of}
+use Rattle.fabric_rules.specs.Fabric.{Fabric, fabric_of}
 use Rattle.fabric_rules.specs.Steps.{Event, Entry, IsRun}
 use Rattle.fabric_rules.specs.Unique.{ExactlyOne}
 use Rattle.fabric_rules.proofs.Runs.{design-run}
+use Rattle.fabric.specs.declared.fault.FabricFault.{FabricFault}
+use Rattle.fabric.specs.Faults.{IsCause}
 use Rattle.tool_run.specs.Lines.{usage_text, refusal_text}
 use Rattle.tool_run.specs.Tasks.{Answer, Done, Refused, NotTaken}
 use Rattle.tool_run.specs.declared.tool.Stop.{Stop}
 use Rattle.tool_run.specs.declared.tool.Stop.TheVariants as stop
 use Rattle.fabric_tools.specs.Databases.{StopsDatabase, database_read}
-use Rattle.design_tools.specs.Faults.{StopsFor, design_fault_text}
+use Rattle.design_tools.specs.Faults.{StopsFor, design_fault_text, told_fault}
 use Rattle.design_tools.proofs.Databases.{read-fit}
+use Rattle.design_tools.proofs.Written.{cause-told}
 use Rattle.job_tools.specs.declared.request.Request.{Request}
 use Rattle.job_tools.specs.Counted.{counts_of, counts_text}
 use Rattle.job_tools.specs.Inside.{StopsAs}
@@ -63,7 +67,7 @@ counted-answer request db answer none runs counted =
     subst (λ (fault : Option Fault). IsAnswerWith request db fault answer) (sym none) (counted run.it run.is)
 
 -- a design that isn't taken
-pub design-stops : (request : Request) (db : Database) (cause told : Option Fault) (stopped : Stop) → ((one : Fault) → told ≡ Some one → cause ≡ Some one) → StopsFor told stopped
+design-stops : (request : Request) (db : Database) (cause told : Option Fault) (stopped : Stop) → ((one : Fault) → told ≡ Some one → cause ≡ Some one) → StopsFor told stopped
     → StopsAs (IsAnswerWith request db cause) stopped
 design-stops request db cause (Some fault) (stop.Refused refusal) same stops =
     subst (λ (cause : Option Fault). IsAnswerWith request db cause (Refused (refusal_text refusal))) (sym (same fault refl)) (sym (ap Refused stops))
@@ -73,12 +77,13 @@ design-stops request db cause (Some fault) (stop.NotTaken refusal) same stops = 
 design-stops request db cause None (stop.Refused refusal) same stops = absurd stops
 design-stops request db cause None (stop.NotTaken refusal) same stops = absurd stops
 
--- a text that isn't taken
-pub database-stops : (request : Request) (read : Result Database (List ℕ)) (stopped : Stop) → StopsDatabase read stopped → StopsAs (IsAnswerBy request read) stopped
-database-stops request read (stop.Refused refusal) stops = subst (λ (read : Result Database (List ℕ)). IsAnswerBy request read (Refused (refusal_text refusal))) (sym stops) refl
-database-stops request read (stop.NotTaken refusal) stops = absurd stops
-database-stops request read stop.Memory stops = tt
+pub told_stops : (request : Request) (db : Database) (device : DeviceName) (fabric : Fabric) (cause : Option Fault) (fault : FabricFault) (stopped : Stop)
+    → IsCause device fabric cause fault → StopsFor (told_fault fault) stopped → StopsAs (IsAnswerWith request db cause) stopped
+told_stops request db device fabric cause fault stopped is stops =
+    design-stops request db cause (told_fault fault) stopped (λ one told. cause-told device fabric cause fault one is told) stops
 
--- the answers by another reading
-pub stops-same : (request : Request) (one other : Result Database (List ℕ)) (stopped : Stop) → one ≡ other → StopsAs (IsAnswerBy request one) stopped → StopsAs (IsAnswerBy request other) stopped
-stops-same request one other stopped same stops = subst (λ (read : Result Database (List ℕ)). StopsAs (IsAnswerBy request read) stopped) same stops
+-- a text that isn't taken
+pub database_stops : (request : Request) (read : Result Database (List ℕ)) (stopped : Stop) → StopsDatabase read stopped → StopsAs (IsAnswerBy request read) stopped
+database_stops request read (stop.Refused refusal) stops = subst (λ (read : Result Database (List ℕ)). IsAnswerBy request read (Refused (refusal_text refusal))) (sym stops) refl
+database_stops request read (stop.NotTaken refusal) stops = absurd stops
+database_stops request read stop.Memory stops = tt

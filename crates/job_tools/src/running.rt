@@ -10,9 +10,10 @@ ghost use Rattle.fabric_rules.specs.Unique.{ExactlyOne};
 ghost use Rattle.fabric.specs.Design.{IsDesignOf};
 ghost use Rattle.tool_run.specs.Runs.{Does, outside, scene};
 ghost use Rattle.tool_run.specs.Tasks.{Answer, Done, at_once};
+ghost use Rattle.fabric_tools.specs.Databases.{database_read};
 ghost use Rattle.job_tools.specs.Counted.{counts_of};
 ghost use Rattle.job_tools.specs.Inside.{StopsAs};
-ghost use Rattle.job_tools.specs.Selfrun.{IsAnswer, IsAnswerWith, IsCounted, IsSelfrunAnswer, image_for, run_events, selfrun_name, selfrun_outcome};
+ghost use Rattle.job_tools.specs.Selfrun.{IsAnswer, IsAnswerBy, IsAnswerWith, IsCounted, IsSelfrunAnswer, image_for, run_events, selfrun_name, selfrun_outcome};
 
 use crate::counting::{Packed, explained_lines, pack, run};
 use crate::counts::{Counts, text_of};
@@ -89,6 +90,24 @@ fn design_text(
     text_of(alloc, request.device, &counts)
 }
 
+// What is told of a database and an image that was packed.
+fn told_by(
+    alloc: Global,
+    request: Request,
+    db: &ChipDb,
+    packed: &Packed,
+) -> Result<Vec<u8>, Stop>
+    requires image { configuration_of packed.now.image ≡ image_for request }
+    requires bytes { packed.now.bytes ≡ length (canonical_bytes (image_for request)) }
+    ensures bytes { IfOk result (λ bytes. IsAnswerWith request (database_in db.now) (design_fault (database_in db.now) (image_for request)) (Done bytes.items)) }
+    ensures stops { IfErr result (StopsAs (IsAnswerWith request (database_in db.now) (design_fault (database_in db.now) (image_for request)))) }
+{
+    match design(alloc, db, &packed.image) {
+        Ok(design) => Ok(design_text(alloc, request, db, packed, &design)?),
+        Err(fault) => Err(design_stop(&fault)),
+    }
+}
+
 // What is told of a database and an image.
 fn told_of(
     alloc: Global,
@@ -101,10 +120,23 @@ fn told_of(
     ensures stops { IfErr result (StopsAs (IsAnswerWith request (database_in db.now) (design_fault (database_in db.now) (image_for request)))) }
 {
     let packed = pack(alloc, image)?;
-    match design(alloc, db, &packed.image) {
-        Ok(design) => Ok(design_text(alloc, request, db, &packed, &design)?),
-        Err(fault) => Err(design_stop(&fault)),
-    }
+    told_by(alloc, request, db, &packed)
+}
+
+// What is told of the text of a database and an image.
+#[tactic(auto, using(crate::proofs::Answer::database_stops))]
+fn told_from(
+    alloc: Global,
+    request: Request,
+    text: &[u8],
+    image: &AnyImage,
+) -> Result<Vec<u8>, Stop>
+    requires { configuration_of image.now ≡ image_for request }
+    ensures bytes { IfOk result (λ bytes. IsAnswerBy request (database_read text.now) (Done bytes.items)) }
+    ensures stops { IfErr result (StopsAs (IsAnswerBy request (database_read text.now))) }
+{
+    let db = read_database(alloc, text)?;
+    told_of(alloc, request, &db, image)
 }
 
 // What is told of a request.
@@ -114,8 +146,7 @@ fn told(alloc: Global, request: Request) -> Result<Vec<u8>, Stop>
 {
     let text = chipdb(alloc, request.device)?;
     let image = image(alloc, request.device, request.seed)?;
-    let db = read_database(alloc, &text)?;
-    told_of(alloc, request, &db, &image)
+    told_from(alloc, request, &text, &image)
 }
 
 // Tells what is made of a request.

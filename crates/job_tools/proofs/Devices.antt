@@ -1,12 +1,12 @@
 -- An image is explained by a database for its device, and a design has such a database.
-use Rattle.std.proofs.Common.{◌≡◌, true, List, [], ◌∷◌, refl}
-use Rattle.std.specs.Prelude.{Option, None, if◌then◌else◌}
+use Rattle.std.proofs.Common.{◌≡◌, true, [], ◌∷◌, refl}
+use Rattle.std.specs.Prelude.{None, if◌then◌else◌}
 use Rattle.plane_map.specs.declared.device.DeviceName.{DeviceName}
 use Rattle.plane_map.specs.declared.device.DeviceName.TheVariants.{K1, K8}
 use Rattle.ice_image.specs.Configuration.{Configuration}
 use Rattle.chipdb_reader.specs.Database.{Database}
 use Rattle.fabric_rules.specs.Faults.{Fault, design_fault, device_faults, is_same_device as is_for_device}
-use Rattle.fabric_rules.proofs.Taken.{IsTaken, design-taken}
+use Rattle.fabric_rules.proofs.Taken.{design-taken}
 use Rattle.tile_bits.specs.Explained.{explain_fault_of, is_same_device}
 
 same-device : (device : DeviceName) → is_same_device device device ≡ true

@@ -1,18 +1,14 @@
 -- Events by their pins.
-use Rattle.std.proofs.Common.{◌≡◌, ℕ, ◌+◌, ◌<◌, List, [], ◌∷◌, ◌++◌, ap, append-nil, get_or, length, refl, sym, take, ◌∙◌, map, rules, subst}
-use Rattle.std.specs.Prelude.{All, flat_map, position, Option, Some, None, filter, not}
+use Rattle.std.proofs.Common.{◌≡◌, ℕ, ◌+◌, ◌<◌, List, [], ◌∷◌, ◌++◌, ap, append-nil, get_or, length, refl, take, ◌∙◌, map, rules}
+use Rattle.std.specs.Prelude.{All, position, Option, Some, None}
 use Rattle.std.proofs.lemmas.List.{take_more, map-append}
 use Rattle.std.proofs.lemmas.List.Concat.{flat_map-append}
-use Rattle.std.proofs.lemmas.List.Elements.{All-map, All-append}
+use Rattle.std.proofs.lemmas.List.Elements.{All-append}
 use Rattle.std.proofs.lemmas.List.Quantifiers.{position-Some}
-use Rattle.vlog_cycle.specs.declared.event.Event.{Event as ModuleEvent}
-use Rattle.vlog_cycle.specs.Run.{input_names}
 use Rattle.ice_gen.specs.declared.event.PinEvent.{PinEvent}
 use Rattle.fabric_rules.specs.declared.pin.Pin.{Pin}
 use Rattle.fabric_rules.specs.Steps.{Event}
 use Rattle.vlog_emit.specs.Matching.{module_event}
-use Rattle.vlog_emit.specs.Written.{port_of}
-use Rattle.vlog_emit.proofs.Beginning.{inputs-start}
 use Rattle.job_tools.specs.Counted.{event_at, event_for, events_for, is_pin_of}
 
 -- one event more

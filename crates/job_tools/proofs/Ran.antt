@@ -1,6 +1,6 @@
 -- The run of a design's module is that of its fabric.
-use Rattle.std.proofs.Common.{◌≡◌, ℕ, ◌<◌, Bool, false, List, length, map, refl, sym, ap, ◌∙◌, subst}
-use Rattle.std.specs.Prelude.{All, filter, flat_map, not}
+use Rattle.std.proofs.Common.{◌≡◌, ℕ, ◌<◌, Bool, false, List, length, map, sym, ap, ◌∙◌, subst}
+use Rattle.std.specs.Prelude.{All, filter, not}
 use Rattle.std.proofs.lemmas.List.{length-map}
 use Rattle.std.proofs.lemmas.List.Elements.{All-map}
 use Rattle.ice_image.specs.Configuration.{Configuration}
@@ -12,8 +12,7 @@ use Rattle.vlog_cycle.specs.declared.event.Event.{Event as ModuleEvent}
 use Rattle.vlog_cycle.specs.Named.{names_of}
 use Rattle.vlog_cycle.specs.Run.{input_names, module_run}
 use Rattle.fabric_rules.specs.declared.pin.Pin.{Pin}
-use Rattle.fabric_rules.specs.Fabric.{fabric_of, inputs_of}
-use Rattle.fabric_rules.specs.Steps.{Event, Entry, IsRun}
+use Rattle.fabric_rules.specs.Fabric.{fabric_of}
 use Rattle.fabric.specs.Kept.{Kept}
 use Rattle.fabric.specs.Design.{IsDesignOf, IsDesign}
 use Rattle.vlog_emit.specs.Matching.{module_event}
@@ -23,7 +22,7 @@ use Rattle.vlog_emit.proofs.Beginning.{inputs-start}
 use Rattle.vlog_write.specs.Runs.{RunsAs}
 use Rattle.job_tools.specs.declared.counting.Ran.{Ran}
 use Rattle.job_tools.specs.Counted.{events_for, ones_in}
-use Rattle.job_tools.specs.Inside.{HasRun, IsRunOf, fabric_events, module_bits}
+use Rattle.job_tools.specs.Inside.{IsRunOf, fabric_events, module_bits}
 use Rattle.job_tools.proofs.PinEvents.{events-among}
 use Rattle.job_tools.proofs.Runs.{bits-alike}
 
@@ -49,9 +48,9 @@ inputs-named design name made m events is module_is events_are =
     let pins = (fabric_of db image).pins in
     let ports : m.ports ≡ map port_of pins = ap (λ (one : Parts). one.ports) (module_is db image is.2) in
     let count : length design.inputs ≡ length (input_names m.ports) =
-        ap (λ (list : List Pin). length list) kept.inputs ∙ sym (ap (λ (list : List Port). length (input_names list)) ports ∙ inputs-count pins) in
+    ap (λ (list : List Pin). length list) kept.inputs ∙ sym (ap (λ (list : List Port). length (input_names list)) ports ∙ inputs-count pins) in
     let among : All (λ (event : ModuleEvent). event.pin < length design.inputs) (map module_event (events_for design.inputs made)) =
-        All-map (λ (event : ModuleEvent). event.pin < length design.inputs) module_event (events_for design.inputs made) (events-among design.inputs made) in
+    All-map (λ (event : ModuleEvent). event.pin < length design.inputs) module_event (events_for design.inputs made) (events-among design.inputs made) in
     subst (λ (n : ℕ). All (λ (event : ModuleEvent). event.pin < n) events) count
     (subst (All (λ (event : ModuleEvent). event.pin < length design.inputs)) (sym events_are) among)
 

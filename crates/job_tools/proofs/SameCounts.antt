@@ -9,5 +9,5 @@ pub same-counts : (one other : Counts) → one.bin ≡ other.bin → one.nets �
     → one.events ≡ other.events → one.explained ≡ other.explained → one.ones ≡ other.ones → one ≡ other
 same-counts one other bin nets cells rams wires events explained ones =
     let same : counts_by one.bin one.nets one.cells one.rams one.wires one.events one.explained one.ones
-        ≡ counts_by other.bin other.nets other.cells other.rams other.wires other.events other.explained other.ones = cc in
+    ≡ counts_by other.bin other.nets other.cells other.rams other.wires other.events other.explained other.ones = cc in
     same

@@ -1,6 +1,6 @@
 -- The command line of `selfrun`: it is simple, and what is found in the words is the request.
-use Rattle.std.proofs.Common.{◌≡◌, ◌∙◌, Bool, true, false, ℕ, List, refl, sym, ap}
-use Rattle.std.specs.Prelude.{Option, None, Some, option_map, codes, if◌then◌else◌}
+use Rattle.std.proofs.Common.{◌≡◌, ◌∙◌, Bool, true, ℕ, List, refl, sym, ap}
+use Rattle.std.specs.Prelude.{Option, None, option_map, codes, if◌then◌else◌}
 use Rattle.std.specs.Borrow.{Bor}
 use Rattle.clap.specs.Words.{App, Row, Text, first_of, is_simple_and_free, matches_of}
 use Rattle.clap.proofs.OnLiterals.{clap_on_literals}

@@ -1,5 +1,5 @@
 -- What is counted of a generated design and of its run.
-use Rattle.std.specs.Prelude.{ℕ, ◌+◌, Bool, ◌&&◌, ◌==◌, List, [], ◌∷◌, ◌++◌, length, map, filter, flat_map, position, codes, decimal, if◌then◌else◌, Option, None, Some}
+use Rattle.std.specs.Prelude.{ℕ, ◌+◌, Bool, ◌&&◌, ◌==◌, List, [], ◌∷◌, ◌++◌, length, filter, flat_map, position, codes, decimal, if◌then◌else◌, Option, None, Some}
 use Rattle.text_lines.specs.Lines.{lines_of}
 use Rattle.text_lines.specs.Written.{text_of}
 use Rattle.plane_map.specs.declared.device.DeviceName.{DeviceName}

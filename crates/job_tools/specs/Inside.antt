@@ -1,5 +1,5 @@
 -- What holds along the way. Only contracts within this crate cite this.
-use Rattle.std.specs.Prelude.{◌≡◌, ℕ, Bool, List, [], codes, length, flat_map, map}
+use Rattle.std.specs.Prelude.{◌≡◌, Bool, List, length, flat_map}
 use Rattle.ice_image.specs.Configuration.{Configuration}
 use Rattle.chipdb_reader.specs.Database.{Database}
 use Rattle.ice_gen.specs.declared.event.PinEvent.{PinEvent}

@@ -55,11 +55,7 @@ fn append_device(text: &mut Vec<u8>, device: DeviceName) -> Result<(), AllocErro
 
 /// Appends the lines of the design.
 #[tactic(auto, using(asc_text::proofs::Pieces::joined))]
-fn append_design(
-    text: &mut Vec<u8>,
-    device: DeviceName,
-    counts: &Counts,
-) -> Result<(), AllocError>
+fn append_design(text: &mut Vec<u8>, device: DeviceName, counts: &Counts) -> Result<(), AllocError>
     ensures { OnOk result (text.new.items ≡ text.old.items ++ text_of (design_lines device counts.now)) }
 {
     append_device(text, device)?;

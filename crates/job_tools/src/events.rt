@@ -30,11 +30,7 @@ fn place_of(event: PinEvent, inputs: &[Pin]) -> Option<usize>
 }
 
 /// Adds an event, where its pin is among the input pins.
-fn push_event(
-    events: &mut Vec<Event>,
-    inputs: &[Pin],
-    event: PinEvent,
-) -> Result<(), AllocError>
+fn push_event(events: &mut Vec<Event>, inputs: &[Pin], event: PinEvent) -> Result<(), AllocError>
     ensures { OnOk result (events.new.items ≡ events.old.items ++ map module_event (event_for inputs.now event)) }
 {
     if let Some(pin) = place_of(event, inputs) {

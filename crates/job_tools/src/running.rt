@@ -91,12 +91,7 @@ fn design_text(
 }
 
 // What is told of a database and an image that was packed.
-fn told_by(
-    alloc: Global,
-    request: Request,
-    db: &ChipDb,
-    packed: &Packed,
-) -> Result<Vec<u8>, Stop>
+fn told_by(alloc: Global, request: Request, db: &ChipDb, packed: &Packed) -> Result<Vec<u8>, Stop>
     requires image { configuration_of packed.now.image ≡ image_for request }
     requires bytes { packed.now.bytes ≡ length (canonical_bytes (image_for request)) }
     ensures bytes { IfOk result (λ bytes. IsAnswerWith request (database_in db.now) (design_fault (database_in db.now) (image_for request)) (Done bytes.items)) }
@@ -109,12 +104,7 @@ fn told_by(
 }
 
 // What is told of a database and an image.
-fn told_of(
-    alloc: Global,
-    request: Request,
-    db: &ChipDb,
-    image: &AnyImage,
-) -> Result<Vec<u8>, Stop>
+fn told_of(alloc: Global, request: Request, db: &ChipDb, image: &AnyImage) -> Result<Vec<u8>, Stop>
     requires { configuration_of image.now ≡ image_for request }
     ensures bytes { IfOk result (λ bytes. IsAnswerWith request (database_in db.now) (design_fault (database_in db.now) (image_for request)) (Done bytes.items)) }
     ensures stops { IfErr result (StopsAs (IsAnswerWith request (database_in db.now) (design_fault (database_in db.now) (image_for request)))) }

@@ -1,4 +1,4 @@
-use Rattle.std.proofs.Common.{◌≡◌, ◌<◌, ◌+◌, ◌++◌, false, get_or, append-nil, ap, ap₂, arith, flat_map, length, subst, sym, take, take_all, ◌∙◌}
+use Rattle.std.proofs.Common.{◌<◌, ◌+◌, false, get_or, append-nil, ap, ap₂, arith, length, subst, sym, take, take_all, ◌∙◌}
 use Rattle.vlog_cycle.specs.declared.event.Event.{Event}
 use Rattle.vlog_cycle.specs.Named.{values_of}
 use Rattle.vlog_cycle.specs.Run.{followed, module_run, run_from, start}

@@ -1,4 +1,4 @@
-use Rattle.std.proofs.Common.{◌≡◌, ◌∙◌, List, ap, length, sym}
+use Rattle.std.proofs.Common.{◌∙◌, ap, length, sym}
 use Rattle.std.specs.Prelude.{None}
 use Rattle.ice_image.specs.Configuration.{Configuration}
 use Rattle.text_lines.specs.Lines.{lines_of}
@@ -8,7 +8,7 @@ use Rattle.fabric_rules.specs.Fabric.{fabric_of}
 use Rattle.fabric_rules.specs.Wiring.{wiring_of}
 use Rattle.design_tools.proofs.Order.{order-is}
 use Rattle.job_tools.specs.Counted.{counts_of}
-use Rattle.job_tools.specs.Selfrun.{image_for, run_events}
+use Rattle.job_tools.specs.Selfrun.{image_for}
 use Rattle.job_tools.proofs.Devices.{taken-device}
 use Rattle.job_tools.proofs.SameCounts.{same-counts}
 use Rattle.job_tools.proofs.running.counted.Goals as goal

@@ -1,4 +1,4 @@
-use Rattle.std.proofs.Common.{◌≡◌, ◌∙◌, ap, refl, subst, sym}
+use Rattle.std.proofs.Common.{◌∙◌, ap, refl, subst, sym}
 use Rattle.std.specs.Prelude.{None, Option}
 use Rattle.tool_run.specs.Tasks.{at_once}
 use Rattle.tool_run.proofs.Same.{Does-same}

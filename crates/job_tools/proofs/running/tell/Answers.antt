@@ -1,4 +1,4 @@
-use Rattle.std.proofs.Common.{◌≡◌, ◌∙◌, ap, refl, subst}
+use Rattle.std.proofs.Common.{◌∙◌, ap, refl, subst}
 use Rattle.std.specs.Prelude.{None, Some}
 use Rattle.tool_run.specs.declared.line.Refusal.{Refusal}
 use Rattle.tool_run.specs.Lines.{refusal_text}

@@ -8,8 +8,6 @@ use Rattle.fabric_rules.specs.Steps.{Event, IsRun}
 use Rattle.fabric_rules.specs.Unique.{ExactlyOne}
 use Rattle.fabric.specs.Design.{IsDesignOf}
 use Rattle.fabric.specs.Faults.{IsCause}
-use Rattle.tool_run.specs.Tasks.{Done}
-use Rattle.job_tools.specs.Selfrun.{image_for}
 use Rattle.job_tools.proofs.Answer.{counted-answer, told_stops}
 use Rattle.job_tools.proofs.running.told_by.Goals as goal
 

@@ -1,4 +1,4 @@
-use Rattle.std.proofs.Common.{◌≡◌, List, ℕ, sym, subst}
+use Rattle.std.proofs.Common.{List, ℕ, sym, subst}
 use Rattle.std.specs.Prelude.{IfOk, IfErr, Result}
 use Rattle.chipdb_reader.specs.Database.{Database}
 use Rattle.tool_run.specs.Tasks.{Done}

@@ -19,9 +19,10 @@ use Rattle.fabric.proofs.find.design.Goals as goal
 
 pub wire-requires : goal.wire-requires
 wire-requires c =
-    let same : (configuration_of c.args.image.now).device ≡ device_of c.args.image.now = sym c.device-2.ensures.device ∙ c.device-2.ensures.name in
-    (c.in_ok-parts.ensures.parts,
-    rams-kept (database_in c.args.db.now) (configuration_of c.args.image.now) (device_of c.args.image.now) same c.in_ok-parts.parts.rams.items c.in_ok-parts.ensures.parts.rams)
+    let same : (configuration_of c.args.image.now).device ≡ device_of c.args.image.now = sym c.device-2.ensures.device ∙ c.device-2.ensures.name in (
+      c.in_ok-parts.ensures.parts,
+      rams-kept (database_in c.args.db.now) (configuration_of c.args.image.now) (device_of c.args.image.now) same c.in_ok-parts.parts.rams.items c.in_ok-parts.ensures.parts.rams,
+    )
 
 pub returns-in_err-wired-clause-refused : goal.returns-in_err-wired-clause-refused
 returns-in_err-wired-clause-refused c =
@@ -35,12 +36,15 @@ returns-in_err-wired-clause-refused c =
 pub of-requires : goal.of-requires
 of-requires c =
     let db = database_in c.args.db.now in
-    let image = configuration_of c.args.image.now in
-    (db, image, designed db image c.in_ok-parts.ensures.fit c.in_ok-wired.ensures.few c.in_ok-parts.ensures.taken c.in_ok-wired.ensures.taken
-    (device_of c.args.image.now) (sym c.device-2.ensures.device ∙ c.device-2.ensures.name) c.in_ok-parts.parts c.in_ok-parts.ensures.parts
-    c.in_ok-inputs.inputs.items (c.in_ok-inputs.ensures ∙ ap (filter (λ pin. not pin.output)) c.deref.ensures.value)
-    c.in_ok-wired.wired.drivers c.in_ok-wired.ensures.drivers c.in_ok-wired.wired.order.items c.in_ok-wired.ensures.order
-    c.in_ok-wired.wired.ends.items c.in_ok-wired.ensures.ends c.in_ok-wired.wired.words.items c.in_ok-wired.ensures.words)
+    let image = configuration_of c.args.image.now in (
+      db,
+      image,
+      designed db image c.in_ok-parts.ensures.fit c.in_ok-wired.ensures.few c.in_ok-parts.ensures.taken c.in_ok-wired.ensures.taken
+          (device_of c.args.image.now) (sym c.device-2.ensures.device ∙ c.device-2.ensures.name) c.in_ok-parts.parts c.in_ok-parts.ensures.parts
+          c.in_ok-inputs.inputs.items (c.in_ok-inputs.ensures ∙ ap (filter (λ pin. not pin.output)) c.deref.ensures.value)
+          c.in_ok-wired.wired.drivers c.in_ok-wired.ensures.drivers c.in_ok-wired.wired.order.items c.in_ok-wired.ensures.order
+          c.in_ok-wired.wired.ends.items c.in_ok-wired.ensures.ends c.in_ok-wired.wired.words.items c.in_ok-wired.ensures.words,
+    )
 
 pub returns-clause-design : goal.returns-clause-design
 returns-clause-design c =

@@ -15,6 +15,7 @@ use Rattle.fabric.proofs.Refused.{told, fabric-left}
 use Rattle.fabric.proofs.Evidence.{same-cause}
 use Rattle.fabric.specs.Design.{IsDesignOf}
 use Rattle.fabric.proofs.Composed.{rams-kept, designed}
+use Rattle.fabric.proofs.Clocked.{ends-lead, run-has-clocks}
 use Rattle.fabric.proofs.find.design.Goals as goal
 
 pub wire-requires : goal.wire-requires
@@ -77,3 +78,17 @@ returns-clause-one_value c = λ state pins.
     let taken = c.in_ok-parts.ensures.taken in
     let none : fabric_fault image.device (fabric_of db image) ≡ None = subst (λ d. fabric_fault d (fabric_of db image) ≡ None) taken.device c.in_ok-wired.ensures.taken in
     taken-value image.device (fabric_of db image) none (fabric-within db image c.in_ok-parts.ensures.fit) state pins
+
+pub returns-clause-chains : goal.returns-clause-chains
+returns-clause-chains c =
+    let db = database_in c.args.db.now in
+    let image = configuration_of c.args.image.now in
+    let taken = c.in_ok-parts.ensures.taken in
+    ends-lead db image c.in_ok-parts.ensures.fit (fabric-left db image taken ∙ subst (λ d. fabric_fault d (fabric_of db image) ≡ None) taken.device c.in_ok-wired.ensures.taken)
+
+pub returns-clause-clocks : goal.returns-clause-clocks
+returns-clause-clocks c =
+    let db = database_in c.args.db.now in
+    let image = configuration_of c.args.image.now in
+    let taken = c.in_ok-parts.ensures.taken in
+    run-has-clocks db image c.in_ok-parts.ensures.fit (fabric-left db image taken ∙ subst (λ d. fabric_fault d (fabric_of db image) ≡ None) taken.device c.in_ok-wired.ensures.taken)

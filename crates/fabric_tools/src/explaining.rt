@@ -1,20 +1,21 @@
 // `icebox_explain`: what the set bits of an image mean.
-ghost use Rattle.std.specs.Prelude.{◌≡◌, map, string_bytes, IfOk, IfErr, Ok, Some};
+ghost use Rattle.std.specs.Prelude.{◌≡◌, map, string_bytes, IfOk, IfErr, Some};
 ghost use Rattle.chipdb_reader.specs.Kept.{database_in};
 ghost use Rattle.tool_run.specs.Needs.{text_of};
 ghost use Rattle.tool_run.specs.Runs.{Does, outside, scene};
 ghost use Rattle.tool_run.specs.Stops.{StopsWith};
 ghost use Rattle.tool_run.specs.Tasks.{Done};
-ghost use Rattle.fabric_tools.specs.Databases.{database_read, StopsDatabase};
+ghost use Rattle.fabric_tools.specs.Databases.{database_read};
 ghost use Rattle.fabric_tools.specs.Explain.{explain_outcome, explain_task_for, explained_of, told};
 ghost use Rattle.fabric_tools.specs.Images.{image_read};
 ghost use Rattle.ice_image.specs.Either.{configuration_of};
 
-use crate::faults::{db_refusal, explain_refusal};
-use crate::image::read_image;
+use crate::database::{DB_LIMIT, read_database};
+use crate::faults::explain_refusal;
+use crate::image::{IMAGE_LIMIT, read_image};
 use crate::request::{ICEBOX_EXPLAIN_HELP, ICEBOX_EXPLAIN_USAGE, Request, request_of};
 use asc_text::TileXy;
-use chipdb_reader::{ChipDb, DbFault, read};
+use chipdb_reader::ChipDb;
 use ice_image::AnyImage;
 use ice_io::{Files, Sink, Source};
 use std::alloc::{AllocError, Global};
@@ -22,12 +23,6 @@ use tile_bits::{ExplainFault, explain};
 use tool_run::{
     AtOnce, Job, Load, Stop, Tool, answer_at_once, asks_for_help, give_up, loaded_at, perform,
 };
-
-/// The most bytes of a database.
-const DB_LIMIT: usize = 268_435_456;
-
-/// The most bytes of an image.
-const IMAGE_LIMIT: usize = 16_777_216;
 
 /// Explains an image by a database: one tile, or all.
 #[derive(Clone, Copy, Debug, PartialEq, Eq)]
@@ -58,23 +53,6 @@ fn explained_by(
     let db = read_database(alloc, db)?;
     let image = read_image(alloc, image)?;
     text_of(alloc, &db, &image, only)
-}
-
-// A database.
-#[tactic(auto, unfolding(crate::specs::Databases::database_read))]
-fn read_database(alloc: Global, bytes: &[u8]) -> Result<ChipDb, Stop>
-    ensures database { IfOk result (λ db. database_read bytes.now ≡ Ok (database_in db)) }
-    ensures stops { IfErr result (StopsDatabase (database_read bytes.now)) }
-{
-    // What is loaded is within the limit.
-    if bytes.len() > DB_LIMIT {
-        return Err(Stop::Memory);
-    }
-    match read(alloc, bytes) {
-        Ok(db) => Ok(db),
-        Err(DbFault::At { line, cause }) => Err(Stop::Refused(db_refusal(line, cause))),
-        Err(DbFault::Memory(_)) => Err(Stop::Memory),
-    }
 }
 
 // What an image means by a database.

@@ -11,12 +11,15 @@ use ice_image::AnyImage;
 use std::alloc::Global;
 use tool_run::Stop;
 
+/// The most bytes of an image.
+pub const IMAGE_LIMIT: usize = 16_777_216;
+
 /// The preamble of a bitstream.
 const PREAMBLE: [u8; 4] = [0x7E, 0xAA, 0x99, 0x7E];
 
-/// An image: a bitstream where the preamble stands somewhere in the bytes, and else a text.
+/// An image, or what is told of its fault: a bitstream where the preamble stands somewhere in the bytes, and else a text.
 #[tactic(auto, unfolding(crate::specs::Images::image_read))]
-pub(crate) fn read_image(alloc: Global, bytes: &[u8]) -> Result<AnyImage, Stop>
+pub fn read_image(alloc: Global, bytes: &[u8]) -> Result<AnyImage, Stop>
     ensures image { IfOk result (λ image. image_read bytes.now ≡ Ok (configuration_of image)) }
     ensures stops { IfErr result (StopsImage (image_read bytes.now)) }
 {

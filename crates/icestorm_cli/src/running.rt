@@ -10,10 +10,13 @@ ghost use Rattle.bitstream_tools.specs.Pack.{icepack_outcome};
 ghost use Rattle.bitstream_tools.specs.Unpack.{iceunpack_outcome};
 ghost use Rattle.fabric_tools.specs.Explain.{explain_outcome};
 ghost use Rattle.module_tools.specs.Vlogrun.{vlogrun_outcome};
+ghost use Rattle.design_tools.specs.Vlog.{vlog_outcome};
+ghost use Rattle.design_tools.specs.Fabric.{PromisesFabric, PromisesRun};
 ghost use Rattle.icestorm_cli.specs.Tools.{other_outcome, own_outcome, program_name, tool_of};
 
 use crate::tool::{HELP, Tool, VERSION, tool_of};
 use bitstream_tools::{run_icebram, run_icemulti, run_icepack, run_iceunpack};
+use design_tools::run_icebox_vlog;
 use fabric_tools::run_icebox_explain;
 use ice_io::{Files, Sink, Source};
 use module_tools::run_vlogrun;
@@ -74,10 +77,18 @@ pub fn run<F: Files, I: Source, O: Sink, E: Sink>(
         → Does (outside F.contents F.steady F.load_faults F.store_faults I.left I.faults O.held O.faults E.held E.faults)
         (explain_outcome (texts_of words.now)) result
         (scene files.old input.old output.old errors.old) (scene files.new input.new output.new errors.new) }
+    ensures icebox_vlog { tool_of (texts_of words.now) ≡ Some Tool.IceboxVlog
+        → Does (outside F.contents F.steady F.load_faults F.store_faults I.left I.faults O.held O.faults E.held E.faults)
+        (vlog_outcome (texts_of words.now)) result
+        (scene files.old input.old output.old errors.old) (scene files.new input.new output.new errors.new) }
+    ensures written_fabric { tool_of (texts_of words.now) ≡ Some Tool.IceboxVlog
+        → PromisesFabric (texts_of words.now) result (F.contents files.old) (I.left input.old) (O.held output.old) (O.held output.new) }
     ensures vlogrun { tool_of (texts_of words.now) ≡ Some Tool.Vlogrun
         → Does (outside F.contents F.steady F.load_faults F.store_faults I.left I.faults O.held O.faults E.held E.faults)
         (vlogrun_outcome (texts_of words.now)) result
         (scene files.old input.old output.old errors.old) (scene files.new input.new output.new errors.new) }
+    ensures run_of_fabric { tool_of (texts_of words.now) ≡ Some Tool.Vlogrun
+        → PromisesRun (texts_of words.now) result (F.contents files.old) (I.left input.old) (O.held output.old) (O.held output.new) }
     ensures others { tool_of (texts_of words.now) ≡ None
         → Does (outside F.contents F.steady F.load_faults F.store_faults I.left I.faults O.held O.faults E.held E.faults)
         (other_outcome (texts_of words.now)) result
@@ -92,6 +103,7 @@ pub fn run<F: Files, I: Source, O: Sink, E: Sink>(
         Some(Tool::IceboxExplain) => {
             run_icebox_explain(alloc, words, files, input, output, errors)
         }
+        Some(Tool::IceboxVlog) => run_icebox_vlog(alloc, words, files, input, output, errors),
         Some(Tool::Vlogrun) => run_vlogrun(alloc, words, files, input, output, errors),
         None => {
             let answer = own_answer(words);

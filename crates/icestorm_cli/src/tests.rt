@@ -9,7 +9,9 @@ mod modules;
 mod packing;
 mod refusing;
 mod replacing;
+mod small;
 mod unpacking;
+mod writing;
 
 use crate::running::run;
 use ice_io::{MemFiles, MemSink, MemSource, NamedFile};

@@ -15,6 +15,8 @@ pub enum Tool {
     Icebram,
     /// Bits explained.
     IceboxExplain,
+    /// The module of an image.
+    IceboxVlog,
     /// A run of a module.
     Vlogrun,
 }
@@ -38,7 +40,8 @@ Tools:
   icebram      replaces the contents of RAMs in a text, without a new routing
   icebox_explain
                tells what the set bits of an image mean
-  vlogrun      runs a module of a subset of Verilog over a list of events
+  icebox_vlog  writes the design of an image in a subset of Verilog
+  vlogrun      runs a module of that subset over a list of events
 
 Example: icestorm icepack blink.asc blink.bin
 
@@ -68,6 +71,7 @@ fn tool_named(word: &str) -> Option<Tool>
         "icemulti" => Some(Tool::Icemulti),
         "icebram" => Some(Tool::Icebram),
         "icebox_explain" => Some(Tool::IceboxExplain),
+        "icebox_vlog" => Some(Tool::IceboxVlog),
         "vlogrun" => Some(Tool::Vlogrun),
         _ => None,
     }

@@ -1,5 +1,5 @@
 -- The lines for standard error.
-use Rattle.std.specs.Prelude.{ℕ, ◌/◌, ◌%◌, List, [], ◌∷◌, ◌++◌, codes, decimal, Option, None, Some, flat_map}
+use Rattle.std.specs.Prelude.{ℕ, ◌+◌, ◌/◌, ◌%◌, List, [], ◌∷◌, ◌++◌, codes, decimal, Option, None, Some, flat_map}
 use Rattle.hex.specs.Hex.{encode_lower}
 use Rattle.tool_run.specs.Needs.{Need}
 use Rattle.std.specs.Borrow.{Bor}
@@ -14,11 +14,16 @@ use Rattle.tool_run.specs.declared.line.Part.TheVariants as part
 abbrev pub four_digits : ℕ → List ℕ
 four_digits n = encode_lower (n / 256 ∷ n % 256 ∷ [])
 
+-- the lowest six bits of a number as binary digits, the high ones first
+abbrev pub six_digits : ℕ → List ℕ
+six_digits n = (48 + n / 32 % 2) ∷ (48 + n / 16 % 2) ∷ (48 + n / 8 % 2) ∷ (48 + n / 4 % 2) ∷ (48 + n / 2 % 2) ∷ (48 + n % 2) ∷ []
+
 -- a number of a line as text
 abbrev pub number_text : Number → List ℕ
 number_text number.Missing = []
 number_text (number.Decimal n) = decimal n
 number_text (number.Hexadecimal n) = four_digits n
+number_text (number.Binary n) = six_digits n
 
 -- a text, and the number behind it
 abbrev pub phrase_text : Phrase → List ℕ

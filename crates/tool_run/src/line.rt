@@ -4,7 +4,7 @@ ghost use Rattle.std.specs.Io.KnownBytes.{Appends};
 ghost use Rattle.ice_io.specs.Faults.{Rose};
 ghost use Rattle.ice_io.specs.Put.{ForWritten};
 ghost use Rattle.tool_run.specs.Effects.{Writes};
-ghost use Rattle.tool_run.specs.Lines.{four_digits, line_of, number_text, numbered, part_text, parts_text, phrase_text, plain, refusal_text};
+ghost use Rattle.tool_run.specs.Lines.{four_digits, six_digits, line_of, number_text, numbered, part_text, parts_text, phrase_text, plain, refusal_text};
 
 use ice_io::{PutFault, Sink, write_whole};
 use itoa::Buffer;
@@ -18,6 +18,8 @@ pub enum Number {
     Decimal(u64),
     /// As four hexadecimal digits in lower case.
     Hexadecimal(u16),
+    /// As six binary digits, of a number below 64.
+    Binary(u8),
 }
 
 /// A text of a line, and the number behind it.
@@ -70,6 +72,20 @@ fn format_hexadecimal(n: u16, digits: &mut [u8; 4])
     let _ = hex::encode_to_slice(n.to_be_bytes(), digits);
 }
 
+// Six binary digits.
+fn format_binary(n: u8, digits: &mut [u8; 6])
+    ensures { digits.new ≡ six_digits n }
+{
+    *digits = [
+        b'0' + n / 32 % 2,
+        b'0' + n / 16 % 2,
+        b'0' + n / 8 % 2,
+        b'0' + n / 4 % 2,
+        b'0' + n / 2 % 2,
+        b'0' + n % 2,
+    ];
+}
+
 // Writes one number.
 fn write_number<E: Sink>(errors: &mut E, number: Number) -> Result<(), PutFault>
     ensures whole { OnOk result (Appends (E.held errors.old) (E.held errors.new) (number_text number)) }
@@ -87,6 +103,11 @@ fn write_number<E: Sink>(errors: &mut E, number: Number) -> Result<(), PutFault>
         Number::Hexadecimal(n) => {
             let mut digits = [0; 4];
             format_hexadecimal(n, &mut digits);
+            write_whole(errors, &digits)
+        }
+        Number::Binary(n) => {
+            let mut digits = [0; 6];
+            format_binary(n, &mut digits);
             write_whole(errors, &digits)
         }
     }

@@ -6,7 +6,7 @@ use std::alloc::{AllocError, Global};
 /// A command line, and the first line that it writes.
 type Told = (&'static [&'static str], &'static str);
 
-static TOLD: [Told; 6] = [
+static TOLD: [Told; 7] = [
     (
         &["--help"],
         "icestorm: the bitstream tools of Project IceStorm for the iCE40 HX1K and HX8K.\n",
@@ -27,6 +27,10 @@ static TOLD: [Told; 6] = [
     (
         &["icebram", "--help"],
         "icebram: replaces the contents of RAMs in a text (.asc), without a new routing.\n",
+    ),
+    (
+        &["icebox_vlog", "--help"],
+        "icebox_vlog: writes the design of an image as a module in a subset of Verilog.\n",
     ),
 ];
 

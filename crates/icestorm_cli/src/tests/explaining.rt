@@ -1,77 +1,10 @@
 // Whole runs of `icebox_explain`.
 
+use super::small::{DATABASE, INVERTER, image};
 use super::{Ended, PLAIN, Setup, outcome};
 use std::alloc::{AllocError, Global};
 
-/// A small database of a 1k.
-const DATABASE: &str = ".device 1k 14 18 6
-.logic_tile_bits 54 16
-LC_0 B0[36] B0[37] B0[38] B0[39] B0[40] B0[41] B0[42] B0[43] B0[44] B0[45] B1[36] B1[37] B1[38] B1[39] B1[40] B1[41] B1[42] B1[43] B1[44] B1[45]
-.io_tile_bits 18 16
-IOB_0.PINTYPE_0 B0[0]
-IOB_0.PINTYPE_1 B1[0]
-IOB_0.PINTYPE_2 B2[0]
-IOB_0.PINTYPE_3 B3[0]
-IOB_0.PINTYPE_4 B4[0]
-IOB_0.PINTYPE_5 B5[0]
-.net 0
-0 1 io_0/D_IN_0
-.net 1
-1 1 lutff_0/in_0
-.net 2
-1 1 lutff_0/out
-.net 3
-0 2 io_0/D_OUT_0
-.buffer 1 1 1 B2[0]
-1 0
-.buffer 0 2 3 B6[0]
-1 2
-";
-
 const USAGE: &str = "icebox_explain: usage: icebox_explain [-t \"X Y\"] DB [IMAGE]\n";
-
-/// Appends a tile with these bits set, each by its row and column.
-fn append_tile(
-    text: &mut Vec<u8>,
-    statement: &[u8],
-    width: usize,
-    bits: &[(usize, usize)],
-) -> Result<(), AllocError> {
-    text.extend_from_slice(statement)?;
-    for row in 0..16 {
-        for col in 0..width {
-            let is_set = bits.iter().any(|bit| *bit == (row, col));
-            text.push(if is_set { b'1' } else { b'0' })?;
-        }
-        text.push(b'\n')?;
-    }
-    Ok(())
-}
-
-/// An image with a pin, an inverter and another pin.
-fn image(alloc: Global) -> Result<Vec<u8>, AllocError> {
-    let mut text = b".device 1k\n".to_vec(alloc)?;
-    append_tile(&mut text, b".io_tile 0 1\n", 18, &[(0, 0)])?;
-    append_tile(
-        &mut text,
-        b".io_tile 0 2\n",
-        18,
-        &[(0, 0), (3, 0), (4, 0), (6, 0)],
-    )?;
-    let cell = [
-        (0, 37),
-        (0, 39),
-        (0, 40),
-        (0, 42),
-        (1, 36),
-        (1, 38),
-        (1, 41),
-        (1, 43),
-        (2, 0),
-    ];
-    append_tile(&mut text, b".logic_tile 1 1\n", 54, &cell)?;
-    Ok(text)
-}
 
 /// What these words leave with a database in the file `A` and an image on standard input.
 fn explained<'a>(
@@ -109,7 +42,7 @@ static TOLD: [Told; 3] = [
 
 /// Whether a command line writes that of the image.
 fn tells(alloc: Global, told: &Told) -> Result<bool, AllocError> {
-    let image = image(alloc)?;
+    let image = image(alloc, &INVERTER)?;
     let ended = explained(alloc, DATABASE.as_bytes(), &image, told.0)?;
     Ok(ended.says(0, "") && ended.output.as_slice() == told.1.as_bytes())
 }

@@ -4,7 +4,7 @@ use super::{PLAIN, Setup, outcome};
 use std::alloc::{AllocError, Global};
 
 /// A pin through a LUT that inverts it.
-const INVERTER: &str = "\
+pub(super) const INVERTER: &str = "\
 module chip (io_0_1_0, io_0_2_0);
   input io_0_1_0;
   output io_0_2_0;

@@ -12,6 +12,11 @@ const ICEMULTI_USAGE: &str =
 
 const ICEBRAM_USAGE: &str = "icebram: usage: icebram FROM TO\n";
 
+const ICEBOX_VLOG_USAGE: &str = "icebox_vlog: usage: icebox_vlog [-n NAME] DB [IMAGE]\n";
+
+/// A name of 65 bytes.
+const LONG: &str = "aaaaaaaaaaaaaaaaaaaaaaaaaaaaaaaaaaaaaaaaaaaaaaaaaaaaaaaaaaaaaaaaa";
+
 const VLOGRUN_USAGE: &str = "vlogrun: usage: vlogrun [-s] MODULE [EVENTS]\n";
 
 const USAGE: &str = "icestorm: usage: TOOL ...\n";
@@ -19,7 +24,7 @@ const USAGE: &str = "icestorm: usage: TOOL ...\n";
 /// A command line, its status and its line.
 type Refused = (&'static [&'static str], u8, &'static str);
 
-static NOT_TAKEN: [Refused; 17] = [
+static NOT_TAKEN: [Refused; 23] = [
     (&["icepack", "a", "b", "c"], 2, ICEPACK_USAGE),
     (&["icepack", "-x"], 2, ICEPACK_USAGE),
     (&["icepack", "-u", "-s"], 2, ICEPACK_USAGE),
@@ -33,13 +38,23 @@ static NOT_TAKEN: [Refused; 17] = [
     (&["icebram"], 2, ICEBRAM_USAGE),
     (&["icebram", "A"], 2, ICEBRAM_USAGE),
     (&["icebram", "A", "B", "C"], 2, ICEBRAM_USAGE),
+    (&["icebox_vlog"], 2, ICEBOX_VLOG_USAGE),
+    (&["icebox_vlog", "A", "B", "C"], 2, ICEBOX_VLOG_USAGE),
+    (
+        &["icebox_vlog", "-n", "a", "-n", "a", "A"],
+        2,
+        ICEBOX_VLOG_USAGE,
+    ),
+    (&["icebox_vlog", "-n", "wire", "A"], 2, ICEBOX_VLOG_USAGE),
+    (&["icebox_vlog", "-n", "1a", "A"], 2, ICEBOX_VLOG_USAGE),
+    (&["icebox_vlog", "-n", LONG, "A"], 2, ICEBOX_VLOG_USAGE),
     (&["vlogrun"], 2, VLOGRUN_USAGE),
     (&["vlogrun", "-s", "m", "e", "x"], 2, VLOGRUN_USAGE),
     (&["icebox"], 2, USAGE),
     (&[], 2, USAGE),
 ];
 
-static REFUSED: [Refused; 11] = [
+static REFUSED: [Refused; 12] = [
     (&["icepack"], 1, "icepack: line 1: NoDevice\n"),
     (&["icepack", "-u"], 1, "icepack: offset 0: NoPreamble\n"),
     (&["icepack", "nofile"], 3, "icepack: read failed: nofile\n"),
@@ -54,6 +69,7 @@ static REFUSED: [Refused; 11] = [
     (&["icemulti", "-p2", "A", "B"], 1, "icemulti: PowerOn 2\n"),
     (&["icemulti", "A"], 3, "icemulti: read failed: A\n"),
     (&["icebram", "A", "B"], 3, "icebram: read failed: A\n"),
+    (&["icebox_vlog", "A"], 3, "icebox_vlog: read failed: A\n"),
     (&["vlogrun", "m"], 3, "vlogrun: read failed: m\n"),
 ];
 

@@ -1,0 +1,142 @@
+-- The text that is written for a database and an image is that of their fabric.
+use Rattle.std.proofs.Common.{◌≡◌, ℕ, ◌^◌, ◌≤◌, Bool, true, false, List, [], ◌∷◌, map, refl, sym, ap, subst, ◌∙◌, inl, inr}
+use Rattle.std.specs.Prelude.{Option, Some, None, Result, Ok, Err, get_or, codes, if◌then◌else◌, ◌&&◌, nat_le, length}
+use Rattle.std.proofs.lemmas.Bool.{cases_Bool}
+use Rattle.clap.specs.Words.{Row, Text, first_of, matches_of}
+use Rattle.ice_image.specs.Configuration.{Configuration}
+use Rattle.chipdb_reader.specs.Database.{Database}
+use Rattle.chipdb_reader.specs.Fit.{IsFit}
+use Rattle.vlog_module.specs.Names.{is_name, reserved_words, IsName}
+use Rattle.vlog_forms.specs.Printed.{printed}
+use Rattle.vlog_forms.proofs.PrintedTokens.{printed-spells}
+use Rattle.vlog_forms.proofs.Spelled.{one-module}
+use Rattle.fabric_rules.specs.Fabric.{fabric_of}
+use Rattle.fabric_rules.specs.Wiring.{wiring_of, IsWriteOrder}
+use Rattle.fabric_rules.specs.Faults.{Fault, design_fault}
+use Rattle.fabric_rules.proofs.Within.{fabric-within}
+use Rattle.fabric_rules.proofs.Taken.{design-taken, taken-order}
+use Rattle.fabric_rules.proofs.Runs.{design-run}
+use Rattle.vlog_emit.specs.Written.{module_of}
+use Rattle.vlog_emit.proofs.Design.{design-is-module, design-well_formed}
+use Rattle.fabric_tools.proofs.CommandLines.{helped-no}
+use Rattle.fabric_tools.specs.Databases.{database_read}
+use Rattle.fabric_tools.specs.Images.{image_read}
+use Rattle.tool_run.specs.Runs.{Does, Outside, Scene}
+use Rattle.tool_run.specs.Tasks.{Done, Task, not_taken}
+use Rattle.tool_words.specs.Commands.{is_taken}
+use Rattle.design_tools.specs.declared.request.TheConstants.{ICEBOX_VLOG_HELP}
+use Rattle.design_tools.specs.Names.{module_name, name_given}
+use Rattle.design_tools.specs.Order.{write_order}
+use Rattle.design_tools.specs.Vlog.{written_module, written_of, written_with, vlog_command, vlog_name, vlog_outcome, vlog_task, vlog_task_by, vlog_task_of, vlog_usage}
+use Rattle.design_tools.specs.Fabric.{PromisesFabric, SpellsFabric, WritesFabric, fabric_events}
+use Rattle.design_tools.proofs.Appended.{helped-kept}
+use Rattle.design_tools.proofs.Databases.{read-few, read-fit}
+use Rattle.design_tools.proofs.Lines.{run-shown}
+use Rattle.design_tools.proofs.Order.{order-is}
+
+-- ---- the module
+
+-- where there is no fault, the order that the function gives is the write order
+ordered : (db : Database) (image : Configuration) → IsFit db → design_fault db image ≡ None
+    → IsWriteOrder (wiring_of (fabric_of db image)) (write_order (wiring_of (fabric_of db image)))
+ordered db image fit none =
+    let wiring = wiring_of (fabric_of db image) in
+    let order = taken-order image.device (fabric_of db image) (design-taken db image none).fabric (fabric-within db image fit) in
+    subst (IsWriteOrder wiring) (order-is wiring order.it order.is) order.is
+
+spells-fabric : (name : List ℕ) → IsName name → (db : Database) (image : Configuration) → IsFit db → db.chip.nets ≤ 2 ^ 64 → design_fault db image ≡ None
+    → SpellsFabric db image (printed (written_module name db image))
+unfolding written_module module_of
+spells-fabric name named db image fit few none =
+    let fabric = fabric_of db image in
+    let order = write_order (wiring_of fabric) in
+    let is = ordered db image fit none in
+    let m = module_of fabric order name in
+    let spells = printed-spells m (design-well_formed db image fit few none order is name named) in
+    record {
+      one_module = record { it = m; is = spells; only = λ other also. one-module (printed m) other m also spells };
+      one_run = λ events. design-run db image fit none events;
+      alike = λ events entries run. design-is-module db image fit few none order is name events entries run;
+      lines = λ registers events lines done entries run.
+          run-shown fabric m (printed m) spells registers events lines done entries
+          (design-is-module db image fit few none order is name (fabric_events db image events) entries run);
+    }
+
+-- ---- the answer
+
+done-with : (name : List ℕ) → IsName name → (db : Database) (image : Configuration) → IsFit db → db.chip.nets ≤ 2 ^ 64 → (bytes : List ℕ) (fault : Option Fault)
+    → design_fault db image ≡ fault → written_with name db image fault ≡ Done bytes → SpellsFabric db image bytes
+done-with name named db image fit few bytes (Some fault) is done = absurd cc
+done-with name named db image fit few bytes None is done =
+    let same : printed (written_module name db image) ≡ bytes = cc in
+    subst (SpellsFabric db image) same (spells-fabric name named db image fit few is)
+
+done-of : (name : List ℕ) → IsName name → (texts : List (List ℕ)) (bytes : List ℕ) (db : Result Database (List ℕ)) (image : Result Configuration (List ℕ))
+    → database_read (get_or texts 0 []) ≡ db → image_read (get_or texts 1 []) ≡ image → written_of name db image ≡ Done bytes → WritesFabric texts bytes
+done-of name named texts bytes (Err text) image db_is image_is done = absurd cc
+done-of name named texts bytes (Ok db) (Err text) db_is image_is done = absurd cc
+done-of name named texts bytes (Ok db) (Ok image) db_is image_is done = record {
+  db = db;
+  image = image;
+  db_is = db_is;
+  image_is = image_is;
+  spells = done-with name named db image (read-fit (get_or texts 0 []) db db_is) (read-few (get_or texts 0 []) db db_is) bytes (design_fault db image) refl done;
+}
+
+-- ---- the words
+
+-- a name that is taken is a name
+name-by : (text name : Text) (short takes : Bool) → is_name text ≡ takes → (if short && takes then Some text else None) ≡ Some name → IsName name
+name-by text name true true is taken = let same : text ≡ name = cc in subst IsName same is
+name-by text name true false is taken = absurd cc
+name-by text name false takes is taken = absurd cc
+
+given-name : (given : Option Text) (name : Text) → name_given given ≡ Some name → IsName name
+unfolding is_name reserved_words
+given-name None name is = let same : codes "chip" ≡ name = cc in subst IsName same refl
+given-name (Some text) name is = name-by text name (nat_le (length text) 64) (is_name text) refl is
+
+-- what a task makes of texts
+abbrev TaskWrites : Task → Type 0
+TaskWrites task = (texts : List (List ℕ)) (bytes : List ℕ) → task.answer texts ≡ Done bytes → WritesFabric texts bytes
+
+task-of : (name db image : Option Text) → ((one : Text) → name ≡ Some one → IsName one) → TaskWrites (vlog_task_of name db image)
+task-of (Some name) (Some db) image named texts bytes done = done-of name (named name refl) texts bytes (database_read (get_or texts 0 [])) (image_read (get_or texts 1 [])) refl refl done
+task-of (Some name) None image named texts bytes done = absurd cc
+task-of None db image named texts bytes done = absurd cc
+
+task-writes : (words : List Text) → TaskWrites (vlog_task words)
+unfolding vlog_task
+task-writes words = by_case (is_taken vlog_command words)
+  where
+    rows : List Row
+    rows = matches_of vlog_command words
+
+    by_case : (taken : Bool) → TaskWrites (if taken then vlog_task_by rows else not_taken vlog_name vlog_usage)
+    by_case true = task-of (name_given (first_of (codes "name") rows)) (first_of (codes "db") rows) (first_of (codes "image") rows) (given-name (first_of (codes "name") rows))
+    by_case false = λ texts bytes done. absurd cc
+
+-- ---- a run
+
+target-of : (name db image : Option Text) → (vlog_task_of name db image).target ≡ None
+target-of (Some name) (Some db) image = refl
+target-of (Some name) None image = refl
+target-of None db image = refl
+
+-- the module goes to standard output
+task-target : (words : List Text) → (vlog_task words).target ≡ None
+unfolding vlog_task
+task-target words = by_case (is_taken vlog_command words)
+  where
+    rows : List Row
+    rows = matches_of vlog_command words
+
+    by_case : (taken : Bool) → (if taken then vlog_task_by rows else not_taken vlog_name vlog_usage).target ≡ None
+    by_case true = target-of (name_given (first_of (codes "name") rows)) (first_of (codes "db") rows) (first_of (codes "image") rows)
+    by_case false = refl
+
+pub promise-kept : {F I O E : Type 0} (by : Outside F I O E) (words : List Text) (status : ℕ) (old new : Scene F I O E) → Does by (vlog_outcome words) status old new
+    → PromisesFabric words status (by.contents old.files) (by.left old.input) (by.held old.output) (by.held new.output)
+promise-kept by words status old new does done asked =
+    let same : vlog_task words ≡ vlog_outcome words = helped-no vlog_name ICEBOX_VLOG_HELP.now words (vlog_task words) asked in
+    helped-kept WritesFabric by (vlog_task words) (vlog_outcome words) status old new same (task-writes words) (task-target words) does done

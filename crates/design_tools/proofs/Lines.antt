@@ -1,0 +1,74 @@
+-- What `vlogrun` writes of a module that matches a fabric, and of its text.
+use Rattle.std.proofs.Common.{◌≡◌, ℕ, Bool, true, false, List, [], ◌∷◌, ◌++◌, map, refl, sym, ap, ap₂, ◌∙◌}
+use Rattle.std.specs.Prelude.{flat_map, get_or, Option, Some, None, if◌then◌else◌}
+use Rattle.std.specs.List.{AllZip}
+use Rattle.bit_plane.specs.BitList.{word_of}
+use Rattle.vlog_module.specs.Parts.{Parts}
+use Rattle.vlog_forms.specs.Items.{IsSpelling}
+use Rattle.vlog_forms.specs.Outcome.{outcome_of}
+use Rattle.vlog_forms.proofs.Spelled.{outcome-spelled}
+use Rattle.vlog_cycle.specs.declared.event.Event.{Event as ModuleEvent}
+use Rattle.vlog_cycle.specs.declared.event.EventFault.{EventFault}
+use Rattle.vlog_cycle.specs.Entries.{Entry as ModuleEntry}
+use Rattle.vlog_cycle.specs.Events.{event_fault, events_of}
+use Rattle.vlog_cycle.specs.Named.{values_of}
+use Rattle.vlog_cycle.specs.Run.{module_run}
+use Rattle.vlog_cycle.specs.Text.{bit_digit, word_text, registers_text, entry_line, run_text}
+use Rattle.fabric_rules.specs.Fabric.{Fabric}
+use Rattle.fabric_rules.specs.Steps.{Entry}
+use Rattle.vlog_emit.specs.Matching.{Matches, module_event}
+use Rattle.tool_run.specs.Tasks.{Answer, Done}
+use Rattle.module_tools.specs.Vlogrun.{run_over, run_of, vlogrun_answer}
+use Rattle.design_tools.specs.Fabric.{fabric_event, fabric_line, fabric_text, state_text}
+
+-- ---- lines
+
+-- the registers of a module are the state of the fabric
+state-shown : (fabric : Fabric) (entry : Entry) (other : ModuleEntry) → Matches fabric entry other → registers_text other ≡ state_text entry.state
+state-shown fabric entry other matches =
+    ap₂ (λ flips words. 32 ∷ map bit_digit flips ++ flat_map word_text words) matches.registers.valued matches.words.valued
+
+-- one line
+line-shown : (fabric : Fabric) (registers : Bool) (entry : Entry) (other : ModuleEntry) → Matches fabric entry other → entry_line registers other ≡ fabric_line registers entry
+unfolding entry_line fabric_line
+line-shown fabric registers entry other matches =
+    ap₂ (λ outputs (state : List ℕ). map bit_digit outputs ++ (if registers then state else []) ++ 10 ∷ []) matches.outputs.valued (state-shown fabric entry other matches)
+
+-- all lines
+pub lines-shown : (fabric : Fabric) (registers : Bool) (entries : List Entry) (others : List ModuleEntry) → AllZip (Matches fabric) entries others
+    → flat_map (entry_line registers) others ≡ fabric_text registers entries
+lines-shown fabric registers [] [] all = refl
+lines-shown fabric registers [] (other ∷ others) all = absurd all
+lines-shown fabric registers (entry ∷ entries) [] all = absurd all
+lines-shown fabric registers (entry ∷ entries) (other ∷ others) all =
+    ap₂ (λ line lines. line ++ lines) (line-shown fabric registers entry other all.0) (lines-shown fabric registers entries others all.1)
+
+-- ---- events
+
+-- an event of the module is that of the fabric, and the other way
+same-events : (events : List ModuleEvent) → map module_event (map fabric_event events) ≡ events
+same-events [] = refl
+same-events (event ∷ events) = ap (λ rest. event ∷ rest) (same-events events)
+
+-- ---- the text
+
+done-same : (one other : List ℕ) → Done one ≡ Done other → one ≡ other
+done-same one other same = cc
+
+-- what is written where the events have no fault
+over-done : (registers : Bool) (m : Parts) (events lines : List ℕ) (fault : Option EventFault) → run_over registers m events fault ≡ Done lines
+    → lines ≡ run_text m (events_of m.ports events) registers
+over-done registers m events lines None is = sym (done-same _ _ is)
+over-done registers m events lines (Some fault) is = absurd cc
+
+-- What `vlogrun` writes of a text that spells a module which matches a fabric.
+pub run-shown : (fabric : Fabric) (m : Parts) (text : List ℕ) → IsSpelling text m → (registers : Bool) (events lines : List ℕ)
+    → vlogrun_answer registers (text ∷ events ∷ []) ≡ Done lines
+    → (entries : List Entry) → AllZip (Matches fabric) entries (module_run m (map module_event (map fabric_event (events_of m.ports events))))
+    → lines ≡ fabric_text registers entries
+unfolding run_text
+run-shown fabric m text spells registers events lines is entries matches =
+    let over : run_over registers m events (event_fault m.ports events) ≡ Done lines = sym (ap (λ outcome. run_of registers outcome events) (outcome-spelled text m spells)) ∙ is in
+    over-done registers m events lines (event_fault m.ports events) over
+    ∙ ap (λ given. flat_map (entry_line registers) (module_run m given)) (sym (same-events (events_of m.ports events)))
+    ∙ lines-shown fabric registers entries _ matches

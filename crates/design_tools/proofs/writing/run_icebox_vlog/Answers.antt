@@ -1,0 +1,6 @@
+use Rattle.std.specs.Prelude.{map, string_bytes}
+use Rattle.design_tools.proofs.Fabric.{promise-kept}
+use Rattle.design_tools.proofs.writing.run_icebox_vlog.Goals as goal
+
+pub returns-clause-fabric : goal.returns-clause-fabric
+returns-clause-fabric g c = promise-kept _ (map string_bytes c.args.words.now) _ _ _ c.do_words.ensures

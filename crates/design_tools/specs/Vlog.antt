@@ -1,0 +1,98 @@
+-- `icebox_vlog`: the module of a database and an image.
+use Rattle.std.specs.Prelude.{ℕ, List, [], ◌∷◌, codes, get_or, if◌then◌else◌, Option, None, Some, Result, Ok, Err}
+use Rattle.clap.specs.Words.{App, Row, Text, first_of, matches_of}
+use Rattle.ice_image.specs.Configuration.{Configuration}
+use Rattle.chipdb_reader.specs.Database.{Database}
+use Rattle.vlog_module.specs.Parts.{Parts}
+use Rattle.vlog_forms.specs.Printed.{printed}
+use Rattle.fabric_rules.specs.Fabric.{fabric_of}
+use Rattle.fabric_rules.specs.Wiring.{wiring_of}
+use Rattle.fabric_rules.specs.Faults.{Fault, design_fault}
+use Rattle.vlog_emit.specs.Written.{module_of}
+use Rattle.tool_run.specs.Needs.{text_of}
+use Rattle.tool_run.specs.Tasks.{Answer, Done, Refused, Task, helped, not_taken}
+use Rattle.tool_words.specs.Commands.{command, is_taken, positional, short_option}
+use Rattle.bitstream_tools.specs.Pack.{text_limit}
+use Rattle.fabric_tools.specs.Explain.{database_limit}
+use Rattle.fabric_tools.specs.Images.{image_read}
+use Rattle.fabric_tools.specs.Databases.{database_read}
+use Rattle.design_tools.specs.declared.name.ModuleName.{ModuleName}
+use Rattle.design_tools.specs.declared.request.Request.{Request}
+use Rattle.design_tools.specs.declared.request.TheConstants.{ICEBOX_VLOG_HELP}
+use Rattle.design_tools.specs.Names.{name_given}
+use Rattle.design_tools.specs.Order.{write_order}
+use Rattle.design_tools.specs.Faults.{design_fault_text}
+
+-- ---- the answer
+
+-- the module that is written for a database and an image, with this name: that of their fabric, in the write order
+unfoldable pub written_module : List ℕ → Database → Configuration → Parts
+written_module name db image = module_of (fabric_of db image) (write_order (wiring_of (fabric_of db image))) name
+
+-- its text, where there is no fault
+abbrev pub written_with : List ℕ → Database → Configuration → Option Fault → Answer
+written_with name db image None = Done (printed (written_module name db image))
+written_with name db image (Some fault) = Refused (design_fault_text fault)
+
+abbrev pub written : List ℕ → Database → Configuration → Answer
+written name db image = written_with name db image (design_fault db image)
+
+-- the database is read before the image
+abbrev pub written_of : List ℕ → Result Database (List ℕ) → Result Configuration (List ℕ) → Answer
+written_of name (Err text) image = Refused text
+written_of name (Ok db) (Err text) = Refused text
+written_of name (Ok db) (Ok image) = written name db image
+
+abbrev pub vlog_answer : List ℕ → List (List ℕ) → Answer
+vlog_answer name texts = written_of name (database_read (get_or texts 0 [])) (image_read (get_or texts 1 []))
+
+-- ---- the words
+
+abbrev pub vlog_name : List ℕ
+vlog_name = codes "icebox_vlog"
+
+abbrev pub vlog_usage : List ℕ
+vlog_usage = codes "icebox_vlog [-n NAME] DB [IMAGE]"
+
+abbrev pub vlog_command : App
+vlog_command = command vlog_name (short_option (codes "name") 110 ∷ positional (codes "db") ∷ positional (codes "image") ∷ [])
+
+-- ---- the task
+
+-- the database, and the image from a file or from standard input
+abbrev pub write_task : Text → Text → Option Text → Task
+write_task name db image = record {
+  speaker = vlog_name;
+  needs = record { name = Some db; limit = database_limit } ∷ record { name = image; limit = text_limit } ∷ [];
+  target = None;
+  answer = vlog_answer name;
+}
+
+-- the bytes of a name, where there is one
+abbrev pub name_text : Option ModuleName → Option Text
+name_text None = None
+name_text (Some name) = Some name.text.now
+
+-- there has to be a name, and a database
+abbrev pub vlog_task_of : Option Text → Option Text → Option Text → Task
+vlog_task_of (Some name) (Some db) image = write_task name db image
+vlog_task_of (Some name) None image = not_taken vlog_name vlog_usage
+vlog_task_of None db image = not_taken vlog_name vlog_usage
+
+abbrev pub vlog_task_by : List Row → Task
+vlog_task_by rows = vlog_task_of (name_given (first_of (codes "name") rows)) (first_of (codes "db") rows) (first_of (codes "image") rows)
+
+-- what the words of `icebox_vlog` ask for
+unfoldable pub vlog_task : List Text → Task
+vlog_task words =
+    if is_taken vlog_command words then vlog_task_by (matches_of vlog_command words)
+    else not_taken vlog_name vlog_usage
+
+-- the same by the request that was found in the words, where they are taken
+abbrev pub vlog_task_for : Option Request → Task
+vlog_task_for None = not_taken vlog_name vlog_usage
+vlog_task_for (Some request) = write_task request.name.text.now request.db.now (text_of request.image)
+
+-- what the words of `icebox_vlog` ask for, its help among that
+abbrev pub vlog_outcome : List Text → Task
+vlog_outcome words = helped vlog_name ICEBOX_VLOG_HELP.now words (vlog_task words)

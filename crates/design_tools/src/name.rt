@@ -1,0 +1,41 @@
+// Names that a module can have.
+ghost use Rattle.std.specs.Prelude.{◌≡◌};
+ghost use Rattle.std.specs.Option.{option_map};
+ghost use Rattle.tool_run.specs.Needs.{text_of};
+ghost use Rattle.vlog_module.specs.Names.{IsName};
+ghost use Rattle.design_tools.specs.Names.{module_name, name_given};
+
+use vlog_text::is_name;
+
+/// The most bytes of a name on the command line.
+const NAME_LIMIT: usize = 64;
+
+/// The name of a module.
+#[derive(Clone, Copy, Debug, PartialEq, Eq)]
+pub(crate) struct ModuleName<'a> {
+    pub(crate) text: &'a str,
+    ghost named: { IsName text.now },
+}
+
+// A name of at most 64 bytes.
+fn module_name(text: &str) -> Option<ModuleName<'_>>
+    ensures { option_map (λ name. name.text.now) result ≡ module_name text.entry.now }
+{
+    if text.len() <= NAME_LIMIT {
+        if is_name(text.as_bytes()) {
+            return Some(ModuleName { text });
+        }
+    }
+    None
+}
+
+/// The name of a module, which is `chip` where none is given. None where it isn't a name, or has more than 64 bytes.
+#[tactic(auto, unfolding(vlog_module::specs::Names::is_name, vlog_module::specs::Names::reserved_words))]
+pub(crate) fn name_given(text: Option<&str>) -> Option<ModuleName<'_>>
+    ensures { option_map (λ name. name.text.now) result ≡ name_given (text_of text.entry) }
+{
+    match text {
+        None => Some(ModuleName { text: "chip" }),
+        Some(text) => module_name(text),
+    }
+}

@@ -1,0 +1,113 @@
+// What the command line of `icebox_vlog` asks for.
+ghost use Rattle.std.specs.Prelude.{◌≡◌, map, string_bytes, IfOk};
+ghost use Rattle.clap.specs.Words.{app_of};
+ghost use Rattle.tool_run.specs.Needs.{text_of};
+ghost use Rattle.design_tools.specs.Vlog.{name_text, vlog_command, vlog_task, vlog_task_for, vlog_task_of};
+
+use crate::name::{ModuleName, name_given};
+use clap::Command;
+use std::alloc::{AllocError, Global};
+use tool_words::{parse, positional, short_option, value, with};
+
+/// The command line of `icebox_vlog`.
+pub const ICEBOX_VLOG_USAGE: &str = "icebox_vlog [-n NAME] DB [IMAGE]";
+
+/// The help of `icebox_vlog`, at most 80 columns wide.
+pub const ICEBOX_VLOG_HELP: &str = "\
+icebox_vlog: writes the design of an image as a module in a subset of Verilog.
+
+Usage: icebox_vlog [-n NAME] DB [IMAGE]
+
+  DB        the chip database of the image's device
+  IMAGE     a bitstream (.bin) or a text (.asc); standard input if it is missing
+  -n NAME   the name of the module, at most 64 bytes; chip if it is missing
+
+The module has a port for each pin that is used, io_X_Y_N for pin N of the io
+tile at column X and row Y; a register for each flip-flop, ff_X_Y_I; a register
+and a memory for each block RAM that is read, rd_X_Y and mem_X_Y; and a wire n_K
+for each net with a driver. At the start and after each change of an input they
+have the values that the configured device has. vlogrun runs the module.
+
+Example: icebox_vlog -n blink chipdb-1k.txt blink.asc >blink.v
+
+Limits: a database has at most 268435456 bytes, an image 16777216.
+
+A database or an image with a fault is refused, and told by the first fault. A
+design is refused for these causes, looked for in this order:
+
+  Device        the database is for another device: take the one for yours
+  Pll           a PLL is used; modules have none. Feed the clock to a pin
+  PinMode       a pin of another kind than a plain input or output, as one with
+                a register, with two data rates or with an output that can be
+                switched off; the six digits are the bits of its type. Make it
+                plain, or keep such pins out of the design
+  Mode          a block RAM whose words aren't 16 bits wide where it is read or
+                written: use it as 256 words of 16 bits
+  Cascade       block RAMs that are chained: take single ones
+  Async         a flip-flop whose set or reset acts without a clock: use one
+                that acts at the clock's edge
+  TwoDrivers    two outputs drive one net: the image wasn't made by a router, or
+                the database is for another device
+  Loop          a net depends on itself without a register between. A router may
+                make such a loop at an input that a logic cell doesn't use:
+                route again with another seed
+  Clock         a flip-flop or a RAM whose clock is made by logic, and comes
+                from no pin: clock it by the pin, and use an enable
+
+Exit status: 0 done; 1 the database, the image or the design is refused; 2 the
+command line isn't taken; 3 reading failed; 4 writing failed; 5 out of memory; 6
+an input is longer than its limit.
+";
+
+/// What the words ask for: the name of the module, a database and an image.
+#[derive(Clone, Copy)]
+pub(crate) struct Request<'a> {
+    pub(crate) name: ModuleName<'a>,
+    pub(crate) db: &'a str,
+    pub(crate) image: Option<&'a str>,
+}
+
+// The command line as `clap` reads it.
+fn command<'a>(alloc: Global) -> Result<Command<'a>, AllocError>
+    ensures { IfOk result (λ command. app_of command ≡ vlog_command) }
+{
+    let command = Command::new(alloc, "icebox_vlog");
+    let command = with(command, short_option(alloc, "name", 'n'))?;
+    let command = with(command, positional(alloc, "db"))?;
+    with(command, positional(alloc, "image"))
+}
+
+// What the words ask for by what was found in them: the name has to be one, and there has to be a database.
+fn wanted<'a>(
+    name: Option<ModuleName<'a>>,
+    db: Option<&'a str>,
+    image: Option<&'a str>,
+) -> Option<Request<'a>>
+    ensures { vlog_task_for result ≡ vlog_task_of (name_text name.entry) (text_of db.entry) (text_of image.entry) }
+{
+    match (name, db) {
+        (Some(name), Some(db)) => Some(Request { name, db, image }),
+        _ => None,
+    }
+}
+
+// What the words ask for, where they are taken.
+#[tactic(auto, unfolding(crate::specs::Vlog::vlog_task))]
+pub(crate) fn request_of<'a>(
+    alloc: Global,
+    words: &'a [String],
+) -> Result<Option<Request<'a>>, AllocError>
+    ensures { IfOk result (λ request. vlog_task (map string_bytes words.entry.now) ≡ vlog_task_for request) }
+{
+    let command = command(alloc)?;
+    match parse(command, words)? {
+        Some(matches) => {
+            let given = value(&matches, "name");
+            let name = name_given(given);
+            let db = value(&matches, "db");
+            let image = value(&matches, "image");
+            Ok(wanted(name, db, image))
+        }
+        None => Ok(None),
+    }
+}

@@ -1,0 +1,162 @@
+// `icebox_vlog`: the module of an image.
+ghost use Rattle.std.specs.Prelude.{◌≡◌, map, string_bytes, IfOk, IfErr, Some};
+ghost use Rattle.ice_image.specs.Configuration.{Configuration};
+ghost use Rattle.ice_image.specs.Either.{configuration_of};
+ghost use Rattle.chipdb_reader.specs.Database.{Database};
+ghost use Rattle.chipdb_reader.specs.Kept.{database_in};
+ghost use Rattle.vlog_module.specs.Names.{IsName};
+ghost use Rattle.fabric.specs.Design.{IsDesignOf};
+ghost use Rattle.tool_run.specs.Runs.{Does, outside, scene};
+ghost use Rattle.tool_run.specs.Stops.{StopsWith};
+ghost use Rattle.tool_run.specs.Tasks.{Done};
+ghost use Rattle.fabric_tools.specs.Databases.{database_read};
+ghost use Rattle.fabric_tools.specs.Images.{image_read};
+ghost use Rattle.design_tools.specs.Fabric.{PromisesFabric};
+ghost use Rattle.design_tools.specs.Vlog.{vlog_outcome, vlog_task_for, written, written_of};
+
+use crate::faults::design_stop;
+use crate::name::ModuleName;
+use crate::request::{ICEBOX_VLOG_HELP, ICEBOX_VLOG_USAGE, Request, request_of};
+use chipdb_reader::ChipDb;
+use fabric::{Design, design};
+use fabric_tools::{DB_LIMIT, IMAGE_LIMIT, read_database, read_image};
+use ice_image::AnyImage;
+use ice_io::{Files, Sink, Source};
+use std::alloc::{AllocError, Global};
+use tool_run::{
+    AtOnce, Job, Load, Stop, Tool, answer_at_once, asks_for_help, give_up, loaded_at, perform,
+};
+use vlog_text::print;
+use vlog_write::emit;
+
+/// Writes the module of a database and an image, with a name.
+#[derive(Clone, Copy, Debug, PartialEq, Eq)]
+pub(crate) struct Writing<'a> {
+    pub(crate) name: ModuleName<'a>,
+}
+
+impl<'a> Tool for Writing<'a> {
+    ghost use Rattle.design_tools.specs.Fabric.{PromisesFabric};
+    ghost use Rattle.design_tools.specs.Vlog.{vlog_answer};
+
+    ghost answer_of = { λ tool texts. vlog_answer tool.name.text.now texts };
+
+    fn answer(&self, alloc: Global, loaded: &Vec<Vec<u8>>) -> Result<Vec<u8>, Stop> {
+        written_by(
+            alloc,
+            loaded_at(loaded, 0),
+            loaded_at(loaded, 1),
+            self.name.text.as_bytes(),
+        )
+    }
+}
+
+// The module of a database and an image, both in bytes.
+fn written_by(alloc: Global, db: &[u8], image: &[u8], name: &[u8]) -> Result<Vec<u8>, Stop>
+    requires { IsName name.now }
+    ensures bytes { IfOk result (λ bytes. written_of name.now (database_read db.now) (image_read image.now) ≡ Done bytes.items) }
+    ensures stops { IfErr result (StopsWith (written_of name.now (database_read db.now) (image_read image.now))) }
+{
+    let db = read_database(alloc, db)?;
+    let image = read_image(alloc, image)?;
+    text_of(alloc, &db, &image, name)
+}
+
+// The module of a database and an image.
+#[tactic(auto, using(crate::proofs::Written::stops_design))]
+fn text_of(alloc: Global, db: &ChipDb, image: &AnyImage, name: &[u8]) -> Result<Vec<u8>, Stop>
+    requires { IsName name.now }
+    ensures bytes { IfOk result (λ bytes. written name.now (database_in db.now) (configuration_of image.now) ≡ Done bytes.items) }
+    ensures stops { IfErr result (StopsWith (written name.now (database_in db.now) (configuration_of image.now))) }
+{
+    match design(alloc, db, image) {
+        Ok(design) => Ok(module_text(alloc, &design, name)?),
+        Err(fault) => Err(design_stop(&fault)),
+    }
+}
+
+// The text of the module of a design.
+fn module_text(alloc: Global, design: &Design, name: &[u8]) -> Result<Vec<u8>, AllocError>
+    requires { IsName name.now }
+    ensures { IfOk result (λ text. (db : Database) (image : Configuration) → IsDesignOf db image design.now → written name.now db image ≡ Done text.items) }
+{
+    let module = emit(alloc, design, name)?;
+    print(alloc, &module)
+}
+
+// Writes by the files of a request.
+fn write_files<F: Files, I: Source, O: Sink, E: Sink>(
+    alloc: Global,
+    request: Request<'_>,
+    files: &mut F,
+    input: &mut I,
+    output: &mut O,
+    errors: &mut E,
+) -> u8
+    ensures { Does (outside F.contents F.steady F.load_faults F.store_faults I.left I.faults O.held O.faults E.held E.faults)
+        (vlog_task_for (Some request.entry)) result
+        (scene files.old input.old output.old errors.old) (scene files.new input.new output.new errors.new) }
+{
+    let loads = [
+        Load {
+            name: Some(request.db),
+            limit: DB_LIMIT,
+        },
+        Load {
+            name: request.image,
+            limit: IMAGE_LIMIT,
+        },
+    ];
+    let tool = Writing { name: request.name };
+    let job = Job {
+        speaker: "icebox_vlog",
+        loads: &loads,
+        target: None,
+    };
+    perform(alloc, &tool, &job, files, input, output, errors)
+}
+
+// Does what the words ask for.
+fn do_words<F: Files, I: Source, O: Sink, E: Sink>(
+    alloc: Global,
+    words: &[String],
+    files: &mut F,
+    input: &mut I,
+    output: &mut O,
+    errors: &mut E,
+) -> u8
+    ensures { Does (outside F.contents F.steady F.load_faults F.store_faults I.left I.faults O.held O.faults E.held E.faults)
+        (vlog_outcome (map string_bytes words.now)) result
+        (scene files.old input.old output.old errors.old) (scene files.new input.new output.new errors.new) }
+{
+    let speaker = "icebox_vlog";
+    if asks_for_help(words) {
+        let answer = AtOnce::Tells(ICEBOX_VLOG_HELP);
+        return answer_at_once(alloc, speaker, answer, files, input, output, errors);
+    }
+    match request_of(alloc, words) {
+        Ok(Some(request)) => write_files(alloc, request, files, input, output, errors),
+        Ok(None) => {
+            let answer = AtOnce::NotTaken(ICEBOX_VLOG_USAGE);
+            answer_at_once(alloc, speaker, answer, files, input, output, errors)
+        }
+        Err(AllocError) => give_up(speaker, files, input, output, errors),
+    }
+}
+
+/// Runs `icebox_vlog` with these words, of which the first is its name.
+pub fn run_icebox_vlog<F: Files, I: Source, O: Sink, E: Sink>(
+    alloc: Global,
+    words: &[String],
+    files: &mut F,
+    input: &mut I,
+    output: &mut O,
+    errors: &mut E,
+) -> u8
+    ensures does { Does (outside F.contents F.steady F.load_faults F.store_faults I.left I.faults O.held O.faults E.held E.faults)
+        (vlog_outcome (map string_bytes words.now)) result
+        (scene files.old input.old output.old errors.old) (scene files.new input.new output.new errors.new) }
+    ensures fabric { PromisesFabric (map string_bytes words.now) result (F.contents files.old) (I.left input.old) (O.held output.old) (O.held output.new) }
+{
+    do_words(alloc, words, files, input, output, errors)
+}

@@ -10,6 +10,7 @@ use ice_image::AnyImage;
 use plane_map::{DeviceName, Hx1k, TileBit, TileKind, kind_at, tile_width};
 use std::alloc::{AllocError, Global};
 use vlog_cycle::Runner;
+use vlog_module::{Module, is_name};
 
 /// Three inputs a, b and c, and an output: the carry out of two cells, the first over a, b and a carry in that is set, the second over
 /// c alone.
@@ -164,12 +165,21 @@ fn design_with(alloc: Global, text: &[u8], bits: &[Bit]) -> Option<Design> {
     }
 }
 
+/// The module of a design, where the name is one.
+fn module_of(alloc: Global, design: &Design, name: &[u8]) -> Option<Module> {
+    if is_name(name) {
+        emit(alloc, design, name).ok()
+    } else {
+        None
+    }
+}
+
 /// The runner of the module of a database and an image.
 fn runner(alloc: Global, text: &[u8], bits: &[Bit]) -> Option<Runner> {
     let design = design_with(alloc, text, bits)?;
-    match emit(alloc, &design, b"chip") {
-        Ok(module) => Runner::new(alloc, &module).ok(),
-        Err(_) => None,
+    match module_of(alloc, &design, b"chip") {
+        Some(module) => Runner::new(alloc, &module).ok(),
+        None => None,
     }
 }
 

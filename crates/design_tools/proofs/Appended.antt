@@ -1,11 +1,10 @@
 -- What a task appends to standard output.
 use Rattle.std.proofs.Common.{◌≡◌, ℕ, List, refl, sym, subst}
 use Rattle.std.specs.Prelude.{IsOkAnd, Option, None, Result, Ok, Err}
-use Rattle.ice_io.specs.Files.{FileMap}
 use Rattle.tool_run.specs.Effects.{Delivers}
 use Rattle.tool_run.specs.Needs.{Need}
 use Rattle.tool_run.specs.Runs.{Does, HasBytes, Outside, Scene}
-use Rattle.tool_run.specs.Tasks.{Answer, Done, Refused, NotTaken, LoadFault, Missing, TooLong, Task, answered, ended, loaded, outcome_of, reached}
+use Rattle.tool_run.specs.Tasks.{Answer, Done, Refused, NotTaken, LoadFault, Missing, TooLong, Task, answered, ended, loaded, reached}
 use Rattle.tool_run.proofs.Same.{Does-same}
 use Rattle.design_tools.specs.Fabric.{AppendsFor}
 

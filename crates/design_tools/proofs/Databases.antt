@@ -1,5 +1,5 @@
 -- What holds of a database that is read: it is fit, and has few nets.
-use Rattle.std.proofs.Common.{◌≡◌, ℕ, zero, suc, ◌^◌, ◌≤◌, Bool, true, false, List, [], ◌∷◌, length, refl, sym, ap, ◌∙◌, inl, inr, arith, subst}
+use Rattle.std.proofs.Common.{◌≡◌, ℕ, zero, suc, ◌^◌, ◌≤◌, Bool, true, false, List, [], ◌∷◌, length, refl, inl, inr, arith, subst}
 use Rattle.std.specs.Prelude.{◌&&◌, ◌==◌, nat_le, IfSome, Option, Some, None, Ok, if◌then◌else◌, get_or, drop}
 use Rattle.std.proofs.lemmas.Bool.{cases_Bool, leb-true}
 use Rattle.place_search.specs.Places.{first_below, or_else}

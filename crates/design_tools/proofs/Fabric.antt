@@ -1,7 +1,6 @@
 -- The text that is written for a database and an image is that of their fabric.
-use Rattle.std.proofs.Common.{◌≡◌, ℕ, ◌^◌, ◌≤◌, Bool, true, false, List, [], ◌∷◌, map, refl, sym, ap, subst, ◌∙◌, inl, inr}
+use Rattle.std.proofs.Common.{◌≡◌, ℕ, ◌^◌, ◌≤◌, Bool, true, false, List, [], refl, subst}
 use Rattle.std.specs.Prelude.{Option, Some, None, Result, Ok, Err, get_or, codes, if◌then◌else◌, ◌&&◌, nat_le, length}
-use Rattle.std.proofs.lemmas.Bool.{cases_Bool}
 use Rattle.clap.specs.Words.{Row, Text, first_of, matches_of}
 use Rattle.ice_image.specs.Configuration.{Configuration}
 use Rattle.chipdb_reader.specs.Database.{Database}
@@ -25,7 +24,7 @@ use Rattle.tool_run.specs.Runs.{Does, Outside, Scene}
 use Rattle.tool_run.specs.Tasks.{Done, Task, not_taken}
 use Rattle.tool_words.specs.Commands.{is_taken}
 use Rattle.design_tools.specs.declared.request.TheConstants.{ICEBOX_VLOG_HELP}
-use Rattle.design_tools.specs.Names.{module_name, name_given}
+use Rattle.design_tools.specs.Names.{name_given}
 use Rattle.design_tools.specs.Order.{write_order}
 use Rattle.design_tools.specs.Vlog.{written_module, written_of, written_with, vlog_command, vlog_name, vlog_outcome, vlog_task, vlog_task_by, vlog_task_of, vlog_usage}
 use Rattle.design_tools.specs.Fabric.{PromisesFabric, SpellsFabric, WritesFabric, fabric_events}

@@ -1,23 +1,20 @@
 -- What `vlogrun` writes of a module that matches a fabric, and of its text.
-use Rattle.std.proofs.Common.{◌≡◌, ℕ, Bool, true, false, List, [], ◌∷◌, ◌++◌, map, refl, sym, ap, ap₂, ◌∙◌}
-use Rattle.std.specs.Prelude.{flat_map, get_or, Option, Some, None, if◌then◌else◌}
+use Rattle.std.proofs.Common.{◌≡◌, ℕ, Bool, List, [], ◌∷◌, ◌++◌, map, refl, sym, ap, ap₂, ◌∙◌}
+use Rattle.std.specs.Prelude.{flat_map, Option, Some, None, if◌then◌else◌}
 use Rattle.std.specs.List.{AllZip}
-use Rattle.bit_plane.specs.BitList.{word_of}
 use Rattle.vlog_module.specs.Parts.{Parts}
 use Rattle.vlog_forms.specs.Items.{IsSpelling}
-use Rattle.vlog_forms.specs.Outcome.{outcome_of}
 use Rattle.vlog_forms.proofs.Spelled.{outcome-spelled}
 use Rattle.vlog_cycle.specs.declared.event.Event.{Event as ModuleEvent}
 use Rattle.vlog_cycle.specs.declared.event.EventFault.{EventFault}
 use Rattle.vlog_cycle.specs.Entries.{Entry as ModuleEntry}
 use Rattle.vlog_cycle.specs.Events.{event_fault, events_of}
-use Rattle.vlog_cycle.specs.Named.{values_of}
 use Rattle.vlog_cycle.specs.Run.{module_run}
 use Rattle.vlog_cycle.specs.Text.{bit_digit, word_text, registers_text, entry_line, run_text}
 use Rattle.fabric_rules.specs.Fabric.{Fabric}
 use Rattle.fabric_rules.specs.Steps.{Entry}
 use Rattle.vlog_emit.specs.Matching.{Matches, module_event}
-use Rattle.tool_run.specs.Tasks.{Answer, Done}
+use Rattle.tool_run.specs.Tasks.{Done}
 use Rattle.module_tools.specs.Vlogrun.{run_over, run_of, vlogrun_answer}
 use Rattle.design_tools.specs.Fabric.{fabric_event, fabric_line, fabric_text, state_text}
 

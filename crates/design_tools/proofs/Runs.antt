@@ -1,5 +1,5 @@
 -- What a run of `vlogrun` appends where its module spells a fabric.
-use Rattle.std.proofs.Common.{◌≡◌, ℕ, Bool, true, false, List, [], ◌∷◌, codes, refl}
+use Rattle.std.proofs.Common.{◌≡◌, ℕ, Bool, true, false, List, [], codes, refl}
 use Rattle.std.specs.Prelude.{Option, Some, None, get_or, if◌then◌else◌}
 use Rattle.clap.specs.Words.{Text, first_of, matches_of}
 use Rattle.tool_run.specs.Runs.{Does, Outside, Scene}
@@ -7,7 +7,7 @@ use Rattle.tool_run.specs.Tasks.{Done, Task, not_taken}
 use Rattle.tool_words.specs.Commands.{is_taken}
 use Rattle.fabric_tools.proofs.CommandLines.{helped-no}
 use Rattle.module_tools.specs.declared.request.TheConstants.{VLOGRUN_HELP}
-use Rattle.module_tools.specs.Vlogrun.{vlogrun_answer, vlogrun_command, vlogrun_name, vlogrun_outcome, vlogrun_task, vlogrun_task_by, vlogrun_task_of, vlogrun_usage}
+use Rattle.module_tools.specs.Vlogrun.{vlogrun_command, vlogrun_name, vlogrun_outcome, vlogrun_task, vlogrun_task_by, vlogrun_task_of, vlogrun_usage}
 use Rattle.design_tools.specs.Fabric.{PromisesRun, RunsFabric, shows_registers}
 use Rattle.design_tools.proofs.Appended.{helped-kept}
 

@@ -7,7 +7,7 @@ use Rattle.fabric.specs.declared.fault.FabricFault.{FabricFault}
 use Rattle.fabric.specs.declared.fault.FabricFault.TheVariants.{Device, Pll, PinMode, Mode, Cascade, Async, TwoDrivers, Loop, Clock, Memory as OutOfMemory}
 use Rattle.tool_run.specs.Lines.{refusal_text, six_digits}
 use Rattle.tool_run.specs.declared.tool.Stop.{Stop}
-use Rattle.tool_run.specs.declared.tool.Stop.TheVariants.{Refused, NotTaken, Memory}
+use Rattle.tool_run.specs.declared.tool.Stop.TheVariants.{Refused, Memory}
 
 abbrev pub tile_text : ℕ → ℕ → List ℕ
 tile_text x y = codes "tile " ++ decimal x ++ codes " " ++ decimal y

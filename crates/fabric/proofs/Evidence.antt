@@ -1,7 +1,7 @@
 -- The first of some faults has what it tells.
 use Rattle.std.proofs.Common.{◌≡◌, ℕ, zero, suc, ◌+◌, ◌<◌, ◌≤◌, Bool, true, false, List, [], ◌∷◌, ◌++◌, length, refl, sym, ap, subst, ◌∙◌, arith, inl, inr}
 use Rattle.std.specs.Prelude.{Option, Some, None, Contains, flat_map, slice_index, get_or, ◌⊎◌}
-use Rattle.std.proofs.lemmas.Bool.{cases_lt}
+use Rattle.std.proofs.lemmas.Bool.{cases_lt, false≢true}
 use Rattle.plane_map.specs.declared.device.DeviceName.{DeviceName}
 use Rattle.place_search.specs.Places.{gathered_below}
 use Rattle.fabric_rules.specs.declared.driver.Driver.{Driver}
@@ -9,7 +9,10 @@ use Rattle.fabric_rules.specs.declared.driver.ClockUser.{ClockUser}
 use Rattle.fabric_rules.specs.Tiles.{first_of, item_if}
 use Rattle.fabric_rules.specs.Fabric.{Fabric}
 use Rattle.fabric_rules.specs.Drivers.{Drive, drivers_of}
+use Rattle.std.specs.declared.vec.Vec.{Vec}
 use Rattle.fabric_rules.specs.Wiring.{Wiring, wiring_of, is_on_cycle, IsCycle}
+use Rattle.fabric_rules.proofs.Cycles.{IsBounded, is_on_cycle-whole}
+use Rattle.fabric_order.specs.Rows.{is_marked, ReadsByDriven, wiring_of as rows_wiring}
 use Rattle.fabric_rules.specs.Clocks.{ClockEnd, User, users_of, clock_end}
 use Rattle.fabric_rules.specs.Clocks.ClockEnd.{at_pin, still, other}
 use Rattle.fabric_rules.specs.Faults.{Fault, drivers_fault, driver_faults, loop_faults, end_fault, user_fault, clock_faults, fabric_fault}
@@ -133,14 +136,36 @@ unfolding loop_faults
 loop-none wiring none =
     ap first_of (gathered-empty wiring.count (λ k. item_if (is_on_cycle wiring k) (Fault.loop k)) (λ k below. off-cycle wiring k (none k below)))
 
--- a cycle from the least class that lies on one is the evidence of that class
-pub loop-told : (fabric : Fabric) (wiring : Wiring) → AreAlike wiring (wiring_of fabric) → (cycle : List ℕ) (net : ℕ) → IsCycle wiring cycle → net ≡ get_or cycle 0 net
-    → slice_index cycle 0 < wiring.count → is_on_cycle wiring (slice_index cycle 0) ≡ true → ((k : ℕ) → k < slice_index cycle 0 → is_on_cycle wiring k ≡ false)
-    → (first_of (loop_faults (wiring_of fabric)) ≡ Some (Fault.loop net)) × IsCycleFrom fabric net cycle
-loop-told fabric wiring alike [] net is_cycle first below on least = absurd is_cycle
-loop-told fabric wiring alike (head ∷ rest) net is_cycle first below on least =
-    let told = loop-first (wiring_of fabric) head (subst (λ n. head < n) alike.count below) (sym (is_on_cycle-alike alike head) ∙ on) (λ k lower. sym (is_on_cycle-alike alike k) ∙ least k lower) in
-    (told ∙ ap (λ n. Some (Fault.loop n)) (sym first), record { is_cycle = cycle-alike alike (head ∷ rest) is_cycle; begins = ap (λ n. Some n) (sym first) })
+marked-within : (marks : List Bool) (n : ℕ) → is_marked marks n ≡ true → n < length marks
+marked-within [] n marked = absurd (false≢true marked)
+marked-within (mark ∷ marks) zero marked = omega arith
+marked-within (mark ∷ marks) (suc n) marked = omega (arith, marked-within marks n marked)
+
+module _ {Z : Type 0} (fabric : Fabric) (driven : List Bool) (reads : List (Vec ℕ Z)) (alike : AreAlike (rows_wiring driven reads) (wiring_of fabric)) where
+  -- only classes of the wiring are driven and read others
+  bounded : ReadsByDriven (rows_wiring driven reads) → IsBounded (wiring_of fabric)
+  bounded by_driven = record {
+    driven = λ class drives. subst (λ n. class < n) alike.count (marked-within driven class (alike.driven class ∙ drives));
+    depending = λ class other on. subst (λ n. class < n) alike.count (marked-within driven class (by_driven class other (alike.reads class other ∙ on)));
+  }
+
+  -- a cycle from the least class that lies on one is the evidence of that class
+  pub loop-told : ReadsByDriven (rows_wiring driven reads) → (cycle : List ℕ) (net : ℕ) → IsCycle (rows_wiring driven reads) cycle → net ≡ get_or cycle 0 net
+      → slice_index cycle 0 < length driven → is_on_cycle (rows_wiring driven reads) (slice_index cycle 0) ≡ true
+      → ((k : ℕ) → k < slice_index cycle 0 → is_on_cycle (rows_wiring driven reads) k ≡ false)
+      → (first_of (loop_faults (wiring_of fabric)) ≡ Some (Fault.loop net)) × IsCycleFrom fabric net cycle
+  loop-told by_driven [] net is_cycle first below on least = absurd is_cycle
+  loop-told by_driven (head ∷ rest) net is_cycle first below on least =
+      let off = λ (k : ℕ) (lower : k < head). sym (is_on_cycle-alike alike k) ∙ least k lower in
+      let told = loop-first (wiring_of fabric) head (subst (λ n. head < n) alike.count below) (sym (is_on_cycle-alike alike head) ∙ on) off in (
+        told ∙ ap (λ n. Some (Fault.loop n)) (sym first),
+        record {
+          is_cycle = cycle-alike alike (head ∷ rest) is_cycle;
+          begins = ap (λ n. Some n) (sym first);
+          least = λ lesser more lower cycles.
+              false≢true (sym (off lesser (subst (λ n. lesser < n) first lower)) ∙ is_on_cycle-whole (wiring_of fabric) (bounded by_driven) lesser more cycles);
+        },
+      )
 
 -- a wiring that says what a fabric does has as many classes as the fabric has nets
 pub nets-few : (fabric : Fabric) (wiring : Wiring) (most : ℕ) → AreAlike wiring (wiring_of fabric) → wiring.count ≤ most → fabric.nets ≤ most

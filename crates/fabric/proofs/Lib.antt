@@ -4,3 +4,4 @@ pub mod Buffers
 pub mod StartWords
 pub mod Composed
 pub mod Evidence
+pub mod Clocked

@@ -9,6 +9,8 @@ use Rattle.fabric_rules.specs.Fabric.{fabric_of}
 use Rattle.fabric_rules.specs.Clocks.{ClockEnd}
 use Rattle.fabric_rules.specs.Clocks.ClockEnd.{at_pin, still, other}
 use Rattle.fabric_rules.specs.Faults.{design_fault}
+use Rattle.fabric_drivers.specs.declared.parts.Buffer.{Buffer}
+use Rattle.fabric.specs.declared.kept.LinkEnds.{LinkEnds}
 use Rattle.fabric.specs.Kept.{Kept, IsKeptOf}
 
 -- A design is of a database and an image where they have no fault and it keeps what they configure.
@@ -27,3 +29,7 @@ abbrev pub end_pin : List Pin → ClockEnd → Option PinXy
 end_pin inputs (at_pin place) = option_map (λ pin. record { x = pin.x; y = pin.y; n = pin.n }) (slice_get inputs place)
 end_pin inputs still = None
 end_pin inputs other = None
+
+-- the two nets of a buffer
+abbrev pub ends_of : Buffer → LinkEnds
+ends_of buffer = record { src = buffer.src; dst = buffer.dst }

@@ -1,5 +1,5 @@
 -- Why a database and an image aren't taken, with the evidence.
-use Rattle.std.specs.Prelude.{◌≡◌, ℕ, List, ◌∷◌, Contains, Option, Some, None}
+use Rattle.std.specs.Prelude.{◌≡◌, ℕ, ◌<◌, List, ◌∷◌, Contains, Option, Some, None}
 use Rattle.ice_image.specs.Configuration.{Configuration}
 use Rattle.fabric_rules.specs.declared.driver.Driver.{Driver}
 use Rattle.fabric_rules.specs.declared.driver.ClockUser.{ClockUser}
@@ -26,10 +26,11 @@ pub record AreTwoDrivers (fabric : Fabric) (class : ℕ) (first second : Driver)
   pub first_is : one.driver ≡ first
   pub second_is : two.driver ≡ second
 
--- a cycle that begins with a class: each class depends on the next, and the last one on the first
+-- A cycle that begins with a class: each class depends on the next, and the last one on the first. No cycle has a lesser class.
 pub record IsCycleFrom (fabric : Fabric) (class : ℕ) (cycle : List ℕ) : Type 0 where
   pub is_cycle : IsCycle (wiring_of fabric) cycle
   pub begins : first_of cycle ≡ Some class
+  pub least : (lesser : ℕ) (rest : List ℕ) → lesser < class → IsCycle (wiring_of fabric) (lesser ∷ rest) → ⊥
 
 -- a user of a clock whose chain ends at another driver than a pin
 pub record IsUnclocked (device : DeviceName) (fabric : Fabric) (x y : ℕ) (user : ClockUser) (net : ℕ) : Type 0 where

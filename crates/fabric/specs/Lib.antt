@@ -3,3 +3,4 @@ pub mod Design
 pub mod Faults
 pub mod Buffers
 pub mod Causes
+pub mod Clocks

@@ -1,5 +1,5 @@
 // Designs.
-ghost use Rattle.std.specs.Prelude.{◌≡◌, ℕ, ◌<◌, ◌*◌, length, List};
+ghost use Rattle.std.specs.Prelude.{find, true, ◌==◌, ◌≡◌, ℕ, ◌<◌, ◌*◌, length, List};
 ghost use Rattle.std.specs.Option.{option_map};
 ghost use Rattle.std.specs.List.{list_any};
 ghost use Rattle.ice_image.specs.Configuration.{Configuration};
@@ -8,7 +8,7 @@ ghost use Rattle.net_extract.specs.Links.{class_in};
 ghost use Rattle.fabric_drivers.specs.Kept.{driver_in};
 ghost use Rattle.fabric_clocks.specs.Ends.{end_in, end_of};
 ghost use Rattle.fabric.specs.Kept.{word_in, IsKeptOf};
-ghost use Rattle.fabric.specs.Design.{IsDesign, end_pin};
+ghost use Rattle.fabric.specs.Design.{IsDesign, end_pin, ends_of};
 
 use chipdb_reader::PinXy;
 use fabric_clocks::ClockEnd;
@@ -46,6 +46,19 @@ impl Model for Design {
     ghost view = { λ design. record { parts = design.parts; inputs = design.inputs.items; drivers = design.drivers; order = design.order.items; ends = design.ends.items; words = design.words.items } };
 
     ghost invariant = { λ design. IsDesign (record { parts = design.parts; inputs = design.inputs.items; drivers = design.drivers; order = design.order.items; ends = design.ends.items; words = design.words.items }) };
+}
+
+/// The two nets of the buffer of a line, where there is one.
+fn ends_of_line(buffers: &[Buffer], line: u32) -> Option<LinkEnds>
+    ensures { result ≡ option_map ends_of (find (λ buffer. buffer.line == line) buffers.now) }
+{
+    match buffers.iter().find(|buffer| buffer.line == line) {
+        None => None,
+        Some(buffer) => Some(LinkEnds {
+            src: buffer.src,
+            dst: buffer.dst,
+        }),
+    }
 }
 
 impl Design {
@@ -185,6 +198,13 @@ impl Design {
             }),
             ClockEnd::Still | ClockEnd::Other => None,
         }
+    }
+
+    /// The two nets of the buffer of a line, where it is on.
+    pub fn link(&self, line: u32) -> Option<LinkEnds>
+        ensures { result ≡ option_map ends_of (find (λ buffer. buffer.line == line) self.now.parts.buffers.items) }
+    {
+        ends_of_line(&self.parts.buffers, line)
     }
 
     /// A start word of the used RAM at a place.

@@ -17,3 +17,6 @@ pub use cycle::Cycle;
 pub use fault::FabricFault;
 pub use find::design;
 pub use kept::{Design, LinkEnds};
+
+#[cfg(test)]
+mod tests;

@@ -271,14 +271,17 @@ module _ (fabric : Fabric) (within : IsWithin fabric) (writable : IsWritable fab
       class-small class driven,
     )
 
+    -- the wire is that of a class with a driver, and has its value
+    abbrev IsClassWire : List ℕ × Bool → Type 0
+    IsClassWire wire = (class : ℕ) × (is_driven fabric class ≡ true) × (wire.0 ≡ wire_name class) × (wire.1 ≡ bit_in v class)
+
     wires-hold : HasWires fabric v (map (wire_of v) order)
     wires-hold = record {
       each = λ class driven. let found = listed-all class driven in wires-value v order class all-small found.1 found.0;
       only = λ wire there.
-          All-contains (λ (w : List ℕ × Bool). (class : ℕ) × (is_driven fabric class ≡ true) × (w.0 ≡ wire_name class)) (map (wire_of v) order) wire
-          (All-map (λ (w : List ℕ × Bool). (class : ℕ) × (is_driven fabric class ≡ true) × (w.0 ≡ wire_name class)) (wire_of v) order
-          (All-weaker (λ c. is_driven fabric c ≡ true) (λ c. (class : ℕ) × (is_driven fabric class ≡ true) × (wire_name c ≡ wire_name class))
-          (λ c driven. (c, driven, refl)) order all-driven)) there;
+          All-contains IsClassWire (map (wire_of v) order) wire
+          (All-map IsClassWire (wire_of v) order
+          (All-weaker (λ c. is_driven fabric c ≡ true) (λ c. IsClassWire (wire_of v c)) (λ c driven. (c, driven, refl, refl)) order all-driven)) there;
     }
 
     abbrev pub from_all : Readable

@@ -19,7 +19,8 @@ pub record HasValues {A : Type 0} (entries : List (List ℕ × A)) (names : List
 -- exactly the classes with a driver have a wire, and each wire has the value of its class
 pub record HasWires (fabric : Fabric) (v : List Bool) (wires : List (List ℕ × Bool)) : Type 0 where
   pub each : (class : ℕ) → is_driven fabric class ≡ true → value_in wires (wire_name class) ≡ Some (bit_in v class)
-  pub only : (wire : List ℕ × Bool) → Contains wires wire → (class : ℕ) × (is_driven fabric class ≡ true) × (wire.0 ≡ wire_name class)
+  pub only : (wire : List ℕ × Bool) → Contains wires wire
+      → (class : ℕ) × (is_driven fabric class ≡ true) × (wire.0 ≡ wire_name class) × (wire.1 ≡ bit_in v class)
 
 -- An entry of a fabric and one of a module match: inputs and outputs have the values of the pins, in the order of the ports,
 -- registers and memories those of the state, and wires those of the nets.

@@ -1,9 +1,7 @@
 // Items.
-ghost use Rattle.std.specs.Prelude.{◌≡◌, ◌<◌, ◌++◌, List, get_or, IfOk, OnOk};
-ghost use Rattle.bit_plane.specs.BitList.{word_of};
+ghost use Rattle.std.specs.Prelude.{◌≡◌, ◌<◌, ◌++◌, IfOk, OnOk};
 ghost use Rattle.fabric_rules.specs.Within.{IsNetIn, IsPinIn, IsCellIn, IsRamIn};
 ghost use Rattle.fabric.specs.Design.{IsDesign};
-ghost use Rattle.vlog_emit.specs.Names.{memory_name};
 ghost use Rattle.vlog_emit.specs.Written.{clock_name, port_of, flip_register, read_register, ram_memory, class_wire, output_assign, flip_item, flip_items, read_item, read_items, write_item, write_items};
 ghost use Rattle.vlog_write.specs.Each.{EachFabric, nets_in, flips_in};
 

@@ -12,4 +12,6 @@ mod whole;
 pub use whole::emit;
 
 #[cfg(test)]
+mod runs;
+#[cfg(test)]
 mod tests;

@@ -1,11 +1,9 @@
 // The sections of a module.
-ghost use Rattle.std.specs.Prelude.{◌≡◌, ◌<◌, ◌++◌, All, map, flat_map, length, get_or, filter, [], IfOk, OnOk};
-ghost use Rattle.place_search.specs.Places.{gathered_below};
-ghost use Rattle.fabric_rules.specs.Fabric.{numbered, outputs_of, flips_of};
+ghost use Rattle.std.specs.Prelude.{◌≡◌, ◌<◌, ◌++◌, All, map, flat_map, length, IfOk, OnOk};
+ghost use Rattle.fabric_rules.specs.Fabric.{numbered};
 ghost use Rattle.fabric_rules.specs.Within.{IsPinIn, IsCellIn, IsRamIn};
 ghost use Rattle.fabric.specs.Design.{IsDesign};
-ghost use Rattle.vlog_emit.specs.Names.{memory_name};
-ghost use Rattle.vlog_emit.specs.Written.{port_of, flip_register, read_register, ram_memory, class_wire, output_assign, flip_items, read_items, write_items, start_item, start_items};
+ghost use Rattle.vlog_emit.specs.Written.{port_of, flip_register, read_register, ram_memory, class_wire, output_assign, flip_items, read_items, write_items, start_items};
 ghost use Rattle.vlog_write.specs.Each.{EachFabric, nets_in, flips_in};
 
 use crate::items::{

@@ -1,14 +1,12 @@
 // The module of a design.
-ghost use Rattle.std.specs.Prelude.{◌≡◌, ◌++◌, List, ℕ, All, map, flat_map, filter, IfOk, OnOk};
-ghost use Rattle.std.specs.List.{AllZip};
+ghost use Rattle.std.specs.Prelude.{◌≡◌, ◌++◌, map, flat_map, filter, IfOk, OnOk};
 ghost use Rattle.ice_image.specs.Configuration.{Configuration};
 ghost use Rattle.chipdb_reader.specs.Database.{Database};
 ghost use Rattle.vlog_module.specs.Names.{IsName};
-ghost use Rattle.fabric_rules.specs.Fabric.{fabric_of, numbered, outputs_of};
-ghost use Rattle.fabric_rules.specs.Within.{IsPinIn, IsCellIn, IsRamIn};
-ghost use Rattle.fabric.specs.Design.{IsDesign, IsDesignOf};
-ghost use Rattle.vlog_emit.specs.Written.{flip_register, read_register, ram_memory, class_wire, output_assign, flip_items, read_items, write_items, start_items, items_of, module_of};
-ghost use Rattle.vlog_write.specs.Each.{EachFabric, nets_in, flips_in};
+ghost use Rattle.fabric_rules.specs.Fabric.{fabric_of, outputs_of};
+ghost use Rattle.fabric.specs.Design.{IsDesignOf};
+ghost use Rattle.vlog_emit.specs.Written.{flip_register, read_register, ram_memory, class_wire, output_assign, flip_items, read_items, write_items, items_of, module_of};
+ghost use Rattle.vlog_write.specs.Each.{EachFabric, flips_in};
 ghost use Rattle.vlog_write.specs.Runs.{RunsAs};
 
 use crate::sections::{

@@ -4,6 +4,9 @@ use super::small::{DATABASE, INPUT, INVERTER, OUTPUT, Tile, image};
 use super::{DEVICE, Ended, PLAIN, Setup, made, modules, outcome};
 use std::alloc::{AllocError, Global};
 
+/// The words without options.
+const ALONE: &[&str] = &["icebox_vlog", "A"];
+
 /// Lines behind the database: a cell with a clock, and loops of its output.
 const CLOCKED: &str = ".logic_tile_bits 54 16
 NegClk B6[0]
@@ -81,13 +84,23 @@ module chip (io_0_1_0, io_0_2_0);
 endmodule
 ";
 
-/// What these words leave with lines behind the database in the file `A`, and an image on standard input.
-fn ended(alloc: Global, words: &[&str], lines: &str, image: &[u8]) -> Result<Ended, AllocError> {
+/// The database with lines behind it.
+fn database(alloc: Global, lines: &str) -> Result<Vec<u8>, AllocError> {
     let mut database = DATABASE.as_bytes().to_vec(alloc)?;
     database.extend_from_slice(lines.as_bytes())?;
+    Ok(database)
+}
+
+/// What these words leave with a database in the file `A`, and an image on standard input.
+fn left_by<'a>(
+    alloc: Global,
+    words: &[&str],
+    database: &'a [u8],
+    image: &'a [u8],
+) -> Result<Ended, AllocError> {
     let setup = Setup {
         first_name: "A",
-        first: &database,
+        first: database,
         input: image,
         ..PLAIN
     };
@@ -102,14 +115,15 @@ fn is_written(
     image: &[u8],
     module: &str,
 ) -> Result<bool, AllocError> {
-    let ended = ended(alloc, words, lines, image)?;
+    let database = database(alloc, lines)?;
+    let ended = left_by(alloc, words, &database, image)?;
     Ok(ended.says(0, "") && ended.output.as_slice() == module.as_bytes())
 }
 
 /// Whether that module is written of an image by its tiles.
 fn writes(alloc: Global, lines: &str, tiles: &[Tile], module: &str) -> Result<bool, AllocError> {
     let image = image(alloc, tiles)?;
-    is_written(alloc, &["icebox_vlog", "A"], lines, &image, module)
+    is_written(alloc, ALONE, lines, &image, module)
 }
 
 /// Whether that module is written of the bitstream of an image.
@@ -120,7 +134,7 @@ fn writes_of_a_bitstream(
     module: &str,
 ) -> Result<bool, AllocError> {
     let stream = made(alloc, &["icepack"], &image(alloc, tiles)?)?;
-    is_written(alloc, &["icebox_vlog", "A"], lines, &stream, module)
+    is_written(alloc, ALONE, lines, &stream, module)
 }
 
 #[test]
@@ -159,7 +173,7 @@ fn names_a_module(rt: HostRuntime) {
 /// Lines behind the database, the tiles of an image, and the line.
 type Refused = (&'static str, &'static [Tile], &'static str);
 
-static REFUSED: [Refused; 10] = [
+static REFUSED: [Refused; 11] = [
     (
         PINS,
         &[(".io_tile 0 1\n", 18, &[(7, 0)])],
@@ -196,6 +210,14 @@ static REFUSED: [Refused; 10] = [
     (
         CLOCKED,
         &[(".logic_tile 1 1\n", 54, &[(0, 45), (1, 45), (2, 0), (3, 0)])],
+        "icebox_vlog: tile 0 1 pin 0: PinMode 000000\n",
+    ),
+    (
+        CLOCKED,
+        &[
+            INPUT,
+            (".logic_tile 1 1\n", 54, &[(0, 45), (1, 45), (2, 0), (3, 0)]),
+        ],
         "icebox_vlog: tile 1 1 cell 0: Async\n",
     ),
     (
@@ -218,7 +240,8 @@ static REFUSED: [Refused; 10] = [
 /// Whether an image is refused with that line.
 fn is_refused(alloc: Global, refused: &Refused) -> Result<bool, AllocError> {
     let image = image(alloc, refused.1)?;
-    Ok(ended(alloc, &["icebox_vlog", "A"], refused.0, &image)?.refuses(1, refused.2))
+    let database = database(alloc, refused.0)?;
+    Ok(left_by(alloc, ALONE, &database, &image)?.refuses(1, refused.2))
 }
 
 #[test]
@@ -253,17 +276,14 @@ static FAULTY: [Faulty; 5] = [
 
 /// Whether bytes are refused with that line.
 fn is_faulty(alloc: Global, faulty: &Faulty) -> Result<bool, AllocError> {
-    Ok(ended(alloc, &["icebox_vlog", "A"], faulty.0, faulty.1)?.refuses(1, faulty.2))
+    let database = database(alloc, faulty.0)?;
+    Ok(left_by(alloc, ALONE, &database, faulty.1)?.refuses(1, faulty.2))
 }
 
 /// Whether an empty database is refused.
 fn refuses_an_empty_one(alloc: Global) -> Result<bool, AllocError> {
-    let setup = Setup {
-        first_name: "A",
-        ..PLAIN
-    };
     let line = "icebox_vlog: database line 1: NoDevice\n";
-    Ok(outcome(alloc, setup, &["icebox_vlog", "A"])?.refuses(1, line))
+    Ok(left_by(alloc, ALONE, b"", b"")?.refuses(1, line))
 }
 
 #[test]

@@ -15,13 +15,15 @@ use Rattle.fabric.proofs.Refused.{told, fabric-left}
 use Rattle.fabric.proofs.Evidence.{same-cause}
 use Rattle.fabric.specs.Design.{IsDesignOf}
 use Rattle.fabric.proofs.Composed.{rams-kept, designed}
+use Rattle.fabric.proofs.Clocked.{ends-lead, run-has-clocks}
 use Rattle.fabric.proofs.find.design.Goals as goal
 
 pub wire-requires : goal.wire-requires
 wire-requires c =
-    let same : (configuration_of c.args.image.now).device ≡ device_of c.args.image.now = sym c.device-2.ensures.device ∙ c.device-2.ensures.name in
-    (c.in_ok-parts.ensures.parts,
-    rams-kept (database_in c.args.db.now) (configuration_of c.args.image.now) (device_of c.args.image.now) same c.in_ok-parts.parts.rams.items c.in_ok-parts.ensures.parts.rams)
+    let same : (configuration_of c.args.image.now).device ≡ device_of c.args.image.now = sym c.device-2.ensures.device ∙ c.device-2.ensures.name in (
+      c.in_ok-parts.ensures.parts,
+      rams-kept (database_in c.args.db.now) (configuration_of c.args.image.now) (device_of c.args.image.now) same c.in_ok-parts.parts.rams.items c.in_ok-parts.ensures.parts.rams,
+    )
 
 pub returns-in_err-wired-clause-refused : goal.returns-in_err-wired-clause-refused
 returns-in_err-wired-clause-refused c =
@@ -35,12 +37,15 @@ returns-in_err-wired-clause-refused c =
 pub of-requires : goal.of-requires
 of-requires c =
     let db = database_in c.args.db.now in
-    let image = configuration_of c.args.image.now in
-    (db, image, designed db image c.in_ok-parts.ensures.fit c.in_ok-wired.ensures.few c.in_ok-parts.ensures.taken c.in_ok-wired.ensures.taken
-    (device_of c.args.image.now) (sym c.device-2.ensures.device ∙ c.device-2.ensures.name) c.in_ok-parts.parts c.in_ok-parts.ensures.parts
-    c.in_ok-inputs.inputs.items (c.in_ok-inputs.ensures ∙ ap (filter (λ pin. not pin.output)) c.deref.ensures.value)
-    c.in_ok-wired.wired.drivers c.in_ok-wired.ensures.drivers c.in_ok-wired.wired.order.items c.in_ok-wired.ensures.order
-    c.in_ok-wired.wired.ends.items c.in_ok-wired.ensures.ends c.in_ok-wired.wired.words.items c.in_ok-wired.ensures.words)
+    let image = configuration_of c.args.image.now in (
+      db,
+      image,
+      designed db image c.in_ok-parts.ensures.fit c.in_ok-wired.ensures.few c.in_ok-parts.ensures.taken c.in_ok-wired.ensures.taken
+          (device_of c.args.image.now) (sym c.device-2.ensures.device ∙ c.device-2.ensures.name) c.in_ok-parts.parts c.in_ok-parts.ensures.parts
+          c.in_ok-inputs.inputs.items (c.in_ok-inputs.ensures ∙ ap (filter (λ pin. not pin.output)) c.deref.ensures.value)
+          c.in_ok-wired.wired.drivers c.in_ok-wired.ensures.drivers c.in_ok-wired.wired.order.items c.in_ok-wired.ensures.order
+          c.in_ok-wired.wired.ends.items c.in_ok-wired.ensures.ends c.in_ok-wired.wired.words.items c.in_ok-wired.ensures.words,
+    )
 
 pub returns-clause-design : goal.returns-clause-design
 returns-clause-design c =
@@ -73,3 +78,17 @@ returns-clause-one_value c = λ state pins.
     let taken = c.in_ok-parts.ensures.taken in
     let none : fabric_fault image.device (fabric_of db image) ≡ None = subst (λ d. fabric_fault d (fabric_of db image) ≡ None) taken.device c.in_ok-wired.ensures.taken in
     taken-value image.device (fabric_of db image) none (fabric-within db image c.in_ok-parts.ensures.fit) state pins
+
+pub returns-clause-chains : goal.returns-clause-chains
+returns-clause-chains c =
+    let db = database_in c.args.db.now in
+    let image = configuration_of c.args.image.now in
+    let taken = c.in_ok-parts.ensures.taken in
+    ends-lead db image c.in_ok-parts.ensures.fit (fabric-left db image taken ∙ subst (λ d. fabric_fault d (fabric_of db image) ≡ None) taken.device c.in_ok-wired.ensures.taken)
+
+pub returns-clause-clocks : goal.returns-clause-clocks
+returns-clause-clocks c =
+    let db = database_in c.args.db.now in
+    let image = configuration_of c.args.image.now in
+    let taken = c.in_ok-parts.ensures.taken in
+    run-has-clocks db image c.in_ok-parts.ensures.fit (fabric-left db image taken ∙ subst (λ d. fabric_fault d (fabric_of db image) ≡ None) taken.device c.in_ok-wired.ensures.taken)

@@ -1,6 +1,5 @@
 use Rattle.std.proofs.Common.{◌≡◌, ◌<◌, refl, sym, ap, ◌∙◌, subst}
 use Rattle.fabric_rules.specs.Wiring.{wiring_of as wiring_of_fabric}
-use Rattle.fabric_order.specs.Rows.{wiring_of}
 use Rattle.fabric_clocks.proofs.Alike.{order-alike, is_on_cycle-alike}
 use Rattle.fabric.proofs.Evidence.{loop-told, loop-none}
 use Rattle.fabric.proofs.order.order_of.Goals as goal
@@ -22,4 +21,4 @@ returns-in-Some-2-clause-refused g c = λ device.
     let within = rw c.in-Some-2.is at c.in_ok-nets-in-None.ensures.within in
     let lies = rw c.in-Some-2.is at c.in_ok-nets-in-None.ensures.lies in
     let least = rw c.in-Some-2.is at c.in_ok-nets-in-None.ensures.least in
-    loop-told g.fabric (wiring_of c.args.driven.now c.args.reads.now) c.requires.1.1.1.1 c.in-Some-2.nets.items c.index.result.now cycle c.index.ensures within lies least
+    loop-told g.fabric c.args.driven.now c.args.reads.now c.requires.1.1.1.1 c.requires.1.1.1.0 c.in-Some-2.nets.items c.index.result.now cycle c.index.ensures within lies least

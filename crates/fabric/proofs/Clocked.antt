@@ -1,0 +1,64 @@
+-- In each entry of a run the clocks follow their pins.
+use Rattle.std.proofs.Common.{◌≡◌, ℕ, Bool, List, [], ◌∷◌}
+use Rattle.std.specs.Prelude.{All, Contains, Option, Some, None}
+use Rattle.std.proofs.lemmas.List.Elements.{All-nil, All-cons}
+use Rattle.ice_image.specs.Configuration.{Configuration}
+use Rattle.chipdb_reader.specs.Database.{Database}
+use Rattle.chipdb_reader.specs.Fit.{IsFit}
+use Rattle.fabric_rules.specs.Joins.{class_of}
+use Rattle.fabric_rules.specs.Fabric.{Fabric, fabric_of}
+use Rattle.fabric_rules.specs.Values.{bit_in}
+use Rattle.fabric_rules.specs.Wiring.{wiring_of, IsWriteOrder}
+use Rattle.fabric_rules.specs.Steps.{Event, Entry, IsEntry, FollowEach, IsRun}
+use Rattle.fabric_rules.specs.Clocks.{ClockEnd, LeadsTo, clock_end}
+use Rattle.fabric_rules.specs.Clocks.ClockEnd.{at_pin, still, other}
+use Rattle.fabric_rules.specs.Faults.{design_fault}
+use Rattle.fabric_rules.proofs.Chains.{HasEndValue, clock-value, clock_end-leads}
+use Rattle.fabric_rules.proofs.Taken.{design-taken, taken-order}
+use Rattle.fabric_rules.proofs.Within.{fabric-within}
+use Rattle.fabric_rules.proofs.Runs.{IsClockEnd, IsClocked, fabric-placed, flip-good, read-good, write-good}
+use Rattle.fabric.specs.Clocks.{HasEndBit, HasClock, HasClocks}
+
+end-bit : (pins : List Bool) (end : ClockEnd) (bit : Bool) → IsClockEnd end → HasEndValue pins end bit → HasEndBit pins end bit
+end-bit pins (at_pin place) bit good has = has
+end-bit pins still bit good has = has
+end-bit pins other bit good has = absurd good
+
+module _ (db : Database) (image : Configuration) (fit : IsFit db) (none : design_fault db image ≡ None) where
+  abbrev fabric : Fabric
+  fabric = fabric_of db image
+
+  -- where a clock comes from is the end of its chain
+  pub ends-lead : (net : ℕ) → LeadsTo (fabric_of db image) (class_of (fabric_of db image).joins net) (clock_end (fabric_of db image) net)
+  ends-lead =
+      let within = fabric-within db image fit in
+      let order = taken-order image.device fabric (design-taken db image none).fabric within in
+      clock_end-leads fabric within order.it order.is
+
+  has-clock : (entry : Entry) → IsEntry fabric entry → (net : Option ℕ) → IsClocked fabric net → HasClock fabric entry net
+  has-clock entry is None good = tt
+  has-clock entry is (Some net) good =
+      end-bit entry.pins (clock_end fabric net) (bit_in entry.v net) good
+      (clock-value fabric (fabric-within db image fit) entry.state entry.pins entry.v is.consistent net (clock_end fabric net) (ends-lead net))
+
+  entry-clocks : (entry : Entry) → IsEntry fabric entry → HasClocks fabric entry
+  entry-clocks entry is =
+      let taken = (design-taken db image none).fabric in
+      let placed = fabric-placed db image in
+      record {
+        flips = λ lc there. has-clock entry is lc.clk (flip-good image.device fabric taken placed lc there);
+        reads = λ ram there. has-clock entry is ram.rclk (read-good image.device fabric taken placed ram there);
+        writes = λ ram there. has-clock entry is ram.wclk (write-good image.device fabric taken placed ram there);
+      }
+
+  follow-clocks : (entry : Entry) (events : List Event) (entries : List Entry) → FollowEach fabric entry events entries → All (HasClocks fabric) entries
+  follow-clocks entry [] [] follow = All-nil (HasClocks fabric)
+  follow-clocks entry (event ∷ events) [] follow = absurd follow
+  follow-clocks entry [] (next ∷ entries) follow = absurd follow
+  follow-clocks entry (event ∷ events) (next ∷ entries) follow =
+      All-cons (HasClocks fabric) next entries (entry-clocks next follow.0.entry) (follow-clocks next events entries follow.1)
+
+  pub run-has-clocks : (events : List Event) (entries : List Entry) → IsRun (fabric_of db image) events entries → All (HasClocks (fabric_of db image)) entries
+  run-has-clocks events [] run = absurd run
+  run-has-clocks events (first ∷ entries) run =
+      All-cons (HasClocks fabric) first entries (entry-clocks first run.0.entry_is) (follow-clocks first events entries run.1)

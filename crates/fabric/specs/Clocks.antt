@@ -1,0 +1,26 @@
+-- The clocks in an entry of a run.
+use Rattle.std.specs.Prelude.{◌≡◌, ℕ, Bool, false, List, get_or, Contains, Option, Some, None}
+use Rattle.fabric_rules.specs.declared.cell.Lc.{Lc}
+use Rattle.fabric_rules.specs.declared.ram.RamCell.{RamCell}
+use Rattle.fabric_rules.specs.Fabric.{Fabric, flips_of}
+use Rattle.fabric_rules.specs.Values.{bit_in}
+use Rattle.fabric_rules.specs.Steps.{Entry}
+use Rattle.fabric_rules.specs.Clocks.{ClockEnd, clock_end}
+use Rattle.fabric_rules.specs.Clocks.ClockEnd.{at_pin, still, other}
+
+-- a clock has the value of the pin at which its chain ends, or is 0 where it ends at a class without a driver
+abbrev pub HasEndBit : List Bool → ClockEnd → Bool → Type 0
+HasEndBit pins (at_pin place) bit = bit ≡ get_or pins place false
+HasEndBit pins still bit = bit ≡ false
+HasEndBit pins other bit = ⊥
+
+-- the same of a clock net that may be missing
+abbrev pub HasClock : Fabric → Entry → Option ℕ → Type 0
+HasClock fabric entry None = Unit {0}
+HasClock fabric entry (Some net) = HasEndBit entry.pins (clock_end fabric net) (bit_in entry.v net)
+
+-- the clocks of all flip-flops and RAM ports
+pub record HasClocks (fabric : Fabric) (entry : Entry) : Type 0 where
+  pub flips : (lc : Lc) → Contains (flips_of fabric) lc → HasClock fabric entry lc.clk
+  pub reads : (ram : RamCell) → Contains fabric.rams ram → HasClock fabric entry ram.rclk
+  pub writes : (ram : RamCell) → Contains fabric.rams ram → HasClock fabric entry ram.wclk

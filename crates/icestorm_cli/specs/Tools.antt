@@ -2,7 +2,7 @@
 use Rattle.std.specs.Prelude.{ℕ, bytes_eq, codes, if◌then◌else◌, List, [], ◌∷◌, Option, None, Some}
 use Rattle.tool_run.specs.Tasks.{Done, Task, at_once, not_taken}
 use Rattle.icestorm_cli.specs.declared.tool.Tool.{Tool}
-use Rattle.icestorm_cli.specs.declared.tool.Tool.TheVariants.{Icepack, Iceunpack, Icemulti, Icebram, IceboxExplain, IceboxVlog, Vlogrun}
+use Rattle.icestorm_cli.specs.declared.tool.Tool.TheVariants.{Icepack, Iceunpack, Icemulti, Icebram, IceboxExplain, IceboxVlog, Vlogrun, Selfrun}
 use Rattle.icestorm_cli.specs.declared.tool.TheConstants.{HELP, VERSION}
 
 -- the tool that a word names
@@ -15,6 +15,7 @@ tool_named word =
     else if bytes_eq word (codes "icebox_explain") then Some IceboxExplain
     else if bytes_eq word (codes "icebox_vlog") then Some IceboxVlog
     else if bytes_eq word (codes "vlogrun") then Some Vlogrun
+    else if bytes_eq word (codes "selfrun") then Some Selfrun
     else None
 
 -- the tool that the words name

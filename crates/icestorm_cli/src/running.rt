@@ -2,7 +2,7 @@
 ghost use Rattle.std.specs.Prelude.{◌≡◌, None, Some, map, string_bytes};
 ghost use Rattle.tool_run.specs.AtOnce.{at_once_answer};
 ghost use Rattle.tool_run.specs.Runs.{Does, outside, scene};
-ghost use Rattle.tool_run.specs.Tasks.{at_once};
+ghost use Rattle.tool_run.specs.Tasks.{Answer, at_once};
 ghost use Rattle.tool_words.specs.Commands.{texts_of};
 ghost use Rattle.bitstream_tools.specs.Bram.{icebram_outcome};
 ghost use Rattle.bitstream_tools.specs.Multi.{icemulti_outcome};
@@ -12,6 +12,8 @@ ghost use Rattle.fabric_tools.specs.Explain.{explain_outcome};
 ghost use Rattle.module_tools.specs.Vlogrun.{vlogrun_outcome};
 ghost use Rattle.design_tools.specs.Vlog.{vlog_outcome};
 ghost use Rattle.design_tools.specs.Fabric.{PromisesFabric, PromisesRun};
+ghost use Rattle.fabric_rules.specs.Unique.{ExactlyOne};
+ghost use Rattle.job_tools.specs.Selfrun.{IsSelfrunAnswer, selfrun_outcome};
 ghost use Rattle.icestorm_cli.specs.Tools.{other_outcome, own_outcome, program_name, tool_of};
 
 use crate::tool::{HELP, Tool, VERSION, tool_of};
@@ -19,6 +21,7 @@ use bitstream_tools::{run_icebram, run_icemulti, run_icepack, run_iceunpack};
 use design_tools::run_icebox_vlog;
 use fabric_tools::run_icebox_explain;
 use ice_io::{Files, Sink, Source};
+use job_tools::run_selfrun;
 use module_tools::run_vlogrun;
 use std::alloc::Global;
 use tool_run::{AtOnce, answer_at_once};
@@ -89,6 +92,11 @@ pub fn run<F: Files, I: Source, O: Sink, E: Sink>(
         (scene files.old input.old output.old errors.old) (scene files.new input.new output.new errors.new) }
     ensures run_of_fabric { tool_of (texts_of words.now) ≡ Some Tool.Vlogrun
         → PromisesRun (texts_of words.now) result (F.contents files.old) (I.left input.old) (O.held output.old) (O.held output.new) }
+    ensures one_answer { tool_of (texts_of words.now) ≡ Some Tool.Selfrun → ExactlyOne (IsSelfrunAnswer (texts_of words.now)) }
+    ensures selfrun { tool_of (texts_of words.now) ≡ Some Tool.Selfrun → (answer : Answer) → IsSelfrunAnswer (texts_of words.now) answer
+        → Does (outside F.contents F.steady F.load_faults F.store_faults I.left I.faults O.held O.faults E.held E.faults)
+        (selfrun_outcome (texts_of words.now) answer) result
+        (scene files.old input.old output.old errors.old) (scene files.new input.new output.new errors.new) }
     ensures others { tool_of (texts_of words.now) ≡ None
         → Does (outside F.contents F.steady F.load_faults F.store_faults I.left I.faults O.held O.faults E.held E.faults)
         (other_outcome (texts_of words.now)) result
@@ -105,6 +113,7 @@ pub fn run<F: Files, I: Source, O: Sink, E: Sink>(
         }
         Some(Tool::IceboxVlog) => run_icebox_vlog(alloc, words, files, input, output, errors),
         Some(Tool::Vlogrun) => run_vlogrun(alloc, words, files, input, output, errors),
+        Some(Tool::Selfrun) => run_selfrun(alloc, words, files, input, output, errors),
         None => {
             let answer = own_answer(words);
             answer_at_once(alloc, "icestorm", answer, files, input, output, errors)

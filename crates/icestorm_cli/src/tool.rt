@@ -19,6 +19,8 @@ pub enum Tool {
     IceboxVlog,
     /// A run of a module.
     Vlogrun,
+    /// A design that a number makes, taken through the others.
+    Selfrun,
 }
 
 /// The version of the program.
@@ -42,6 +44,7 @@ Tools:
                tells what the set bits of an image mean
   icebox_vlog  writes the design of an image in a subset of Verilog
   vlogrun      runs a module of that subset over a list of events
+  selfrun      makes a design from a number and takes it through all other tools
 
 Example: icestorm icepack blink.asc blink.bin
 
@@ -73,6 +76,7 @@ fn tool_named(word: &str) -> Option<Tool>
         "icebox_explain" => Some(Tool::IceboxExplain),
         "icebox_vlog" => Some(Tool::IceboxVlog),
         "vlogrun" => Some(Tool::Vlogrun),
+        "selfrun" => Some(Tool::Selfrun),
         _ => None,
     }
 }

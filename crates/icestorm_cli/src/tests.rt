@@ -10,6 +10,7 @@ mod packing;
 mod refusing;
 mod replacing;
 mod small;
+mod trying;
 mod unpacking;
 mod writing;
 

@@ -4,13 +4,13 @@ ghost use Rattle.std.specs.Prelude.{◌≤◌};
 mod answering;
 mod explaining;
 mod failing;
+mod generating;
 mod joining;
 mod modules;
 mod packing;
 mod refusing;
 mod replacing;
 mod small;
-mod trying;
 mod unpacking;
 mod writing;
 

@@ -6,7 +6,7 @@ use std::alloc::{AllocError, Global};
 /// A command line, and the first line that it writes.
 type Told = (&'static [&'static str], &'static str);
 
-static TOLD: [Told; 7] = [
+static TOLD: [Told; 8] = [
     (
         &["--help"],
         "icestorm: the bitstream tools of Project IceStorm for the iCE40 HX1K and HX8K.\n",
@@ -31,6 +31,10 @@ static TOLD: [Told; 7] = [
     (
         &["icebox_vlog", "--help"],
         "icebox_vlog: writes the design of an image as a module in a subset of Verilog.\n",
+    ),
+    (
+        &["selfrun", "--help"],
+        "selfrun: makes a design from a number and takes it through all other tools.\n",
     ),
 ];
 

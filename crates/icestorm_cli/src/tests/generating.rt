@@ -3,10 +3,27 @@
 use super::{PLAIN, Setup, outcome, refuses};
 use std::alloc::{AllocError, Global};
 
-/// The words that take a small design through all tools, and what is told of it.
-const WORDS: &[&str] = &["selfrun", "1k", "7", "10"];
+/// A small design without events, and what is told of it.
+const START: (&[&str], &str) = (
+    &["selfrun", "1k", "7", "0"],
+    "\
+device 1k
+bin 32216
+nets 2834
+cells 1280
+rams 16
+wires 2834
+events 0
+lines 1
+explain 2751
+ones 1
+",
+);
 
-const LINES: &str = "\
+/// The same design with ten events.
+const RUN: (&[&str], &str) = (
+    &["selfrun", "1k", "7", "10"],
+    "\
 device 1k
 bin 32216
 nets 2834
@@ -17,21 +34,23 @@ events 10
 lines 11
 explain 2751
 ones 17
-";
+",
+);
 
 /// Whether the ten lines are written, and nothing is read: a read of the input would fail.
-fn tells(alloc: Global) -> Result<bool, AllocError> {
+fn tells(alloc: Global, words: &[&str], lines: &str) -> Result<bool, AllocError> {
     let setup = Setup {
         failing_read: 1,
         ..PLAIN
     };
-    let ended = outcome(alloc, setup, WORDS)?;
-    Ok(ended.says(0, "") && ended.output.as_slice() == LINES.as_bytes())
+    let ended = outcome(alloc, setup, words)?;
+    Ok(ended.says(0, "") && ended.output.as_slice() == lines.as_bytes())
 }
 
 #[test]
 fn takes_a_design_through_all_tools(rt: HostRuntime) {
-    assert!(rt; tells(rt.alloc()) == Ok(true));
+    assert!(rt; tells(rt.alloc(), START.0, START.1) == Ok(true));
+    assert!(rt; tells(rt.alloc(), RUN.0, RUN.1) == Ok(true));
 }
 
 /// Words that aren't taken: too few, another device, a seed and a count past their limits, and no numbers.

@@ -1,7 +1,7 @@
--- Which tiles a device has, and where each of their bits lies in the device's planes: closed formulas over the grid.
--- The grid is counted from its left bottom corner. Each half of the columns and each half of the rows is mirrored, so
--- that a formula needs only how far a column is from its side edge, and a row from its end edge.
-use Rattle.std.specs.Prelude.{◌≡◌, ◌≢◌, ℕ, zero, suc, ◌+◌, ◌-◌, ◌*◌, ◌/◌, ◌%◌, ◌<◌, Bool, ◌&&◌, ◌||◌, List, [], ◌∷◌, slice_index, nat_lt, nat_le, ◌==◌, if◌then◌else◌, Option, Some, None}
+-- Which tiles a device has, and where a layout puts each of their bits in the device's planes: closed formulas over the
+-- grid. The grid is counted from its left bottom corner. A formula needs only how far a column of tiles is from its side
+-- edge, and a row of tiles from its end edge.
+use Rattle.std.specs.Prelude.{◌≡◌, ◌≢◌, ℕ, zero, suc, ◌+◌, ◌-◌, ◌*◌, ◌/◌, ◌%◌, ◌<◌, Bool, true, false, ◌&&◌, ◌||◌, List, [], ◌∷◌, slice_index, nat_lt, nat_le, not, ◌==◌, if◌then◌else◌, Option, Some, None, length}
 use Rattle.plane_map.specs.declared.device.DeviceName.{DeviceName}
 use Rattle.plane_map.specs.declared.device.DeviceName.TheVariants.{K1, K8}
 use Rattle.plane_map.specs.declared.tile.TileKind.{TileKind}
@@ -111,6 +111,120 @@ pub record IsInBram (device : DeviceName) (at : Place) : Type 0 where
   pub px_in : at.px < bram_width device
   pub py_in : at.py < bram_height device
 
+-- ---- layouts
+
+-- How a device lays out its bits: which columns and rows of bits those of its tiles take, and which bank each quarter of its
+-- grid has.
+pub record Layout : Type 0 where
+  pub device : DeviceName
+  -- how many columns of bits each column of tiles takes, from the side edge inwards
+  pub widths : List ℕ
+  -- the column of bits of each column of an io tile of the left or the right edge
+  pub side_columns : List ℕ
+  -- the column of bits of each column of an io tile of the bottom or the top row
+  pub pad_columns : List ℕ
+  -- the row of bits of each row of an io tile of the bottom or the top row, from the inner end
+  pub pad_rows : List ℕ
+  -- the bank of each quarter: left bottom, left top, right bottom, right top
+  pub banks : List ℕ
+  -- whether the columns of inner tiles run towards the side edge in the right half
+  pub mirror : Bool
+  -- whether the rows of tiles run towards the end edge in the top half
+  pub flip : Bool
+  -- whether the columns of io tiles of the bottom and the top row run towards the side edge in the right half
+  pub pad_mirror : Bool
+  -- whether the RAMs of the top half are counted from the top
+  pub ram_flip : Bool
+
+-- how many columns of tiles a half of the columns has
+abbrev pub half_width : DeviceName → ℕ
+half_width device = grid_width device / 2
+
+-- how many columns of bits a column of tiles needs at least, by how far it is from the side edge
+abbrev pub least_width : DeviceName → ℕ → ℕ
+least_width device u = if u == 0 then 18 else if u == ram_column device then 42 else 54
+
+-- how many columns of bits the columns of tiles before that one take
+unfoldable pub start_in : List ℕ → ℕ → ℕ
+start_in widths zero = 0
+start_in widths (suc u) = start_in widths u + slice_index widths u
+
+-- whether each of the first columns of tiles is as wide as it needs to be
+abbrev pub are_wide : DeviceName → List ℕ → ℕ → Bool
+are_wide device widths zero = true
+are_wide device widths (suc u) = are_wide device widths u && nat_le (least_width device u) (slice_index widths u)
+
+-- whether the columns of tiles are as wide as they need to be, and a plane has room for them
+abbrev pub are_widths : DeviceName → List ℕ → Bool
+are_widths device widths =
+    (length widths == half_width device) && are_wide device widths (half_width device)
+    && nat_le (start_in widths (half_width device)) (cram_width device)
+
+-- whether a number is an entry
+abbrev pub occurs : ℕ → List ℕ → Bool
+occurs n [] = false
+occurs n (x ∷ xs) = (n == x) || occurs n xs
+
+-- whether no entry stands twice
+abbrev pub are_distinct : List ℕ → Bool
+are_distinct [] = true
+are_distinct (x ∷ xs) = not (occurs x xs) && are_distinct xs
+
+-- whether each entry is below a number
+abbrev pub are_below : ℕ → List ℕ → Bool
+are_below n [] = true
+are_below n (x ∷ xs) = nat_lt x n && are_below n xs
+
+-- whether a list has so many different entries, each below a bound
+abbrev pub are_places : ℕ → ℕ → List ℕ → Bool
+are_places count bound entries = (length entries == count) && are_distinct entries && are_below bound entries
+
+-- A layout under which no two bits have one place: its lists have the lengths and the numbers that they need.
+pub record IsLayout (layout : Layout) : Type 0 where
+  pub widths : are_widths layout.device layout.widths ≡ true
+  pub side_columns : are_places 18 18 layout.side_columns ≡ true
+  pub pad_columns : are_places 18 42 layout.pad_columns ≡ true
+  pub pad_rows : are_places 16 16 layout.pad_rows ≡ true
+  pub banks : are_places 4 4 layout.banks ≡ true
+
+-- ---- the standard layouts
+
+-- how many columns of bits the columns of tiles take
+unfoldable pub standard_widths : DeviceName → List ℕ
+standard_widths K1 = 18 ∷ 54 ∷ 54 ∷ 42 ∷ 54 ∷ 54 ∷ 54 ∷ []
+standard_widths K8 = 18 ∷ 54 ∷ 54 ∷ 54 ∷ 54 ∷ 54 ∷ 54 ∷ 54 ∷ 42 ∷ 54 ∷ 54 ∷ 54 ∷ 54 ∷ 54 ∷ 54 ∷ 54 ∷ 54 ∷ []
+
+-- the columns of bits of the io tiles of the sides, from the inner column to the edge
+unfoldable pub standard_side_columns : List ℕ
+standard_side_columns = 17 ∷ 16 ∷ 15 ∷ 14 ∷ 13 ∷ 12 ∷ 11 ∷ 10 ∷ 9 ∷ 8 ∷ 7 ∷ 6 ∷ 5 ∷ 4 ∷ 3 ∷ 2 ∷ 1 ∷ 0 ∷ []
+
+-- the columns of bits of the io tiles of the bottom and the top row
+unfoldable pub standard_pad_columns : List ℕ
+standard_pad_columns = 23 ∷ 25 ∷ 26 ∷ 27 ∷ 16 ∷ 17 ∷ 18 ∷ 19 ∷ 20 ∷ 14 ∷ 32 ∷ 33 ∷ 34 ∷ 35 ∷ 36 ∷ 37 ∷ 4 ∷ 5 ∷ []
+
+-- their rows of bits
+unfoldable pub standard_pad_rows : List ℕ
+standard_pad_rows = 0 ∷ 1 ∷ 3 ∷ 2 ∷ 4 ∷ 5 ∷ 7 ∷ 6 ∷ 8 ∷ 9 ∷ 11 ∷ 10 ∷ 12 ∷ 13 ∷ 15 ∷ 14 ∷ []
+
+-- the banks of the quarters
+unfoldable pub standard_banks : List ℕ
+standard_banks = 0 ∷ 1 ∷ 2 ∷ 3 ∷ []
+
+-- the layout of a device where no other is given
+abbrev pub standard_layout : DeviceName → Layout
+standard_layout device = record {
+  device = device;
+  widths = standard_widths device;
+  side_columns = standard_side_columns;
+  pad_columns = standard_pad_columns;
+  pad_rows = standard_pad_rows;
+  banks = standard_banks;
+  mirror = true;
+  flip = true;
+  pad_mirror = false;
+  ram_flip = true;
+}
+
 -- ---- the places
 
 -- the right half of the columns
@@ -121,9 +235,13 @@ is_right device x = nat_lt (last_x device) (2 * x)
 abbrev pub is_top : DeviceName → ℕ → Bool
 is_top device y = nat_lt (last_y device) (2 * y)
 
--- one bank for each quarter of the grid: left bottom, left top, right bottom, right top
-abbrev pub bank_of : DeviceName → ℕ → ℕ → ℕ
-bank_of device x y = (if is_top device y then 1 else 0) + (if is_right device x then 2 else 0)
+-- the quarter of the grid: left bottom, left top, right bottom, right top
+abbrev pub quarter_of : DeviceName → ℕ → ℕ → ℕ
+quarter_of device x y = (if is_top device y then 1 else 0) + (if is_right device x then 2 else 0)
+
+-- the bank of a quarter
+abbrev pub bank_of : Layout → ℕ → ℕ → ℕ
+bank_of layout x y = slice_index layout.banks (quarter_of layout.device x y)
 
 -- how many columns of tiles lie between a tile and the nearer side edge
 abbrev pub from_side : DeviceName → ℕ → ℕ
@@ -134,61 +252,57 @@ abbrev pub from_end : DeviceName → ℕ → ℕ
 from_end device y = if is_top device y then last_y device - y else y
 
 -- how many columns of bits a column of tiles takes, by how far it is from the side edge
-abbrev pub width_of : DeviceName → ℕ → ℕ
-width_of device u = if u == 0 then 18 else if u == ram_column device then 42 else 54
+abbrev pub width_of : Layout → ℕ → ℕ
+width_of layout u = slice_index layout.widths u
 
 -- how many columns of bits the columns of tiles before that one take
-unfoldable pub start_of : DeviceName → ℕ → ℕ
-start_of device zero = 0
-start_of device (suc u) = start_of device u + width_of device u
+abbrev pub start_of : Layout → ℕ → ℕ
+start_of layout u = start_in layout.widths u
 
--- the column of bits that each column of an io tile takes in the bottom and the top row
-unfoldable pub pad_columns : List ℕ
-pad_columns = 23 ∷ 25 ∷ 26 ∷ 27 ∷ 16 ∷ 17 ∷ 18 ∷ 19 ∷ 20 ∷ 14 ∷ 32 ∷ 33 ∷ 34 ∷ 35 ∷ 36 ∷ 37 ∷ 4 ∷ 5 ∷ []
+-- Which column of bits of its column of tiles a bit takes, counted from the side edge, or towards it where the tile is
+-- mirrored: an io tile has a list of them, and any other tile has them in order.
+abbrev pub column_of : Layout → TileBit → ℕ
+column_of layout bit =
+    if is_side layout.device bit.x then slice_index layout.side_columns bit.col
+    else if is_end layout.device bit.y then slice_index layout.pad_columns bit.col
+    else bit.col
 
--- the column of bits of one of them
-abbrev pub pad_column : ℕ → ℕ
-pad_column col = slice_index pad_columns col
+-- whether the columns of a tile run towards the side edge: those of the right half may, except in the edge itself
+abbrev pub is_mirrored : Layout → ℕ → ℕ → Bool
+is_mirrored layout x y =
+    is_right layout.device x && not (is_side layout.device x) && (if is_end layout.device y then layout.pad_mirror else layout.mirror)
 
--- the row of bits that each row of an io tile takes in the bottom and the top row, counted from the inner end
-unfoldable pub pad_rows : List ℕ
-pad_rows = 0 ∷ 1 ∷ 3 ∷ 2 ∷ 4 ∷ 5 ∷ 7 ∷ 6 ∷ 8 ∷ 9 ∷ 11 ∷ 10 ∷ 12 ∷ 13 ∷ 15 ∷ 14 ∷ []
+-- the column of bits of a bit
+abbrev pub px_of : Layout → TileBit → ℕ
+px_of layout bit =
+    let u = from_side layout.device bit.x in
+    let column = column_of layout bit in
+    if is_mirrored layout bit.x bit.y then start_of layout u + width_of layout u - 1 - column else start_of layout u + column
 
--- the row of bits of one of them
-abbrev pub pad_row : ℕ → ℕ
-pad_row row = slice_index pad_rows row
-
--- Columns run from the side edge inwards in an inner tile of the left half, and towards it in the right half and in an
--- io tile of either side. An io tile of the bottom or the top row has its columns by `pad_column`.
-abbrev pub px_of : DeviceName → TileBit → ℕ
-px_of device bit =
-    let start = start_of device (from_side device bit.x) in
-    let width = width_of device (from_side device bit.x) in
-    if is_end device bit.y then start + pad_column bit.col
-    else if is_side device bit.x || is_right device bit.x then start + width - 1 - bit.col
-    else start + bit.col
-
--- Rows run from the end edge inwards in the bottom half, and towards it in the top half. An io tile of the bottom or
--- the top row has its rows by `pad_row`.
-abbrev pub py_of : DeviceName → TileBit → ℕ
-py_of device bit =
-    let start = 16 * from_end device bit.y in
-    if is_end device bit.y then start + 15 - pad_row bit.row
-    else if is_top device bit.y then start + 15 - bit.row
+-- The row of bits of a bit. Rows run from the end edge inwards, and towards it in the top half of a layout that flips it.
+-- An io tile of the bottom or the top row has a list of its rows.
+abbrev pub py_of : Layout → TileBit → ℕ
+py_of layout bit =
+    let start = 16 * from_end layout.device bit.y in
+    if is_end layout.device bit.y then start + 15 - slice_index layout.pad_rows bit.row
+    else if is_top layout.device bit.y && layout.flip then start + 15 - bit.row
     else start + bit.row
 
 -- where a bit of a tile lies
-unfoldable pub place_of : DeviceName → TileBit → Place
-place_of device bit = record { bank = bank_of device bit.x bit.y; px = px_of device bit; py = py_of device bit }
+unfoldable pub place_of : Layout → TileBit → Place
+place_of layout bit = record { bank = bank_of layout bit.x bit.y; px = px_of layout bit; py = py_of layout bit }
 
--- Which RAM of its bank a lower tile is, counted from the bottom in the bottom half and from the top in the top half.
-abbrev pub ram_of : DeviceName → ℕ → ℕ
-ram_of device y = if is_top device y then (last_y device - 2 - y) / 2 else (y - 1) / 2
+-- Which RAM of its bank a lower tile is: counted from the bottom in the bottom half, and in the top half from the top, or from
+-- the lowest of that half.
+abbrev pub ram_of : Layout → ℕ → ℕ
+ram_of layout y =
+    let top = last_y layout.device in
+    if is_top layout.device y then (if layout.ram_flip then (top - 2 - y) / 2 else (y - (top + 1) / 2) / 2) else (y - 1) / 2
 
 -- where a bit of a word of a RAM lies: a word is a row, its highest bit first
-unfoldable pub word_place_of : DeviceName → WordBit → Place
-word_place_of device at = record { bank = bank_of device at.x at.y; px = 16 * ram_of device at.y + 15 - at.bit; py = at.word }
+unfoldable pub word_place_of : Layout → WordBit → Place
+word_place_of layout at = record { bank = bank_of layout at.x at.y; px = 16 * ram_of layout at.y + 15 - at.bit; py = at.word }
 
 -- a place that no bit of a tile has
-abbrev pub IsExtraBit : DeviceName → Place → Type 0
-IsExtraBit device at = (bit : TileBit) → IsTileBit device bit → place_of device bit ≢ at
+abbrev pub IsExtraBit : Layout → Place → Type 0
+IsExtraBit layout at = (bit : TileBit) → IsTileBit layout.device bit → place_of layout bit ≢ at

@@ -1,0 +1,36 @@
+-- What the fields of a layout stand for.
+use Rattle.std.specs.Prelude.{◌≡◌, ℕ, ◌-◌, List, ◌++◌, take, replicate}
+use Rattle.plane_map.specs.declared.layout.Layout.TheInside.{Inside}
+use Rattle.plane_map.specs.Layout.{Layout, IsLayout, half_width}
+
+abbrev pub laid_out : Inside → Layout
+laid_out a = record {
+  device = a.device;
+  widths = take (half_width a.device) a.widths;
+  side_columns = a.side_columns;
+  pad_columns = a.pad_columns;
+  pad_rows = a.pad_rows;
+  banks = a.banks;
+  mirror = a.mirror;
+  flip = a.flip;
+  pad_mirror = a.pad_mirror;
+  ram_flip = a.ram_flip;
+}
+
+pub record IsInside (a : Inside) : Type 0 where
+  pub layout : IsLayout (laid_out a)
+  pub padded : take (half_width a.device) a.widths ++ replicate (17 - half_width a.device) 0 ≡ a.widths
+
+abbrev pub inside_of : Layout → Inside
+inside_of layout = record {
+  device = layout.device;
+  widths = layout.widths ++ replicate (17 - half_width layout.device) 0;
+  side_columns = layout.side_columns;
+  pad_columns = layout.pad_columns;
+  pad_rows = layout.pad_rows;
+  banks = layout.banks;
+  mirror = layout.mirror;
+  flip = layout.flip;
+  pad_mirror = layout.pad_mirror;
+  ram_flip = layout.ram_flip;
+}

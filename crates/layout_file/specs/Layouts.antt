@@ -1,0 +1,44 @@
+-- The layouts of both devices, and those that a layout file gives.
+use Rattle.std.specs.Prelude.{◌≡◌, ℕ, true, false, List, length, unwrap_or}
+use Rattle.text_lines.specs.Lines.{lines_of}
+use Rattle.plane_map.specs.declared.device.DeviceName.{DeviceName}
+use Rattle.plane_map.specs.declared.device.DeviceName.TheVariants.{K1, K8}
+use Rattle.plane_map.specs.Layout.{Layout, standard_layout, standard_widths, standard_side_columns, standard_pad_columns, standard_pad_rows, standard_banks}
+use Rattle.layout_file.specs.declared.field.Numbers.TheVariants.{Widths, SideColumns, PadColumns, PadRows, Banks}
+use Rattle.layout_file.specs.declared.field.Flag.TheVariants.{Mirror, Flip, PadMirror, RamFlip}
+use Rattle.layout_file.specs.declared.layouts.Layouts.{Layouts}
+use Rattle.layout_file.specs.Faults.{numbers_before, flag_before}
+
+-- each layout is one of the device that it is named for
+pub record AreLayouts (layouts : Layouts) : Type 0 where
+  pub k1 : layouts.k1.device ≡ K1
+  pub k8 : layouts.k8.device ≡ K8
+
+-- the layout of a device
+abbrev pub layout_for : Layouts → DeviceName → Layout
+layout_for layouts K1 = layouts.k1
+layout_for layouts K8 = layouts.k8
+
+-- the layouts where no others are given
+abbrev pub standard_layouts : Layouts
+standard_layouts = record { k1 = standard_layout K1; k8 = standard_layout K8 }
+
+-- the layout of a device that the lines before a line give; what isn't given is standard
+abbrev pub layout_before : List (List ℕ) → ℕ → DeviceName → Layout
+layout_before lines n device = record {
+  device = device;
+  widths = unwrap_or (numbers_before lines n device Widths) (standard_widths device);
+  side_columns = unwrap_or (numbers_before lines n device SideColumns) standard_side_columns;
+  pad_columns = unwrap_or (numbers_before lines n device PadColumns) standard_pad_columns;
+  pad_rows = unwrap_or (numbers_before lines n device PadRows) standard_pad_rows;
+  banks = unwrap_or (numbers_before lines n device Banks) standard_banks;
+  mirror = unwrap_or (flag_before lines n device Mirror) true;
+  flip = unwrap_or (flag_before lines n device Flip) true;
+  pad_mirror = unwrap_or (flag_before lines n device PadMirror) false;
+  ram_flip = unwrap_or (flag_before lines n device RamFlip) true;
+}
+
+-- the layouts that a layout file without a faulty line gives
+unfoldable pub layouts_in : List ℕ → Layouts
+layouts_in bytes =
+    let lines = lines_of bytes in record { k1 = layout_before lines (length lines) K1; k8 = layout_before lines (length lines) K8 }

@@ -1,0 +1,48 @@
+// The layouts of both devices.
+ghost use Rattle.std.specs.Prelude.{◌≡◌, Some, None, IfOk, IfErr};
+ghost use Rattle.layout_file.specs.Layouts.{standard_layouts, layouts_in, layout_for, AreLayouts};
+ghost use Rattle.layout_file.specs.Faults.{layout_fault_of};
+
+use crate::fault::LayoutFault;
+use plane_map::{DeviceName, Layout};
+
+/// A layout of each device.
+#[derive(Clone, Copy)]
+pub struct Layouts {
+    pub k1: Layout,
+    pub k8: Layout,
+}
+
+impl Layouts {
+    /// The layouts where no others are given.
+    pub fn standard() -> Layouts
+        ensures { result ≡ standard_layouts }
+    {
+        todo
+    }
+
+    /// The layouts that a layout file gives, or its first faulty line.
+    ///
+    /// A section begins with `.layout 1k` or `.layout 8k`. Its lines, each at most once, are `widths` with 7 or 17 numbers,
+    /// `sidecols` with 18, `iocols` with 18, `iorows` with 16, `banks` with 4, and `mirror`, `flip`, `padmirror` and
+    /// `ramflip` with `yes` or `no`. What isn't given is standard. Spaces part words. Lines that begin with `#`, and lines
+    /// with no word, are passed over.
+    pub fn read(bytes: &[u8]) -> Result<Layouts, LayoutFault>
+        ensures layouts { IfOk result (λ layouts. layouts ≡ layouts_in bytes.now) }
+        ensures devices { IfOk result AreLayouts }
+        ensures accepted { IfOk result (λ _. layout_fault_of bytes.now ≡ None) }
+        ensures refused { IfErr result (λ fault. layout_fault_of bytes.now ≡ Some fault) }
+    {
+        todo
+    }
+
+    /// The layout of a device.
+    pub fn of(&self, device: DeviceName) -> Layout
+        ensures { result ≡ layout_for self.now device }
+    {
+        match device {
+            DeviceName::K1 => self.k1,
+            DeviceName::K8 => self.k8,
+        }
+    }
+}

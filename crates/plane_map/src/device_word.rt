@@ -1,0 +1,30 @@
+// The words for the devices in texts.
+ghost use Rattle.std.specs.Prelude.{◌≡◌};
+ghost use Rattle.plane_map.specs.DeviceWords.{device_word, device_named};
+
+use crate::device::DeviceName;
+
+impl DeviceName {
+    /// The word for the device: `1k` or `8k`.
+    pub fn word(self) -> &'static [u8]
+        ensures { result.now ≡ device_word self }
+    {
+        match self {
+            DeviceName::K1 => b"1k",
+            DeviceName::K8 => b"8k",
+        }
+    }
+
+    /// The device that a word names.
+    pub fn named(word: &[u8]) -> Option<DeviceName>
+        ensures { result ≡ device_named word.now }
+    {
+        if word == b"1k".as_slice() {
+            Some(DeviceName::K1)
+        } else if word == b"8k".as_slice() {
+            Some(DeviceName::K8)
+        } else {
+            None
+        }
+    }
+}

@@ -1,14 +1,15 @@
 -- The bits of an image: those of its tiles, those of the words of its RAMs, and its extra bits, which are no tile's. An image is
 -- known by them, its comment and its settings.
-use Rattle.std.specs.Prelude.{◌≡◌, ℕ, Bool, true, false, not, ◌&&◌, List, [], ◌∷◌, if◌then◌else◌, Option, Some}
+use Rattle.std.specs.Prelude.{◌≡◌, ℕ, Bool, true, false, not, ◌&&◌, List, [], ◌∷◌, map, if◌then◌else◌, Option, Some}
 use Rattle.place_search.specs.Places.{any_below, gathered_below}
 use Rattle.bit_plane.specs.BitList.{word_of}
 use Rattle.bit_plane.specs.Rows.{Rows, row_from, rows_from}
-use Rattle.plane_map.specs.Layout.{kind_of, grid_width, grid_height, columns_at, place_of, word_place_of, cram_width, cram_height, bram_width, bram_height, IsTileBit, IsWordBit}
+use Rattle.plane_map.specs.Layout.{Layout, kind_of, grid_width, grid_height, columns_at, place_of, word_place_of, cram_width, cram_height, bram_width, bram_height, IsTileBit, IsWordBit}
 use Rattle.plane_map.specs.declared.device.DeviceName.{DeviceName}
 use Rattle.plane_map.specs.declared.tile.Place.{Place}
 use Rattle.plane_map.specs.declared.tile.TileKind.{TileKind}
 use Rattle.plane_map.specs.declared.tile.TileKind.TheVariants.{RamB}
+use Rattle.plane_map.specs.declared.tile.RowCol.{RowCol}
 use Rattle.plane_map.specs.declared.tile.TileBit.{TileBit}
 use Rattle.plane_map.specs.declared.tile.WordBit.{WordBit}
 use Rattle.ice_image.specs.Configuration.{Configuration, place_bit, IsWhole}
@@ -22,16 +23,16 @@ pub data Bit : Type 0 where
   OfWord : (bit : WordBit) → Bit
   Extra : (at : Place) → Bit
 
--- a bit that images of a device have
-abbrev pub IsBit : DeviceName → Bit → Type 0
-IsBit device (OfTile bit) = IsTileBit device bit
-IsBit device (OfWord bit) = IsWordBit device bit
-IsBit device (Extra at) = is_extra device at ≡ true
+-- a bit that images of a layout have
+abbrev pub IsBit : Layout → Bit → Type 0
+IsBit layout (OfTile bit) = IsTileBit layout.device bit
+IsBit layout (OfWord bit) = IsWordBit layout.device bit
+IsBit layout (Extra at) = is_extra layout at ≡ true
 
 -- a bit of an image
 abbrev pub bit_of : Configuration → Bit → Bool
-bit_of image (OfTile bit) = place_bit image.cram (place_of image.device bit)
-bit_of image (OfWord bit) = place_bit image.bram (word_place_of image.device bit)
+bit_of image (OfTile bit) = place_bit image.cram (place_of image.layout bit)
+bit_of image (OfWord bit) = place_bit image.bram (word_place_of image.layout bit)
 bit_of image (Extra at) = place_bit image.cram at
 
 -- a bit of a tile, by the tile, its row and its column
@@ -40,11 +41,15 @@ tile_bit_of image x y row col = bit_of image (OfTile (record { x = x; y = y; row
 
 -- the bits of a row of a tile, column 0 first
 abbrev pub row_of : Configuration → ℕ → ℕ → ℕ → List Bool
-row_of image x y row = row_from (columns_at image.device x y) (tile_bit_of image x y row)
+row_of image x y row = row_from (columns_at image.layout.device x y) (tile_bit_of image x y row)
 
 -- the sixteen rows of a tile
 abbrev pub tile_of : Configuration → ℕ → ℕ → Rows
-tile_of image x y = rows_from (columns_at image.device x y) 16 (λ col row. tile_bit_of image x y row col)
+tile_of image x y = rows_from (columns_at image.layout.device x y) 16 (λ col row. tile_bit_of image x y row col)
+
+-- the bits of a tile at listed rows and columns
+abbrev pub listed_bits : Configuration → ℕ → ℕ → List RowCol → List Bool
+listed_bits image x y bits = map (λ bit. tile_bit_of image x y bit.row bit.col) bits
 
 -- a bit of a word of a RAM, by the RAM and its word
 abbrev pub word_bit_of : Configuration → ℕ → ℕ → ℕ → ℕ → Bool
@@ -56,21 +61,21 @@ ram_word_of image x y word = word_of (row_from 16 (word_bit_of image x y word))
 
 -- the place of an extra bit, where it is set
 abbrev pub extra_if_set : Configuration → Place → List Place
-extra_if_set image at = if bit_of image (Extra at) && not (is_owned image.device at) then at ∷ [] else []
+extra_if_set image at = if bit_of image (Extra at) && not (is_owned image.layout at) then at ∷ [] else []
 
 -- all set extra bits, by bank, then by row, then by column
 unfoldable pub set_extras : Configuration → List Place
 set_extras image =
-    gathered_below 4 (λ bank. gathered_below (cram_height image.device) (λ py. gathered_below (cram_width image.device) (λ px.
+    gathered_below 4 (λ bank. gathered_below (cram_height image.layout.device) (λ py. gathered_below (cram_width image.layout.device) (λ px.
     extra_if_set image (record { bank = bank; px = px; py = py }))))
 
--- an image with the same comment and settings, and with all bits as before except those of that kind
+-- an image with the same layout, comment and settings, and with all bits as before except those of that kind
 pub record OnlyBits (IsChanged : Bit → Type 0) (before after : Configuration) : Type 0 where
-  pub device : after.device ≡ before.device
+  pub layout : after.layout ≡ before.layout
   pub comment : after.comment ≡ before.comment
   pub settings : after.settings ≡ before.settings
   pub whole : IsWhole after
-  pub bits : (bit : Bit) → IsBit before.device bit → ¬ IsChanged bit → bit_of after bit ≡ bit_of before bit
+  pub bits : (bit : Bit) → IsBit before.layout bit → ¬ IsChanged bit → bit_of after bit ≡ bit_of before bit
 
 -- a bit has that value, and all other bits, the comment and the settings are as before
 pub record IsSet (bit : Bit) (value : Bool) (before after : Configuration) : Type 0 where
@@ -80,11 +85,11 @@ pub record IsSet (bit : Bit) (value : Bool) (before after : Configuration) : Typ
 -- ---- the image that has given bits
 
 -- a bit of the configuration planes: that of its tile, or that of the extra bit
-abbrev pub cram_bit_from : DeviceName → (Bit → Bool) → Place → Bool
-cram_bit_from device bits at =
-    if is_owned device at then
-    any_below (grid_width device) (λ x. any_below (grid_height device) (λ y. any_below 16 (λ row. any_below (columns_at device x y) (λ col.
-    is_same_place (tile_place device x y row col) at && bits (OfTile (record { x = x; y = y; row = row; col = col }))))))
+abbrev pub cram_bit_from : Layout → (Bit → Bool) → Place → Bool
+cram_bit_from layout bits at =
+    if is_owned layout at then
+    any_below (grid_width layout.device) (λ x. any_below (grid_height layout.device) (λ y. any_below 16 (λ row. any_below (columns_at layout.device x y) (λ col.
+    is_same_place (tile_place layout x y row col) at && bits (OfTile (record { x = x; y = y; row = row; col = col }))))))
     else bits (Extra at)
 
 -- whether the tile at a place of the grid is a RAM's lower one
@@ -96,10 +101,10 @@ abbrev pub is_lower : DeviceName → ℕ → ℕ → Bool
 is_lower device x y = is_lower_kind (kind_of device x y)
 
 -- a bit of the RAM planes: that of its word
-abbrev pub bram_bit_from : DeviceName → (Bit → Bool) → Place → Bool
-bram_bit_from device bits at =
-    any_below (grid_width device) (λ x. any_below (grid_height device) (λ y. any_below 256 (λ word. any_below 16 (λ bit.
-    is_lower device x y && is_same_place (word_bit_place device x y word bit) at && bits (OfWord (record { x = x; y = y; word = word; bit = bit }))))))
+abbrev pub bram_bit_from : Layout → (Bit → Bool) → Place → Bool
+bram_bit_from layout bits at =
+    any_below (grid_width layout.device) (λ x. any_below (grid_height layout.device) (λ y. any_below 256 (λ word. any_below 16 (λ bit.
+    is_lower layout.device x y && is_same_place (word_bit_place layout x y word bit) at && bits (OfWord (record { x = x; y = y; word = word; bit = bit }))))))
 
 -- four planes of that size with those bits
 abbrev pub plane_from : ℕ → ℕ → (Place → Bool) → ℕ → Rows
@@ -109,12 +114,12 @@ abbrev pub planes_from : ℕ → ℕ → (Place → Bool) → List Rows
 planes_from width height bits =
     plane_from width height bits 0 ∷ plane_from width height bits 1 ∷ plane_from width height bits 2 ∷ plane_from width height bits 3 ∷ []
 
--- the image of a device with that comment, those settings and those bits
-unfoldable pub image_from : DeviceName → Option (List (List ℕ)) → Settings → (Bit → Bool) → Configuration
-image_from device comment settings bits = record {
-  device = device;
+-- the image of a layout with that comment, those settings and those bits
+unfoldable pub image_from : Layout → Option (List (List ℕ)) → Settings → (Bit → Bool) → Configuration
+image_from layout comment settings bits = record {
+  layout = layout;
   comment = comment;
   settings = settings;
-  cram = planes_from (cram_width device) (cram_height device) (cram_bit_from device bits);
-  bram = planes_from (bram_width device) (bram_height device) (bram_bit_from device bits);
+  cram = planes_from (cram_width layout.device) (cram_height layout.device) (cram_bit_from layout bits);
+  bram = planes_from (bram_width layout.device) (bram_height layout.device) (bram_bit_from layout bits);
 }

@@ -1,16 +1,15 @@
 -- An image as data.
 use Rattle.std.specs.Prelude.{◌≡◌, ℕ, ◌<◌, Bool, true, false, List, [], length, get_or, set, replicate, Option, None}
 use Rattle.bit_plane.specs.Rows.{Rows, IsGrid, bit_at, with_bit, blank}
-use Rattle.plane_map.specs.Layout.{cram_width, cram_height, bram_width, bram_height}
-use Rattle.plane_map.specs.declared.device.DeviceName.{DeviceName}
+use Rattle.plane_map.specs.Layout.{Layout, IsLayout, cram_width, cram_height, bram_width, bram_height}
 use Rattle.plane_map.specs.declared.tile.Place.{Place}
 use Rattle.ice_image.specs.declared.settings.Settings.{Settings}
 use Rattle.ice_image.specs.declared.settings.Range.TheVariants.{Low}
 
--- A device's configuration: the lines of its comment where it has one, its settings, and the configuration and the RAM
--- planes of banks 0 to 3.
+-- A device's configuration: the device's layout, the lines of a comment where there is one, the settings, and the
+-- configuration and the RAM planes of banks 0 to 3.
 pub record Configuration : Type 0 where
-  pub device : DeviceName
+  pub layout : Layout
   pub comment : Option (List (List ℕ))
   pub settings : Settings
   pub cram : List Rows
@@ -45,10 +44,11 @@ pub record AreBanks (width height : ℕ) (planes : List Rows) : Type 0 where
   pub four : length planes ≡ 4
   pub grids : (bank : ℕ) → bank < 4 → IsGrid width height (bank_rows planes bank)
 
--- the planes have the device's sizes
+-- the layout gives no two bits one place, and the planes have the device's sizes
 pub record IsWhole (image : Configuration) : Type 0 where
-  pub cram : AreBanks (cram_width image.device) (cram_height image.device) image.cram
-  pub bram : AreBanks (bram_width image.device) (bram_height image.device) image.bram
+  pub layout : IsLayout image.layout
+  pub cram : AreBanks (cram_width image.layout.device) (cram_height image.layout.device) image.cram
+  pub bram : AreBanks (bram_width image.layout.device) (bram_height image.layout.device) image.bram
 
 -- ---- the first one
 
@@ -57,11 +57,11 @@ abbrev pub usual_settings : Settings
 usual_settings = record { range = Low; warm_boot = true; no_sleep = false }
 
 -- no comment, the usual settings, and all bits 0
-abbrev pub blank_image : DeviceName → Configuration
-blank_image device = record {
-  device = device;
+abbrev pub blank_image : Layout → Configuration
+blank_image layout = record {
+  layout = layout;
   comment = None;
   settings = usual_settings;
-  cram = replicate 4 (blank (cram_width device) (cram_height device));
-  bram = replicate 4 (blank (bram_width device) (bram_height device));
+  cram = replicate 4 (blank (cram_width layout.device) (cram_height layout.device));
+  bram = replicate 4 (blank (bram_width layout.device) (bram_height layout.device));
 }

@@ -3,7 +3,6 @@ use Rattle.ice_image.specs.Configuration.{Configuration}
 use Rattle.ice_image.specs.declared.any.AnyImage.{AnyImage}
 use Rattle.ice_image.specs.declared.any.AnyImage.TheVariants.{K1, K8}
 use Rattle.plane_map.specs.declared.device.DeviceName.{DeviceName}
-use Rattle.plane_map.specs.declared.device.DeviceName.TheVariants.{K1 as Hx1kName, K8 as Hx8kName}
 
 -- what the image configures
 abbrev pub configuration_of : AnyImage → Configuration
@@ -12,5 +11,4 @@ configuration_of (K8 image) = image
 
 -- the device that it is for
 abbrev pub device_of : AnyImage → DeviceName
-device_of (K1 image) = Hx1kName
-device_of (K8 image) = Hx8kName
+device_of image = (configuration_of image).layout.device

@@ -3,7 +3,7 @@
 use Rattle.std.specs.Prelude.{◌≡◌, ℕ, ◌<◌, ◌⊎◌, ◌↔◌, Bool, false, List, [], ◌∷◌, ◌++◌, get_or, Contains, AllPairs}
 use Rattle.bit_plane.specs.BitList.{word_bits}
 use Rattle.bit_plane.specs.Rows.{Rows, IsGrid, bit_at}
-use Rattle.plane_map.specs.declared.device.DeviceName.{DeviceName}
+use Rattle.plane_map.specs.Layout.{Layout}
 use Rattle.plane_map.specs.declared.tile.Place.{Place}
 use Rattle.ice_image.specs.Configuration.{place_bit, SameBut}
 use Rattle.ice_image.specs.Contents.{tile_place}
@@ -23,22 +23,22 @@ pub record IsWritten (places : ℕ → Place) (bits : ℕ → Bool) (count : ℕ
   pub others : SameBut (IsAmong places count) before after
 
 -- a place of a bit in one of a tile's first rows
-abbrev pub IsInRows : DeviceName → ℕ → ℕ → ℕ → ℕ → Place → Type 0
-IsInRows device x y width count at =
-    (row : ℕ) × (col : ℕ) × (row < count) × (col < width) × (tile_place device x y row col ≡ at)
+abbrev pub IsInRows : Layout → ℕ → ℕ → ℕ → ℕ → Place → Type 0
+IsInRows layout x y width count at =
+    (row : ℕ) × (col : ℕ) × (row < count) × (col < width) × (tile_place layout x y row col ≡ at)
 
 -- the first rows of a tile have the bits of another tile's, and all others are as before
-pub record AreRowsWritten (device : DeviceName) (x y width : ℕ) (tile : Rows) (count : ℕ) (before after : List Rows) : Type 0 where
-  pub written : (row col : ℕ) → row < count → col < width → place_bit after (tile_place device x y row col) ≡ bit_at tile col row
-  pub others : SameBut (IsInRows device x y width count) before after
+pub record AreRowsWritten (layout : Layout) (x y width : ℕ) (tile : Rows) (count : ℕ) (before after : List Rows) : Type 0 where
+  pub written : (row col : ℕ) → row < count → col < width → place_bit after (tile_place layout x y row col) ≡ bit_at tile col row
+  pub others : SameBut (IsInRows layout x y width count) before after
   pub shape : 0 < count → IsGrid width 16 tile
 
 -- the set extra bits before a place, each once, in order
-pub record HasExtras (device : DeviceName) (cram : List Rows) (limit : Place) (places : List Place) : Type 0 where
+pub record HasExtras (layout : Layout) (cram : List Rows) (limit : Place) (places : List Place) : Type 0 where
   pub ordered : AllPairs IsBefore places
-  pub exact : (at : Place) → Contains places at ↔ (IsBefore at limit × IsSetExtra device cram at)
+  pub exact : (at : Place) → Contains places at ↔ (IsBefore at limit × IsSetExtra layout cram at)
 
 -- a place is appended where it is a set extra bit
-abbrev pub IsExtraAppended : DeviceName → List Rows → Place → List Place → List Place → Type 0
-IsExtraAppended device cram at before after =
-    (IsSetExtra device cram at × (after ≡ before ++ at ∷ [])) ⊎ ((¬ IsSetExtra device cram at) × (after ≡ before))
+abbrev pub IsExtraAppended : Layout → List Rows → Place → List Place → List Place → Type 0
+IsExtraAppended layout cram at before after =
+    (IsSetExtra layout cram at × (after ≡ before ++ at ∷ [])) ⊎ ((¬ IsSetExtra layout cram at) × (after ≡ before))

@@ -2,12 +2,12 @@
 ghost use Rattle.std.specs.Prelude.{◌≡◌, ◌+◌, ◌*◌, ◌<◌, ◌≤◌, ◌↔◌, Some, IfOk, IsTrue, All, true, false, length, take, drop, option_copied, MatchOption};
 ghost use Rattle.bit_plane.specs.BitList.{word_bits, word_of, bits_of, bytes_of};
 ghost use Rattle.bit_plane.specs.Rows.{flat, rows_of};
-ghost use Rattle.plane_map.specs.Layout.{kind_of, columns_at, place_of, word_place_of, IsTileBit, IsWordBit, IsInCram};
+ghost use Rattle.plane_map.specs.Layout.{kind_of, columns_at, standard_layout, place_of, word_place_of, IsTileBit, IsWordBit, IsInCram};
 ghost use Rattle.ice_image.specs.Configuration.{place_bit, with_place_bit, SameBut, blank_image, IsWhole};
-ghost use Rattle.ice_image.specs.Contents.{tile_rows, IsPlaceOfTile, word_value, IsPlaceOfWord, IsBitOfTile, listed_bits};
+ghost use Rattle.ice_image.specs.Contents.{tile_rows, IsPlaceOfTile, word_value, IsPlaceOfWord, IsBitOfTile};
 ghost use Rattle.ice_image.specs.Either.{configuration_of, device_of};
 ghost use Rattle.ice_image.specs.Extras.{AreSetExtras};
-ghost use Rattle.ice_image.specs.Bits.{OfTile, OfWord, Extra, bit_of, row_of, ram_word_of, set_extras, IsSet};
+ghost use Rattle.ice_image.specs.Bits.{OfTile, OfWord, Extra, bit_of, listed_bits, row_of, ram_word_of, set_extras, IsSet};
 ghost use Rattle.ice_image.specs.Owned.{is_extra};
 ghost use Rattle.ice_image.specs.Planes.{plane_width, plane_height, rows_of_bank, with_rows};
 
@@ -16,7 +16,7 @@ use crate::image::Image;
 use crate::planes::PlaneKind;
 use crate::settings::Settings;
 use bit_plane::Tile;
-use plane_map::{DeviceName, Hx1k, Hx8k, Place, RowCol, TileBit, TileKind, WordBit};
+use plane_map::{DeviceName, Layout, Hx1k, Hx8k, Place, RowCol, TileBit, TileKind, WordBit};
 use std::alloc::{AllocError, Global};
 
 /// An image of one of the devices.
@@ -27,21 +27,37 @@ pub enum AnyImage {
 }
 
 impl AnyImage {
-    /// No comment, the low range, warm boot, sleep, and all bits 0.
+    /// No comment, the low range, warm boot, sleep, and all bits 0, under the standard layout.
     pub fn zeroed(alloc: Global, device: DeviceName) -> Result<AnyImage, AllocError>
-        ensures device { IfOk result (λ image. device_of image ≡ device) }
-        ensures blank { IfOk result (λ image. configuration_of image ≡ blank_image device) }
+        ensures { IfOk result (λ image. configuration_of image ≡ blank_image (standard_layout device)) }
     {
-        Ok(match device {
-            DeviceName::K1 => AnyImage::K1(Image::zeroed(alloc)?),
-            DeviceName::K8 => AnyImage::K8(Image::zeroed(alloc)?),
+        AnyImage::zeroed_with(alloc, Layout::standard(device))
+    }
+
+    /// The same under a layout; the image is for the layout's device.
+    pub fn zeroed_with(alloc: Global, layout: Layout) -> Result<AnyImage, AllocError>
+        ensures { IfOk result (λ image. configuration_of image ≡ blank_image layout) }
+    {
+        Ok(match layout.device() {
+            DeviceName::K1 => AnyImage::K1(Image::zeroed_with(alloc, layout)?),
+            DeviceName::K8 => AnyImage::K8(Image::zeroed_with(alloc, layout)?),
         })
+    }
+
+    /// The layout.
+    pub fn layout(&self) -> Layout
+        ensures layout { result ≡ (configuration_of self.now).layout }
+        ensures whole { IsWhole (configuration_of self.now) }
+    {
+        match self {
+            AnyImage::K1(image) => image.layout(),
+            AnyImage::K8(image) => image.layout(),
+        }
     }
 
     /// The device.
     pub fn device(&self) -> DeviceName
-        ensures name { result ≡ device_of self.now }
-        ensures device { result ≡ (configuration_of self.now).device }
+        ensures device { result ≡ device_of self.now }
         ensures whole { IsWhole (configuration_of self.now) }
     {
         match self {
@@ -95,7 +111,7 @@ impl AnyImage {
     /// A bit of a tile.
     pub fn tile_bit(&self, at: TileBit) -> bool
         requires { IsTileBit (device_of self.now) at }
-        ensures place { result ≡ place_bit (configuration_of self.now).cram (place_of (device_of self.now) at) }
+        ensures place { result ≡ place_bit (configuration_of self.now).cram (place_of (configuration_of self.now).layout at) }
         ensures bit { result ≡ bit_of (configuration_of self.now) (OfTile at) }
     {
         match self {
@@ -108,7 +124,7 @@ impl AnyImage {
     pub fn set_tile_bit(&mut self, at: TileBit, bit: bool)
         requires { IsTileBit (device_of self.old) at }
         ensures device { device_of self.new ≡ device_of self.old }
-        ensures changed { configuration_of self.new ≡ record (configuration_of self.old) { cram = with_place_bit (configuration_of self.old).cram (place_of (device_of self.old) at) bit } }
+        ensures changed { configuration_of self.new ≡ record (configuration_of self.old) { cram = with_place_bit (configuration_of self.old).cram (place_of (configuration_of self.old).layout at) bit } }
         ensures bits { IsSet (OfTile at) bit (configuration_of self.old) (configuration_of self.new) }
     {
         match self {
@@ -130,7 +146,7 @@ impl AnyImage {
 
     /// Sets an extra bit.
     pub fn set_extra_bit(&mut self, at: Place, bit: bool)
-        requires { is_extra (device_of self.old) at ≡ true }
+        requires { is_extra (configuration_of self.old).layout at ≡ true }
         ensures device { device_of self.new ≡ device_of self.old }
         ensures bits { IsSet (Extra at) bit (configuration_of self.old) (configuration_of self.new) }
     {
@@ -166,7 +182,7 @@ impl AnyImage {
     /// The tile at (x, y), which has C columns.
     pub fn tile<const C: usize>(&self, x: u8, y: u8) -> Tile<C>
         requires { columns_at (device_of self.now) x y ≡ C }
-        ensures { result ≡ tile_rows (device_of self.now) (configuration_of self.now).cram x y }
+        ensures { result ≡ tile_rows (configuration_of self.now).layout (configuration_of self.now).cram x y }
     {
         match self {
             AnyImage::K1(image) => image.tile(x, y),
@@ -178,8 +194,8 @@ impl AnyImage {
     pub fn put_tile<const C: usize>(&mut self, x: u8, y: u8, tile: &Tile<C>)
         requires { columns_at (device_of self.old) x y ≡ C }
         ensures device { device_of self.new ≡ device_of self.old }
-        ensures tile { tile_rows (device_of self.old) (configuration_of self.new).cram x y ≡ tile.now }
-        ensures others { SameBut (IsPlaceOfTile (device_of self.old) x y) (configuration_of self.old).cram (configuration_of self.new).cram }
+        ensures tile { tile_rows (configuration_of self.old).layout (configuration_of self.new).cram x y ≡ tile.now }
+        ensures others { SameBut (IsPlaceOfTile (configuration_of self.old).layout x y) (configuration_of self.old).cram (configuration_of self.new).cram }
         ensures rest { configuration_of self.new ≡ record (configuration_of self.old) { cram = (configuration_of self.new).cram } }
         ensures whole { IsWhole (configuration_of self.new) }
     {
@@ -192,8 +208,8 @@ impl AnyImage {
     /// Whether bit k of the list has the value of bit k of `values`, for each k.
     pub fn tile_equals(&self, x: u8, y: u8, bits: &[RowCol], values: u64) -> bool
         requires few { length bits.now ≤ 64 }
-        requires in_tile { All (IsBitOfTile (device_of self.now) x y) bits.now }
-        ensures { IsTrue result ↔ (listed_bits (device_of self.now) (configuration_of self.now).cram x y bits.now ≡ word_bits (length bits.now) values) }
+        requires in_tile { All (IsBitOfTile (configuration_of self.now).layout x y) bits.now }
+        ensures { IsTrue result ↔ (listed_bits (configuration_of self.now) x y bits.now ≡ word_bits (length bits.now) values) }
     {
         match self {
             AnyImage::K1(image) => image.tile_equals(x, y, bits, values),
@@ -204,7 +220,7 @@ impl AnyImage {
     /// A word of the RAM whose lower tile is at (x, y), bit b having the value 2^b.
     pub fn ram_word(&self, x: u8, y: u8, word: u8) -> u16
         requires { kind_of (device_of self.now) x y ≡ Some TileKind.RamB }
-        ensures place { result ≡ word_value (device_of self.now) (configuration_of self.now).bram x y word }
+        ensures place { result ≡ word_value (configuration_of self.now).layout (configuration_of self.now).bram x y word }
         ensures bits { result ≡ ram_word_of (configuration_of self.now) x y word }
     {
         match self {
@@ -217,8 +233,8 @@ impl AnyImage {
     pub fn set_ram_word(&mut self, x: u8, y: u8, word: u8, value: u16)
         requires { kind_of (device_of self.old) x y ≡ Some TileKind.RamB }
         ensures device { device_of self.new ≡ device_of self.old }
-        ensures word { word_value (device_of self.old) (configuration_of self.new).bram x y word ≡ value }
-        ensures others { SameBut (IsPlaceOfWord (device_of self.old) x y word) (configuration_of self.old).bram (configuration_of self.new).bram }
+        ensures word { word_value (configuration_of self.old).layout (configuration_of self.new).bram x y word ≡ value }
+        ensures others { SameBut (IsPlaceOfWord (configuration_of self.old).layout x y word) (configuration_of self.old).bram (configuration_of self.new).bram }
         ensures rest { configuration_of self.new ≡ record (configuration_of self.old) { bram = (configuration_of self.new).bram } }
         ensures whole { IsWhole (configuration_of self.new) }
     {
@@ -232,7 +248,7 @@ impl AnyImage {
     pub fn set_word_bit(&mut self, at: WordBit, bit: bool)
         requires { IsWordBit (device_of self.old) at }
         ensures device { device_of self.new ≡ device_of self.old }
-        ensures changed { configuration_of self.new ≡ record (configuration_of self.old) { bram = with_place_bit (configuration_of self.old).bram (word_place_of (device_of self.old) at) bit } }
+        ensures changed { configuration_of self.new ≡ record (configuration_of self.old) { bram = with_place_bit (configuration_of self.old).bram (word_place_of (configuration_of self.old).layout at) bit } }
         ensures bits { IsSet (OfWord at) bit (configuration_of self.old) (configuration_of self.new) }
     {
         match self {
@@ -243,8 +259,8 @@ impl AnyImage {
 
     /// The place of the configuration planes with these numbers, where it belongs to no tile.
     pub fn extra_place(&self, bank: u32, px: u32, py: u32) -> Option<Place>
-        ensures { MatchOption result (is_extra (device_of self.now) (record { bank = bank; px = px; py = py }) ≡ false)
-            (λ at. (is_extra (device_of self.now) at ≡ true) × (at ≡ record { bank = bank; px = px; py = py })) }
+        ensures { MatchOption result (is_extra (configuration_of self.now).layout (record { bank = bank; px = px; py = py }) ≡ false)
+            (λ at. (is_extra (configuration_of self.now).layout at ≡ true) × (at ≡ record { bank = bank; px = px; py = py })) }
     {
         match self {
             AnyImage::K1(image) => image.extra_place(bank, px, py),
@@ -290,7 +306,7 @@ impl AnyImage {
 
     /// The set bits of the configuration planes that belong to no tile, by bank, then by row, then by column.
     pub fn extra_bits(&self, alloc: Global) -> Result<Vec<Place>, AllocError>
-        ensures exact { IfOk result (λ places. AreSetExtras (device_of self.now) (configuration_of self.now).cram places.items) }
+        ensures exact { IfOk result (λ places. AreSetExtras (configuration_of self.now).layout (configuration_of self.now).cram places.items) }
         ensures bits { IfOk result (λ places. places.items ≡ set_extras (configuration_of self.now)) }
     {
         match self {

@@ -3,11 +3,11 @@ ghost use Rattle.std.specs.Prelude.{◌≡◌, ◌+◌, ◌*◌, ◌<◌, ◌≤
 ghost use Rattle.std.specs.Borrow.{Lends, sem};
 ghost use Rattle.bit_plane.specs.BitList.{word_bits, word_of, bits_of, bytes_of};
 ghost use Rattle.bit_plane.specs.Rows.{IsGrid, flat, rows_of};
-ghost use Rattle.plane_map.specs.Layout.{kind_of, columns_at, place_of, word_place_of, cram_width, cram_height, bram_width, bram_height, IsTileBit, IsWordBit, IsInCram};
+ghost use Rattle.plane_map.specs.Layout.{kind_of, columns_at, standard_layout, place_of, word_place_of, cram_width, cram_height, bram_width, bram_height, IsTileBit, IsWordBit, IsInCram};
 ghost use Rattle.ice_image.specs.Configuration.{bank_rows, place_bit, with_bank, with_place_bit, SameBut, blank_image, IsWhole};
-ghost use Rattle.ice_image.specs.Contents.{tile_rows, IsPlaceOfTile, word_value, IsPlaceOfWord, IsBitOfTile, listed_bits};
+ghost use Rattle.ice_image.specs.Contents.{tile_rows, IsPlaceOfTile, word_value, IsPlaceOfWord, IsBitOfTile};
 ghost use Rattle.ice_image.specs.Extras.{AreSetExtras};
-ghost use Rattle.ice_image.specs.Bits.{OfTile, OfWord, Extra, bit_of, row_of, ram_word_of, set_extras, IsSet};
+ghost use Rattle.ice_image.specs.Bits.{OfTile, OfWord, Extra, bit_of, listed_bits, row_of, ram_word_of, set_extras, IsSet};
 ghost use Rattle.ice_image.specs.Owned.{is_extra};
 ghost use Rattle.ice_image.specs.Planes.{plane_width, plane_height, rows_of_bank, with_rows};
 ghost use Rattle.ice_image.specs.declared.planes.PlaneKind.TheVariants.{Cram, Bram};
@@ -22,7 +22,7 @@ use crate::tiles::{columns_on, read_tile, row_word, write_tile};
 use crate::words::{read_word, write_word};
 use bit_plane::{Bits, Tile};
 use plane_map::{
-    Device, DeviceName, Place, RowCol, TileBit, TileKind, WordBit, bram_place, cram_place,
+    Device, DeviceName, Layout, Place, RowCol, TileBit, TileKind, WordBit,
 };
 use std::alloc::{AllocError, Global};
 use std::marker::Model;
@@ -30,6 +30,7 @@ use std::marker::Model;
 /// What a bitstream configures on a device.
 #[derive(Drop)]
 pub struct Image<D: Device> {
+    layout: Layout,
     comment: Option<Comment>,
     settings: Settings,
     cram: Banks<D::Cram>,
@@ -37,21 +38,31 @@ pub struct Image<D: Device> {
 }
 
 impl<D: Device> Model for Image<D> {
+    ghost use Rattle.std.specs.Prelude.{◌≡◌};
     ghost use Rattle.ice_image.specs.Configuration.{Configuration, AreBanks};
 
     ghost Value = { Configuration };
 
-    ghost view = { λ image. record { device = D.NAME; comment = image.comment; settings = image.settings; cram = image.cram; bram = image.bram } };
+    ghost view = { λ image. record { layout = image.layout; comment = image.comment; settings = image.settings; cram = image.cram; bram = image.bram } };
 
-    ghost invariant = { λ image. AreBanks D.Cram.WIDTH D.Cram.HEIGHT image.cram × AreBanks D.Bram.WIDTH D.Bram.HEIGHT image.bram };
+    ghost invariant = { λ image. (image.layout.device ≡ D.NAME) × AreBanks D.Cram.WIDTH D.Cram.HEIGHT image.cram × AreBanks D.Bram.WIDTH D.Bram.HEIGHT image.bram };
 }
 
 impl<D: Device> Image<D> {
-    /// No comment, the low range, warm boot, sleep, and all bits 0.
+    /// No comment, the low range, warm boot, sleep, and all bits 0, under the standard layout.
     pub fn zeroed(alloc: Global) -> Result<Image<D>, AllocError>
-        ensures { IfOk result (λ image. image ≡ blank_image D.NAME) }
+        ensures { IfOk result (λ image. image ≡ blank_image (standard_layout D.NAME)) }
+    {
+        Image::zeroed_with(alloc, Layout::standard(D::device_name()))
+    }
+
+    /// The same under a layout of the device.
+    pub fn zeroed_with(alloc: Global, layout: Layout) -> Result<Image<D>, AllocError>
+        requires { layout.device ≡ D.NAME }
+        ensures { IfOk result (λ image. image ≡ blank_image layout) }
     {
         Ok(Image {
+            layout,
             comment: None,
             settings: Settings {
                 range: Range::Low,
@@ -66,12 +77,18 @@ impl<D: Device> Image<D> {
     /// The device.
     pub fn device(&self) -> DeviceName
         ensures name { result ≡ D.NAME }
-        ensures device { result ≡ self.now.device }
+        ensures device { result ≡ self.now.layout.device }
         ensures whole { IsWhole self.now }
     {
-        // The read shows that the image, and so its planes, are whole.
-        let _ = &self.settings;
-        D::device_name()
+        self.layout.device()
+    }
+
+    /// The layout.
+    pub fn layout(&self) -> Layout
+        ensures layout { result ≡ self.now.layout }
+        ensures whole { IsWhole self.now }
+    {
+        self.layout
     }
 
     /// The settings.
@@ -104,21 +121,21 @@ impl<D: Device> Image<D> {
 
     /// A bit of a tile.
     pub fn tile_bit(&self, at: TileBit) -> bool
-        requires { IsTileBit D.NAME at }
-        ensures place { result ≡ place_bit self.now.cram (place_of D.NAME at) }
+        requires { IsTileBit self.now.layout.device at }
+        ensures place { result ≡ place_bit self.now.cram (place_of self.now.layout at) }
         ensures bit { result ≡ bit_of self.now (OfTile at) }
     {
-        self.cram.get(cram_place::<D>(at.x, at.y, at.row, at.col))
+        self.cram.get(self.layout.cram_place(at.x, at.y, at.row, at.col))
     }
 
     /// Sets a bit of a tile.
     pub fn set_tile_bit(&mut self, at: TileBit, bit: bool)
-        requires { IsTileBit D.NAME at }
-        ensures changed { self.new ≡ record self.old { cram = with_place_bit self.old.cram (place_of D.NAME at) bit } }
+        requires { IsTileBit self.old.layout.device at }
+        ensures changed { self.new ≡ record self.old { cram = with_place_bit self.old.cram (place_of self.old.layout at) bit } }
         ensures bits { IsSet (OfTile at) bit self.old self.new }
     {
         self.cram
-            .set(cram_place::<D>(at.x, at.y, at.row, at.col), bit);
+            .set(self.layout.cram_place(at.x, at.y, at.row, at.col), bit);
     }
 
     /// The bits of a row of a tile as a word. Column c is the bit of value 2^c.
@@ -131,7 +148,7 @@ impl<D: Device> Image<D> {
 
     /// Sets an extra bit.
     pub fn set_extra_bit(&mut self, at: Place, bit: bool)
-        requires { is_extra D.NAME at ≡ true }
+        requires { is_extra self.old.layout at ≡ true }
         ensures { IsSet (Extra at) bit self.old self.new }
     {
         self.cram.set(at, bit);
@@ -139,7 +156,7 @@ impl<D: Device> Image<D> {
 
     /// The bit at a place of the configuration planes.
     pub fn cram_bit(&self, at: Place) -> bool
-        requires { IsInCram D.NAME at }
+        requires { IsInCram self.now.layout.device at }
         ensures { result ≡ place_bit self.now.cram at }
     {
         self.cram.get(at)
@@ -147,7 +164,7 @@ impl<D: Device> Image<D> {
 
     /// Sets the bit at a place of the configuration planes.
     pub fn set_cram_bit(&mut self, at: Place, bit: bool)
-        requires { IsInCram D.NAME at }
+        requires { IsInCram self.old.layout.device at }
         ensures { self.new ≡ record self.old { cram = with_place_bit self.old.cram at bit } }
     {
         self.cram.set(at, bit);
@@ -189,17 +206,17 @@ impl<D: Device> Image<D> {
 
     /// The tile at (x, y), which has C columns.
     pub fn tile<const C: usize>(&self, x: u8, y: u8) -> Tile<C>
-        requires { columns_at D.NAME x y ≡ C }
-        ensures { result ≡ tile_rows D.NAME self.now.cram x y }
+        requires { columns_at self.now.layout.device x y ≡ C }
+        ensures { result ≡ tile_rows self.now.layout self.now.cram x y }
     {
         read_tile::<D, C>(&self.cram, x, y)
     }
 
     /// Sets all bits of the tile at (x, y), which has C columns, to those of another tile.
     pub fn put_tile<const C: usize>(&mut self, x: u8, y: u8, tile: &Tile<C>)
-        requires { columns_at D.NAME x y ≡ C }
-        ensures tile { tile_rows D.NAME self.new.cram x y ≡ tile.now }
-        ensures others { SameBut (IsPlaceOfTile D.NAME x y) self.old.cram self.new.cram }
+        requires { columns_at self.old.layout.device x y ≡ C }
+        ensures tile { tile_rows self.old.layout self.new.cram x y ≡ tile.now }
+        ensures others { SameBut (IsPlaceOfTile self.old.layout x y) self.old.cram self.new.cram }
         ensures rest { self.new ≡ record self.old { cram = self.new.cram } }
         ensures whole { IsWhole self.new }
     {
@@ -209,8 +226,8 @@ impl<D: Device> Image<D> {
     /// Whether bit k of the list has the value of bit k of `values`, for each k.
     pub fn tile_equals(&self, x: u8, y: u8, bits: &[RowCol], values: u64) -> bool
         requires few { length bits.now ≤ 64 }
-        requires in_tile { All (IsBitOfTile D.NAME x y) bits.now }
-        ensures { IsTrue result ↔ (listed_bits D.NAME self.now.cram x y bits.now ≡ word_bits (length bits.now) values) }
+        requires in_tile { All (IsBitOfTile self.now.layout x y) bits.now }
+        ensures { IsTrue result ↔ (listed_bits self.now x y bits.now ≡ word_bits (length bits.now) values) }
     {
         for (index, bit) in bits.iter().enumerate() {
             let at = TileBit {
@@ -228,8 +245,8 @@ impl<D: Device> Image<D> {
 
     /// A word of the RAM whose lower tile is at (x, y), bit b having the value 2^b.
     pub fn ram_word(&self, x: u8, y: u8, word: u8) -> u16
-        requires { kind_of D.NAME x y ≡ Some TileKind.RamB }
-        ensures place { result ≡ word_value D.NAME self.now.bram x y word }
+        requires { kind_of self.now.layout.device x y ≡ Some TileKind.RamB }
+        ensures place { result ≡ word_value self.now.layout self.now.bram x y word }
         ensures bits { result ≡ ram_word_of self.now x y word }
     {
         read_word::<D>(&self.bram, x, y, word)
@@ -237,9 +254,9 @@ impl<D: Device> Image<D> {
 
     /// Sets a word of the RAM whose lower tile is at (x, y), bit b having the value 2^b.
     pub fn set_ram_word(&mut self, x: u8, y: u8, word: u8, value: u16)
-        requires { kind_of D.NAME x y ≡ Some TileKind.RamB }
-        ensures word { word_value D.NAME self.new.bram x y word ≡ value }
-        ensures others { SameBut (IsPlaceOfWord D.NAME x y word) self.old.bram self.new.bram }
+        requires { kind_of self.old.layout.device x y ≡ Some TileKind.RamB }
+        ensures word { word_value self.old.layout self.new.bram x y word ≡ value }
+        ensures others { SameBut (IsPlaceOfWord self.old.layout x y word) self.old.bram self.new.bram }
         ensures rest { self.new ≡ record self.old { bram = self.new.bram } }
         ensures whole { IsWhole self.new }
     {
@@ -248,17 +265,17 @@ impl<D: Device> Image<D> {
 
     /// Sets a bit of a word of a RAM.
     pub fn set_word_bit(&mut self, at: WordBit, bit: bool)
-        requires { IsWordBit D.NAME at }
-        ensures changed { self.new ≡ record self.old { bram = with_place_bit self.old.bram (word_place_of D.NAME at) bit } }
+        requires { IsWordBit self.old.layout.device at }
+        ensures changed { self.new ≡ record self.old { bram = with_place_bit self.old.bram (word_place_of self.old.layout at) bit } }
         ensures bits { IsSet (OfWord at) bit self.old self.new }
     {
         self.bram
-            .set(bram_place::<D>(at.x, at.y, at.word, at.bit), bit);
+            .set(self.layout.bram_place(at.x, at.y, at.word, at.bit), bit);
     }
 
     /// The set bits of the configuration planes that belong to no tile, by bank, then by row, then by column.
     pub fn extra_bits(&self, alloc: Global) -> Result<Vec<Place>, AllocError>
-        ensures exact { IfOk result (λ places. AreSetExtras D.NAME self.now.cram places.items) }
+        ensures exact { IfOk result (λ places. AreSetExtras self.now.layout self.now.cram places.items) }
         ensures bits { IfOk result (λ places. places.items ≡ set_extras self.now) }
     {
         extras_of::<D>(&self.cram, alloc)
@@ -266,8 +283,8 @@ impl<D: Device> Image<D> {
 
     /// The place of the configuration planes with these numbers, where it belongs to no tile.
     pub fn extra_place(&self, bank: u32, px: u32, py: u32) -> Option<Place>
-        ensures { MatchOption result (is_extra D.NAME (record { bank = bank; px = px; py = py }) ≡ false)
-            (λ at. (is_extra D.NAME at ≡ true) × (at ≡ record { bank = bank; px = px; py = py })) }
+        ensures { MatchOption result (is_extra self.now.layout (record { bank = bank; px = px; py = py }) ≡ false)
+            (λ at. (is_extra self.now.layout at ≡ true) × (at ≡ record { bank = bank; px = px; py = py })) }
     {
         extra_place::<D>(bank, px, py)
     }
@@ -276,8 +293,8 @@ impl<D: Device> Image<D> {
     /// byte first.
     pub fn rows(&self, kind: PlaneKind, bank: usize, first: usize, count: usize, out: &mut [u8])
         requires bank { bank < 4 }
-        requires rows { first + count ≤ plane_height kind D.NAME }
-        requires bytes { 8 * length out.old ≡ count * plane_width kind D.NAME }
+        requires rows { first + count ≤ plane_height kind self.now.layout.device }
+        requires bytes { 8 * length out.old ≡ count * plane_width kind self.now.layout.device }
         ensures bytes { out.new ≡ bytes_of (length out.old) (flat (take count (drop first (rows_of_bank kind bank self.now)))) }
     {
         match kind {
@@ -297,9 +314,9 @@ impl<D: Device> Image<D> {
         bytes: &[u8],
     )
         requires bank { bank < 4 }
-        requires rows { first + count ≤ plane_height kind D.NAME }
-        requires bytes { 8 * length bytes.now ≡ count * plane_width kind D.NAME }
-        ensures { self.new ≡ with_rows kind bank first (rows_of (plane_width kind D.NAME) count (bits_of bytes.now)) self.old }
+        requires rows { first + count ≤ plane_height kind self.old.layout.device }
+        requires bytes { 8 * length bytes.now ≡ count * plane_width kind self.old.layout.device }
+        ensures { self.new ≡ with_rows kind bank first (rows_of (plane_width kind self.old.layout.device) count (bits_of bytes.now)) self.old }
     {
         match kind {
             PlaneKind::Cram => self.set_cram_rows(bank, first, count, bytes),
@@ -310,9 +327,9 @@ impl<D: Device> Image<D> {
     /// The same for a configuration plane.
     fn set_cram_rows(&mut self, bank: usize, first: usize, count: usize, bytes: &[u8])
         requires bank { bank < 4 }
-        requires rows { first + count ≤ cram_height D.NAME }
-        requires bytes { 8 * length bytes.now ≡ count * cram_width D.NAME }
-        ensures { self.new ≡ with_rows Cram bank first (rows_of (cram_width D.NAME) count (bits_of bytes.now)) self.old }
+        requires rows { first + count ≤ cram_height self.old.layout.device }
+        requires bytes { 8 * length bytes.now ≡ count * cram_width self.old.layout.device }
+        ensures { self.new ≡ with_rows Cram bank first (rows_of (cram_width self.old.layout.device) count (bits_of bytes.now)) self.old }
     {
         let plane = self.cram_mut(bank);
         plane.put_bytes(first, count, bytes);
@@ -321,9 +338,9 @@ impl<D: Device> Image<D> {
     /// The same for a RAM plane.
     fn set_bram_rows(&mut self, bank: usize, first: usize, count: usize, bytes: &[u8])
         requires bank { bank < 4 }
-        requires rows { first + count ≤ bram_height D.NAME }
-        requires bytes { 8 * length bytes.now ≡ count * bram_width D.NAME }
-        ensures { self.new ≡ with_rows Bram bank first (rows_of (bram_width D.NAME) count (bits_of bytes.now)) self.old }
+        requires rows { first + count ≤ bram_height self.old.layout.device }
+        requires bytes { 8 * length bytes.now ≡ count * bram_width self.old.layout.device }
+        ensures { self.new ≡ with_rows Bram bank first (rows_of (bram_width self.old.layout.device) count (bits_of bytes.now)) self.old }
     {
         let plane = self.bram_mut(bank);
         plane.put_bytes(first, count, bytes);

@@ -15,7 +15,7 @@ use Rattle.chipdb_reader.specs.Lookups.{is_function, extra_place}
 
 -- the bits of the tile at (x, y) at these rows and columns
 abbrev pub bits_at : Configuration → ℕ → ℕ → List RowCol → List Bool
-bits_at image x y bits = listed_bits image.device image.cram x y bits
+bits_at image x y bits = listed_bits image.layout.device image.cram x y bits
 
 -- a function is on at a tile where all its bits are 1 there
 unfoldable pub are_set : Configuration → ℕ → ℕ → List RowCol → Bool

@@ -83,7 +83,7 @@ ram_at db image x y = record {
 
 -- what each used RAM gives, by tile
 abbrev pub over_rams : {A : Type 0} → Database → Configuration → (ℕ → ℕ → List A) → List A
-over_rams db image given = over_tiles image.device RamB (λ x y. if is_ram_used db image x y then given x y else [])
+over_rams db image given = over_tiles image.layout.device RamB (λ x y. if is_ram_used db image x y then given x y else [])
 
 -- the used RAMs, by tile; a RAM that isn't used has no part in the fabric
 unfoldable pub rams_of : Database → Configuration → List RamCell
@@ -93,7 +93,7 @@ rams_of db image = over_rams db image (λ x y. ram_at db image x y ∷ [])
 
 -- a word that the image gives a RAM: its 16 bits, the lowest first
 abbrev pub start_word : Configuration → ℕ → ℕ → ℕ → List Bool
-start_word image x y word = row_from 16 (λ bit. place_bit image.bram (word_bit_place image.device x y word bit))
+start_word image x y word = row_from 16 (λ bit. place_bit image.bram (word_bit_place image.layout.device x y word bit))
 
 -- its 256 words
 unfoldable pub start_words : Configuration → ℕ → ℕ → List (List Bool)

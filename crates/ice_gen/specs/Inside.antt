@@ -46,7 +46,7 @@ is_of_row device net y =
 
 -- an image of which some bits have their values, and all others are 0
 pub record IsFilled (device : DeviceName) (seed : ℕ) (is_done : Bit → Bool) (image : Configuration) : Type 0 where
-  pub device_is : image.device ≡ device
+  pub device_is : image.layout.device ≡ device
   pub comment : image.comment ≡ None
   pub settings : image.settings ≡ usual_settings
   pub whole : IsWhole image

@@ -63,7 +63,7 @@ pointwise-tells result bits values tells =
     ]
 
 -- bits have the values of a number where they are its lowest bits
-pub values-tell : (image : Configuration) (x y : ℕ) (device : DeviceName) (bits : List RowCol) (values : ℕ) (result : Bool) → device ≡ image.device
+pub values-tell : (image : Configuration) (x y : ℕ) (device : DeviceName) (bits : List RowCol) (values : ℕ) (result : Bool) → device ≡ image.layout.device
     → IsTrue result ↔ (listed_bits device image.cram x y bits ≡ word_bits (length bits) values)
     → result ≡ pointwise beq (bits_at image x y bits) (low_bits (length bits) values)
 values-tell image x y device bits values result device_is tells =

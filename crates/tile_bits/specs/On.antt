@@ -14,7 +14,7 @@ use Rattle.chipdb_reader.specs.Lookups.{is_function}
 
 -- a bit of the tile at (x, y)
 abbrev pub tile_bit : Configuration → ℕ → ℕ → RowCol → Bool
-tile_bit image x y bit = place_bit image.cram (tile_place image.device x y bit.row bit.col)
+tile_bit image x y bit = place_bit image.cram (tile_place image.layout.device x y bit.row bit.col)
 
 -- A function is on at a tile where all its bits are 1 there.
 unfoldable pub is_function_on : Configuration → ℕ → ℕ → FunctionLine → Bool

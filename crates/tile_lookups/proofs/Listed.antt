@@ -113,7 +113,7 @@ all_set-not (false ∷ bits) (suc k) inside clear = refl
 
 -- as many bits as places
 pub length-bits_at : (image : Configuration) (x y : ℕ) (bits : List RowCol) → length (bits_at image x y bits) ≡ length bits
-length-bits_at image x y bits = length-map bits (λ bit. place_bit image.cram (tile_place image.device x y bit.row bit.col))
+length-bits_at image x y bits = length-map bits (λ bit. place_bit image.cram (tile_place image.layout.device x y bit.row bit.col))
 
 -- ---- tests that pass at some place
 

@@ -20,7 +20,7 @@ use Rattle.fabric.proofs.find.design.Goals as goal
 
 pub wire-requires : goal.wire-requires
 wire-requires c =
-    let same : (configuration_of c.args.image.now).device ≡ device_of c.args.image.now = sym c.device-2.ensures.device ∙ c.device-2.ensures.name in (
+    let same : (configuration_of c.args.image.now).layout.device ≡ device_of c.args.image.now = sym c.device-2.ensures.device ∙ c.device-2.ensures.name in (
       c.in_ok-parts.ensures.parts,
       rams-kept (database_in c.args.db.now) (configuration_of c.args.image.now) (device_of c.args.image.now) same c.in_ok-parts.parts.rams.items c.in_ok-parts.ensures.parts.rams,
     )
@@ -31,7 +31,7 @@ returns-in_err-wired-clause-refused c =
     let image = configuration_of c.args.image.now in
     let taken = c.in_ok-parts.ensures.taken in
     told c.from_residual-in_err-wired.result _ _ c.from_residual-in_err-wired.ensures.1
-    (same-cause image.device (fabric_of db image) _ _ (λ cause is. fabric-left db image taken ∙ is) c.in_err-wired.field-0.0
+    (same-cause image.layout.device (fabric_of db image) _ _ (λ cause is. fabric-left db image taken ∙ is) c.in_err-wired.field-0.0
     (subst (λ d. IsCause d (fabric_of db image) (fabric_fault d (fabric_of db image)) c.in_err-wired.field-0.0) taken.device c.in_err-wired.ensures.refused))
 
 pub of-requires : goal.of-requires
@@ -76,8 +76,8 @@ returns-clause-one_value c = λ state pins.
     let db = database_in c.args.db.now in
     let image = configuration_of c.args.image.now in
     let taken = c.in_ok-parts.ensures.taken in
-    let none : fabric_fault image.device (fabric_of db image) ≡ None = subst (λ d. fabric_fault d (fabric_of db image) ≡ None) taken.device c.in_ok-wired.ensures.taken in
-    taken-value image.device (fabric_of db image) none (fabric-within db image c.in_ok-parts.ensures.fit) state pins
+    let none : fabric_fault image.layout.device (fabric_of db image) ≡ None = subst (λ d. fabric_fault d (fabric_of db image) ≡ None) taken.device c.in_ok-wired.ensures.taken in
+    taken-value image.layout.device (fabric_of db image) none (fabric-within db image c.in_ok-parts.ensures.fit) state pins
 
 pub returns-clause-chains : goal.returns-clause-chains
 returns-clause-chains c =

@@ -8,7 +8,7 @@ use crate::place::tile_width;
 use crate::tile::{TileBit, TileKind};
 
 /// How many columns of bits the columns of tiles nearer to the edge take.
-#[tactic(auto, using(crate::proofs::Layouts::start_of_at_most), unfolding(crate::specs::Layout::start_in))]
+#[tactic(auto, unfolding(crate::specs::Layout::start_in))]
 pub(crate) fn column_start(layout: &Layout, distance: u32) -> u32
     requires { distance < half_width layout.now.device }
     ensures { result ≡ start_of layout.now distance }

@@ -1,6 +1,6 @@
 // Layouts.
-ghost use Rattle.std.specs.Prelude.{◌≡◌, ◌≢◌, ℕ, ◌<◌, Some, IfSome, MatchOption, length, slice_index, if◌then◌else◌};
-ghost use Rattle.plane_map.specs.Layout.{kind_of, columns_at, half_width, width_of, standard_layout, place_of, word_place_of, IsLayout, IsTileBit, IsWordBit, IsInCram, IsInBram, IsExtraBit};
+ghost use Rattle.std.specs.Prelude.{◌≡◌, ◌≢◌, ℕ, ◌+◌, ◌<◌, ◌≤◌, Some, IfSome, MatchOption, length, slice_index, if◌then◌else◌};
+ghost use Rattle.plane_map.specs.Layout.{kind_of, columns_at, half_width, width_of, start_of, cram_width, standard_layout, place_of, word_place_of, IsLayout, IsTileBit, IsWordBit, IsInCram, IsInBram, IsExtraBit};
 
 use crate::device::DeviceName;
 use crate::place::{owner_on, place_of_word, place_on};
@@ -133,7 +133,8 @@ impl Layout {
     /// How many columns of bits a column of tiles takes.
     pub(crate) fn width(&self, distance: u32) -> u32
         requires { distance < half_width self.now.device }
-        ensures { result ≡ width_of self.now distance }
+        ensures value { result ≡ width_of self.now distance }
+        ensures fits { start_of self.now distance + result ≤ cram_width self.now.device }
     {
         self.widths[distance as usize] as u32
     }

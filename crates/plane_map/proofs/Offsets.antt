@@ -1,6 +1,6 @@
 -- Bits of a tile as places within its column and its row of tiles, over any lists of the io tiles' columns and rows and any
 -- widths, so long as the tests of the lists pass.
-use Rattle.std.proofs.Common.{◌≡◌, ℕ, ◌+◌, ◌-◌, ◌*◌, ◌<◌, ◌≤◌, nat_lt, Bool, true, false, ◌&&◌, ◌||◌, ◌==◌, if◌then◌else◌, List, length, get_or, refl, arith}
+use Rattle.std.proofs.Common.{◌≡◌, ℕ, ◌+◌, ◌-◌, ◌*◌, ◌<◌, ◌≤◌, nat_lt, Bool, true, false, ◌&&◌, ◌==◌, if◌then◌else◌, List, length, get_or, refl, arith}
 use Rattle.std.proofs.lemmas.Bool.Decides.{nat_tests}
 use Rattle.plane_map.specs.Layout.{are_distinct, are_below, are_places}
 use Rattle.plane_map.proofs.Entries.{get_or-distinct, get_or-below, get_or-onto}
@@ -64,11 +64,16 @@ column-same sides pads s true end width a b ha hb e = entry-same sides 18 18 s.s
 column-same sides pads s false true width a b ha hb e = entry-same pads 18 42 s.pad_places a b ha.0 hb.0 e
 column-same sides pads s false false width a b ha hb e = e
 
--- what fits an edge is one of the eighteen columns
-pub fits-edge : (side end : Bool) (width col : ℕ) → FitsColumn side end width col → side || end ≡ true → col < 18
-fits-edge true end width col h e = h.0
-fits-edge false true width col h e = h.0
-fits-edge false false width col h e = absurd (cc)
+-- what fits a side is one of the eighteen columns
+pub fits-side : (side end : Bool) (width col : ℕ) → FitsColumn side end width col → side ≡ true → col < 18
+fits-side true end width col h e = h.0
+fits-side false end width col h e = absurd (cc)
+
+-- so is what fits an end row
+pub fits-end : (side end : Bool) (width col : ℕ) → FitsColumn side end width col → end ≡ true → col < 18
+fits-end true end width col h e = h.0
+fits-end false true width col h e = h.0
+fits-end false false width col h e = absurd (cc)
 
 -- a column of bits counted from the other side
 abbrev pub turned : Bool → ℕ → ℕ → ℕ

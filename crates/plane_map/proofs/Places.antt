@@ -4,7 +4,7 @@ use Rattle.plane_map.specs.declared.tile.TileBit.{TileBit}
 use Rattle.plane_map.specs.declared.tile.Place.{Place}
 use Rattle.plane_map.specs.Layout.{Layout, IsLayout, half_width, width_of, start_of, is_side, is_end, is_right, is_top, is_mirrored, from_side, from_end, quarter_of, bank_of, column_of, px_of, py_of, place_of, grid_width, grid_height, cram_width, IsTileBit}
 use Rattle.plane_map.proofs.Widths.{start-later, same_column}
-use Rattle.plane_map.proofs.Offsets.{entry-same, column, column-below, column-same, FitsColumn, fits-wider, turned, turned-below, turned-same, turned-is, height, height-below, height-same, height-is, same_row, quarter-below, quarter-same}
+use Rattle.plane_map.proofs.Offsets.{entry-same, column, column-below, column-same, FitsColumn, fits-wider, fits-side, fits-end, turned, turned-below, turned-same, turned-is, height, height-below, height-same, height-is, same_row, quarter-below, quarter-same}
 use Rattle.plane_map.proofs.Layouts.{are_starts, are_columns, are_pad_rows, are_banks, width_of-least, start_of-half, columns_at-in, columns_at-fit, from_side-below, from_side-same, from_end-same}
 
 -- a bit of a tile is in the grid and in its column and its row of tiles
@@ -146,6 +146,21 @@ tile_bit_x_in layout s bit h = (tile_bit_is_placed layout s bit h).x_in
 pub tile_bit_y_in : (layout : Layout) → IsLayout layout → (bit : TileBit) → IsTileBit layout.device bit → bit.y < grid_height layout.device
 tile_bit_y_in layout s bit h = (tile_bit_is_placed layout s bit h).y_in
 
+-- its column is one of eighteen at a side
+pub tile_bit_col_side : (layout : Layout) → IsLayout layout → (bit : TileBit) → IsTileBit layout.device bit → is_side layout.device bit.x ≡ true → bit.col < 18
+tile_bit_col_side layout s bit h e = fits-side _ _ _ bit.col (tile_bit_is_placed layout s bit h).fits e
+
+-- and in an end row
+pub tile_bit_col_end : (layout : Layout) → IsLayout layout → (bit : TileBit) → IsTileBit layout.device bit → is_end layout.device bit.y ≡ true → bit.col < 18
+tile_bit_col_end layout s bit h e = fits-end _ _ _ bit.col (tile_bit_is_placed layout s bit h).fits e
+
 -- its column of bits lies within its column of tiles
-pub tile_bit_column : (layout : Layout) → IsLayout layout → (bit : TileBit) → IsTileBit layout.device bit → column_of layout bit < width_of layout (from_side layout.device bit.x)
-tile_bit_column layout s bit h = column_of-below layout s bit (tile_bit_is_placed layout s bit h)
+pub tile_bit_column : (layout : Layout) → IsLayout layout → (bit : TileBit) → IsTileBit layout.device bit → (u width column : ℕ)
+    → u ≡ from_side layout.device bit.x → width ≡ width_of layout u → column ≡ column_of layout bit → column < width
+tile_bit_column layout s bit h u width column u_is width_is column_is =
+    omega (arith, column_of-below layout s bit (tile_bit_is_placed layout s bit h), width_is ∙ ap (width_of layout) u_is, column_is)
+
+-- a bit's row of bits from the parts that the code computes
+pub py_of-parts : (layout : Layout) → IsLayout layout → (bit : TileBit) → IsTileBit layout.device bit → (w into : ℕ)
+    → w ≡ from_end layout.device bit.y → into ≡ height_of layout bit → 16 * w + into ≡ py_of layout bit
+py_of-parts layout s bit h w into w_is into_is = (λ i. 16 * w_is i + into_is i) ∙ sym (py_of-is layout s bit (tile_bit_is_placed layout s bit h))

@@ -48,8 +48,8 @@ ram_in-below K8 true x y h = grind (arith, nat_tests, lower-third K8 x y h)
 ram_in-below K8 false x y h = grind (arith, nat_tests, lower-third K8 x y h)
 
 -- under a layout too
-pub ram_of-below : (layout : Layout) (x y : ℕ) → kind_of layout.device x y ≡ Some RamB → 16 * ram_of layout y + 16 ≤ bram_width layout.device
-ram_of-below layout x y h = ram_in-below layout.device layout.ram_flip x y h
+pub ram_of_below : (layout : Layout) (x y : ℕ) → kind_of layout.device x y ≡ Some RamB → 16 * ram_of layout y + 16 ≤ bram_width layout.device
+ram_of_below layout x y h = ram_in-below layout.device layout.ram_flip x y h
 
 -- a RAM of a half by its number
 lower-same_y : (device : DeviceName) (flip : Bool) (x y x' y' : ℕ) → kind_of device x y ≡ Some RamB → kind_of device x' y' ≡ Some RamB → is_top device y ≡ is_top device y'

@@ -1,6 +1,6 @@
 // The columns of bits that the columns of tiles take, from a side edge inwards.
 ghost use Rattle.std.specs.Prelude.{◌≡◌, ◌≢◌, ℕ, ◌+◌, ◌-◌, ◌<◌, ◌≤◌, IfNone, IfSome, MatchOption, Some, OnSome, if◌then◌else◌};
-ghost use Rattle.plane_map.specs.Layout.{kind_of, columns_of, columns_at, half_width, width_of, start_of, column_of, px_of, from_side, cram_width, IsTileBit};
+ghost use Rattle.plane_map.specs.Layout.{kind_of, columns_of, columns_at, half_width, width_of, start_of, column_of, px_of, cram_width, IsTileBit};
 
 use crate::grid::{is_mirrored, on_end, on_side, side_distance};
 use crate::layout::Layout;
@@ -36,8 +36,7 @@ pub(crate) fn px_of(layout: &Layout, bit: TileBit) -> u32
 /// The column of bits that a bit of a tile takes, counted from the start of its column of tiles, or from its end where the tile is mirrored.
 fn column_of(layout: &Layout, bit: TileBit) -> u32
     requires { IsTileBit layout.now.device bit }
-    ensures value { result ≡ column_of layout.now bit }
-    ensures in_column { result < width_of layout.now (from_side layout.now.device bit.x) }
+    ensures { result ≡ column_of layout.now bit }
 {
     let device = layout.device();
     if on_side(device, bit.x as u32) {

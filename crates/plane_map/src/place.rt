@@ -29,7 +29,7 @@ pub fn tile_width(kind: TileKind) -> usize
 }
 
 /// Where a bit of a tile lies in the configuration planes of a layout.
-#[tactic(auto, unfolding(crate::specs::Layout::place_of))]
+#[tactic(auto, using(crate::proofs::Places::place_is_only), unfolding(crate::specs::Layout::place_of))]
 pub(crate) fn place_on(layout: &Layout, bit: TileBit) -> Place
     requires { IsTileBit layout.now.device bit }
     ensures place { result ≡ place_of layout.now bit }
@@ -45,7 +45,7 @@ pub(crate) fn place_on(layout: &Layout, bit: TileBit) -> Place
 }
 
 /// Where a bit of a word lies in the RAM planes of a layout.
-#[tactic(auto, unfolding(crate::specs::Layout::word_place_of))]
+#[tactic(auto, using(crate::proofs::Words::word_place_is_only, crate::proofs::Words::ram_of_below), unfolding(crate::specs::Layout::word_place_of))]
 pub(crate) fn place_of_word(layout: &Layout, at: WordBit) -> Place
     requires { IsWordBit layout.now.device at }
     ensures place { result ≡ word_place_of layout.now at }

@@ -1,0 +1,10 @@
+use Rattle.plane_map.proofs.Places.{tile_bit_x_in, tile_bit_column}
+use Rattle.plane_map.proofs.columns.px_of.Goals as goal
+
+pub side_distance-distance-requires : goal.side_distance-distance-requires
+side_distance-distance-requires c = rw c.device.ensures.device (tile_bit_x_in c.args.layout.now c.device.ensures.layout c.args.bit c.requires)
+
+pub turned-requires : goal.turned-requires
+turned-requires c =
+    let distance = rw c.device.ensures.device at c.side_distance-distance.ensures in
+    tile_bit_column c.args.layout.now c.device.ensures.layout c.args.bit c.requires _ _ _ distance c.width.ensures.value c.column_of.ensures

@@ -34,14 +34,16 @@ iceunpack-speaker words = by_case (is_taken iceunpack_command words)
     by_case true = refl
     by_case false = refl
 
-pub iceunpack-found : (words : List Text) (app : App) (rows : List Row) (input output : Option (Bor (List ℕ))) → app ≡ iceunpack_command → true ≡ is_taken app words → rows ≡ matches_of app words
-    → option_map (λ t. t.now) input ≡ first_of (codes "input") rows → option_map (λ t. t.now) output ≡ first_of (codes "output") rows → iceunpack_task words ≡ unpack_task iceunpack_name (text_of input) (text_of output)
+pub iceunpack-found : (words : List Text) (app : App) (rows : List Row) (layout input output : Option (Bor (List ℕ))) → app ≡ iceunpack_command → true ≡ is_taken app words → rows ≡ matches_of app words
+    → option_map (λ t. t.now) layout ≡ first_of (codes "layout") rows → option_map (λ t. t.now) input ≡ first_of (codes "input") rows → option_map (λ t. t.now) output ≡ first_of (codes "output") rows
+    → iceunpack_task words ≡ unpack_task iceunpack_name (text_of layout) (text_of input) (text_of output)
 unfolding iceunpack_task
-iceunpack-found words app rows input output same taken found input_is output_is =
+iceunpack-found words app rows layout input output same taken found layout_is input_is output_is =
     let here : rows ≡ matches_of iceunpack_command words = found ∙ ap (λ a. matches_of a words) same in
     taken_task (is_taken iceunpack_command words) (iceunpack_task_by (matches_of iceunpack_command words)) (not_taken iceunpack_name iceunpack_usage) (taken ∙ ap (λ a. is_taken a words) same)
     ∙ ap iceunpack_task_by (sym here)
-    ∙ ap₂ (unpack_task iceunpack_name) (sym input_is ∙ text_of-map input) (sym output_is ∙ text_of-map output)
+    ∙ ap (λ (l : Option Text). unpack_task iceunpack_name l (first_of (codes "input") rows) (first_of (codes "output") rows)) (sym layout_is ∙ text_of-map layout)
+    ∙ ap₂ (unpack_task iceunpack_name (text_of layout)) (sym input_is ∙ text_of-map input) (sym output_is ∙ text_of-map output)
 
 -- ---- icepack
 
@@ -49,10 +51,10 @@ pub icepack-is_simple : is_simple_and_free icepack_command ≡ true
 unfolding clap_on_literals
 icepack-is_simple = refl
 
-of-speaker : (unpacks no_sleep : Bool) (input output : Option Text) → (icepack_task_of unpacks no_sleep input output).speaker ≡ icepack_name
-of-speaker false no_sleep input output = refl
-of-speaker true false input output = refl
-of-speaker true true input output = refl
+of-speaker : (unpacks no_sleep : Bool) (layout input output : Option Text) → (icepack_task_of unpacks no_sleep layout input output).speaker ≡ icepack_name
+of-speaker false no_sleep layout input output = refl
+of-speaker true false layout input output = refl
+of-speaker true true layout input output = refl
 
 pub icepack-speaker : (words : List Text) → (icepack_task words).speaker ≡ icepack_name
 unfolding icepack_task
@@ -62,20 +64,21 @@ icepack-speaker words = by_case (is_taken icepack_command words)
     rows = matches_of icepack_command words
 
     by_case : (taken : Bool) → (if taken then icepack_task_by rows else not_taken icepack_name icepack_usage).speaker ≡ icepack_name
-    by_case true = of-speaker (has_flag (codes "unpack") rows) (has_flag (codes "no_sleep") rows) (first_of (codes "input") rows) (first_of (codes "output") rows)
+    by_case true = of-speaker (has_flag (codes "unpack") rows) (has_flag (codes "no_sleep") rows) (first_of (codes "layout") rows) (first_of (codes "input") rows) (first_of (codes "output") rows)
     by_case false = refl
 
-pub icepack-found : (words : List Text) (app : App) (rows : List Row) (unpacks no_sleep : Bool) (input output : Option (Bor (List ℕ))) (request : Option Request)
+pub icepack-found : (words : List Text) (app : App) (rows : List Row) (unpacks no_sleep : Bool) (layout input output : Option (Bor (List ℕ))) (request : Option Request)
     → app ≡ icepack_command → true ≡ is_taken app words → rows ≡ matches_of app words → unpacks ≡ has_flag (codes "unpack") rows → no_sleep ≡ has_flag (codes "no_sleep") rows
-    → option_map (λ t. t.now) input ≡ first_of (codes "input") rows → option_map (λ t. t.now) output ≡ first_of (codes "output") rows
-    → icepack_task_for request ≡ icepack_task_of unpacks no_sleep (text_of input) (text_of output) → icepack_task words ≡ icepack_task_for request
+    → option_map (λ t. t.now) layout ≡ first_of (codes "layout") rows → option_map (λ t. t.now) input ≡ first_of (codes "input") rows → option_map (λ t. t.now) output ≡ first_of (codes "output") rows
+    → icepack_task_for request ≡ icepack_task_of unpacks no_sleep (text_of layout) (text_of input) (text_of output) → icepack_task words ≡ icepack_task_for request
 unfolding icepack_task
-icepack-found words app rows unpacks no_sleep input output request same taken found unpacks_is no_sleep_is input_is output_is wanted =
+icepack-found words app rows unpacks no_sleep layout input output request same taken found unpacks_is no_sleep_is layout_is input_is output_is wanted =
     let here : rows ≡ matches_of icepack_command words = found ∙ ap (λ a. matches_of a words) same in
     taken_task (is_taken icepack_command words) (icepack_task_by (matches_of icepack_command words)) (not_taken icepack_name icepack_usage) (taken ∙ ap (λ a. is_taken a words) same)
     ∙ ap icepack_task_by (sym here)
-    ∙ ap₂ (λ (u n : Bool). icepack_task_of u n (first_of (codes "input") rows) (first_of (codes "output") rows)) (sym unpacks_is) (sym no_sleep_is)
-    ∙ ap₂ (icepack_task_of unpacks no_sleep) (sym input_is ∙ text_of-map input) (sym output_is ∙ text_of-map output)
+    ∙ ap₂ (λ (u n : Bool). icepack_task_of u n (first_of (codes "layout") rows) (first_of (codes "input") rows) (first_of (codes "output") rows)) (sym unpacks_is) (sym no_sleep_is)
+    ∙ ap (λ (l : Option Text). icepack_task_of unpacks no_sleep l (first_of (codes "input") rows) (first_of (codes "output") rows)) (sym layout_is ∙ text_of-map layout)
+    ∙ ap₂ (icepack_task_of unpacks no_sleep (text_of layout)) (sym input_is ∙ text_of-map input) (sym output_is ∙ text_of-map output)
     ∙ sym wanted
 
 -- ---- icemulti

@@ -75,7 +75,7 @@ icepack_task words =
 -- the same by the request that was found in the words, where they are taken
 abbrev pub icepack_task_for : Option Request → Task
 icepack_task_for None = not_taken icepack_name icepack_usage
-icepack_task_for (Some (Pack tool names)) = pack_task tool.no_sleep (text_of names.layout) (text_of names.input) (text_of names.output)
+icepack_task_for (Some (Pack no_sleep names)) = pack_task no_sleep (text_of names.layout) (text_of names.input) (text_of names.output)
 icepack_task_for (Some (Unpack names)) = unpack_task icepack_name (text_of names.layout) (text_of names.input) (text_of names.output)
 
 -- what the words of `icepack` ask for, its help among that

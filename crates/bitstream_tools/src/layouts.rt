@@ -1,5 +1,5 @@
 // Layouts for a tool that takes `--layout FILE`.
-ghost use Rattle.std.specs.Prelude.{◌≡◌, Ok, IfOk, IfErr, map, vec_items, is_some, drop, if◌then◌else◌};
+ghost use Rattle.std.specs.Prelude.{◌≡◌, ◌<◌, Ok, [], IfOk, IfErr, map, vec_items, get_or, is_some, drop, if◌then◌else◌};
 ghost use Rattle.layout_file.specs.Layouts.{AreLayouts};
 ghost use Rattle.tool_run.specs.Lines.{refusal_text};
 ghost use Rattle.bitstream_tools.specs.Layouts.{behind_layout, layout_fault_text, layouts_for, layouts_read, StopsLayouts};
@@ -12,11 +12,11 @@ pub const LAYOUT_LIMIT: usize = 65_536;
 
 /// The loads of a tool, of which the first is that of the layout file: without it where none is named.
 pub fn with_layout<'a>(layout: Option<&str>, loads: &'a [Load<'a>]) -> &'a [Load<'a>]
-    ensures { result.now ≡ (if is_some layout then loads.now else drop 1 loads.now) }
+    ensures { result.now ≡ (if is_some layout.entry then loads.now else drop 1 loads.now) }
 {
-    match layout {
-        Some(_) => loads,
-        None => &loads[1..],
+    match (layout, loads) {
+        (None, [_, others @ ..]) => others,
+        _ => loads,
     }
 }
 

@@ -6,12 +6,14 @@
 
 mod bram;
 mod faults;
+mod layouts;
 mod multi;
 mod pack;
 mod unpack;
 
 pub use bram::{ICEBRAM_HELP, ICEBRAM_USAGE, run_icebram};
 pub use faults::{asc_refusal, bin_refusal};
+pub use layouts::{LAYOUT_LIMIT, behind_layout, layouts_for, with_layout};
 pub use multi::{ICEMULTI_HELP, ICEMULTI_USAGE, run_icemulti};
 pub use pack::{ICEPACK_HELP, ICEPACK_USAGE, run_icepack};
 pub use unpack::{ICEUNPACK_HELP, ICEUNPACK_USAGE, run_iceunpack};

@@ -1,74 +1,93 @@
 // `icepack`: the bitstream of a text.
-ghost use Rattle.std.specs.Prelude.{◌≡◌, map, string_bytes, IfOk, IfErr};
+ghost use Rattle.std.specs.Prelude.{◌≡◌, map, string_bytes, vec_items, IfOk, IfErr};
 ghost use Rattle.asc_text.specs.Faults.{asc_fault_of};
 ghost use Rattle.asc_text.specs.Meaning.{asc_image_of};
 ghost use Rattle.clap.specs.Words.{app_of};
+ghost use Rattle.layout_file.specs.Layouts.{AreLayouts};
 ghost use Rattle.tool_run.specs.Needs.{text_of};
 ghost use Rattle.tool_run.specs.Runs.{Does, outside, scene};
 ghost use Rattle.tool_run.specs.Stops.{StopsWith};
 ghost use Rattle.tool_run.specs.Tasks.{Done};
-ghost use Rattle.bitstream_tools.specs.Pack.{icepack_command, icepack_task, icepack_outcome, icepack_task_for, icepack_task_of, pack_task, packed};
+ghost use Rattle.bitstream_tools.specs.Pack.{icepack_command, icepack_task, icepack_outcome, icepack_task_for, icepack_task_of, pack_answer, pack_task, packed_under};
 
 use crate::faults::asc_refusal;
+use crate::layouts::{LAYOUT_LIMIT, behind_layout, layouts_for, with_layout};
 use crate::unpack::{Names, unpack_between};
 use asc_text::AscFault;
 use clap::Command;
 use ice_io::{Files, Sink, Source};
-use ice_pack::pack;
+use ice_pack::pack_with;
+use layout_file::Layouts;
 use std::alloc::{AllocError, Global};
-use tool_run::{
-    AtOnce, Job, Load, Stop, Tool, answer_at_once, asks_for_help, give_up, loaded_at, perform,
-};
-use tool_words::{flag, has_flag, parse, positional, value, with};
+use tool_run::{AtOnce, Job, Load, Stop, Tool, answer_at_once, asks_for_help, give_up, perform};
+use tool_words::{flag, has_flag, long_option, parse, positional, value, with};
 
 /// The most bytes of a text.
 pub(crate) const TEXT_LIMIT: usize = 16_777_216;
 
 /// The command line of `icepack`.
-pub const ICEPACK_USAGE: &str = "icepack [-u] [-s] [INPUT [OUTPUT]]";
+pub const ICEPACK_USAGE: &str = "icepack [-u] [-s] [--layout FILE] [INPUT [OUTPUT]]";
 
 /// The help of `icepack`, at most 80 columns wide.
 pub const ICEPACK_HELP: &str = "\
 icepack: packs a text (.asc) into a bitstream (.bin) for an iCE40 HX1K or HX8K.
 
-Usage: icepack [-u] [-s] [INPUT [OUTPUT]]
+Usage: icepack [-u] [-s] [--layout FILE] [INPUT [OUTPUT]]
 
   INPUT     the text; standard input if it is missing
   OUTPUT    the bitstream; standard output if it is missing
   -s        sets the flag that keeps the flash awake after the configuration
   -u        unpacks instead, as iceunpack does; not together with -s
+  --layout FILE
+            the layout of the device's bits; the standard one if it is missing
 
 Example: icepack blink.asc blink.bin
 
-Limits: a text has at most 16777216 bytes, a bitstream 4194304.
+Limits: a text has at most 16777216 bytes, a bitstream 4194304, FILE 65536.
 
-Exit status: 0 done; 1 the input is refused, with its first faulty line or the
-offset of its first fault; 2 the command line isn't taken; 3 reading failed;
-4 writing failed; 5 out of memory; 6 the input is longer than its limit.
+Exit status: 0 done; 1 FILE or the input is refused, with its first faulty line
+or the offset of its first fault; 2 the command line isn't taken; 3 reading
+failed; 4 writing failed; 5 out of memory; 6 FILE or the input is longer than
+its limit.
 ";
 
-/// Packs the text that it loads. The flash stays awake where `no_sleep` is true, whatever the text says.
+/// Packs the text that it loads, under the layouts of a file that it loads before where one is named. The flash stays awake
+/// where `no_sleep` is true, whatever the text says.
 #[derive(Clone, Copy, Debug, PartialEq, Eq)]
 pub(crate) struct Pack {
+    /// Whether a layout file is loaded first.
+    pub(crate) named: bool,
     pub(crate) no_sleep: bool,
 }
 
 impl Tool for Pack {
     ghost use Rattle.bitstream_tools.specs.Pack.{pack_answer};
 
-    ghost answer_of = { λ tool texts. pack_answer tool.no_sleep texts };
+    ghost answer_of = { λ tool texts. pack_answer tool.named tool.no_sleep texts };
 
     fn answer(&self, alloc: Global, loaded: &Vec<Vec<u8>>) -> Result<Vec<u8>, Stop> {
-        packed(alloc, loaded_at(loaded, 0), self.no_sleep)
+        packed_from(alloc, *self, loaded)
     }
 }
 
-// The bitstream of a text.
-fn packed(alloc: Global, text: &[u8], no_sleep: bool) -> Result<Vec<u8>, Stop>
-    ensures bytes { IfOk result (λ bytes. packed no_sleep (asc_image_of text.now) (asc_fault_of text.now) ≡ Done bytes.items) }
-    ensures stops { IfErr result (StopsWith (packed no_sleep (asc_image_of text.now) (asc_fault_of text.now))) }
+// The bitstream of the text that was loaded.
+#[tactic(auto, using(crate::proofs::UnderLayouts::stops_under))]
+fn packed_from(alloc: Global, tool: Pack, loaded: &[Vec<u8>]) -> Result<Vec<u8>, Stop>
+    ensures bytes { IfOk result (λ bytes. pack_answer tool.named tool.no_sleep (map vec_items loaded.now) ≡ Done bytes.items) }
+    ensures stops { IfErr result (StopsWith (pack_answer tool.named tool.no_sleep (map vec_items loaded.now))) }
 {
-    match pack(alloc, text, no_sleep) {
+    let layouts = layouts_for(tool.named, loaded)?;
+    let text = behind_layout(tool.named, loaded, 0);
+    packed(alloc, text, tool.no_sleep, layouts)
+}
+
+// The bitstream of a text under layouts.
+fn packed(alloc: Global, text: &[u8], no_sleep: bool, layouts: Layouts) -> Result<Vec<u8>, Stop>
+    requires { AreLayouts layouts }
+    ensures bytes { IfOk result (λ bytes. packed_under no_sleep text.now layouts ≡ Done bytes.items) }
+    ensures stops { IfErr result (StopsWith (packed_under no_sleep text.now layouts)) }
+{
+    match pack_with(alloc, text, no_sleep, layouts) {
         Ok(bytes) => Ok(bytes),
         Err(AscFault::At { line, tile, cause }) => {
             Err(Stop::Refused(asc_refusal(line, tile, cause)))
@@ -80,7 +99,7 @@ fn packed(alloc: Global, text: &[u8], no_sleep: bool) -> Result<Vec<u8>, Stop>
 // What the words ask for, where they are taken: to pack, or to unpack.
 #[derive(Clone, Copy)]
 pub(crate) enum Request<'a> {
-    Pack(Pack, Names<'a>),
+    Pack { no_sleep: bool, names: Names<'a> },
     Unpack(Names<'a>),
 }
 
@@ -91,16 +110,17 @@ fn command<'a>(alloc: Global) -> Result<Command<'a>, AllocError>
     let command = Command::new(alloc, "icepack");
     let command = with(command, flag(alloc, "unpack", 'u'))?;
     let command = with(command, flag(alloc, "no_sleep", 's'))?;
+    let command = with(command, long_option(alloc, "layout"))?;
     let command = with(command, positional(alloc, "input"))?;
     with(command, positional(alloc, "output"))
 }
 
 // What the words ask for by what was found in them: `-u` unpacks, and then nothing may be set.
 fn wanted<'a>(unpacks: bool, no_sleep: bool, names: Names<'a>) -> Option<Request<'a>>
-    ensures { icepack_task_for result ≡ icepack_task_of unpacks no_sleep (text_of names.entry.input) (text_of names.entry.output) }
+    ensures { icepack_task_for result ≡ icepack_task_of unpacks no_sleep (text_of names.entry.layout) (text_of names.entry.input) (text_of names.entry.output) }
 {
     match (unpacks, no_sleep) {
-        (false, no_sleep) => Some(Request::Pack(Pack { no_sleep }, names)),
+        (false, no_sleep) => Some(Request::Pack { no_sleep, names }),
         (true, false) => Some(Request::Unpack(names)),
         (true, true) => None,
     }
@@ -117,6 +137,7 @@ fn request_of<'a>(alloc: Global, words: &'a [String]) -> Result<Option<Request<'
             let unpacks = has_flag(&matches, "unpack");
             let no_sleep = has_flag(&matches, "no_sleep");
             let names = Names {
+                layout: value(&matches, "layout"),
                 input: value(&matches, "input"),
                 output: value(&matches, "output"),
             };
@@ -129,7 +150,7 @@ fn request_of<'a>(alloc: Global, words: &'a [String]) -> Result<Option<Request<'
 // Packs from a file or standard input to a file or standard output.
 fn pack_between<F: Files, I: Source, O: Sink, E: Sink>(
     alloc: Global,
-    tool: Pack,
+    no_sleep: bool,
     names: Names<'_>,
     files: &mut F,
     input: &mut I,
@@ -137,16 +158,26 @@ fn pack_between<F: Files, I: Source, O: Sink, E: Sink>(
     errors: &mut E,
 ) -> u8
     ensures { Does (outside F.contents F.steady F.load_faults F.store_faults I.left I.faults O.held O.faults E.held E.faults)
-        (pack_task tool.no_sleep (text_of names.entry.input) (text_of names.entry.output)) result
+        (pack_task no_sleep (text_of names.entry.layout) (text_of names.entry.input) (text_of names.entry.output)) result
         (scene files.old input.old output.old errors.old) (scene files.new input.new output.new errors.new) }
 {
-    let loads = [Load {
-        name: names.input,
-        limit: TEXT_LIMIT,
-    }];
+    let loads = [
+        Load {
+            name: names.layout,
+            limit: LAYOUT_LIMIT,
+        },
+        Load {
+            name: names.input,
+            limit: TEXT_LIMIT,
+        },
+    ];
+    let tool = Pack {
+        named: names.layout.is_some(),
+        no_sleep,
+    };
     let job = Job {
         speaker: "icepack",
-        loads: &loads,
+        loads: with_layout(names.layout, &loads),
         target: names.output,
     };
     perform(alloc, &tool, &job, files, input, output, errors)
@@ -171,8 +202,8 @@ pub fn run_icepack<F: Files, I: Source, O: Sink, E: Sink>(
         return answer_at_once(alloc, speaker, answer, files, input, output, errors);
     }
     match request_of(alloc, words) {
-        Ok(Some(Request::Pack(tool, names))) => {
-            pack_between(alloc, tool, names, files, input, output, errors)
+        Ok(Some(Request::Pack { no_sleep, names })) => {
+            pack_between(alloc, no_sleep, names, files, input, output, errors)
         }
         Ok(Some(Request::Unpack(names))) => {
             unpack_between(alloc, speaker, names, files, input, output, errors)

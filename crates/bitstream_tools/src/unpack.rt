@@ -1,66 +1,95 @@
 // `iceunpack`, and what `icepack -u` does too: the text of a bitstream.
-ghost use Rattle.std.specs.Prelude.{◌≡◌, map, string_bytes, IfOk};
+ghost use Rattle.std.specs.Prelude.{◌≡◌, map, string_bytes, vec_items, IfOk, IfErr};
 ghost use Rattle.clap.specs.Words.{app_of};
+ghost use Rattle.layout_file.specs.Layouts.{AreLayouts};
 ghost use Rattle.tool_run.specs.Runs.{Does, outside, scene};
 ghost use Rattle.tool_run.specs.Needs.{text_of};
-ghost use Rattle.bitstream_tools.specs.Unpack.{iceunpack_command, iceunpack_task, iceunpack_outcome, iceunpack_task_for, unpack_task};
+ghost use Rattle.tool_run.specs.Stops.{StopsWith};
+ghost use Rattle.tool_run.specs.Tasks.{Done};
+ghost use Rattle.bitstream_tools.specs.Unpack.{iceunpack_command, iceunpack_task, iceunpack_outcome, iceunpack_task_for, unpack_answer, unpack_task, unpacked_under};
 
 use crate::faults::bin_refusal;
+use crate::layouts::{LAYOUT_LIMIT, behind_layout, layouts_for, with_layout};
 use bin_stream::BinFault;
 use clap::Command;
 use ice_io::{Files, Sink, Source};
-use ice_pack::unpack;
+use ice_pack::unpack_with;
+use layout_file::Layouts;
 use std::alloc::{AllocError, Global};
-use tool_run::{
-    AtOnce, Job, Load, Stop, Tool, answer_at_once, asks_for_help, give_up, loaded_at, perform,
-};
-use tool_words::{parse, positional, value, with};
+use tool_run::{AtOnce, Job, Load, Stop, Tool, answer_at_once, asks_for_help, give_up, perform};
+use tool_words::{long_option, parse, positional, value, with};
 
 /// The command line of `iceunpack`.
-pub const ICEUNPACK_USAGE: &str = "iceunpack [INPUT [OUTPUT]]";
+pub const ICEUNPACK_USAGE: &str = "iceunpack [--layout FILE] [INPUT [OUTPUT]]";
 
 /// The help of `iceunpack`, at most 80 columns wide.
 pub const ICEUNPACK_HELP: &str = "\
 iceunpack: unpacks a bitstream (.bin) of an iCE40 HX1K or HX8K to a text (.asc).
 
-Usage: iceunpack [INPUT [OUTPUT]]
+Usage: iceunpack [--layout FILE] [INPUT [OUTPUT]]
 
   INPUT     the bitstream; standard input if it is missing
   OUTPUT    the text; standard output if it is missing
+  --layout FILE
+            the layout of the device's bits; the standard one if it is missing
 
 Example: iceunpack blink.bin blink.asc
 
-Limit: a bitstream has at most 4194304 bytes.
+Limits: a bitstream has at most 4194304 bytes, FILE 65536.
 
-Exit status: 0 done; 1 the input is refused, with the offset of its first fault;
-2 the command line isn't taken; 3 reading failed; 4 writing failed; 5 out of
-memory; 6 the input is longer than its limit.
+Exit status: 0 done; 1 FILE or the input is refused, with its first faulty line
+or the offset of its first fault; 2 the command line isn't taken; 3 reading
+failed; 4 writing failed; 5 out of memory; 6 FILE or the input is longer than
+its limit.
 ";
 
 /// The most bytes of a bitstream.
 pub(crate) const STREAM_LIMIT: usize = 4_194_304;
 
-/// Unpacks the bitstream that it loads.
+/// Unpacks the bitstream that it loads, under the layouts of a file that it loads before where one is named.
 #[derive(Clone, Copy, Debug, PartialEq, Eq)]
-pub(crate) struct Unpack;
+pub(crate) struct Unpack {
+    /// Whether a layout file is loaded first.
+    pub(crate) named: bool,
+}
 
 impl Tool for Unpack {
     ghost use Rattle.bitstream_tools.specs.Unpack.{unpack_answer};
 
-    ghost answer_of = { λ _ texts. unpack_answer texts };
+    ghost answer_of = { λ tool texts. unpack_answer tool.named texts };
 
     fn answer(&self, alloc: Global, loaded: &Vec<Vec<u8>>) -> Result<Vec<u8>, Stop> {
-        match unpack(alloc, loaded_at(loaded, 0)) {
-            Ok(text) => Ok(text),
-            Err(BinFault::At { offset, cause }) => Err(Stop::Refused(bin_refusal(offset, cause))),
-            Err(BinFault::Memory(_)) => Err(Stop::Memory),
-        }
+        unpacked_from(alloc, *self, loaded)
+    }
+}
+
+// The text of the bitstream that was loaded.
+#[tactic(auto, using(crate::proofs::UnderLayouts::stops_under))]
+fn unpacked_from(alloc: Global, tool: Unpack, loaded: &[Vec<u8>]) -> Result<Vec<u8>, Stop>
+    ensures text { IfOk result (λ text. unpack_answer tool.named (map vec_items loaded.now) ≡ Done text.items) }
+    ensures stops { IfErr result (StopsWith (unpack_answer tool.named (map vec_items loaded.now))) }
+{
+    let layouts = layouts_for(tool.named, loaded)?;
+    unpacked(alloc, behind_layout(tool.named, loaded, 0), layouts)
+}
+
+// The text of a bitstream under layouts.
+fn unpacked(alloc: Global, bytes: &[u8], layouts: Layouts) -> Result<Vec<u8>, Stop>
+    requires { AreLayouts layouts }
+    ensures text { IfOk result (λ text. unpacked_under bytes.now layouts ≡ Done text.items) }
+    ensures stops { IfErr result (StopsWith (unpacked_under bytes.now layouts)) }
+{
+    match unpack_with(alloc, bytes, layouts) {
+        Ok(text) => Ok(text),
+        Err(BinFault::At { offset, cause }) => Err(Stop::Refused(bin_refusal(offset, cause))),
+        Err(BinFault::Memory(_)) => Err(Stop::Memory),
     }
 }
 
 // The names that the words give.
 #[derive(Clone, Copy)]
 pub(crate) struct Names<'a> {
+    pub(crate) layout: Option<&'a str>,
     pub(crate) input: Option<&'a str>,
     pub(crate) output: Option<&'a str>,
 }
@@ -70,6 +99,7 @@ fn command<'a>(alloc: Global) -> Result<Command<'a>, AllocError>
     ensures { IfOk result (λ command. app_of command ≡ iceunpack_command) }
 {
     let command = Command::new(alloc, "iceunpack");
+    let command = with(command, long_option(alloc, "layout"))?;
     let command = with(command, positional(alloc, "input"))?;
     with(command, positional(alloc, "output"))
 }
@@ -82,6 +112,7 @@ fn names_of<'a>(alloc: Global, words: &'a [String]) -> Result<Option<Names<'a>>,
     let command = command(alloc)?;
     match parse(command, words)? {
         Some(matches) => Ok(Some(Names {
+            layout: value(&matches, "layout"),
             input: value(&matches, "input"),
             output: value(&matches, "output"),
         })),
@@ -100,19 +131,28 @@ pub(crate) fn unpack_between<F: Files, I: Source, O: Sink, E: Sink>(
     errors: &mut E,
 ) -> u8
     ensures { Does (outside F.contents F.steady F.load_faults F.store_faults I.left I.faults O.held O.faults E.held E.faults)
-        (unpack_task speaker.now (text_of names.entry.input) (text_of names.entry.output)) result
+        (unpack_task speaker.now (text_of names.entry.layout) (text_of names.entry.input) (text_of names.entry.output)) result
         (scene files.old input.old output.old errors.old) (scene files.new input.new output.new errors.new) }
 {
-    let loads = [Load {
-        name: names.input,
-        limit: STREAM_LIMIT,
-    }];
+    let loads = [
+        Load {
+            name: names.layout,
+            limit: LAYOUT_LIMIT,
+        },
+        Load {
+            name: names.input,
+            limit: STREAM_LIMIT,
+        },
+    ];
+    let tool = Unpack {
+        named: names.layout.is_some(),
+    };
     let job = Job {
         speaker,
-        loads: &loads,
+        loads: with_layout(names.layout, &loads),
         target: names.output,
     };
-    perform(alloc, &Unpack, &job, files, input, output, errors)
+    perform(alloc, &tool, &job, files, input, output, errors)
 }
 
 /// Runs `iceunpack` with these words, of which the first is its name.

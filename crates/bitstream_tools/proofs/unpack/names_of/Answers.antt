@@ -13,5 +13,5 @@ returns-in-Some c =
     let words = map string_bytes c.args.words.now in
     let app = app_of c.in_ok-command.command in
     let holds : Option ArgMatches → Type 0 = λ found. IfSome found (λ m. rows_of (found_of m) ≡ matches_of app words) in
-    iceunpack-found words app (rows_of (found_of c.in-Some.matches)) c.value.result c.value-in-Some.result c.in_ok-command.ensures
-    (ap is_some (sym c.in-Some.is) ∙ c.in_ok-matches.ensures.taken) (subst holds c.in-Some.is c.in_ok-matches.ensures.rows) c.value.ensures c.value-in-Some.ensures
+    iceunpack-found words app (rows_of (found_of c.in-Some.matches)) c.value.result c.value-in-Some.result c.value-in-Some-2.result c.in_ok-command.ensures
+    (ap is_some (sym c.in-Some.is) ∙ c.in_ok-matches.ensures.taken) (subst holds c.in-Some.is c.in_ok-matches.ensures.rows) c.value.ensures c.value-in-Some.ensures c.value-in-Some-2.ensures

@@ -16,10 +16,10 @@ pub explain-is_simple : is_simple_and_free explain_command ≡ true
 unfolding clap_on_literals
 explain-is_simple = refl
 
-of-speaker : (only : Option (Option TileXy)) (db image : Option Text) → (explain_task_of only db image).speaker ≡ explain_name
-of-speaker (Some only) (Some db) image = refl
-of-speaker (Some only) None image = refl
-of-speaker None db image = refl
+of-speaker : (only : Option (Option TileXy)) (layout db image : Option Text) → (explain_task_of only layout db image).speaker ≡ explain_name
+of-speaker (Some only) layout (Some db) image = refl
+of-speaker (Some only) layout None image = refl
+of-speaker None layout db image = refl
 
 pub explain-speaker : (words : List Text) → (explain_task words).speaker ≡ explain_name
 unfolding explain_task
@@ -29,19 +29,19 @@ explain-speaker words = by_case (is_taken explain_command words)
     rows = matches_of explain_command words
 
     by_case : (taken : Bool) → (if taken then explain_task_by rows else not_taken explain_name explain_usage).speaker ≡ explain_name
-    by_case true = of-speaker (tile_given (first_of (codes "tile") rows)) (first_of (codes "db") rows) (first_of (codes "image") rows)
+    by_case true = of-speaker (tile_given (first_of (codes "tile") rows)) (first_of (codes "layout") rows) (first_of (codes "db") rows) (first_of (codes "image") rows)
     by_case false = refl
 
-pub explain-found : (words : List Text) (app : App) (rows : List Row) (tile db image : Option (Bor (List ℕ))) (only : Option (Option TileXy)) (request : Option Request) → app ≡ explain_command → true ≡ is_taken app words → rows ≡ matches_of app words
-    → option_map (λ t. t.now) tile ≡ first_of (codes "tile") rows → only ≡ tile_given (text_of tile) → option_map (λ t. t.now) db ≡ first_of (codes "db") rows → option_map (λ t. t.now) image ≡ first_of (codes "image") rows
-    → explain_task_for request ≡ explain_task_of only (text_of db) (text_of image) → explain_task words ≡ explain_task_for request
+pub explain-found : (words : List Text) (app : App) (rows : List Row) (tile layout db image : Option (Bor (List ℕ))) (only : Option (Option TileXy)) (request : Option Request) → app ≡ explain_command → true ≡ is_taken app words → rows ≡ matches_of app words
+    → option_map (λ t. t.now) tile ≡ first_of (codes "tile") rows → only ≡ tile_given (text_of tile) → option_map (λ t. t.now) layout ≡ first_of (codes "layout") rows → option_map (λ t. t.now) db ≡ first_of (codes "db") rows → option_map (λ t. t.now) image ≡ first_of (codes "image") rows
+    → explain_task_for request ≡ explain_task_of only (text_of layout) (text_of db) (text_of image) → explain_task words ≡ explain_task_for request
 unfolding explain_task
-explain-found words app rows tile db image only request same taken found tile_is only_is db_is image_is wanted =
+explain-found words app rows tile layout db image only request same taken found tile_is only_is layout_is db_is image_is wanted =
     let here : rows ≡ matches_of explain_command words = found ∙ ap (λ a. matches_of a words) same in
     taken_task (is_taken explain_command words) (explain_task_by (matches_of explain_command words)) (not_taken explain_name explain_usage) (taken ∙ ap (λ a. is_taken a words) same)
     ∙ ap explain_task_by (sym here)
-    ∙ ap (λ o. explain_task_of o (first_of (codes "db") rows) (first_of (codes "image") rows)) (ap tile_given (sym tile_is ∙ text_of-map tile) ∙ sym only_is)
-    ∙ ap₂ (explain_task_of only) (sym db_is ∙ text_of-map db) (sym image_is ∙ text_of-map image)
+    ∙ ap₂ (λ (o : Option (Option TileXy)) (l : Option Text). explain_task_of o l (first_of (codes "db") rows) (first_of (codes "image") rows)) (ap tile_given (sym tile_is ∙ text_of-map tile) ∙ sym only_is) (sym layout_is ∙ text_of-map layout)
+    ∙ ap₂ (explain_task_of only (text_of layout)) (sym db_is ∙ text_of-map db) (sym image_is ∙ text_of-map image)
     ∙ sym wanted
 
 -- what is done where help is asked for

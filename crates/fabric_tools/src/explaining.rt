@@ -1,13 +1,12 @@
 // `icebox_explain`: what the set bits of an image mean.
-ghost use Rattle.std.specs.Prelude.{◌≡◌, map, string_bytes, IfOk, IfErr, Some};
+ghost use Rattle.std.specs.Prelude.{◌≡◌, map, string_bytes, vec_items, IfOk, IfErr, Some};
+ghost use Rattle.layout_file.specs.Layouts.{AreLayouts};
 ghost use Rattle.chipdb_reader.specs.Kept.{database_in};
 ghost use Rattle.tool_run.specs.Needs.{text_of};
 ghost use Rattle.tool_run.specs.Runs.{Does, outside, scene};
 ghost use Rattle.tool_run.specs.Stops.{StopsWith};
 ghost use Rattle.tool_run.specs.Tasks.{Done};
-ghost use Rattle.fabric_tools.specs.Databases.{database_read};
-ghost use Rattle.fabric_tools.specs.Explain.{explain_outcome, explain_task_for, explained_of, told};
-ghost use Rattle.fabric_tools.specs.Images.{image_read};
+ghost use Rattle.fabric_tools.specs.Explain.{explain_answer, explain_outcome, explain_task_for, explained_under, told};
 ghost use Rattle.ice_image.specs.Either.{configuration_of};
 
 use crate::database::{DB_LIMIT, read_database};
@@ -15,29 +14,44 @@ use crate::faults::explain_refusal;
 use crate::image::{IMAGE_LIMIT, read_image};
 use crate::request::{ICEBOX_EXPLAIN_HELP, ICEBOX_EXPLAIN_USAGE, Request, request_of};
 use asc_text::TileXy;
+use bitstream_tools::{LAYOUT_LIMIT, behind_layout, layouts_for, with_layout};
 use chipdb_reader::ChipDb;
 use ice_image::AnyImage;
 use ice_io::{Files, Sink, Source};
+use layout_file::Layouts;
 use std::alloc::{AllocError, Global};
 use tile_bits::{ExplainFault, explain};
-use tool_run::{
-    AtOnce, Job, Load, Stop, Tool, answer_at_once, asks_for_help, give_up, loaded_at, perform,
-};
+use tool_run::{AtOnce, Job, Load, Stop, Tool, answer_at_once, asks_for_help, give_up, perform};
 
-/// Explains an image by a database: one tile, or all.
+/// Explains an image by a database: one tile, or all. The image is read under the layouts of a file that is loaded first where
+/// one is named.
 #[derive(Clone, Copy, Debug, PartialEq, Eq)]
 pub(crate) struct Explaining {
+    /// Whether a layout file is loaded first.
+    pub(crate) named: bool,
     pub(crate) only: Option<TileXy>,
 }
 
 impl Tool for Explaining {
     ghost use Rattle.fabric_tools.specs.Explain.{explain_answer};
 
-    ghost answer_of = { λ tool texts. explain_answer tool.only texts };
+    ghost answer_of = { λ tool texts. explain_answer tool.named tool.only texts };
 
     fn answer(&self, alloc: Global, loaded: &Vec<Vec<u8>>) -> Result<Vec<u8>, Stop> {
-        explained_by(alloc, loaded_at(loaded, 0), loaded_at(loaded, 1), self.only)
+        explained_from(alloc, *self, loaded)
     }
+}
+
+// What the image that was loaded means by the database that was.
+#[tactic(auto, using(bitstream_tools::proofs::UnderLayouts::stops_under))]
+fn explained_from(alloc: Global, tool: Explaining, loaded: &[Vec<u8>]) -> Result<Vec<u8>, Stop>
+    ensures bytes { IfOk result (λ bytes. explain_answer tool.named tool.only (map vec_items loaded.now) ≡ Done bytes.items) }
+    ensures stops { IfErr result (StopsWith (explain_answer tool.named tool.only (map vec_items loaded.now))) }
+{
+    let layouts = layouts_for(tool.named, loaded)?;
+    let db = behind_layout(tool.named, loaded, 0);
+    let image = behind_layout(tool.named, loaded, 1);
+    explained_by(alloc, db, image, tool.only, layouts)
 }
 
 // What an image means by a database, both in bytes.
@@ -46,12 +60,14 @@ fn explained_by(
     db: &[u8],
     image: &[u8],
     only: Option<TileXy>,
+    layouts: Layouts,
 ) -> Result<Vec<u8>, Stop>
-    ensures bytes { IfOk result (λ bytes. explained_of only (database_read db.now) (image_read image.now) ≡ Done bytes.items) }
-    ensures stops { IfErr result (StopsWith (explained_of only (database_read db.now) (image_read image.now))) }
+    requires { AreLayouts layouts }
+    ensures bytes { IfOk result (λ bytes. explained_under only db.now image.now layouts ≡ Done bytes.items) }
+    ensures stops { IfErr result (StopsWith (explained_under only db.now image.now layouts)) }
 {
     let db = read_database(alloc, db)?;
-    let image = read_image(alloc, image)?;
+    let image = read_image(alloc, image, layouts)?;
     text_of(alloc, &db, &image, only)
 }
 
@@ -87,6 +103,10 @@ fn explain_files<F: Files, I: Source, O: Sink, E: Sink>(
 {
     let loads = [
         Load {
+            name: request.layout,
+            limit: LAYOUT_LIMIT,
+        },
+        Load {
             name: Some(request.db),
             limit: DB_LIMIT,
         },
@@ -95,10 +115,13 @@ fn explain_files<F: Files, I: Source, O: Sink, E: Sink>(
             limit: IMAGE_LIMIT,
         },
     ];
-    let tool = Explaining { only: request.only };
+    let tool = Explaining {
+        named: request.layout.is_some(),
+        only: request.only,
+    };
     let job = Job {
         speaker: "icebox_explain",
-        loads: &loads,
+        loads: with_layout(request.layout, &loads),
         target: None,
     };
     perform(alloc, &tool, &job, files, input, output, errors)

@@ -1,13 +1,15 @@
 // An image, from a bitstream or from a text.
 ghost use Rattle.std.specs.Prelude.{◌≡◌, ◌≤◌, Ok, IfOk, IfErr, length, is_some};
+ghost use Rattle.layout_file.specs.Layouts.{AreLayouts};
 ghost use Rattle.ice_image.specs.Either.{configuration_of};
 ghost use Rattle.bin_stream.specs.Front.{is_preamble_at, preamble_offset};
 ghost use Rattle.fabric_tools.specs.Images.{image_read, StopsImage};
 
-use asc_text::{AscFault, read};
-use bin_stream::{BinFault, decode};
+use asc_text::{AscFault, read_with};
+use bin_stream::{BinFault, decode_with};
 use bitstream_tools::{asc_refusal, bin_refusal};
 use ice_image::AnyImage;
+use layout_file::Layouts;
 use std::alloc::Global;
 use tool_run::Stop;
 
@@ -17,20 +19,22 @@ pub const IMAGE_LIMIT: usize = 16_777_216;
 /// The preamble of a bitstream.
 const PREAMBLE: [u8; 4] = [0x7E, 0xAA, 0x99, 0x7E];
 
-/// An image, or what is told of its fault: a bitstream where the preamble stands somewhere in the bytes, and else a text.
+/// An image under layouts, or what is told of its fault: a bitstream where the preamble stands somewhere in the bytes, and else
+/// a text.
 #[tactic(auto, unfolding(crate::specs::Images::image_read))]
-pub fn read_image(alloc: Global, bytes: &[u8]) -> Result<AnyImage, Stop>
-    ensures image { IfOk result (λ image. image_read bytes.now ≡ Ok (configuration_of image)) }
-    ensures stops { IfErr result (StopsImage (image_read bytes.now)) }
+pub fn read_image(alloc: Global, bytes: &[u8], layouts: Layouts) -> Result<AnyImage, Stop>
+    requires { AreLayouts layouts }
+    ensures image { IfOk result (λ image. image_read layouts bytes.now ≡ Ok (configuration_of image)) }
+    ensures stops { IfErr result (StopsImage (image_read layouts bytes.now)) }
 {
     if has_preamble(bytes) {
-        match decode(alloc, bytes) {
+        match decode_with(alloc, bytes, layouts) {
             Ok(image) => Ok(image),
             Err(BinFault::At { offset, cause }) => Err(Stop::Refused(bin_refusal(offset, cause))),
             Err(BinFault::Memory(_)) => Err(Stop::Memory),
         }
     } else {
-        match read(alloc, bytes) {
+        match read_with(alloc, bytes, layouts) {
             Ok(file) => Ok(file.image),
             Err(AscFault::At { line, tile, cause }) => {
                 Err(Stop::Refused(asc_refusal(line, tile, cause)))

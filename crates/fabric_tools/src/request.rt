@@ -8,35 +8,38 @@ use asc_text::TileXy;
 use clap::Command;
 use std::alloc::{AllocError, Global};
 use text_lines::number;
-use tool_words::{parse, positional, short_option, value, with};
+use tool_words::{long_option, parse, positional, short_option, value, with};
 
 /// The command line of `icebox_explain`.
-pub const ICEBOX_EXPLAIN_USAGE: &str = "icebox_explain [-t \"X Y\"] DB [IMAGE]";
+pub const ICEBOX_EXPLAIN_USAGE: &str = "icebox_explain [-t \"X Y\"] [--layout FILE] DB [IMAGE]";
 
 /// The help of `icebox_explain`, at most 80 columns wide.
 pub const ICEBOX_EXPLAIN_HELP: &str = "\
 icebox_explain: tells what the set bits of an image mean, by a chip database.
 
-Usage: icebox_explain [-t \"X Y\"] DB [IMAGE]
+Usage: icebox_explain [-t \"X Y\"] [--layout FILE] DB [IMAGE]
 
   DB        the chip database of the image's device
   IMAGE     a bitstream (.bin) or a text (.asc); standard input if it is missing
   -t \"X Y\"  explains the tile at column X and row Y alone, also where no bit of
             it is set
+  --layout FILE
+            the layout of the device's bits; the standard one if it is missing
 
 Example: icebox_explain chipdb-1k.txt blink.asc
 
-Limits: a database has at most 268435456 bytes, an image 16777216.
+Limits: a database has at most 268435456 bytes, an image 16777216, FILE 65536.
 
-Exit status: 0 done; 1 the database or the image is refused, with its first
-fault; 2 the command line isn't taken; 3 reading failed; 4 writing failed; 5 out
-of memory; 6 an input is longer than its limit.
+Exit status: 0 done; 1 FILE, the database or the image is refused, with its
+first fault; 2 the command line isn't taken; 3 reading failed; 4 writing failed;
+5 out of memory; 6 an input is longer than its limit.
 ";
 
-/// What the words ask for: a database, an image, and one tile or all.
+/// What the words ask for: a layout file, a database, an image, and one tile or all.
 #[derive(Clone, Copy)]
 pub(crate) struct Request<'a> {
     pub(crate) only: Option<TileXy>,
+    pub(crate) layout: Option<&'a str>,
     pub(crate) db: &'a str,
     pub(crate) image: Option<&'a str>,
 }
@@ -88,6 +91,7 @@ fn command<'a>(alloc: Global) -> Result<Command<'a>, AllocError>
 {
     let command = Command::new(alloc, "icebox_explain");
     let command = with(command, short_option(alloc, "tile", 't'))?;
+    let command = with(command, long_option(alloc, "layout"))?;
     let command = with(command, positional(alloc, "db"))?;
     with(command, positional(alloc, "image"))
 }
@@ -95,13 +99,19 @@ fn command<'a>(alloc: Global) -> Result<Command<'a>, AllocError>
 // What the words ask for by what was found in them: there has to be a database.
 fn wanted<'a>(
     only: Option<Option<TileXy>>,
+    layout: Option<&'a str>,
     db: Option<&'a str>,
     image: Option<&'a str>,
 ) -> Option<Request<'a>>
-    ensures { explain_task_for result ≡ explain_task_of only (text_of db.entry) (text_of image.entry) }
+    ensures { explain_task_for result ≡ explain_task_of only (text_of layout.entry) (text_of db.entry) (text_of image.entry) }
 {
     match (only, db) {
-        (Some(only), Some(db)) => Some(Request { only, db, image }),
+        (Some(only), Some(db)) => Some(Request {
+            only,
+            layout,
+            db,
+            image,
+        }),
         _ => None,
     }
 }
@@ -119,9 +129,10 @@ pub(crate) fn request_of<'a>(
         Some(matches) => {
             let tile = value(&matches, "tile");
             let only = tile_given(tile);
+            let layout = value(&matches, "layout");
             let db = value(&matches, "db");
             let image = value(&matches, "image");
-            Ok(wanted(only, db, image))
+            Ok(wanted(only, layout, db, image))
         }
         None => Ok(None),
     }

@@ -13,5 +13,5 @@ returns-in-Some c =
     let words = map string_bytes c.args.words.now in
     let app = app_of c.in_ok-command.command in
     let holds : Option ArgMatches → Type 0 = λ found. IfSome found (λ m. rows_of (found_of m) ≡ matches_of app words) in
-    explain-found words app (rows_of (found_of c.in-Some.matches)) c.value-tile.result c.value-db.result c.value-image.result c.tile_given-only.result c.wanted.result c.in_ok-command.ensures
-    (ap is_some (sym c.in-Some.is) ∙ c.in_ok-matches.ensures.taken) (subst holds c.in-Some.is c.in_ok-matches.ensures.rows) c.value-tile.ensures c.tile_given-only.ensures c.value-db.ensures c.value-image.ensures c.wanted.ensures
+    explain-found words app (rows_of (found_of c.in-Some.matches)) c.value-tile.result c.value-layout.result c.value-db.result c.value-image.result c.tile_given-only.result c.wanted.result c.in_ok-command.ensures
+    (ap is_some (sym c.in-Some.is) ∙ c.in_ok-matches.ensures.taken) (subst holds c.in-Some.is c.in_ok-matches.ensures.rows) c.value-tile.ensures c.tile_given-only.ensures c.value-layout.ensures c.value-db.ensures c.value-image.ensures c.wanted.ensures

@@ -1,7 +1,9 @@
 -- The text that is written for a database and an image is that of their fabric.
 use Rattle.std.proofs.Common.{◌≡◌, ℕ, ◌^◌, ◌≤◌, Bool, true, false, List, [], refl, subst}
-use Rattle.std.specs.Prelude.{Option, Some, None, Result, Ok, Err, get_or, codes, if◌then◌else◌, ◌&&◌, nat_le, length}
+use Rattle.std.specs.Prelude.{Option, Some, None, Result, Ok, Err, get_or, codes, if◌then◌else◌, is_some, ◌&&◌, nat_le, length}
 use Rattle.clap.specs.Words.{Row, Text, first_of, matches_of}
+use Rattle.layout_file.specs.declared.layouts.Layouts.{Layouts}
+use Rattle.bitstream_tools.specs.Layouts.{answer_under, behind_layout, layouts_for}
 use Rattle.ice_image.specs.Configuration.{Configuration}
 use Rattle.chipdb_reader.specs.Database.{Database}
 use Rattle.chipdb_reader.specs.Fit.{IsFit}
@@ -26,8 +28,8 @@ use Rattle.tool_words.specs.Commands.{is_taken}
 use Rattle.design_tools.specs.declared.request.TheConstants.{ICEBOX_VLOG_HELP}
 use Rattle.design_tools.specs.Names.{name_given}
 use Rattle.design_tools.specs.Order.{write_order}
-use Rattle.design_tools.specs.Vlog.{written_module, written_of, written_with, vlog_command, vlog_name, vlog_outcome, vlog_task, vlog_task_by, vlog_task_of, vlog_usage}
-use Rattle.design_tools.specs.Fabric.{PromisesFabric, SpellsFabric, WritesFabric, fabric_events}
+use Rattle.design_tools.specs.Vlog.{written_module, written_of, written_under, written_with, vlog_command, vlog_name, vlog_outcome, vlog_task, vlog_task_by, vlog_task_of, vlog_usage}
+use Rattle.design_tools.specs.Fabric.{PromisesFabric, SpellsFabric, WritesFabric, fabric_events, names_layout}
 use Rattle.design_tools.proofs.Appended.{helped-kept}
 use Rattle.design_tools.proofs.Databases.{read-few, read-fit}
 use Rattle.design_tools.proofs.Lines.{run-shown}
@@ -70,17 +72,30 @@ done-with name named db image fit few bytes None is done =
     let same : printed (written_module name db image) ≡ bytes = cc in
     subst (SpellsFabric db image) same (spells-fabric name named db image fit few is)
 
-done-of : (name : List ℕ) → IsName name → (texts : List (List ℕ)) (bytes : List ℕ) (db : Result Database (List ℕ)) (image : Result Configuration (List ℕ))
-    → database_read (get_or texts 0 []) ≡ db → image_read (get_or texts 1 []) ≡ image → written_of name db image ≡ Done bytes → WritesFabric texts bytes
-done-of name named texts bytes (Err text) image db_is image_is done = absurd cc
-done-of name named texts bytes (Ok db) (Err text) db_is image_is done = absurd cc
-done-of name named texts bytes (Ok db) (Ok image) db_is image_is done = record {
-  db = db;
-  image = image;
-  db_is = db_is;
-  image_is = image_is;
-  spells = done-with name named db image (read-fit (get_or texts 0 []) db db_is) (read-few (get_or texts 0 []) db db_is) bytes (design_fault db image) refl done;
-}
+module _ (name : List ℕ) (named : IsName name) (behind : Bool) (texts : List (List ℕ)) (bytes : List ℕ) where
+  db_text : List ℕ
+  db_text = get_or texts (behind_layout behind 0) []
+
+  image_text : List ℕ
+  image_text = get_or texts (behind_layout behind 1) []
+
+  done-of : (layouts : Layouts) (db : Result Database (List ℕ)) (image : Result Configuration (List ℕ))
+      → layouts_for behind texts ≡ Ok layouts → database_read db_text ≡ db → image_read layouts image_text ≡ image → written_of name db image ≡ Done bytes → WritesFabric behind texts bytes
+  done-of layouts (Err text) image layouts_are db_is image_is done = absurd cc
+  done-of layouts (Ok db) (Err text) layouts_are db_is image_is done = absurd cc
+  done-of layouts (Ok db) (Ok image) layouts_are db_is image_is done = record {
+    layouts = layouts;
+    db = db;
+    image = image;
+    layouts_are = layouts_are;
+    db_is = db_is;
+    image_is = image_is;
+    spells = done-with name named db image (read-fit db_text db db_is) (read-few db_text db db_is) bytes (design_fault db image) refl done;
+  }
+
+  done-under : (read : Result Layouts (List ℕ)) → layouts_for behind texts ≡ read → answer_under read (written_under name db_text image_text) ≡ Done bytes → WritesFabric behind texts bytes
+  done-under (Ok layouts) are done = done-of layouts (database_read db_text) (image_read layouts image_text) are refl refl done
+  done-under (Err text) are done = absurd cc
 
 -- ---- the words
 
@@ -96,31 +111,31 @@ given-name None name is = let same : codes "chip" ≡ name = cc in subst IsName 
 given-name (Some text) name is = name-by text name (nat_le (length text) 64) (is_name text) refl is
 
 -- what a task makes of texts
-abbrev TaskWrites : Task → Type 0
-TaskWrites task = (texts : List (List ℕ)) (bytes : List ℕ) → task.answer texts ≡ Done bytes → WritesFabric texts bytes
+abbrev TaskWrites : Bool → Task → Type 0
+TaskWrites behind task = (texts : List (List ℕ)) (bytes : List ℕ) → task.answer texts ≡ Done bytes → WritesFabric behind texts bytes
 
-task-of : (name db image : Option Text) → ((one : Text) → name ≡ Some one → IsName one) → TaskWrites (vlog_task_of name db image)
-task-of (Some name) (Some db) image named texts bytes done = done-of name (named name refl) texts bytes (database_read (get_or texts 0 [])) (image_read (get_or texts 1 [])) refl refl done
-task-of (Some name) None image named texts bytes done = absurd cc
-task-of None db image named texts bytes done = absurd cc
+task-of : (name layout db image : Option Text) → ((one : Text) → name ≡ Some one → IsName one) → TaskWrites (is_some layout) (vlog_task_of name layout db image)
+task-of (Some name) layout (Some db) image named texts bytes done = done-under name (named name refl) (is_some layout) texts bytes (layouts_for (is_some layout) texts) refl done
+task-of (Some name) layout None image named texts bytes done = absurd cc
+task-of None layout db image named texts bytes done = absurd cc
 
-task-writes : (words : List Text) → TaskWrites (vlog_task words)
+task-writes : (words : List Text) → TaskWrites (names_layout words) (vlog_task words)
 unfolding vlog_task
 task-writes words = by_case (is_taken vlog_command words)
   where
     rows : List Row
     rows = matches_of vlog_command words
 
-    by_case : (taken : Bool) → TaskWrites (if taken then vlog_task_by rows else not_taken vlog_name vlog_usage)
-    by_case true = task-of (name_given (first_of (codes "name") rows)) (first_of (codes "db") rows) (first_of (codes "image") rows) (given-name (first_of (codes "name") rows))
+    by_case : (taken : Bool) → TaskWrites (names_layout words) (if taken then vlog_task_by rows else not_taken vlog_name vlog_usage)
+    by_case true = task-of (name_given (first_of (codes "name") rows)) (first_of (codes "layout") rows) (first_of (codes "db") rows) (first_of (codes "image") rows) (given-name (first_of (codes "name") rows))
     by_case false = λ texts bytes done. absurd cc
 
 -- ---- a run
 
-target-of : (name db image : Option Text) → (vlog_task_of name db image).target ≡ None
-target-of (Some name) (Some db) image = refl
-target-of (Some name) None image = refl
-target-of None db image = refl
+target-of : (name layout db image : Option Text) → (vlog_task_of name layout db image).target ≡ None
+target-of (Some name) layout (Some db) image = refl
+target-of (Some name) layout None image = refl
+target-of None layout db image = refl
 
 -- the module goes to standard output
 task-target : (words : List Text) → (vlog_task words).target ≡ None
@@ -131,11 +146,11 @@ task-target words = by_case (is_taken vlog_command words)
     rows = matches_of vlog_command words
 
     by_case : (taken : Bool) → (if taken then vlog_task_by rows else not_taken vlog_name vlog_usage).target ≡ None
-    by_case true = target-of (name_given (first_of (codes "name") rows)) (first_of (codes "db") rows) (first_of (codes "image") rows)
+    by_case true = target-of (name_given (first_of (codes "name") rows)) (first_of (codes "layout") rows) (first_of (codes "db") rows) (first_of (codes "image") rows)
     by_case false = refl
 
 pub promise-kept : {F I O E : Type 0} (by : Outside F I O E) (words : List Text) (status : ℕ) (old new : Scene F I O E) → Does by (vlog_outcome words) status old new
     → PromisesFabric words status (by.contents old.files) (by.left old.input) (by.held old.output) (by.held new.output)
 promise-kept by words status old new does done asked =
     let same : vlog_task words ≡ vlog_outcome words = helped-no vlog_name ICEBOX_VLOG_HELP.now words (vlog_task words) asked in
-    helped-kept WritesFabric by (vlog_task words) (vlog_outcome words) status old new same (task-writes words) (task-target words) does done
+    helped-kept (WritesFabric (names_layout words)) by (vlog_task words) (vlog_outcome words) status old new same (task-writes words) (task-target words) does done

@@ -7,20 +7,22 @@ ghost use Rattle.design_tools.specs.Vlog.{name_text, vlog_command, vlog_task, vl
 use crate::name::{ModuleName, name_given};
 use clap::Command;
 use std::alloc::{AllocError, Global};
-use tool_words::{parse, positional, short_option, value, with};
+use tool_words::{long_option, parse, positional, short_option, value, with};
 
 /// The command line of `icebox_vlog`.
-pub const ICEBOX_VLOG_USAGE: &str = "icebox_vlog [-n NAME] DB [IMAGE]";
+pub const ICEBOX_VLOG_USAGE: &str = "icebox_vlog [-n NAME] [--layout FILE] DB [IMAGE]";
 
 /// The help of `icebox_vlog`, at most 80 columns wide.
 pub const ICEBOX_VLOG_HELP: &str = "\
 icebox_vlog: writes the design of an image as a module in a subset of Verilog.
 
-Usage: icebox_vlog [-n NAME] DB [IMAGE]
+Usage: icebox_vlog [-n NAME] [--layout FILE] DB [IMAGE]
 
   DB        the chip database of the image's device
   IMAGE     a bitstream (.bin) or a text (.asc); standard input if it is missing
   -n NAME   the name of the module, at most 64 bytes; chip if it is missing
+  --layout FILE
+            the layout of the device's bits; the standard one if it is missing
 
 The module has a port for each pin that is used, io_X_Y_N for pin N of the io
 tile at column X and row Y; a register for each flip-flop, ff_X_Y_I; a register
@@ -30,10 +32,10 @@ have the values that the configured device has. vlogrun runs the module.
 
 Example: icebox_vlog -n blink chipdb-1k.txt blink.asc >blink.v
 
-Limits: a database has at most 268435456 bytes, an image 16777216.
+Limits: a database has at most 268435456 bytes, an image 16777216, FILE 65536.
 
-A database or an image with a fault is refused, and told by the first fault. A
-design is refused for these causes, looked for in this order:
+A layout, a database or an image with a fault is refused, and told by the first
+fault. A design is refused for these causes, looked for in this order:
 
   Device        the database is for another device: take the one for yours
   Pll           a PLL is used; modules have none. Feed the clock to a pin
@@ -54,15 +56,16 @@ design is refused for these causes, looked for in this order:
   Clock         a flip-flop or a RAM whose clock is made by logic, and comes
                 from no pin: clock it by the pin, and use an enable
 
-Exit status: 0 done; 1 the database, the image or the design is refused; 2 the
-command line isn't taken; 3 reading failed; 4 writing failed; 5 out of memory; 6
-an input is longer than its limit.
+Exit status: 0 done; 1 FILE, the database, the image or the design is refused;
+2 the command line isn't taken; 3 reading failed; 4 writing failed; 5 out of
+memory; 6 an input is longer than its limit.
 ";
 
-/// What the words ask for: the name of the module, a database and an image.
+/// What the words ask for: the name of the module, a layout file, a database and an image.
 #[derive(Clone, Copy)]
 pub(crate) struct Request<'a> {
     pub(crate) name: ModuleName<'a>,
+    pub(crate) layout: Option<&'a str>,
     pub(crate) db: &'a str,
     pub(crate) image: Option<&'a str>,
 }
@@ -73,6 +76,7 @@ fn command<'a>(alloc: Global) -> Result<Command<'a>, AllocError>
 {
     let command = Command::new(alloc, "icebox_vlog");
     let command = with(command, short_option(alloc, "name", 'n'))?;
+    let command = with(command, long_option(alloc, "layout"))?;
     let command = with(command, positional(alloc, "db"))?;
     with(command, positional(alloc, "image"))
 }
@@ -80,13 +84,19 @@ fn command<'a>(alloc: Global) -> Result<Command<'a>, AllocError>
 // What the words ask for by what was found in them: the name has to be one, and there has to be a database.
 fn wanted<'a>(
     name: Option<ModuleName<'a>>,
+    layout: Option<&'a str>,
     db: Option<&'a str>,
     image: Option<&'a str>,
 ) -> Option<Request<'a>>
-    ensures { vlog_task_for result ≡ vlog_task_of (name_text name.entry) (text_of db.entry) (text_of image.entry) }
+    ensures { vlog_task_for result ≡ vlog_task_of (name_text name.entry) (text_of layout.entry) (text_of db.entry) (text_of image.entry) }
 {
     match (name, db) {
-        (Some(name), Some(db)) => Some(Request { name, db, image }),
+        (Some(name), Some(db)) => Some(Request {
+            name,
+            layout,
+            db,
+            image,
+        }),
         _ => None,
     }
 }
@@ -104,9 +114,10 @@ pub(crate) fn request_of<'a>(
         Some(matches) => {
             let given = value(&matches, "name");
             let name = name_given(given);
+            let layout = value(&matches, "layout");
             let db = value(&matches, "db");
             let image = value(&matches, "image");
-            Ok(wanted(name, db, image))
+            Ok(wanted(name, layout, db, image))
         }
         None => Ok(None),
     }

@@ -1,5 +1,6 @@
 // `icebox_vlog`: the module of an image.
-ghost use Rattle.std.specs.Prelude.{◌≡◌, map, string_bytes, IfOk, IfErr, Some};
+ghost use Rattle.std.specs.Prelude.{◌≡◌, map, string_bytes, vec_items, IfOk, IfErr, Some};
+ghost use Rattle.layout_file.specs.Layouts.{AreLayouts};
 ghost use Rattle.ice_image.specs.Configuration.{Configuration};
 ghost use Rattle.ice_image.specs.Either.{configuration_of};
 ghost use Rattle.chipdb_reader.specs.Database.{Database};
@@ -9,29 +10,30 @@ ghost use Rattle.fabric.specs.Design.{IsDesignOf};
 ghost use Rattle.tool_run.specs.Runs.{Does, outside, scene};
 ghost use Rattle.tool_run.specs.Stops.{StopsWith};
 ghost use Rattle.tool_run.specs.Tasks.{Done};
-ghost use Rattle.fabric_tools.specs.Databases.{database_read};
-ghost use Rattle.fabric_tools.specs.Images.{image_read};
 ghost use Rattle.design_tools.specs.Fabric.{PromisesFabric};
-ghost use Rattle.design_tools.specs.Vlog.{vlog_outcome, vlog_task_for, written, written_of};
+ghost use Rattle.design_tools.specs.Vlog.{vlog_answer, vlog_outcome, vlog_task_for, written, written_under};
 
 use crate::faults::design_stop;
 use crate::name::ModuleName;
 use crate::request::{ICEBOX_VLOG_HELP, ICEBOX_VLOG_USAGE, Request, request_of};
+use bitstream_tools::{LAYOUT_LIMIT, behind_layout, layouts_for, with_layout};
 use chipdb_reader::ChipDb;
 use fabric::{Design, design};
 use fabric_tools::{DB_LIMIT, IMAGE_LIMIT, read_database, read_image};
 use ice_image::AnyImage;
 use ice_io::{Files, Sink, Source};
+use layout_file::Layouts;
 use std::alloc::{AllocError, Global};
-use tool_run::{
-    AtOnce, Job, Load, Stop, Tool, answer_at_once, asks_for_help, give_up, loaded_at, perform,
-};
+use tool_run::{AtOnce, Job, Load, Stop, Tool, answer_at_once, asks_for_help, give_up, perform};
 use vlog_text::print;
 use vlog_write::emit;
 
-/// Writes the module of a database and an image, with a name.
+/// Writes the module of a database and an image, with a name. The image is read under the layouts of a file that is loaded first
+/// where one is named.
 #[derive(Clone, Copy, Debug, PartialEq, Eq)]
 pub(crate) struct Writing<'a> {
+    /// Whether a layout file is loaded first.
+    pub(crate) named: bool,
     pub(crate) name: ModuleName<'a>,
 }
 
@@ -39,26 +41,46 @@ impl<'a> Tool for Writing<'a> {
     ghost use Rattle.design_tools.specs.Fabric.{PromisesFabric};
     ghost use Rattle.design_tools.specs.Vlog.{vlog_answer};
 
-    ghost answer_of = { λ tool texts. vlog_answer tool.name.text.now texts };
+    ghost answer_of = { λ tool texts. vlog_answer tool.named tool.name.text.now texts };
 
     fn answer(&self, alloc: Global, loaded: &Vec<Vec<u8>>) -> Result<Vec<u8>, Stop> {
-        written_by(
-            alloc,
-            loaded_at(loaded, 0),
-            loaded_at(loaded, 1),
-            self.name.text.as_bytes(),
-        )
+        written_from(alloc, self.named, self.name.text.as_bytes(), loaded)
     }
 }
 
-// The module of a database and an image, both in bytes.
-fn written_by(alloc: Global, db: &[u8], image: &[u8], name: &[u8]) -> Result<Vec<u8>, Stop>
+// The module of the database and the image that were loaded.
+#[tactic(auto, using(bitstream_tools::proofs::UnderLayouts::stops_under))]
+fn written_from(
+    alloc: Global,
+    named: bool,
+    name: &[u8],
+    loaded: &[Vec<u8>],
+) -> Result<Vec<u8>, Stop>
     requires { IsName name.now }
-    ensures bytes { IfOk result (λ bytes. written_of name.now (database_read db.now) (image_read image.now) ≡ Done bytes.items) }
-    ensures stops { IfErr result (StopsWith (written_of name.now (database_read db.now) (image_read image.now))) }
+    ensures bytes { IfOk result (λ bytes. vlog_answer named name.now (map vec_items loaded.now) ≡ Done bytes.items) }
+    ensures stops { IfErr result (StopsWith (vlog_answer named name.now (map vec_items loaded.now))) }
+{
+    let layouts = layouts_for(named, loaded)?;
+    let db = behind_layout(named, loaded, 0);
+    let image = behind_layout(named, loaded, 1);
+    written_by(alloc, db, image, name, layouts)
+}
+
+// The module of a database and an image, both in bytes.
+fn written_by(
+    alloc: Global,
+    db: &[u8],
+    image: &[u8],
+    name: &[u8],
+    layouts: Layouts,
+) -> Result<Vec<u8>, Stop>
+    requires named { IsName name.now }
+    requires layouts { AreLayouts layouts }
+    ensures bytes { IfOk result (λ bytes. written_under name.now db.now image.now layouts ≡ Done bytes.items) }
+    ensures stops { IfErr result (StopsWith (written_under name.now db.now image.now layouts)) }
 {
     let db = read_database(alloc, db)?;
-    let image = read_image(alloc, image)?;
+    let image = read_image(alloc, image, layouts)?;
     text_of(alloc, &db, &image, name)
 }
 
@@ -99,6 +121,10 @@ fn write_files<F: Files, I: Source, O: Sink, E: Sink>(
 {
     let loads = [
         Load {
+            name: request.layout,
+            limit: LAYOUT_LIMIT,
+        },
+        Load {
             name: Some(request.db),
             limit: DB_LIMIT,
         },
@@ -107,10 +133,13 @@ fn write_files<F: Files, I: Source, O: Sink, E: Sink>(
             limit: IMAGE_LIMIT,
         },
     ];
-    let tool = Writing { name: request.name };
+    let tool = Writing {
+        named: request.layout.is_some(),
+        name: request.name,
+    };
     let job = Job {
         speaker: "icebox_vlog",
-        loads: &loads,
+        loads: with_layout(request.layout, &loads),
         target: None,
     };
     perform(alloc, &tool, &job, files, input, output, errors)

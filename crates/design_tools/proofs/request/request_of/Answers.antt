@@ -14,6 +14,6 @@ returns-in-Some c =
     let words = map string_bytes c.args.words.now in
     let app = app_of c.in_ok-command.command in
     let holds : Option ArgMatches → Type 0 = λ found. IfSome found (λ m. rows_of (found_of m) ≡ matches_of app words) in
-    vlog-found words app (rows_of (found_of c.in-Some.matches)) c.value-given.result c.value-db.result c.value-image.result
+    vlog-found words app (rows_of (found_of c.in-Some.matches)) c.value-given.result c.value-layout.result c.value-db.result c.value-image.result
     (name_text c.name_given-name.result) c.wanted.result c.in_ok-command.ensures
-    (ap is_some (sym c.in-Some.is) ∙ c.in_ok-matches.ensures.taken) (subst holds c.in-Some.is c.in_ok-matches.ensures.rows) c.value-given.ensures (sym (name_text-map c.name_given-name.result) ∙ c.name_given-name.ensures) c.value-db.ensures c.value-image.ensures c.wanted.ensures
+    (ap is_some (sym c.in-Some.is) ∙ c.in_ok-matches.ensures.taken) (subst holds c.in-Some.is c.in_ok-matches.ensures.rows) c.value-given.ensures (sym (name_text-map c.name_given-name.result) ∙ c.name_given-name.ensures) c.value-layout.ensures c.value-db.ensures c.value-image.ensures c.wanted.ensures

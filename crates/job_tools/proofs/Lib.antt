@@ -5,4 +5,5 @@ mod Devices
 mod Ran
 mod Runs
 mod Seeds
+mod StandardImage
 mod Words

@@ -1,5 +1,6 @@
 // What is counted of the parts of a design.
 ghost use Rattle.std.specs.Prelude.{◌≡◌, ◌<◌, ◌≤◌, ◌^◌, All, IfOk, None, codes, length, map};
+ghost use Rattle.layout_file.specs.Layouts.{HasLayout, standard_layouts};
 ghost use Rattle.ice_image.specs.Configuration.{Configuration};
 ghost use Rattle.ice_image.specs.Either.{configuration_of};
 ghost use Rattle.text_lines.specs.Lines.{lines_of};
@@ -38,8 +39,9 @@ pub(crate) struct Packed {
     pub(crate) bytes: usize,
 }
 
-/// Packs an image and unpacks the bitstream.
+/// Packs an image of the standard layout and unpacks the bitstream.
 pub(crate) fn pack(alloc: Global, image: &AnyImage) -> Result<Packed, AllocError>
+    requires { HasLayout standard_layouts (configuration_of image.now).layout }
     ensures image { IfOk result (λ packed. configuration_of packed.image ≡ configuration_of image.now) }
     ensures bytes { IfOk result (λ packed. packed.bytes ≡ length (canonical_bytes (configuration_of image.now))) }
 {

@@ -6,6 +6,7 @@ mod explaining;
 mod failing;
 mod generating;
 mod joining;
+mod layouts;
 mod modules;
 mod packing;
 mod refusing;

@@ -4,7 +4,8 @@ use super::small::{DATABASE, INVERTER, image};
 use super::{Ended, PLAIN, Setup, outcome};
 use std::alloc::{AllocError, Global};
 
-const USAGE: &str = "icebox_explain: usage: icebox_explain [-t \"X Y\"] DB [IMAGE]\n";
+const USAGE: &str =
+    "icebox_explain: usage: icebox_explain [-t \"X Y\"] [--layout FILE] DB [IMAGE]\n";
 
 /// What these words leave with a database in the file `A` and an image on standard input.
 fn explained<'a>(

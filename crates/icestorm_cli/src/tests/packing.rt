@@ -74,7 +74,11 @@ fn push_tile(
 }
 
 /// The places and values of the bytes that differ from those of another stream.
-fn changes(alloc: Global, stream: &[u8], from: &[u8]) -> Result<Vec<(usize, u8)>, AllocError> {
+pub(super) fn changes(
+    alloc: Global,
+    stream: &[u8],
+    from: &[u8],
+) -> Result<Vec<(usize, u8)>, AllocError> {
     let mut changes = Vec::new(alloc);
     for (place, (byte, old)) in stream.iter().zip(from).enumerate() {
         if byte != old {

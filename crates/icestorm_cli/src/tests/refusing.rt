@@ -3,16 +3,17 @@
 use super::{PLAIN, refuses};
 use std::alloc::{AllocError, Global};
 
-const ICEPACK_USAGE: &str = "icepack: usage: icepack [-u] [-s] [INPUT [OUTPUT]]\n";
+const ICEPACK_USAGE: &str = "icepack: usage: icepack [-u] [-s] [--layout FILE] [INPUT [OUTPUT]]\n";
 
-const ICEUNPACK_USAGE: &str = "iceunpack: usage: iceunpack [INPUT [OUTPUT]]\n";
+const ICEUNPACK_USAGE: &str = "iceunpack: usage: iceunpack [--layout FILE] [INPUT [OUTPUT]]\n";
 
 const ICEMULTI_USAGE: &str =
     "icemulti: usage: icemulti [-c] [-p N] [-a N] [-A N] [-o OUTPUT] [IMAGE ...]\n";
 
 const ICEBRAM_USAGE: &str = "icebram: usage: icebram FROM TO\n";
 
-const ICEBOX_VLOG_USAGE: &str = "icebox_vlog: usage: icebox_vlog [-n NAME] DB [IMAGE]\n";
+const ICEBOX_VLOG_USAGE: &str =
+    "icebox_vlog: usage: icebox_vlog [-n NAME] [--layout FILE] DB [IMAGE]\n";
 
 /// A name of 65 bytes.
 const LONG: &str = "aaaaaaaaaaaaaaaaaaaaaaaaaaaaaaaaaaaaaaaaaaaaaaaaaaaaaaaaaaaaaaaaa";
@@ -24,13 +25,20 @@ const USAGE: &str = "icestorm: usage: TOOL ...\n";
 /// A command line, its status and its line.
 type Refused = (&'static [&'static str], u8, &'static str);
 
-static NOT_TAKEN: [Refused; 23] = [
+static NOT_TAKEN: [Refused; 26] = [
     (&["icepack", "a", "b", "c"], 2, ICEPACK_USAGE),
     (&["icepack", "-x"], 2, ICEPACK_USAGE),
     (&["icepack", "-u", "-s"], 2, ICEPACK_USAGE),
     (&["icepack", "-s", "-s"], 2, ICEPACK_USAGE),
     (&["icepack", "--help", "a"], 2, ICEPACK_USAGE),
+    (&["icepack", "--layout"], 2, ICEPACK_USAGE),
+    (
+        &["icepack", "--layout", "a", "--layout", "b"],
+        2,
+        ICEPACK_USAGE,
+    ),
     (&["iceunpack", "-x"], 2, ICEUNPACK_USAGE),
+    (&["icebram", "--layout", "L", "A", "B"], 2, ICEBRAM_USAGE),
     (&["icemulti", "-c", "-p1", "A", "B"], 2, ICEMULTI_USAGE),
     (&["icemulti", "-a", "8", "-A", "8", "A"], 2, ICEMULTI_USAGE),
     (&["icemulti", "-p", "1000", "A"], 2, ICEMULTI_USAGE),
@@ -54,11 +62,16 @@ static NOT_TAKEN: [Refused; 23] = [
     (&[], 2, USAGE),
 ];
 
-static REFUSED: [Refused; 12] = [
+static REFUSED: [Refused; 13] = [
     (&["icepack"], 1, "icepack: line 1: NoDevice\n"),
     (&["icepack", "-u"], 1, "icepack: offset 0: NoPreamble\n"),
     (&["icepack", "nofile"], 3, "icepack: read failed: nofile\n"),
     (&["icepack", "-"], 3, "icepack: read failed: -\n"),
+    (
+        &["icepack", "a", "--layout", "L"],
+        3,
+        "icepack: read failed: L\n",
+    ),
     (&["icemulti"], 1, "icemulti: NoImage\n"),
     (&["icemulti", "-a", "25", "A"], 1, "icemulti: Align 25\n"),
     (

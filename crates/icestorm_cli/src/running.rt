@@ -51,7 +51,8 @@ fn own_answer(words: &[String]) -> AtOnce
 /// Does what the words ask for, the first of which is the tool, and answers the status: 0 where all was done, 1 where the
 /// tool refuses what it was given, 2 where the command line isn't taken, 3 where reading failed, 4 where writing failed, 5
 /// where memory ran out, and 6 where an input has more bytes than its limit. The first that refuses decides, in this order:
-/// the words, what is loaded, in the order of the words with standard input last, the tool, the target.
+/// the words, what is loaded, a layout file first and then in the order of the words with standard input last, the tool, the
+/// target.
 pub fn run<F: Files, I: Source, O: Sink, E: Sink>(
     alloc: Global,
     words: &Vec<String>,

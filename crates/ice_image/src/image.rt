@@ -60,6 +60,8 @@ impl<D: Device> Image<D> {
         requires { layout.device ≡ D.NAME }
         ensures { IfOk result (λ image. image ≡ blank_image layout) }
     {
+        // Says that it is a layout.
+        let _device = layout.device();
         Ok(Image {
             layout,
             comment: None,

@@ -2,7 +2,7 @@
 ghost use Rattle.std.specs.Prelude.{◌≡◌, ◌<◌};
 ghost use Rattle.bit_plane.specs.BitList.{word_of};
 ghost use Rattle.bit_plane.specs.Rows.{row_from};
-ghost use Rattle.plane_map.specs.Layout.{columns_at};
+ghost use Rattle.plane_map.specs.Layout.{IsLayout, columns_at};
 ghost use Rattle.ice_image.specs.Configuration.{place_bit, AreBanks, IsCramSize, SameBut};
 ghost use Rattle.ice_image.specs.Contents.{tile_place, tile_rows, IsPlaceOfTile};
 ghost use Rattle.ice_image.specs.Written.{IsWritten, bit_of_word};
@@ -68,6 +68,7 @@ pub(crate) fn write_tile<P: Bits, const C: usize>(
     y: u8,
     tile: &Tile<C>,
 )
+    requires layout { IsLayout layout.now }
     requires width { columns_at layout.now.device x y ≡ C }
     requires size { IsCramSize layout.now.device P.WIDTH P.HEIGHT }
     requires whole { AreBanks P.WIDTH P.HEIGHT cram.old }

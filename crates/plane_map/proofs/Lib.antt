@@ -1,6 +1,8 @@
 pub mod Entries
 pub mod Layouts
 pub mod Offsets
+pub mod Owners
 pub mod Places
 pub mod Widths
 pub mod Words
+mod Worked

@@ -1,6 +1,6 @@
 -- Bits of a tile as places within its column and its row of tiles, over any lists of the io tiles' columns and rows and any
 -- widths, so long as the tests of the lists pass.
-use Rattle.std.proofs.Common.{◌≡◌, ℕ, ◌+◌, ◌-◌, ◌*◌, ◌<◌, ◌≤◌, nat_lt, Bool, true, false, ◌&&◌, ◌==◌, if◌then◌else◌, List, length, get_or, refl, arith}
+use Rattle.std.proofs.Common.{◌≡◌, ℕ, ◌+◌, ◌-◌, ◌*◌, ◌<◌, ◌≤◌, nat_lt, Bool, true, false, if◌then◌else◌, List, length, get_or, refl, arith}
 use Rattle.std.proofs.lemmas.Bool.Decides.{nat_tests}
 use Rattle.plane_map.specs.Layout.{are_distinct, are_below, are_places}
 use Rattle.plane_map.proofs.Entries.{get_or-distinct, get_or-below, get_or-onto}

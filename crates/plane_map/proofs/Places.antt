@@ -1,11 +1,11 @@
 -- Each bit of a tile lies in the planes, and no two at one place.
-use Rattle.std.proofs.Common.{◌≡◌, ℕ, ◌+◌, ◌*◌, ◌<◌, ◌≤◌, Bool, true, false, ◌&&◌, ◌||◌, sym, ◌∙◌, ap, subst, arith}
+use Rattle.std.proofs.Common.{◌≡◌, ℕ, ◌+◌, ◌*◌, ◌<◌, ◌≤◌, Bool, true, ◌&&◌, sym, ◌∙◌, ap, subst, arith}
 use Rattle.plane_map.specs.declared.tile.TileBit.{TileBit}
 use Rattle.plane_map.specs.declared.tile.Place.{Place}
-use Rattle.plane_map.specs.Layout.{Layout, IsLayout, half_width, width_of, start_of, is_side, is_end, is_right, is_top, is_mirrored, from_side, from_end, quarter_of, bank_of, column_of, px_of, py_of, place_of, grid_width, grid_height, cram_width, IsTileBit}
+use Rattle.plane_map.specs.Layout.{Layout, IsLayout, half_width, width_of, start_of, is_side, is_end, is_right, is_top, is_mirrored, from_side, from_end, quarter_of, bank_of, column_of, px_of, py_of, place_of, grid_width, grid_height, IsTileBit}
 use Rattle.plane_map.proofs.Widths.{start-later, same_column}
 use Rattle.plane_map.proofs.Offsets.{entry-same, column, column-below, column-same, FitsColumn, fits-wider, fits-side, fits-end, turned, turned-below, turned-same, turned-is, height, height-below, height-same, height-is, same_row, quarter-below, quarter-same}
-use Rattle.plane_map.proofs.Layouts.{are_starts, are_columns, are_pad_rows, are_banks, width_of-least, start_of-half, columns_at-in, columns_at-fit, from_side-below, from_side-same, from_end-same}
+use Rattle.plane_map.proofs.Layouts.{are_starts, are_columns, are_pad_rows, are_banks, width_of-least, columns_at-in, columns_at-fit, from_side-below, from_side-same, from_end-same}
 
 -- a bit of a tile is in the grid and in its column and its row of tiles
 pub record IsPlaced (layout : Layout) (bit : TileBit) : Type 0 where
@@ -164,3 +164,13 @@ tile_bit_column layout s bit h u width column u_is width_is column_is =
 pub py_of-parts : (layout : Layout) → IsLayout layout → (bit : TileBit) → IsTileBit layout.device bit → (w into : ℕ)
     → w ≡ from_end layout.device bit.y → into ≡ height_of layout bit → 16 * w + into ≡ py_of layout bit
 py_of-parts layout s bit h w into w_is into_is = (λ i. 16 * w_is i + into_is i) ∙ sym (py_of-is layout s bit (tile_bit_is_placed layout s bit h))
+
+-- and its column of bits from those parts
+pub px_of-parts : (layout : Layout) → IsLayout layout → (bit : TileBit) → IsTileBit layout.device bit → (u start width column into : ℕ) (mirrored : Bool)
+    → u ≡ from_side layout.device bit.x → start ≡ start_of layout u → width ≡ width_of layout u → column ≡ column_of layout bit
+    → mirrored ≡ is_mirrored layout bit.x bit.y → into ≡ turned mirrored width column → start + into ≡ px_of layout bit
+px_of-parts layout s bit h u start width column into mirrored u_is start_is width_is column_is mirrored_is into_is =
+    let start' : start ≡ start_of layout (from_side layout.device bit.x) = start_is ∙ ap (start_of layout) u_is in
+    let width' : width ≡ width_of layout (from_side layout.device bit.x) = width_is ∙ ap (width_of layout) u_is in
+    let into' : into ≡ offset_of layout bit = into_is ∙ (λ i. turned (mirrored_is i) (width' i) (column_is i)) in
+    (λ i. start' i + into' i) ∙ sym (px_of-is layout s bit (tile_bit_is_placed layout s bit h))

@@ -51,6 +51,7 @@ pub(crate) fn place_of_word(layout: &Layout, at: WordBit) -> Place
     ensures place { result ≡ word_place_of layout.now at }
     ensures in_plane { IsInBram layout.now.device result }
     ensures only { (other : WordBit) → IsWordBit layout.now.device other → word_place_of layout.now other ≡ result → other ≡ at }
+    ensures onto { (place : Place) → IsInBram layout.now.device place → (word_bit : WordBit) × IsWordBit layout.now.device word_bit × (word_place_of layout.now word_bit ≡ place) }
 {
     let y = at.y as u32;
     let quarter = quarter_at(layout.device(), at.x as u32, y);

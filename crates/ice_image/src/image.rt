@@ -299,8 +299,8 @@ impl<D: Device> Image<D> {
         ensures bytes { out.new ≡ bytes_of (length out.old) (flat (take count (drop first (rows_of_bank kind bank self.now)))) }
     {
         match kind {
-            PlaneKind::Cram => self.cram(bank).take_bytes(first, count, out),
-            PlaneKind::Bram => self.bram(bank).take_bytes(first, count, out),
+            PlaneKind::Cram => self.cram.plane(bank).take_bytes(first, count, out),
+            PlaneKind::Bram => self.bram.plane(bank).take_bytes(first, count, out),
         }
     }
 
@@ -332,6 +332,8 @@ impl<D: Device> Image<D> {
         requires bytes { 8 * length bytes.now ≡ count * cram_width self.old.layout.device }
         ensures { self.new ≡ with_rows Cram bank first (rows_of (cram_width self.old.layout.device) count (bits_of bytes.now)) self.old }
     {
+        // The device of the layout gives the sizes.
+        let _ = &self.layout;
         let plane = self.cram_mut(bank);
         plane.put_bytes(first, count, bytes);
     }
@@ -343,6 +345,8 @@ impl<D: Device> Image<D> {
         requires bytes { 8 * length bytes.now ≡ count * bram_width self.old.layout.device }
         ensures { self.new ≡ with_rows Bram bank first (rows_of (bram_width self.old.layout.device) count (bits_of bytes.now)) self.old }
     {
+        // The device of the layout gives the sizes.
+        let _ = &self.layout;
         let plane = self.bram_mut(bank);
         plane.put_bytes(first, count, bytes);
     }

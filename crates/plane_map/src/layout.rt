@@ -6,6 +6,8 @@ use crate::device::DeviceName;
 use crate::tile::{Place, TileBit, TileKind, WordBit};
 use std::marker::Model;
 
+mod setters;
+
 /// How a device lays out the bits of its tiles and of the words of its RAMs in its planes.
 ///
 /// No two bits have one place under a layout, and each lies in the planes.

@@ -24,8 +24,15 @@ use Rattle.layout_file.specs.Faults.{is_section, device_in, cause_if, count_of, 
 
 abbrev pub nothing_given : Given
 nothing_given = record {
-  widths = false; side_columns = false; pad_columns = false; pad_rows = false; banks = false;
-  mirror = false; flip = false; pad_mirror = false; ram_flip = false;
+  widths = false;
+  side_columns = false;
+  pad_columns = false;
+  pad_rows = false;
+  banks = false;
+  mirror = false;
+  flip = false;
+  pad_mirror = false;
+  ram_flip = false;
 }
 
 -- a section of which no line was read

@@ -3,7 +3,11 @@ use super::*;
 #[test]
 fn reads(rt: HostRuntime) {
     for (text, line, cause) in [
-        (".layout 1k\nwidths 18 54 54 42 54 54 57\n", 2, LayoutCause::Width),
+        (
+            ".layout 1k\nwidths 18 54 54 42 54 54 57\n",
+            2,
+            LayoutCause::Width,
+        ),
         (".layout 1k\nbanks 0 1 2 2", 2, LayoutCause::Place),
         (".layout 5k\n", 1, LayoutCause::Device),
         ("mirror no\n", 1, LayoutCause::Statement),

@@ -5,3 +5,4 @@ pub mod LineSteps
 pub mod ReadNumbers
 pub mod ReadWidths
 pub mod RefusedLines
+mod Worked

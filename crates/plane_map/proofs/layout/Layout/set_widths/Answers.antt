@@ -1,4 +1,4 @@
-use Rattle.std.proofs.Common.{◌≡◌, ℕ, ◌+◌, ◌-◌, ◌≤◌, ◌∙◌, sym, ap, true, List, ◌++◌, length, take, replicate}
+use Rattle.std.proofs.Common.{◌≡◌, ℕ, ◌-◌, ◌∙◌, sym, ap, true, List, ◌++◌, length, take, replicate}
 use Rattle.std.specs.Prelude.{◌==◌, ◌&&◌, nat_le}
 use Rattle.std.proofs.lemmas.Bool.{and_parts, eqb-true}
 use Rattle.std.proofs.Math.Seq.{take-append_seam}
@@ -10,7 +10,7 @@ use Rattle.plane_map.proofs.layout.Layout.set_widths.Goals as goal
 widths-count : (device : DeviceName) (widths : List ℕ) → are_widths device widths ≡ true → length widths ≡ half_width device
 widths-count device widths good =
     let parts = and_parts ((length widths == half_width device) && are_wide device widths (half_width device))
-      (nat_le (start_in widths (half_width device)) (cram_width device)) good in
+    (nat_le (start_in widths (half_width device)) (cram_width device)) good in
     eqb-true (length widths) (half_width device) (and_parts (length widths == half_width device) (are_wide device widths (half_width device)) parts.0).0
 
 -- those of the padded list are the widths themselves

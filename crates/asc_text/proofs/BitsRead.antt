@@ -36,15 +36,15 @@ same_place-true a b is = is_same_place-same a b is
 -- ---- a tile
 
 -- the bit of a column in a row of a written tile
-tile-bit : (image : Configuration) (x y r col : ℕ) → r < 16 → col < columns_at image.device x y
+tile-bit : (image : Configuration) (x y r col : ℕ) → r < 16 → col < columns_at image.layout.device x y
     → row_bit (trimmed (line_at (map row_line (tile_of image x y)) r)) col ≡ tile_bit_of image x y r col
 tile-bit image x y r col row column =
     let bits : ℕ → Bool = λ col. tile_bit_of image x y r col in
-    ap (λ line. row_bit line col) (ap trimmed (tile-row image x y r row) ∙ trimmed-row_line (row_from (columns_at image.device x y) bits))
-    ∙ row_bit-row_line (row_from (columns_at image.device x y) bits) col ∙ get_or-row_from (columns_at image.device x y) bits col column
+    ap (λ line. row_bit line col) (ap trimmed (tile-row image x y r row) ∙ trimmed-row_line (row_from (columns_at image.layout.device x y) bits))
+    ∙ row_bit-row_line (row_from (columns_at image.layout.device x y) bits) col ∙ get_or-row_from (columns_at image.layout.device x y) bits col column
 
 -- a line of a tile sets only bits that are set
-row-sets : (image : Configuration) (x y : ℕ) (kind : TileKind) (bit : TileBit) → IsTileBit image.device bit → (r : ℕ) → r < 17
+row-sets : (image : Configuration) (x y : ℕ) (kind : TileKind) (bit : TileBit) → IsTileBit image.layout.device bit → (r : ℕ) → r < 17
     → sets_bit (Some (Tile kind x y)) r (trimmed (line_at (piece_lines (tile_piece image x y kind)) r)) (OfTile bit) ≡ true → bit_of image (OfTile bit) ≡ true
 row-sets image x y kind bit is zero within sets =
     absurd (both_ways (nat_lt 0 0) refl (and_parts (row_sets x y (0 - 1) (trimmed (line_at (piece_lines (tile_piece image x y kind)) 0)) (OfTile bit)) (nat_lt 0 0) sets).1)
@@ -58,13 +58,13 @@ row-sets image x y kind bit is (suc r) within sets =
     let ex : x ≡ bit.x = eqb-true _ _ grid.0 in
     let ey : y ≡ bit.y = eqb-true _ _ grid.1 in
     let er : r ≡ bit.row = sym back ∙ eqb-true _ _ place.1 in
-    let wide : columns_at image.device x y ≡ columns_at image.device bit.x bit.y = λ i. columns_at image.device (ex i) (ey i) in
-    let column : bit.col < columns_at image.device x y = omega (arith, is.col_in, wide) in
+    let wide : columns_at image.layout.device x y ≡ columns_at image.layout.device bit.x bit.y = λ i. columns_at image.layout.device (ex i) (ey i) in
+    let column : bit.col < columns_at image.layout.device x y = omega (arith, is.col_in, wide) in
     let here : tile_bit_of image x y r bit.col ≡ bit_of image (OfTile bit) = λ i. tile_bit_of image (ex i) (ey i) (er i) bit.col in
     sym here ∙ sym (tile-bit image x y r bit.col (omega arith) column) ∙ inner.1
 
 -- a tile sets only bits that are set
-tile-sets : (image : Configuration) (x y : ℕ) (kind : TileKind) (bit : TileBit) → IsTileBit image.device bit
+tile-sets : (image : Configuration) (x y : ℕ) (kind : TileKind) (bit : TileBit) → IsTileBit image.layout.device bit
     → piece_sets (OfTile bit) (tile_piece image x y kind) ≡ true → bit_of image (OfTile bit) ≡ true
 unfolding piece_sets
 tile-sets image x y kind bit is sets =
@@ -74,7 +74,7 @@ tile-sets image x y kind bit is sets =
     row-sets image x y kind bit is found.0 (omega (arith, found.1, tile-count image x y)) found.2
 
 -- a tile sets each of its bits that is set
-tile-sets_at : (image : Configuration) (kind : TileKind) (bit : TileBit) → IsTileBit image.device bit → bit_of image (OfTile bit) ≡ true
+tile-sets_at : (image : Configuration) (kind : TileKind) (bit : TileBit) → IsTileBit image.layout.device bit → bit_of image (OfTile bit) ≡ true
     → piece_sets (OfTile bit) (tile_piece image bit.x bit.y kind) ≡ true
 unfolding piece_sets
 tile-sets_at image kind bit is set =
@@ -111,7 +111,7 @@ ram-sets_no_extra image x y at =
 -- ---- the pieces of a place of the grid
 
 -- they set only bits that are set
-kind-sets : (image : Configuration) (x y : ℕ) (bit : TileBit) (kind : Option TileKind) → IsTileBit image.device bit
+kind-sets : (image : Configuration) (x y : ℕ) (bit : TileBit) (kind : Option TileKind) → IsTileBit image.layout.device bit
     → some_piece (piece_sets (OfTile bit)) (kind_pieces image x y kind) ≡ true → bit_of image (OfTile bit) ≡ true
 kind-sets image x y bit None is sets = absurd (both_ways (some_piece (piece_sets (OfTile bit)) []) (some_piece-nothing (piece_sets (OfTile bit))) sets)
 kind-sets image x y bit (Some Io) is sets =
@@ -130,7 +130,7 @@ kind-sets image x y bit (Some RamT) is sets =
     tile-sets image x y RamT bit is (sym (some_piece-one (piece_sets (OfTile bit)) (tile_piece image x y RamT)) ∙ sets)
 
 -- and each bit of the tile that is set
-kind-sets_at : (image : Configuration) (bit : TileBit) (kind : Option TileKind) → kind_of image.device bit.x bit.y ≡ kind → IsTileBit image.device bit → bit_of image (OfTile bit) ≡ true
+kind-sets_at : (image : Configuration) (bit : TileBit) (kind : Option TileKind) → kind_of image.layout.device bit.x bit.y ≡ kind → IsTileBit image.layout.device bit → bit_of image (OfTile bit) ≡ true
     → some_piece (piece_sets (OfTile bit)) (kind_pieces image bit.x bit.y kind) ≡ true
 kind-sets_at image bit None there is set = absurd (omega (arith, is.col_in, ap columns_in there))
 kind-sets_at image bit (Some Io) there is set =
@@ -162,29 +162,29 @@ kind-no_extra image x y at (Some RamT) = some_piece-one (piece_sets (Extra at)) 
 -- ---- all tiles
 
 -- tiles set only bits that are set
-pub tiles-set : (image : Configuration) (bit : TileBit) → IsTileBit image.device bit → some_piece (piece_sets (OfTile bit)) (all_tile_pieces image) ≡ true → bit_of image (OfTile bit) ≡ true
+pub tiles-set : (image : Configuration) (bit : TileBit) → IsTileBit image.layout.device bit → some_piece (piece_sets (OfTile bit)) (all_tile_pieces image) ≡ true → bit_of image (OfTile bit) ≡ true
 tiles-set image bit is sets =
     let test = piece_sets (OfTile bit) in
-    let row = gathered-place test (grid_height image.device) (row_pieces image) sets in
-    let tile = gathered-place test (grid_width image.device) (grid_pieces image row.0) row.2 in
-    kind-sets image tile.0 row.0 bit (kind_of image.device tile.0 row.0) is tile.2
+    let row = gathered-place test (grid_height image.layout.device) (row_pieces image) sets in
+    let tile = gathered-place test (grid_width image.layout.device) (grid_pieces image row.0) row.2 in
+    kind-sets image tile.0 row.0 bit (kind_of image.layout.device tile.0 row.0) is tile.2
 
 -- and each such bit of theirs
-pub tiles-set_at : (image : Configuration) (bit : TileBit) → IsTileBit image.device bit → bit_of image (OfTile bit) ≡ true → some_piece (piece_sets (OfTile bit)) (all_tile_pieces image) ≡ true
+pub tiles-set_at : (image : Configuration) (bit : TileBit) → IsTileBit image.layout.device bit → bit_of image (OfTile bit) ≡ true → some_piece (piece_sets (OfTile bit)) (all_tile_pieces image) ≡ true
 tiles-set_at image bit is set =
     let test = piece_sets (OfTile bit) in
-    let inside = columns_at-in image.device bit.x bit.y bit.col is.col_in in
-    gathered-at test (grid_height image.device) bit.y (row_pieces image) inside.1
-    (gathered-at test (grid_width image.device) bit.x (grid_pieces image bit.y) inside.0
-    (kind-sets_at image bit (kind_of image.device bit.x bit.y) refl is set))
+    let inside = columns_at-in image.layout.device bit.x bit.y bit.col is.col_in in
+    gathered-at test (grid_height image.layout.device) bit.y (row_pieces image) inside.1
+    (gathered-at test (grid_width image.layout.device) bit.x (grid_pieces image bit.y) inside.0
+    (kind-sets_at image bit (kind_of image.layout.device bit.x bit.y) refl is set))
 
 -- and no extra bit
 pub tiles-set_no_extra : (image : Configuration) (at : Place) → some_piece (piece_sets (Extra at)) (all_tile_pieces image) ≡ false
 tiles-set_no_extra image at =
     let test = piece_sets (Extra at) in
-    gathered-none test (grid_height image.device) (row_pieces image) (λ y row.
-    gathered-none test (grid_width image.device) (grid_pieces image y) (λ x column.
-    kind-no_extra image x y at (kind_of image.device x y)))
+    gathered-none test (grid_height image.layout.device) (row_pieces image) (λ y row.
+    gathered-none test (grid_width image.layout.device) (grid_pieces image y) (λ x column.
+    kind-no_extra image x y at (kind_of image.layout.device x y)))
 
 -- ---- extra bits
 
@@ -206,7 +206,7 @@ extras-set image at sets =
     ap (λ at. bit_of image (Extra at)) (sym same) ∙ (set_extras-in image found.0 found.1).1
 
 -- and each such bit that is no tile's
-pub extras-set_at : (image : Configuration) (at : Place) → is_extra image.device at ≡ true → bit_of image (Extra at) ≡ true → some_piece (piece_sets (Extra at)) (all_extra_pieces image) ≡ true
+pub extras-set_at : (image : Configuration) (at : Place) → is_extra image.layout.device at ≡ true → bit_of image (Extra at) ≡ true → some_piece (piece_sets (Extra at)) (all_extra_pieces image) ≡ true
 extras-set_at image at extra bit =
     extras-at (piece_sets (Extra at)) (set_extras image) at (set_extras-at image at extra bit) (extra-sets at at ∙ is_same_place-self at)
 

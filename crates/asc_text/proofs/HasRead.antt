@@ -43,9 +43,9 @@ device_known (Some image) = Some (device_of image)
 
 -- the image has the bits that the lines before a line set
 pub record HasBits (lines : List (List ℕ)) (n : ℕ) (image : AnyImage) : Type 0 where
-  pub device : (configuration_of image).device ≡ device_of image
+  pub device : (configuration_of image).layout.device ≡ device_of image
   pub whole : IsWhole (configuration_of image)
-  pub bits : (bit : Bit) → IsBit (configuration_of image).device bit → bit_of (configuration_of image) bit ≡ is_set_before lines n bit
+  pub bits : (bit : Bit) → IsBit (configuration_of image).layout.device bit → bit_of (configuration_of image) bit ≡ is_set_before lines n bit
 
 -- no line before a line sets a bit
 abbrev pub SetsNone : List (List ℕ) → ℕ → Type 0

@@ -13,7 +13,8 @@ use Rattle.ice_image.specs.declared.settings.Range.{Range}
 use Rattle.ice_image.specs.declared.settings.Range.TheVariants.{Low, Medium, High}
 use Rattle.asc_text.specs.declared.statement.Statement.{Statement}
 use Rattle.asc_text.specs.declared.statement.Statement.TheVariants.{Comment, Device, WarmBoot, FrequencyRange, NoSleep, Tile, RamData, ExtraBit}
-use Rattle.asc_text.specs.Statements.{device_word, switch_word, range_word, comment_keyword, device_keyword, warm_boot_keyword, range_keyword, no_sleep_keyword}
+use Rattle.plane_map.specs.DeviceWords.{device_word}
+use Rattle.asc_text.specs.Statements.{switch_word, range_word, comment_keyword, device_keyword, warm_boot_keyword, range_keyword, no_sleep_keyword}
 use Rattle.asc_text.specs.Blocks.{device_in, has_rows, is_comment}
 use Rattle.asc_text.specs.Faults.{is_warm_boot, is_range, is_no_sleep}
 use Rattle.asc_text.specs.Meaning.{warm_boot_in, range_in, no_sleep_in}
@@ -253,8 +254,8 @@ pub places-none : (test : Option Statement → Bool) → FailsPlaces test → (i
 places-none test fails image =
     let passes : Piece → Bool = λ piece. test (Some piece.statement) in
     append-none passes (all_tile_pieces image) (all_extra_pieces image)
-    (gathered-none passes (grid_height image.device) (row_pieces image) (λ y within.
-    gathered-none passes (grid_width image.device) (grid_pieces image y) (λ x inside. kind-none test fails image x y (kind_of image.device x y))))
+    (gathered-none passes (grid_height image.layout.device) (row_pieces image) (λ y within.
+    gathered-none passes (grid_width image.layout.device) (grid_pieces image y) (λ x inside. kind-none test fails image x y (kind_of image.layout.device x y))))
     (extras-none passes (set_extras image) (λ at. fails.extra at.bank at.px at.py))
 
 -- nothing that such statements give
@@ -278,8 +279,8 @@ places-give given gives image =
     let given' = λ (piece : Piece). given (Some piece.statement) in
     first_piece-append given' (all_tile_pieces image) (all_extra_pieces image)
     ∙ (λ i. or_else
-    (first-none given' (grid_height image.device) (row_pieces image) (λ y within.
-    first-none given' (grid_width image.device) (grid_pieces image y) (λ x inside. kind-gives given gives image x y (kind_of image.device x y))) i)
+    (first-none given' (grid_height image.layout.device) (row_pieces image) (λ y within.
+    first-none given' (grid_width image.layout.device) (grid_pieces image y) (λ x inside. kind-gives given gives image x y (kind_of image.layout.device x y))) i)
     (extras-give given' (set_extras image) (λ at. gives.extra at.bank at.px at.py) i))
 
 -- nor does the comment

@@ -19,7 +19,8 @@ use Rattle.plane_map.specs.declared.tile.TileKind.{TileKind}
 use Rattle.plane_map.specs.declared.tile.TileKind.TheVariants.{RamB}
 use Rattle.ice_image.specs.Bits.{tile_bit_of}
 use Rattle.ice_image.specs.Configuration.{Configuration}
-use Rattle.asc_text.specs.Statements.{tile_keyword, device_keyword, device_word}
+use Rattle.plane_map.specs.DeviceWords.{device_word}
+use Rattle.asc_text.specs.Statements.{tile_keyword, device_keyword}
 use Rattle.asc_text.specs.Canonical.{with_word, comment_lines, warm_boot_lines, range_lines, no_sleep_lines, all_tile_lines, all_extra_lines, canonical_lines, asc_text_of, bit_character, row_line, grid_line, tile_lines, ram_lines, lines_of_tile_at}
 
 -- ---- lines
@@ -137,30 +138,30 @@ rows-more old now after width row bit so_far next =
 
 module _ (device : DeviceName) (x y : ℕ) where
   -- a statement and all rows
-  pub tile-written : (image : Configuration) (kind : TileKind) (old middle after : List ℕ) (width row : ℕ) → image.device ≡ device → kind_of device x y ≡ Some kind → width ≡ columns_of kind → row ≡ 16 → middle ≡ old ++ text_of (grid_line (tile_keyword kind) x y ∷ []) → after ≡ middle ++ text_of (map row_line (rows_from width row (λ col row. tile_bit_of image x y row col))) → after ≡ old ++ text_of (tile_lines image x y kind)
+  pub tile-written : (image : Configuration) (kind : TileKind) (old middle after : List ℕ) (width row : ℕ) → image.layout.device ≡ device → kind_of device x y ≡ Some kind → width ≡ columns_of kind → row ≡ 16 → middle ≡ old ++ text_of (grid_line (tile_keyword kind) x y ∷ []) → after ≡ middle ++ text_of (map row_line (rows_from width row (λ col row. tile_bit_of image x y row col))) → after ≡ old ++ text_of (tile_lines image x y kind)
   tile-written image kind old middle after width row same there wide last statement rows =
       let bit : ℕ → ℕ → Bool = λ col row. tile_bit_of image x y row col in
-      let wide_there : width ≡ columns_at image.device x y = wide ∙ ap columns_in (sym there) ∙ ap (λ d. columns_at d x y) (sym same) in
-      lines-joined old middle after (grid_line (tile_keyword kind) x y ∷ []) (map row_line (rows_from (columns_at image.device x y) 16 bit)) statement (rows ∙ ap (λ n. middle ++ text_of (map row_line (rows_from n row bit))) wide_there ∙ ap (λ n. middle ++ text_of (map row_line (rows_from (columns_at image.device x y) n bit))) last)
+      let wide_there : width ≡ columns_at image.layout.device x y = wide ∙ ap columns_in (sym there) ∙ ap (λ d. columns_at d x y) (sym same) in
+      lines-joined old middle after (grid_line (tile_keyword kind) x y ∷ []) (map row_line (rows_from (columns_at image.layout.device x y) 16 bit)) statement (rows ∙ ap (λ n. middle ++ text_of (map row_line (rows_from n row bit))) wide_there ∙ ap (λ n. middle ++ text_of (map row_line (rows_from (columns_at image.layout.device x y) n bit))) last)
 
   -- nothing where no tile is
-  pub none-written : (image : Configuration) (text : List ℕ) → image.device ≡ device → kind_of device x y ≡ None → text ≡ text ++ text_of (lines_of_tile_at image x y (kind_of image.device x y))
+  pub none-written : (image : Configuration) (text : List ℕ) → image.layout.device ≡ device → kind_of device x y ≡ None → text ≡ text ++ text_of (lines_of_tile_at image x y (kind_of image.layout.device x y))
   none-written image text same there =
-      nothing-written text (lines_of_tile_at image x y (kind_of image.device x y)) (ap (lines_of_tile_at image x y) (ap (λ device. kind_of device x y) same ∙ there))
+      nothing-written text (lines_of_tile_at image x y (kind_of image.layout.device x y)) (ap (lines_of_tile_at image x y) (ap (λ device. kind_of device x y) same ∙ there))
 
   -- a lower tile and its RAM's contents
-  pub ram_tile-written : (image : Configuration) (old middle after : List ℕ) → image.device ≡ device → kind_of device x y ≡ Some RamB → middle ≡ old ++ text_of (tile_lines image x y RamB) → after ≡ middle ++ text_of (ram_lines image x y) → after ≡ old ++ text_of (lines_of_tile_at image x y (kind_of image.device x y))
+  pub ram_tile-written : (image : Configuration) (old middle after : List ℕ) → image.layout.device ≡ device → kind_of device x y ≡ Some RamB → middle ≡ old ++ text_of (tile_lines image x y RamB) → after ≡ middle ++ text_of (ram_lines image x y) → after ≡ old ++ text_of (lines_of_tile_at image x y (kind_of image.layout.device x y))
   ram_tile-written image old middle after same there tile ram =
       lines-joined old middle after (tile_lines image x y RamB) (ram_lines image x y) tile ram ∙ ap (λ kind. old ++ text_of (lines_of_tile_at image x y kind)) (sym there ∙ ap (λ device. kind_of device x y) (sym same))
 
 -- ---- the whole
 
 -- the parts of a text, one behind the other, are the text
-pub text-written : (image : Configuration) (start comment device warm_boot range no_sleep tiles extras : List ℕ) → start ≡ [] → comment ≡ start ++ text_of (comment_lines image.comment) → device ≡ comment ++ text_of (with_word device_keyword (device_word image.device) ∷ []) → warm_boot ≡ device ++ text_of (warm_boot_lines image.settings.warm_boot) → range ≡ warm_boot ++ text_of (range_lines image.settings.range) → no_sleep ≡ range ++ text_of (no_sleep_lines image.settings.no_sleep) → tiles ≡ no_sleep ++ text_of (all_tile_lines image) → extras ≡ tiles ++ text_of (all_extra_lines image) → extras ≡ asc_text_of image
+pub text-written : (image : Configuration) (start comment device warm_boot range no_sleep tiles extras : List ℕ) → start ≡ [] → comment ≡ start ++ text_of (comment_lines image.comment) → device ≡ comment ++ text_of (with_word device_keyword (device_word image.layout.device) ∷ []) → warm_boot ≡ device ++ text_of (warm_boot_lines image.settings.warm_boot) → range ≡ warm_boot ++ text_of (range_lines image.settings.range) → no_sleep ≡ range ++ text_of (no_sleep_lines image.settings.no_sleep) → tiles ≡ no_sleep ++ text_of (all_tile_lines image) → extras ≡ tiles ++ text_of (all_extra_lines image) → extras ≡ asc_text_of image
 unfolding canonical_lines asc_text_of
 text-written image start comment device warm_boot range no_sleep tiles extras start_is comment_is device_is warm_boot_is range_is no_sleep_is tiles_are extras_are =
     let one : comment ≡ [] ++ text_of (comment_lines image.comment) = comment_is ∙ ap (λ text. text ++ text_of (comment_lines image.comment)) start_is in
-    let two = lines-joined [] comment device (comment_lines image.comment) (with_word device_keyword (device_word image.device) ∷ []) one device_is in
+    let two = lines-joined [] comment device (comment_lines image.comment) (with_word device_keyword (device_word image.layout.device) ∷ []) one device_is in
     let three = lines-joined [] device warm_boot _ (warm_boot_lines image.settings.warm_boot) two warm_boot_is in
     let four = lines-joined [] warm_boot range _ (range_lines image.settings.range) three range_is in
     let five = lines-joined [] range no_sleep _ (no_sleep_lines image.settings.no_sleep) four no_sleep_is in

@@ -121,14 +121,14 @@ kind_pieces image x y (Some RamT) = tile_piece image x y RamT ∷ []
 
 -- those of a place of the grid
 abbrev pub grid_pieces : Configuration → ℕ → ℕ → List Piece
-grid_pieces image y x = kind_pieces image x y (kind_of image.device x y)
+grid_pieces image y x = kind_pieces image x y (kind_of image.layout.device x y)
 
 -- those of a row of the grid
 abbrev pub row_pieces : Configuration → ℕ → List Piece
-row_pieces image y = gathered_below (grid_width image.device) (grid_pieces image y)
+row_pieces image y = gathered_below (grid_width image.layout.device) (grid_pieces image y)
 
 abbrev pub all_tile_pieces : Configuration → List Piece
-all_tile_pieces image = gathered_below (grid_height image.device) (row_pieces image)
+all_tile_pieces image = gathered_below (grid_height image.layout.device) (row_pieces image)
 
 -- the lines of a place of the grid
 kind-lines : (image : Configuration) (x y : ℕ) (kind : Option TileKind) → all_lines (kind_pieces image x y kind) ≡ lines_of_tile_at image x y kind
@@ -142,23 +142,23 @@ kind-lines image x y (Some RamT) = append-nil (tile_lines image x y RamT)
 -- their lines are those of all tiles
 pub tile-lines : (image : Configuration) → all_lines (all_tile_pieces image) ≡ all_tile_lines image
 tile-lines image =
-    all_lines-gathered (grid_height image.device) (row_pieces image)
-    ∙ gathered_below-same (grid_height image.device) (λ y. all_lines (row_pieces image y)) (λ y. gathered_below (grid_width image.device) (λ x. lines_of_tile_at image x y (kind_of image.device x y))) (λ y within.
-    all_lines-gathered (grid_width image.device) (grid_pieces image y)
-    ∙ gathered_below-same (grid_width image.device) (λ x. all_lines (grid_pieces image y x)) (λ x. lines_of_tile_at image x y (kind_of image.device x y)) (λ x inside. kind-lines image x y (kind_of image.device x y)))
+    all_lines-gathered (grid_height image.layout.device) (row_pieces image)
+    ∙ gathered_below-same (grid_height image.layout.device) (λ y. all_lines (row_pieces image y)) (λ y. gathered_below (grid_width image.layout.device) (λ x. lines_of_tile_at image x y (kind_of image.layout.device x y))) (λ y within.
+    all_lines-gathered (grid_width image.layout.device) (grid_pieces image y)
+    ∙ gathered_below-same (grid_width image.layout.device) (λ x. all_lines (grid_pieces image y x)) (λ x. lines_of_tile_at image x y (kind_of image.layout.device x y)) (λ x inside. kind-lines image x y (kind_of image.layout.device x y)))
 
 -- ---- a tile is right
 
 -- row r of a written tile
 pub tile-row : (image : Configuration) (x y r : ℕ) → r < 16
-    → line_at (map row_line (tile_of image x y)) r ≡ row_line (row_from (columns_at image.device x y) (λ col. tile_bit_of image x y r col))
+    → line_at (map row_line (tile_of image x y)) r ≡ row_line (row_from (columns_at image.layout.device x y) (λ col. tile_bit_of image x y r col))
 tile-row image x y r within =
-    get_or-map row_line (tile_of image x y) r [] [] (omega (arith, length-rows_from (columns_at image.device x y) 16 (λ col row. tile_bit_of image x y row col)))
-    ∙ ap row_line (row_at-rows_from (columns_at image.device x y) 16 (λ col row. tile_bit_of image x y row col) r within)
+    get_or-map row_line (tile_of image x y) r [] [] (omega (arith, length-rows_from (columns_at image.layout.device x y) 16 (λ col row. tile_bit_of image x y row col)))
+    ∙ ap row_line (row_at-rows_from (columns_at image.layout.device x y) 16 (λ col row. tile_bit_of image x y row col) r within)
 
 -- a written tile has sixteen rows
 pub tile-count : (image : Configuration) (x y : ℕ) → length (map row_line (tile_of image x y)) ≡ 16
-tile-count image x y = length-map (tile_of image x y) row_line ∙ length-rows_from (columns_at image.device x y) 16 (λ col row. tile_bit_of image x y row col)
+tile-count image x y = length-map (tile_of image x y) row_line ∙ length-rows_from (columns_at image.layout.device x y) 16 (λ col row. tile_bit_of image x y row col)
 
 -- rows have no byte below the space
 plain-rows : (rows : Rows) → All IsPlain (map row_line rows)
@@ -185,8 +185,8 @@ same_kind RamB = refl
 same_kind RamT = refl
 
 -- a written tile is right where none of its place stands before it
-pub tile-fine : (image : Configuration) (x y : ℕ) (kind : TileKind) (past : List Piece) → x < 1000000000 → y < 1000000000 → kind_of image.device x y ≡ Some kind
-    → Knows image.device past → some_statement (names_tile x y) past ≡ false → IsFine past (tile_piece image x y kind)
+pub tile-fine : (image : Configuration) (x y : ℕ) (kind : TileKind) (past : List Piece) → x < 1000000000 → y < 1000000000 → kind_of image.layout.device x y ≡ Some kind
+    → Knows image.layout.device past → some_statement (names_tile x y) past ≡ false → IsFine past (tile_piece image x y kind)
 tile-fine image x y kind past small_x small_y is knows new = record {
   is = tile-is image x y kind small_x small_y;
   cause =
@@ -195,8 +195,8 @@ tile-fine image x y kind past small_x small_y is knows new = record {
       ∙ ap (λ same. or_else (cause_if (not same) (Kind kind)) None) (same_kind kind);
   rows = λ r within.
       let inside : r < 16 = omega (arith, tile-count image x y) in
-      let bits = row_from (columns_at image.device x y) (λ col. tile_bit_of image x y r col) in
-      let wide : length bits ≡ columns_of kind = length-row_from (columns_at image.device x y) (λ col. tile_bit_of image x y r col) ∙ ap columns_in is in
+      let bits = row_from (columns_at image.layout.device x y) (λ col. tile_bit_of image x y r col) in
+      let wide : length bits ≡ columns_of kind = length-row_from (columns_at image.layout.device x y) (λ col. tile_bit_of image x y r col) ∙ ap columns_in is in
       ap (λ line. cause_if (not (is_row (columns_of kind) line)) Row) (ap trimmed (tile-row image x y r inside) ∙ trimmed-row_line bits)
       ∙ ap (λ good. cause_if (not good) Row) (is_row-row_line bits (columns_of kind) wide);
 }
@@ -259,8 +259,8 @@ ram-row image x y r within =
     ap trimmed (line_at-single 16 (memory_line image x y) r within) ∙ trimmed-encoded (words_bytes 16 (line_word image x y r)) (line-bytes image x y r)
 
 -- they are right where none of that RAM stand before them
-pub ram-fine : (image : Configuration) (x y : ℕ) (past : List Piece) → x < 1000000000 → y < 1000000000 → kind_of image.device x y ≡ Some RamB
-    → Knows image.device past → some_statement (names_ram x y) past ≡ false → IsFine past (ram_piece image x y)
+pub ram-fine : (image : Configuration) (x y : ℕ) (past : List Piece) → x < 1000000000 → y < 1000000000 → kind_of image.layout.device x y ≡ Some RamB
+    → Knows image.layout.device past → some_statement (names_ram x y) past ≡ false → IsFine past (ram_piece image x y)
 ram-fine image x y past small_x small_y is knows new = record {
   is = ram-is image x y small_x small_y;
   cause =
@@ -281,9 +281,9 @@ grid-small K1 x y inside within = (omega arith, omega arith)
 grid-small K8 x y inside within = (omega arith, omega arith)
 
 -- the pieces of a place of the grid are right where none of that place stands before them
-pub kind-fine : (image : Configuration) (x y : ℕ) (past : List Piece) → x < 1000000000 → y < 1000000000 → Knows image.device past
+pub kind-fine : (image : Configuration) (x y : ℕ) (past : List Piece) → x < 1000000000 → y < 1000000000 → Knows image.layout.device past
     → some_statement (names_tile x y) past ≡ false → some_statement (names_ram x y) past ≡ false
-    → (kind : Option TileKind) → kind_of image.device x y ≡ kind → AreFine past (kind_pieces image x y kind)
+    → (kind : Option TileKind) → kind_of image.layout.device x y ≡ kind → AreFine past (kind_pieces image x y kind)
 unfolding AreFine
 kind-fine image x y past small_x small_y knows tile ram None is = tt
 kind-fine image x y past small_x small_y knows tile ram (Some Io) is = (tile-fine image x y Io past small_x small_y is knows tile, tt)
@@ -292,7 +292,7 @@ kind-fine image x y past small_x small_y knows tile ram (Some RamB) is =
     let first = tile_piece image x y RamB in (
       tile-fine image x y RamB past small_x small_y is knows tile,
       (
-        ram-fine image x y (past ++ first ∷ []) small_x small_y is (Knows-more image.device past (first ∷ []) knows)
+        ram-fine image x y (past ++ first ∷ []) small_x small_y is (Knows-more image.layout.device past (first ∷ []) knows)
             (append-none (λ piece. names_ram x y (Some piece.statement)) past (first ∷ []) ram (some_piece-one (λ piece. names_ram x y (Some piece.statement)) first)),
         tt,
       ),
@@ -327,24 +327,24 @@ before-none image past x y test other none =
     append-none passes (past ++ gathered_below y (row_pieces image)) (gathered_below x (grid_pieces image y))
     (append-none passes past (gathered_below y (row_pieces image)) none
     (gathered-none passes y (row_pieces image) (λ y' below.
-    gathered-none passes (grid_width image.device) (grid_pieces image y') (λ x' inside.
-    other x' y' (kind_of image.device x' y') (and_right (x' == x) (y' == y) (ne_eqb y' y (λ e. omega arith)))))))
+    gathered-none passes (grid_width image.layout.device) (grid_pieces image y') (λ x' inside.
+    other x' y' (kind_of image.layout.device x' y') (and_right (x' == x) (y' == y) (ne_eqb y' y (λ e. omega arith)))))))
     (gathered-none passes x (grid_pieces image y) (λ x' below.
-    other x' y (kind_of image.device x' y) (and_left (x' == x) (y == y) (ne_eqb x' x (λ e. omega arith)))))
+    other x' y (kind_of image.layout.device x' y) (and_left (x' == x) (y == y) (ne_eqb x' x (λ e. omega arith)))))
 
 -- all tiles are right behind pieces that name the device, and no tile
-pub tiles-fine : (image : Configuration) (past : List Piece) → Knows image.device past
+pub tiles-fine : (image : Configuration) (past : List Piece) → Knows image.layout.device past
     → ((x y : ℕ) → some_statement (names_tile x y) past ≡ false) → ((x y : ℕ) → some_statement (names_ram x y) past ≡ false)
     → AreFine past (all_tile_pieces image)
 tiles-fine image past knows tile ram =
-    AreFine-gathered past (grid_height image.device) (row_pieces image) (λ y within.
-    AreFine-gathered (past ++ gathered_below y (row_pieces image)) (grid_width image.device) (grid_pieces image y) (λ x inside.
-    let small = grid-small image.device x y inside within in
+    AreFine-gathered past (grid_height image.layout.device) (row_pieces image) (λ y within.
+    AreFine-gathered (past ++ gathered_below y (row_pieces image)) (grid_width image.layout.device) (grid_pieces image y) (λ x inside.
+    let small = grid-small image.layout.device x y inside within in
     kind-fine image x y ((past ++ gathered_below y (row_pieces image)) ++ gathered_below x (grid_pieces image y)) small.0 small.1
-    (Knows-more image.device (past ++ gathered_below y (row_pieces image)) (gathered_below x (grid_pieces image y)) (Knows-more image.device past (gathered_below y (row_pieces image)) knows))
+    (Knows-more image.layout.device (past ++ gathered_below y (row_pieces image)) (gathered_below x (grid_pieces image y)) (Knows-more image.layout.device past (gathered_below y (row_pieces image)) knows))
     (before-none image past x y (names_tile x y) (kind-other_tile image x y) (tile x y))
     (before-none image past x y (names_ram x y) (kind-other_ram image x y) (ram x y))
-    (kind_of image.device x y) refl))
+    (kind_of image.layout.device x y) refl))
 
 -- ---- extra bits
 
@@ -433,5 +433,5 @@ extras-fine_of device (at ∷ places) past extra knows =
     (extra-fine device at past (extra at (first-in at places)) knows, extras-fine_of device places (past ++ extra_piece at ∷ []) (λ other is. extra other (other-in at places other is)) (Knows-more device past (extra_piece at ∷ []) knows))
 
 -- all extra bits are right behind pieces that name the device
-pub extras-fine : (image : Configuration) (past : List Piece) → Knows image.device past → AreFine past (all_extra_pieces image)
-extras-fine image past knows = extras-fine_of image.device (set_extras image) past (λ at is. (set_extras-in image at is).0) knows
+pub extras-fine : (image : Configuration) (past : List Piece) → Knows image.layout.device past → AreFine past (all_extra_pieces image)
+extras-fine image past knows = extras-fine_of image.layout.device (set_extras image) past (λ at is. (set_extras-in image at is).0) knows

@@ -16,7 +16,8 @@ use Rattle.ice_image.proofs.Bits.{image_from-is}
 use Rattle.ice_image.specs.declared.settings.Range.TheVariants.{Low}
 use Rattle.asc_text.specs.declared.statement.Statement.{Statement}
 use Rattle.asc_text.specs.declared.statement.Statement.TheVariants.{Comment, Device, WarmBoot, FrequencyRange, NoSleep, Tile, RamData, ExtraBit, Symbol}
-use Rattle.asc_text.specs.Statements.{device_word, device_keyword, begins_with_dot}
+use Rattle.plane_map.specs.DeviceWords.{device_word}
+use Rattle.asc_text.specs.Statements.{device_keyword, begins_with_dot}
 use Rattle.asc_text.specs.Blocks.{depth_at, statement_over, statement_at, is_comment, device_in, device_before}
 use Rattle.asc_text.specs.Faults.{names_tile, names_ram, cause_at, fault_with, tile_named, fault_at, asc_fault_of}
 use Rattle.asc_text.specs.Meaning.{is_set_before, comment_before, settings_before, image_before, symbol_in, symbols_before, image_for, asc_image_of, asc_symbols_of, AscMeans}
@@ -33,7 +34,7 @@ use Rattle.asc_text.proofs.CommentRead.{HasCommentLines, holds-start, plain-comm
 
 -- the pieces behind the comment
 abbrev body_pieces : Configuration → List Piece
-body_pieces image = head_pieces image.device image.settings.warm_boot image.settings.range image.settings.no_sleep ++ (all_tile_pieces image ++ all_extra_pieces image)
+body_pieces image = head_pieces image.layout.device image.settings.warm_boot image.settings.range image.settings.no_sleep ++ (all_tile_pieces image ++ all_extra_pieces image)
 
 -- all pieces, the comment's among them
 abbrev whole_pieces : Configuration → List Piece
@@ -51,7 +52,7 @@ joined a b c d e f g = simp append_assoc
 canonical-written : (image : Configuration) → canonical_lines image ≡ written_lines image
 unfolding canonical_lines
 canonical-written image =
-    let device = image.device in
+    let device = image.layout.device in
     let settings = image.settings in
     joined (comment_lines image.comment) (with_word device_keyword (device_word device) ∷ []) (warm_boot_lines settings.warm_boot) (range_lines settings.range) (no_sleep_lines settings.no_sleep) (all_tile_lines image) (all_extra_lines image)
     ∙ ap (λ lines. comment_lines image.comment ++ lines)
@@ -64,7 +65,7 @@ canonical-written image =
 -- all pieces are right, each behind those before it
 body-fine : (image : Configuration) → AreFine (comment_pieces image.comment) (body_pieces image)
 body-fine image =
-    let device = image.device in
+    let device = image.layout.device in
     let settings = image.settings in
     let start = comment_pieces image.comment in
     let head = head_pieces device settings.warm_boot settings.range settings.no_sleep in
@@ -113,14 +114,14 @@ same_tests false true to from = from refl
 same_tests false false to from = refl
 
 -- no piece before the tiles passes a test, so that some tile or some extra bit does where any piece does
-whole-some : (image : Configuration) (test : Piece → Bool) → FailsHead test image.device → some_piece test (whole_pieces image) ≡ (some_piece test (all_tile_pieces image) || some_piece test (all_extra_pieces image))
+whole-some : (image : Configuration) (test : Piece → Bool) → FailsHead test image.layout.device → some_piece test (whole_pieces image) ≡ (some_piece test (all_tile_pieces image) || some_piece test (all_extra_pieces image))
 whole-some image test fails =
     let settings = image.settings in
-    let head = head_pieces image.device settings.warm_boot settings.range settings.no_sleep in
+    let head = head_pieces image.layout.device settings.warm_boot settings.range settings.no_sleep in
     let places = all_tile_pieces image ++ all_extra_pieces image in
     ap (some_piece test) (sym (append_assoc (comment_pieces image.comment) head places))
     ∙ some_piece-append test (comment_pieces image.comment ++ head) places
-    ∙ (λ i. head-none test image.comment image.device settings.warm_boot settings.range settings.no_sleep fails i || some_piece-append test (all_tile_pieces image) (all_extra_pieces image) i)
+    ∙ (λ i. head-none test image.comment image.layout.device settings.warm_boot settings.range settings.no_sleep fails i || some_piece-append test (all_tile_pieces image) (all_extra_pieces image) i)
 
 -- the comment, the device and the settings set no bit
 bits-fail : (device : DeviceName) (bit : Bit) → FailsHead (piece_sets bit) device
@@ -128,12 +129,12 @@ unfolding piece_sets any_below
 bits-fail device bit = record { at_comment = refl; at_device = refl; at_warm_boot = refl; at_medium = refl; at_high = refl; at_no_sleep = refl }
 
 -- the pieces set the bits of the image
-bits-whole : (image : Configuration) (bit : Bit) → IsBit image.device bit → some_piece (piece_sets bit) (whole_pieces image) ≡ bit_of image bit
+bits-whole : (image : Configuration) (bit : Bit) → IsBit image.layout.device bit → some_piece (piece_sets bit) (whole_pieces image) ≡ bit_of image bit
 bits-whole image (OfTile bit) is =
     let test = piece_sets (OfTile bit) in
     let tiles = some_piece test (all_tile_pieces image) in
     let extras = some_piece test (all_extra_pieces image) in
-    whole-some image test (bits-fail image.device (OfTile bit))
+    whole-some image test (bits-fail image.layout.device (OfTile bit))
     ∙ same_tests (tiles || extras) (bit_of image (OfTile bit))
     (λ some. elim (or_cases tiles extras some) [
       | inl tile ↦ tiles-set image bit is tile
@@ -144,7 +145,7 @@ bits-whole image (OfWord bit) is =
     let test = piece_sets (OfWord bit) in
     let tiles = some_piece test (all_tile_pieces image) in
     let extras = some_piece test (all_extra_pieces image) in
-    whole-some image test (bits-fail image.device (OfWord bit))
+    whole-some image test (bits-fail image.layout.device (OfWord bit))
     ∙ same_tests (tiles || extras) (bit_of image (OfWord bit))
     (λ some. elim (or_cases tiles extras some) [
       | inl tile ↦ tiles-set_word image bit is tile
@@ -155,7 +156,7 @@ bits-whole image (Extra at) is =
     let test = piece_sets (Extra at) in
     let tiles = some_piece test (all_tile_pieces image) in
     let extras = some_piece test (all_extra_pieces image) in
-    whole-some image test (bits-fail image.device (Extra at))
+    whole-some image test (bits-fail image.layout.device (Extra at))
     ∙ same_tests (tiles || extras) (bit_of image (Extra at))
     (λ some. elim (or_cases tiles extras some) [
       | inl tile ↦ absurd (both_ways tiles (tiles-set_no_extra image at) tile)
@@ -191,26 +192,26 @@ none-at n k test within none = elim (cases_Bool (test k)) [
 ]
 
 -- a test that neither the settings nor the places pass
-some-none : (image : Configuration) (test : Option Statement → Bool) → FailsHead (λ piece. test (Some piece.statement)) image.device → FailsPlaces test → some_statement test (whole_pieces image) ≡ false
+some-none : (image : Configuration) (test : Option Statement → Bool) → FailsHead (λ piece. test (Some piece.statement)) image.layout.device → FailsPlaces test → some_statement test (whole_pieces image) ≡ false
 some-none image test fails fails' =
     let settings = image.settings in
     let passes : Piece → Bool = λ piece. test (Some piece.statement) in
-    let head = head_pieces image.device settings.warm_boot settings.range settings.no_sleep in
+    let head = head_pieces image.layout.device settings.warm_boot settings.range settings.no_sleep in
     let places = all_tile_pieces image ++ all_extra_pieces image in
     ap (some_piece passes) (sym (append_assoc (comment_pieces image.comment) head places))
-    ∙ append-none passes (comment_pieces image.comment ++ head) places (head-none passes image.comment image.device settings.warm_boot settings.range settings.no_sleep fails) (places-none test fails' image)
+    ∙ append-none passes (comment_pieces image.comment ++ head) places (head-none passes image.comment image.layout.device settings.warm_boot settings.range settings.no_sleep fails) (places-none test fails' image)
 
 -- ---- the whole
 
 -- the device is the image's
-device-whole : (image : Configuration) → HasCommentLines image.comment → device_before (written_lines image) (length (written_lines image)) ≡ Some image.device
+device-whole : (image : Configuration) → HasCommentLines image.comment → device_before (written_lines image) (length (written_lines image)) ≡ Some image.layout.device
 device-whole image has =
     let settings = image.settings in
-    let head = head_pieces image.device settings.warm_boot settings.range settings.no_sleep in
+    let head = head_pieces image.layout.device settings.warm_boot settings.range settings.no_sleep in
     let places = all_tile_pieces image ++ all_extra_pieces image in
     (holds-whole image has).device
     ∙ ap (λ pieces. first_statement device_in pieces) (sym (append_assoc (comment_pieces image.comment) head places))
-    ∙ Knows-more image.device (comment_pieces image.comment ++ head) places (head-knows image.comment image.device settings.warm_boot settings.range settings.no_sleep)
+    ∙ Knows-more image.layout.device (comment_pieces image.comment ++ head) places (head-knows image.comment image.layout.device settings.warm_boot settings.range settings.no_sleep)
 
 -- nothing is wrong with the end where the device is known
 cause-end : (lines : List (List ℕ)) (device : DeviceName) → depth_at lines (length lines) ≡ 0 → device_before lines (length lines) ≡ Some device → cause_at lines (length lines) ≡ None
@@ -227,7 +228,7 @@ sound-whole image has =
       | inl inside ↦ holds.sound k inside
       | inr end ↦
           let here : k ≡ length lines = omega arith in
-          ap (cause_at lines) here ∙ cause-end lines image.device holds.top (device-whole image has)
+          ap (cause_at lines) here ∙ cause-end lines image.layout.device holds.top (device-whole image has)
     ] in
     ap (λ cause. fault_with cause (k + 1) (tile_named (statement_over lines k))) sound)
 
@@ -252,7 +253,7 @@ unfolding all_lines
 line-behind image =
     let settings = image.settings in
     let rest = (warm_boot_pieces settings.warm_boot ++ (range_pieces settings.range ++ no_sleep_pieces settings.no_sleep)) ++ (all_tile_pieces image ++ all_extra_pieces image) in
-    ap begins_with_dot (get_or_at (comment_lines image.comment) (with_word device_keyword (device_word image.device)) (all_lines rest) [] (length (comment_lines image.comment)) refl)
+    ap begins_with_dot (get_or_at (comment_lines image.comment) (with_word device_keyword (device_word image.layout.device)) (all_lines rest) [] (length (comment_lines image.comment)) refl)
 
 -- there is one
 some-behind : (image : Configuration) → length (comment_lines image.comment) < length (written_lines image)
@@ -271,18 +272,18 @@ settings-whole : (image : Configuration) → HasCommentLines image.comment → s
 settings-whole image has =
     let settings = image.settings in
     let holds = holds-whole image has in
-    let read = settings-read image image.comment image.device settings.warm_boot settings.range settings.no_sleep in
+    let read = settings-read image image.comment image.layout.device settings.warm_boot settings.range settings.no_sleep in
     let warm_boot = ap (λ first. unwrap_or first true) holds.warm_boot ∙ read.warm_boot_is in
     let range = ap (λ first. unwrap_or first Low) holds.range ∙ read.range_is in
     let no_sleep = ap (λ first. unwrap_or first false) holds.no_sleep ∙ read.no_sleep_is in
     λ i. record { range = range i; warm_boot = warm_boot i; no_sleep = no_sleep i }
 
 -- what the lines configure is the image
-image-whole : (image : Configuration) → IsWhole image → HasCommentLines image.comment → image_before image.device (written_lines image) (length (written_lines image)) ≡ image
+image-whole : (image : Configuration) → IsWhole image → HasCommentLines image.comment → image_before image.layout.device (written_lines image) (length (written_lines image)) ≡ image
 image-whole image whole has =
     let lines = written_lines image in
     let holds = holds-whole image has in
-    sym (image_from-is image image.device (comment_before lines (length lines)) (settings_before lines (length lines)) (is_set_before lines (length lines)) whole refl (sym (comment-whole image has)) (sym (settings-whole image has))
+    sym (image_from-is image image.layout.device (comment_before lines (length lines)) (settings_before lines (length lines)) (is_set_before lines (length lines)) whole refl (sym (comment-whole image has)) (sym (settings-whole image has))
     (λ bit is. sym (holds.bits bit ∙ bits-whole image bit is)))
 
 -- they name nothing

@@ -22,7 +22,8 @@ use Rattle.plane_map.specs.declared.tile.Place.{Place}
 use Rattle.ice_image.specs.declared.settings.Range.TheVariants.{Medium, High}
 use Rattle.asc_text.specs.declared.statement.Statement.{Statement}
 use Rattle.asc_text.specs.declared.statement.Statement.TheVariants.{Device, WarmBoot, FrequencyRange, NoSleep, Tile, RamData, ExtraBit}
-use Rattle.asc_text.specs.Statements.{device_word, switch_word, range_word, device_keyword, warm_boot_keyword, range_keyword, no_sleep_keyword, tile_keyword, ram_data_keyword, extra_bit_keyword, tile_of_numbers, ram_data_of_numbers, extra_bit_of_numbers, spelled, statement_in, begins_with_dot}
+use Rattle.plane_map.specs.DeviceWords.{device_word}
+use Rattle.asc_text.specs.Statements.{switch_word, range_word, device_keyword, warm_boot_keyword, range_keyword, no_sleep_keyword, tile_keyword, ram_data_keyword, extra_bit_keyword, tile_of_numbers, ram_data_of_numbers, extra_bit_of_numbers, spelled, statement_in, begins_with_dot}
 use Rattle.asc_text.specs.Canonical.{with_word, grid_line, extra_line}
 
 -- a line says a statement, and has no byte below the space

@@ -41,7 +41,7 @@ word-bit image x y r index bit row_in index_in bit_in =
     ∙ word_bit-row_from (λ bit. word_bit_of image x y (16 * r + index) bit) bit bit_in
 
 -- a line of a RAM sets only bits that are set
-row-sets_word : (image : Configuration) (x y : ℕ) (at : WordBit) → IsWordBit image.device at → (r : ℕ) → r < 17
+row-sets_word : (image : Configuration) (x y : ℕ) (at : WordBit) → IsWordBit image.layout.device at → (r : ℕ) → r < 17
     → sets_bit (Some (RamData x y)) r (trimmed (line_at (piece_lines (ram_piece image x y)) r)) (OfWord at) ≡ true → bit_of image (OfWord at) ≡ true
 row-sets_word image x y at is zero within sets =
     absurd (both_ways (nat_lt 0 0) refl (and_parts (line_sets x y (0 - 1) (trimmed (line_at (piece_lines (ram_piece image x y)) 0)) (OfWord at)) (nat_lt 0 0) sets).1)
@@ -60,7 +60,7 @@ row-sets_word image x y at is (suc r) within sets =
     sym here ∙ sym (word-bit image x y r (at.word % 16) at.bit (omega arith) (omega arith) is.bit_in) ∙ inner.1
 
 -- the contents of a RAM set only bits that are set
-ram-sets_word : (image : Configuration) (x y : ℕ) (at : WordBit) → IsWordBit image.device at → piece_sets (OfWord at) (ram_piece image x y) ≡ true → bit_of image (OfWord at) ≡ true
+ram-sets_word : (image : Configuration) (x y : ℕ) (at : WordBit) → IsWordBit image.layout.device at → piece_sets (OfWord at) (ram_piece image x y) ≡ true → bit_of image (OfWord at) ≡ true
 unfolding piece_sets
 ram-sets_word image x y at is sets =
     let found = any_below-place (suc (length (ram_rows image x y)))
@@ -69,7 +69,7 @@ ram-sets_word image x y at is sets =
     row-sets_word image x y at is found.0 (omega (arith, found.1, length-single 16 (memory_line image x y))) found.2
 
 -- and each of its bits that is set
-ram-sets_word_at : (image : Configuration) (at : WordBit) → IsWordBit image.device at → bit_of image (OfWord at) ≡ true
+ram-sets_word_at : (image : Configuration) (at : WordBit) → IsWordBit image.layout.device at → bit_of image (OfWord at) ≡ true
     → piece_sets (OfWord at) (ram_piece image at.x at.y) ≡ true
 unfolding piece_sets
 ram-sets_word_at image at is set =
@@ -109,7 +109,7 @@ tile-none : (image : Configuration) (x y : ℕ) (kind : TileKind) (at : WordBit)
 tile-none image x y kind at = some_piece-one (piece_sets (OfWord at)) (tile_piece image x y kind) ∙ tile-sets_word image x y kind at
 
 -- they set only bits that are set
-kind-sets_word : (image : Configuration) (x y : ℕ) (at : WordBit) (kind : Option TileKind) → IsWordBit image.device at
+kind-sets_word : (image : Configuration) (x y : ℕ) (at : WordBit) (kind : Option TileKind) → IsWordBit image.layout.device at
     → some_piece (piece_sets (OfWord at)) (kind_pieces image x y kind) ≡ true → bit_of image (OfWord at) ≡ true
 kind-sets_word image x y at None is sets = absurd (both_ways (some_piece (piece_sets (OfWord at)) []) (some_piece-nothing (piece_sets (OfWord at))) sets)
 kind-sets_word image x y at (Some Io) is sets =
@@ -135,18 +135,18 @@ lower-in device x y is = grind (arith, nat_tests)
 -- ---- all of them
 
 -- the pieces of the tiles set only bits that are set
-pub tiles-set_word : (image : Configuration) (at : WordBit) → IsWordBit image.device at → some_piece (piece_sets (OfWord at)) (all_tile_pieces image) ≡ true → bit_of image (OfWord at) ≡ true
+pub tiles-set_word : (image : Configuration) (at : WordBit) → IsWordBit image.layout.device at → some_piece (piece_sets (OfWord at)) (all_tile_pieces image) ≡ true → bit_of image (OfWord at) ≡ true
 tiles-set_word image at is sets =
     let test = piece_sets (OfWord at) in
-    let row = gathered-place test (grid_height image.device) (row_pieces image) sets in
-    let tile = gathered-place test (grid_width image.device) (grid_pieces image row.0) row.2 in
-    kind-sets_word image tile.0 row.0 at (kind_of image.device tile.0 row.0) is tile.2
+    let row = gathered-place test (grid_height image.layout.device) (row_pieces image) sets in
+    let tile = gathered-place test (grid_width image.layout.device) (grid_pieces image row.0) row.2 in
+    kind-sets_word image tile.0 row.0 at (kind_of image.layout.device tile.0 row.0) is tile.2
 
 -- and each such bit
-pub tiles-set_word_at : (image : Configuration) (at : WordBit) → IsWordBit image.device at → bit_of image (OfWord at) ≡ true → some_piece (piece_sets (OfWord at)) (all_tile_pieces image) ≡ true
+pub tiles-set_word_at : (image : Configuration) (at : WordBit) → IsWordBit image.layout.device at → bit_of image (OfWord at) ≡ true → some_piece (piece_sets (OfWord at)) (all_tile_pieces image) ≡ true
 tiles-set_word_at image at is set =
     let test = piece_sets (OfWord at) in
-    let grid = lower-in image.device at.x at.y is.lower in
+    let grid = lower-in image.layout.device at.x at.y is.lower in
     let first = tile_piece image at.x at.y RamB in
     let second = ram_piece image at.x at.y in
     let here : some_piece test (grid_pieces image at.y at.x) ≡ true =
@@ -154,8 +154,8 @@ tiles-set_word_at image at is set =
     ∙ some_piece-append test (first ∷ []) (second ∷ [])
     ∙ or_right (some_piece test (first ∷ [])) (some_piece test (second ∷ [])) (some_piece-one test second ∙ ram-sets_word_at image at is set)
     in
-    gathered-at test (grid_height image.device) at.y (row_pieces image) grid.1
-    (gathered-at test (grid_width image.device) at.x (grid_pieces image at.y) grid.0 here)
+    gathered-at test (grid_height image.layout.device) at.y (row_pieces image) grid.1
+    (gathered-at test (grid_width image.layout.device) at.x (grid_pieces image at.y) grid.0 here)
 
 -- extra bits set none
 pub extras-set_no_word : (image : Configuration) (at : WordBit) → some_piece (piece_sets (OfWord at)) (all_extra_pieces image) ≡ false

@@ -11,7 +11,8 @@ use Rattle.ice_image.specs.Bits.{tile_of, ram_word_of, set_extras}
 use Rattle.ice_image.specs.Configuration.{Configuration}
 use Rattle.ice_image.specs.declared.settings.Range.{Range}
 use Rattle.ice_image.specs.declared.settings.Range.TheVariants.{Low, Medium, High}
-use Rattle.asc_text.specs.Statements.{device_word, switch_word, range_word, comment_keyword, device_keyword, warm_boot_keyword, range_keyword, no_sleep_keyword, tile_keyword, ram_data_keyword, extra_bit_keyword}
+use Rattle.plane_map.specs.DeviceWords.{device_word}
+use Rattle.asc_text.specs.Statements.{switch_word, range_word, comment_keyword, device_keyword, warm_boot_keyword, range_keyword, no_sleep_keyword, tile_keyword, ram_data_keyword, extra_bit_keyword}
 
 -- a line, a space and a word
 abbrev pub with_word : List ℕ → List ℕ → List ℕ
@@ -83,8 +84,8 @@ lines_of_tile_at image x y (Some RamT) = tile_lines image x y RamT
 -- all tiles, row of the grid by row of the grid
 abbrev pub all_tile_lines : Configuration → List (List ℕ)
 all_tile_lines image =
-    gathered_below (grid_height image.device) (λ y. gathered_below (grid_width image.device) (λ x.
-    lines_of_tile_at image x y (kind_of image.device x y)))
+    gathered_below (grid_height image.layout.device) (λ y. gathered_below (grid_width image.layout.device) (λ x.
+    lines_of_tile_at image x y (kind_of image.layout.device x y)))
 
 -- ---- extra bits
 
@@ -100,7 +101,7 @@ all_extra_lines image = map extra_line (set_extras image)
 unfoldable pub canonical_lines : Configuration → List (List ℕ)
 canonical_lines image =
     comment_lines image.comment
-    ++ with_word device_keyword (device_word image.device) ∷ []
+    ++ with_word device_keyword (device_word image.layout.device) ∷ []
     ++ warm_boot_lines image.settings.warm_boot
     ++ range_lines image.settings.range
     ++ no_sleep_lines image.settings.no_sleep

@@ -67,4 +67,4 @@ is_said lines (Extra at) = is_named_extra lines at
 -- Each bit of a tile is its character, each extra bit is 1 exactly where a statement names it, and each bit of a word is
 -- that of its digits.
 pub record HasBits (text : List ℕ) (image : Configuration) : Type 0 where
-  pub bits : (bit : Bit) → IsBit image.device bit → bit_of image bit ≡ is_said (lines_of text) bit
+  pub bits : (bit : Bit) → IsBit image.layout bit → bit_of image bit ≡ is_said (lines_of text) bit

@@ -17,6 +17,8 @@ use Rattle.asc_text.specs.declared.fault.AscFault.TheVariants.{At, Memory}
 use Rattle.asc_text.specs.Statements.{statement_in, begins_with_dot}
 use Rattle.asc_text.specs.Rows.{is_row, is_memory_line}
 use Rattle.asc_text.specs.Blocks.{depth_at, statement_over, statement_at, dot_before, is_comment, device_before}
+use Rattle.layout_file.specs.declared.layouts.Layouts.{Layouts}
+use Rattle.layout_file.specs.Layouts.{layout_for}
 use Rattle.ice_image.specs.Owned.{is_extra}
 
 -- a cause where a test passes
@@ -105,9 +107,10 @@ is_repeated lines n (RamData x y) = stands_before lines n (names_ram x y)
 is_repeated lines n statement = false
 
 -- a place outside the planes, or one that belongs to a tile
-abbrev pub extra_cause : Option DeviceName → Statement → Option AscCause
-extra_cause (Some device) (ExtraBit bank x y) = cause_if (not (is_extra device (record { bank = bank; px = x; py = y }))) ExtraPlace
-extra_cause device statement = None
+abbrev pub extra_cause : Layouts → Option DeviceName → Statement → Option AscCause
+extra_cause layouts (Some device) (ExtraBit bank x y) =
+    cause_if (not (is_extra (layout_for layouts device) (record { bank = bank; px = x; py = y }))) ExtraPlace
+extra_cause layouts device statement = None
 
 -- a word that is not a value of the setting
 abbrev pub setting_cause : Statement → Option AscCause
@@ -117,15 +120,15 @@ setting_cause (NoSleep None) = Some Setting
 setting_cause statement = None
 
 -- what is wrong with a statement: the first cause that holds
-abbrev pub statement_cause : List (List ℕ) → ℕ → Option Statement → Option AscCause
-statement_cause lines n None = Some StatementCause
-statement_cause lines n (Some statement) =
+abbrev pub statement_cause : Layouts → List (List ℕ) → ℕ → Option Statement → Option AscCause
+statement_cause layouts lines n None = Some StatementCause
+statement_cause layouts lines n (Some statement) =
     let device = device_before lines n in
     or_else (missing_device device statement)
     (or_else (unknown_device statement)
     (or_else (tile_cause device statement)
     (or_else (cause_if (is_repeated lines n statement) Repeated)
-    (or_else (extra_cause device statement)
+    (or_else (extra_cause layouts device statement)
     (setting_cause statement)))))
 
 -- ---- other lines
@@ -154,11 +157,11 @@ end_cause (Some device) = None
 -- ---- the whole
 
 -- What is wrong with a line, or, behind the last line, with the end.
-unfoldable pub cause_at : List (List ℕ) → ℕ → Option AscCause
-cause_at lines n =
+unfoldable pub cause_at : Layouts → List (List ℕ) → ℕ → Option AscCause
+cause_at layouts lines n =
     if nat_lt 0 (depth_at lines n) then row_cause (statement_over lines n) (trimmed (line_at lines n))
     else if nat_le (length lines) n then end_cause (device_before lines n)
-    else if begins_with_dot (line_at lines n) then statement_cause lines n (statement_in (line_at lines n))
+    else if begins_with_dot (line_at lines n) then statement_cause layouts lines n (statement_in (line_at lines n))
     else if is_in_comment lines (dot_before lines n) then comment_cause (line_at lines n)
     else stray_cause (line_at lines n)
 
@@ -179,12 +182,12 @@ fault_with None line tile = None
 fault_with (Some cause) line tile = Some (record { line = line; tile = tile; cause = cause })
 
 -- what is wrong with a line or the end, and where
-abbrev pub fault_at : List (List ℕ) → ℕ → Option Fault
-fault_at lines n = fault_with (cause_at lines n) (n + 1) (tile_named (statement_over lines n))
+abbrev pub fault_at : Layouts → List (List ℕ) → ℕ → Option Fault
+fault_at layouts lines n = fault_with (cause_at layouts lines n) (n + 1) (tile_named (statement_over lines n))
 
--- the fault of the first faulty line, or of the end
-unfoldable pub asc_fault_of : List ℕ → Option Fault
-asc_fault_of text = let lines = lines_of text in first_below (length lines + 1) (fault_at lines)
+-- the fault of the first faulty line, or of the end, under the layouts
+unfoldable pub asc_fault_of : Layouts → List ℕ → Option Fault
+asc_fault_of layouts text = let lines = lines_of text in first_below (length lines + 1) (fault_at layouts lines)
 
 -- a fault other than out of memory is that one
 abbrev pub Tells : Option Fault → AscFault → Type 0

@@ -5,6 +5,9 @@ use Rattle.text_lines.specs.Lines.{lines_of, line_at, trimmed}
 use Rattle.place_search.specs.Places.{any_below, last_below, first_below, gathered_below}
 use Rattle.plane_map.specs.declared.device.DeviceName.{DeviceName}
 use Rattle.plane_map.specs.declared.tile.Place.{Place}
+use Rattle.plane_map.specs.Layout.{Layout}
+use Rattle.layout_file.specs.declared.layouts.Layouts.{Layouts}
+use Rattle.layout_file.specs.Layouts.{layout_for}
 use Rattle.ice_image.specs.Configuration.{Configuration, usual_settings}
 use Rattle.ice_image.specs.Bits.{Bit, OfTile, OfWord, Extra, image_from}
 use Rattle.ice_image.specs.declared.settings.Settings.{Settings}
@@ -95,9 +98,9 @@ is_set_before lines n bit =
 
 -- ---- the whole
 
--- what the lines before a line configure, for a device
-abbrev pub image_before : DeviceName → List (List ℕ) → ℕ → Configuration
-image_before device lines n = image_from device (comment_before lines n) (settings_before lines n) (is_set_before lines n)
+-- what the lines before a line configure, under a layout
+abbrev pub image_before : Layout → List (List ℕ) → ℕ → Configuration
+image_before layout lines n = image_from layout (comment_before lines n) (settings_before lines n) (is_set_before lines n)
 
 -- the name that a line gives to a net
 abbrev pub symbol_in : Option Statement → List ℕ → List NetName
@@ -108,20 +111,20 @@ symbol_in statement line = []
 unfoldable pub symbols_before : List (List ℕ) → ℕ → List NetName
 symbols_before lines n = gathered_below n (λ k. symbol_in (statement_at lines k) (line_at lines k))
 
-abbrev pub image_for : Option DeviceName → List (List ℕ) → Option Configuration
-image_for None lines = None
-image_for (Some device) lines = Some (image_before device lines (length lines))
+abbrev pub image_for : Layouts → Option DeviceName → List (List ℕ) → Option Configuration
+image_for layouts None lines = None
+image_for layouts (Some device) lines = Some (image_before (layout_for layouts device) lines (length lines))
 
--- what a text configures, where it names a device
-unfoldable pub asc_image_of : List ℕ → Option Configuration
-asc_image_of text = let lines = lines_of text in image_for (device_before lines (length lines)) lines
+-- what a text configures under the layouts, where it names a device
+unfoldable pub asc_image_of : Layouts → List ℕ → Option Configuration
+asc_image_of layouts text = let lines = lines_of text in image_for layouts (device_before lines (length lines)) lines
 
 -- the names that a text gives to nets
 unfoldable pub asc_symbols_of : List ℕ → List NetName
 asc_symbols_of text = let lines = lines_of text in symbols_before lines (length lines)
 
--- The meaning of a text: no line is faulty, and this is what it configures and names.
-pub record AscMeans (text : List ℕ) (image : Configuration) (symbols : List NetName) : Type 0 where
-  pub accepted : asc_fault_of text ≡ None
-  pub configures : asc_image_of text ≡ Some image
+-- The meaning of a text under the layouts: no line is faulty, and this is what it configures and names.
+pub record AscMeans (layouts : Layouts) (text : List ℕ) (image : Configuration) (symbols : List NetName) : Type 0 where
+  pub accepted : asc_fault_of layouts text ≡ None
+  pub configures : asc_image_of layouts text ≡ Some image
   pub names : asc_symbols_of text ≡ symbols

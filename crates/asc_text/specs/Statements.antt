@@ -4,7 +4,7 @@ use Rattle.text_lines.specs.Lines.{trimmed}
 use Rattle.text_lines.specs.declared.words.Separators.TheVariants.{Spaces}
 use Rattle.text_lines.specs.Words.{words_of, first_word, behind_word, number_of, numbers_of}
 use Rattle.plane_map.specs.declared.device.DeviceName.{DeviceName}
-use Rattle.plane_map.specs.declared.device.DeviceName.TheVariants.{K1, K8}
+use Rattle.plane_map.specs.DeviceWords.{device_named}
 use Rattle.plane_map.specs.declared.tile.TileKind.{TileKind}
 use Rattle.plane_map.specs.declared.tile.TileKind.TheVariants.{Io, Logic, RamB, RamT}
 use Rattle.ice_image.specs.declared.settings.Range.{Range}
@@ -13,17 +13,6 @@ use Rattle.asc_text.specs.declared.statement.Statement.{Statement}
 use Rattle.asc_text.specs.declared.statement.Statement.TheVariants.{Comment, Device, WarmBoot, FrequencyRange, NoSleep, Tile, RamData, ExtraBit, Symbol}
 
 -- ---- words
-
-abbrev pub device_word : DeviceName → List ℕ
-device_word K1 = codes "1k"
-device_word K8 = codes "8k"
-
--- the device that a word names
-abbrev pub device_named : List ℕ → Option DeviceName
-device_named word =
-    if bytes_eq word (device_word K1) then Some K1
-    else if bytes_eq word (device_word K8) then Some K8
-    else None
 
 abbrev pub switch_word : Bool → List ℕ
 switch_word true = codes "enabled"

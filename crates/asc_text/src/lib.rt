@@ -9,7 +9,7 @@ mod writing;
 
 pub use fault::{AscCause, AscFault, TileXy};
 pub use file::{AscFile, ByteText, Symbol};
-pub use reading::read;
+pub use reading::{read, read_with};
 pub use writing::write;
 
 #[cfg(test)]

@@ -8,4 +8,4 @@ mod spelling;
 mod text;
 mod tile_set;
 
-pub use text::read;
+pub use text::{read, read_with};

@@ -74,7 +74,7 @@ spelled-woken bytes image place all front_is woken means =
     sym means
     ∙ ap (λ c. meaning (device_or (device_after c)) front c) woken.all_is
     ∙ ap (λ device. meaning (device_or device) front (commands ++ wake_up ∷ [])) (device_after-woken commands wake_up woken.wakes ∙ known.1) in
-    let device_is : known.0 ≡ image.device = sym (device-meant known.0 front (commands ++ wake_up ∷ [])) ∙ ap (λ (i : Configuration). i.device) (sym image_is) in
+    let device_is : known.0 ≡ image.layout.device = sym (device-meant known.0 front (commands ++ wake_up ∷ [])) ∙ ap (λ (i : Configuration). i.device) (sym image_is) in
     record {
       front = front;
       commands = commands;

@@ -177,9 +177,9 @@ spells_canonical image is lines =
       tail = 0 ∷ [];
       spelled_is = bytes-are image;
       front_is = subst (IsFront front) (sym parts) (front_place front rest (front-clear image.comment lines));
-      allowed = allowed image.device range_value (mode_bits image) (cram_bodies image) (bram_bodies image) (value_bytes image) (fit-is image is);
-      before = no_wake_up-before image.device range_value (mode_bits image) (cram_bodies image) (bram_bodies image) (value_bytes image);
+      allowed = allowed image.layout.device range_value (mode_bits image) (cram_bodies image) (bram_bodies image) (value_bytes image) (fit-is image is);
+      before = no_wake_up-before image.layout.device range_value (mode_bits image) (cram_bodies image) (bram_bodies image) (value_bytes image);
       last = refl;
-      device = device-after image.device range_value (mode_bits image) (cram_bodies image) (bram_bodies image) (value_bytes image);
+      device = device-after image.layout.device range_value (mode_bits image) (cram_bodies image) (bram_bodies image) (value_bytes image);
       means = sym (means-image image is lines);
     }

@@ -50,7 +50,7 @@ take-grown n start old more grown start-is above is =
     ap (take start) (is ∙ ap (λ kept. kept ++ more) (take_all n old (omega arith))) ∙ take_at old more start (sym start-is)
 
 -- a bank's plane is whole
-pub whole_rows : (kind : PlaneKind) (image : Configuration) (device : DeviceName) (bank : ℕ) → device ≡ image.device → IsWhole image → bank < 4 → IsGrid (plane_width kind device) (plane_height kind device) (rows_of_bank kind bank image)
+pub whole_rows : (kind : PlaneKind) (image : Configuration) (device : DeviceName) (bank : ℕ) → device ≡ image.layout.device → IsWhole image → bank < 4 → IsGrid (plane_width kind device) (plane_height kind device) (rows_of_bank kind bank image)
 whole_rows Cram image device bank same whole within =
     subst (λ (d : DeviceName). IsGrid (cram_width d) (cram_height d) (rows_of_bank Cram bank image)) (sym same) (whole.cram.grids bank within)
 whole_rows Bram image device bank same whole within =

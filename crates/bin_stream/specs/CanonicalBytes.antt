@@ -91,7 +91,7 @@ bram_bytes device planes =
 -- what the two bytes of the check are computed from: all behind the reset, the first byte of the check included
 unfoldable pub checked_bytes : Configuration → List ℕ
 checked_bytes c =
-    mode_command c.settings.warm_boot c.settings.no_sleep ++ cram_bytes c.device c.cram ++ bram_bytes c.device c.bram ++ check_head
+    mode_command c.settings.warm_boot c.settings.no_sleep ++ cram_bytes c.layout.device c.cram ++ bram_bytes c.layout.device c.bram ++ check_head
 
 -- a comment comes before the preamble, between FF 00 and 00 FF; each line ends with 00
 abbrev pub comment_bytes : Option (List (List ℕ)) → List ℕ

@@ -4,6 +4,7 @@ use Rattle.place_search.specs.Places.{last_below}
 use Rattle.bit_plane.specs.BitList.{bits_of}
 use Rattle.bit_plane.specs.Rows.{Rows, rows_from}
 use Rattle.plane_map.specs.declared.device.DeviceName.{DeviceName}
+use Rattle.plane_map.specs.Layout.{Layout}
 use Rattle.plane_map.specs.declared.tile.Place.{Place}
 use Rattle.ice_image.specs.Configuration.{Configuration}
 use Rattle.ice_image.specs.declared.settings.Settings.{Settings}
@@ -71,12 +72,12 @@ abbrev pub planes_of : DeviceName → PlaneKind → List Command → List Rows
 planes_of device kind commands =
     plane_of device kind commands 0 ∷ plane_of device kind commands 1 ∷ plane_of device kind commands 2 ∷ plane_of device kind commands 3 ∷ []
 
--- what a front and a device's commands configure
-unfoldable pub meaning : DeviceName → List ℕ → List Command → Configuration
-meaning device front commands = record {
-  device = device;
+-- what a front and the commands for a layout's device configure
+unfoldable pub meaning : Layout → List ℕ → List Command → Configuration
+meaning layout front commands = record {
+  layout = layout;
   comment = comment_of front;
   settings = settings_of commands;
-  cram = planes_of device Cram commands;
-  bram = planes_of device Bram commands;
+  cram = planes_of layout.device Cram commands;
+  bram = planes_of layout.device Bram commands;
 }

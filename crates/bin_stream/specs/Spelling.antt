@@ -2,6 +2,8 @@
 use Rattle.std.specs.Prelude.{◌≡◌, ℕ, zero, suc, ◌+◌, ◌/◌, ◌%◌, Bool, false, true, List, [], ◌∷◌, ◌++◌, length, take, drop, slice_get, Option, Some, None, Result, Ok, Err, All, ◌↔◌}
 use Rattle.plane_map.specs.declared.device.DeviceName.{DeviceName}
 use Rattle.plane_map.specs.declared.device.DeviceName.TheVariants.{K1}
+use Rattle.layout_file.specs.declared.layouts.Layouts.{Layouts}
+use Rattle.layout_file.specs.Layouts.{layout_for, HasLayout}
 use Rattle.ice_image.specs.Configuration.{Configuration}
 use Rattle.ice_image.specs.declared.planes.PlaneKind.{PlaneKind}
 use Rattle.bin_stream.specs.Commands.{Command, Short, Data, number_of, spelling, spelled, is_wake_up}
@@ -27,9 +29,9 @@ IsFront front bytes = preamble_offset bytes ≡ Some (length front)
 abbrev pub NoWakeUp : List Command → Type 0
 NoWakeUp commands = All (λ command. is_wake_up command ≡ false) commands
 
--- The bytes spell the image: a front, the preamble, allowed commands with a wake-up as the last of
+-- The bytes spell the image under the layouts: a front, the preamble, allowed commands with a wake-up as the last of
 -- them and nowhere before, and anything behind it.
-pub record Spells (bytes : List ℕ) (image : Configuration) : Type 0 where
+pub record Spells (layouts : Layouts) (bytes : List ℕ) (image : Configuration) : Type 0 where
   pub front : List ℕ
   pub commands : List Command
   pub wake_up : Command
@@ -39,8 +41,9 @@ pub record Spells (bytes : List ℕ) (image : Configuration) : Type 0 where
   pub allowed : IsAllowed (commands ++ wake_up ∷ [])
   pub before : NoWakeUp commands
   pub last : is_wake_up wake_up ≡ true
-  pub device : device_after commands ≡ Some image.device
-  pub means : image ≡ meaning image.device front (commands ++ wake_up ∷ [])
+  pub device : device_after commands ≡ Some image.layout.device
+  pub layout : HasLayout layouts image.layout
+  pub means : image ≡ meaning image.layout front (commands ++ wake_up ∷ [])
 
 -- The bytes have a fault: behind a front, the preamble and allowed commands without a wake-up, something is
 -- wrong with the first command of the rest. So no longer list of allowed commands is spelled there.
@@ -96,23 +99,23 @@ abbrev pub device_or : Option DeviceName → DeviceName
 device_or None = K1
 device_or (Some device) = device
 
-abbrev pub image_of : List ℕ → Result (List Command) Fault → Result Configuration Fault
-image_of front (Ok commands) = Ok (meaning (device_or (device_after commands)) front commands)
-image_of front (Err fault) = Err fault
+abbrev pub image_of : Layouts → List ℕ → Result (List Command) Fault → Result Configuration Fault
+image_of layouts front (Ok commands) = Ok (meaning (layout_for layouts (device_or (device_after commands))) front commands)
+image_of layouts front (Err fault) = Err fault
 
-abbrev pub read_behind : List ℕ → Option ℕ → Result Configuration Fault
-read_behind bytes None = Err (fault_at (length bytes) NoPreamble)
-read_behind bytes (Some offset) =
-    image_of (take offset bytes) (commands_from (length bytes + 1) [] (offset + 4) (drop (offset + 4) bytes))
+abbrev pub read_behind : Layouts → List ℕ → Option ℕ → Result Configuration Fault
+read_behind layouts bytes None = Err (fault_at (length bytes) NoPreamble)
+read_behind layouts bytes (Some offset) =
+    image_of layouts (take offset bytes) (commands_from (length bytes + 1) [] (offset + 4) (drop (offset + 4) bytes))
 
--- the image that bytes spell, or their fault
-unfoldable pub bin_read_of : List ℕ → Result Configuration Fault
-bin_read_of bytes = read_behind bytes (preamble_offset bytes)
+-- the image that bytes spell under the layouts, or their fault
+unfoldable pub bin_read_of : Layouts → List ℕ → Result Configuration Fault
+bin_read_of layouts bytes = read_behind layouts bytes (preamble_offset bytes)
 
 -- Each input has an image or a fault, not both, and only one: that which the program gives.
-pub record IsDecided (bytes : List ℕ) : Type 0 where
-  pub spelled : (image : Configuration) → Spells bytes image ↔ (bin_read_of bytes ≡ Ok image)
-  pub refused : (fault : Fault) → IsRefused bytes fault ↔ (bin_read_of bytes ≡ Err fault)
+pub record IsDecided (layouts : Layouts) (bytes : List ℕ) : Type 0 where
+  pub spelled : (image : Configuration) → Spells layouts bytes image ↔ (bin_read_of layouts bytes ≡ Ok image)
+  pub refused : (fault : Fault) → IsRefused bytes fault ↔ (bin_read_of layouts bytes ≡ Err fault)
 
 -- a fault other than out of memory is that one
 abbrev pub Tells : Result Configuration Fault → BinFault → Type 0

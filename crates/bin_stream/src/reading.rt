@@ -7,4 +7,4 @@ mod head;
 mod machine;
 mod registers;
 
-pub use decoder::decode;
+pub use decoder::{decode, decode_with};

@@ -31,14 +31,14 @@ flat_map-filter passes given (item ∷ items) =
 
 -- what used RAMs give is what their list gives
 over_rams-listed : {A : Type 0} (db : Database) (image : Configuration) (given : ℕ → ℕ → List A)
-    → over_rams db image given ≡ flat_map (λ (tile : TileXy8). given tile.x tile.y) (filter (λ (tile : TileXy8). is_ram_used db image tile.x tile.y) (tiles_of image.device RamB))
+    → over_rams db image given ≡ flat_map (λ (tile : TileXy8). given tile.x tile.y) (filter (λ (tile : TileXy8). is_ram_used db image tile.x tile.y) (tiles_of image.layout.device RamB))
 over_rams-listed db image given =
-    over_tiles-listed image.device RamB (λ x y. if is_ram_used db image x y then given x y else [])
-    ∙ flat_map-filter (λ (tile : TileXy8). is_ram_used db image tile.x tile.y) (λ (tile : TileXy8). given tile.x tile.y) (tiles_of image.device RamB)
+    over_tiles-listed image.layout.device RamB (λ x y. if is_ram_used db image x y then given x y else [])
+    ∙ flat_map-filter (λ (tile : TileXy8). is_ram_used db image tile.x tile.y) (λ (tile : TileXy8). given tile.x tile.y) (tiles_of image.layout.device RamB)
 
 -- the list of used RAMs
 abbrev pub AreUsed : Database → Configuration → List TileXy8 → Type 0
-AreUsed db image used = used ≡ filter (λ (tile : TileXy8). is_ram_used db image tile.x tile.y) (tiles_of image.device RamB)
+AreUsed db image used = used ≡ filter (λ (tile : TileXy8). is_ram_used db image tile.x tile.y) (tiles_of image.layout.device RamB)
 
 pub rams_listed : (db : Database) (image : Configuration) (used : List TileXy8) → AreUsed db image used
     → flat_map (λ (tile : TileXy8). ram_at db image tile.x tile.y ∷ []) used ≡ rams_of db image

@@ -32,7 +32,7 @@ pub fn rams(
     image: &AnyImage,
     links: &Links,
 ) -> Result<Vec<RamCell>, RamFault>
-    requires device { db.now.chip.device ≡ (configuration_of image.now).device }
+    requires device { db.now.chip.device ≡ (configuration_of image.now).layout.device }
     requires links { AreLinks (database_in db.now) (configuration_of image.now) links.now }
     ensures rams { IfOk result (λ rams. rams.items ≡ rams_of (database_in db.now) (configuration_of image.now)) }
     ensures taken { OnOk result (rams_fault (database_in db.now) (configuration_of image.now) ≡ None) }
@@ -51,7 +51,7 @@ fn rams_at(
     image: &AnyImage,
     used: &[TileXy8],
 ) -> Result<Vec<RamCell>, RamFault>
-    requires all { used.now ≡ filter (λ tile. is_ram_used (database_in db.now) (configuration_of image.now) tile.x tile.y) (tiles_of (configuration_of image.now).device RamB) }
+    requires all { used.now ≡ filter (λ tile. is_ram_used (database_in db.now) (configuration_of image.now) tile.x tile.y) (tiles_of (configuration_of image.now).layout.device RamB) }
     requires each { All (λ tile. HasRam image.now tile.x tile.y) used.now }
     ensures rams { IfOk result (λ rams. rams.items ≡ rams_of (database_in db.now) (configuration_of image.now)) }
     ensures taken { OnOk result (rams_fault (database_in db.now) (configuration_of image.now) ≡ None) }
@@ -63,7 +63,7 @@ fn rams_at(
 
 /// Whether all used RAMs are taken, or the first cause why they aren't.
 fn taken(db: &ChipDb, image: &AnyImage, used: &[TileXy8]) -> Result<(), RamFault>
-    requires all { used.now ≡ filter (λ tile. is_ram_used (database_in db.now) (configuration_of image.now) tile.x tile.y) (tiles_of (configuration_of image.now).device RamB) }
+    requires all { used.now ≡ filter (λ tile. is_ram_used (database_in db.now) (configuration_of image.now) tile.x tile.y) (tiles_of (configuration_of image.now).layout.device RamB) }
     requires each { All (λ tile. HasRam image.now tile.x tile.y) used.now }
     ensures taken { OnOk result (rams_fault (database_in db.now) (configuration_of image.now) ≡ None) }
     ensures refused { IfErr result (IsCause (rams_fault (database_in db.now) (configuration_of image.now))) }

@@ -5,7 +5,7 @@ use Rattle.std.specs.List.{list_all}
 use Rattle.text_lines.specs.Words.{numbers_of}
 use Rattle.plane_map.specs.Layout.{kind_of, columns_of, grid_width, grid_height}
 use Rattle.plane_map.specs.declared.device.DeviceName.{DeviceName}
-use Rattle.plane_map.specs.declared.device.DeviceName.TheVariants.{K1, K8}
+use Rattle.plane_map.specs.DeviceWords.{device_named}
 use Rattle.plane_map.specs.declared.tile.TileKind.{TileKind}
 use Rattle.plane_map.specs.declared.tile.TileKind.TheVariants.{Io, Logic, RamB, RamT}
 use Rattle.plane_map.specs.declared.tile.RowCol.{RowCol}
@@ -44,17 +44,6 @@ keyword_of word =
     else tile_keyword_of word
 
 -- ---- the device
-
-abbrev pub device_word : DeviceName → List ℕ
-device_word K1 = codes "1k"
-device_word K8 = codes "8k"
-
--- the device that a word names
-abbrev pub device_named : List ℕ → Option DeviceName
-device_named word =
-    if bytes_eq word (device_word K1) then Some K1
-    else if bytes_eq word (device_word K8) then Some K8
-    else None
 
 -- a device with the size of its grid, and a number of nets that is allowed
 abbrev pub chip_of_numbers : Option DeviceName → Option (List ℕ) → Option Chip

@@ -2,7 +2,8 @@
 ghost use Rattle.std.specs.Prelude.{◌≡◌, ◌∷◌, [], Option, Some};
 ghost use Rattle.text_lines.specs.Words.{numbers_of};
 ghost use Rattle.chipdb_lines.specs.Words.{words_in};
-ghost use Rattle.chipdb_lines.specs.Statements.{chip_of_numbers, chip_of_words, device_named};
+ghost use Rattle.plane_map.specs.DeviceWords.{device_named};
+ghost use Rattle.chipdb_lines.specs.Statements.{chip_of_numbers, chip_of_words};
 
 use plane_map::DeviceName;
 use text_lines::{Separators, split_word, three_numbers};
@@ -21,7 +22,7 @@ pub(crate) fn chip_of(words: &[u8]) -> Option<Chip>
 {
     match split_word(Separators::SpacesAndTabs, words) {
         None => None,
-        Some((name, sizes)) => sized_chip(device_named(name), sizes),
+        Some((name, sizes)) => sized_chip(DeviceName::named(name), sizes),
     }
 }
 
@@ -44,19 +45,6 @@ fn checked_chip(device: DeviceName, width: u32, height: u32, nets: u32) -> Optio
 {
     if width == device.columns() && height == device.rows() && nets <= 16_777_216 {
         Some(Chip { device, nets })
-    } else {
-        None
-    }
-}
-
-/// The device that a word names.
-fn device_named(word: &[u8]) -> Option<DeviceName>
-    ensures { result ≡ device_named word.now }
-{
-    if word == b"1k".as_slice() {
-        Some(DeviceName::K1)
-    } else if word == b"8k".as_slice() {
-        Some(DeviceName::K8)
     } else {
         None
     }

@@ -11,7 +11,8 @@ use Rattle.chipdb_lines.specs.declared.chip.Chip.{Chip}
 use Rattle.chipdb_lines.specs.declared.keyword.Keyword.{Keyword}
 use Rattle.chipdb_lines.specs.declared.keyword.Keyword.TheVariants as keyword
 use Rattle.chipdb_lines.specs.Words.{is_statement, words_in}
-use Rattle.chipdb_lines.specs.Statements.{chip_of_numbers, chip_of_words, device_named, keyword_of}
+use Rattle.plane_map.specs.DeviceWords.{device_named}
+use Rattle.chipdb_lines.specs.Statements.{chip_of_numbers, chip_of_words, keyword_of}
 use Rattle.chipdb_reader.specs.Blocks.{chip_before, chip_by, chip_in}
 use Rattle.chipdb_reader.specs.Database.{Database, database_of}
 use Rattle.chipdb_reader.specs.Faults.{DbMeans, Fault, db_fault_of}

@@ -40,7 +40,7 @@ ordered : (db : Database) (image : Configuration) → IsFit db → design_fault 
     → IsWriteOrder (wiring_of (fabric_of db image)) (write_order (wiring_of (fabric_of db image)))
 ordered db image fit none =
     let wiring = wiring_of (fabric_of db image) in
-    let order = taken-order image.device (fabric_of db image) (design-taken db image none).fabric (fabric-within db image fit) in
+    let order = taken-order image.layout.device (fabric_of db image) (design-taken db image none).fabric (fabric-within db image fit) in
     subst (IsWriteOrder wiring) (order-is wiring order.it order.is) order.is
 
 spells-fabric : (name : List ℕ) → IsName name → (db : Database) (image : Configuration) → IsFit db → db.chip.nets ≤ 2 ^ 64 → design_fault db image ≡ None

@@ -32,7 +32,7 @@ module _ (db : Database) (image : Configuration) (fit : IsFit db) (none : design
   pub ends-lead : (net : ℕ) → LeadsTo (fabric_of db image) (class_of (fabric_of db image).joins net) (clock_end (fabric_of db image) net)
   ends-lead =
       let within = fabric-within db image fit in
-      let order = taken-order image.device fabric (design-taken db image none).fabric within in
+      let order = taken-order image.layout.device fabric (design-taken db image none).fabric within in
       clock_end-leads fabric within order.it order.is
 
   has-clock : (entry : Entry) → IsEntry fabric entry → (net : Option ℕ) → IsClocked fabric net → HasClock fabric entry net
@@ -46,9 +46,9 @@ module _ (db : Database) (image : Configuration) (fit : IsFit db) (none : design
       let taken = (design-taken db image none).fabric in
       let placed = fabric-placed db image in
       record {
-        flips = λ lc there. has-clock entry is lc.clk (flip-good image.device fabric taken placed lc there);
-        reads = λ ram there. has-clock entry is ram.rclk (read-good image.device fabric taken placed ram there);
-        writes = λ ram there. has-clock entry is ram.wclk (write-good image.device fabric taken placed ram there);
+        flips = λ lc there. has-clock entry is lc.clk (flip-good image.layout.device fabric taken placed lc there);
+        reads = λ ram there. has-clock entry is ram.rclk (read-good image.layout.device fabric taken placed ram there);
+        writes = λ ram there. has-clock entry is ram.wclk (write-good image.layout.device fabric taken placed ram there);
       }
 
   follow-clocks : (entry : Entry) (events : List Event) (entries : List Entry) → FollowEach fabric entry events entries → All (HasClocks fabric) entries

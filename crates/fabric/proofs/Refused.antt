@@ -39,17 +39,17 @@ module _ (db : Database) (image : Configuration) where
   Refuses : Option Fault → Type 0
   Refuses cause = design_fault db image ≡ cause
 
-  no-device : db.chip.device ≡ image.device → device_faults db image ≡ []
+  no-device : db.chip.device ≡ image.layout.device → device_faults db image ≡ []
   unfolding device_faults
-  no-device same = rw (same, same-device image.device) refl
+  no-device same = rw (same, same-device image.layout.device) refl
 
-  with-device : ¬ (db.chip.device ≡ image.device) → design_fault db image ≡ Some Fault.other_device
+  with-device : ¬ (db.chip.device ≡ image.layout.device) → design_fault db image ≡ Some Fault.other_device
   unfolding design_fault device_faults
-  with-device other = rw (other-device db.chip.device image.device other) refl
+  with-device other = rw (other-device db.chip.device image.layout.device other) refl
 
-  module _ (same : db.chip.device ≡ image.device) where
+  module _ (same : db.chip.device ≡ image.layout.device) where
     behind-device : design_fault db image
-        ≡ or_else (pins_fault db image) (or_else (rams_fault db image) (or_else (cells_fault db image) (fabric_fault image.device (fabric_of db image))))
+        ≡ or_else (pins_fault db image) (or_else (rams_fault db image) (or_else (cells_fault db image) (fabric_fault image.layout.device (fabric_of db image))))
     unfolding design_fault
     behind-device = rw (no-device same) refl
 
@@ -65,29 +65,29 @@ module _ (db : Database) (image : Configuration) where
         cells-refuse cause is = behind-device ∙ rw (pins-taken, rams-taken, is) refl
 
   -- the fault of the whole is that of the fabric, where the parts are taken
-  pub fabric-left : AreTaken db image → design_fault db image ≡ fabric_fault image.device (fabric_of db image)
+  pub fabric-left : AreTaken db image → design_fault db image ≡ fabric_fault image.layout.device (fabric_of db image)
   fabric-left taken = behind-device taken.device ∙ rw (taken.pins, taken.rams, taken.cells) refl
 
   -- ---- the refusals of the parts
 
   abbrev IsRefusal : FabricFault → Type 0
-  IsRefusal fault = IsCause image.device (fabric_of db image) (design_fault db image) fault
+  IsRefusal fault = IsCause image.layout.device (fabric_of db image) (design_fault db image) fault
 
-  pub links-cause : (fault : LinkFault) → ((fault ≡ links.Device) ↔ (¬ (db.chip.device ≡ image.device))) → IsRefusal (of_links fault)
+  pub links-cause : (fault : LinkFault) → ((fault ≡ links.Device) ↔ (¬ (db.chip.device ≡ image.layout.device))) → IsRefusal (of_links fault)
   links-cause links.Device tells = with-device (tells.0 refl)
   links-cause (links.Memory failed) tells = tt
 
-  pub pins-cause : (same : db.chip.device ≡ image.device) (fault : PinFault) → IsPinCause (pins_fault db image) fault → IsRefusal (of_pins fault)
+  pub pins-cause : (same : db.chip.device ≡ image.layout.device) (fault : PinFault) → IsPinCause (pins_fault db image) fault → IsRefusal (of_pins fault)
   pins-cause same (pins.Pll x y) is = pins-refuse same _ is
   pins-cause same (pins.PinMode x y pio pintype) is = pins-refuse same _ is
   pins-cause same (pins.Memory failed) is = tt
 
-  pub rams-cause : (same : db.chip.device ≡ image.device) → pins_fault db image ≡ None → (fault : RamFault) → IsRamCause (rams_fault db image) fault → IsRefusal (of_rams fault)
+  pub rams-cause : (same : db.chip.device ≡ image.layout.device) → pins_fault db image ≡ None → (fault : RamFault) → IsRamCause (rams_fault db image) fault → IsRefusal (of_rams fault)
   rams-cause same taken (rams.Mode x y read write) is = rams-refuse same taken _ is
   rams-cause same taken (rams.Cascade x y) is = rams-refuse same taken _ is
   rams-cause same taken (rams.Memory failed) is = tt
 
-  pub cells-cause : (same : db.chip.device ≡ image.device) → pins_fault db image ≡ None → rams_fault db image ≡ None
+  pub cells-cause : (same : db.chip.device ≡ image.layout.device) → pins_fault db image ≡ None → rams_fault db image ≡ None
       → (fault : LcFault) → IsCellCause (cells_fault db image) fault → IsRefusal (of_cells fault)
   cells-cause same pins-taken rams-taken (cells.Async x y i) is = cells-refuse same pins-taken rams-taken _ is
   cells-cause same pins-taken rams-taken (cells.Memory failed) is = tt

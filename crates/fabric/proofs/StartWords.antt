@@ -9,7 +9,7 @@ use Rattle.plane_map.specs.declared.tile.TileKind.TheVariants.{RamB}
 use Rattle.chipdb_lines.specs.Statements.{is_kind_there}
 use Rattle.chipdb_reader.specs.Database.{Database}
 use Rattle.ice_image.specs.Configuration.{Configuration}
-use Rattle.ice_image.specs.Contents.{word_value}
+use Rattle.ice_image.specs.Bits.{ram_word_of}
 use Rattle.place_search.specs.Places.{gathered_below}
 use Rattle.place_search.proofs.Places.{gathered_below-same}
 use Rattle.fabric_rules.specs.declared.ram.RamCell.{RamCell}
@@ -26,22 +26,22 @@ module _ (db : Database) (image : Configuration) where
   -- ---- each RAM has a lower tile
 
   IsLower : RamCell → Type 0
-  IsLower ram = kind_of image.device ram.x ram.y ≡ Some RamB
+  IsLower ram = kind_of image.layout.device ram.x ram.y ≡ Some RamB
 
-  here-lower : (x y : ℕ) → kind_of image.device x y ≡ Some RamB → IsLower (ram_at db image x y)
+  here-lower : (x y : ℕ) → kind_of image.layout.device x y ≡ Some RamB → IsLower (ram_at db image x y)
   unfolding ram_at IsLower
   here-lower x y is = is
 
-  at-lower : (x y : ℕ) → All IsLower (at_kind image.device RamB (λ u v. if is_ram_used db image u v then ram_at db image u v ∷ [] else []) x y)
+  at-lower : (x y : ℕ) → All IsLower (at_kind image.layout.device RamB (λ u v. if is_ram_used db image u v then ram_at db image u v ∷ [] else []) x y)
   at-lower x y =
-      elim (cases_Bool (is_kind_there RamB (kind_of image.device x y))) [
-        | inl there ↦ rw there (All-if IsLower (is_ram_used db image x y) (ram_at db image x y ∷ []) (All-single IsLower (ram_at db image x y) (here-lower x y (is_kind_there-is RamB (kind_of image.device x y) there))))
+      elim (cases_Bool (is_kind_there RamB (kind_of image.layout.device x y))) [
+        | inl there ↦ rw there (All-if IsLower (is_ram_used db image x y) (ram_at db image x y ∷ []) (All-single IsLower (ram_at db image x y) (here-lower x y (is_kind_there-is RamB (kind_of image.layout.device x y) there))))
         | inr away ↦ rw away (All-nil IsLower)
       ]
 
-  pub rams-lower : All (λ ram. kind_of image.device ram.x ram.y ≡ Some RamB) (rams_of db image)
+  pub rams-lower : All (λ ram. kind_of image.layout.device ram.x ram.y ≡ Some RamB) (rams_of db image)
   unfolding rams_of IsLower
-  rams-lower = All-over_grid IsLower image.device _ (λ x y left low. at-lower x y)
+  rams-lower = All-over_grid IsLower image.layout.device _ (λ x y left low. at-lower x y)
 
   -- ---- the start words are those of the RAMs
 
@@ -52,19 +52,19 @@ module _ (db : Database) (image : Configuration) where
   unfolding ram_at
   ram-words x y = refl
 
-  used-words : (x y : ℕ) → map words_of (at_kind image.device RamB (λ u v. if is_ram_used db image u v then ram_at db image u v ∷ [] else []) x y)
-      ≡ at_kind image.device RamB (λ u v. if is_ram_used db image u v then start_words image u v ∷ [] else []) x y
+  used-words : (x y : ℕ) → map words_of (at_kind image.layout.device RamB (λ u v. if is_ram_used db image u v then ram_at db image u v ∷ [] else []) x y)
+      ≡ at_kind image.layout.device RamB (λ u v. if is_ram_used db image u v then start_words image u v ∷ [] else []) x y
   used-words x y =
-      map-if (is_kind_there RamB (kind_of image.device x y)) words_of (if is_ram_used db image x y then ram_at db image x y ∷ [] else [])
-      ∙ ap (λ list. if is_kind_there RamB (kind_of image.device x y) then list else [])
+      map-if (is_kind_there RamB (kind_of image.layout.device x y)) words_of (if is_ram_used db image x y then ram_at db image x y ∷ [] else [])
+      ∙ ap (λ list. if is_kind_there RamB (kind_of image.layout.device x y) then list else [])
       (map-if (is_ram_used db image x y) words_of (ram_at db image x y ∷ []) ∙ ap (λ words. if is_ram_used db image x y then words ∷ [] else []) (ram-words x y))
 
   start-words : map words_of (rams_of db image) ≡ over_rams db image (λ x y. start_words image x y ∷ [])
   unfolding rams_of over_grid
   start-words =
-      map-gathered (grid_height image.device) words_of _
-      ∙ gathered_below-same (grid_height image.device) _ _ (λ y low.
-      map-gathered (grid_width image.device) words_of _ ∙ gathered_below-same (grid_width image.device) _ _ (λ x left. used-words x y))
+      map-gathered (grid_height image.layout.device) words_of _
+      ∙ gathered_below-same (grid_height image.layout.device) _ _ (λ y low.
+      map-gathered (grid_width image.layout.device) words_of _ ∙ gathered_below-same (grid_width image.layout.device) _ _ (λ x left. used-words x y))
 
   start-is : (fabric_of db image).start ≡ map words_of (rams_of db image)
   unfolding fabric_of
@@ -77,12 +77,12 @@ module _ (db : Database) (image : Configuration) where
   -- ---- words by their places
 
   abbrev values_of : RamCell → List ℕ
-  values_of ram = each_below 256 (word_value image.device image.bram ram.x ram.y)
+  values_of ram = each_below 256 (ram_word_of image ram.x ram.y)
 
   word-value : (ram : RamCell) (word : ℕ) → word < 256 → get_or (values_of ram) word 0 ≡ word_of (get_or (words_of ram) word [])
   unfolding start_words
   word-value ram word below =
-      each_below-at 256 word (word_value image.device image.bram ram.x ram.y) 0 below
+      each_below-at 256 word (ram_word_of image ram.x ram.y) 0 below
       ∙ sym (ap word_of (each_below-at 256 word (start_word image ram.x ram.y) [] below))
 
   pub words-are : AreWordsOf (fabric_of db image) (flat_map values_of (rams_of db image))

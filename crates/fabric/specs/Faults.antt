@@ -56,7 +56,7 @@ IsCause device fabric fault (Memory failed) = Unit {0}
 
 -- the devices are one, and pins, RAMs and cells have no fault
 pub record AreTaken (db : Database) (image : Configuration) : Type 0 where
-  pub device : db.chip.device ≡ image.device
+  pub device : db.chip.device ≡ image.layout.device
   pub pins : pins_fault db image ≡ None
   pub rams : rams_fault db image ≡ None
   pub cells : cells_fault db image ≡ None

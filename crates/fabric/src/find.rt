@@ -43,7 +43,7 @@ fn inputs(alloc: Global, pins: &[Pin]) -> Result<Vec<Pin>, AllocError>
 pub fn design(alloc: Global, db: &ChipDb, image: &AnyImage) -> Result<Design, FabricFault>
     ensures design { IfOk result (IsDesignOf (database_in db.now) (configuration_of image.now)) }
     ensures taken { OnOk result (design_fault (database_in db.now) (configuration_of image.now) ≡ None) }
-    ensures refused { IfErr result (IsCause (configuration_of image.now).device (fabric_of (database_in db.now) (configuration_of image.now)) (design_fault (database_in db.now) (configuration_of image.now))) }
+    ensures refused { IfErr result (IsCause (configuration_of image.now).layout.device (fabric_of (database_in db.now) (configuration_of image.now)) (design_fault (database_in db.now) (configuration_of image.now))) }
     ensures one_value { OnOk result ((state : State) (pins : List Bool) → ExactlyOne (IsConsistent (fabric_of (database_in db.now) (configuration_of image.now)) state pins)) }
     ensures chains { OnOk result ((net : ℕ) → LeadsTo (fabric_of (database_in db.now) (configuration_of image.now)) (class_of (fabric_of (database_in db.now) (configuration_of image.now)).joins net) (clock_end (fabric_of (database_in db.now) (configuration_of image.now)) net)) }
     ensures clocks { OnOk result ((events : List Event) (entries : List Entry) → IsRun (fabric_of (database_in db.now) (configuration_of image.now)) events entries → All (HasClocks (fabric_of (database_in db.now) (configuration_of image.now))) entries) }

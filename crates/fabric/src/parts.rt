@@ -55,7 +55,7 @@ pub(crate) fn parts(alloc: Global, db: &ChipDb, image: &AnyImage) -> Result<Part
     ensures parts { IfOk result (ArePartsOf (fabric_of (database_in db.now) (configuration_of image.now))) }
     ensures fit { OnOk result (IsFit (database_in db.now)) }
     ensures taken { OnOk result (AreTaken (database_in db.now) (configuration_of image.now)) }
-    ensures refused { IfErr result (IsCause (configuration_of image.now).device (fabric_of (database_in db.now) (configuration_of image.now)) (design_fault (database_in db.now) (configuration_of image.now))) }
+    ensures refused { IfErr result (IsCause (configuration_of image.now).layout.device (fabric_of (database_in db.now) (configuration_of image.now)) (design_fault (database_in db.now) (configuration_of image.now))) }
 {
     let links = links(alloc, db, image)?;
     let pins = pins(alloc, db, image, &links)?;

@@ -99,32 +99,32 @@ pub record IsPlaced (device : DeviceName) (fabric : Fabric) : Type 0 where
   pub rams : All (λ ram. IsAt device ram.x ram.y) fabric.rams
 
 module _ (db : Database) (image : Configuration) where
-  cell-placed : (x y i : ℕ) (bits : List Bool) → IsAt image.device x y
-      → IsAt image.device (cell_with db image x y i bits).x (cell_with db image x y i bits).y
+  cell-placed : (x y i : ℕ) (bits : List Bool) → IsAt image.layout.device x y
+      → IsAt image.layout.device (cell_with db image x y i bits).x (cell_with db image x y i bits).y
   unfolding cell_with
   cell-placed x y i bits at = at
 
-  cells-placed : All (λ lc. IsAt image.device lc.x lc.y) (cells_of db image)
+  cells-placed : All (λ lc. IsAt image.layout.device lc.x lc.y) (cells_of db image)
   unfolding cells_of cells_at
   cells-placed =
-      All-over_tiles (λ lc. IsAt image.device lc.x lc.y) image.device Logic (cells_at db image)
-      (λ x y left low. All-gathered (λ lc. IsAt image.device lc.x lc.y) 8 (used_cell db image x y)
-      (λ i below. All-item_if (λ lc. IsAt image.device lc.x lc.y) _ (cell_with db image x y i (cell_bits db image x y i))
+      All-over_tiles (λ lc. IsAt image.layout.device lc.x lc.y) image.layout.device Logic (cells_at db image)
+      (λ x y left low. All-gathered (λ lc. IsAt image.layout.device lc.x lc.y) 8 (used_cell db image x y)
+      (λ i below. All-item_if (λ lc. IsAt image.layout.device lc.x lc.y) _ (cell_with db image x y i (cell_bits db image x y i))
       (cell-placed x y i (cell_bits db image x y i) (record { left = left; low = low }))))
 
-  ram-placed : (x y : ℕ) → IsAt image.device x y → IsAt image.device (ram_at db image x y).x (ram_at db image x y).y
+  ram-placed : (x y : ℕ) → IsAt image.layout.device x y → IsAt image.layout.device (ram_at db image x y).x (ram_at db image x y).y
   unfolding ram_at
   ram-placed x y at = at
 
-  rams-placed : All (λ ram. IsAt image.device ram.x ram.y) (rams_of db image)
+  rams-placed : All (λ ram. IsAt image.layout.device ram.x ram.y) (rams_of db image)
   unfolding rams_of
   rams-placed =
-      All-over_tiles (λ ram. IsAt image.device ram.x ram.y) image.device RamB _
-      (λ x y left low. All-if (λ ram. IsAt image.device ram.x ram.y) (is_ram_used db image x y) (ram_at db image x y ∷ [])
-      (All-single (λ ram. IsAt image.device ram.x ram.y) (ram_at db image x y) (ram-placed x y (record { left = left; low = low }))))
+      All-over_tiles (λ ram. IsAt image.layout.device ram.x ram.y) image.layout.device RamB _
+      (λ x y left low. All-if (λ ram. IsAt image.layout.device ram.x ram.y) (is_ram_used db image x y) (ram_at db image x y ∷ [])
+      (All-single (λ ram. IsAt image.layout.device ram.x ram.y) (ram_at db image x y) (ram-placed x y (record { left = left; low = low }))))
 
   -- cells and RAMs of a database and an image stand at places of the grid
-  pub fabric-placed : IsPlaced image.device (fabric_of db image)
+  pub fabric-placed : IsPlaced image.layout.device (fabric_of db image)
   unfolding fabric_of
   fabric-placed = record { lcs = cells-placed; rams = rams-placed }
 
@@ -418,4 +418,4 @@ module _ (device : DeviceName) (fabric : Fabric) (taken : fabric_fault device fa
 -- A database and an image that aren't refused have exactly one run for each list of events.
 pub design-run : (db : Database) (image : Configuration) → IsFit db → design_fault db image ≡ None → (events : List Event) → ExactlyOne (IsRun (fabric_of db image) events)
 design-run db image fit none events =
-    taken-run image.device (fabric_of db image) (design-taken db image none).fabric (fabric-placed db image) (fabric-within db image fit) events
+    taken-run image.layout.device (fabric_of db image) (design-taken db image none).fabric (fabric-placed db image) (fabric-within db image fit) events

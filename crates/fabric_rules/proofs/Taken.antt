@@ -106,7 +106,7 @@ module _ (device : DeviceName) (fabric : Fabric) (taken : fabric_fault device fa
 pub record IsTaken (db : Database) (image : Configuration) : Type 0 where
   pub device : device_faults db image ≡ []
   pub pins : pin_faults db image ≡ []
-  pub fabric : fabric_fault image.device (fabric_of db image) ≡ None
+  pub fabric : fabric_fault image.layout.device (fabric_of db image) ≡ None
 
 pub design-taken : (db : Database) (image : Configuration) → design_fault db image ≡ None → IsTaken db image
 unfolding design_fault pins_fault

@@ -258,7 +258,7 @@ module _ (db : Database) (image : Configuration) (fit : IsFit db) where
   pins-in : All (IsPinIn db.chip.nets) (pins_of db image)
   unfolding pins_of
   pins-in =
-      All-over_tiles (IsPinIn db.chip.nets) image.device Io (λ x y. gathered_below 2 (port_at db image x y))
+      All-over_tiles (IsPinIn db.chip.nets) image.layout.device Io (λ x y. gathered_below 2 (port_at db image x y))
       (λ x y left low. All-gathered (IsPinIn db.chip.nets) 2 (port_at db image x y)
       (λ n below. All-item_if (IsPinIn db.chip.nets) _ (pin_with db x y n _) (pin_with-in x y n _)))
 
@@ -287,7 +287,7 @@ module _ (db : Database) (image : Configuration) (fit : IsFit db) where
 
   cells-in : All (IsCellIn db.chip.nets) (cells_of db image)
   unfolding cells_of
-  cells-in = All-over_tiles (IsCellIn db.chip.nets) image.device Logic (cells_at db image) (λ x y left low. cells_at-in x y)
+  cells-in = All-over_tiles (IsCellIn db.chip.nets) image.layout.device Logic (cells_at db image) (λ x y left low. cells_at-in x y)
 
   set_with-in : (x y : ℕ) (net : Option ℕ) → IsNetIn db.chip.nets net → All (IsSetIn db.chip.nets) (set_with x y net)
   set_with-in x y None in' = All-nil (IsSetIn db.chip.nets)
@@ -295,7 +295,7 @@ module _ (db : Database) (image : Configuration) (fit : IsFit db) where
 
   sets-in : All (IsSetIn db.chip.nets) (sets_of db image)
   unfolding sets_of
-  sets-in = All-over_tiles (IsSetIn db.chip.nets) image.device Logic (sets_at db image)
+  sets-in = All-over_tiles (IsSetIn db.chip.nets) image.layout.device Logic (sets_at db image)
       (λ x y left low. All-if (IsSetIn db.chip.nets) _ (set_with x y (net_named db x y _)) (set_with-in x y _ (named-in x y _)))
 
   ram_at-in : (x y : ℕ) → IsRamIn db.chip.nets (ram_at db image x y)
@@ -316,7 +316,7 @@ module _ (db : Database) (image : Configuration) (fit : IsFit db) where
 
   rams-in : All (IsRamIn db.chip.nets) (rams_of db image)
   unfolding rams_of
-  rams-in = All-over_tiles (IsRamIn db.chip.nets) image.device RamB _
+  rams-in = All-over_tiles (IsRamIn db.chip.nets) image.layout.device RamB _
       (λ x y left low. All-if (IsRamIn db.chip.nets) (is_ram_used db image x y) (ram_at db image x y ∷ []) (All-single (IsRamIn db.chip.nets) (ram_at db image x y) (ram_at-in x y)))
 
   -- a source that may be missing

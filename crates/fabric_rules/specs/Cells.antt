@@ -108,7 +108,7 @@ cells_at db image x y = gathered_below 8 (used_cell db image x y)
 
 -- the used cells, by tile and index
 unfoldable pub cells_of : Database → Configuration → List Lc
-cells_of db image = over_tiles image.device Logic (cells_at db image)
+cells_of db image = over_tiles image.layout.device Logic (cells_at db image)
 
 -- ---- carry inputs that are set
 
@@ -122,4 +122,4 @@ sets_at db image x y = if is_function_on db image Logic x y (codes "CarryInSet")
 
 -- all of them, by tile
 unfoldable pub sets_of : Database → Configuration → List CarrySet
-sets_of db image = over_tiles image.device Logic (sets_at db image)
+sets_of db image = over_tiles image.layout.device Logic (sets_at db image)

@@ -48,12 +48,12 @@ is_same_device K8 K8 = true
 is_same_device a b = false
 
 unfoldable pub device_faults : Database → Configuration → List Fault
-device_faults db image = if is_same_device db.chip.device image.device then [] else other_device ∷ []
+device_faults db image = if is_same_device db.chip.device image.layout.device then [] else other_device ∷ []
 
 -- ---- pins
 
 unfoldable pub pll_faults : Database → Configuration → List Fault
-pll_faults db image = over_tiles image.device Io (λ x y. item_if (has_pll db image x y) (pll x y))
+pll_faults db image = over_tiles image.layout.device Io (λ x y. item_if (has_pll db image x y) (pll x y))
 
 abbrev pub pin_fault_at : Database → Configuration → ℕ → ℕ → ℕ → List Fault
 pin_fault_at db image x y n =
@@ -75,7 +75,7 @@ cascade_faults db image = over_rams db image (λ x y. item_if (is_cascaded db im
 -- ---- cells
 
 unfoldable pub async_faults : Database → Configuration → List Fault
-async_faults db image = over_tiles image.device Logic (λ x y.
+async_faults db image = over_tiles image.layout.device Logic (λ x y.
     gathered_below 8 (λ i. item_if (is_async_flip (cell_bits db image x y i)) (async x y i)))
 
 -- ---- drivers
@@ -136,4 +136,4 @@ design_fault db image =
     (or_else (pins_fault db image)
     (or_else (rams_fault db image)
     (or_else (cells_fault db image)
-    (fabric_fault image.device (fabric_of db image)))))
+    (fabric_fault image.layout.device (fabric_of db image)))))

@@ -83,7 +83,7 @@ port_at db image x y n =
 
 -- what pins 0 and 1 of each io tile give, by tile and number
 abbrev pub over_pins : {A : Type 0} → Database → Configuration → (ℕ → ℕ → ℕ → List A) → List A
-over_pins db image given = over_tiles image.device Io (λ x y. gathered_below 2 (given x y))
+over_pins db image given = over_tiles image.layout.device Io (λ x y. gathered_below 2 (given x y))
 
 -- the pins that are ports, by tile and number
 unfoldable pub pins_of : Database → Configuration → List Pin

@@ -3,8 +3,8 @@ use Rattle.std.specs.Prelude.{ℕ, ◌+◌, ◌*◌, Bool, false, not, ◌||◌,
 use Rattle.bit_plane.specs.BitList.{bit_value}
 use Rattle.bit_plane.specs.Rows.{row_from}
 use Rattle.plane_map.specs.declared.tile.TileKind.TheVariants.{RamB, RamT}
-use Rattle.ice_image.specs.Configuration.{Configuration, place_bit}
-use Rattle.ice_image.specs.Contents.{word_bit_place}
+use Rattle.ice_image.specs.Configuration.{Configuration}
+use Rattle.ice_image.specs.Bits.{word_bit_of}
 use Rattle.chipdb_reader.specs.Database.{Database}
 use Rattle.place_search.specs.Places.{any_below, or_else}
 use Rattle.fabric_rules.specs.declared.ram.RamCell.{RamCell}
@@ -83,7 +83,7 @@ ram_at db image x y = record {
 
 -- what each used RAM gives, by tile
 abbrev pub over_rams : {A : Type 0} → Database → Configuration → (ℕ → ℕ → List A) → List A
-over_rams db image given = over_tiles image.device RamB (λ x y. if is_ram_used db image x y then given x y else [])
+over_rams db image given = over_tiles image.layout.device RamB (λ x y. if is_ram_used db image x y then given x y else [])
 
 -- the used RAMs, by tile; a RAM that isn't used has no part in the fabric
 unfoldable pub rams_of : Database → Configuration → List RamCell
@@ -93,7 +93,7 @@ rams_of db image = over_rams db image (λ x y. ram_at db image x y ∷ [])
 
 -- a word that the image gives a RAM: its 16 bits, the lowest first
 abbrev pub start_word : Configuration → ℕ → ℕ → ℕ → List Bool
-start_word image x y word = row_from 16 (λ bit. place_bit image.bram (word_bit_place image.device x y word bit))
+start_word image x y word = row_from 16 (word_bit_of image x y word)
 
 -- its 256 words
 unfoldable pub start_words : Configuration → ℕ → ℕ → List (List Bool)

@@ -16,7 +16,8 @@ use Rattle.plane_map.specs.declared.tile.TileKind.{TileKind}
 use Rattle.plane_map.specs.declared.tile.TileKind.TheVariants.{Io, Logic, RamB, RamT}
 use Rattle.ice_gen.proofs.Filled.{grid-most}
 use Rattle.ice_gen.specs.Numbers.{nets, rams, cell_number, ram_number, clock_net, input_net, out_net, in_0_net, address_net, write_net, read_net, in_3_net, read_enable_net, write_enable_net, middle_net}
-use Rattle.asc_text.specs.Statements.{device_keyword, device_word}
+use Rattle.plane_map.specs.DeviceWords.{device_word}
+use Rattle.asc_text.specs.Statements.{device_keyword}
 use Rattle.ice_gen.specs.Database.{bit_word, buffer_line, by_all_cells, by_cells, cell_line, cell_names, cell_wire, database_lines, device_line, far_net, generated_database, head_lines, in_0_lines, in_0_statement, in_3_lines, in_3_lines_below, logic_names, ram_names, pin_names, names_by_kind, names_at, names_in_row, name_line, named, near_net, net_lines, numbered, pad_drive_line, pin_type_line, ten_bits}
 
 -- ---- bounds

@@ -8,7 +8,8 @@ use Rattle.plane_map.specs.declared.device.DeviceName.TheVariants.{K1, K8}
 use Rattle.plane_map.specs.declared.tile.Place.{Place}
 use Rattle.plane_map.specs.declared.tile.TileKind.{TileKind}
 use Rattle.plane_map.specs.declared.tile.TileKind.TheVariants.{Io, Logic, RamB, RamT}
-use Rattle.asc_text.specs.Statements.{device_keyword, device_word}
+use Rattle.plane_map.specs.DeviceWords.{device_word}
+use Rattle.asc_text.specs.Statements.{device_keyword}
 use Rattle.asc_text.specs.Canonical.{with_word, grid_line}
 use Rattle.ice_gen.specs.Numbers.{rams, nets, cell_number, ram_number, clock_net, input_net, out_net, in_0_net, address_net, write_net, read_net, in_3_net, read_enable_net, write_enable_net, middle_net}
 

@@ -2,7 +2,8 @@
 ghost use Rattle.std.specs.Prelude.{◌≡◌, [], ◌∷◌, ◌++◌, ◌<◌, OnOk, codes};
 ghost use Rattle.place_search.specs.Places.{gathered_below};
 ghost use Rattle.text_lines.specs.Written.{text_of};
-ghost use Rattle.asc_text.specs.Statements.{device_keyword, device_word as word_of_device};
+ghost use Rattle.plane_map.specs.DeviceWords.{device_word};
+ghost use Rattle.asc_text.specs.Statements.{device_keyword};
 ghost use Rattle.ice_gen.specs.Database.{cell_line, device_line, head_lines, pad_drive as pad_drive_of, pad_drive_line, pin_type_line, ten_bits};
 
 use crate::lines::{append_bit, append_decimal, append_line, append_number, end_line};
@@ -32,21 +33,11 @@ fn append_device(text: &mut Vec<u8>, device: DeviceName) -> Result<(), AllocErro
     ensures { OnOk result (text.new.items ≡ text.old.items ++ text_of (device_line device ∷ [])) }
 {
     text.extend_from_slice(b".device ")?;
-    text.extend_from_slice(device_word(device))?;
+    text.extend_from_slice(device.word())?;
     append_number(text, device.columns())?;
     append_number(text, device.rows())?;
     append_number(text, nets(device))?;
     end_line(text)
-}
-
-/// The word of a device.
-fn device_word(device: DeviceName) -> &'static [u8]
-    ensures { result.now ≡ word_of_device device }
-{
-    match device {
-        DeviceName::K1 => b"1k",
-        DeviceName::K8 => b"8k",
-    }
 }
 
 /// Appends the bits of the type of the first pin.

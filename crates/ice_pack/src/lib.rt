@@ -4,8 +4,8 @@
 mod packing;
 mod unpacking;
 
-pub use packing::pack;
-pub use unpacking::unpack;
+pub use packing::{pack, pack_with};
+pub use unpacking::{unpack, unpack_with};
 
 #[cfg(test)]
 mod tests;

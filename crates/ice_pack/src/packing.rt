@@ -1,27 +1,47 @@
 // A text as a bitstream.
 ghost use Rattle.std.specs.Prelude.{◌≡◌, None, IfOk, IfErr, OnOk};
+ghost use Rattle.layout_file.specs.Layouts.{standard_layouts, AreLayouts};
 ghost use Rattle.ice_image.specs.Either.{configuration_of, device_of};
 ghost use Rattle.asc_text.specs.Faults.{asc_fault_of, Tells};
 ghost use Rattle.ice_pack.specs.Packed.{awake_where, IsPacked, PacksAlike, UnpacksBack};
 
-use asc_text::{AscFault, AscFile, read};
+use asc_text::{AscFault, AscFile, read_with};
 use bin_stream::encode;
 use ice_image::{AnyImage, Settings};
+use layout_file::Layouts;
 use std::alloc::Global;
 
-/// The canonical bytes of what a text configures. The flash stays awake where `no_sleep` is true, whatever the text says.
-#[tactic(auto, using(crate::proofs::BothWays::packs_alike, crate::proofs::BothWays::unpacks_back))]
+/// The canonical bytes of what a text configures under the standard layouts. The flash stays awake where `no_sleep` is true,
+/// whatever the text says.
 pub fn pack(alloc: Global, asc: &[u8], no_sleep: bool) -> Result<Vec<u8>, AscFault>
-    ensures packed { IfOk result (λ bytes. IsPacked asc.now no_sleep bytes.items) }
-    ensures alike { IfOk result (λ bytes. PacksAlike asc.now no_sleep bytes.items) }
-    ensures back { IfOk result (λ bytes. UnpacksBack asc.now no_sleep bytes.items) }
-    ensures accepted { OnOk result (asc_fault_of asc.now ≡ None) }
-    ensures refused { IfErr result (Tells (asc_fault_of asc.now)) }
+    ensures packed { IfOk result (λ bytes. IsPacked standard_layouts asc.now no_sleep bytes.items) }
+    ensures alike { IfOk result (λ bytes. PacksAlike standard_layouts asc.now no_sleep bytes.items) }
+    ensures back { IfOk result (λ bytes. UnpacksBack standard_layouts asc.now no_sleep bytes.items) }
+    ensures accepted { OnOk result (asc_fault_of standard_layouts asc.now ≡ None) }
+    ensures refused { IfErr result (Tells (asc_fault_of standard_layouts asc.now)) }
+{
+    pack_with(alloc, asc, no_sleep, Layouts::standard())
+}
+
+/// The same under other layouts.
+#[tactic(auto, using(crate::proofs::BothWays::packs_alike, crate::proofs::BothWays::unpacks_back))]
+pub fn pack_with(
+    alloc: Global,
+    asc: &[u8],
+    no_sleep: bool,
+    layouts: Layouts,
+) -> Result<Vec<u8>, AscFault>
+    requires { AreLayouts layouts }
+    ensures packed { IfOk result (λ bytes. IsPacked layouts asc.now no_sleep bytes.items) }
+    ensures alike { IfOk result (λ bytes. PacksAlike layouts asc.now no_sleep bytes.items) }
+    ensures back { IfOk result (λ bytes. UnpacksBack layouts asc.now no_sleep bytes.items) }
+    ensures accepted { OnOk result (asc_fault_of layouts asc.now ≡ None) }
+    ensures refused { IfErr result (Tells (asc_fault_of layouts asc.now)) }
 {
     let AscFile {
         mut image,
         symbols: _,
-    } = read(alloc, asc)?;
+    } = read_with(alloc, asc, layouts)?;
     keep_awake(&mut image, no_sleep);
     Ok(encode(alloc, &image)?)
 }

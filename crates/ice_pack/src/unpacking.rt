@@ -1,21 +1,35 @@
 // A bitstream as a text.
 ghost use Rattle.std.specs.Prelude.{◌≡◌, IfOk, IfErr};
+ghost use Rattle.layout_file.specs.Layouts.{standard_layouts, AreLayouts};
 ghost use Rattle.bin_stream.specs.Spelling.{IsDecided, bin_read_of, Tells};
 ghost use Rattle.ice_pack.specs.Packed.{IsUnpacked, PacksBack, PacksToItself};
 
 use asc_text::write;
-use bin_stream::{BinFault, decode};
+use bin_stream::{BinFault, decode_with};
+use layout_file::Layouts;
 use std::alloc::Global;
 
-/// The canonical text of what a bitstream spells.
+/// The canonical text of what a bitstream spells under the standard layouts.
 pub fn unpack(alloc: Global, bin: &[u8]) -> Result<Vec<u8>, BinFault>
     // The input spells one image or has one fault, and not both.
-    ensures decided { IsDecided bin.now }
-    ensures unpacked { IfOk result (λ text. IsUnpacked bin.now text.items) }
-    ensures back { IfOk result (λ text. PacksBack bin.now text.items) }
-    ensures itself { IfOk result (λ text. PacksToItself bin.now text.items) }
-    ensures refused { IfErr result (Tells (bin_read_of bin.now)) }
+    ensures decided { IsDecided standard_layouts bin.now }
+    ensures unpacked { IfOk result (λ text. IsUnpacked standard_layouts bin.now text.items) }
+    ensures back { IfOk result (λ text. PacksBack standard_layouts bin.now text.items) }
+    ensures itself { IfOk result (λ text. PacksToItself standard_layouts bin.now text.items) }
+    ensures refused { IfErr result (Tells (bin_read_of standard_layouts bin.now)) }
 {
-    let image = decode(alloc, bin)?;
+    unpack_with(alloc, bin, Layouts::standard())
+}
+
+/// The same under other layouts.
+pub fn unpack_with(alloc: Global, bin: &[u8], layouts: Layouts) -> Result<Vec<u8>, BinFault>
+    requires { AreLayouts layouts }
+    ensures decided { IsDecided layouts bin.now }
+    ensures unpacked { IfOk result (λ text. IsUnpacked layouts bin.now text.items) }
+    ensures back { IfOk result (λ text. PacksBack layouts bin.now text.items) }
+    ensures itself { IfOk result (λ text. PacksToItself layouts bin.now text.items) }
+    ensures refused { IfErr result (Tells (bin_read_of layouts bin.now)) }
+{
+    let image = decode_with(alloc, bin, layouts)?;
     Ok(write(alloc, &image)?)
 }

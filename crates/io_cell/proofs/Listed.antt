@@ -15,29 +15,29 @@ use Rattle.tile_lookups.specs.Tiles.{tiles_of}
 use Rattle.tile_lookups.proofs.InOrder.{over_tiles-listed}
 use Rattle.io_cell.specs.Faults.{pll_at, pin_faults_in}
 
-pub pins_listed : (db : Database) (image : Configuration) (tiles : List TileXy8) → tiles ≡ tiles_of image.device Io
+pub pins_listed : (db : Database) (image : Configuration) (tiles : List TileXy8) → tiles ≡ tiles_of image.layout.device Io
     → flat_map (λ (tile : TileXy8). gathered_below 2 (port_at db image tile.x tile.y)) tiles ≡ pins_of db image
 unfolding pins_of
 pins_listed db image tiles all =
     let given : TileXy8 → List Pin = λ tile. gathered_below 2 (port_at db image tile.x tile.y) in
-    ap (flat_map given) all ∙ sym (over_tiles-listed image.device Io (λ x y. gathered_below 2 (port_at db image x y)))
+    ap (flat_map given) all ∙ sym (over_tiles-listed image.layout.device Io (λ x y. gathered_below 2 (port_at db image x y)))
 
-plls_listed : (db : Database) (image : Configuration) (tiles : List TileXy8) → tiles ≡ tiles_of image.device Io
+plls_listed : (db : Database) (image : Configuration) (tiles : List TileXy8) → tiles ≡ tiles_of image.layout.device Io
     → pll_faults db image ≡ flat_map (λ (tile : TileXy8). pll_at db image tile.x tile.y) tiles
 unfolding pll_faults
 plls_listed db image tiles all =
     let given : TileXy8 → List Fault = λ tile. pll_at db image tile.x tile.y in
-    over_tiles-listed image.device Io (pll_at db image) ∙ ap (flat_map given) (sym all)
+    over_tiles-listed image.layout.device Io (pll_at db image) ∙ ap (flat_map given) (sym all)
 
-refused_listed : (db : Database) (image : Configuration) (tiles : List TileXy8) → tiles ≡ tiles_of image.device Io
+refused_listed : (db : Database) (image : Configuration) (tiles : List TileXy8) → tiles ≡ tiles_of image.layout.device Io
     → pin_faults db image ≡ flat_map (λ (tile : TileXy8). pin_faults_in db image tile.x tile.y) tiles
 unfolding pin_faults
 refused_listed db image tiles all =
     let given : TileXy8 → List Fault = λ tile. pin_faults_in db image tile.x tile.y in
-    over_tiles-listed image.device Io (pin_faults_in db image) ∙ ap (flat_map given) (sym all)
+    over_tiles-listed image.layout.device Io (pin_faults_in db image) ∙ ap (flat_map given) (sym all)
 
 -- the first PLL goes before the first pin
-pub fault_listed : (db : Database) (image : Configuration) (tiles : List TileXy8) (pll pin : Option Fault) → tiles ≡ tiles_of image.device Io
+pub fault_listed : (db : Database) (image : Configuration) (tiles : List TileXy8) (pll pin : Option Fault) → tiles ≡ tiles_of image.layout.device Io
     → first_of (flat_map (λ (tile : TileXy8). pll_at db image tile.x tile.y) tiles) ≡ pll
     → first_of (flat_map (λ (tile : TileXy8). pin_faults_in db image tile.x tile.y) tiles) ≡ pin
     → pins_fault db image ≡ or_else pll pin
@@ -46,7 +46,7 @@ fault_listed db image tiles pll pin all pll_is pin_is =
     ap (λ first. or_else first (first_of (pin_faults db image))) (ap first_of (plls_listed db image tiles all) ∙ pll_is)
     ∙ ap (or_else pll) (ap first_of (refused_listed db image tiles all) ∙ pin_is)
 
-pub pll_listed : (db : Database) (image : Configuration) (tiles : List TileXy8) (fault : Fault) → tiles ≡ tiles_of image.device Io
+pub pll_listed : (db : Database) (image : Configuration) (tiles : List TileXy8) (fault : Fault) → tiles ≡ tiles_of image.layout.device Io
     → first_of (flat_map (λ (tile : TileXy8). pll_at db image tile.x tile.y) tiles) ≡ Some fault
     → pins_fault db image ≡ Some fault
 unfolding pins_fault

@@ -29,7 +29,7 @@ use tile_lookups::tiles_of_image;
 ///
 /// The database and the image are of one device, and the links are those that the image sets.
 pub fn pins(alloc: Global, db: &ChipDb, image: &AnyImage, links: &Links) -> Result<PinSet, PinFault>
-    requires device { db.now.chip.device ≡ (configuration_of image.now).device }
+    requires device { db.now.chip.device ≡ (configuration_of image.now).layout.device }
     requires links { AreLinks (database_in db.now) (configuration_of image.now) links.now }
     ensures pins { IfOk result (λ set. set.pins.items ≡ pins_of (database_in db.now) (configuration_of image.now)) }
     ensures globals { IfOk result (λ set. set.globals.items ≡ globals_of (database_in db.now) (configuration_of image.now)) }
@@ -50,7 +50,7 @@ fn pins_in(
     tiles: &[TileXy8],
 ) -> Result<PinSet, PinFault>
     requires together { BelongTogether db.now image.now links.now }
-    requires all { tiles.now ≡ tiles_of (configuration_of image.now).device Io }
+    requires all { tiles.now ≡ tiles_of (configuration_of image.now).layout.device Io }
     requires each { All (λ tile. HasTile image.now Io tile.x tile.y) tiles.now }
     ensures pins { IfOk result (λ set. set.pins.items ≡ pins_of (database_in db.now) (configuration_of image.now)) }
     ensures globals { IfOk result (λ set. set.globals.items ≡ globals_of (database_in db.now) (configuration_of image.now)) }
@@ -67,7 +67,7 @@ fn pins_in(
 /// Whether all tiles and pins are taken, or the first cause why they aren't.
 fn taken(db: &ChipDb, image: &AnyImage, links: &Links, tiles: &[TileXy8]) -> Result<(), PinFault>
     requires together { BelongTogether db.now image.now links.now }
-    requires all { tiles.now ≡ tiles_of (configuration_of image.now).device Io }
+    requires all { tiles.now ≡ tiles_of (configuration_of image.now).layout.device Io }
     requires each { All (λ tile. HasTile image.now Io tile.x tile.y) tiles.now }
     ensures taken { OnOk result (pins_fault (database_in db.now) (configuration_of image.now) ≡ None) }
     ensures refused { IfErr result (IsCause (pins_fault (database_in db.now) (configuration_of image.now))) }

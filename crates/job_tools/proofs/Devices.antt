@@ -13,9 +13,9 @@ same-device : (device : DeviceName) → is_same_device device device ≡ true
 same-device K1 = refl
 same-device K8 = refl
 
-pub no_fault : (db : Database) (image : Configuration) → db.chip.device ≡ image.device → explain_fault_of db image None ≡ None
+pub no_fault : (db : Database) (image : Configuration) → db.chip.device ≡ image.layout.device → explain_fault_of db image None ≡ None
 unfolding explain_fault_of
-no_fault db image same = rw same (rw (same-device image.device) refl)
+no_fault db image same = rw same (rw (same-device image.layout.device) refl)
 
 no-other : (one other : DeviceName) → (if is_for_device one other then [] else Fault.other_device ∷ []) ≡ [] → one ≡ other
 no-other K1 K1 none = refl
@@ -23,6 +23,6 @@ no-other K8 K8 none = refl
 no-other K1 K8 none = absurd cc
 no-other K8 K1 none = absurd cc
 
-pub taken-device : (db : Database) (image : Configuration) → design_fault db image ≡ None → db.chip.device ≡ image.device
+pub taken-device : (db : Database) (image : Configuration) → design_fault db image ≡ None → db.chip.device ≡ image.layout.device
 unfolding device_faults
-taken-device db image none = no-other db.chip.device image.device (design-taken db image none).device
+taken-device db image none = no-other db.chip.device image.layout.device (design-taken db image none).device

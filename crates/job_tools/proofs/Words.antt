@@ -5,7 +5,7 @@ use Rattle.std.specs.Borrow.{Bor}
 use Rattle.clap.specs.Words.{App, Row, Text, first_of, is_simple_and_free, matches_of}
 use Rattle.clap.proofs.OnLiterals.{clap_on_literals}
 use Rattle.plane_map.specs.declared.device.DeviceName.{DeviceName}
-use Rattle.asc_text.specs.Statements.{device_named}
+use Rattle.plane_map.specs.DeviceWords.{device_named}
 use Rattle.tool_run.specs.Needs.{text_of}
 use Rattle.tool_run.proofs.CommandLines.{text_of-map}
 use Rattle.tool_words.specs.Commands.{is_taken}

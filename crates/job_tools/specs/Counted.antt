@@ -5,7 +5,7 @@ use Rattle.text_lines.specs.Written.{text_of}
 use Rattle.plane_map.specs.declared.device.DeviceName.{DeviceName}
 use Rattle.ice_image.specs.Configuration.{Configuration}
 use Rattle.asc_text.specs.Canonical.{with_word}
-use Rattle.asc_text.specs.Statements.{device_word}
+use Rattle.plane_map.specs.DeviceWords.{device_word}
 use Rattle.bin_stream.specs.CanonicalBytes.{canonical_bytes}
 use Rattle.chipdb_reader.specs.Database.{Database}
 use Rattle.tile_bits.specs.Explained.{explained}

@@ -6,7 +6,7 @@ use Rattle.clap.specs.Words.{App, Row, Text, first_of, matches_of}
 use Rattle.text_lines.specs.Words.{digits_value, number_of}
 use Rattle.plane_map.specs.declared.device.DeviceName.{DeviceName}
 use Rattle.ice_image.specs.Configuration.{Configuration}
-use Rattle.asc_text.specs.Statements.{device_named}
+use Rattle.plane_map.specs.DeviceWords.{device_named}
 use Rattle.chipdb_reader.specs.Database.{Database}
 use Rattle.ice_gen.specs.Database.{generated_database}
 use Rattle.ice_gen.specs.Image.{generated_image}

@@ -75,7 +75,7 @@ pub(crate) fn explained_lines(
     db: &ChipDb,
     image: &AnyImage,
 ) -> Result<usize, AllocError>
-    requires { db.now.chip.device ≡ (configuration_of image.now).device }
+    requires { db.now.chip.device ≡ (configuration_of image.now).layout.device }
     ensures { IfOk result (λ lines. lines ≡ length (lines_of (explained (database_in db.now) (configuration_of image.now) None))) }
 {
     match explain(alloc, db, image, None) {

@@ -2,7 +2,7 @@
 ghost use Rattle.std.specs.Prelude.{◌≡◌, ◌<◌, ◌^◌, ◌++◌, ◌∷◌, [], OnOk, IfOk, codes, decimal};
 ghost use Rattle.text_lines.specs.Written.{text_of};
 ghost use Rattle.asc_text.specs.Canonical.{with_word};
-ghost use Rattle.asc_text.specs.Statements.{device_word};
+ghost use Rattle.plane_map.specs.DeviceWords.{device_word};
 ghost use Rattle.job_tools.specs.Counted.{counts_text, design_lines, number_line, run_lines};
 
 use itoa::Buffer;

@@ -4,7 +4,7 @@ ghost use Rattle.std.specs.Char.{is_ascii_digit};
 ghost use Rattle.std.specs.List.{list_all};
 ghost use Rattle.clap.specs.Words.{app_of};
 ghost use Rattle.text_lines.specs.Words.{digits_value, number_of};
-ghost use Rattle.asc_text.specs.Statements.{device_named};
+ghost use Rattle.plane_map.specs.DeviceWords.{device_named};
 ghost use Rattle.tool_run.specs.Needs.{text_of};
 ghost use Rattle.job_tools.specs.Selfrun.{events_count, given, request_with, seed_of, selfrun_command, selfrun_request, within_limit};
 
@@ -67,11 +67,7 @@ pub(crate) struct Request {
 fn device_named(word: &str) -> Option<DeviceName>
     ensures { result ≡ device_named word.now }
 {
-    match word {
-        "1k" => Some(DeviceName::K1),
-        "8k" => Some(DeviceName::K8),
-        _ => None,
-    }
+    DeviceName::named(word.as_bytes())
 }
 
 // Whether each byte is a decimal digit.

@@ -19,6 +19,10 @@ abbrev pub layout_for : Layouts → DeviceName → Layout
 layout_for layouts K1 = layouts.k1
 layout_for layouts K8 = layouts.k8
 
+-- a layout is the one of its device
+abbrev pub HasLayout : Layouts → Layout → Type 0
+HasLayout layouts layout = layout_for layouts layout.device ≡ layout
+
 -- the layouts where no others are given
 abbrev pub standard_layouts : Layouts
 standard_layouts = record { k1 = standard_layout K1; k8 = standard_layout K8 }

@@ -38,7 +38,7 @@ fn cells_in(
     image: &AnyImage,
     tiles: &[TileXy8],
 ) -> Result<Cells, LcFault>
-    requires all { tiles.now ≡ tiles_of (configuration_of image.now).device Logic }
+    requires all { tiles.now ≡ tiles_of (configuration_of image.now).layout.device Logic }
     requires each { All (λ tile. HasTile image.now Logic tile.x tile.y) tiles.now }
     ensures cells { IfOk result (λ cells. cells.lcs.items ≡ cells_of (database_in db.now) (configuration_of image.now)) }
     ensures sets { IfOk result (λ cells. cells.sets.items ≡ sets_of (database_in db.now) (configuration_of image.now)) }

@@ -19,8 +19,8 @@ use std::alloc::{AllocError, Global};
 pub fn links(alloc: Global, db: &ChipDb, image: &AnyImage) -> Result<Links, LinkFault>
     ensures links { IfOk result (AreLinks (database_in db.now) (configuration_of image.now)) }
     ensures classes { IfOk result (λ links. (net : ℕ) → IsClassOf (joins_of (database_in db.now) (configuration_of image.now)) net (class_in links net)) }
-    ensures taken { OnOk result (db.now.chip.device ≡ (configuration_of image.now).device) }
-    ensures refused { IfErr result (λ fault. (fault ≡ LinkFault.Device) ↔ ¬ (db.now.chip.device ≡ (configuration_of image.now).device)) }
+    ensures taken { OnOk result (db.now.chip.device ≡ (configuration_of image.now).layout.device) }
+    ensures refused { IfErr result (λ fault. (fault ≡ LinkFault.Device) ↔ ¬ (db.now.chip.device ≡ (configuration_of image.now).layout.device)) }
 {
     if db.device() == image.device() {
         Ok(found(alloc, db, image)?)
@@ -31,7 +31,7 @@ pub fn links(alloc: Global, db: &ChipDb, image: &AnyImage) -> Result<Links, Link
 
 /// The same for a database of the image's device.
 fn found(alloc: Global, db: &ChipDb, image: &AnyImage) -> Result<Links, AllocError>
-    requires { db.now.chip.device ≡ (configuration_of image.now).device }
+    requires { db.now.chip.device ≡ (configuration_of image.now).layout.device }
     ensures { IfOk result (AreLinks (database_in db.now) (configuration_of image.now)) }
 {
     let buffers = all_on(alloc, db, image, db.buffers())?;

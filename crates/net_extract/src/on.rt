@@ -26,17 +26,16 @@ pub(crate) struct OnLink {
 /// Whether these bits of the tile at (x, y) have these values: the first one that of the lowest bit.
 fn have_values(image: &AnyImage, x: u8, y: u8, bits: &[RowCol], values: u64) -> bool
     requires few { length bits.now ≤ 64 }
-    requires in_tile { All (IsBitOfTile (configuration_of image.now).device x y) bits.now }
+    requires in_tile { All (IsBitOfTile (configuration_of image.now).layout x y) bits.now }
     ensures { result ≡ pointwise beq (bits_at (configuration_of image.now) x y bits.now) (low_bits (length bits.now) values) }
 {
-    let _device = image.device();
     image.tile_equals(x, y, bits, values)
 }
 
 /// Whether each bit of a link has its value.
 #[tactic(auto, unfolding(fabric_rules::specs::On::is_link_on))]
 fn is_on(db: &ChipDb, image: &AnyImage, link: LinkLine) -> bool
-    requires device { db.now.chip.device ≡ (configuration_of image.now).device }
+    requires device { db.now.chip.device ≡ (configuration_of image.now).layout.device }
     requires fit { IsLink db.now.chip (link_line db.now.bits link) }
     ensures { result ≡ is_link_on (configuration_of image.now) (link_line db.now.bits link) }
 {
@@ -57,7 +56,7 @@ pub(crate) fn all_on(
     image: &AnyImage,
     links: &[LinkLine],
 ) -> Result<Vec<OnLink>, AllocError>
-    requires device { db.now.chip.device ≡ (configuration_of image.now).device }
+    requires device { db.now.chip.device ≡ (configuration_of image.now).layout.device }
     requires fit { All (IsLink db.now.chip) (link_lines db.now.bits links.now) }
     ensures { IfOk result (λ on. on.items ≡ links_on (configuration_of image.now) (link_lines db.now.bits links.now)) }
 {

@@ -40,7 +40,7 @@ some-extras extras [] some = absurd (omega arith)
 some-extras extras (place ∷ places) some = refl
 
 -- the items of a tile that is there
-pub items-there : (database : Database) (image : Configuration) (x y : ℕ) (kind : TileKind) → kind_of image.device x y ≡ Some kind → items_at database image x y ≡ items_of_tile database image x y kind
+pub items-there : (database : Database) (image : Configuration) (x y : ℕ) (kind : TileKind) → kind_of image.layout.device x y ≡ Some kind → items_at database image x y ≡ items_of_tile database image x y kind
 unfolding items_at
 items-there database image x y kind there = ap (items_in database image x y) there
 

@@ -10,7 +10,8 @@ use Rattle.plane_map.specs.declared.tile.TileKind.{TileKind}
 use Rattle.plane_map.specs.declared.tile.Place.{Place}
 use Rattle.ice_image.specs.Configuration.{Configuration}
 use Rattle.asc_text.specs.declared.fault.TileXy.{TileXy}
-use Rattle.asc_text.specs.Statements.{device_keyword, device_word, tile_keyword}
+use Rattle.plane_map.specs.DeviceWords.{device_word}
+use Rattle.asc_text.specs.Statements.{device_keyword, tile_keyword}
 use Rattle.asc_text.specs.Canonical.{grid_line, row_line, with_word}
 use Rattle.ice_image.specs.Bits.{set_extras}
 use Rattle.ice_image.specs.Owned.{is_same_place}
@@ -83,8 +84,8 @@ set_tile_lines database image x y (Some kind) = if is_set_tile image x y kind th
 -- row of the grid by row of the grid
 abbrev pub all_tile_lines : Database → Configuration → List (List ℕ)
 all_tile_lines database image =
-    gathered_below (grid_height image.device) (λ y. gathered_below (grid_width image.device) (λ x.
-    set_tile_lines database image x y (kind_of image.device x y)))
+    gathered_below (grid_height image.layout.device) (λ y. gathered_below (grid_width image.layout.device) (λ x.
+    set_tile_lines database image x y (kind_of image.layout.device x y)))
 
 -- ---- extra bits
 
@@ -110,11 +111,11 @@ lines_of_kind database image x y (Some kind) = tile_lines database image x y kin
 -- one tile, or all tiles with a set bit and the extra bits
 abbrev pub lines_after : Database → Configuration → Option TileXy → List (List ℕ)
 lines_after database image None = all_tile_lines database image ++ extra_lines database.extras (set_extras image)
-lines_after database image (Some only) = lines_of_kind database image only.x only.y (kind_of image.device only.x only.y)
+lines_after database image (Some only) = lines_of_kind database image only.x only.y (kind_of image.layout.device only.x only.y)
 
 -- the text
 unfoldable pub explained : Database → Configuration → Option TileXy → List ℕ
-explained database image only = text_of (with_word device_keyword (device_word image.device) ∷ lines_after database image only)
+explained database image only = text_of (with_word device_keyword (device_word image.layout.device) ∷ lines_after database image only)
 
 -- ---- refusals
 
@@ -135,7 +136,7 @@ only_fault device (Some only) = tile_fault only.x only.y (kind_of device only.x 
 -- why nothing is explained: the database is that of another device, or there is no such tile
 unfoldable pub explain_fault_of : Database → Configuration → Option TileXy → Option ExplainFault
 explain_fault_of database image only =
-    if is_same_device database.chip.device image.device then only_fault image.device only else Some Device
+    if is_same_device database.chip.device image.layout.device then only_fault image.layout.device only else Some Device
 
 -- a fault that is told is that one
 abbrev pub Tells : Option ExplainFault → ExplainFault → Type 0

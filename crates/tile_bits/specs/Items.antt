@@ -120,4 +120,4 @@ items_in database image x y (Some kind) = items_of_tile database image x y kind
 
 -- what the tile at (x, y) says: its cells, its other functions, its links, its other bits
 unfoldable pub items_at : Database → Configuration → ℕ → ℕ → List Active
-items_at database image x y = items_in database image x y (kind_of image.device x y)
+items_at database image x y = items_in database image x y (kind_of image.layout.device x y)

@@ -101,7 +101,7 @@ pub(crate) fn push_cells(
     at: TileAt,
     cells: Cells,
 ) -> Result<(), AllocError>
-    requires tile { IsTileAt (configuration_of image.now).device at }
+    requires tile { IsTileAt (configuration_of image.now).layout.device at }
     requires cells { cells.places ≡ cell_places (database_in db.now).functions }
     ensures { OnOk result (items.new.items ≡ items.old.items ++ cell_items (configuration_of image.now) at.x at.y at.kind (database_in db.now).functions) }
 {
@@ -120,7 +120,7 @@ fn push_logic_cells(
     at: TileAt,
     cells: Cells,
 ) -> Result<(), AllocError>
-    requires tile { IsTileAt (configuration_of image.now).device at }
+    requires tile { IsTileAt (configuration_of image.now).layout.device at }
     requires kind { at.kind ≡ TileKind.Logic }
     requires cells { cells.places ≡ cell_places (database_in db.now).functions }
     ensures { OnOk result (items.new.items ≡ items.old.items ++ gathered_below 8 (λ i. cell_item i (map (bit_of (configuration_of image.now) at.x at.y) (cell_bits (database_in db.now).functions i)))) }
@@ -140,7 +140,7 @@ fn push_cell(
     i: u8,
     bits: &[RowCol],
 ) -> Result<(), AllocError>
-    requires tile { IsTileAt (configuration_of image.now).device at }
+    requires tile { IsTileAt (configuration_of image.now).layout.device at }
     requires inside { All (IsBitIn (columns_of at.kind)) bits.now }
     ensures { OnOk result (items.new.items ≡ items.old.items ++ cell_item i (map (bit_of (configuration_of image.now) at.x at.y) bits.now)) }
 {
@@ -157,7 +157,7 @@ fn push_cell(
 /// The number of some of the bits of a cell by their places, the first of them the lowest. A bit that isn't there is 0.
 #[tactic(auto, unfolding(bit_plane::specs::BitList::word_of))]
 fn picked(image: &AnyImage, at: TileAt, bits: &[RowCol], order: &[usize]) -> u16
-    requires tile { IsTileAt (configuration_of image.now).device at }
+    requires tile { IsTileAt (configuration_of image.now).layout.device at }
     requires inside { All (IsBitIn (columns_of at.kind)) bits.now }
     requires few { length order.now ≤ 16 }
     ensures is { result ≡ picked order.now (map (bit_of (configuration_of image.now) at.x at.y) bits.now) }
@@ -173,7 +173,7 @@ fn picked(image: &AnyImage, at: TileAt, bits: &[RowCol], order: &[usize]) -> u16
 
 /// The bit at a place of a list, and 0 past its end.
 fn bit_or_0(image: &AnyImage, at: TileAt, bits: &[RowCol], place: usize) -> bool
-    requires tile { IsTileAt (configuration_of image.now).device at }
+    requires tile { IsTileAt (configuration_of image.now).layout.device at }
     requires inside { All (IsBitIn (columns_of at.kind)) bits.now }
     ensures { result ≡ get_or (map (bit_of (configuration_of image.now) at.x at.y) bits.now) place false }
 {

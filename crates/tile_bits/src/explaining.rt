@@ -4,7 +4,8 @@ ghost use Rattle.text_lines.specs.Written.{text_of};
 ghost use Rattle.place_search.specs.Places.{gathered_below};
 ghost use Rattle.plane_map.specs.Layout.{grid_width, kind_of};
 ghost use Rattle.ice_image.specs.Either.{configuration_of};
-ghost use Rattle.asc_text.specs.Statements.{device_keyword, device_word};
+ghost use Rattle.plane_map.specs.DeviceWords.{device_word};
+ghost use Rattle.asc_text.specs.Statements.{device_keyword};
 ghost use Rattle.asc_text.specs.Canonical.{with_word};
 ghost use Rattle.chipdb_reader.specs.Kept.{database_in};
 ghost use Rattle.tile_bits.specs.Explained.{all_tile_lines, explain_fault_of, explained, is_same_device, lines_of_kind, set_tile_lines, tile_fault, tile_lines, Tells};
@@ -62,11 +63,11 @@ fn explain_only(
     image: &AnyImage,
     only: TileXy,
 ) -> Result<Vec<u8>, ExplainFault>
-    requires device { db.now.chip.device ≡ (configuration_of image.now).device }
-    ensures text { IfOk result (λ text. text.items ≡ text_of (with_word device_keyword (device_word (configuration_of image.now).device)
-        ∷ lines_of_kind (database_in db.now) (configuration_of image.now) only.x only.y (kind_of (configuration_of image.now).device only.x only.y))) }
-    ensures sound { OnOk result (tile_fault only.x only.y (kind_of (configuration_of image.now).device only.x only.y) ≡ None) }
-    ensures refused { IfErr result (Tells (tile_fault only.x only.y (kind_of (configuration_of image.now).device only.x only.y))) }
+    requires device { db.now.chip.device ≡ (configuration_of image.now).layout.device }
+    ensures text { IfOk result (λ text. text.items ≡ text_of (with_word device_keyword (device_word (configuration_of image.now).layout.device)
+        ∷ lines_of_kind (database_in db.now) (configuration_of image.now) only.x only.y (kind_of (configuration_of image.now).layout.device only.x only.y))) }
+    ensures sound { OnOk result (tile_fault only.x only.y (kind_of (configuration_of image.now).layout.device only.x only.y) ≡ None) }
+    ensures refused { IfErr result (Tells (tile_fault only.x only.y (kind_of (configuration_of image.now).layout.device only.x only.y))) }
 {
     match kind_on(image.device(), only.x, only.y) {
         None => Err(ExplainFault::NoTile {
@@ -91,9 +92,9 @@ fn text_of_tile(
     image: &AnyImage,
     at: TileAt,
 ) -> Result<Vec<u8>, AllocError>
-    requires device { db.now.chip.device ≡ (configuration_of image.now).device }
-    requires tile { IsTileAt (configuration_of image.now).device at }
-    ensures { IfOk result (λ text. text.items ≡ text_of (with_word device_keyword (device_word (configuration_of image.now).device) ∷ tile_lines (database_in db.now) (configuration_of image.now) at.x at.y at.kind)) }
+    requires device { db.now.chip.device ≡ (configuration_of image.now).layout.device }
+    requires tile { IsTileAt (configuration_of image.now).layout.device at }
+    ensures { IfOk result (λ text. text.items ≡ text_of (with_word device_keyword (device_word (configuration_of image.now).layout.device) ∷ tile_lines (database_in db.now) (configuration_of image.now) at.x at.y at.kind)) }
 {
     let mut text = Vec::new(alloc);
     append_device(&mut text, image.device())?;
@@ -104,7 +105,7 @@ fn text_of_tile(
 
 /// The text of all tiles with a set bit, and of the extra bits.
 fn text_of_all(alloc: Global, db: &ChipDb, image: &AnyImage) -> Result<Vec<u8>, AllocError>
-    requires device { db.now.chip.device ≡ (configuration_of image.now).device }
+    requires device { db.now.chip.device ≡ (configuration_of image.now).layout.device }
     ensures { IfOk result (λ text. text.items ≡ explained (database_in db.now) (configuration_of image.now) None) }
 {
     let known = Known {
@@ -150,7 +151,7 @@ fn append_tiles(
     image: &AnyImage,
     known: &Known,
 ) -> Result<(), AllocError>
-    requires device { db.now.chip.device ≡ (configuration_of image.now).device }
+    requires device { db.now.chip.device ≡ (configuration_of image.now).layout.device }
     requires known { IsKnown (database_in db.now) (configuration_of image.now) known.now }
     ensures { OnOk result (text.new.items ≡ text.old.items ++ text_of (all_tile_lines (database_in db.now) (configuration_of image.now))) }
 {
@@ -170,9 +171,9 @@ fn append_grid_row(
     known: &Known,
     y: u8,
 ) -> Result<(), AllocError>
-    requires device { db.now.chip.device ≡ (configuration_of image.now).device }
+    requires device { db.now.chip.device ≡ (configuration_of image.now).layout.device }
     requires known { IsKnown (database_in db.now) (configuration_of image.now) known.now }
-    ensures { OnOk result (text.new.items ≡ text.old.items ++ text_of (gathered_below (grid_width (configuration_of image.now).device) (λ x. set_tile_lines (database_in db.now) (configuration_of image.now) x y (kind_of (configuration_of image.now).device x y)))) }
+    ensures { OnOk result (text.new.items ≡ text.old.items ++ text_of (gathered_below (grid_width (configuration_of image.now).layout.device) (λ x. set_tile_lines (database_in db.now) (configuration_of image.now) x y (kind_of (configuration_of image.now).layout.device x y)))) }
 {
     for x in 0..image.device().columns() {
         append_place(text, alloc, db, image, known, x as u8, y)?;
@@ -190,9 +191,9 @@ fn append_place(
     x: u8,
     y: u8,
 ) -> Result<(), AllocError>
-    requires device { db.now.chip.device ≡ (configuration_of image.now).device }
+    requires device { db.now.chip.device ≡ (configuration_of image.now).layout.device }
     requires known { IsKnown (database_in db.now) (configuration_of image.now) known.now }
-    ensures { OnOk result (text.new.items ≡ text.old.items ++ text_of (set_tile_lines (database_in db.now) (configuration_of image.now) x y (kind_of (configuration_of image.now).device x y))) }
+    ensures { OnOk result (text.new.items ≡ text.old.items ++ text_of (set_tile_lines (database_in db.now) (configuration_of image.now) x y (kind_of (configuration_of image.now).layout.device x y))) }
 {
     match kind_on(image.device(), u32::from(x), u32::from(y)) {
         None => Ok(()),
@@ -216,8 +217,8 @@ fn append_known(
     known: &Known,
     at: TileAt,
 ) -> Result<(), AllocError>
-    requires device { db.now.chip.device ≡ (configuration_of image.now).device }
-    requires tile { IsTileAt (configuration_of image.now).device at }
+    requires device { db.now.chip.device ≡ (configuration_of image.now).layout.device }
+    requires tile { IsTileAt (configuration_of image.now).layout.device at }
     requires known { IsKnown (database_in db.now) (configuration_of image.now) known.now }
     ensures { OnOk result (text.new.items ≡ text.old.items ++ text_of (tile_lines (database_in db.now) (configuration_of image.now) at.x at.y at.kind)) }
 {

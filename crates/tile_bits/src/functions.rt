@@ -23,7 +23,7 @@ pub(crate) fn functions_on(
     at: TileAt,
     cells: Cells,
 ) -> Result<Vec<usize>, AllocError>
-    requires tile { IsTileAt (configuration_of image.now).device at }
+    requires tile { IsTileAt (configuration_of image.now).layout.device at }
     requires cells { cells.places ≡ cell_places (database_in db.now).functions }
     ensures { IfOk result (λ places. places.items ≡ on_functions (configuration_of image.now) at.x at.y at.kind (database_in db.now).functions) }
 {
@@ -44,7 +44,7 @@ fn is_other_on(
     place: usize,
     function: Function,
 ) -> bool
-    requires tile { IsTileAt (configuration_of image.now).device at }
+    requires tile { IsTileAt (configuration_of image.now).layout.device at }
     requires cells { cells.places ≡ cell_places (database_in db.now).functions }
     requires fit { IsFunctionLine (function_line db.now.texts db.now.bits function) }
     ensures { result ≡ is_other_on (configuration_of image.now) at.x at.y at.kind (database_in db.now).functions place (function_line db.now.texts db.now.bits function) }

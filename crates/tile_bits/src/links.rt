@@ -23,7 +23,7 @@ pub(crate) fn links_in(
     x: u8,
     y: u8,
 ) -> Result<Vec<usize>, AllocError>
-    requires device { db.now.chip.device ≡ (configuration_of image.now).device }
+    requires device { db.now.chip.device ≡ (configuration_of image.now).layout.device }
     requires fit { All (IsLink db.now.chip) (link_lines db.now.bits links.now) }
     ensures { IfOk result (λ places. places.items ≡ on_links (configuration_of image.now) x y (link_lines db.now.bits links.now)) }
 {
@@ -37,7 +37,7 @@ pub(crate) fn links_in(
 
 /// Whether a link is one of the tile at (x, y), and on.
 fn is_on_at(db: &ChipDb, image: &AnyImage, link: LinkLine, x: u8, y: u8) -> bool
-    requires device { db.now.chip.device ≡ (configuration_of image.now).device }
+    requires device { db.now.chip.device ≡ (configuration_of image.now).layout.device }
     requires fit { IsLink db.now.chip (link_line db.now.bits link) }
     ensures { result ≡ is_on_at (configuration_of image.now) x y (link_line db.now.bits link) }
 {
@@ -59,7 +59,7 @@ impl LinksOn {
         image: &AnyImage,
         links: &[LinkLine],
     ) -> Result<LinksOn, AllocError>
-        requires device { db.now.chip.device ≡ (configuration_of image.now).device }
+        requires device { db.now.chip.device ≡ (configuration_of image.now).layout.device }
         requires fit { All (IsLink db.now.chip) (link_lines db.now.bits links.now) }
         ensures { IfOk result (λ on. AreLists (configuration_of image.now) (link_lines db.now.bits links.now) (length links.now) (lists_of on.lists.items)) }
     {
@@ -107,7 +107,7 @@ fn add_if_on(
     link: LinkLine,
     index: usize,
 ) -> Result<(), AllocError>
-    requires device { db.now.chip.device ≡ (configuration_of image.now).device }
+    requires device { db.now.chip.device ≡ (configuration_of image.now).layout.device }
     requires fit { IsLink db.now.chip (link_line db.now.bits link) }
     requires all { length lists.old.items ≡ 4096 }
     ensures { OnOk result (lists_of lists.new.items ≡ with_place (is_link_on (configuration_of image.now) (link_line db.now.bits link)) (64 * link.y + link.x) index (lists_of lists.old.items)) }

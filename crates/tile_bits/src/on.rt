@@ -15,11 +15,10 @@ use plane_map::{RowCol, TileBit};
 
 /// A bit of a tile.
 pub(crate) fn tile_bit(image: &AnyImage, at: TileAt, bit: RowCol) -> bool
-    requires tile { IsTileAt (configuration_of image.now).device at }
+    requires tile { IsTileAt (configuration_of image.now).layout.device at }
     requires inside { IsBitIn (columns_of at.kind) bit }
     ensures { result ≡ bit_of (configuration_of image.now) at.x at.y bit }
 {
-    let _device = image.device();
     image.tile_bit(TileBit {
         x: at.x,
         y: at.y,
@@ -30,7 +29,7 @@ pub(crate) fn tile_bit(image: &AnyImage, at: TileAt, bit: RowCol) -> bool
 
 /// Whether all of these bits of a tile are 1.
 pub(crate) fn are_set(image: &AnyImage, at: TileAt, bits: &[RowCol]) -> bool
-    requires tile { IsTileAt (configuration_of image.now).device at }
+    requires tile { IsTileAt (configuration_of image.now).layout.device at }
     requires inside { All (IsBitIn (columns_of at.kind)) bits.now }
     ensures { result ≡ list_all (bit_of (configuration_of image.now) at.x at.y) bits.now }
 {
@@ -44,7 +43,7 @@ pub(crate) fn are_set(image: &AnyImage, at: TileAt, bits: &[RowCol]) -> bool
 
 /// Whether one of these bits of a tile is 1.
 pub(crate) fn is_one_set(image: &AnyImage, at: TileAt, bits: &[RowCol]) -> bool
-    requires tile { IsTileAt (configuration_of image.now).device at }
+    requires tile { IsTileAt (configuration_of image.now).layout.device at }
     requires inside { All (IsBitIn (columns_of at.kind)) bits.now }
     ensures { result ≡ list_any (bit_of (configuration_of image.now) at.x at.y) bits.now }
 {
@@ -59,7 +58,7 @@ pub(crate) fn is_one_set(image: &AnyImage, at: TileAt, bits: &[RowCol]) -> bool
 /// Whether a function of a tile's kind is on there.
 #[tactic(auto, unfolding(crate::specs::On::is_function_on))]
 pub(crate) fn is_function_on(db: &ChipDb, image: &AnyImage, at: TileAt, function: Function) -> bool
-    requires tile { IsTileAt (configuration_of image.now).device at }
+    requires tile { IsTileAt (configuration_of image.now).layout.device at }
     requires kind { function.kind ≡ at.kind }
     requires fit { IsFunctionLine (function_line db.now.texts db.now.bits function) }
     ensures { result ≡ is_function_on (configuration_of image.now) at.x at.y (function_line db.now.texts db.now.bits function) }
@@ -70,11 +69,10 @@ pub(crate) fn is_function_on(db: &ChipDb, image: &AnyImage, at: TileAt, function
 /// Whether a link is on.
 #[tactic(auto, unfolding(crate::specs::On::is_link_on))]
 pub(crate) fn is_link_on(db: &ChipDb, image: &AnyImage, link: LinkLine) -> bool
-    requires device { db.now.chip.device ≡ (configuration_of image.now).device }
+    requires device { db.now.chip.device ≡ (configuration_of image.now).layout.device }
     requires fit { IsLink db.now.chip (link_line db.now.bits link) }
     ensures { result ≡ is_link_on (configuration_of image.now) (link_line db.now.bits link) }
 {
-    let _device = image.device();
     image.tile_equals(link.x, link.y, db.bits(link.bits), link.values)
 }
 

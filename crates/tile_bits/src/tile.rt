@@ -36,7 +36,7 @@ pub fn active(
     x: u8,
     y: u8,
 ) -> Result<Vec<Active>, AllocError>
-    requires { db.now.chip.device ≡ (configuration_of image.now).device }
+    requires { db.now.chip.device ≡ (configuration_of image.now).layout.device }
     ensures { IfOk result (λ items. items.items ≡ items_at (database_in db.now) (configuration_of image.now) x y) }
 {
     match kind_on(image.device(), u32::from(x), u32::from(y)) {
@@ -61,8 +61,8 @@ pub(crate) fn items_of_tile(
     buffers: &[usize],
     routings: &[usize],
 ) -> Result<Vec<Active>, AllocError>
-    requires device { db.now.chip.device ≡ (configuration_of image.now).device }
-    requires tile { IsTileAt (configuration_of image.now).device at }
+    requires device { db.now.chip.device ≡ (configuration_of image.now).layout.device }
+    requires tile { IsTileAt (configuration_of image.now).layout.device at }
     requires cells { cells.places ≡ cell_places (database_in db.now).functions }
     requires buffers { buffers.now ≡ on_links (configuration_of image.now) at.x at.y (database_in db.now).buffers }
     requires routings { routings.now ≡ on_links (configuration_of image.now) at.x at.y (database_in db.now).routings }

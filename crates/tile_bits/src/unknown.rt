@@ -25,7 +25,7 @@ pub(crate) fn push_unknown(
     at: TileAt,
     known: &Tile<54>,
 ) -> Result<(), AllocError>
-    requires { IsTileAt (configuration_of image.now).device at }
+    requires { IsTileAt (configuration_of image.now).layout.device at }
     ensures { OnOk result (items.new.items ≡ items.old.items ++ unknown_items (configuration_of image.now) at.x at.y (λ row col. bit_at known.now col row) (columns_of at.kind)) }
 {
     for row in 0..16 {
@@ -43,7 +43,7 @@ fn push_unknown_of_row(
     known: &Tile<54>,
     row: u8,
 ) -> Result<(), AllocError>
-    requires tile { IsTileAt (configuration_of image.now).device at }
+    requires tile { IsTileAt (configuration_of image.now).layout.device at }
     requires row { row < 16 }
     ensures { OnOk result (items.new.items ≡ items.old.items ++ unknown_in (configuration_of image.now) at.x at.y (λ row col. bit_at known.now col row) (columns_of at.kind) row) }
 {
@@ -65,7 +65,7 @@ fn push_bit(items: &mut Vec<Active>, is_unknown: bool, row: u8, col: u8) -> Resu
 
 /// Whether a bit is set and isn't known.
 fn is_unknown(image: &AnyImage, at: TileAt, known: &Tile<54>, row: u8, col: u8) -> bool
-    requires tile { IsTileAt (configuration_of image.now).device at }
+    requires tile { IsTileAt (configuration_of image.now).layout.device at }
     requires row { row < 16 }
     requires col { col < columns_of at.kind }
     ensures { result ≡ (bit_of (configuration_of image.now) at.x at.y (record { row = row; col = col }) && not (bit_at known.now col row)) }
@@ -76,7 +76,7 @@ fn is_unknown(image: &AnyImage, at: TileAt, known: &Tile<54>, row: u8, col: u8) 
 /// Whether a tile has a set bit.
 #[tactic(auto, unfolding(crate::specs::Explained::is_set_tile, place_search::specs::Places::any_below))]
 pub(crate) fn is_set_tile(image: &AnyImage, at: TileAt) -> bool
-    requires { IsTileAt (configuration_of image.now).device at }
+    requires { IsTileAt (configuration_of image.now).layout.device at }
     ensures { result ≡ is_set_tile (configuration_of image.now) at.x at.y at.kind }
 {
     for row in 0..16 {
@@ -90,7 +90,7 @@ pub(crate) fn is_set_tile(image: &AnyImage, at: TileAt) -> bool
 /// Whether a row of a tile has a set bit.
 #[tactic(auto, unfolding(place_search::specs::Places::any_below))]
 fn is_set_row(image: &AnyImage, at: TileAt, row: u8) -> bool
-    requires tile { IsTileAt (configuration_of image.now).device at }
+    requires tile { IsTileAt (configuration_of image.now).layout.device at }
     requires row { row < 16 }
     ensures { result ≡ any_below (columns_of at.kind) (λ col. bit_of (configuration_of image.now) at.x at.y (record { row = row; col = col })) }
 {

@@ -21,7 +21,7 @@ tiles_of device kind = over_tiles device kind (λ x y. record { x = x; y = y } �
 
 -- an image has a tile of that kind at (x, y)
 pub record HasTile (image : AnyImage) (kind : TileKind) (x y : ℕ) : Type 0 where
-  pub device : (configuration_of image).device ≡ device_of image
+  pub device : (configuration_of image).layout.device ≡ device_of image
   pub stands : kind_of (device_of image) x y ≡ Some kind
 
 -- whether a function is of a kind, has a name that begins so, and is on at (x, y)

@@ -16,7 +16,7 @@ pub fn tiles_of_image(
     image: &AnyImage,
     kind: TileKind,
 ) -> Result<Vec<TileXy8>, AllocError>
-    ensures all { IfOk result (λ tiles. tiles.items ≡ tiles_of (configuration_of image.now).device kind) }
+    ensures all { IfOk result (λ tiles. tiles.items ≡ tiles_of (configuration_of image.now).layout.device kind) }
     ensures each { IfOk result (λ tiles. All (λ tile. HasTile image.now kind tile.x tile.y) tiles.items) }
 {
     tiles_of_device(alloc, image.device(), kind)

@@ -117,11 +117,11 @@ memory-places a b of_a of_b same = two-same a.x a.y b.x b.y of_a.first of_a.seco
 module _ (db : Database) (image : Configuration) where
   -- ---- pins
 
-  pub pin-at : (x y n pintype : ℕ) → x < grid_width image.device → y < grid_height image.device → n < 2
+  pub pin-at : (x y n pintype : ℕ) → x < grid_width image.layout.device → y < grid_height image.layout.device → n < 2
       → PinSmall (pin_with db x y n pintype) × ((pin_with db x y n pintype).x ≡ x) × ((pin_with db x y n pintype).y ≡ y)
   unfolding pin_with PinSmall
   pin-at x y n pintype left low few =
-      (record { first = few-small x (width-few image.device x left); second = few-small y (height-few image.device y low); third = few-small n (omega arith) }, refl, refl)
+      (record { first = few-small x (width-few image.layout.device x left); second = few-small y (height-few image.layout.device y low); third = few-small n (omega arith) }, refl, refl)
 
   pin-number : (x y n pintype : ℕ) → (pin_with db x y n pintype).n ≡ n
   unfolding pin_with
@@ -133,7 +133,7 @@ module _ (db : Database) (image : Configuration) where
       Apart-over_tiles port_name PinSmall (λ pin. pin.x) (λ pin. pin.y)
       (λ a b of_a of_b other. apart-from (port_name a) (port_name b) (λ same. other (pin-places a b of_a of_b same).0))
       (λ a b of_a of_b other. apart-from (port_name a) (port_name b) (λ same. other (pin-places a b of_a of_b same).1))
-      image.device Io (λ x y. gathered_below 2 (port_at db image x y))
+      image.layout.device Io (λ x y. gathered_below 2 (port_at db image x y))
       (λ x y left low. All-gathered (λ pin. PinSmall pin × (pin.x ≡ x) × (pin.y ≡ y)) 2 (port_at db image x y)
       (λ n few. All-item_if (λ pin. PinSmall pin × (pin.x ≡ x) × (pin.y ≡ y)) (is_port (pintype_of db image x y n)) (pin_with db x y n (pintype_of db image x y n))
       (pin-at x y n (pintype_of db image x y n) left low few)))
@@ -145,11 +145,11 @@ module _ (db : Database) (image : Configuration) where
 
   -- ---- cells
 
-  pub cell-at : (x y i : ℕ) (bits : List Bool) → x < grid_width image.device → y < grid_height image.device → i < 8
+  pub cell-at : (x y i : ℕ) (bits : List Bool) → x < grid_width image.layout.device → y < grid_height image.layout.device → i < 8
       → CellSmall (cell_with db image x y i bits) × ((cell_with db image x y i bits).x ≡ x) × ((cell_with db image x y i bits).y ≡ y)
   unfolding cell_with CellSmall
   cell-at x y i bits left low few =
-      (record { first = few-small x (width-few image.device x left); second = few-small y (height-few image.device y low); third = few-small i (omega arith) }, refl, refl)
+      (record { first = few-small x (width-few image.layout.device x left); second = few-small y (height-few image.layout.device y low); third = few-small i (omega arith) }, refl, refl)
 
   cell-number : (x y i : ℕ) (bits : List Bool) → (cell_with db image x y i bits).i ≡ i
   unfolding cell_with
@@ -161,7 +161,7 @@ module _ (db : Database) (image : Configuration) where
       Apart-over_tiles flip_name CellSmall (λ lc. lc.x) (λ lc. lc.y)
       (λ a b of_a of_b other. apart-from (flip_name a) (flip_name b) (λ same. other (cell-places a b of_a of_b same).0))
       (λ a b of_a of_b other. apart-from (flip_name a) (flip_name b) (λ same. other (cell-places a b of_a of_b same).1))
-      image.device Logic (cells_at db image)
+      image.layout.device Logic (cells_at db image)
       (λ x y left low. All-gathered (λ lc. CellSmall lc × (lc.x ≡ x) × (lc.y ≡ y)) 8 (used_cell db image x y)
       (λ i few. All-item_if (λ lc. CellSmall lc × (lc.x ≡ x) × (lc.y ≡ y)) _ (cell_with db image x y i (cell_bits db image x y i))
       (cell-at x y i (cell_bits db image x y i) left low few)))
@@ -173,11 +173,11 @@ module _ (db : Database) (image : Configuration) where
 
   -- ---- RAMs
 
-  pub ram-placed : (x y : ℕ) → x < grid_width image.device → y < grid_height image.device
+  pub ram-placed : (x y : ℕ) → x < grid_width image.layout.device → y < grid_height image.layout.device
       → RamSmall (ram_at db image x y) × ((ram_at db image x y).x ≡ x) × ((ram_at db image x y).y ≡ y)
   unfolding ram_at RamSmall
   ram-placed x y left low =
-      (record { first = few-small x (width-few image.device x left); second = few-small y (height-few image.device y low); third = few-small 0 (omega arith) }, refl, refl)
+      (record { first = few-small x (width-few image.layout.device x left); second = few-small y (height-few image.layout.device y low); third = few-small 0 (omega arith) }, refl, refl)
 
   pub rams-apart : (name : RamCell → List ℕ) → ((a b : RamCell) → RamSmall a → RamSmall b → name a ≡ name b → (a.x ≡ b.x) × (a.y ≡ b.y)) → Apart name (rams_of db image)
   unfolding rams_of
@@ -185,7 +185,7 @@ module _ (db : Database) (image : Configuration) where
       Apart-over_tiles name RamSmall (λ ram. ram.x) (λ ram. ram.y)
       (λ a b of_a of_b other. apart-from (name a) (name b) (λ same. other (places a b of_a of_b same).0))
       (λ a b of_a of_b other. apart-from (name a) (name b) (λ same. other (places a b of_a of_b same).1))
-      image.device RamB (λ x y. if is_ram_used db image x y then ram_at db image x y ∷ [] else [])
+      image.layout.device RamB (λ x y. if is_ram_used db image x y then ram_at db image x y ∷ [] else [])
       (λ x y left low. All-if (λ ram. RamSmall ram × (ram.x ≡ x) × (ram.y ≡ y)) (is_ram_used db image x y) (ram_at db image x y ∷ [])
       (All-single (λ ram. RamSmall ram × (ram.x ≡ x) × (ram.y ≡ y)) (ram_at db image x y) (ram-placed x y left low)))
       (λ x y left low. Apart-if name (is_ram_used db image x y) (ram_at db image x y ∷ []) (All-nil (λ ram. bytes_eq (name (ram_at db image x y)) (name ram) ≡ false), tt))
@@ -213,21 +213,21 @@ module _ (db : Database) (image : Configuration) where
   starts-count : length (fabric_of db image).start ≡ length (rams_of db image)
   unfolding fabric_of rams_of over_grid
   starts-count =
-      count-gathered (grid_height image.device) _ _ (λ y. count-gathered (grid_width image.device) _ _ (λ x.
-      same-if (is_kind_there RamB (kind_of image.device x y)) (if is_ram_used db image x y then start_words image x y ∷ [] else []) (if is_ram_used db image x y then ram_at db image x y ∷ [] else [])
+      count-gathered (grid_height image.layout.device) _ _ (λ y. count-gathered (grid_width image.layout.device) _ _ (λ x.
+      same-if (is_kind_there RamB (kind_of image.layout.device x y)) (if is_ram_used db image x y then start_words image x y ∷ [] else []) (if is_ram_used db image x y then ram_at db image x y ∷ [] else [])
       (same-if (is_ram_used db image x y) (start_words image x y ∷ []) (ram_at db image x y ∷ []) refl)))
 
   words-all : All (λ words. length words ≡ 256) (fabric_of db image).start
   unfolding fabric_of
   words-all =
-      All-over_tiles (λ words. length words ≡ 256) image.device RamB (λ x y. if is_ram_used db image x y then start_words image x y ∷ [] else [])
+      All-over_tiles (λ words. length words ≡ 256) image.layout.device RamB (λ x y. if is_ram_used db image x y then start_words image x y ∷ [] else [])
       (λ x y left low. All-if (λ words. length words ≡ 256) (is_ram_used db image x y) (start_words image x y ∷ [])
       (All-single (λ words. length words ≡ 256) (start_words image x y) (words-count x y)))
 
   ports-all : All IsPorted (rams_of db image)
   unfolding rams_of
   ports-all =
-      All-over_tiles IsPorted image.device RamB (λ x y. if is_ram_used db image x y then ram_at db image x y ∷ [] else [])
+      All-over_tiles IsPorted image.layout.device RamB (λ x y. if is_ram_used db image x y then ram_at db image x y ∷ [] else [])
       (λ x y left low. All-if IsPorted (is_ram_used db image x y) (ram_at db image x y ∷ []) (All-single IsPorted (ram_at db image x y) (ports-count x y)))
 
   fabric-rams : (fabric_of db image).rams ≡ rams_of db image

@@ -52,7 +52,7 @@ module _ (db : Database) (image : Configuration) (fit : IsFit db) (few : db.chip
       → IsRun (fabric_of db image) events entries
       → AllZip (Matches (fabric_of db image)) entries (module_run (module_of (fabric_of db image) order name) (map module_event events))
   design-is-module order ordered name =
-      module-is-fabric image.device (fabric_of db image) (design-taken db image none).fabric (fabric-placed db image) (fabric-within db image fit)
+      module-is-fabric image.layout.device (fabric_of db image) (design-taken db image none).fabric (fabric-placed db image) (fabric-within db image fit)
       fabric-writable (fabric-started db image) order ordered name
 
   -- The written module is well-formed.

@@ -115,22 +115,22 @@ if-some true value item is = is
 if-some false value item is = absurd cc
 
 module _ (db : Database) (image : Configuration) (fit : IsFit db) (taken : IsTaken db image) where
-  devices : db.chip.device ≡ image.device
+  devices : db.chip.device ≡ image.layout.device
   unfolding device_faults
-  devices = same-device db.chip.device image.device (no-fault (is_same_device db.chip.device image.device) Fault.other_device taken.device)
+  devices = same-device db.chip.device image.layout.device (no-fault (is_same_device db.chip.device image.layout.device) Fault.other_device taken.device)
 
   module _ (g : ℕ) (small : g < 8) (pad : PinXy) (is : global_pad db image g ≡ Some pad) where
     pad-is : IsPad db.chip pad
     unfolding pad_of
     pad-is = pad-found db.chip (λ pin. pin.global == g) db.global_pins pad fit.global_pins (if-some _ (pad_of g db.global_pins) pad is)
 
-    pad-tile : kind_of image.device pad.x pad.y ≡ Some Io
+    pad-tile : kind_of image.layout.device pad.x pad.y ≡ Some Io
     pad-tile = subst (λ device. kind_of device pad.x pad.y ≡ Some Io) devices pad-is.tile
 
-    pad-in : (pad.x < grid_width image.device) × (pad.y < grid_height image.device)
-    pad-in = kind-in image.device pad.x pad.y Io pad-tile
+    pad-in : (pad.x < grid_width image.layout.device) × (pad.y < grid_height image.layout.device)
+    pad-in = kind-in image.layout.device pad.x pad.y Io pad-tile
 
-    pad-io : is_kind_there Io (kind_of image.device pad.x pad.y) ≡ true
+    pad-io : is_kind_there Io (kind_of image.layout.device pad.x pad.y) ≡ true
     pad-io = rw pad-tile refl
 
     -- it is the pad of a global
@@ -144,8 +144,8 @@ module _ (db : Database) (image : Configuration) (fit : IsFit db) (taken : IsTak
     pad-fine : is_refused_with db image pad.x pad.y pad.n (pintype_of db image pad.x pad.y pad.n) ≡ false
     unfolding pin_faults over_grid
     pad-fine =
-        let row = gathered_below-empty (grid_height image.device) pad.y (λ y. gathered_below (grid_width image.device) (λ x. at_kind image.device Io (λ a b. gathered_below 2 (pin_fault_at db image a b)) x y)) taken.pins pad-in.1 in
-        let tile = gathered_below-empty (grid_width image.device) pad.x (λ x. at_kind image.device Io (λ a b. gathered_below 2 (pin_fault_at db image a b)) x pad.y) row pad-in.0 in
+        let row = gathered_below-empty (grid_height image.layout.device) pad.y (λ y. gathered_below (grid_width image.layout.device) (λ x. at_kind image.layout.device Io (λ a b. gathered_below 2 (pin_fault_at db image a b)) x y)) taken.pins pad-in.1 in
+        let tile = gathered_below-empty (grid_width image.layout.device) pad.x (λ x. at_kind image.layout.device Io (λ a b. gathered_below 2 (pin_fault_at db image a b)) x pad.y) row pad-in.0 in
         let pins : gathered_below 2 (pin_fault_at db image pad.x pad.y) ≡ [] = rw pad-io at tile in
         item_if-none (is_refused_with db image pad.x pad.y pad.n (pintype_of db image pad.x pad.y pad.n)) _
         (gathered_below-empty 2 pad.n (pin_fault_at db image pad.x pad.y) pins (omega (arith, pad-is.number)))
@@ -172,7 +172,7 @@ module _ (db : Database) (image : Configuration) (fit : IsFit db) (taken : IsTak
     pin-there : Contains (pins_of db image) the_pin
     unfolding pins_of the_pin
     pin-there =
-        contains-over_grid image.device (at_kind image.device Io (λ x y. gathered_below 2 (port_at db image x y))) pad.x pad.y the_pin pad-in.0 pad-in.1
+        contains-over_grid image.layout.device (at_kind image.layout.device Io (λ x y. gathered_below 2 (port_at db image x y))) pad.x pad.y the_pin pad-in.0 pad-in.1
         (rw pad-io (contains-gathered 2 pad.n (port_at db image pad.x pad.y) the_pin (omega (arith, pad-is.number))
         (rw (or-left (is_input_pin (pintype_of db image pad.x pad.y pad.n)) (is_output_pin (pintype_of db image pad.x pad.y pad.n)) pad-input) (0, omega arith, refl))))
 

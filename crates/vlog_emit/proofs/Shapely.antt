@@ -141,21 +141,21 @@ module _ (db : Database) (image : Configuration) where
   pins-small : All PinSmall (pins_of db image)
   unfolding pins_of
   pins-small =
-      All-over_tiles PinSmall image.device Io (λ x y. gathered_below 2 (port_at db image x y))
+      All-over_tiles PinSmall image.layout.device Io (λ x y. gathered_below 2 (port_at db image x y))
       (λ x y left low. All-gathered PinSmall 2 (port_at db image x y)
       (λ n few. All-item_if PinSmall (is_port (pintype_of db image x y n)) (pin_with db x y n (pintype_of db image x y n)) (pin-at db image x y n (pintype_of db image x y n) left low few).0))
 
   cells-small : All CellSmall (cells_of db image)
   unfolding cells_of cells_at
   cells-small =
-      All-over_tiles CellSmall image.device Logic (cells_at db image)
+      All-over_tiles CellSmall image.layout.device Logic (cells_at db image)
       (λ x y left low. All-gathered CellSmall 8 (used_cell db image x y)
       (λ i few. All-item_if CellSmall _ (cell_with db image x y i (cell_bits db image x y i)) (cell-at db image x y i (cell_bits db image x y i) left low few).0))
 
   rams-small : All RamSmall (rams_of db image)
   unfolding rams_of
   rams-small =
-      All-over_tiles RamSmall image.device RamB (λ x y. if is_ram_used db image x y then ram_at db image x y ∷ [] else [])
+      All-over_tiles RamSmall image.layout.device RamB (λ x y. if is_ram_used db image x y then ram_at db image x y ∷ [] else [])
       (λ x y left low. All-if RamSmall (is_ram_used db image x y) (ram_at db image x y ∷ []) (All-single RamSmall (ram_at db image x y) (ram-placed db image x y left low).0))
 
   port-name : (pin : Pin) → PinSmall pin → IsName (port_name pin)
@@ -183,7 +183,7 @@ module _ (db : Database) (image : Configuration) where
   tables-small : All (λ lc. lc.lut < 65536) (cells_of db image)
   unfolding cells_of cells_at
   tables-small =
-      All-over_tiles (λ lc. lc.lut < 65536) image.device Logic (cells_at db image)
+      All-over_tiles (λ lc. lc.lut < 65536) image.layout.device Logic (cells_at db image)
       (λ x y left low. All-gathered (λ lc. lc.lut < 65536) 8 (used_cell db image x y)
       (λ i few. All-item_if (λ lc. lc.lut < 65536) _ (cell_with db image x y i (cell_bits db image x y i)) (table-small x y i (cell_bits db image x y i))))
 
@@ -198,7 +198,7 @@ module _ (db : Database) (image : Configuration) where
   starts-sixteen : All (λ words. All (λ word. length word ≡ 16) words) (fabric_of db image).start
   unfolding fabric_of
   starts-sixteen =
-      All-over_tiles (λ words. All (λ word. length word ≡ 16) words) image.device RamB (λ x y. if is_ram_used db image x y then start_words image x y ∷ [] else [])
+      All-over_tiles (λ words. All (λ word. length word ≡ 16) words) image.layout.device RamB (λ x y. if is_ram_used db image x y then start_words image x y ∷ [] else [])
       (λ x y left low. All-if (λ words. All (λ word. length word ≡ 16) words) (is_ram_used db image x y) (start_words image x y ∷ [])
       (All-single (λ words. All (λ word. length word ≡ 16) words) (start_words image x y) (words-sixteen x y)))
 

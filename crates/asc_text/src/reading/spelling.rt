@@ -3,7 +3,8 @@ ghost use Rattle.std.specs.Prelude.{◌≡◌, drop};
 ghost use Rattle.text_lines.specs.declared.words.Separators.TheVariants.{Spaces};
 ghost use Rattle.text_lines.specs.Words.{first_word, behind_word, number_of, numbers_of, words_of};
 ghost use Rattle.asc_text.specs.inside.Keywords.{spelled_as};
-ghost use Rattle.asc_text.specs.Statements.{begins_with_dot, device_named, device_of_words, extra_bit_of_numbers, name_behind, name_in, no_sleep_of_words, ram_data_of_numbers, range_named, range_of_words, spelled, statement_in, switch_named, symbol_of_parts, tile_of_numbers, warm_boot_of_words};
+ghost use Rattle.plane_map.specs.DeviceWords.{device_named};
+ghost use Rattle.asc_text.specs.Statements.{begins_with_dot, device_of_words, extra_bit_of_numbers, name_behind, name_in, no_sleep_of_words, ram_data_of_numbers, range_named, range_of_words, spelled, statement_in, switch_named, symbol_of_parts, tile_of_numbers, warm_boot_of_words};
 
 use crate::reading::keyword::{Keyword, keyword_of};
 use crate::statement::Statement;
@@ -74,7 +75,7 @@ fn device_of(behind: &[u8]) -> Option<Statement>
 {
     match one_word(Separators::Spaces, behind) {
         None => None,
-        Some(word) => Some(Statement::Device(device_named(word))),
+        Some(word) => Some(Statement::Device(DeviceName::named(word))),
     }
 }
 
@@ -177,19 +178,6 @@ fn behind_word(line: &[u8]) -> &[u8]
     match split_word(Separators::Spaces, line) {
         None => &[],
         Some((_, behind)) => behind,
-    }
-}
-
-/// The device that a word names.
-fn device_named(word: &[u8]) -> Option<DeviceName>
-    ensures { result ≡ device_named word.now }
-{
-    if word == b"1k".as_slice() {
-        Some(DeviceName::K1)
-    } else if word == b"8k".as_slice() {
-        Some(DeviceName::K8)
-    } else {
-        None
     }
 }
 

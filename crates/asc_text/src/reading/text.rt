@@ -1,5 +1,6 @@
 // A text read line by line.
 ghost use Rattle.std.specs.Prelude.{◌≡◌, None, IfOk, IfErr, OnOk};
+ghost use Rattle.layout_file.specs.Layouts.{standard_layouts, AreLayouts};
 ghost use Rattle.ice_image.specs.Either.{configuration_of};
 ghost use Rattle.asc_text.specs.Faults.{asc_fault_of, Tells};
 ghost use Rattle.asc_text.specs.Meaning.{AscMeans};
@@ -8,18 +9,31 @@ ghost use Rattle.asc_text.specs.Characters.{HasBits};
 use crate::fault::AscFault;
 use crate::file::AscFile;
 use crate::reading::reader::Reader;
+use layout_file::Layouts;
 use std::alloc::Global;
 use text_lines::first_line;
 
-/// The configuration and the names that a text gives, or its first faulty line.
+/// The configuration and the names that a text gives under the standard layouts, or its first faulty line.
 pub fn read(alloc: Global, bytes: &[u8]) -> Result<AscFile, AscFault>
-    ensures means { IfOk result (λ file. AscMeans bytes.now (configuration_of file.image) file.symbols.items) }
+    ensures means { IfOk result (λ file. AscMeans standard_layouts bytes.now (configuration_of file.image) file.symbols.items) }
     // Each bit is the character, the digit or the statement that stands for it.
     ensures bits { IfOk result (λ file. HasBits bytes.now (configuration_of file.image)) }
-    ensures accepted { OnOk result (asc_fault_of bytes.now ≡ None) }
-    ensures refused { IfErr result (Tells (asc_fault_of bytes.now)) }
+    ensures accepted { OnOk result (asc_fault_of standard_layouts bytes.now ≡ None) }
+    ensures refused { IfErr result (Tells (asc_fault_of standard_layouts bytes.now)) }
 {
-    let mut reader = Reader::new(alloc)?;
+    read_with(alloc, bytes, Layouts::standard())
+}
+
+/// The configuration and the names that a text gives under the layouts, or its first faulty line.
+pub fn read_with(alloc: Global, bytes: &[u8], layouts: Layouts) -> Result<AscFile, AscFault>
+    requires { AreLayouts layouts }
+    ensures means { IfOk result (λ file. AscMeans layouts bytes.now (configuration_of file.image) file.symbols.items) }
+    // Each bit is the character, the digit or the statement that stands for it.
+    ensures bits { IfOk result (λ file. HasBits bytes.now (configuration_of file.image)) }
+    ensures accepted { OnOk result (asc_fault_of layouts bytes.now ≡ None) }
+    ensures refused { IfErr result (Tells (asc_fault_of layouts bytes.now)) }
+{
+    let mut reader = Reader::new(alloc, layouts)?;
     let mut left = bytes;
     let mut count = 0;
     while let Some(line) = first_line(left) {

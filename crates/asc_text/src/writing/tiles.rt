@@ -18,7 +18,7 @@ use std::alloc::AllocError;
 /// Appends all tiles, row of the grid by row of the grid.
 #[tactic(auto, using(crate::proofs::Pieces::joined), unfolding(place_search::specs::Places::gathered_below))]
 pub(crate) fn append_tiles(text: &mut Vec<u8>, image: &AnyImage) -> Result<(), AllocError>
-    requires { (configuration_of image.now).device ≡ device_of image.now }
+    requires { (configuration_of image.now).layout.device ≡ device_of image.now }
     ensures { OnOk result (text.new.items ≡ text.old.items ++ text_of (all_tile_lines (configuration_of image.now))) }
 {
     for y in 0..image.device().rows() {
@@ -30,8 +30,8 @@ pub(crate) fn append_tiles(text: &mut Vec<u8>, image: &AnyImage) -> Result<(), A
 /// Appends the tiles of a row of the grid.
 #[tactic(auto, using(crate::proofs::Pieces::joined), unfolding(place_search::specs::Places::gathered_below))]
 fn append_grid_row(text: &mut Vec<u8>, image: &AnyImage, y: u8) -> Result<(), AllocError>
-    requires { (configuration_of image.now).device ≡ device_of image.now }
-    ensures { OnOk result (text.new.items ≡ text.old.items ++ text_of (gathered_below (grid_width (configuration_of image.now).device) (λ x. lines_of_tile_at (configuration_of image.now) x y (kind_of (configuration_of image.now).device x y)))) }
+    requires { (configuration_of image.now).layout.device ≡ device_of image.now }
+    ensures { OnOk result (text.new.items ≡ text.old.items ++ text_of (gathered_below (grid_width (configuration_of image.now).layout.device) (λ x. lines_of_tile_at (configuration_of image.now) x y (kind_of (configuration_of image.now).layout.device x y)))) }
 {
     for x in 0..image.device().columns() {
         append_place(text, image, x as u8, y)?;
@@ -41,8 +41,8 @@ fn append_grid_row(text: &mut Vec<u8>, image: &AnyImage, y: u8) -> Result<(), Al
 
 /// Appends the tile at a place of the grid, and behind a lower tile its RAM's contents.
 fn append_place(text: &mut Vec<u8>, image: &AnyImage, x: u8, y: u8) -> Result<(), AllocError>
-    requires { (configuration_of image.now).device ≡ device_of image.now }
-    ensures { OnOk result (text.new.items ≡ text.old.items ++ text_of (lines_of_tile_at (configuration_of image.now) x y (kind_of (configuration_of image.now).device x y))) }
+    requires { (configuration_of image.now).layout.device ≡ device_of image.now }
+    ensures { OnOk result (text.new.items ≡ text.old.items ++ text_of (lines_of_tile_at (configuration_of image.now) x y (kind_of (configuration_of image.now).layout.device x y))) }
 {
     match kind_on(image.device(), u32::from(x), u32::from(y)) {
         None => Ok(()),
@@ -74,7 +74,7 @@ fn append_tile(
     x: u8,
     y: u8,
 ) -> Result<(), AllocError>
-    requires device { (configuration_of image.now).device ≡ device_of image.now }
+    requires device { (configuration_of image.now).layout.device ≡ device_of image.now }
     requires there { kind_of (device_of image.now) x y ≡ Some kind }
     ensures { OnOk result (text.new.items ≡ text.old.items ++ text_of (tile_lines (configuration_of image.now) x y kind)) }
 {
@@ -96,7 +96,7 @@ fn append_row(
     width: u8,
 ) -> Result<(), AllocError>
     requires row { row < 16 }
-    requires width { columns_at (configuration_of image.now).device x y ≡ width }
+    requires width { columns_at (configuration_of image.now).layout.device x y ≡ width }
     ensures { OnOk result (text.new.items ≡ text.old.items ++ text_of (row_line (row_from width (tile_bit_of (configuration_of image.now) x y row)) ∷ [])) }
 {
     let bits = image.tile_row(x, y, row);

@@ -1,9 +1,12 @@
 // The canonical text of an image.
 ghost use Rattle.std.specs.Prelude.{◌≡◌, ◌≤◌, ◌^◌, [], ◌∷◌, ◌++◌, IfOk, IfSome, OnOk, All, option_copied};
 ghost use Rattle.text_lines.specs.Written.{text_of};
+ghost use Rattle.layout_file.specs.declared.layouts.Layouts.{Layouts};
+ghost use Rattle.layout_file.specs.Layouts.{HasLayout};
 ghost use Rattle.ice_image.specs.Either.{configuration_of};
 ghost use Rattle.ice_image.specs.CommentLines.{IsCommentLine};
-ghost use Rattle.asc_text.specs.Statements.{device_word, device_keyword, comment_keyword};
+ghost use Rattle.plane_map.specs.DeviceWords.{device_word};
+ghost use Rattle.asc_text.specs.Statements.{device_keyword, comment_keyword};
 ghost use Rattle.asc_text.specs.Canonical.{asc_text_of, comment_lines, with_word, warm_boot_lines, range_lines, no_sleep_lines};
 ghost use Rattle.asc_text.specs.Meaning.{AscMeans};
 
@@ -14,10 +17,10 @@ use ice_image::{AnyImage, Comment, Range};
 use plane_map::DeviceName;
 use std::alloc::{AllocError, Global};
 
-/// The canonical text of an image; `read` gives that image back, and no names.
+/// The canonical text of an image. `read_with` under layouts of which the image has one gives that image back, and no names.
 pub fn write(alloc: Global, image: &AnyImage) -> Result<Vec<u8>, AllocError>
     ensures text { IfOk result (λ text. text.items ≡ asc_text_of (configuration_of image.now)) }
-    ensures means { IfOk result (λ text. AscMeans text.items (configuration_of image.now) []) }
+    ensures means { IfOk result (λ text. (layouts : Layouts) → HasLayout layouts (configuration_of image.now).layout → AscMeans layouts text.items (configuration_of image.now) []) }
 {
     let device = image.device();
     let mut text = Vec::with_capacity(alloc, usual_len(device))?;
@@ -69,10 +72,7 @@ fn append_comment_lines(text: &mut Vec<u8>, comment: &Comment) -> Result<(), All
 fn append_device(text: &mut Vec<u8>, device: DeviceName) -> Result<(), AllocError>
     ensures { OnOk result (text.new.items ≡ text.old.items ++ text_of (with_word device_keyword (device_word device) ∷ [])) }
 {
-    match device {
-        DeviceName::K1 => append_setting(text, b".device", b"1k"),
-        DeviceName::K8 => append_setting(text, b".device", b"8k"),
-    }
+    append_setting(text, b".device", device.word())
 }
 
 /// Appends warm boot, where it is disabled.

@@ -53,9 +53,9 @@ device_if None = None
 device_if (Some image) = Some (device_of image)
 
 -- the image so far, or one without a bit
-abbrev pub image_or_blank : DeviceName → Option AnyImage → Configuration
-image_or_blank device None = blank_image device
-image_or_blank device (Some image) = configuration_of image
+abbrev pub image_or_blank : Layout → Option AnyImage → Configuration
+image_or_blank layout None = blank_image layout
+image_or_blank layout (Some image) = configuration_of image
 
 -- data were written into the image so far, or into one without a bit
 pub record IsDrawnOn (kind : PlaneKind) (held : Held) (body : List ℕ) (before after : Option AnyImage) : Type 0 where
@@ -72,7 +72,7 @@ pub record IsDrawnOn (kind : PlaneKind) (held : Held) (body : List ℕ) (before 
 -- an image of a device with what commands draw
 pub record IsDrawn (commands : List Command) (image : AnyImage) : Type 0 where
   pub device_is : device_after commands ≡ Some (device_of image)
-  pub name_is : (configuration_of image).device ≡ device_of image
+  pub name_is : (configuration_of image).layout.device ≡ device_of image
   pub cram_is : (configuration_of image).cram ≡ planes_of (device_of image) Cram commands
   pub bram_is : (configuration_of image).bram ≡ planes_of (device_of image) Bram commands
 

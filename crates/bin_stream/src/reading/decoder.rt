@@ -1,5 +1,6 @@
 // Reading a bitstream.
 ghost use Rattle.std.specs.Prelude.{List, ℕ, ◌≡◌, ◌+◌, ◌<◌, ◌≤◌, ◌^◌, [], None, Ok, IfOk, IfErr, length, take, drop};
+ghost use Rattle.layout_file.specs.Layouts.{standard_layouts, AreLayouts};
 ghost use Rattle.ice_image.specs.Either.{configuration_of};
 ghost use Rattle.bin_stream.specs.Spelling.{IsDecided, commands_from, image_of, bin_read_of, Tells};
 ghost use Rattle.bin_stream.specs.Front.{comment_of};
@@ -12,14 +13,25 @@ use super::registers::Registers;
 use crate::fault::{BinCause, BinFault};
 use crate::marks::PREAMBLE;
 use ice_image::AnyImage;
+use layout_file::Layouts;
 use std::alloc::Global;
 
-/// The image that a bitstream spells, or its first fault.
-#[tactic(auto, using(crate::proofs::Decided::decided))]
+/// The image that a bitstream spells under the standard layouts, or its first fault.
 pub fn decode(alloc: Global, bytes: &[u8]) -> Result<AnyImage, BinFault>
-    ensures decided { IsDecided bytes.now }
-    ensures image { IfOk result (λ image. bin_read_of bytes.now ≡ Ok (configuration_of image)) }
-    ensures refused { IfErr result (Tells (bin_read_of bytes.now)) }
+    ensures decided { IsDecided standard_layouts bytes.now }
+    ensures image { IfOk result (λ image. bin_read_of standard_layouts bytes.now ≡ Ok (configuration_of image)) }
+    ensures refused { IfErr result (Tells (bin_read_of standard_layouts bytes.now)) }
+{
+    decode_with(alloc, bytes, Layouts::standard())
+}
+
+/// The image that a bitstream spells under the layouts, or its first fault.
+#[tactic(auto, using(crate::proofs::Decided::decided))]
+pub fn decode_with(alloc: Global, bytes: &[u8], layouts: Layouts) -> Result<AnyImage, BinFault>
+    requires { AreLayouts layouts }
+    ensures decided { IsDecided layouts bytes.now }
+    ensures image { IfOk result (λ image. bin_read_of layouts bytes.now ≡ Ok (configuration_of image)) }
+    ensures refused { IfErr result (Tells (bin_read_of layouts bytes.now)) }
 {
     match preamble_offset(bytes) {
         Some(offset) => {

@@ -17,7 +17,7 @@ const HALF: usize = 128;
 /// Appends the configuration planes, with their size.
 #[tactic(auto, unfolding(crate::specs::CanonicalBytes::cram_bytes))]
 pub(crate) fn append_cram(out: &mut Vec<u8>, image: &AnyImage) -> Result<(), AllocError>
-    ensures { OnOk result (out.new.items ≡ out.old.items ++ cram_bytes (configuration_of image.now).device (configuration_of image.now).cram) }
+    ensures { OnOk result (out.new.items ≡ out.old.items ++ cram_bytes (configuration_of image.now).layout.device (configuration_of image.now).cram) }
 {
     let device = image.device();
     append_word(out, WIDTH, (PlaneKind::Cram.columns(device) - 1) as u16)?;
@@ -49,7 +49,7 @@ fn append_cram_bank(out: &mut Vec<u8>, image: &AnyImage, bank: u8) -> Result<(),
 /// Appends the RAM planes, with the size of their halves.
 #[tactic(auto, unfolding(crate::specs::CanonicalBytes::bram_bytes))]
 pub(crate) fn append_bram(out: &mut Vec<u8>, image: &AnyImage) -> Result<(), AllocError>
-    ensures { OnOk result (out.new.items ≡ out.old.items ++ bram_bytes (configuration_of image.now).device (configuration_of image.now).bram) }
+    ensures { OnOk result (out.new.items ≡ out.old.items ++ bram_bytes (configuration_of image.now).layout.device (configuration_of image.now).bram) }
 {
     let device = image.device();
     append_word(out, WIDTH, (PlaneKind::Bram.columns(device) - 1) as u16)?;

@@ -1,6 +1,8 @@
 // Writing the bitstream of an image.
 ghost use Rattle.std.specs.Prelude.{◌≡◌, ◌≤◌, ◌++◌, length, drop, Ok, IfOk, OnOk};
 ghost use Rattle.bit_plane.specs.BitList.{bits_of};
+ghost use Rattle.layout_file.specs.declared.layouts.Layouts.{Layouts};
+ghost use Rattle.layout_file.specs.Layouts.{HasLayout};
 ghost use Rattle.ice_image.specs.Either.{configuration_of};
 ghost use Rattle.bin_stream.specs.CanonicalBytes.{canonical_bytes, checked_bytes, range_number, mode_command, two_bytes};
 ghost use Rattle.bin_stream.specs.CheckValue.{check_value};
@@ -22,9 +24,9 @@ const WARM_BOOT: u8 = 32;
 /// The canonical bytes of an image: the one bitstream that is written for it.
 pub fn encode(alloc: Global, image: &AnyImage) -> Result<Vec<u8>, AllocError>
     ensures bytes { IfOk result (λ bytes. bytes.items ≡ canonical_bytes (configuration_of image.now)) }
-    ensures spells { IfOk result (λ bytes. Spells bytes.items (configuration_of image.now)) }
-    // So `decode` gives the image back.
-    ensures read { IfOk result (λ bytes. bin_read_of bytes.items ≡ Ok (configuration_of image.now)) }
+    ensures spells { IfOk result (λ bytes. (layouts : Layouts) → HasLayout layouts (configuration_of image.now).layout → Spells layouts bytes.items (configuration_of image.now)) }
+    // So `decode_with` under layouts of which the image has one gives it back.
+    ensures read { IfOk result (λ bytes. (layouts : Layouts) → HasLayout layouts (configuration_of image.now).layout → bin_read_of layouts bytes.items ≡ Ok (configuration_of image.now)) }
 {
     let mut out = Vec::with_capacity(alloc, usual_size(image.device()))?;
     append_comment(&mut out, image)?;

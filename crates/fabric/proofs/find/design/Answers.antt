@@ -20,7 +20,7 @@ use Rattle.fabric.proofs.find.design.Goals as goal
 
 pub wire-requires : goal.wire-requires
 wire-requires c =
-    let same : (configuration_of c.args.image.now).device ≡ device_of c.args.image.now = sym c.device-2.ensures.device ∙ c.device-2.ensures.name in (
+    let same : (configuration_of c.args.image.now).layout.device ≡ device_of c.args.image.now = refl in (
       c.in_ok-parts.ensures.parts,
       rams-kept (database_in c.args.db.now) (configuration_of c.args.image.now) (device_of c.args.image.now) same c.in_ok-parts.parts.rams.items c.in_ok-parts.ensures.parts.rams,
     )
@@ -31,7 +31,7 @@ returns-in_err-wired-clause-refused c =
     let image = configuration_of c.args.image.now in
     let taken = c.in_ok-parts.ensures.taken in
     told c.from_residual-in_err-wired.result _ _ c.from_residual-in_err-wired.ensures.1
-    (same-cause image.device (fabric_of db image) _ _ (λ cause is. fabric-left db image taken ∙ is) c.in_err-wired.field-0.0
+    (same-cause image.layout.device (fabric_of db image) _ _ (λ cause is. fabric-left db image taken ∙ is) c.in_err-wired.field-0.0
     (subst (λ d. IsCause d (fabric_of db image) (fabric_fault d (fabric_of db image)) c.in_err-wired.field-0.0) taken.device c.in_err-wired.ensures.refused))
 
 pub of-requires : goal.of-requires
@@ -41,7 +41,7 @@ of-requires c =
       db,
       image,
       designed db image c.in_ok-parts.ensures.fit c.in_ok-wired.ensures.few c.in_ok-parts.ensures.taken c.in_ok-wired.ensures.taken
-          (device_of c.args.image.now) (sym c.device-2.ensures.device ∙ c.device-2.ensures.name) c.in_ok-parts.parts c.in_ok-parts.ensures.parts
+          (device_of c.args.image.now) refl c.in_ok-parts.parts c.in_ok-parts.ensures.parts
           c.in_ok-inputs.inputs.items (c.in_ok-inputs.ensures ∙ ap (filter (λ pin. not pin.output)) c.deref.ensures.value)
           c.in_ok-wired.wired.drivers c.in_ok-wired.ensures.drivers c.in_ok-wired.wired.order.items c.in_ok-wired.ensures.order
           c.in_ok-wired.wired.ends.items c.in_ok-wired.ensures.ends c.in_ok-wired.wired.words.items c.in_ok-wired.ensures.words,
@@ -52,7 +52,7 @@ returns-clause-design c =
     let db = database_in c.args.db.now in
     let image = configuration_of c.args.image.now in
     subst (IsDesignOf db image) (sym c.of.ensures) (designed db image c.in_ok-parts.ensures.fit c.in_ok-wired.ensures.few c.in_ok-parts.ensures.taken c.in_ok-wired.ensures.taken
-    (device_of c.args.image.now) (sym c.device-2.ensures.device ∙ c.device-2.ensures.name) c.in_ok-parts.parts c.in_ok-parts.ensures.parts
+    (device_of c.args.image.now) refl c.in_ok-parts.parts c.in_ok-parts.ensures.parts
     c.in_ok-inputs.inputs.items (c.in_ok-inputs.ensures ∙ ap (filter (λ pin. not pin.output)) c.deref.ensures.value)
     c.in_ok-wired.wired.drivers c.in_ok-wired.ensures.drivers c.in_ok-wired.wired.order.items c.in_ok-wired.ensures.order
     c.in_ok-wired.wired.ends.items c.in_ok-wired.ensures.ends c.in_ok-wired.wired.words.items c.in_ok-wired.ensures.words)
@@ -76,8 +76,8 @@ returns-clause-one_value c = λ state pins.
     let db = database_in c.args.db.now in
     let image = configuration_of c.args.image.now in
     let taken = c.in_ok-parts.ensures.taken in
-    let none : fabric_fault image.device (fabric_of db image) ≡ None = subst (λ d. fabric_fault d (fabric_of db image) ≡ None) taken.device c.in_ok-wired.ensures.taken in
-    taken-value image.device (fabric_of db image) none (fabric-within db image c.in_ok-parts.ensures.fit) state pins
+    let none : fabric_fault image.layout.device (fabric_of db image) ≡ None = subst (λ d. fabric_fault d (fabric_of db image) ≡ None) taken.device c.in_ok-wired.ensures.taken in
+    taken-value image.layout.device (fabric_of db image) none (fabric-within db image c.in_ok-parts.ensures.fit) state pins
 
 pub returns-clause-chains : goal.returns-clause-chains
 returns-clause-chains c =

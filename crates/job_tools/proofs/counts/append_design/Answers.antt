@@ -2,7 +2,7 @@ use Rattle.std.proofs.Common.{[], ◌∷◌}
 use Rattle.std.specs.Prelude.{codes}
 use Rattle.std.proofs.lemmas.Result.{on_ok_weaker}
 use Rattle.asc_text.specs.Canonical.{with_word}
-use Rattle.asc_text.specs.Statements.{device_word}
+use Rattle.plane_map.specs.DeviceWords.{device_word}
 use Rattle.asc_text.proofs.Pieces.{lines-joined}
 use Rattle.job_tools.specs.Counted.{number_line}
 use Rattle.job_tools.proofs.counts.append_design.Goals as goal

@@ -16,7 +16,7 @@ use Rattle.job_tools.proofs.running.counted.Goals as goal
 pub explained_lines-requires : goal.explained_lines-requires
 explained_lines-requires c =
     taken-device (database_in c.args.db.now) (image_for c.args.request) c.requires.design.taken
-    ∙ ap (λ (image : Configuration). image.device) (sym c.requires.image)
+    ∙ ap (λ (image : Configuration). image.layout.device) (sym c.requires.image)
 
 pub returns : goal.returns
 unfolding counts_of fabric_of

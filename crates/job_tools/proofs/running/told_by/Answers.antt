@@ -31,5 +31,5 @@ returns-in-Err-clause-stops c =
     let request = c.args.request in
     let db = database_in c.args.db.now in
     let fault = c.in-Err.fault in
-    let is = subst (λ (image : Configuration). IsCause image.device (fabric_of db image) (design_fault db image) fault) c.requires.image c.in-Err.ensures.refused in
+    let is = subst (λ (image : Configuration). IsCause image.layout.device (fabric_of db image) (design_fault db image) fault) c.requires.image c.in-Err.ensures.refused in
     told_stops request db _ _ _ fault c.design_stop.result is c.design_stop.ensures

@@ -17,26 +17,26 @@ use Rattle.logic_cell.specs.Faults.{async_faults_in}
 use Rattle.logic_cell.proofs.gather.cells_in.Goals as goal
 
 -- the lists by tile are those of the list of tiles
-faults_listed : (db : Database) (image : Configuration) (tiles : List TileXy8) → tiles ≡ tiles_of image.device Logic
+faults_listed : (db : Database) (image : Configuration) (tiles : List TileXy8) → tiles ≡ tiles_of image.layout.device Logic
     → cells_fault db image ≡ first_of (flat_map (λ (tile : TileXy8). async_faults_in db image tile.x tile.y) tiles)
 unfolding cells_fault async_faults
 faults_listed db image tiles all =
     let given : TileXy8 → List Fault = λ tile. async_faults_in db image tile.x tile.y in
-    ap first_of (over_tiles-listed image.device Logic (async_faults_in db image) ∙ ap (flat_map given) (sym all))
+    ap first_of (over_tiles-listed image.layout.device Logic (async_faults_in db image) ∙ ap (flat_map given) (sym all))
 
-cells_listed : (db : Database) (image : Configuration) (tiles : List TileXy8) → tiles ≡ tiles_of image.device Logic
+cells_listed : (db : Database) (image : Configuration) (tiles : List TileXy8) → tiles ≡ tiles_of image.layout.device Logic
     → flat_map (λ (tile : TileXy8). cells_at db image tile.x tile.y) tiles ≡ cells_of db image
 unfolding cells_of
 cells_listed db image tiles all =
     let given : TileXy8 → List Lc = λ tile. cells_at db image tile.x tile.y in
-    ap (flat_map given) all ∙ sym (over_tiles-listed image.device Logic (cells_at db image))
+    ap (flat_map given) all ∙ sym (over_tiles-listed image.layout.device Logic (cells_at db image))
 
-sets_listed : (db : Database) (image : Configuration) (tiles : List TileXy8) → tiles ≡ tiles_of image.device Logic
+sets_listed : (db : Database) (image : Configuration) (tiles : List TileXy8) → tiles ≡ tiles_of image.layout.device Logic
     → flat_map (λ (tile : TileXy8). sets_at db image tile.x tile.y) tiles ≡ sets_of db image
 unfolding sets_of
 sets_listed db image tiles all =
     let given : TileXy8 → List CarrySet = λ tile. sets_at db image tile.x tile.y in
-    ap (flat_map given) all ∙ sym (over_tiles-listed image.device Logic (sets_at db image))
+    ap (flat_map given) all ∙ sym (over_tiles-listed image.layout.device Logic (sets_at db image))
 
 pub returns-in-Some-clause-refused : goal.returns-in-Some-clause-refused
 returns-in-Some-clause-refused c =

@@ -9,4 +9,4 @@ use Rattle.tile_bits.proofs.explaining.append_grid_row.Given as goal
 
 abbrev pub invariant-loop-x : goal.invariant-loop-x
 invariant-loop-x l =
-    l.text.items ≡ l.initial.text.items ++ text_of (gathered_below l.x (λ x. set_tile_lines (database_in l.db) (configuration_of l.image) x l.y (kind_of (configuration_of l.image).device x l.y)))
+    l.text.items ≡ l.initial.text.items ++ text_of (gathered_below l.x (λ x. set_tile_lines (database_in l.db) (configuration_of l.image) x l.y (kind_of (configuration_of l.image).layout.device x l.y)))

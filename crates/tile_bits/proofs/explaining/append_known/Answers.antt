@@ -13,13 +13,13 @@ use Rattle.tile_bits.proofs.explaining.append_known.Goals as goal
 pub items_of_tile-requires-clause-buffers : goal.items_of_tile-requires-clause-buffers
 unfolding on_links
 items_of_tile-requires-clause-buffers c =
-    let device = (configuration_of c.args.image.now).device in
+    let device = (configuration_of c.args.image.now).layout.device in
     c.at-buffers.ensures ∙ c.requires.known.buffers.places c.args.at.x c.args.at.y (x-below device _ _ c.args.at.kind c.requires.tile) (y-below device _ _ c.args.at.kind c.requires.tile)
 
 pub items_of_tile-requires-clause-routings : goal.items_of_tile-requires-clause-routings
 unfolding on_links
 items_of_tile-requires-clause-routings c =
-    let device = (configuration_of c.args.image.now).device in
+    let device = (configuration_of c.args.image.now).layout.device in
     c.at-routings.ensures ∙ c.requires.known.routings.places c.args.at.x c.args.at.y (x-below device _ _ c.args.at.kind c.requires.tile) (y-below device _ _ c.args.at.kind c.requires.tile)
 
 pub returns : goal.returns

@@ -1,6 +1,7 @@
 use Rattle.std.proofs.Common.{[], ◌∷◌, ◌++◌, map, ap, ◌∙◌}
 use Rattle.text_lines.specs.Written.{text_of}
-use Rattle.asc_text.specs.Statements.{device_keyword, device_word, tile_keyword}
+use Rattle.plane_map.specs.DeviceWords.{device_word}
+use Rattle.asc_text.specs.Statements.{device_keyword, tile_keyword}
 use Rattle.asc_text.specs.Canonical.{grid_line, with_word}
 use Rattle.asc_text.proofs.Pieces.{lines-joined}
 use Rattle.ice_image.specs.Either.{configuration_of}
@@ -16,7 +17,7 @@ returns c =
     let image = configuration_of c.args.image.now in
     let x = c.args.at.x in
     let y = c.args.at.y in
-    let device = with_word device_keyword (device_word image.device) in
+    let device = with_word device_keyword (device_word image.layout.device) in
     let one = c.in_ok-append_device.ensures ∙ ap (λ text. text ++ text_of (with_word device_keyword (device_word c.device.result) ∷ [])) c.new-text.ensures.items ∙ ap (λ d. [] ++ text_of (with_word device_keyword (device_word d) ∷ [])) c.device.ensures.device in
     let items = c.deref.ensures.value ∙ c.in_ok-items.ensures ∙ items-there database image x y c.args.at.kind c.requires.tile in
     lines-joined [] c.append_device.new.text.items c.append_tile.new.text.items (device ∷ []) _ one c.in_ok-append_tile.ensures

@@ -8,4 +8,4 @@ use Rattle.asc_text.proofs.writing.tiles.append_grid_row.Given as goal
 
 abbrev pub invariant-loop-x : goal.invariant-loop-x
 invariant-loop-x l =
-    l.text.items ≡ l.initial.text.items ++ text_of (gathered_below l.x (λ x. lines_of_tile_at (configuration_of l.image) x l.y (kind_of (configuration_of l.image).device x l.y)))
+    l.text.items ≡ l.initial.text.items ++ text_of (gathered_below l.x (λ x. lines_of_tile_at (configuration_of l.image) x l.y (kind_of (configuration_of l.image).layout.device x l.y)))

@@ -6,7 +6,8 @@ use Rattle.asc_text.specs.Meaning.{AscMeans}
 use Rattle.asc_text.proofs.RoundTrip.{means_of_text}
 use Rattle.text_lines.specs.Written.{text_of}
 use Rattle.ice_image.specs.declared.settings.Settings.{Settings}
-use Rattle.asc_text.specs.Statements.{device_keyword, device_word}
+use Rattle.plane_map.specs.DeviceWords.{device_word}
+use Rattle.asc_text.specs.Statements.{device_keyword}
 use Rattle.asc_text.specs.Canonical.{comment_lines, with_word, warm_boot_lines, range_lines, no_sleep_lines}
 use Rattle.asc_text.proofs.Pieces.{text-written}
 use Rattle.asc_text.proofs.writing.writer.write.Goals as goal

@@ -191,12 +191,12 @@ record IsBase (layouts : Layouts) (device : DeviceName) (commands : List Command
   bram_is : base.bram ≡ planes_of device Bram commands
 
 IsBase-holds : (layouts : Layouts) → AreLayouts layouts → (device : DeviceName) (commands : List Command) (image : Option AnyImage) (other : Option DeviceName) → Holds layouts commands image → or_else (device_if image) other ≡ Some device → IsBase layouts device commands (image_or_blank (layout_for layouts device) image)
-IsBase-holds layouts are device commands None other blank chosen =
+IsBase-holds layouts are device commands None other none chosen =
     let same = device-laid layouts are device in
     record {
       layout_is = refl;
-      cram_is = ap (λ device. replicate 4 (blank (plane_width Cram device) (plane_height Cram device))) same ∙ planes_of-blank device Cram commands (blank.no_bit Cram);
-      bram_is = ap (λ device. replicate 4 (blank (plane_width Bram device) (plane_height Bram device))) same ∙ planes_of-blank device Bram commands (blank.no_bit Bram);
+      cram_is = ap (λ device. replicate 4 (blank (plane_width Cram device) (plane_height Cram device))) same ∙ planes_of-blank device Cram commands (none.no_bit Cram);
+      bram_is = ap (λ device. replicate 4 (blank (plane_width Bram device) (plane_height Bram device))) same ∙ planes_of-blank device Bram commands (none.no_bit Bram);
     }
 IsBase-holds layouts are device commands (Some image) other drawn chosen =
     let e : device_of image ≡ device = cc in

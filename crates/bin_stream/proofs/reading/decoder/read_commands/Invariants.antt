@@ -4,9 +4,9 @@ use Rattle.bin_stream.proofs.reading.decoder.read_commands.Given as goal
 
 abbrev pub invariant-loop-machine : goal.invariant-loop-machine
 invariant-loop-machine l = record {
-  layouts : l.machine.layouts ≡ l.layouts;
+  layouts : l.machine.layouts ≡ l.fn.layouts;
   within : l.offset ≤ length l.bytes;
-  read : HasRead l.layouts l.bytes l.start l.offset l.machine.registers l.machine.image;
+  read : HasRead l.fn.layouts l.bytes l.start l.offset l.machine.registers l.machine.image;
 }
 
 abbrev pub decreases-loop-machine : goal.decreases-loop-machine

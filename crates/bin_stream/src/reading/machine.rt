@@ -2,11 +2,12 @@
 ghost use Rattle.std.specs.Prelude.{List, ◌≡◌, ◌+◌, ◌*◌, ◌/◌, ◌%◌, ◌<◌, ◌≤◌, ◌^◌, ◌==◌, ◌&&◌, None, Some, IfOk, IfErr, length, take, drop, get_or};
 ghost use Rattle.place_search.specs.Places.{or_else};
 ghost use Rattle.layout_file.specs.Layouts.{AreLayouts};
+ghost use Rattle.ice_image.specs.Either.{configuration_of};
 ghost use Rattle.bin_stream.specs.Commands.{Command, control_opcode, wake_up_number};
 ghost use Rattle.bin_stream.specs.State.{device_with};
 ghost use Rattle.bin_stream.specs.Refusals.{first_fault};
 ghost use Rattle.bin_stream.specs.inside.Registers.{Fits, size_by, after_data};
-ghost use Rattle.bin_stream.specs.inside.Step.{Refuses, data_refusal, device_if, IsDrawnOn, Stands, IsEntered};
+ghost use Rattle.bin_stream.specs.inside.Step.{Refuses, data_refusal, device_if, image_or_blank, IsDrawnOn, Stands, IsEntered};
 
 use super::data_kind::data_kind;
 use super::head::{body_of, fault_at, number_of, payload_of};
@@ -16,7 +17,7 @@ use crate::marks::DATA_END;
 use crate::opcode::{CONTROL, WAKE_UP};
 use ice_image::{AnyImage, PlaneKind};
 use layout_file::Layouts;
-use plane_map::DeviceName;
+use plane_map::{DeviceName, Layout};
 use std::alloc::{AllocError, Global};
 
 /// A command that was taken.
@@ -119,6 +120,7 @@ impl Machine {
     }
 
     /// Writes the rows of data into the image, which is made where there is none.
+    #[tactic(auto, using(crate::proofs::Laid::device_kept))]
     fn draw(
         &mut self,
         alloc: Global,
@@ -137,13 +139,24 @@ impl Machine {
         let bank = self.registers.bank();
         let first = self.registers.first_row();
         let count = self.registers.rows();
-        let mut image = match self.image.take() {
-            Some(image) => image,
-            None => AnyImage::zeroed_with(alloc, self.layouts.of(device))?,
-        };
+        let mut image = image_or_blank(alloc, self.image.take(), self.layouts.of(device))?;
         image.set_rows(kind, bank, first, count, body);
         self.image = Some(image);
         Ok(())
+    }
+}
+
+/// The image so far, or where there is none one without a bit under the layout.
+fn image_or_blank(
+    alloc: Global,
+    image: Option<AnyImage>,
+    layout: Layout,
+) -> Result<AnyImage, AllocError>
+    ensures { IfOk result (λ made. configuration_of made ≡ image_or_blank layout image) }
+{
+    match image {
+        Some(image) => Ok(image),
+        None => AnyImage::zeroed_with(alloc, layout),
     }
 }
 

@@ -6,7 +6,7 @@ abbrev pub invariant-loop-machine : goal.invariant-loop-machine
 invariant-loop-machine l = record {
   layouts : l.machine.layouts ≡ l.fn.layouts;
   within : l.offset ≤ length l.bytes;
-  read : HasRead l.fn.layouts l.bytes l.start l.offset l.machine.registers l.machine.image;
+  read : HasRead l.machine.layouts l.bytes l.start l.offset l.machine.registers l.machine.image;
 }
 
 abbrev pub decreases-loop-machine : goal.decreases-loop-machine

@@ -76,7 +76,9 @@ fn image_at_end(machine: Machine, offset: usize) -> Result<AnyImage, BinFault>
     ensures missing { IfErr result (λ fault. machine.image ≡ None) }
 {
     let Machine {
-        registers, image, ..
+        registers,
+        image,
+        ..
     } = machine;
     match image {
         Some(mut image) => {

@@ -1,7 +1,6 @@
-use Rattle.std.proofs.Common.{◌≡◌, ℕ, ◌∙◌, List, ap, ap₂, refl, sym, subst, ◌<◌}
+use Rattle.std.proofs.Common.{◌≡◌, ℕ, ◌∙◌, ap, ap₂, refl, sym, subst, ◌<◌}
 use Rattle.bit_plane.specs.BitList.{bits_of}
 use Rattle.bit_plane.specs.Rows.{rows_of}
-use Rattle.plane_map.specs.declared.device.DeviceName.{DeviceName}
 use Rattle.ice_image.specs.Configuration.{Configuration}
 use Rattle.ice_image.specs.Either.{configuration_of, device_of}
 use Rattle.ice_image.specs.Planes.{plane_width, with_rows}

@@ -78,22 +78,22 @@ spelled-bram c number =
     ap (λ more. bank_command number ++ bram_half c.bram number 0 ++ (offset_command 128 ++ (1 ∷ 3 ∷ more))) (append-nil (bram_bodies c number 128 ++ 0 ∷ 0 ∷ []))
 
 -- an image's commands between the reset and the check are spelled by the checked bytes
-pub checked-is : (c : Configuration) → spelled (checked_commands c.device (mode_bits c) (cram_bodies c) (bram_bodies c)) ++ check_head ≡ checked_bytes c
+pub checked-is : (c : Configuration) → spelled (checked_commands c.layout.device (mode_bits c) (cram_bodies c) (bram_bodies c)) ++ check_head ≡ checked_bytes c
 unfolding spelled checked_bytes cram_bytes bram_bytes
 checked-is c =
     let crams = flat_map (cram_part (cram_bodies c)) four_banks in
     let brams = flat_map (bram_part (bram_bodies c)) four_banks in
-    let size = width_command (bram_width c.device) ++ height_command 128 in
-    let planes : flat_map spelling (crams ++ Short width_opcode (two_bytes (bram_width c.device - 1)) ∷ Short height_opcode (two_bytes 128) ∷ brams) ≡ flat_map (cram_bank c.cram) four_banks ++ (size ++ flat_map (bram_bank c.bram) four_banks) =
-    flat_map-append spelling crams (Short width_opcode (two_bytes (bram_width c.device - 1)) ∷ Short height_opcode (two_bytes 128) ∷ brams)
+    let size = width_command (bram_width c.layout.device) ++ height_command 128 in
+    let planes : flat_map spelling (crams ++ Short width_opcode (two_bytes (bram_width c.layout.device - 1)) ∷ Short height_opcode (two_bytes 128) ∷ brams) ≡ flat_map (cram_bank c.cram) four_banks ++ (size ++ flat_map (bram_bank c.bram) four_banks) =
+    flat_map-append spelling crams (Short width_opcode (two_bytes (bram_width c.layout.device - 1)) ∷ Short height_opcode (two_bytes 128) ∷ brams)
     ∙ ap₂ (λ (first more : List ℕ). first ++ (size ++ more)) (spelled-parts (cram_part (cram_bodies c)) (cram_bank c.cram) (spelled-cram c) four_banks) (spelled-parts (bram_part (bram_bodies c)) (bram_bank c.bram) (spelled-bram c) four_banks) in
-    ap (λ more. (mode_command c.settings.warm_boot c.settings.no_sleep ++ width_command (cram_width c.device) ++ height_command (cram_height c.device) ++ offset_command 0 ++ more) ++ check_head) planes
+    ap (λ more. (mode_command c.settings.warm_boot c.settings.no_sleep ++ width_command (cram_width c.layout.device) ++ height_command (cram_height c.layout.device) ++ offset_command 0 ++ more) ++ check_head) planes
 
 -- all commands
-pub spelled-all_commands : (c : Configuration) (range_value : ℕ) (check_payload : List ℕ) → length check_payload ≡ 2 → spelled (all_commands c.device range_value (mode_bits c) (cram_bodies c) (bram_bodies c) check_payload) ≡ spelling (Short range_opcode (range_value ∷ [])) ++ reset_command ++ checked_bytes c ++ check_payload ++ wake_up_command
+pub spelled-all_commands : (c : Configuration) (range_value : ℕ) (check_payload : List ℕ) → length check_payload ≡ 2 → spelled (all_commands c.layout.device range_value (mode_bits c) (cram_bodies c) (bram_bodies c) check_payload) ≡ spelling (Short range_opcode (range_value ∷ [])) ++ reset_command ++ checked_bytes c ++ check_payload ++ wake_up_command
 unfolding spelled
 spelled-all_commands c range_value check_payload long =
-    let inside = checked_commands c.device (mode_bits c) (cram_bodies c) (bram_bodies c) in
+    let inside = checked_commands c.layout.device (mode_bits c) (cram_bodies c) (bram_bodies c) in
     let head : flat_map spelling (Short check_opcode check_payload ∷ wake_up ∷ []) ≡ check_head ++ (check_payload ++ wake_up_command) = ap (λ n. (16 * 2 + n) ∷ (check_payload ++ wake_up_command)) long in
     let rest : flat_map spelling (inside ++ Short check_opcode check_payload ∷ wake_up ∷ []) ≡ checked_bytes c ++ (check_payload ++ wake_up_command) =
     flat_map-append spelling inside (Short check_opcode check_payload ∷ wake_up ∷ [])

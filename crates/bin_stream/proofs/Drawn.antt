@@ -13,6 +13,8 @@ use Rattle.bit_plane.proofs.Places.{get_or-placed, get_or-placed_before, get_or-
 use Rattle.bit_plane.proofs.Made.{IsGrid-rows_from, bit_at-rows_from}
 use Rattle.plane_map.specs.declared.device.DeviceName.{DeviceName}
 use Rattle.plane_map.specs.declared.tile.Place.{Place}
+use Rattle.layout_file.specs.declared.layouts.Layouts.{Layouts}
+use Rattle.layout_file.specs.Layouts.{AreLayouts, layout_for}
 use Rattle.ice_image.specs.Configuration.{Configuration, bank_rows, place_bit, with_bank, AreBanks}
 use Rattle.ice_image.specs.Either.{configuration_of, device_of}
 use Rattle.ice_image.specs.declared.any.AnyImage.{AnyImage}
@@ -27,6 +29,7 @@ use Rattle.bin_stream.specs.Refusals.{reached_in}
 use Rattle.bin_stream.specs.inside.Registers.{Fits, held_after}
 use Rattle.ice_image.specs.Planes.{with_rows}
 use Rattle.bin_stream.specs.inside.Step.{device_if, image_or_blank, IsDrawnOn, IsDrawn, Holds}
+use Rattle.bin_stream.proofs.Laid.{device-laid}
 use Rattle.bin_stream.proofs.OneMore.{device_after-more, reached_in-more, plane_bit-more}
 use Rattle.place_search.proofs.Places.{or_else-none}
 
@@ -82,15 +85,15 @@ plane_bit-short kind commands opcode payload at = plane_bit-more kind commands (
 pub plane_bit-other : (commands : List Command) (payload body : List ℕ) (at : Place) → (plane_bit Bram (commands ++ Data Cram payload body ∷ []) at ≡ plane_bit Bram commands at) × (plane_bit Cram (commands ++ Data Bram payload body ∷ []) at ≡ plane_bit Cram commands at)
 plane_bit-other commands payload body at = (plane_bit-more Bram commands (Data Cram payload body) at, plane_bit-more Cram commands (Data Bram payload body) at)
 
-pub Holds-short : (commands : List Command) (opcode : ℕ) (payload : List ℕ) (image : Option AnyImage) → Holds commands image → Holds (commands ++ Short opcode payload ∷ []) image
-Holds-short commands opcode payload None blank = record {
+pub Holds-short : (layouts : Layouts) (commands : List Command) (opcode : ℕ) (payload : List ℕ) (image : Option AnyImage) → Holds layouts commands image → Holds layouts (commands ++ Short opcode payload ∷ []) image
+Holds-short layouts commands opcode payload None blank = record {
   no_device = device_after-more commands (Short opcode payload) ∙ or_else-none (device_after commands) ∙ blank.no_device;
   not_reached = reached_in-more commands (Short opcode payload) ∙ or-false (reached_in commands) ∙ blank.not_reached;
   no_bit = λ kind at. plane_bit-short kind commands opcode payload at ∙ blank.no_bit kind at;
 }
-Holds-short commands opcode payload (Some image) drawn = record {
+Holds-short layouts commands opcode payload (Some image) drawn = record {
   device_is = device_after-more commands (Short opcode payload) ∙ or_else-none (device_after commands) ∙ drawn.device_is;
-  name_is = drawn.name_is;
+  layout_is = drawn.layout_is;
   cram_is = drawn.cram_is ∙ planes_of-same (device_of image) Cram commands (commands ++ Short opcode payload ∷ []) (λ at. sym (plane_bit-short Cram commands opcode payload at));
   bram_is = drawn.bram_is ∙ planes_of-same (device_of image) Bram commands (commands ++ Short opcode payload ∷ []) (λ at. sym (plane_bit-short Bram commands opcode payload at));
 }
@@ -177,26 +180,28 @@ planes_drawn device kind commands payload body bank_in width_is within long =
     ])
 
 -- the device of the image is the commands'
-pub device_if-is : (commands : List Command) (image : Option AnyImage) → Holds commands image → device_if image ≡ device_after commands
-device_if-is commands None blank = sym blank.no_device
-device_if-is commands (Some image) drawn = sym drawn.device_is
+pub device_if-is : (layouts : Layouts) (commands : List Command) (image : Option AnyImage) → Holds layouts commands image → device_if image ≡ device_after commands
+device_if-is layouts commands None blank = sym blank.no_device
+device_if-is layouts commands (Some image) drawn = sym drawn.device_is
 
 -- what data are written into
-record IsBase (device : DeviceName) (commands : List Command) (base : Configuration) : Type 0 where
-  device_is : base.device ≡ device
+record IsBase (layouts : Layouts) (device : DeviceName) (commands : List Command) (base : Configuration) : Type 0 where
+  layout_is : base.layout ≡ layout_for layouts device
   cram_is : base.cram ≡ planes_of device Cram commands
   bram_is : base.bram ≡ planes_of device Bram commands
 
-IsBase-holds : (device : DeviceName) (commands : List Command) (image : Option AnyImage) (other : Option DeviceName) → Holds commands image → or_else (device_if image) other ≡ Some device → IsBase device commands (image_or_blank device image)
-IsBase-holds device commands None other blank chosen = record {
-  device_is = refl;
-  cram_is = planes_of-blank device Cram commands (blank.no_bit Cram);
-  bram_is = planes_of-blank device Bram commands (blank.no_bit Bram);
-}
-IsBase-holds device commands (Some image) other drawn chosen =
+IsBase-holds : (layouts : Layouts) → AreLayouts layouts → (device : DeviceName) (commands : List Command) (image : Option AnyImage) (other : Option DeviceName) → Holds layouts commands image → or_else (device_if image) other ≡ Some device → IsBase layouts device commands (image_or_blank (layout_for layouts device) image)
+IsBase-holds layouts are device commands None other none chosen =
+    let same = device-laid layouts are device in
+    record {
+      layout_is = refl;
+      cram_is = ap (λ device. replicate 4 (blank (plane_width Cram device) (plane_height Cram device))) same ∙ planes_of-blank device Cram commands (none.no_bit Cram);
+      bram_is = ap (λ device. replicate 4 (blank (plane_width Bram device) (plane_height Bram device))) same ∙ planes_of-blank device Bram commands (none.no_bit Bram);
+    }
+IsBase-holds layouts are device commands (Some image) other drawn chosen =
     let e : device_of image ≡ device = cc in
     record {
-      device_is = drawn.name_is ∙ e;
+      layout_is = sym drawn.layout_is ∙ ap (layout_for layouts) e;
       cram_is = drawn.cram_is ∙ ap (λ device. planes_of device Cram commands) e;
       bram_is = drawn.bram_is ∙ ap (λ device. planes_of device Bram commands) e;
     }
@@ -205,42 +210,42 @@ eight : (n p : ℕ) → n ≡ p / 8 → p % 8 ≡ 0 → 8 * n ≡ p
 eight n p is whole = omega arith
 
 -- an image with data's rows, by its kind
-Drawn-rows : (device : DeviceName) (kind : PlaneKind) (commands : List Command) (payload body : List ℕ) (base image : Configuration) → IsBase device commands base → Fits device kind (held_after commands) → bank_after commands < 4 → length body ≡ width_after commands * height_after commands / 8 → image ≡ with_rows kind (bank_after commands) (first_row_after commands) (rows_of (width_after commands) (height_after commands) (bits_of body)) base → IsBase device (commands ++ Data kind payload body ∷ []) image
-Drawn-rows device Cram commands payload body base image is fits bank_in long image_is =
+Drawn-rows : (layouts : Layouts) (device : DeviceName) (kind : PlaneKind) (commands : List Command) (payload body : List ℕ) (base image : Configuration) → IsBase layouts device commands base → Fits device kind (held_after commands) → bank_after commands < 4 → length body ≡ width_after commands * height_after commands / 8 → image ≡ with_rows kind (bank_after commands) (first_row_after commands) (rows_of (width_after commands) (height_after commands) (bits_of body)) base → IsBase layouts device (commands ++ Data kind payload body ∷ []) image
+Drawn-rows layouts device Cram commands payload body base image is fits bank_in long image_is =
     let bank = bank_after commands in
     let rows = rows_of (width_after commands) (height_after commands) (bits_of body) in
     let full : 8 * length body ≡ height_after commands * plane_width Cram device = eight (length body) (width_after commands * height_after commands) long fits.whole ∙ mul_comm (width_after commands) (height_after commands) ∙ ap (λ width. height_after commands * width) fits.columns in
     record {
-      device_is = ap (λ c. c.device) image_is ∙ is.device_is;
+      layout_is = ap (λ c. c.layout) image_is ∙ is.layout_is;
       cram_is = ap (λ c. c.cram) image_is ∙ ap (λ planes. with_bank planes bank (placed (first_row_after commands) rows (bank_rows planes bank))) is.cram_is ∙ planes_drawn device Cram commands payload body bank_in fits.columns fits.rows full;
       bram_is = ap (λ c. c.bram) image_is ∙ is.bram_is ∙ planes_of-same device Bram commands (commands ++ Data Cram payload body ∷ []) (λ at. sym (plane_bit-other commands payload body at).0);
     }
-Drawn-rows device Bram commands payload body base image is fits bank_in long image_is =
+Drawn-rows layouts device Bram commands payload body base image is fits bank_in long image_is =
     let bank = bank_after commands in
     let rows = rows_of (width_after commands) (height_after commands) (bits_of body) in
     let full : 8 * length body ≡ height_after commands * plane_width Bram device = eight (length body) (width_after commands * height_after commands) long fits.whole ∙ mul_comm (width_after commands) (height_after commands) ∙ ap (λ width. height_after commands * width) fits.columns in
     record {
-      device_is = ap (λ c. c.device) image_is ∙ is.device_is;
+      layout_is = ap (λ c. c.layout) image_is ∙ is.layout_is;
       cram_is = ap (λ c. c.cram) image_is ∙ is.cram_is ∙ planes_of-same device Cram commands (commands ++ Data Bram payload body ∷ []) (λ at. sym (plane_bit-other commands payload body at).1);
       bram_is = ap (λ c. c.bram) image_is ∙ ap (λ planes. with_bank planes bank (placed (first_row_after commands) rows (bank_rows planes bank))) is.bram_is ∙ planes_drawn device Bram commands payload body bank_in fits.columns fits.rows full;
     }
 
 -- data written into the image are what the commands draw with them
-pub Holds-data : (commands : List Command) (kind : PlaneKind) (payload body : List ℕ) (before after : Option AnyImage) → Holds commands before → IsDrawnOn kind (held_after commands) body before after → Holds (commands ++ Data kind payload body ∷ []) after
-Holds-data commands kind payload body before after holds drawn =
+pub Holds-data : (layouts : Layouts) → AreLayouts layouts → (commands : List Command) (kind : PlaneKind) (payload body : List ℕ) (before after : Option AnyImage) → Holds layouts commands before → IsDrawnOn layouts kind (held_after commands) body before after → Holds layouts (commands ++ Data kind payload body ∷ []) after
+Holds-data layouts are commands kind payload body before after holds drawn =
     let device = drawn.device in
     let image = drawn.image in
     let command = Data kind payload body in
-    let base = IsBase-holds device commands before (device_with kind (width_after commands)) holds drawn.device_is in
-    let made : IsBase device (commands ++ command ∷ []) (configuration_of image) = Drawn-rows device kind commands payload body (image_or_blank device before) (configuration_of image) base drawn.fits drawn.bank_in drawn.long drawn.rows_are in
-    let P : Option AnyImage → Type 0 = Holds (commands ++ command ∷ []) in
-    let is_drawn : IsDrawn (commands ++ command ∷ []) image = record {
+    let base = IsBase-holds layouts are device commands before (device_with kind (width_after commands)) holds drawn.device_is in
+    let made : IsBase layouts device (commands ++ command ∷ []) (configuration_of image) = Drawn-rows layouts device kind commands payload body (image_or_blank (layout_for layouts device) before) (configuration_of image) base drawn.fits drawn.bank_in drawn.long drawn.rows_are in
+    let P : Option AnyImage → Type 0 = Holds layouts (commands ++ command ∷ []) in
+    let is_drawn : IsDrawn layouts (commands ++ command ∷ []) image = record {
       device_is =
           device_after-more commands command
-          ∙ ap (λ fixed. or_else fixed (device_with kind (width_after commands))) (sym (device_if-is commands before holds))
+          ∙ ap (λ fixed. or_else fixed (device_with kind (width_after commands))) (sym (device_if-is layouts commands before holds))
           ∙ drawn.device_is
           ∙ ap (λ device. Some device) (sym drawn.same_device);
-      name_is = made.device_is ∙ sym drawn.same_device;
+      layout_is = ap (layout_for layouts) drawn.same_device ∙ sym made.layout_is;
       cram_is = made.cram_is ∙ ap (λ device. planes_of device Cram (commands ++ command ∷ [])) (sym drawn.same_device);
       bram_is = made.bram_is ∙ ap (λ device. planes_of device Bram (commands ++ command ∷ [])) (sym drawn.same_device);
     } in

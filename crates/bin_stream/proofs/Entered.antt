@@ -3,6 +3,8 @@ use Rattle.std.proofs.Common.{◌≡◌, ℕ, suc, ◌+◌, ◌*◌, ◌/◌, �
 use Rattle.std.specs.Prelude.{Option, Some, None, nat_lt, ◌==◌}
 use Rattle.std.proofs.lemmas.Bool.{cases_Bool, ltb-false, eqb-true, and_parts}
 use Rattle.place_search.specs.Places.{or_else}
+use Rattle.layout_file.specs.declared.layouts.Layouts.{Layouts}
+use Rattle.layout_file.specs.Layouts.{AreLayouts}
 use Rattle.ice_image.specs.declared.any.AnyImage.{AnyImage}
 use Rattle.ice_image.specs.declared.planes.PlaneKind.{PlaneKind}
 use Rattle.bin_stream.specs.Commands.{Command, Short, Data, number_of, spelling, is_wake_up, control_opcode, wake_up_number}
@@ -87,7 +89,7 @@ wake_up_reached held opcode n is allowed =
           absurd cc
     ]
 
-module _ (commands : List Command) (place n : ℕ) (bytes payload spelled : List ℕ) (held : Held) (image : Option AnyImage) (fine : payload_refusal place bytes ≡ None) (payload_is : payload ≡ payload_in bytes) (n_is : n ≡ number_of payload) (stands : Stands commands held image) where
+module _ (layouts : Layouts) (commands : List Command) (place n : ℕ) (bytes payload spelled : List ℕ) (held : Held) (image : Option AnyImage) (fine : payload_refusal place bytes ≡ None) (payload_is : payload ≡ payload_in bytes) (n_is : n ≡ number_of payload) (stands : Stands layouts commands held image) where
   abbrev opcode : ℕ
   opcode = head_of bytes / 16
 
@@ -123,15 +125,15 @@ module _ (commands : List Command) (place n : ℕ) (bytes payload spelled : List
     pub short_refused : (cause : BinCause) → Some cause ≡ short_cause_by (checked held spelled) opcode n → first_fault commands place bytes ≡ Some (fault_at place cause)
     short_refused cause is = short_fault ∙ ap (fault_where place) (sym is)
 
-    pub short_entered : (size : ℕ) (is_last : Bool) (after : Held) → None ≡ short_cause_by (checked held spelled) opcode n → after ≡ after_short (checked held spelled) opcode n → size ≡ 1 + length payload → is_last ≡ ((opcode == control_opcode) && (n == wake_up_number)) → IsEntered commands place bytes size is_last after image
+    pub short_entered : (size : ℕ) (is_last : Bool) (after : Held) → None ≡ short_cause_by (checked held spelled) opcode n → after ≡ after_short (checked held spelled) opcode n → size ≡ 1 + length payload → is_last ≡ ((opcode == control_opcode) && (n == wake_up_number)) → IsEntered layouts commands place bytes size is_last after image
     short_entered size is_last after allowed after_is size_is last_is =
         let kept : after ≡ held_after (commands ++ short ∷ []) =
         after_is
         ∙ ap (λ held. after_short (checked held spelled) opcode n) stands.held_is
         ∙ ap₂ (λ spelled n. after_short (checked (held_after commands) spelled) opcode n) spelled_whole number
         ∙ held_after-short commands opcode (payload_in bytes) in
-        let P : Command → Type 0 = λ command. Stands (commands ++ command ∷ []) after image in
-        let now : P short = record { held_is = kept; drawn = Holds-short commands opcode (payload_in bytes) image stands.drawn } in
+        let P : Command → Type 0 = λ command. Stands layouts (commands ++ command ∷ []) after image in
+        let now : P short = record { held_is = kept; drawn = Holds-short layouts commands opcode (payload_in bytes) image stands.drawn } in
         record {
           fine = short_fault ∙ ap (fault_where place) (sym allowed);
           size_is =
@@ -170,7 +172,7 @@ module _ (commands : List Command) (place n : ℕ) (bytes payload spelled : List
         let start : place + 1 + length (payload_in bytes) ≡ place + (1 + length payload) = omega (arith, long) in
         read_fault commands place bytes fine
         ∙ ap (λ kind. payload_fault commands place opcode (payload_in bytes) kind (behind_payload bytes)) with_kind
-        ∙ ap (λ fixed. or_else (fault_where place (data_cause_by (held_after commands) fixed kind)) (body_fault (size_after commands) (place + 1 + length (payload_in bytes)) (behind_payload bytes))) (sym (device_if-is commands image stands.drawn))
+        ∙ ap (λ fixed. or_else (fault_where place (data_cause_by (held_after commands) fixed kind)) (body_fault (size_after commands) (place + 1 + length (payload_in bytes)) (behind_payload bytes))) (sym (device_if-is layouts commands image stands.drawn))
         ∙ ap₂ (λ start bytes. or_else (fault_where place (data_cause_by (held_after commands) (device_if image) kind)) (body_fault (size_after commands) start bytes)) start behind
         ∙ ap (λ held. or_else (fault_where place (data_cause_by held (device_if image) kind)) (body_fault (held.width * held.height / 8) (place + (1 + length payload)) (drop (1 + length payload) bytes))) (sym stands.held_is)
 
@@ -196,8 +198,8 @@ module _ (commands : List Command) (place n : ℕ) (bytes payload spelled : List
           (with_payload place bytes fine).0
           ∙ ap₂ (λ head rest. head ∷ rest) head (rest ∙ sym (append_assoc p body (0 ∷ 0 ∷ more)) ∙ sym (append_assoc (p ++ body) (0 ∷ 0 ∷ []) more))
 
-      pub data_entered : (size : ℕ) (after : Held) (shown : Option AnyImage) → size ≡ 1 + length payload + held.width * held.height / 8 + 2 → after ≡ after_data held kind (take size bytes) → IsDrawnOn kind held (take (held.width * held.height / 8) (drop (1 + length payload) bytes)) image shown → IsEntered commands place bytes size false after shown
-      data_entered size after shown size_is after_is drawn =
+      pub data_entered : AreLayouts layouts → (size : ℕ) (after : Held) (shown : Option AnyImage) → size ≡ 1 + length payload + held.width * held.height / 8 + 2 → after ≡ after_data held kind (take size bytes) → IsDrawnOn layouts kind held (take (held.width * held.height / 8) (drop (1 + length payload) bytes)) image shown → IsEntered layouts commands place bytes size false after shown
+      data_entered are size after shown size_is after_is drawn =
           let exact : length (spelling command) ≡ size = omega (arith, length-spelling, size_is_after) in
           let spelled_is : take size bytes ≡ spelling command = ap (take size) whole ∙ take_at (spelling command) (drop 2 (drop (size_after commands) (behind_payload bytes))) size exact in
           let kept : after ≡ held_after (commands ++ command ∷ []) =
@@ -205,10 +207,10 @@ module _ (commands : List Command) (place n : ℕ) (bytes payload spelled : List
           ∙ ap₂ (λ held bytes. after_data held kind bytes) stands.held_is spelled_is
           ∙ held_after-data commands kind (payload_in bytes) body in
           let body_is : take (held.width * held.height / 8) (drop (1 + length payload) bytes) ≡ body = ap₂ take size_is_after (sym behind) in
-          let D : Held → List ℕ → Type 0 = λ held body. IsDrawnOn kind held body image shown in
-          let drawn_on : IsDrawnOn kind (held_after commands) body image shown = subst (λ (held : Held). D held body) stands.held_is (subst (λ (body : List ℕ). D held body) body_is drawn) in
-          let P : Command → Type 0 = λ command. Stands (commands ++ command ∷ []) after shown in
-          let now : P command = record { held_is = kept; drawn = Holds-data commands kind (payload_in bytes) body image shown stands.drawn drawn_on } in
+          let D : Held → List ℕ → Type 0 = λ held body. IsDrawnOn layouts kind held body image shown in
+          let drawn_on : IsDrawnOn layouts kind (held_after commands) body image shown = subst (λ (held : Held). D held body) stands.held_is (subst (λ (body : List ℕ). D held body) body_is drawn) in
+          let P : Command → Type 0 = λ command. Stands layouts (commands ++ command ∷ []) after shown in
+          let now : P command = record { held_is = kept; drawn = Holds-data layouts are commands kind (payload_in bytes) body image shown stands.drawn drawn_on } in
           record {
             fine = allowed;
             size_is = sym exact ∙ ap (λ command. length (spelling command)) (sym data_is);

@@ -5,6 +5,7 @@ pub mod Allowed
 pub mod ManyCommands
 pub mod PreamblePlace
 pub mod DeviceKnown
+pub mod Laid
 pub mod Decided
 pub mod OneMore
 pub mod Payloads

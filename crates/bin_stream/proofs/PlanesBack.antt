@@ -111,12 +111,12 @@ planes-are device kind commands planes banks same =
     ap (λ rows. bit_at rows at.px at.py) (bank_rows-of plane at.bank bank) ∙ bit_at-rows_from wide high (bit at.bank) at.px at.py column row ∙ same at.bank at.px at.py bank column row)
 
 -- the configuration planes that were written are read
-pub cram_back : (c : Configuration) (range_value : ℕ) (check_payload : List ℕ) → IsWhole c → planes_of c.device Cram (all_commands c.device range_value (mode_bits c) (cram_bodies c) (bram_bodies c) check_payload) ≡ c.cram
+pub cram_back : (c : Configuration) (range_value : ℕ) (check_payload : List ℕ) → IsWhole c → planes_of c.layout.device Cram (all_commands c.layout.device range_value (mode_bits c) (cram_bodies c) (bram_bodies c) check_payload) ≡ c.cram
 cram_back c range_value check_payload is =
-    let commands = all_commands c.device range_value (mode_bits c) (cram_bodies c) (bram_bodies c) check_payload in
-    planes-are c.device Cram commands c.cram is.cram (λ bank x y in_bank column row.
-    cram_bit c.device range_value (mode_bits c) (cram_bodies c) (bram_bodies c) check_payload bank x y in_bank row
-    ∙ row_bytes-at (cram_width c.device) (cram_height c.device) (bank_rows c.cram bank) x y (is.cram.grids bank in_bank) (cram-even c.device) column row)
+    let commands = all_commands c.layout.device range_value (mode_bits c) (cram_bodies c) (bram_bodies c) check_payload in
+    planes-are c.layout.device Cram commands c.cram is.cram (λ bank x y in_bank column row.
+    cram_bit c.layout.device range_value (mode_bits c) (cram_bodies c) (bram_bodies c) check_payload bank x y in_bank row
+    ∙ row_bytes-at (cram_width c.layout.device) (cram_height c.layout.device) (bank_rows c.cram bank) x y (is.cram.grids bank in_bank) (cram-even c.layout.device) column row)
 
 -- a bit of a run of rows
 run-at : (width height first : ℕ) (rows : Rows) (x y : ℕ) → IsGrid width height rows → first + 128 ≤ height → width * 128 % 8 ≡ 0 → x < width → y < 128 → get_or (bits_of (row_bytes (take 128 (drop first rows)))) (y * width + x) false ≡ bit_at rows x (first + y)
@@ -125,21 +125,21 @@ run-at width height first rows x y grid within even column row =
     ∙ ap (λ bits. get_or bits x false) (get_or-take 128 (drop first rows) y [] row ∙ get_or-drop first rows y [])
 
 -- the RAM planes that were written are read
-pub bram_back : (c : Configuration) (range_value : ℕ) (check_payload : List ℕ) → IsWhole c → planes_of c.device Bram (all_commands c.device range_value (mode_bits c) (cram_bodies c) (bram_bodies c) check_payload) ≡ c.bram
+pub bram_back : (c : Configuration) (range_value : ℕ) (check_payload : List ℕ) → IsWhole c → planes_of c.layout.device Bram (all_commands c.layout.device range_value (mode_bits c) (cram_bodies c) (bram_bodies c) check_payload) ≡ c.bram
 bram_back c range_value check_payload is =
-    let commands = all_commands c.device range_value (mode_bits c) (cram_bodies c) (bram_bodies c) check_payload in
-    planes-are c.device Bram commands c.bram is.bram (λ bank x y in_bank column row.
+    let commands = all_commands c.layout.device range_value (mode_bits c) (cram_bodies c) (bram_bodies c) check_payload in
+    planes-are c.layout.device Bram commands c.bram is.bram (λ bank x y in_bank column row.
     let rows : Rows = bank_rows c.bram bank in
     let grid = is.bram.grids bank in_bank in
     elim (cases_lt y 128) [
       | inl low ↦
           let e : 0 + y ≡ y = omega arith in
-          bram_bit_low c.device range_value (mode_bits c) (cram_bodies c) (bram_bodies c) check_payload bank x y in_bank low
-          ∙ run-at (bram_width c.device) 256 0 rows x y grid (omega arith) (bram-even c.device) column low
+          bram_bit_low c.layout.device range_value (mode_bits c) (cram_bodies c) (bram_bodies c) check_payload bank x y in_bank low
+          ∙ run-at (bram_width c.layout.device) 256 0 rows x y grid (omega arith) (bram-even c.layout.device) column low
           ∙ ap (bit_at rows x) e
       | inr above ↦
           let e : 128 + (y - 128) ≡ y = omega arith in
-          bram_bit_high c.device range_value (mode_bits c) (cram_bodies c) (bram_bodies c) check_payload bank x y in_bank above row
-          ∙ run-at (bram_width c.device) 256 128 rows x (y - 128) grid (omega arith) (bram-even c.device) column (omega arith)
+          bram_bit_high c.layout.device range_value (mode_bits c) (cram_bodies c) (bram_bodies c) check_payload bank x y in_bank above row
+          ∙ run-at (bram_width c.layout.device) 256 128 rows x (y - 128) grid (omega arith) (bram-even c.layout.device) column (omega arith)
           ∙ ap (bit_at rows x) e
     ])

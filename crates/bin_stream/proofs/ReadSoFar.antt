@@ -3,7 +3,9 @@ use Rattle.std.proofs.Common.{◌≡◌, ℕ, suc, ◌+◌, ◌-◌, ◌<◌, �
 use Rattle.std.specs.Prelude.{Option, Some, None, Result, Ok, Err}
 use Rattle.place_search.specs.Places.{any_below, last_below, first_below}
 use Rattle.bit_plane.specs.Rows.{Rows}
-use Rattle.plane_map.specs.declared.device.DeviceName.{DeviceName}
+use Rattle.plane_map.specs.Layout.{Layout}
+use Rattle.layout_file.specs.declared.layouts.Layouts.{Layouts}
+use Rattle.layout_file.specs.Layouts.{layout_for}
 use Rattle.ice_image.specs.Configuration.{Configuration}
 use Rattle.ice_image.specs.declared.settings.Settings.{Settings}
 use Rattle.ice_image.specs.Either.{configuration_of, device_of}
@@ -23,9 +25,9 @@ use Rattle.bin_stream.specs.declared.fault.BinFault.TheVariants.{At, Memory}
 use Rattle.bin_stream.proofs.Steps.{held_first-is}
 
 -- nothing is read
-pub HasRead-first : (bytes : List ℕ) (start : ℕ) (held : Held) → held ≡ held_first → HasRead bytes start start held None
+pub HasRead-first : (layouts : Layouts) (bytes : List ℕ) (start : ℕ) (held : Held) → held ≡ held_first → HasRead layouts bytes start start held None
 unfolding any_below first_below last_below device_after plane_bit
-HasRead-first bytes start held is = record {
+HasRead-first layouts bytes start held is = record {
   commands = [];
   most = length bytes + 1;
   enough = omega arith;
@@ -50,19 +52,20 @@ unfolding commands_from
 fault_from most commands place bytes fault wrong = rw wrong refl
 
 -- an image with the settings that are kept is what the commands configure
-is_meaning : (commands : List Command) (front : List ℕ) (held : Held) (before : AnyImage) (finished : Configuration) → IsDrawn commands before → held ≡ held_after commands → finished ≡ record (configuration_of before) { settings = settings_by held } → meaning (device_of before) front commands ≡ record finished { comment = comment_of front }
+is_meaning : (layouts : Layouts) (commands : List Command) (front : List ℕ) (held : Held) (before : AnyImage) (finished : Configuration) → IsDrawn layouts commands before → held ≡ held_after commands → finished ≡ record (configuration_of before) { settings = settings_by held } → meaning (layout_for layouts (device_of before)) front commands ≡ record finished { comment = comment_of front }
 unfolding meaning
-is_meaning commands front held before finished drawn held_is is =
+is_meaning layouts commands front held before finished drawn held_is is =
     let b = configuration_of before in
-    let make : DeviceName → Settings → List Rows → List Rows → Configuration = λ device settings cram bram. record { device = device; comment = comment_of front; settings = settings; cram = cram; bram = bram } in
-    let changed : record finished { comment = comment_of front } ≡ make b.device (settings_by held) b.cram b.bram = ap (λ c. make c.device c.settings c.cram c.bram) is in
-    sym (changed
-    ∙ ap (λ device. make device (settings_by held) b.cram b.bram) drawn.name_is
-    ∙ ap (λ held. make (device_of before) (settings_by held) b.cram b.bram) held_is
-    ∙ ap (λ cram. make (device_of before) (settings_by (held_after commands)) cram b.bram) drawn.cram_is
-    ∙ ap (λ bram. make (device_of before) (settings_by (held_after commands)) (planes_of (device_of before) Cram commands) bram) drawn.bram_is)
+    let make : Layout → Settings → List Rows → List Rows → Configuration = λ layout settings cram bram. record { layout = layout; comment = comment_of front; settings = settings; cram = cram; bram = bram } in
+    let changed : record finished { comment = comment_of front } ≡ make b.layout (settings_by held) b.cram b.bram = ap (λ c. make c.layout c.settings c.cram c.bram) is in
+    let drawn_is : record finished { comment = comment_of front } ≡ meaning b.layout front commands =
+    changed
+    ∙ ap (λ held. make b.layout (settings_by held) b.cram b.bram) held_is
+    ∙ ap (λ cram. make b.layout (settings_by (held_after commands)) cram b.bram) drawn.cram_is
+    ∙ ap (λ bram. make b.layout (settings_by (held_after commands)) (planes_of (device_of before) Cram commands) bram) drawn.bram_is in
+    ap (λ layout. meaning layout front commands) drawn.layout_is ∙ sym drawn_is
 
-module _ (bytes : List ℕ) (start place : ℕ) (held : Held) (image : Option AnyImage) (read : HasRead bytes start place held image) (within : place ≤ length bytes) where
+module _ (layouts : Layouts) (bytes : List ℕ) (start place : ℕ) (held : Held) (image : Option AnyImage) (read : HasRead layouts bytes start place held image) (within : place ≤ length bytes) where
   -- another command can be read
   some_more : (m : ℕ) × (read.most ≡ suc m)
   some_more =
@@ -73,7 +76,7 @@ module _ (bytes : List ℕ) (start place : ℕ) (held : Held) (image : Option An
   goes_on m is = read.goes_on ∙ ap (λ most. commands_from most read.commands place (drop place bytes)) is
 
   -- one command more
-  pub HasRead-more : (size next : ℕ) (is_last : Bool) (after : Held) (shown : Option AnyImage) → IsEntered read.commands place (drop place bytes) size is_last after shown → is_last ≡ false → 0 < size → next ≡ place + size → HasRead bytes start next after shown
+  pub HasRead-more : (size next : ℕ) (is_last : Bool) (after : Held) (shown : Option AnyImage) → IsEntered layouts read.commands place (drop place bytes) size is_last after shown → is_last ≡ false → 0 < size → next ≡ place + size → HasRead layouts bytes start next after shown
   HasRead-more size next is_last after shown entered goes some next_is =
       let more = some_more in
       let command = first_command read.commands (drop place bytes) in
@@ -91,14 +94,14 @@ module _ (bytes : List ℕ) (start place : ℕ) (held : Held) (image : Option An
       }
 
   -- a fault
-  pub read_refused : (fault : BinFault) → Refuses (first_fault read.commands place (drop place bytes)) fault → (front : List ℕ) → Tells (image_of front (commands_from (length bytes + 1) [] start (drop start bytes))) fault
+  pub read_refused : (fault : BinFault) → Refuses (first_fault read.commands place (drop place bytes)) fault → (front : List ℕ) → Tells (image_of layouts front (commands_from (length bytes + 1) [] start (drop start bytes))) fault
   read_refused (At offset cause) wrong front =
       let more = some_more in
-      ap (image_of front) (goes_on more.0 more.1 ∙ fault_from more.0 read.commands place (drop place bytes) (fault_at offset cause) wrong)
+      ap (image_of layouts front) (goes_on more.0 more.1 ∙ fault_from more.0 read.commands place (drop place bytes) (fault_at offset cause) wrong)
   read_refused (Memory e) wrong front = tt
 
   -- the wake-up
-  module _ (size : ℕ) (is_last : Bool) (after : Held) (shown : Option AnyImage) (entered : IsEntered read.commands place (drop place bytes) size is_last after shown) (last : is_last ≡ true) where
+  module _ (size : ℕ) (is_last : Bool) (after : Held) (shown : Option AnyImage) (entered : IsEntered layouts read.commands place (drop place bytes) size is_last after shown) (last : is_last ≡ true) where
     abbrev all : List Command
     all = read.commands ++ first_command read.commands (drop place bytes) ∷ []
 
@@ -107,17 +110,17 @@ module _ (bytes : List ℕ) (start place : ℕ) (held : Held) (image : Option An
         let more = some_more in
         goes_on more.0 more.1 ∙ last_from more.0 read.commands place (drop place bytes) entered.fine (sym entered.last_is ∙ last)
 
-    pub read_image : (finished : AnyImage) → IsFinished after shown finished → (front : List ℕ) → image_of front (commands_from (length bytes + 1) [] start (drop start bytes)) ≡ Ok (record (configuration_of finished) { comment = comment_of front })
+    pub read_image : (finished : AnyImage) → IsFinished after shown finished → (front : List ℕ) → image_of layouts front (commands_from (length bytes + 1) [] start (drop start bytes)) ≡ Ok (record (configuration_of finished) { comment = comment_of front })
     read_image finished is front =
-        let drawn : IsDrawn all is.before = subst (Holds all) is.drawn_is entered.stands.drawn in
-        ap (image_of front) commands_are
-        ∙ ap (λ device. Ok (meaning (device_or device) front all)) drawn.device_is
-        ∙ ap (λ c. Ok c) (is_meaning all front after is.before (configuration_of finished) drawn entered.stands.held_is is.settings_are)
+        let drawn : IsDrawn layouts all is.before = subst (Holds layouts all) is.drawn_is entered.stands.drawn in
+        ap (image_of layouts front) commands_are
+        ∙ ap (λ device. Ok (meaning (layout_for layouts (device_or device)) front all)) drawn.device_is
+        ∙ ap (λ c. Ok c) (is_meaning layouts all front after is.before (configuration_of finished) drawn entered.stands.held_is is.settings_are)
 
     -- there is an image
-    pub not_missing : shown ≡ None → (front : List ℕ) (fault : BinFault) → Tells (image_of front (commands_from (length bytes + 1) [] start (drop start bytes))) fault
+    pub not_missing : shown ≡ None → (front : List ℕ) (fault : BinFault) → Tells (image_of layouts front (commands_from (length bytes + 1) [] start (drop start bytes))) fault
     not_missing none front fault =
-        let blank : IsBlank all = subst (Holds all) none entered.stands.drawn in
+        let blank : IsBlank all = subst (Holds layouts all) none entered.stands.drawn in
         let reached : reached_in all ≡ true = sym (ap (λ held. held.reached) entered.stands.held_is) ∙ entered.reached last in
         let bad : true ≡ false = sym reached ∙ blank.not_reached in
         absurd cc
@@ -125,14 +128,14 @@ module _ (bytes : List ℕ) (start place : ℕ) (held : Held) (image : Option An
 -- ---- the preamble
 
 -- what is read behind a preamble
-pub read_at : (bytes : List ℕ) (place : ℕ) → Some place ≡ preamble_offset bytes → bin_read_of bytes ≡ image_of (take place bytes) (commands_from (length bytes + 1) [] (place + 4) (drop (place + 4) bytes))
+pub read_at : (layouts : Layouts) (bytes : List ℕ) (place : ℕ) → Some place ≡ preamble_offset bytes → bin_read_of layouts bytes ≡ image_of layouts (take place bytes) (commands_from (length bytes + 1) [] (place + 4) (drop (place + 4) bytes))
 unfolding bin_read_of
-read_at bytes place is = ap (read_behind bytes) (sym is)
+read_at layouts bytes place is = ap (read_behind layouts bytes) (sym is)
 
 -- what is read where there is none
-pub read_nowhere : (bytes : List ℕ) → None ≡ preamble_offset bytes → bin_read_of bytes ≡ Err (fault_at (length bytes) NoPreamble)
+pub read_nowhere : (layouts : Layouts) (bytes : List ℕ) → None ≡ preamble_offset bytes → bin_read_of layouts bytes ≡ Err (fault_at (length bytes) NoPreamble)
 unfolding bin_read_of
-read_nowhere bytes is = ap (read_behind bytes) (sym is)
+read_nowhere layouts bytes is = ap (read_behind layouts bytes) (sym is)
 
 -- a fault that was told of an equal reading
 pub Tells-by : (read other : Result Configuration Fault) (fault : BinFault) → read ≡ other → Tells other fault → Tells read fault

@@ -10,6 +10,8 @@ use Rattle.place_search.specs.Places.{last_below, first_below}
 use Rattle.bit_plane.specs.BitList.{bit_value, bits_of, byte_bits}
 use Rattle.plane_map.specs.declared.device.DeviceName.{DeviceName}
 use Rattle.plane_map.specs.declared.device.DeviceName.TheVariants.{K1, K8}
+use Rattle.layout_file.specs.declared.layouts.Layouts.{Layouts}
+use Rattle.layout_file.specs.Layouts.{HasLayout}
 use Rattle.ice_image.specs.Configuration.{Configuration, IsWhole, bank_rows}
 use Rattle.ice_image.specs.declared.settings.Range.{Range}
 use Rattle.ice_image.specs.declared.settings.Range.TheVariants.{Low, Medium, High}
@@ -98,11 +100,11 @@ abbrev pub value_bytes : Configuration → List ℕ
 value_bytes c = two_bytes (check_value (bits_of (checked_bytes c)))
 
 -- the check passes
-check-passes : (c : Configuration) (range_value : ℕ) → check_found (before_check c.device range_value (mode_bits c) (cram_bodies c) (bram_bodies c)) (Short check_opcode (value_bytes c)) ≡ 0
+check-passes : (c : Configuration) (range_value : ℕ) → check_found (before_check c.layout.device range_value (mode_bits c) (cram_bodies c) (bram_bodies c)) (Short check_opcode (value_bytes c)) ≡ 0
 check-passes c range_value =
-    let inside = spelled (checked_commands c.device (mode_bits c) (cram_bodies c) (bram_bodies c)) in
-    let bytes : covered (before_check c.device range_value (mode_bits c) (cram_bodies c) (bram_bodies c)) ++ spelling (Short check_opcode (value_bytes c)) ≡ checked_bytes c ++ value_bytes c =
-    ap (λ before. before ++ (check_head ++ value_bytes c)) (covered-is c.device range_value (mode_bits c) (cram_bodies c) (bram_bodies c))
+    let inside = spelled (checked_commands c.layout.device (mode_bits c) (cram_bodies c) (bram_bodies c)) in
+    let bytes : covered (before_check c.layout.device range_value (mode_bits c) (cram_bodies c) (bram_bodies c)) ++ spelling (Short check_opcode (value_bytes c)) ≡ checked_bytes c ++ value_bytes c =
+    ap (λ before. before ++ (check_head ++ value_bytes c)) (covered-is c.layout.device range_value (mode_bits c) (cram_bodies c) (bram_bodies c))
     ∙ sym (append_assoc inside check_head (value_bytes c))
     ∙ ap (λ before. before ++ value_bytes c) (checked-is c) in
     ap (λ bytes. check_value (bits_of bytes)) bytes
@@ -113,15 +115,15 @@ check-passes c range_value =
 
 -- the commands of an image
 abbrev pub commands_of : Configuration → List Command
-commands_of c = before_wake_up c.device (range_number c.settings.range) (mode_bits c) (cram_bodies c) (bram_bodies c) (value_bytes c)
+commands_of c = before_wake_up c.layout.device (range_number c.settings.range) (mode_bits c) (cram_bodies c) (bram_bodies c) (value_bytes c)
 
 -- payloads and bodies are as they are to be
-fit-is : (c : Configuration) → IsWhole c → AreFit c.device (range_number c.settings.range) (mode_bits c) (cram_bodies c) (bram_bodies c) (value_bytes c)
+fit-is : (c : Configuration) → IsWhole c → AreFit c.layout.device (range_number c.settings.range) (mode_bits c) (cram_bodies c) (bram_bodies c) (value_bytes c)
 fit-is c is = record {
   range_in = range_number-below c.settings.range;
   mode_in = mode-known c.settings.warm_boot c.settings.no_sleep;
-  cram_sizes = λ bank in_bank. length-row_bytes (cram_width c.device) (cram_height c.device) (bank_rows c.cram bank) (is.cram.grids bank in_bank);
-  bram_sizes = λ bank first in_bank low. length-row_bytes (bram_width c.device) 128 (take 128 (drop first (bank_rows c.bram bank))) (IsGrid-run (bram_width c.device) 256 first 128 (bank_rows c.bram bank) (is.bram.grids bank in_bank) (omega arith));
+  cram_sizes = λ bank in_bank. length-row_bytes (cram_width c.layout.device) (cram_height c.layout.device) (bank_rows c.cram bank) (is.cram.grids bank in_bank);
+  bram_sizes = λ bank first in_bank low. length-row_bytes (bram_width c.layout.device) 128 (take 128 (drop first (bank_rows c.bram bank))) (IsGrid-run (bram_width c.layout.device) 256 first 128 (bank_rows c.bram bank) (is.bram.grids bank in_bank) (omega arith));
   check_long = refl;
   check_passes = check-passes c (range_number c.settings.range);
 }
@@ -146,14 +148,14 @@ settings-back : (c : Configuration) → settings_of (commands_of c ++ wake_up �
 settings-back c =
     let commands = commands_of c ++ wake_up ∷ [] in
     let range_value = range_number c.settings.range in
-    let mode-is : mode_after commands ≡ mode_bits c = mode-after c.device range_value (mode_bits c) (cram_bodies c) (bram_bodies c) (value_bytes c) in
-    let range-is : range_of (range_after commands) ≡ c.settings.range = ap range_of (range-after c.device range_value (mode_bits c) (cram_bodies c) (bram_bodies c) (value_bytes c)) ∙ range-back c.settings.range in
+    let mode-is : mode_after commands ≡ mode_bits c = mode-after c.layout.device range_value (mode_bits c) (cram_bodies c) (bram_bodies c) (value_bytes c) in
+    let range-is : range_of (range_after commands) ≡ c.settings.range = ap range_of (range-after c.layout.device range_value (mode_bits c) (cram_bodies c) (bram_bodies c) (value_bytes c)) ∙ range-back c.settings.range in
     let warm-is : (mode_after commands / 32 % 2 == 1) ≡ c.settings.warm_boot = ap (λ n. n / 32 % 2 == 1) mode-is ∙ warm_boot-back c.settings.warm_boot c.settings.no_sleep in
     let sleep-is : (mode_after commands % 2 == 1) ≡ c.settings.no_sleep = ap (λ n. n % 2 == 1) mode-is ∙ no_sleep-back c.settings.warm_boot c.settings.no_sleep in
     λ i. record { range = range-is i; warm_boot = warm-is i; no_sleep = sleep-is i }
 
 -- the image that was written is read
-means-image : (c : Configuration) → IsWhole c → HasCommentLines c.comment → meaning c.device (comment_bytes c.comment) (commands_of c ++ wake_up ∷ []) ≡ c
+means-image : (c : Configuration) → IsWhole c → HasCommentLines c.comment → meaning c.layout (comment_bytes c.comment) (commands_of c ++ wake_up ∷ []) ≡ c
 unfolding meaning
 means-image c is lines =
     let range_value = range_number c.settings.range in
@@ -161,11 +163,11 @@ means-image c is lines =
     let settings-is = settings-back c in
     let cram-is = cram_back c range_value (value_bytes c) is in
     let bram-is = bram_back c range_value (value_bytes c) is in
-    λ i. record { device = c.device; comment = comment-is i; settings = settings-is i; cram = cram-is i; bram = bram-is i }
+    λ i. record { layout = c.layout; comment = comment-is i; settings = settings-is i; cram = cram-is i; bram = bram-is i }
 
--- the canonical bytes of an image spell that image
-pub spells_canonical : (image : Configuration) → IsWhole image → HasCommentLines image.comment → Spells (canonical_bytes image) image
-spells_canonical image is lines =
+-- the canonical bytes of an image spell that image under all layouts that have the image's
+pub spells_canonical : (layouts : Layouts) (image : Configuration) → IsWhole image → HasCommentLines image.comment → HasLayout layouts image.layout → Spells layouts (canonical_bytes image) image
+spells_canonical layouts image is lines layout =
     let range_value = range_number image.settings.range in
     let front = comment_bytes image.comment in
     let rest = spelled (commands_of image ++ wake_up ∷ []) ++ 0 ∷ [] in
@@ -181,5 +183,6 @@ spells_canonical image is lines =
       before = no_wake_up-before image.layout.device range_value (mode_bits image) (cram_bodies image) (bram_bodies image) (value_bytes image);
       last = refl;
       device = device-after image.layout.device range_value (mode_bits image) (cram_bodies image) (bram_bodies image) (value_bytes image);
+      layout = layout;
       means = sym (means-image image is lines);
     }

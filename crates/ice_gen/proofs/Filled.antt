@@ -3,7 +3,7 @@ use Rattle.std.proofs.Common.{◌≡◌, ◌≢◌, ℕ, ◌+◌, ◌*◌, ◌/�
 use Rattle.std.specs.Prelude.{nat_lt, Option}
 use Rattle.std.proofs.lemmas.Bool.{cases_eq, cases_lt, lt-ltb, le-ltb, and_right}
 use Rattle.std.proofs.lemmas.Bool.Decides.{nat_tests}
-use Rattle.plane_map.specs.Layout.{grid_width, grid_height, cram_width, cram_height, bram_width, bram_height, columns_at, kind_of, IsTileBit, IsWordBit}
+use Rattle.plane_map.specs.Layout.{Layout, standard_layout, grid_width, grid_height, cram_width, cram_height, bram_width, bram_height, columns_at, kind_of, IsTileBit, IsWordBit}
 use Rattle.plane_map.specs.declared.tile.TileKind.{TileKind}
 use Rattle.plane_map.specs.declared.tile.TileKind.TheVariants.{Logic, RamB}
 use Rattle.plane_map.proofs.Layouts.{columns_at-in}
@@ -12,6 +12,7 @@ use Rattle.plane_map.specs.declared.device.DeviceName.TheVariants.{K1, K8}
 use Rattle.plane_map.specs.declared.tile.TileBit.{TileBit}
 use Rattle.plane_map.specs.declared.tile.WordBit.{WordBit}
 use Rattle.ice_image.specs.Configuration.{Configuration, IsWhole, blank_image}
+use Rattle.plane_map.proofs.Standard.{standard_is_layout}
 use Rattle.ice_image.proofs.BankBits.{AreBanks-blank}
 use Rattle.ice_image.proofs.Bits.{bit_of-blank}
 use Rattle.ice_image.specs.Bits.{Bit, OfTile, OfWord, Extra, IsBit, bit_of, IsSet}
@@ -99,7 +100,7 @@ width-most device x y width is = grind (arith, nat_tests)
 -- an image without bits has the device's sizes
 blank-whole : (device : DeviceName) → IsWhole (blank_image (standard_layout device))
 blank-whole device = record {
-  layout = standard-is_layout device;
+  layout = standard_is_layout device;
   cram = AreBanks-blank (cram_width device) (cram_height device);
   bram = AreBanks-blank (bram_width device) (bram_height device);
 }

@@ -1,7 +1,7 @@
 -- The image of which all bits are set.
 use Rattle.std.proofs.Common.{◌≡◌, ◌≢◌, ℕ, Bool, true, false, ◌&&◌, refl, sym, ap, ◌∙◌, subst, inl, inr, arith, None}
 use Rattle.std.proofs.lemmas.Bool.{cases_Bool, both_ways, lt-ltb}
-use Rattle.plane_map.specs.Layout.{grid_height, IsWordBit}
+use Rattle.plane_map.specs.Layout.{Layout, standard_layout, grid_height, IsWordBit}
 use Rattle.plane_map.specs.declared.device.DeviceName.{DeviceName}
 use Rattle.plane_map.specs.declared.tile.Place.{Place}
 use Rattle.plane_map.specs.declared.tile.WordBit.{WordBit}

@@ -2,7 +2,7 @@
 -- then one for each word of each RAM.
 use Rattle.std.specs.Prelude.{ℕ, ◌+◌, ◌-◌, ◌*◌, ◌/◌, ◌%◌, Bool, false, not, ◌&&◌, ◌||◌, List, [], ◌∷◌, slice_index, nat_le, nat_lt, ◌==◌, if◌then◌else◌, Option, None, Some}
 use Rattle.place_search.specs.Places.{any_below}
-use Rattle.plane_map.specs.Layout.{kind_of}
+use Rattle.plane_map.specs.Layout.{standard_layout, kind_of}
 use Rattle.plane_map.specs.declared.device.DeviceName.{DeviceName}
 use Rattle.plane_map.specs.declared.tile.TileKind.{TileKind}
 use Rattle.plane_map.specs.declared.tile.TileKind.TheVariants.{Io, Logic}

@@ -1,6 +1,6 @@
 -- What holds along the way. Only contracts within this crate cite this.
 use Rattle.std.specs.Prelude.{◌≡◌, ℕ, ◌+◌, ◌-◌, ◌*◌, ◌/◌, ◌%◌, Bool, true, false, ◌&&◌, ◌||◌, List, nat_lt, nat_le, ◌==◌, if◌then◌else◌, None}
-use Rattle.plane_map.specs.Layout.{last_x, last_y, ram_column}
+use Rattle.plane_map.specs.Layout.{standard_layout, last_x, last_y, ram_column}
 use Rattle.plane_map.specs.declared.device.DeviceName.{DeviceName}
 use Rattle.ice_image.specs.Configuration.{Configuration, IsWhole, usual_settings}
 use Rattle.ice_image.specs.Bits.{Bit, OfTile, OfWord, Extra, IsBit, bit_of}

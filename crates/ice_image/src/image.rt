@@ -21,9 +21,7 @@ use crate::settings::{Range, Settings};
 use crate::tiles::{columns_on, read_tile, row_word, write_tile};
 use crate::words::{read_word, write_word};
 use bit_plane::{Bits, Tile};
-use plane_map::{
-    Device, DeviceName, Layout, Place, RowCol, TileBit, TileKind, WordBit,
-};
+use plane_map::{Device, DeviceName, Layout, Place, RowCol, TileBit, TileKind, WordBit};
 use std::alloc::{AllocError, Global};
 use std::marker::Model;
 
@@ -126,7 +124,8 @@ impl<D: Device> Image<D> {
         ensures place { result ≡ place_bit self.now.cram (place_of self.now.layout at) }
         ensures bit { result ≡ bit_of self.now (OfTile at) }
     {
-        self.cram.get(self.layout.cram_place(at.x, at.y, at.row, at.col))
+        self.cram
+            .get(self.layout.cram_place(at.x, at.y, at.row, at.col))
     }
 
     /// Sets a bit of a tile.
@@ -144,7 +143,14 @@ impl<D: Device> Image<D> {
         requires { row < 16 }
         ensures { result ≡ word_of (row_of self.now x y row) }
     {
-        row_word(&self.layout, &self.cram, x, y, row, columns_on(self.layout.device(), x, y))
+        row_word(
+            &self.layout,
+            &self.cram,
+            x,
+            y,
+            row,
+            columns_on(self.layout.device(), x, y),
+        )
     }
 
     /// Sets an extra bit.

@@ -7,7 +7,6 @@ use Rattle.std.proofs.lemmas.Bool.{cases_Bool, and_parts, false≢true}
 use Rattle.std.proofs.lemmas.List.{map-append, take_more, length-take-le, length-map, get_or-map}
 use Rattle.std.proofs.lemmas.List.Elements.{filter-append}
 use Rattle.bit_plane.specs.BitList.{word_bits}
-use Rattle.plane_map.specs.declared.device.DeviceName.{DeviceName}
 use Rattle.plane_map.specs.declared.tile.RowCol.{RowCol}
 use Rattle.ice_image.specs.Configuration.{Configuration}
 use Rattle.ice_image.specs.Bits.{listed_bits}

@@ -17,7 +17,7 @@ use Rattle.chipdb_reader.specs.declared.items.Function.{Function}
 use Rattle.chipdb_reader.specs.Fit.{IsFunctionLine, IsBitIn}
 use Rattle.chipdb_reader.specs.Kept.{function_line, function_lines}
 use Rattle.chipdb_reader.specs.Lookups.{function_place, is_function}
-use Rattle.ice_image.specs.Configuration.{Configuration, place_bit}
+use Rattle.ice_image.specs.Configuration.{Configuration}
 use Rattle.ice_image.specs.Bits.{tile_bit_of}
 use Rattle.fabric_rules.specs.On.{bits_at}
 use Rattle.tile_lookups.proofs.InOrder.{is_same_kind-is}

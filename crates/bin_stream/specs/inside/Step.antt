@@ -5,6 +5,9 @@ use Rattle.bit_plane.specs.BitList.{bits_of}
 use Rattle.bit_plane.specs.Rows.{rows_of}
 use Rattle.plane_map.specs.declared.device.DeviceName.{DeviceName}
 use Rattle.plane_map.specs.declared.tile.Place.{Place}
+use Rattle.plane_map.specs.Layout.{Layout}
+use Rattle.layout_file.specs.declared.layouts.Layouts.{Layouts}
+use Rattle.layout_file.specs.Layouts.{layout_for, HasLayout}
 use Rattle.ice_image.specs.Configuration.{Configuration, blank_image}
 use Rattle.ice_image.specs.Planes.{with_rows}
 use Rattle.ice_image.specs.Either.{configuration_of, device_of}
@@ -52,13 +55,13 @@ abbrev pub device_if : Option AnyImage → Option DeviceName
 device_if None = None
 device_if (Some image) = Some (device_of image)
 
--- the image so far, or one without a bit
+-- the image so far, or one of a layout without a bit
 abbrev pub image_or_blank : Layout → Option AnyImage → Configuration
 image_or_blank layout None = blank_image layout
 image_or_blank layout (Some image) = configuration_of image
 
--- data were written into the image so far, or into one without a bit
-pub record IsDrawnOn (kind : PlaneKind) (held : Held) (body : List ℕ) (before after : Option AnyImage) : Type 0 where
+-- data were written into the image so far, or into one without a bit under the device's layout
+pub record IsDrawnOn (layouts : Layouts) (kind : PlaneKind) (held : Held) (body : List ℕ) (before after : Option AnyImage) : Type 0 where
   pub device : DeviceName
   pub image : AnyImage
   pub device_is : or_else (device_if before) (device_with kind held.width) ≡ Some device
@@ -67,12 +70,12 @@ pub record IsDrawnOn (kind : PlaneKind) (held : Held) (body : List ℕ) (before 
   pub long : length body ≡ size_by held
   pub image_is : after ≡ Some image
   pub same_device : device_of image ≡ device
-  pub rows_are : configuration_of image ≡ with_rows kind held.bank held.first_row (rows_of held.width held.height (bits_of body)) (image_or_blank device before)
+  pub rows_are : configuration_of image ≡ with_rows kind held.bank held.first_row (rows_of held.width held.height (bits_of body)) (image_or_blank (layout_for layouts device) before)
 
--- an image of a device with what commands draw
-pub record IsDrawn (commands : List Command) (image : AnyImage) : Type 0 where
+-- an image of a device, under its layout, with what commands draw
+pub record IsDrawn (layouts : Layouts) (commands : List Command) (image : AnyImage) : Type 0 where
   pub device_is : device_after commands ≡ Some (device_of image)
-  pub name_is : (configuration_of image).layout.device ≡ device_of image
+  pub layout_is : HasLayout layouts (configuration_of image).layout
   pub cram_is : (configuration_of image).cram ≡ planes_of (device_of image) Cram commands
   pub bram_is : (configuration_of image).bram ≡ planes_of (device_of image) Bram commands
 
@@ -82,32 +85,32 @@ pub record IsBlank (commands : List Command) : Type 0 where
   pub not_reached : reached_in commands ≡ false
   pub no_bit : (kind : PlaneKind) (at : Place) → plane_bit kind commands at ≡ false
 
-abbrev pub Holds : List Command → Option AnyImage → Type 0
-Holds commands None = IsBlank commands
-Holds commands (Some image) = IsDrawn commands image
+abbrev pub Holds : Layouts → List Command → Option AnyImage → Type 0
+Holds layouts commands None = IsBlank commands
+Holds layouts commands (Some image) = IsDrawn layouts commands image
 
 -- ---- commands
 
 -- registers and an image are what commands leave
-pub record Stands (commands : List Command) (held : Held) (image : Option AnyImage) : Type 0 where
+pub record Stands (layouts : Layouts) (commands : List Command) (held : Held) (image : Option AnyImage) : Type 0 where
   pub held_is : held ≡ held_after commands
-  pub drawn : Holds commands image
+  pub drawn : Holds layouts commands image
 
 -- the first command of the bytes at an offset was read
-pub record IsEntered (commands : List Command) (offset : ℕ) (bytes : List ℕ) (size : ℕ) (is_last : Bool) (held : Held) (image : Option AnyImage) : Type 0 where
+pub record IsEntered (layouts : Layouts) (commands : List Command) (offset : ℕ) (bytes : List ℕ) (size : ℕ) (is_last : Bool) (held : Held) (image : Option AnyImage) : Type 0 where
   pub fine : first_fault commands offset bytes ≡ None
   pub size_is : size ≡ length (spelling (first_command commands bytes))
   pub last_is : is_last ≡ is_wake_up (first_command commands bytes)
   pub reached : is_last ≡ true → held.reached ≡ true
-  pub stands : Stands (commands ++ first_command commands bytes ∷ []) held image
+  pub stands : Stands layouts (commands ++ first_command commands bytes ∷ []) held image
 
 -- Commands were read up to an offset, and registers and an image are what they leave.
-pub record HasRead (bytes : List ℕ) (start offset : ℕ) (held : Held) (image : Option AnyImage) : Type 0 where
+pub record HasRead (layouts : Layouts) (bytes : List ℕ) (start offset : ℕ) (held : Held) (image : Option AnyImage) : Type 0 where
   pub commands : List Command
   pub most : ℕ
   pub enough : length bytes < offset + most
   pub goes_on : commands_from (length bytes + 1) [] start (drop start bytes) ≡ commands_from most commands offset (drop offset bytes)
-  pub stands : Stands commands held image
+  pub stands : Stands layouts commands held image
 
 -- the image that was drawn, with the settings that are kept
 pub record IsFinished (held : Held) (drawn : Option AnyImage) (image : AnyImage) : Type 0 where

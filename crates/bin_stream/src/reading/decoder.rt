@@ -35,7 +35,7 @@ pub fn decode_with(alloc: Global, bytes: &[u8], layouts: Layouts) -> Result<AnyI
 {
     match preamble_offset(bytes) {
         Some(offset) => {
-            let mut image = read_commands(alloc, bytes, offset + PREAMBLE.len())?;
+            let mut image = read_commands(alloc, bytes, offset + PREAMBLE.len(), layouts)?;
             image.set_comment(comment_of(alloc, &bytes[..offset])?);
             Ok(image)
         }
@@ -44,12 +44,19 @@ pub fn decode_with(alloc: Global, bytes: &[u8], layouts: Layouts) -> Result<AnyI
 }
 
 /// What the commands from offset `start` on configure, up to the wake-up, or their first fault. The comment isn't set.
-fn read_commands(alloc: Global, bytes: &[u8], start: usize) -> Result<AnyImage, BinFault>
-    requires { start ≤ length bytes.now }
-    ensures image { IfOk result (λ image. (front : List ℕ) → image_of front (commands_from (length bytes.now + 1) [] start (drop start bytes.now)) ≡ Ok (record (configuration_of image) { comment = comment_of front })) }
-    ensures refused { IfErr result (λ fault. (front : List ℕ) → Tells (image_of front (commands_from (length bytes.now + 1) [] start (drop start bytes.now))) fault) }
+fn read_commands(
+    alloc: Global,
+    bytes: &[u8],
+    start: usize,
+    layouts: Layouts,
+) -> Result<AnyImage, BinFault>
+    requires start { start ≤ length bytes.now }
+    requires layouts { AreLayouts layouts }
+    ensures image { IfOk result (λ image. (front : List ℕ) → image_of layouts front (commands_from (length bytes.now + 1) [] start (drop start bytes.now)) ≡ Ok (record (configuration_of image) { comment = comment_of front })) }
+    ensures refused { IfErr result (λ fault. (front : List ℕ) → Tells (image_of layouts front (commands_from (length bytes.now + 1) [] start (drop start bytes.now))) fault) }
 {
     let mut machine = Machine {
+        layouts,
         registers: Registers::new(),
         image: None,
     };
@@ -68,7 +75,11 @@ fn image_at_end(machine: Machine, offset: usize) -> Result<AnyImage, BinFault>
     ensures image { IfOk result (λ image. IsFinished machine.registers machine.image image) }
     ensures missing { IfErr result (λ fault. machine.image ≡ None) }
 {
-    let Machine { registers, image } = machine;
+    let Machine {
+        registers,
+        image,
+        ..
+    } = machine;
     match image {
         Some(mut image) => {
             image.set_settings(registers.settings());

@@ -1,11 +1,13 @@
 // Taking the commands of a bitstream, one after the other.
 ghost use Rattle.std.specs.Prelude.{List, ◌≡◌, ◌+◌, ◌*◌, ◌/◌, ◌%◌, ◌<◌, ◌≤◌, ◌^◌, ◌==◌, ◌&&◌, None, Some, IfOk, IfErr, length, take, drop, get_or};
 ghost use Rattle.place_search.specs.Places.{or_else};
+ghost use Rattle.layout_file.specs.Layouts.{AreLayouts};
+ghost use Rattle.ice_image.specs.Either.{configuration_of};
 ghost use Rattle.bin_stream.specs.Commands.{Command, control_opcode, wake_up_number};
 ghost use Rattle.bin_stream.specs.State.{device_with};
 ghost use Rattle.bin_stream.specs.Refusals.{first_fault};
 ghost use Rattle.bin_stream.specs.inside.Registers.{Fits, size_by, after_data};
-ghost use Rattle.bin_stream.specs.inside.Step.{Refuses, data_refusal, device_if, IsDrawnOn, Stands, IsEntered};
+ghost use Rattle.bin_stream.specs.inside.Step.{Refuses, data_refusal, device_if, image_or_blank, IsDrawnOn, Stands, IsEntered};
 
 use super::data_kind::data_kind;
 use super::head::{body_of, fault_at, number_of, payload_of};
@@ -14,7 +16,8 @@ use crate::fault::{BinCause, BinFault};
 use crate::marks::DATA_END;
 use crate::opcode::{CONTROL, WAKE_UP};
 use ice_image::{AnyImage, PlaneKind};
-use plane_map::DeviceName;
+use layout_file::Layouts;
+use plane_map::{DeviceName, Layout};
 use std::alloc::{AllocError, Global};
 
 /// A command that was taken.
@@ -26,9 +29,10 @@ pub(crate) struct Entered {
     pub(crate) is_last: bool,
 }
 
-/// What the commands so far leave: the registers, and an image once there were data.
+/// What the commands so far leave: the registers, and an image once there were data. The image has the layout of its device.
 #[derive(Drop)]
 pub(crate) struct Machine {
+    pub(crate) layouts: Layouts,
     pub(crate) registers: Registers,
     pub(crate) image: Option<AnyImage>,
 }
@@ -41,11 +45,13 @@ impl Machine {
         offset: usize,
         bytes: &[u8],
     ) -> Result<Entered, BinFault>
-        requires { offset + length bytes.now < 2 ^ 64 }
+        requires offset { offset + length bytes.now < 2 ^ 64 }
+        requires layouts { AreLayouts self.old.layouts }
+        ensures layouts { self.new.layouts ≡ self.old.layouts }
         ensures within { IfOk result (λ entered. entered.size ≤ length bytes.now) }
         ensures some { IfOk result (λ entered. 0 < entered.size) }
-        ensures entered { IfOk result (λ entered. (commands : List Command) → Stands commands self.old.registers self.old.image → IsEntered commands offset bytes.now entered.size entered.is_last self.new.registers self.new.image) }
-        ensures refused { IfErr result (λ fault. (commands : List Command) → Stands commands self.old.registers self.old.image → Refuses (first_fault commands offset bytes.now) fault) }
+        ensures entered { IfOk result (λ entered. (commands : List Command) → Stands self.old.layouts commands self.old.registers self.old.image → IsEntered self.old.layouts commands offset bytes.now entered.size entered.is_last self.new.registers self.new.image) }
+        ensures refused { IfErr result (λ fault. (commands : List Command) → Stands self.old.layouts commands self.old.registers self.old.image → Refuses (first_fault commands offset bytes.now) fault) }
     {
         let payload = payload_of(offset, bytes)?;
         let start = 1 + payload.len();
@@ -81,10 +87,12 @@ impl Machine {
     ) -> Result<usize, BinFault>
         requires within { start ≤ length bytes.now }
         requires offset { offset + length bytes.now < 2 ^ 64 }
+        requires layouts { AreLayouts self.old.layouts }
+        ensures layouts { self.new.layouts ≡ self.old.layouts }
         ensures size { IfOk result (λ size. size ≡ start + size_by self.old.registers + 2) }
         ensures within { IfOk result (λ size. size ≤ length bytes.now) }
         ensures registers { IfOk result (λ size. self.new.registers ≡ after_data self.old.registers kind (take size bytes.now)) }
-        ensures drawn { IfOk result (λ size. IsDrawnOn kind self.old.registers (take (size_by self.old.registers) (drop start bytes.now)) self.old.image self.new.image) }
+        ensures drawn { IfOk result (λ size. IsDrawnOn self.old.layouts kind self.old.registers (take (size_by self.old.registers) (drop start bytes.now)) self.old.image self.new.image) }
         ensures allowed { IfOk result (λ size. data_refusal self.old.registers (device_if self.old.image) kind offset (offset + start) (drop start bytes.now) ≡ None) }
         ensures refused { IfErr result (Refuses (data_refusal self.old.registers (device_if self.old.image) kind offset (offset + start) (drop start bytes.now))) }
     {
@@ -112,6 +120,7 @@ impl Machine {
     }
 
     /// Writes the rows of data into the image, which is made where there is none.
+    #[tactic(auto, using(crate::proofs::Laid::device_kept))]
     fn draw(
         &mut self,
         alloc: Global,
@@ -122,19 +131,32 @@ impl Machine {
         requires device { or_else (device_if self.old.image) (device_with kind self.old.registers.width) ≡ Some device }
         requires fits { Fits device kind self.old.registers }
         requires size { length body.now ≡ size_by self.old.registers }
+        requires layouts { AreLayouts self.old.layouts }
+        ensures layouts { self.new.layouts ≡ self.old.layouts }
         ensures registers { self.new.registers ≡ self.old.registers }
-        ensures drawn { IfOk result (λ _. IsDrawnOn kind self.old.registers body.now self.old.image self.new.image) }
+        ensures drawn { IfOk result (λ _. IsDrawnOn self.old.layouts kind self.old.registers body.now self.old.image self.new.image) }
     {
         let bank = self.registers.bank();
         let first = self.registers.first_row();
         let count = self.registers.rows();
-        let mut image = match self.image.take() {
-            Some(image) => image,
-            None => AnyImage::zeroed(alloc, device)?,
-        };
+        let mut image = image_or_blank(alloc, self.image.take(), self.layouts.of(device))?;
         image.set_rows(kind, bank, first, count, body);
         self.image = Some(image);
         Ok(())
+    }
+}
+
+/// The image so far, or where there is none one without a bit under the layout.
+fn image_or_blank(
+    alloc: Global,
+    image: Option<AnyImage>,
+    layout: Layout,
+) -> Result<AnyImage, AllocError>
+    ensures { IfOk result (λ made. configuration_of made ≡ image_or_blank layout image) }
+{
+    match image {
+        Some(image) => Ok(image),
+        None => AnyImage::zeroed_with(alloc, layout),
     }
 }
 

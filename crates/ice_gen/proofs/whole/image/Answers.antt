@@ -1,5 +1,6 @@
-use Rattle.std.proofs.Common.{◌∙◌, ap, sym}
-use Rattle.ice_image.specs.Configuration.{blank_image}
+use Rattle.std.proofs.Common.{◌≡◌, ◌∙◌, ap, sym}
+use Rattle.plane_map.specs.Layout.{standard_layout}
+use Rattle.ice_image.specs.Configuration.{Configuration, blank_image}
 use Rattle.ice_image.specs.Either.{configuration_of, device_of}
 use Rattle.ice_gen.proofs.Filled.{blank-filled}
 use Rattle.ice_gen.proofs.whole.image.Goals as goal

@@ -1,4 +1,5 @@
-use Rattle.std.proofs.Common.{◌≡◌, ◌∙◌, ap, sym, false}
+use Rattle.std.proofs.Common.{◌≡◌, ◌∙◌, ap, sym, subst, false}
+use Rattle.plane_map.specs.Layout.{Layout}
 use Rattle.plane_map.specs.declared.tile.Place.{Place}
 use Rattle.ice_image.specs.Either.{configuration_of, device_of}
 use Rattle.ice_image.specs.Owned.{is_extra}
@@ -20,5 +21,6 @@ returns-in_default c =
     let named : Place = record { bank = c.from.result; px = c.from-2.result; py = c.from-3.result } in
     let named_is : named ≡ c.pad_drive-at.result = λ i. record { bank = c.from.ensures i; px = c.from-2.ensures i; py = c.from-3.ensures i } in
     let pad_is : named ≡ pad_drive device = named_is ∙ c.pad_drive-at.ensures ∙ ap pad_drive c.device.ensures.device in
-    let none : is_extra device (pad_drive device) ≡ false = ap (is_extra device) (sym pad_is) ∙ c.in_default.ensures in
-    λ seed filled. generated-unset device seed (configuration_of c.args.image.now) none filled
+    let layout = (configuration_of c.args.image.now).layout in
+    let none : is_extra layout (pad_drive device) ≡ false = ap (is_extra layout) (sym pad_is) ∙ c.in_default.ensures in
+    λ seed filled. generated-unset device seed (configuration_of c.args.image.now) (subst (λ (l : Layout). is_extra l (pad_drive device) ≡ false) filled.layout_is none) filled

@@ -1,4 +1,3 @@
-use Rattle.std.proofs.Common.{sym, ◌∙◌}
 use Rattle.ice_image.specs.Either.{configuration_of}
 use Rattle.net_extract.proofs.Setting.{values-tell}
 use Rattle.net_extract.proofs.on.have_values.Goals as goal

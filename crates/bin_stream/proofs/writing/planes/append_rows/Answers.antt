@@ -29,4 +29,4 @@ returns c =
     tail_written c.resize.new.self.len start old whole items c.rows.new.out len_is as_long within kept rest
     ∙ ap (λ bytes. old ++ bytes) (c.rows.ensures
     ∙ ap (λ bank. bytes_of (length part) (flat (take c.args.count (drop c.args.first (rows_of_bank kind bank image))))) c.from.ensures
-    ∙ row_bytes-run (plane_width kind device) (plane_height kind device) c.args.first c.args.count (length part) (rows_of_bank kind c.args.bank image) grid (omega (arith, ap (plane_height kind) c.device-device.ensures.name)) (ap (λ d. c.args.count * plane_width kind d % 8) c.device-device.ensures.name ∙ c.requires.whole) n)
+    ∙ row_bytes-run (plane_width kind device) (plane_height kind device) c.args.first c.args.count (length part) (rows_of_bank kind c.args.bank image) grid (omega (arith, ap (plane_height kind) c.device-device.ensures.device)) (ap (λ d. c.args.count * plane_width kind d % 8) c.device-device.ensures.device ∙ c.requires.whole) n)

@@ -5,7 +5,7 @@ use Rattle.bin_stream.specs.CanonicalBytes.{canonical_bytes, range_number}
 use Rattle.bin_stream.specs.Spelling.{Spells}
 use Rattle.bin_stream.proofs.Assembled.{assembled}
 use Rattle.bin_stream.proofs.RoundTrip.{spells_canonical}
-use Rattle.bin_stream.proofs.Decided.{decided}
+use Rattle.bin_stream.proofs.Decided.{read-spelled}
 use Rattle.bin_stream.proofs.writing.stream.encode.Goals as goal
 
 pub returns-clause-bytes : goal.returns-clause-bytes
@@ -38,10 +38,11 @@ returns-clause-bytes c =
     })
 
 pub returns-clause-spells : goal.returns-clause-spells
-returns-clause-spells c =
+returns-clause-spells c = λ layouts layout.
     let image = configuration_of c.args.image.now in
     let same : c.push.new.self.items ≡ canonical_bytes image = returns-clause-bytes c in
-    subst (λ bytes. Spells bytes image) (sym same) (spells_canonical image c.device.ensures.whole c.in_ok-append_comment.ensures.lines)
+    subst (λ bytes. Spells layouts bytes image) (sym same) (spells_canonical layouts image c.device.ensures.whole c.in_ok-append_comment.ensures.lines layout)
 
 pub returns-clause-read : goal.returns-clause-read
-returns-clause-read c = ((decided c.push.new.self.items).spelled (configuration_of c.args.image.now)).0 (returns-clause-spells c)
+returns-clause-read c = λ layouts layout.
+    read-spelled layouts c.push.new.self.items (configuration_of c.args.image.now) (returns-clause-spells c layouts layout)

@@ -4,4 +4,4 @@ use Rattle.ice_image.proofs.image.Image.bram_mut.Goals as goal
 
 pub invariant_of-self-lent : goal.invariant_of-self-lent
 invariant_of-self-lent g c plane =
-    image_of-bram _ _ _ _ _ _ c.self.invariant _ (AreBanks-with_bank _ _ c.self.inside.bram c.args.bank (g.D.Bram.Bits.rows plane) c.self.invariant.bram (g.met.D.Bram.Bits.is_grid plane))
+    image_of-bram _ _ _ _ _ _ c.self.invariant _ (AreBanks-with_bank _ _ c.self.inside.bram _ (g.D.Bram.Bits.rows plane) c.self.invariant.bram (g.met.D.Bram.Bits.is_grid plane))

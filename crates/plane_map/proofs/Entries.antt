@@ -1,26 +1,10 @@
 -- Lists whose entries are all different, by a test.
-use Rattle.std.proofs.Common.{◌≡◌, ℕ, zero, suc, ◌<◌, ◌==◌, nat_lt, Bool, true, false, not, ◌&&◌, ◌||◌, List, [], ◌∷◌, length, get_or, refl, sym, ◌∙◌, inl, inr, arith}
+use Rattle.std.proofs.Common.{◌≡◌, ℕ, zero, suc, ◌<◌, ◌≤◌, ◌==◌, Bool, true, false, ◌||◌, List, [], ◌∷◌, length, get_or, refl, sym, ◌∙◌, inl, inr, arith}
+use Rattle.std.specs.List.{AllByRecursion, IsDistinct, list_any}
+use Rattle.std.proofs.Math.Dec.{eqb}
 use Rattle.std.proofs.lemmas.Bool.Decides.{nat_tests, eqb_tells}
-
--- whether a number is an entry
-abbrev pub occurs : ℕ → List ℕ → Bool
-occurs n [] = false
-occurs n (x ∷ xs) = (n == x) || occurs n xs
-
--- whether no entry stands twice
-abbrev pub are_distinct : List ℕ → Bool
-are_distinct [] = true
-are_distinct (x ∷ xs) = not (occurs x xs) && are_distinct xs
-
--- whether each number below a number occurs
-abbrev pub have_all : ℕ → List ℕ → Bool
-have_all zero xs = true
-have_all (suc n) xs = occurs n xs && have_all n xs
-
--- whether each entry is below a number
-abbrev pub are_below : ℕ → List ℕ → Bool
-are_below n [] = true
-are_below n (x ∷ xs) = nat_lt x n && are_below n xs
+use Rattle.std.proofs.lemmas.Map.Steps.{length-le_from_distinct_below}
+use Rattle.plane_map.specs.Layout.{occurs, are_distinct, are_below}
 
 -- the entry at a place occurs
 pub get_or-occurs : (xs : List ℕ) (i : ℕ) → i < length xs → occurs (get_or xs i 0) xs ≡ true
@@ -53,12 +37,38 @@ occurs-get_or n (x ∷ xs) o = elim (eqb_tells n x) [
       (suc found.0, omega arith, found.2)
 ]
 
--- each number below the number stands somewhere
-pub have_all-get_or : (m : ℕ) (xs : List ℕ) → have_all m xs ≡ true → (n : ℕ) → n < m → (k : ℕ) × (k < length xs) × (get_or xs k 0 ≡ n)
-have_all-get_or zero xs all n h = absurd (omega arith)
-have_all-get_or (suc m) xs all n h = elim (eqb_tells n m) [
-  | inl e ↦
-      let found = occurs-get_or m xs (grind (arith, nat_tests)) in
-      (found.0, found.1, found.2 ∙ sym e.1)
-  | inr e ↦ have_all-get_or m xs (grind (arith, nat_tests)) n (omega (arith, e.1))
-]
+-- the library's words for the same tests
+occurs-list_any : (n : ℕ) (xs : List ℕ) → list_any (eqb n) xs ≡ occurs n xs
+occurs-list_any n [] = refl
+occurs-list_any n (x ∷ xs) = (λ i. (n == x) || occurs-list_any n xs i)
+
+occurs-apart : (n : ℕ) (xs : List ℕ) → occurs n xs ≡ false → AllByRecursion (λ y. eqb n y ≡ false) xs
+occurs-apart n [] o = tt
+occurs-apart n (x ∷ xs) o = (grind (arith, nat_tests), occurs-apart n xs (grind (arith, nat_tests)))
+
+distinct-list : (xs : List ℕ) → are_distinct xs ≡ true → IsDistinct eqb xs
+unfolding IsDistinct
+distinct-list [] d = tt
+distinct-list (x ∷ xs) d = (occurs-apart x xs (grind (arith, nat_tests)), distinct-list xs (grind (arith, nat_tests)))
+
+-- what occurs is below the number
+occurs-below : (n : ℕ) (xs : List ℕ) → are_below n xs ≡ true → (q : ℕ) → occurs q xs ≡ true → q < n
+occurs-below n xs b q o = let found = occurs-get_or q xs o in omega (arith, get_or-below n xs b found.0 found.1, found.2)
+
+-- different numbers below a number are at most so many
+distinct-length : (n : ℕ) (xs : List ℕ) → are_distinct xs ≡ true → are_below n xs ≡ true → length xs ≤ n
+distinct-length n xs d b = length-le_from_distinct_below xs n (distinct-list xs d) (λ q h. occurs-below n xs b q (sym (occurs-list_any q xs) ∙ h))
+
+-- where they are so many, each number below it occurs
+all-occur : (n : ℕ) (xs : List ℕ) → length xs ≡ n → are_distinct xs ≡ true → are_below n xs ≡ true → (m : ℕ) → m < n → (o : Bool) → occurs m xs ≡ o → o ≡ true
+all-occur n xs l d b m h true e = refl
+all-occur n xs l d b m h false e =
+    let apart : are_distinct (m ∷ xs) ≡ true = grind (arith, nat_tests) in
+    let low : are_below n (m ∷ xs) ≡ true = grind (arith, nat_tests) in
+    absurd (omega (arith, distinct-length n (m ∷ xs) apart low))
+
+-- and stands somewhere
+pub get_or-onto : (n : ℕ) (xs : List ℕ) → length xs ≡ n → are_distinct xs ≡ true → are_below n xs ≡ true → (m : ℕ) → m < n → (k : ℕ) × (k < n) × (get_or xs k 0 ≡ m)
+get_or-onto n xs l d b m h =
+    let found = occurs-get_or m xs (all-occur n xs l d b m h _ refl) in
+    (found.0, omega (arith, found.1), found.2)

@@ -1,76 +1,62 @@
--- The two devices' layouts pass the tests under which no two bits lie at one place.
-use Rattle.std.proofs.Common.{◌≡◌, ℕ, ◌*◌, ◌/◌, ◌<◌, ◌≤◌, Bool, refl, arith, lit≤}
+-- What the tests of a layout say, and what the grids of both devices have.
+use Rattle.std.proofs.Common.{◌≡◌, ℕ, zero, suc, ◌+◌, ◌<◌, ◌≤◌, true, List, slice_index, refl, arith, lit≤}
 use Rattle.std.proofs.lemmas.Bool.Decides.{nat_tests}
 use Rattle.plane_map.specs.declared.device.DeviceName.{DeviceName}
 use Rattle.plane_map.specs.declared.device.DeviceName.TheVariants.{K1, K8}
-use Rattle.plane_map.specs.Layout.{kind_of, columns_at, width_of, start_of, pad_row, pad_columns, pad_rows, is_end, is_right, is_top, from_side, from_end, last_x, last_y, grid_width, grid_height, cram_width}
-use Rattle.plane_map.proofs.Widths.{AreStarts, start-at_most}
-use Rattle.plane_map.proofs.Entries.{have_all-get_or}
-use Rattle.plane_map.proofs.Offsets.{ArePads, pad-below, offset, FitsColumn, height, mirror-same}
+use Rattle.plane_map.specs.Layout.{kind_of, columns_at, half_width, least_width, start_in, are_wide, Layout, IsLayout, width_of, start_of, is_side, is_end, is_right, is_top, from_side, from_end, last_x, last_y, grid_width, grid_height, cram_width}
+use Rattle.plane_map.proofs.Widths.{AreStarts, start-later}
+use Rattle.plane_map.proofs.Offsets.{ArePlaces, AreColumns, places-from, FitsColumn, mirror-same}
 
 -- each column of tiles starts where the one before it ends
-pub are_starts : (device : DeviceName) → AreStarts (start_of device) (width_of device)
-unfolding start_of
-are_starts device = record { first = refl; next = λ u. refl }
+pub are_starts : (layout : Layout) → AreStarts (start_of layout) (width_of layout)
+unfolding start_in
+are_starts layout = record { first = refl; next = λ u. refl }
 
--- no column of tiles is wider than 54
-pub width_of_at_most : (device : DeviceName) (u : ℕ) → width_of device u ≤ 54
-width_of_at_most device u = grind (arith, nat_tests)
+-- each of the columns of tiles that the test looks at is as wide as it needs to be
+are_wide-at : (device : DeviceName) (widths : List ℕ) (n : ℕ) → are_wide device widths n ≡ true → (u : ℕ) → u < n → least_width device u ≤ slice_index widths u
+are_wide-at device widths zero w u h = absurd (omega arith)
+are_wide-at device widths (suc n) w u h = grind (arith, nat_tests, are_wide-at device widths n)
 
--- a bound on the starts that no table is needed for
-pub start_of_at_most : (device : DeviceName) (u : ℕ) → start_of device u ≤ 54 * u
-start_of_at_most device u = start-at_most (start_of device) (width_of device) (are_starts device) 54 (width_of_at_most device) u
-
--- how many columns of tiles a half of the columns has
-abbrev pub half_width : DeviceName → ℕ
-half_width device = grid_width device / 2
+-- each column of tiles of a half is as wide as it needs to be
+pub width_of-least : (layout : Layout) → IsLayout layout → (u : ℕ) → u < half_width layout.device → least_width layout.device u ≤ width_of layout u
+width_of-least layout s u h =
+    let wide : are_wide layout.device layout.widths (half_width layout.device) ≡ true = grind (arith, nat_tests, s.widths) in
+    are_wide-at layout.device layout.widths (half_width layout.device) wide u h
 
 -- the columns of tiles of a half fit into a plane
-pub start_of-half : (device : DeviceName) → start_of device (half_width device) ≤ cram_width device
-unfolding start_of
-start_of-half K1 = lit≤ tt
-start_of-half K8 = lit≤ tt
+pub start_of-half : (layout : Layout) → IsLayout layout → start_of layout (half_width layout.device) ≤ cram_width layout.device
+start_of-half layout s = grind (arith, nat_tests, s.widths)
+
+-- so does each of them
+pub width_of-fits : (layout : Layout) → IsLayout layout → (u : ℕ) → u < half_width layout.device → start_of layout u + width_of layout u ≤ cram_width layout.device
+width_of-fits layout s u h =
+    omega (arith, start-later (start_of layout) (width_of layout) (are_starts layout) u (half_width layout.device) h, start_of-half layout s)
 
 -- a plane is small
 pub cram_width-below : (device : DeviceName) → cram_width device ≤ 872
 cram_width-below K1 = lit≤ tt
 cram_width-below K8 = lit≤ tt
 
--- the eighteen columns of an io tile of an end row take columns of bits that each column of tiles but the edge has
-pub are_pad_columns : ArePads pad_columns 18 42
-unfolding pad_columns
-are_pad_columns = record { count_is = refl; are_different = refl; are_low = refl }
+-- the columns of bits of io tiles
+pub are_columns : (layout : Layout) → IsLayout layout → AreColumns layout.side_columns layout.pad_columns
+are_columns layout s = record { side_places = places-from layout.side_columns 18 18 s.side_columns; pad_places = places-from layout.pad_columns 18 42 s.pad_columns }
 
--- its sixteen rows take rows of bits of a row of tiles
-pub are_pad_rows : ArePads pad_rows 16 16
-unfolding pad_rows
-are_pad_rows = record { count_is = refl; are_different = refl; are_low = refl }
+-- their rows of bits
+pub are_pad_rows : (layout : Layout) → IsLayout layout → ArePlaces layout.pad_rows 16 16
+are_pad_rows layout s = places-from layout.pad_rows 16 16 s.pad_rows
 
--- a pad's row of bits is one of sixteen
-pub pad_row_below : (row : ℕ) → row < 16 → pad_row row < 16
-pad_row_below row h = pad-below pad_rows 16 16 are_pad_rows row h
-
--- and each of the sixteen is a pad's
-pub pad_row-onto : (n : ℕ) → n < 16 → (row : ℕ) × (row < 16) × (pad_row row ≡ n)
-unfolding pad_rows
-pad_row-onto n h = have_all-get_or 16 pad_rows refl n h
-
--- how far a bit is from the start of its column of tiles
-abbrev pub offset_in : Bool → Bool → ℕ → ℕ → ℕ
-offset_in end mirrored width col = offset pad_columns end mirrored width col
-
--- how far it is from the start of its row of tiles
-abbrev pub height_in : Bool → Bool → ℕ → ℕ
-height_in end top row = height pad_rows end top row
+-- the banks
+pub are_banks : (layout : Layout) → IsLayout layout → ArePlaces layout.banks 4 4
+are_banks layout s = places-from layout.banks 4 4 s.banks
 
 -- a tile that has a column is in the grid
 pub columns_at-in : (device : DeviceName) (x y col : ℕ) → col < columns_at device x y → (x < grid_width device) × (y < grid_height device)
 unfolding kind_of
 columns_at-in device x y col h = grind (arith, nat_tests)
 
--- a tile has the pads' columns in an end row, and elsewhere those of its column of tiles
+-- a tile has the columns of an io tile in an edge, and elsewhere those of its column of tiles
 pub columns_at-fit : (device : DeviceName) (x y col : ℕ) → col < columns_at device x y
-    → FitsColumn 18 42 (is_end device y) (width_of device (from_side device x)) col
+    → FitsColumn (is_side device x) (is_end device y) (least_width device (from_side device x)) col
 unfolding kind_of
 columns_at-fit K1 x y col h = grind (arith, nat_tests)
 columns_at-fit K8 x y col h = grind (arith, nat_tests)

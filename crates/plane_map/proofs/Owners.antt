@@ -1,68 +1,68 @@
 -- Which bit of a tile lies at a place of the configuration planes.
-use Rattle.std.proofs.Common.{◌≡◌, ◌≢◌, ℕ, zero, suc, ◌+◌, ◌/◌, ◌%◌, ◌<◌, ◌≤◌, Bool, true, false, ◌||◌, ◌==◌, nat_le, if◌then◌else◌, Some, None, refl, sym, ◌∙◌, ap, subst, arith}
+use Rattle.std.proofs.Common.{◌≡◌, ◌≢◌, ℕ, zero, suc, ◌+◌, ◌/◌, ◌%◌, ◌<◌, ◌≤◌, ◌⊎◌, inl, inr, Bool, true, false, ◌&&◌, ◌==◌, nat_le, List, slice_index, Option, Some, None, MatchOption, refl, sym, ◌∙◌, ap, subst, arith}
 use Rattle.std.proofs.lemmas.Bool.Decides.{nat_tests}
 use Rattle.plane_map.specs.declared.device.DeviceName.{DeviceName}
-use Rattle.plane_map.specs.declared.device.DeviceName.TheVariants.{K1, K8}
 use Rattle.plane_map.specs.declared.tile.TileKind.{TileKind}
 use Rattle.plane_map.specs.declared.tile.TileBit.{TileBit}
 use Rattle.plane_map.specs.declared.tile.Place.{Place}
-use Rattle.plane_map.specs.Layout.{kind_of, columns_in, columns_at, width_of, start_of, is_side, is_end, is_right, is_top, from_side, from_end, bank_of, px_of, py_of, place_of, pad_column, pad_columns, grid_width, grid_height, IsTileBit, IsInCram, IsExtraBit}
+use Rattle.plane_map.specs.Layout.{Layout, IsLayout, kind_of, columns_in, columns_at, half_width, width_of, start_of, is_side, is_end, is_right, is_top, is_mirrored, from_side, from_end, quarter_of, bank_of, column_of, px_of, py_of, place_of, grid_width, grid_height, IsTileBit, IsExtraBit}
 use Rattle.plane_map.proofs.Widths.{same_column}
-use Rattle.plane_map.proofs.Offsets.{offset-end, fits-end, bank-same}
-use Rattle.plane_map.proofs.Layouts.{are_starts, offset_in, height_in, half_width, from_side-same, from_end-same}
-use Rattle.plane_map.proofs.Places.{offset_of, offset_of-below, height_of, height_of-below, tile_bit_is_placed, px_of-is, py_of-is, px_of-before, place_is_only}
+use Rattle.plane_map.proofs.Offsets.{turned, turned-twice, height, quarter}
+use Rattle.plane_map.proofs.Layouts.{are_starts, from_side-same, from_end-same}
+use Rattle.plane_map.proofs.Places.{column_of-below, offset_of, offset_of-below, height_of, height_of-below, tile_bit_is_placed, px_of-is, py_of-is, px_of-before, bank-halves, place_is_only}
 
 -- a tile with a place in its column and its row of tiles, and how far into the column of tiles the place is
-pub record Holds (device : DeviceName) (at : Place) (x y into : ℕ) : Type 0 where
-  pub x_in : x < grid_width device
-  pub y_in : y < grid_height device
-  pub bank : bank_of device x y ≡ at.bank
-  pub column : start_of device (from_side device x) + into ≡ at.px
-  pub inside : into < width_of device (from_side device x)
-  pub row : from_end device y ≡ at.py / 16
+pub record Holds (layout : Layout) (at : Place) (x y into : ℕ) : Type 0 where
+  pub x_in : x < grid_width layout.device
+  pub y_in : y < grid_height layout.device
+  pub bank : bank_of layout x y ≡ at.bank
+  pub column : start_of layout (from_side layout.device x) + into ≡ at.px
+  pub inside : into < width_of layout (from_side layout.device x)
+  pub row : from_end layout.device y ≡ at.py / 16
 
--- a bank by the halves that the code computes
-bank-parts : (bank : ℕ) → bank < 4 → (if bank % 2 == 1 then 1 else 0) + (if nat_le 2 bank then 2 else 0) ≡ bank
-bank-parts zero h = refl
-bank-parts (suc zero) h = refl
-bank-parts (suc (suc zero)) h = refl
-bank-parts (suc (suc (suc zero))) h = refl
-bank-parts (suc (suc (suc (suc n)))) h = absurd (omega arith)
+-- a quarter by the halves that the code computes
+quarter-parts : (n : ℕ) → n < 4 → quarter (n % 2 == 1) (nat_le 2 n) ≡ n
+quarter-parts zero h = refl
+quarter-parts (suc zero) h = refl
+quarter-parts (suc (suc zero)) h = refl
+quarter-parts (suc (suc (suc zero))) h = refl
+quarter-parts (suc (suc (suc (suc n)))) h = absurd (omega arith)
 
--- a tile of those halves is of the bank
-pub bank_of-parts : (device : DeviceName) (x y bank : ℕ) → bank < 4 → is_right device x ≡ nat_le 2 bank → is_top device y ≡ (bank % 2 == 1) → bank_of device x y ≡ bank
-bank_of-parts device x y bank h right top = (λ i. (if top i then 1 else 0) + (if right i then 2 else 0)) ∙ bank-parts bank h
+-- a tile of those halves is of the quarter
+quarter_of-parts : (device : DeviceName) (x y n : ℕ) → n < 4 → is_right device x ≡ nat_le 2 n → is_top device y ≡ (n % 2 == 1) → quarter_of device x y ≡ n
+quarter_of-parts device x y n h right top = (λ i. quarter (top i) (right i)) ∙ quarter-parts n h
 
 -- past the last column of tiles lies no bit
-pub extra-past : (device : DeviceName) (at : Place) → start_of device (half_width device) ≤ at.px → IsExtraBit device at
+pub extra-past : (layout : Layout) → IsLayout layout → (at : Place) → start_of layout (half_width layout.device) ≤ at.px → IsExtraBit layout at
 unfolding place_of
-extra-past device at past bit h e =
-    let px : px_of device bit ≡ at.px = ap (λ (p : Place). p.px) e in
-    omega (arith, px, past, px_of-before device bit (tile_bit_is_placed device bit h))
+extra-past layout s at past bit h e =
+    let px : px_of layout bit ≡ at.px = ap (λ (p : Place). p.px) e in
+    omega (arith, px, past, px_of-before layout s bit (tile_bit_is_placed layout s bit h))
 
 -- what a bit is that lies at the place
-pub record IsOwner (device : DeviceName) (x y into : ℕ) (bit : TileBit) : Type 0 where
+pub record IsOwner (layout : Layout) (x y into : ℕ) (bit : TileBit) : Type 0 where
   pub x_is : bit.x ≡ x
   pub y_is : bit.y ≡ y
-  pub into_is : offset_of device bit ≡ into
+  pub into_is : offset_of layout bit ≡ into
 
 -- a bit that lies at the place is one of the tile that holds it
-pub owner-parts : (device : DeviceName) (at : Place) (x y into : ℕ) → Holds device at x y into → (bit : TileBit) → IsTileBit device bit → place_of device bit ≡ at
-    → IsOwner device x y into bit
+pub owner-parts : (layout : Layout) → IsLayout layout → (at : Place) (x y into : ℕ) → Holds layout at x y into → (bit : TileBit) → IsTileBit layout.device bit
+    → place_of layout bit ≡ at → IsOwner layout x y into bit
 unfolding place_of
-owner-parts device at x y into holds bit h e =
-    let placed = tile_bit_is_placed device bit h in
-    let bank : bank_of device bit.x bit.y ≡ bank_of device x y = ap (λ (p : Place). p.bank) e ∙ sym holds.bank in
-    let halves = bank-same (is_top device bit.y) (is_right device bit.x) (is_top device y) (is_right device x) bank in
-    let px : start_of device (from_side device bit.x) + offset_of device bit ≡ start_of device (from_side device x) + into =
-    sym (px_of-is device bit placed) ∙ ap (λ (p : Place). p.px) e ∙ sym holds.column
+owner-parts layout s at x y into holds bit h e =
+    let device = layout.device in
+    let placed = tile_bit_is_placed layout s bit h in
+    let bank : bank_of layout bit.x bit.y ≡ bank_of layout x y = ap (λ (p : Place). p.bank) e ∙ sym holds.bank in
+    let halves = bank-halves layout s bit.x bit.y x y bank in
+    let px : start_of layout (from_side device bit.x) + offset_of layout bit ≡ start_of layout (from_side device x) + into =
+    sym (px_of-is layout s bit placed) ∙ ap (λ (p : Place). p.px) e ∙ sym holds.column
     in
-    let columns = same_column (start_of device) (width_of device) (are_starts device) (from_side device bit.x) (from_side device x) (offset_of device bit) into
-    (offset_of-below device bit placed) holds.inside px
+    let columns = same_column (start_of layout) (width_of layout) (are_starts layout) (from_side device bit.x) (from_side device x) (offset_of layout bit) into
+    (offset_of-below layout s bit placed) holds.inside px
     in
-    let py : py_of device bit ≡ at.py = ap (λ (p : Place). p.py) e in
-    let below : height_of device bit < 16 = height_of-below device bit placed in
-    let row : from_end device bit.y ≡ from_end device y = omega (arith, py_of-is device bit placed, py, below, holds.row) in
+    let py : py_of layout bit ≡ at.py = ap (λ (p : Place). p.py) e in
+    let below : height_of layout bit < 16 = height_of-below layout bit placed in
+    let row : from_end device bit.y ≡ from_end device y = omega (arith, py_of-is layout s bit placed, py, below, holds.row) in
     record {
       x_is = from_side-same device bit.x x placed.x_in holds.x_in halves.1 columns.0;
       y_is = from_end-same device bit.y y placed.y_in holds.y_in halves.0 row;
@@ -70,66 +70,109 @@ owner-parts device at x y into holds bit h e =
     }
 
 -- a place in a corner is no tile's bit
-pub extra-corner : (device : DeviceName) (at : Place) (x y into : ℕ) → Holds device at x y into → kind_of device x y ≡ None → IsExtraBit device at
-extra-corner device at x y into holds corner bit h e =
-    let owner = owner-parts device at x y into holds bit h e in
-    let none : columns_at device bit.x bit.y ≡ 0 = (λ i. columns_at device (owner.x_is i) (owner.y_is i)) ∙ ap columns_in corner in
+pub extra-corner : (layout : Layout) → IsLayout layout → (at : Place) (x y into : ℕ) → Holds layout at x y into → kind_of layout.device x y ≡ None → IsExtraBit layout at
+extra-corner layout s at x y into holds corner bit h e =
+    let owner = owner-parts layout s at x y into holds bit h e in
+    let none : columns_at layout.device bit.x bit.y ≡ 0 = (λ i. columns_at layout.device (owner.x_is i) (owner.y_is i)) ∙ ap columns_in corner in
     omega (arith, h.col_in, none)
 
--- nor is a place between the columns of an io tile of an end row
-pub extra-between : (device : DeviceName) (at : Place) (x y into : ℕ) → Holds device at x y into → is_end device y ≡ true → ((col : ℕ) → col < 18 → pad_column col ≢ into) → IsExtraBit device at
-extra-between device at x y into holds end between bit h e =
-    let owner = owner-parts device at x y into holds bit h e in
-    let placed = tile_bit_is_placed device bit h in
-    let end' : is_end device bit.y ≡ true = ap (is_end device) owner.y_is ∙ end in
-    between bit.col (fits-end 18 42 _ _ bit.col placed.fits end') (sym (offset-end pad_columns _ _ _ bit.col end') ∙ owner.into_is)
+-- the column that the code counts is that of the bit
+column-found : (layout : Layout) → IsLayout layout → (x y into : ℕ) (bit : TileBit) → IsTileBit layout.device bit → IsOwner layout x y into bit
+    → turned (is_mirrored layout x y) (width_of layout (from_side layout.device x)) into ≡ column_of layout (record { x = x; y = y; row = 0; col = bit.col })
+column-found layout s x y into bit h owner =
+    let below = column_of-below layout s bit (tile_bit_is_placed layout s bit h) in
+    let twice : turned (is_mirrored layout bit.x bit.y) (width_of layout (from_side layout.device bit.x)) (offset_of layout bit) ≡ column_of layout bit =
+    turned-twice (is_mirrored layout bit.x bit.y) (width_of layout (from_side layout.device bit.x)) (column_of layout bit) below
+    in
+    let from : turned (is_mirrored layout x y) (width_of layout (from_side layout.device x)) into
+    ≡ turned (is_mirrored layout bit.x bit.y) (width_of layout (from_side layout.device bit.x)) (offset_of layout bit) =
+    λ i. turned (is_mirrored layout (sym owner.x_is i) (sym owner.y_is i)) (width_of layout (from_side layout.device (sym owner.x_is i))) (sym owner.into_is i)
+    in
+    let to : column_of layout bit ≡ column_of layout (record { x = x; y = y; row = 0; col = bit.col }) =
+    λ i. column_of layout (record { x = owner.x_is i; y = owner.y_is i; row = 0; col = bit.col })
+    in
+    from ∙ twice ∙ to
+
+-- nor is a place that none of the tile's columns takes
+pub extra-between : (layout : Layout) → IsLayout layout → (at : Place) (x y into column : ℕ) → Holds layout at x y into
+    → column ≡ turned (is_mirrored layout x y) (width_of layout (from_side layout.device x)) into
+    → ((col : ℕ) → col < columns_at layout.device x y → column_of layout (record { x = x; y = y; row = 0; col = col }) ≢ column) → IsExtraBit layout at
+extra-between layout s at x y into column holds column_is between bit h e =
+    let owner = owner-parts layout s at x y into holds bit h e in
+    let col_in : bit.col < columns_at layout.device x y =
+    subst (λ n. bit.col < n) (λ i. columns_at layout.device (owner.x_is i) (owner.y_is i)) h.col_in
+    in
+    between bit.col col_in (sym (column_is ∙ column-found layout s x y into bit h owner))
 
 -- a bit of a tile that is as far into its column and row of tiles lies at the place
-pub owner-place : (device : DeviceName) (at : Place) (x y into row col : ℕ) → Holds device at x y into → IsTileBit device (record { x = x; y = y; row = row; col = col })
-    → offset_in (is_end device y) (is_side device x || is_right device x) (width_of device (from_side device x)) col ≡ into
-    → height_in (is_end device y) (is_top device y) row ≡ at.py % 16
-    → place_of device (record { x = x; y = y; row = row; col = col }) ≡ at
+pub owner-place : (layout : Layout) → IsLayout layout → (at : Place) (x y into column row col : ℕ) → Holds layout at x y into
+    → column ≡ turned (is_mirrored layout x y) (width_of layout (from_side layout.device x)) into
+    → (row < 16) × (height layout.pad_rows (is_end layout.device y) (is_top layout.device y && layout.flip) row ≡ at.py % 16)
+    → (col < columns_at layout.device x y) × (column_of layout (record { x = x; y = y; row = 0; col = col }) ≡ column)
+    → IsTileBit layout.device (record { x = x; y = y; row = row; col = col }) × (place_of layout (record { x = x; y = y; row = row; col = col }) ≡ at)
 unfolding place_of
-owner-place device at x y into row col holds h col_is row_is =
+owner-place layout s at x y into column row col holds column_is rows cols =
     let bit : TileBit = record { x = x; y = y; row = row; col = col } in
-    let placed = tile_bit_is_placed device bit h in
-    let px : px_of device bit ≡ at.px = px_of-is device bit placed ∙ ap (λ n. start_of device (from_side device x) + n) col_is ∙ holds.column in
-    let py : py_of device bit ≡ at.py = py_of-is device bit placed ∙ omega (arith, row_is, holds.row) in
+    let is_bit : IsTileBit layout.device bit = record { row_in = rows.0; col_in = cols.0 } in
+    let placed = tile_bit_is_placed layout s bit is_bit in
+    let mirrored = is_mirrored layout x y in
+    let width = width_of layout (from_side layout.device x) in
+    let offset : offset_of layout bit ≡ into = ap (turned mirrored width) (cols.1 ∙ column_is) ∙ turned-twice mirrored width into holds.inside in
+    let px : px_of layout bit ≡ at.px = px_of-is layout s bit placed ∙ ap (λ n. start_of layout (from_side layout.device x) + n) offset ∙ holds.column in
+    let py : py_of layout bit ≡ at.py = py_of-is layout s bit placed ∙ omega (arith, rows.1, holds.row) in
     let bank = holds.bank in
-    λ i. record { bank = bank i; px = px i; py = py i }
-
--- a column is one of the tile's by the kind of its row
-pub columns_at-from : (device : DeviceName) (x y col : ℕ) (kind : TileKind) → kind_of device x y ≡ Some kind → (is_end device y ≡ true → col < 18) → (is_end device y ≡ false → col < width_of device (from_side device x)) → col < columns_at device x y
-unfolding kind_of
-columns_at-from K1 x y col kind is end inner = grind (arith, nat_tests)
-columns_at-from K8 x y col kind is end inner = grind (arith, nat_tests)
+    (is_bit, λ i. record { bank = bank i; px = px i; py = py i })
 
 -- the tile that the code finds holds the place
-pub holds-parts : (device : DeviceName) (at : Place) → IsInCram device at → (u into : ℕ) → into < width_of device u → start_of device u + into ≡ at.px
-    → (x y : ℕ) → x < grid_width device → is_right device x ≡ nat_le 2 at.bank → from_side device x ≡ u
-    → y < grid_height device → is_top device y ≡ (at.bank % 2 == 1) → from_end device y ≡ at.py / 16 → Holds device at x y into
-holds-parts device at h u into inside column x y x_in right x_is y_in top y_is =
-    let inside' : into < width_of device (from_side device x) = subst (λ n. into < width_of device n) (sym x_is) inside in
-    let column' : start_of device (from_side device x) + into ≡ at.px = ap (λ n. start_of device n + into) x_is ∙ column in
-    record { x_in = x_in; y_in = y_in; bank = bank_of-parts device x y at.bank h.bank_in right top; column = column'; inside = inside'; row = y_is }
+pub holds-parts : (layout : Layout) (at : Place) (n : ℕ) → n < 4 → slice_index layout.banks n ≡ at.bank
+    → (u width into : ℕ) → width ≡ width_of layout u → into < width → start_of layout u + into ≡ at.px
+    → (x y : ℕ) → x < grid_width layout.device → is_right layout.device x ≡ nat_le 2 n → from_side layout.device x ≡ u
+    → y < grid_height layout.device → is_top layout.device y ≡ (n % 2 == 1) → from_end layout.device y ≡ at.py / 16 → Holds layout at x y into
+holds-parts layout at n h bank u width into width_is inside column x y x_in right x_is y_in top y_is =
+    let width' : width ≡ width_of layout (from_side layout.device x) = width_is ∙ ap (width_of layout) (sym x_is) in
+    let inside' : into < width_of layout (from_side layout.device x) = subst (λ n. into < n) width' inside in
+    let column' : start_of layout (from_side layout.device x) + into ≡ at.px = ap (λ n. start_of layout n + into) x_is ∙ column in
+    let bank' : bank_of layout x y ≡ at.bank = ap (λ n. slice_index layout.banks n) (quarter_of-parts layout.device x y n h right top) ∙ bank in
+    record { x_in = x_in; y_in = y_in; bank = bank'; column = column'; inside = inside'; row = y_is }
 
--- and the bit that the code finds in it lies there
-pub owner-found : (device : DeviceName) (at : Place) (x y into : ℕ) → Holds device at x y into → (kind : TileKind) → kind_of device x y ≡ Some kind
-    → (end mirrored top : Bool) (u width col row : ℕ) → end ≡ is_end device y → mirrored ≡ (is_side device x || is_right device x) → top ≡ is_top device y
-    → from_side device x ≡ u → width ≡ width_of device u → (end ≡ true → col < 18) → (end ≡ false → col < width) → offset_in end mirrored width col ≡ into
-    → row < 16 → height_in end top row ≡ at.py % 16
-    → IsTileBit device (record { x = x; y = y; row = row; col = col }) × (place_of device (record { x = x; y = y; row = row; col = col }) ≡ at)
-owner-found device at x y into holds kind is end mirrored top u width col row end_is mirrored_is top_is u_is width_is at_end inner col_is row_in row_is =
-    let width' : width ≡ width_of device (from_side device x) = width_is ∙ ap (width_of device) (sym u_is) in
-    let col_in : col < columns_at device x y = columns_at-from device x y col kind is (λ e. at_end (end_is ∙ e)) (λ e. subst (λ n. col < n) width' (inner (end_is ∙ e))) in
-    let col_is' : offset_in (is_end device y) (is_side device x || is_right device x) (width_of device (from_side device x)) col ≡ into =
-    (λ i. offset_in (sym end_is i) (sym mirrored_is i) (sym width' i) col) ∙ col_is
-    in
-    let row_is' : height_in (is_end device y) (is_top device y) row ≡ at.py % 16 = (λ i. height_in (sym end_is i) (sym top_is i) row) ∙ row_is in
-    let is_bit : IsTileBit device (record { x = x; y = y; row = row; col = col }) = record { row_in = row_in; col_in = col_in } in
-    (is_bit, owner-place device at x y into row col holds is_bit col_is' row_is')
+-- the column that the code counts is the one to look for
+pub turned-found : (layout : Layout) (x y u width into column : ℕ) (mirrored : Bool) → mirrored ≡ is_mirrored layout x y → width ≡ width_of layout u
+    → from_side layout.device x ≡ u → column ≡ turned mirrored width into → column ≡ turned (is_mirrored layout x y) (width_of layout (from_side layout.device x)) into
+turned-found layout x y u width into column mirrored mirrored_is width_is x_is column_is =
+    let width' : width ≡ width_of layout (from_side layout.device x) = width_is ∙ ap (width_of layout) (sym x_is) in
+    column_is ∙ (λ i. turned (mirrored_is i) (width' i) into)
 
 -- and no other bit does
-pub owner-only : (device : DeviceName) (at : Place) (bit : TileBit) → IsTileBit device bit → place_of device bit ≡ at
-    → (other : TileBit) → IsTileBit device other → place_of device other ≡ at → other ≡ bit
-owner-only device at bit h e other h' e' = place_is_only device bit other h h' (e' ∙ sym e)
+pub owner-only : (layout : Layout) → IsLayout layout → (at : Place) (bit : TileBit) → IsTileBit layout.device bit → place_of layout bit ≡ at
+    → (other : TileBit) → IsTileBit layout.device other → place_of layout other ≡ at → other ≡ bit
+owner-only layout s at bit h e other h' e' = place_is_only layout s bit other h h' (e' ∙ sym e)
+
+-- an edge has io tiles
+columns_at-edge : (device : DeviceName) (x y : ℕ) (kind : TileKind) → kind_of device x y ≡ Some kind → (is_side device x ≡ true) ⊎ (is_end device y ≡ true) → columns_at device x y ≡ 18
+unfolding kind_of
+columns_at-edge device x y kind h edge = grind (arith, nat_tests)
+
+-- a column that is found in a list is one of those of an io tile
+columns-listed : (layout : Layout) (x y column : ℕ) (entries : List ℕ) → columns_at layout.device x y ≡ 18
+    → ((col : ℕ) → column_of layout (record { x = x; y = y; row = 0; col = col }) ≡ slice_index entries col) → (found : Option ℕ)
+    → MatchOption found ((col : ℕ) → col < 18 → slice_index entries col ≢ column) (λ col. (col < 18) × (slice_index entries col ≡ column))
+    → MatchOption found ((col : ℕ) → col < columns_at layout.device x y → column_of layout (record { x = x; y = y; row = 0; col = col }) ≢ column)
+    (λ col. (col < columns_at layout.device x y) × (column_of layout (record { x = x; y = y; row = 0; col = col }) ≡ column))
+columns-listed layout x y column entries count listed None h = λ col inside e. h col (omega (arith, inside, count)) (sym (listed col) ∙ e)
+columns-listed layout x y column entries count listed (Some col) h = (omega (arith, h.0, count), listed col ∙ h.1)
+
+-- at a side
+pub columns-at_side : (layout : Layout) (x y column : ℕ) (kind : TileKind) → kind_of layout.device x y ≡ Some kind → is_side layout.device x ≡ true → (found : Option ℕ)
+    → MatchOption found ((col : ℕ) → col < 18 → slice_index layout.side_columns col ≢ column) (λ col. (col < 18) × (slice_index layout.side_columns col ≡ column))
+    → MatchOption found ((col : ℕ) → col < columns_at layout.device x y → column_of layout (record { x = x; y = y; row = 0; col = col }) ≢ column)
+    (λ col. (col < columns_at layout.device x y) × (column_of layout (record { x = x; y = y; row = 0; col = col }) ≡ column))
+columns-at_side layout x y column kind h side found =
+    columns-listed layout x y column layout.side_columns (columns_at-edge layout.device x y kind h (inl side)) (λ col. rw side refl) found
+
+-- and in an end row
+pub columns-at_end : (layout : Layout) (x y column : ℕ) (kind : TileKind) → kind_of layout.device x y ≡ Some kind → is_side layout.device x ≡ false → is_end layout.device y ≡ true
+    → (found : Option ℕ) → MatchOption found ((col : ℕ) → col < 18 → slice_index layout.pad_columns col ≢ column) (λ col. (col < 18) × (slice_index layout.pad_columns col ≡ column))
+    → MatchOption found ((col : ℕ) → col < columns_at layout.device x y → column_of layout (record { x = x; y = y; row = 0; col = col }) ≢ column)
+    (λ col. (col < columns_at layout.device x y) × (column_of layout (record { x = x; y = y; row = 0; col = col }) ≡ column))
+columns-at_end layout x y column kind h side end found =
+    columns-listed layout x y column layout.pad_columns (columns_at-edge layout.device x y kind h (inr end)) (λ col. rw side (rw end refl)) found

@@ -1,5 +1,5 @@
 -- Columns of any widths, side by side: where each starts, and that no place lies in two of them.
-use Rattle.std.proofs.Common.{◌≡◌, ℕ, zero, suc, ◌+◌, ◌*◌, ◌<◌, ◌≤◌, arith}
+use Rattle.std.proofs.Common.{◌≡◌, ℕ, zero, suc, ◌+◌, ◌<◌, ◌≤◌, arith}
 
 -- each column starts where the one before it ends
 pub record AreStarts (start width : ℕ → ℕ) : Type 0 where
@@ -14,8 +14,3 @@ start-later start width s u (suc v) h = grind (arith, start-later start width s 
 -- two columns in which one place lies are one column, and the place is as far into it
 pub same_column : (start width : ℕ → ℕ) → AreStarts start width → (u v a b : ℕ) → a < width u → b < width v → start u + a ≡ start v + b → (u ≡ v) × (a ≡ b)
 same_column start width s u v a b ha hb e = grind (arith, start-later start width s u v, start-later start width s v u)
-
--- no column of a bounded width starts later than if all had that width
-pub start-at_most : (start width : ℕ → ℕ) → AreStarts start width → (most : ℕ) → ((u : ℕ) → width u ≤ most) → (u : ℕ) → start u ≤ most * u
-start-at_most start width s most h zero = omega (arith, s.first)
-start-at_most start width s most h (suc u) = grind (arith, start-at_most start width s most h u, s.next u, h u)

@@ -1,13 +1,15 @@
 -- The words of the RAMs fill the RAM planes, each place once.
-use Rattle.std.proofs.Common.{◌≡◌, ℕ, zero, suc, ◌+◌, ◌-◌, ◌*◌, ◌/◌, ◌%◌, ◌<◌, ◌≤◌, ◌⊎◌, Bool, true, false, if◌then◌else◌, Some, refl, ◌∙◌, ap, arith}
+use Rattle.std.proofs.Common.{◌≡◌, ℕ, zero, suc, ◌+◌, ◌-◌, ◌*◌, ◌/◌, ◌%◌, ◌<◌, ◌≤◌, ◌⊎◌, Bool, true, false, if◌then◌else◌, Some, slice_index, refl, ◌∙◌, ap, arith}
 use Rattle.std.proofs.lemmas.Bool.Decides.{nat_tests}
 use Rattle.plane_map.specs.declared.device.DeviceName.{DeviceName}
 use Rattle.plane_map.specs.declared.device.DeviceName.TheVariants.{K1, K8}
 use Rattle.plane_map.specs.declared.tile.TileKind.TheVariants.{RamB}
 use Rattle.plane_map.specs.declared.tile.WordBit.{WordBit}
 use Rattle.plane_map.specs.declared.tile.Place.{Place}
-use Rattle.plane_map.specs.Layout.{kind_of, is_right, is_top, bank_of, ram_of, ram_column, last_x, last_y, grid_height, bram_width, word_place_of, IsWordBit, IsInBram}
-use Rattle.plane_map.proofs.Offsets.{bank-same}
+use Rattle.plane_map.specs.Layout.{Layout, IsLayout, kind_of, is_right, is_top, bank_of, ram_of, ram_column, last_x, last_y, grid_height, bram_width, word_place_of, IsWordBit, IsInBram}
+use Rattle.plane_map.proofs.Offsets.{entry-onto, quarter}
+use Rattle.plane_map.proofs.Layouts.{are_banks}
+use Rattle.plane_map.proofs.Places.{bank-halves}
 
 -- a lower tile of a RAM stands in a column of RAM
 pub lower-column : (device : DeviceName) (x y : ℕ) → kind_of device x y ≡ Some RamB → (x ≡ ram_column device) ⊎ (x + ram_column device ≡ last_x device)
@@ -34,26 +36,44 @@ pub lower-same_x : (device : DeviceName) (x y x' y' : ℕ) → kind_of device x 
 lower-same_x K1 x y x' y' h h' r = grind (arith, nat_tests, lower-column K1 x y h, lower-column K1 x' y' h')
 lower-same_x K8 x y x' y' h h' r = grind (arith, nat_tests, lower-column K8 x y h, lower-column K8 x' y' h')
 
+-- which RAM of its bank a lower tile is, by whether those of the top half are counted from the top
+abbrev ram_in : DeviceName → Bool → ℕ → ℕ
+ram_in device flip y = if is_top device y then (if flip then (last_y device - 2 - y) / 2 else (y - (last_y device + 1) / 2) / 2) else (y - 1) / 2
+
+-- is one of those that a RAM plane has room for
+ram_in-below : (device : DeviceName) (flip : Bool) (x y : ℕ) → kind_of device x y ≡ Some RamB → 16 * ram_in device flip y + 16 ≤ bram_width device
+ram_in-below K1 true x y h = grind (arith, nat_tests, lower-third K1 x y h)
+ram_in-below K1 false x y h = grind (arith, nat_tests, lower-third K1 x y h)
+ram_in-below K8 true x y h = grind (arith, nat_tests, lower-third K8 x y h)
+ram_in-below K8 false x y h = grind (arith, nat_tests, lower-third K8 x y h)
+
+-- under a layout too
+pub ram_of_below : (layout : Layout) (x y : ℕ) → kind_of layout.device x y ≡ Some RamB → 16 * ram_of layout y + 16 ≤ bram_width layout.device
+ram_of_below layout x y h = ram_in-below layout.device layout.ram_flip x y h
+
 -- a RAM of a half by its number
-pub lower-same_y : (device : DeviceName) (x y x' y' : ℕ) → kind_of device x y ≡ Some RamB → kind_of device x' y' ≡ Some RamB → is_top device y ≡ is_top device y' → ram_of device y ≡ ram_of device y' → y ≡ y'
-lower-same_y K1 x y x' y' h h' t e = grind (arith, nat_tests, lower-odd K1 x y h, lower-odd K1 x' y' h', lower-inner K1 x y h, lower-inner K1 x' y' h')
-lower-same_y K8 x y x' y' h h' t e = grind (arith, nat_tests, lower-odd K8 x y h, lower-odd K8 x' y' h', lower-inner K8 x y h, lower-inner K8 x' y' h')
+lower-same_y : (device : DeviceName) (flip : Bool) (x y x' y' : ℕ) → kind_of device x y ≡ Some RamB → kind_of device x' y' ≡ Some RamB → is_top device y ≡ is_top device y'
+    → ram_in device flip y ≡ ram_in device flip y' → y ≡ y'
+lower-same_y K1 true x y x' y' h h' t e = grind (arith, nat_tests, lower-odd K1 x y h, lower-odd K1 x' y' h', lower-inner K1 x y h, lower-inner K1 x' y' h')
+lower-same_y K1 false x y x' y' h h' t e = grind (arith, nat_tests, lower-odd K1 x y h, lower-odd K1 x' y' h', lower-inner K1 x y h, lower-inner K1 x' y' h')
+lower-same_y K8 true x y x' y' h h' t e = grind (arith, nat_tests, lower-odd K8 x y h, lower-odd K8 x' y' h', lower-inner K8 x y h, lower-inner K8 x' y' h')
+lower-same_y K8 false x y x' y' h h' t e = grind (arith, nat_tests, lower-odd K8 x y h, lower-odd K8 x' y' h', lower-inner K8 x y h, lower-inner K8 x' y' h')
 
 -- two RAMs in which one column of bits lies are one
 same_ram : (k l a b : ℕ) → a < 16 → b < 16 → 16 * k + 15 - a ≡ 16 * l + 15 - b → (k ≡ l) × (a ≡ b)
 same_ram k l a b ha hb e = (omega arith, omega arith)
 
 -- two words' bits with one place are one
-pub word_place_is_only : (device : DeviceName) (a b : WordBit) → IsWordBit device a → IsWordBit device b → word_place_of device b ≡ word_place_of device a → b ≡ a
+pub word_place_is_only : (layout : Layout) → IsLayout layout → (a b : WordBit) → IsWordBit layout.device a → IsWordBit layout.device b → word_place_of layout b ≡ word_place_of layout a → b ≡ a
 unfolding word_place_of
-word_place_is_only device a b ha hb e =
-    let bank : bank_of device b.x b.y ≡ bank_of device a.x a.y = ap (λ (p : Place). p.bank) e in
-    let column : 16 * ram_of device b.y + 15 - b.bit ≡ 16 * ram_of device a.y + 15 - a.bit = ap (λ (p : Place). p.px) e in
+word_place_is_only layout s a b ha hb e =
+    let bank : bank_of layout b.x b.y ≡ bank_of layout a.x a.y = ap (λ (p : Place). p.bank) e in
+    let column : 16 * ram_of layout b.y + 15 - b.bit ≡ 16 * ram_of layout a.y + 15 - a.bit = ap (λ (p : Place). p.px) e in
     let word : b.word ≡ a.word = ap (λ (p : Place). p.py) e in
-    let halves = bank-same (is_top device b.y) (is_right device b.x) (is_top device a.y) (is_right device a.x) bank in
-    let parts = same_ram (ram_of device b.y) (ram_of device a.y) b.bit a.bit hb.bit_in ha.bit_in column in
-    let x : b.x ≡ a.x = lower-same_x device b.x b.y a.x a.y hb.lower ha.lower halves.1 in
-    let y : b.y ≡ a.y = lower-same_y device b.x b.y a.x a.y hb.lower ha.lower halves.0 parts.0 in
+    let halves = bank-halves layout s b.x b.y a.x a.y bank in
+    let parts = same_ram (ram_of layout b.y) (ram_of layout a.y) b.bit a.bit hb.bit_in ha.bit_in column in
+    let x : b.x ≡ a.x = lower-same_x layout.device b.x b.y a.x a.y hb.lower ha.lower halves.1 in
+    let y : b.y ≡ a.y = lower-same_y layout.device layout.ram_flip b.x b.y a.x a.y hb.lower ha.lower halves.0 parts.0 in
     let bit : b.bit ≡ a.bit = parts.1 in
     λ i. record { x = x i; y = y i; word = word i; bit = bit i }
 
@@ -62,14 +82,16 @@ abbrev column_in : DeviceName → Bool → ℕ
 column_in device right = if right then last_x device - ram_column device else ram_column device
 
 -- the row of a RAM of a half by its number
-abbrev row_in : DeviceName → Bool → ℕ → ℕ
-row_in device top k = if top then last_y device - 2 - 2 * k else 2 * k + 1
+abbrev row_in : DeviceName → Bool → Bool → ℕ → ℕ
+row_in device flip top k = if top then (if flip then last_y device - 2 - 2 * k else (last_y device + 1) / 2 + 2 * k) else 2 * k + 1
 
 -- there stands a lower tile
-kind_of-in : (device : DeviceName) (right top : Bool) (k : ℕ) → 16 * k < bram_width device → kind_of device (column_in device right) (row_in device top k) ≡ Some RamB
+kind_of-in : (device : DeviceName) (flip right top : Bool) (k : ℕ) → 16 * k < bram_width device → kind_of device (column_in device right) (row_in device flip top k) ≡ Some RamB
 unfolding kind_of
-kind_of-in K1 right top k h = grind (arith, nat_tests)
-kind_of-in K8 right top k h = grind (arith, nat_tests)
+kind_of-in K1 true right top k h = grind (arith, nat_tests)
+kind_of-in K1 false right top k h = grind (arith, nat_tests)
+kind_of-in K8 true right top k h = grind (arith, nat_tests)
+kind_of-in K8 false right top k h = grind (arith, nat_tests)
 
 -- of that half of the columns
 is_right-in : (device : DeviceName) (right : Bool) → is_right device (column_in device right) ≡ right
@@ -79,39 +101,47 @@ is_right-in K8 true = refl
 is_right-in K8 false = refl
 
 -- of that half of the rows
-is_top-in : (device : DeviceName) (top : Bool) (k : ℕ) → 16 * k < bram_width device → is_top device (row_in device top k) ≡ top
-is_top-in K1 top k h = grind (arith, nat_tests)
-is_top-in K8 top k h = grind (arith, nat_tests)
+is_top-in : (device : DeviceName) (flip top : Bool) (k : ℕ) → 16 * k < bram_width device → is_top device (row_in device flip top k) ≡ top
+is_top-in K1 true top k h = grind (arith, nat_tests)
+is_top-in K1 false top k h = grind (arith, nat_tests)
+is_top-in K8 true top k h = grind (arith, nat_tests)
+is_top-in K8 false top k h = grind (arith, nat_tests)
 
 -- and of that number
-ram_of-in : (device : DeviceName) (top : Bool) (k : ℕ) → 16 * k < bram_width device → ram_of device (row_in device top k) ≡ k
-ram_of-in K1 top k h = grind (arith, nat_tests)
-ram_of-in K8 top k h = grind (arith, nat_tests)
+ram_of-in : (device : DeviceName) (flip top : Bool) (k : ℕ) → 16 * k < bram_width device → ram_in device flip (row_in device flip top k) ≡ k
+ram_of-in K1 true top k h = grind (arith, nat_tests)
+ram_of-in K1 false top k h = grind (arith, nat_tests)
+ram_of-in K8 true top k h = grind (arith, nat_tests)
+ram_of-in K8 false top k h = grind (arith, nat_tests)
 
--- a bank by its halves
-bank-halves : (bank : ℕ) → bank < 4 → (top : Bool) × (right : Bool) × ((if top then 1 else 0) + (if right then 2 else 0) ≡ bank)
-bank-halves zero h = (false, false, refl)
-bank-halves (suc zero) h = (true, false, refl)
-bank-halves (suc (suc zero)) h = (false, true, refl)
-bank-halves (suc (suc (suc zero))) h = (true, true, refl)
-bank-halves (suc (suc (suc (suc n)))) h = absurd (omega arith)
+-- a quarter by its halves
+quarter-halves : (n : ℕ) → n < 4 → (top : Bool) × (right : Bool) × (quarter top right ≡ n)
+quarter-halves zero h = (false, false, refl)
+quarter-halves (suc zero) h = (true, false, refl)
+quarter-halves (suc (suc zero)) h = (false, true, refl)
+quarter-halves (suc (suc (suc zero))) h = (true, true, refl)
+quarter-halves (suc (suc (suc (suc n)))) h = absurd (omega arith)
 
 -- each place of the RAM planes is that of a bit of a word
-pub word_place_is_onto : (device : DeviceName) (at : Place) → IsInBram device at → (bit : WordBit) × IsWordBit device bit × (word_place_of device bit ≡ at)
+pub word_place_is_onto : (layout : Layout) → IsLayout layout → (at : Place) → IsInBram layout.device at → (bit : WordBit) × IsWordBit layout.device bit × (word_place_of layout bit ≡ at)
 unfolding word_place_of
-word_place_is_onto device at h =
-    let halves = bank-halves at.bank h.bank_in in
+word_place_is_onto layout s at h =
+    let device = layout.device in
+    let flip = layout.ram_flip in
+    let found = entry-onto layout.banks 4 (are_banks layout s) at.bank h.bank_in in
+    let halves = quarter-halves found.0 found.1 in
     let k = at.px / 16 in
     let inside : 16 * k < bram_width device = omega (arith, h.px_in) in
     let x = column_in device halves.1 in
-    let y = row_in device halves.0 k in
-    let bank : bank_of device x y ≡ at.bank =
-    (λ i. (if is_top-in device halves.0 k inside i then 1 else 0) + (if is_right-in device halves.1 i then 2 else 0)) ∙ halves.2
+    let y = row_in device flip halves.0 k in
+    let quarters : quarter (is_top device y) (is_right device x) ≡ found.0 =
+    (λ i. quarter (is_top-in device flip halves.0 k inside i) (is_right-in device halves.1 i)) ∙ halves.2
     in
-    let px : 16 * ram_of device y + 15 - (15 - at.px % 16) ≡ at.px =
-    ap (λ n. 16 * n + 15 - (15 - at.px % 16)) (ram_of-in device halves.0 k inside) ∙ omega arith
+    let bank : bank_of layout x y ≡ at.bank = ap (λ n. slice_index layout.banks n) quarters ∙ found.2 in
+    let px : 16 * ram_of layout y + 15 - (15 - at.px % 16) ≡ at.px =
+    ap (λ n. 16 * n + 15 - (15 - at.px % 16)) (ram_of-in device flip halves.0 k inside) ∙ omega arith
     in
     let bit : WordBit = record { x = x; y = y; word = at.py; bit = 15 - at.px % 16 } in
-    let is_bit : IsWordBit device bit = record { lower = kind_of-in device halves.1 halves.0 k inside; word_in = h.py_in; bit_in = omega arith } in
-    let place : word_place_of device bit ≡ at = λ i. record { bank = bank i; px = px i; py = at.py } in
+    let is_bit : IsWordBit device bit = record { lower = kind_of-in device flip halves.1 halves.0 k inside; word_in = h.py_in; bit_in = omega arith } in
+    let place : word_place_of layout bit ≡ at = λ i. record { bank = bank i; px = px i; py = at.py } in
     (bit, is_bit, place)

@@ -1,5 +1,5 @@
 -- What the fields of a layout stand for.
-use Rattle.std.specs.Prelude.{◌≡◌, ℕ, ◌-◌, List, ◌++◌, take, replicate}
+use Rattle.std.specs.Prelude.{◌≡◌, ◌-◌, ◌++◌, take, replicate}
 use Rattle.plane_map.specs.declared.layout.Layout.TheInside.{Inside}
 use Rattle.plane_map.specs.Layout.{Layout, IsLayout, half_width}
 

@@ -1,8 +1,9 @@
 // The grid of tiles, its edges and its halves.
-ghost use Rattle.std.specs.Prelude.{OnSome, ◌≡◌, ◌+◌, ◌/◌, ◌%◌, ◌<◌, ◌≤◌, ◌||◌, ◌==◌, nat_le, if◌then◌else◌};
-ghost use Rattle.plane_map.specs.Layout.{kind_of, columns_of, is_side, is_end, is_right, is_top, grid_width, grid_height, bank_of, from_side, from_end, ram_of, ram_column, last_x};
+ghost use Rattle.std.specs.Prelude.{OnSome, ◌≡◌, ◌+◌, ◌/◌, ◌%◌, ◌<◌, ◌≤◌, ◌&&◌, ◌||◌, ◌==◌, nat_le, not, if◌then◌else◌};
+ghost use Rattle.plane_map.specs.Layout.{kind_of, columns_of, is_side, is_end, is_right, is_top, grid_width, grid_height, quarter_of, is_mirrored, from_side, from_end, ram_of, ram_column, last_x};
 
 use crate::device::DeviceName;
+use crate::layout::Layout;
 use crate::tile::TileKind;
 
 /// The tile of a device at a place of the grid: none at a corner or outside.
@@ -57,11 +58,12 @@ pub(crate) fn in_right(device: DeviceName, x: u32) -> bool
     x >= device.columns() / 2
 }
 
-/// Whether the columns of a tile that is in no end row run towards the side edge.
-pub(crate) fn is_mirrored(device: DeviceName, x: u32) -> bool
-    ensures { result ≡ (is_side device x || is_right device x) }
+/// Whether the columns of the tile at (x, y) run towards the side edge.
+pub(crate) fn is_mirrored(layout: &Layout, x: u32, y: u32) -> bool
+    ensures { result ≡ is_mirrored layout.now x y }
 {
-    on_side(device, x) || in_right(device, x)
+    let device = layout.device();
+    in_right(device, x) && !on_side(device, x) && layout.mirrors(on_end(device, y))
 }
 
 /// Whether a row of tiles is in the top half.
@@ -71,9 +73,9 @@ pub(crate) fn in_top(device: DeviceName, y: u32) -> bool
     y >= device.rows() / 2
 }
 
-/// The bank of the quarter of the grid in which a tile is.
-pub(crate) fn bank_at(device: DeviceName, x: u32, y: u32) -> u8
-    ensures { result ≡ bank_of device x y }
+/// The quarter of the grid in which a tile is: left bottom, left top, right bottom, right top.
+pub(crate) fn quarter_at(device: DeviceName, x: u32, y: u32) -> u8
+    ensures { result ≡ quarter_of device x y }
 {
     match (in_right(device, x), in_top(device, y)) {
         (false, false) => 0,
@@ -107,41 +109,44 @@ pub(crate) fn end_distance(device: DeviceName, y: u32) -> u32
     }
 }
 
-/// Which RAM of its bank a lower tile of a row is, counted from the end edge inwards.
-pub(crate) fn ram_at(device: DeviceName, y: u32) -> u32
+/// Which RAM of its bank a lower tile of a row is.
+pub(crate) fn ram_at(layout: &Layout, y: u32) -> u32
     requires inner { 1 ≤ y }
-    requires inside { y + 3 ≤ grid_height device }
-    ensures { result ≡ ram_of device y }
+    requires inside { y + 3 ≤ grid_height layout.now.device }
+    ensures { result ≡ ram_of layout.now y }
 {
-    if in_top(device, y) {
-        (device.rows() - 3 - y) / 2
-    } else {
+    let rows = layout.device().rows();
+    if !in_top(layout.device(), y) {
         (y - 1) / 2
+    } else if layout.flips_rams() {
+        (rows - 3 - y) / 2
+    } else {
+        (y - rows / 2) / 2
     }
 }
 
-/// The column of tiles of a bank at that distance from its side edge.
-pub(crate) fn x_at(device: DeviceName, bank: u8, distance: u32) -> u32
+/// The column of tiles of a quarter at that distance from its side edge.
+pub(crate) fn x_at(device: DeviceName, quarter: u8, distance: u32) -> u32
     requires { distance < grid_width device / 2 }
     ensures in_grid { result < grid_width device }
-    ensures half { is_right device result ≡ nat_le 2 bank }
+    ensures half { is_right device result ≡ nat_le 2 quarter }
     ensures distance { from_side device result ≡ distance }
 {
-    if bank >= 2 {
+    if quarter >= 2 {
         device.columns() - 1 - distance
     } else {
         distance
     }
 }
 
-/// The row of tiles of a bank at that distance from its end edge.
-pub(crate) fn y_at(device: DeviceName, bank: u8, distance: u32) -> u32
+/// The row of tiles of a quarter at that distance from its end edge.
+pub(crate) fn y_at(device: DeviceName, quarter: u8, distance: u32) -> u32
     requires { distance < grid_height device / 2 }
     ensures in_grid { result < grid_height device }
-    ensures half { is_top device result ≡ (bank % 2 == 1) }
+    ensures half { is_top device result ≡ (quarter % 2 == 1) }
     ensures distance { from_end device result ≡ distance }
 {
-    if bank % 2 == 1 {
+    if quarter % 2 == 1 {
         device.rows() - 1 - distance
     } else {
         distance

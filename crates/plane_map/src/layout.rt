@@ -1,10 +1,22 @@
 // Layouts.
-ghost use Rattle.std.specs.Prelude.{◌≡◌, ◌<◌, Some, IfSome, MatchOption};
-ghost use Rattle.plane_map.specs.Layout.{kind_of, columns_at, standard_layout, place_of, word_place_of, IsLayout, IsTileBit, IsWordBit, IsInCram, IsInBram, IsExtraBit};
+ghost use Rattle.std.specs.Prelude.{◌≡◌, ◌≢◌, ℕ, ◌+◌, ◌<◌, ◌≤◌, Some, IfSome, MatchOption, length, slice_index, if◌then◌else◌};
+ghost use Rattle.plane_map.specs.Layout.{kind_of, columns_at, half_width, width_of, start_of, cram_width, standard_layout, place_of, word_place_of, IsLayout, IsTileBit, IsWordBit, IsInCram, IsInBram, IsExtraBit};
 
 use crate::device::DeviceName;
+use crate::place::{owner_on, place_of_word, place_on};
 use crate::tile::{Place, TileBit, TileKind, WordBit};
 use std::marker::Model;
+
+/// The column of bits of each column of an io tile of the left or the right edge, counted from the side edge.
+const SIDE_COLUMNS: [u8; 18] = [17, 16, 15, 14, 13, 12, 11, 10, 9, 8, 7, 6, 5, 4, 3, 2, 1, 0];
+
+/// The column of bits of each column of an io tile of the bottom or the top row, from the start of its column of tiles.
+const PAD_COLUMNS: [u8; 18] = [
+    23, 25, 26, 27, 16, 17, 18, 19, 20, 14, 32, 33, 34, 35, 36, 37, 4, 5,
+];
+
+/// Its row of bits of each row, counted from the inner end.
+const PAD_ROWS: [u8; 16] = [0, 1, 3, 2, 4, 5, 7, 6, 8, 9, 11, 10, 12, 13, 15, 14];
 
 /// How a device lays out the bits of its tiles and of the words of its RAMs in its planes.
 ///
@@ -91,7 +103,7 @@ impl Layout {
         ensures only { (other : TileBit) → IsTileBit self.now.device other → place_of self.now other ≡ result
             → other ≡ record { x = x; y = y; row = row; col = col } }
     {
-        todo
+        place_on(self, TileBit { x, y, row, col })
     }
 
     /// Where a bit of a word lies in the RAM planes; (x, y) is the RAM's lower tile.
@@ -106,7 +118,7 @@ impl Layout {
         // Each place of the RAM planes is that of a bit of a word.
         ensures onto { (at : Place) → IsInBram self.now.device at → (word_bit : WordBit) × IsWordBit self.now.device word_bit × (word_place_of self.now word_bit ≡ at) }
     {
-        todo
+        place_of_word(self, WordBit { x, y, word, bit })
     }
 
     /// The one bit of a tile that lies at a place of the configuration planes: none at an extra bit.
@@ -115,16 +127,120 @@ impl Layout {
         ensures owner { MatchOption result (IsExtraBit self.now at) (λ bit. IsTileBit self.now.device bit × (place_of self.now bit ≡ at)) }
         ensures only { IfSome result (λ bit. (other : TileBit) → IsTileBit self.now.device other → place_of self.now other ≡ at → other ≡ bit) }
     {
-        todo
+        owner_on(self, at)
+    }
+
+    /// How many columns of bits a column of tiles takes.
+    pub(crate) fn width(&self, distance: u32) -> u32
+        requires { distance < half_width self.now.device }
+        ensures value { result ≡ width_of self.now distance }
+        ensures fits { start_of self.now distance + result ≤ cram_width self.now.device }
+    {
+        self.widths[distance as usize] as u32
+    }
+
+    /// The column of bits of a column of an io tile of the left or the right edge.
+    pub(crate) fn side_column(&self, col: u8) -> u32
+        requires { col < 18 }
+        ensures { result ≡ slice_index self.now.side_columns col }
+    {
+        self.side_columns[col as usize] as u32
+    }
+
+    /// The column of bits of a column of an io tile of the bottom or the top row.
+    pub(crate) fn pad_column(&self, col: u8) -> u32
+        requires { col < 18 }
+        ensures { result ≡ slice_index self.now.pad_columns col }
+    {
+        self.pad_columns[col as usize] as u32
+    }
+
+    /// The row of bits of a row of an io tile of the bottom or the top row, counted from the inner end.
+    pub(crate) fn pad_row(&self, row: u8) -> u32
+        requires { row < 16 }
+        ensures value { result ≡ slice_index self.now.pad_rows row }
+        ensures in_tile { result < 16 }
+    {
+        self.pad_rows[row as usize] as u32
+    }
+
+    /// The bank of a quarter of the grid.
+    pub(crate) fn bank(&self, quarter: u8) -> u8
+        requires { quarter < 4 }
+        ensures value { result ≡ slice_index self.now.banks quarter }
+        ensures in_plane { result < 4 }
+    {
+        self.banks[quarter as usize]
+    }
+
+    /// The column of an io tile of the left or the right edge that takes a column of bits, if one does.
+    pub(crate) fn side_col_at(&self, column: u32) -> Option<u8>
+        ensures { MatchOption result ((col : ℕ) → col < 18 → slice_index self.now.side_columns col ≢ column)
+            (λ col. (col < 18) × (slice_index self.now.side_columns col ≡ column)) }
+    {
+        let col = index_of(&self.side_columns, column)?;
+        Some(col as u8)
+    }
+
+    /// The column of an io tile of the bottom or the top row that takes a column of bits, if one does.
+    pub(crate) fn pad_col_at(&self, column: u32) -> Option<u8>
+        ensures { MatchOption result ((col : ℕ) → col < 18 → slice_index self.now.pad_columns col ≢ column)
+            (λ col. (col < 18) × (slice_index self.now.pad_columns col ≡ column)) }
+    {
+        let col = index_of(&self.pad_columns, column)?;
+        Some(col as u8)
+    }
+
+    /// The row of an io tile of the bottom or the top row that takes a row of bits, counted from the inner end.
+    pub(crate) fn pad_row_at(&self, row: u32) -> u8
+        requires { row < 16 }
+        ensures in_tile { result < 16 }
+        ensures value { slice_index self.now.pad_rows result ≡ row }
+    {
+        match index_of(&self.pad_rows, row) {
+            Some(index) => index as u8,
+            None => unreachable!(),
+        }
+    }
+
+    /// The quarter of the grid that has a bank.
+    pub(crate) fn quarter(&self, bank: u8) -> u8
+        requires { bank < 4 }
+        ensures in_grid { result < 4 }
+        ensures value { slice_index self.now.banks result ≡ bank }
+    {
+        match index_of(&self.banks, bank as u32) {
+            Some(index) => index as u8,
+            None => unreachable!(),
+        }
+    }
+
+    /// Whether the columns of tiles of an inner row, or of an end row, run towards the side edge in the right half.
+    pub(crate) fn mirrors(&self, end: bool) -> bool
+        ensures { result ≡ (if end then self.now.pad_mirror else self.now.mirror) }
+    {
+        if end { self.pad_mirror } else { self.mirror }
+    }
+
+    /// Whether the rows of tiles run towards the end edge in the top half.
+    pub(crate) fn flips(&self) -> bool
+        ensures { result ≡ self.now.flip }
+    {
+        self.flip
+    }
+
+    /// Whether the RAMs of the top half are counted from the top.
+    pub(crate) fn flips_rams(&self) -> bool
+        ensures { result ≡ self.now.ram_flip }
+    {
+        self.ram_flip
     }
 }
 
-const SIDE_COLUMNS: [u8; 18] = [
-    17, 16, 15, 14, 13, 12, 11, 10, 9, 8, 7, 6, 5, 4, 3, 2, 1, 0,
-];
-
-const PAD_COLUMNS: [u8; 18] = [
-    23, 25, 26, 27, 16, 17, 18, 19, 20, 14, 32, 33, 34, 35, 36, 37, 4, 5,
-];
-
-const PAD_ROWS: [u8; 16] = [0, 1, 3, 2, 4, 5, 7, 6, 8, 9, 11, 10, 12, 13, 15, 14];
+/// The first index at which an entry stands.
+fn index_of(entries: &[u8], entry: u32) -> Option<usize>
+    ensures { MatchOption result ((k : ℕ) → k < length entries.now → slice_index entries.now k ≢ entry)
+        (λ index. (index < length entries.now) × (slice_index entries.now index ≡ entry)) }
+{
+    entries.iter().position(|x| u32::from(*x) == entry)
+}

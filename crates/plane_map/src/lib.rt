@@ -4,14 +4,15 @@
 mod columns;
 mod device;
 mod grid;
-mod pads;
+mod layout;
 mod place;
 mod rows;
 mod tile;
 
 pub use device::{Device, DeviceName, Hx1k, Hx8k};
 pub use grid::kind_on;
-pub use place::{bram_place, cram_place, kind_at, owner_of, tile_width};
+pub use layout::Layout;
+pub use place::{kind_at, tile_width};
 pub use tile::{Place, RowCol, TileBit, TileKind, WordBit};
 
 #[cfg(test)]

@@ -1,9 +1,7 @@
 // Kinds and places that are known from outside, at each public function.
 use crate::{
-    Device, Hx1k, Hx8k, Place, TileBit, TileKind, bram_place, cram_place, kind_at, owner_of,
-    tile_width,
+    Device, DeviceName, Hx1k, Hx8k, Layout, Place, TileBit, TileKind, kind_at, kind_on, tile_width,
 };
-use bit_plane::Bits;
 
 /// A place by its bank, column and row.
 fn at(bank: u8, px: u16, py: u16) -> Place {
@@ -42,10 +40,10 @@ fn names_the_tiles_of_both_devices(rt: HostRuntime) {
 }
 
 /// Where a bit of a tile lies, if the tile has it.
-fn place_of<D: Device>(bit: TileBit) -> Option<Place> {
-    let kind = kind_at::<D>(u32::from(bit.x), u32::from(bit.y))?;
+fn place_of(layout: &Layout, bit: TileBit) -> Option<Place> {
+    let kind = kind_on(layout.device(), u32::from(bit.x), u32::from(bit.y))?;
     if bit.row < 16 && usize::from(bit.col) < tile_width(kind) {
-        Some(cram_place::<D>(bit.x, bit.y, bit.row, bit.col))
+        Some(layout.cram_place(bit.x, bit.y, bit.row, bit.col))
     } else {
         None
     }
@@ -53,24 +51,28 @@ fn place_of<D: Device>(bit: TileBit) -> Option<Place> {
 
 #[test]
 fn places_bits_of_tiles(rt: HostRuntime) {
+    let k1 = Layout::standard(DeviceName::K1);
     for (bit, place) in [
         (bit(1, 1, 0, 0), Some(at(0, 18, 16))),
         (bit(1, 1, 0, 54), None),
         (bit(0, 1, 0, 18), None),
         (bit(3, 1, 0, 42), None),
+        (bit(0, 1, 0, 0), Some(at(0, 17, 16))),
         (bit(12, 16, 0, 0), Some(at(3, 71, 31))),
         (bit(1, 17, 2, 4), Some(at(1, 34, 12))),
         (bit(1, 17, 2, 17), Some(at(1, 23, 12))),
+        (bit(12, 17, 2, 17), Some(at(3, 23, 12))),
     ] {
-        assert!(rt; place_of::<Hx1k>(bit) == place, "at {bit:?}");
+        assert!(rt; place_of(&k1, bit) == place, "at {bit:?}");
     }
-    assert!(rt; place_of::<Hx8k>(bit(32, 1, 15, 53)) == Some(at(2, 18, 31)));
+    let k8 = Layout::standard(DeviceName::K8);
+    assert!(rt; place_of(&k8, bit(32, 1, 15, 53)) == Some(at(2, 18, 31)));
 }
 
 /// Where a bit of a word of the RAM at (x, y) lies, if there is one.
-fn place_of_word<D: Device>(x: u8, y: u8, word: u8, bit: u8) -> Option<Place> {
-    if kind_at::<D>(u32::from(x), u32::from(y)) == Some(TileKind::RamB) && bit < 16 {
-        Some(bram_place::<D>(x, y, word, bit))
+fn place_of_word(layout: &Layout, x: u8, y: u8, word: u8, bit: u8) -> Option<Place> {
+    if kind_on(layout.device(), u32::from(x), u32::from(y)) == Some(TileKind::RamB) && bit < 16 {
+        Some(layout.bram_place(x, y, word, bit))
     } else {
         None
     }
@@ -78,29 +80,34 @@ fn place_of_word<D: Device>(x: u8, y: u8, word: u8, bit: u8) -> Option<Place> {
 
 #[test]
 fn places_bits_of_words(rt: HostRuntime) {
-    assert!(rt; place_of_word::<Hx1k>(3, 1, 0, 0) == Some(at(0, 15, 0)));
-    assert!(rt; place_of_word::<Hx1k>(10, 15, 255, 15) == Some(at(3, 0, 255)));
-    assert!(rt; place_of_word::<Hx8k>(8, 17, 7, 3) == Some(at(1, 124, 7)));
+    let k1 = Layout::standard(DeviceName::K1);
+    assert!(rt; place_of_word(&k1, 3, 1, 0, 0) == Some(at(0, 15, 0)));
+    assert!(rt; place_of_word(&k1, 10, 15, 255, 15) == Some(at(3, 0, 255)));
+    let k8 = Layout::standard(DeviceName::K8);
+    assert!(rt; place_of_word(&k8, 8, 17, 7, 3) == Some(at(1, 124, 7)));
 }
 
 /// Whether a place is in the planes and has that owner.
-fn has_owner<D: Device>(at: Place, owner: Option<TileBit>) -> bool {
+fn has_owner(layout: &Layout, at: Place, owner: Option<TileBit>) -> bool {
     at.bank < 4
-        && usize::from(at.px) < D::Cram::WIDTH
-        && usize::from(at.py) < D::Cram::HEIGHT
-        && owner_of::<D>(at) == owner
+        && u32::from(at.px) < layout.device().cram_columns()
+        && u32::from(at.py) < layout.device().cram_rows()
+        && layout.owner_of(at) == owner
 }
 
 #[test]
 fn finds_the_owners_of_places(rt: HostRuntime) {
+    let k1 = Layout::standard(DeviceName::K1);
     for (place, owner, what) in [
         (at(0, 18, 16), Some(bit(1, 1, 0, 0)), "logic"),
+        (at(2, 17, 16), Some(bit(13, 1, 0, 0)), "side"),
         (at(1, 23, 12), Some(bit(1, 17, 2, 17)), "pad"),
         (at(0, 330, 143), None, "past the last tile"),
         (at(0, 17, 3), None, "in a corner"),
         (at(0, 18, 3), None, "between the pads"),
     ] {
-        assert!(rt; has_owner::<Hx1k>(place, owner), "{what}");
+        assert!(rt; has_owner(&k1, place, owner), "{what}");
     }
-    assert!(rt; has_owner::<Hx8k>(at(0, 870, 271), None));
+    let k8 = Layout::standard(DeviceName::K8);
+    assert!(rt; has_owner(&k8, at(0, 870, 271), None));
 }

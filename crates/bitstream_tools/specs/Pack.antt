@@ -1,18 +1,20 @@
 -- `icepack`: the bitstream of a text.
-use Rattle.std.specs.Prelude.{ℕ, Bool, true, false, List, [], ◌∷◌, codes, get_or, if◌then◌else◌, Option, None, Some}
+use Rattle.std.specs.Prelude.{ℕ, Bool, true, false, List, [], ◌∷◌, codes, get_or, is_some, if◌then◌else◌, Option, None, Some}
 use Rattle.clap.specs.Words.{App, Row, Text, first_of, matches_of}
+use Rattle.layout_file.specs.declared.layouts.Layouts.{Layouts}
 use Rattle.ice_image.specs.Configuration.{Configuration}
 use Rattle.asc_text.specs.Faults.{Fault, asc_fault_of}
 use Rattle.asc_text.specs.Meaning.{asc_image_of}
 use Rattle.bin_stream.specs.CanonicalBytes.{canonical_bytes}
 use Rattle.ice_pack.specs.Packed.{awake_where}
 use Rattle.tool_run.specs.Tasks.{Answer, Done, Refused, Task, helped, not_taken}
-use Rattle.tool_words.specs.Commands.{command, flag, has_flag, is_taken, positional}
+use Rattle.tool_words.specs.Commands.{command, flag, has_flag, is_taken, long_option, positional}
 use Rattle.tool_run.specs.Needs.{text_of}
 use Rattle.bitstream_tools.specs.declared.pack.Request.{Request}
 use Rattle.bitstream_tools.specs.declared.pack.Request.TheVariants.{Pack, Unpack}
 use Rattle.bitstream_tools.specs.declared.pack.TheConstants.{ICEPACK_HELP}
 use Rattle.bitstream_tools.specs.Faults.{asc_fault_text}
+use Rattle.bitstream_tools.specs.Layouts.{answer_under, behind_layout, layouts_for, with_layout}
 use Rattle.bitstream_tools.specs.Unpack.{unpack_task}
 
 -- the most bytes of a text
@@ -24,40 +26,45 @@ abbrev pub bytes_of : Bool → Option Configuration → List ℕ
 bytes_of no_sleep None = []
 bytes_of no_sleep (Some image) = canonical_bytes (awake_where no_sleep image)
 
--- the bitstream of a text, or its fault
+-- the bitstream of a text by what it configures, or its fault
 abbrev pub packed : Bool → Option Configuration → Option Fault → Answer
 packed no_sleep image None = Done (bytes_of no_sleep image)
 packed no_sleep image (Some fault) = Refused (asc_fault_text fault.line fault.tile fault.cause)
 
-abbrev pub pack_answer : Bool → List (List ℕ) → Answer
-pack_answer no_sleep texts = let text = get_or texts 0 [] in packed no_sleep (asc_image_of text) (asc_fault_of text)
+-- the bitstream of a text under layouts, or its fault
+abbrev pub packed_under : Bool → List ℕ → Layouts → Answer
+packed_under no_sleep text layouts = packed no_sleep (asc_image_of layouts text) (asc_fault_of layouts text)
+
+-- `named` tells whether a layout file was loaded before the text
+abbrev pub pack_answer : Bool → Bool → List (List ℕ) → Answer
+pack_answer named no_sleep texts = answer_under (layouts_for named texts) (packed_under no_sleep (get_or texts (behind_layout named 0) []))
 
 abbrev pub icepack_name : List ℕ
 icepack_name = codes "icepack"
 
 abbrev pub icepack_usage : List ℕ
-icepack_usage = codes "icepack [-u] [-s] [INPUT [OUTPUT]]"
+icepack_usage = codes "icepack [-u] [-s] [--layout FILE] [INPUT [OUTPUT]]"
 
 abbrev pub icepack_command : App
-icepack_command = command icepack_name (flag (codes "unpack") 117 ∷ flag (codes "no_sleep") 115 ∷ positional (codes "input") ∷ positional (codes "output") ∷ [])
+icepack_command = command icepack_name (flag (codes "unpack") 117 ∷ flag (codes "no_sleep") 115 ∷ long_option (codes "layout") ∷ positional (codes "input") ∷ positional (codes "output") ∷ [])
 
 -- a text to a bitstream
-abbrev pub pack_task : Bool → Option Text → Option Text → Task
-pack_task no_sleep input output = record {
+abbrev pub pack_task : Bool → Option Text → Option Text → Option Text → Task
+pack_task no_sleep layout input output = record {
   speaker = icepack_name;
-  needs = record { name = input; limit = text_limit } ∷ [];
+  needs = with_layout layout (record { name = input; limit = text_limit } ∷ []);
   target = output;
-  answer = pack_answer no_sleep;
+  answer = pack_answer (is_some layout) no_sleep;
 }
 
 -- `-u` unpacks, and then nothing may be set
-abbrev pub icepack_task_of : Bool → Bool → Option Text → Option Text → Task
-icepack_task_of false no_sleep input output = pack_task no_sleep input output
-icepack_task_of true false input output = unpack_task icepack_name input output
-icepack_task_of true true input output = not_taken icepack_name icepack_usage
+abbrev pub icepack_task_of : Bool → Bool → Option Text → Option Text → Option Text → Task
+icepack_task_of false no_sleep layout input output = pack_task no_sleep layout input output
+icepack_task_of true false layout input output = unpack_task icepack_name layout input output
+icepack_task_of true true layout input output = not_taken icepack_name icepack_usage
 
 abbrev pub icepack_task_by : List Row → Task
-icepack_task_by rows = icepack_task_of (has_flag (codes "unpack") rows) (has_flag (codes "no_sleep") rows) (first_of (codes "input") rows) (first_of (codes "output") rows)
+icepack_task_by rows = icepack_task_of (has_flag (codes "unpack") rows) (has_flag (codes "no_sleep") rows) (first_of (codes "layout") rows) (first_of (codes "input") rows) (first_of (codes "output") rows)
 
 -- what the words of `icepack` ask for
 unfoldable pub icepack_task : List Text → Task
@@ -68,8 +75,8 @@ icepack_task words =
 -- the same by the request that was found in the words, where they are taken
 abbrev pub icepack_task_for : Option Request → Task
 icepack_task_for None = not_taken icepack_name icepack_usage
-icepack_task_for (Some (Pack tool names)) = pack_task tool.no_sleep (text_of names.input) (text_of names.output)
-icepack_task_for (Some (Unpack names)) = unpack_task icepack_name (text_of names.input) (text_of names.output)
+icepack_task_for (Some (Pack tool names)) = pack_task tool.no_sleep (text_of names.layout) (text_of names.input) (text_of names.output)
+icepack_task_for (Some (Unpack names)) = unpack_task icepack_name (text_of names.layout) (text_of names.input) (text_of names.output)
 
 -- what the words of `icepack` ask for, its help among that
 abbrev pub icepack_outcome : List Text → Task

@@ -5,6 +5,7 @@ use Rattle.std.proofs.lemmas.Bool.{cases_Bool}
 use Rattle.place_search.specs.Places.{gathered_below}
 use Rattle.place_search.proofs.Found.{length-gathered_below}
 use Rattle.text_lines.specs.Lines.{lines_of}
+use Rattle.layout_file.specs.Layouts.{standard_layouts}
 use Rattle.asc_text.specs.Blocks.{statement_at}
 use Rattle.asc_text.specs.Faults.{asc_fault_of}
 use Rattle.asc_text.specs.Rams.{is_ram_data}
@@ -39,5 +40,5 @@ count-rams from lines (suc n) column =
     )
 
 -- a count has room for another RAM
-pub count-few : (from : Contents) (text : List ℕ) (n column : ℕ) → asc_fault_of text ≡ None → n ≤ length (lines_of text) → count_before from (lines_of text) n column ≤ 18496
+pub count-few : (from : Contents) (text : List ℕ) (n column : ℕ) → asc_fault_of standard_layouts text ≡ None → n ≤ length (lines_of text) → count_before from (lines_of text) n column ≤ 18496
 count-few from text n column none within = omega (arith, count-rams from (lines_of text) n column, few-rams text n none within)

@@ -7,6 +7,7 @@ use Rattle.std.proofs.lemmas.List.FromFn.{fill_by_all}
 use Rattle.place_search.specs.Places.{gathered_below}
 use Rattle.place_search.proofs.Places.{gathered_below-more, gathered_below-none, gathered_below-same, gathered_below-sum}
 use Rattle.text_lines.specs.Lines.{lines_of, whole_lines_of, line_at}
+use Rattle.layout_file.specs.Layouts.{standard_layouts}
 use Rattle.asc_text.specs.Statements.{statement_in}
 use Rattle.asc_text.specs.Blocks.{depth_at, statement_at}
 use Rattle.asc_text.specs.Faults.{asc_fault_of}
@@ -99,7 +100,7 @@ record IsRamAt (text rest : List ℕ) (n : ℕ) : Type 0 where
   flat : depth_at (lines_of text) n ≡ 0
   is : is_ram_data (statement_in (line_at (lines_of text) n)) ≡ true
 
-ram-at : (from to : Contents) (text left out found content whole rest : List ℕ) → asc_fault_of text ≡ None → (p : Progress from to text left out found)
+ram-at : (from to : Contents) (text left out found content whole rest : List ℕ) → asc_fault_of standard_layouts text ≡ None → (p : Progress from to text left out found)
     → lines_of left ≡ content ∷ lines_of rest → whole_lines_of left ≡ whole ∷ whole_lines_of rest → is_ram_line content ≡ true → IsRamAt text rest p.n
 ram-at from to text left out found content whole rest none p lines wholes holds_so =
     let line = first from to text left out found content whole rest p lines wholes in
@@ -107,7 +108,7 @@ ram-at from to text left out found content whole rest none p lines wholes holds_
     record { flat = found.0; is = found.1 }
 
 -- its lines follow
-pub ram-begins-next : (from to : Contents) (text left out found content whole rest : List ℕ) → asc_fault_of text ≡ None → Progress from to text left out found
+pub ram-begins-next : (from to : Contents) (text left out found content whole rest : List ℕ) → asc_fault_of standard_layouts text ≡ None → Progress from to text left out found
     → lines_of left ≡ content ∷ lines_of rest → whole_lines_of left ≡ whole ∷ whole_lines_of rest → is_ram_line content ≡ true → BeginsWithRam (lines_of rest)
 ram-begins-next from to text left out found content whole rest none p lines wholes holds_so =
     let line = first from to text left out found content whole rest p lines wholes in
@@ -115,7 +116,7 @@ ram-begins-next from to text left out found content whole rest none p lines whol
     subst BeginsWithRam (sym line.lines) (begins text p.n none line.there ram.flat ram.is)
 
 -- and each count has room for it
-pub room : (from to : Contents) (text left out found : List ℕ) → asc_fault_of text ≡ None → Progress from to text left out found → (column : ℕ) → get_or found column 0 < 2 ^ 31
+pub room : (from to : Contents) (text left out found : List ℕ) → asc_fault_of standard_layouts text ≡ None → Progress from to text left out found → (column : ℕ) → get_or found column 0 < 2 ^ 31
 room from to text left out found none p column =
     elim (cases_lt column (column_count from)) [
       | inl few ↦ omega (arith, p.counted column few, count-few from text p.n column none p.within)
@@ -150,7 +151,7 @@ count-ram from lines n column flat is =
     ∙ gathered_below-more n given ∙ ap (λ xs. gathered_below n given ++ xs) here)
     ∙ length-append (gathered_below n given) (bits_found from (ram_bits (drop (n + 1) lines)) column)
 
-pub Progress-ram : (from to : Contents) (text left out found content whole rest middle after new counts : List ℕ) → asc_fault_of text ≡ None → Progress from to text left out found
+pub Progress-ram : (from to : Contents) (text left out found content whole rest middle after new counts : List ℕ) → asc_fault_of standard_layouts text ≡ None → Progress from to text left out found
     → lines_of left ≡ content ∷ lines_of rest → whole_lines_of left ≡ whole ∷ whole_lines_of rest → is_ram_line content ≡ true → middle ≡ out ++ whole
     → new ≡ middle ++ gathered_below 16 (λ row. memory_line_with (ram_bits (lines_of rest)) (bits_after from to (ram_bits (lines_of rest))) row (line_at (whole_lines_of rest) row))
     → ((column : ℕ) → column < column_count from → get_or counts column 0 ≡ get_or found column 0 + length (bits_found from (ram_bits (lines_of rest)) column))

@@ -6,6 +6,7 @@ use Rattle.place_search.specs.Places.{any_below, gathered_below, or_else}
 use Rattle.text_lines.specs.Lines.{lines_of, whole_lines_of, line_at, trimmed}
 use Rattle.hex.specs.Hex.{encode_lower}
 use Rattle.bit_plane.specs.BitList.{word_of}
+use Rattle.layout_file.specs.Layouts.{standard_layouts}
 use Rattle.asc_text.specs.declared.fault.AscFault.TheVariants.{At}
 use Rattle.asc_text.specs.Rows.{memory_bit}
 use Rattle.asc_text.specs.Blocks.{depth_at, statement_at}
@@ -107,7 +108,7 @@ text_fault (Some fault) = Some (Asc (At fault.line fault.tile fault.cause))
 
 -- the first cause that holds
 abbrev pub bram_fault : List ℕ → Contents → Contents → Option BramFault
-bram_fault text from to = or_else (shape_fault from to) (or_else (same_fault from) (text_fault (asc_fault_of text)))
+bram_fault text from to = or_else (shape_fault from to) (or_else (same_fault from) (text_fault (asc_fault_of standard_layouts text)))
 
 -- a refusal other than want of memory is that one
 abbrev pub TellsBram : Option BramFault → BramFault → Type 0

@@ -3,6 +3,7 @@ ghost use Rattle.std.specs.Prelude.{◌≡◌, ◌<◌, ◌+◌, ◌^◌, ◌++�
 ghost use Rattle.place_search.specs.Places.{gathered_below};
 ghost use Rattle.text_lines.specs.Lines.{line_at, lines_of, whole_lines_of};
 ghost use Rattle.text_lines.specs.Words.{first_word};
+ghost use Rattle.layout_file.specs.Layouts.{standard_layouts};
 ghost use Rattle.asc_text.specs.Faults.{asc_fault_of};
 ghost use Rattle.asc_text.specs.Statements.{ram_data_keyword};
 ghost use Rattle.bram_replace.specs.Columns.{column_count};
@@ -57,8 +58,8 @@ fn have_one_shape(from: &HexFile, to: &HexFile) -> bool
 
 /// Whether the text can be read.
 fn check_text(alloc: Global, asc: &[u8]) -> Result<(), BramFault>
-    ensures accepted { OnOk result (asc_fault_of asc.now ≡ None) }
-    ensures refused { IfErr result (TellsBram (text_fault (asc_fault_of asc.now))) }
+    ensures accepted { OnOk result (asc_fault_of standard_layouts asc.now ≡ None) }
+    ensures refused { IfErr result (TellsBram (text_fault (asc_fault_of standard_layouts asc.now))) }
 {
     match asc_text::read(alloc, asc) {
         Ok(_) => Ok(()),
@@ -78,7 +79,7 @@ fn replace_rams(
     columns: &Columns,
     to: &HexFile,
 ) -> Result<Replaced, AllocError>
-    requires accepted { asc_fault_of asc.now ≡ None }
+    requires accepted { asc_fault_of standard_layouts asc.now ≡ None }
     requires same { column_count to.now ≡ column_count columns.now.file.now }
     ensures bytes { IfOk result (λ answer. answer.bytes.items ≡ replaced asc.now columns.now.file.now to.now) }
     ensures found { IfOk result (λ answer. answer.found.items ≡ found_in asc.now columns.now.file.now) }

@@ -1,10 +1,12 @@
 -- What a written module promises: it is the fabric of the database and the image for which it was written.
-use Rattle.std.specs.Prelude.{◌≡◌, ℕ, Bool, false, List, [], ◌∷◌, ◌++◌, map, flat_map, codes, get_or, if◌then◌else◌, Option, Ok, IsOkAnd}
+use Rattle.std.specs.Prelude.{◌≡◌, ℕ, Bool, false, List, [], ◌∷◌, ◌++◌, map, flat_map, codes, get_or, is_some, if◌then◌else◌, Option, Ok, IsOkAnd}
 use Rattle.std.specs.List.{AllZip}
-use Rattle.clap.specs.Words.{matches_of}
+use Rattle.clap.specs.Words.{first_of, matches_of}
 use Rattle.std.specs.Io.KnownBytes.{Appends}
 use Rattle.bit_plane.specs.BitList.{word_of}
 use Rattle.ice_io.specs.Files.{FileMap}
+use Rattle.layout_file.specs.declared.layouts.Layouts.{Layouts}
+use Rattle.bitstream_tools.specs.Layouts.{behind_layout, layouts_for}
 use Rattle.ice_image.specs.Configuration.{Configuration}
 use Rattle.chipdb_reader.specs.Database.{Database}
 use Rattle.vlog_forms.specs.Items.{IsSpelling}
@@ -24,7 +26,7 @@ use Rattle.fabric_tools.specs.Databases.{database_read}
 use Rattle.fabric_tools.specs.Images.{image_read}
 use Rattle.tool_words.specs.Commands.{has_flag}
 use Rattle.module_tools.specs.Vlogrun.{vlogrun_answer, vlogrun_command, vlogrun_outcome}
-use Rattle.design_tools.specs.Vlog.{vlog_outcome}
+use Rattle.design_tools.specs.Vlog.{vlog_command, vlog_outcome}
 
 -- ---- the run of a fabric as lines
 
@@ -72,19 +74,26 @@ AppendsFor P task contents left held new_held =
     × ((files : FileMap) (input : List ℕ) → Tells (outcome_of task files input) contents left files input
     → IsOkAnd (loaded files input task.needs) (λ texts. P texts bytes))
 
--- bytes spell the fabric of the database and the image that two texts mean
-pub record WritesFabric (texts : List (List ℕ)) (bytes : List ℕ) : Type 0 where
+-- bytes spell the fabric of the database and the image that two texts mean, under the layouts of a text before them where a layout
+-- file is named
+pub record WritesFabric (named : Bool) (texts : List (List ℕ)) (bytes : List ℕ) : Type 0 where
+  pub layouts : Layouts
   pub db : Database
   pub image : Configuration
-  pub db_is : database_read (get_or texts 0 []) ≡ Ok db
-  pub image_is : image_read (get_or texts 1 []) ≡ Ok image
+  pub layouts_are : layouts_for named texts ≡ Ok layouts
+  pub db_is : database_read (get_or texts (behind_layout named 0) []) ≡ Ok db
+  pub image_is : image_read layouts (get_or texts (behind_layout named 1) []) ≡ Ok image
   pub spells : SpellsFabric db image bytes
+
+-- whether the words of `icebox_vlog` name a layout file
+abbrev pub names_layout : List (List ℕ) → Bool
+names_layout words = is_some (first_of (codes "layout") (matches_of vlog_command words))
 
 -- Where a run of `icebox_vlog` with these words has status 0, and isn't asked for help, the bytes that it appended spell the fabric of
 -- the database and the image that it loaded.
 abbrev pub PromisesFabric : List (List ℕ) → ℕ → Option FileMap → Option (List ℕ) → Option (List ℕ) → Option (List ℕ) → Type 0
 PromisesFabric words status contents left held new_held =
-    status ≡ 0 → asks_for_help words ≡ false → AppendsFor WritesFabric (vlog_outcome words) contents left held new_held
+    status ≡ 0 → asks_for_help words ≡ false → AppendsFor (WritesFabric (names_layout words)) (vlog_outcome words) contents left held new_held
 
 -- where the first of two texts spells a fabric, bytes are the lines of its run over the events of the second
 abbrev pub RunsFabric : Bool → List (List ℕ) → List ℕ → Type 0

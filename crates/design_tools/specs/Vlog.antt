@@ -1,6 +1,7 @@
 -- `icebox_vlog`: the module of a database and an image.
-use Rattle.std.specs.Prelude.{ℕ, List, [], ◌∷◌, codes, get_or, if◌then◌else◌, Option, None, Some, Result, Ok, Err}
+use Rattle.std.specs.Prelude.{ℕ, Bool, List, [], ◌∷◌, codes, get_or, is_some, if◌then◌else◌, Option, None, Some, Result, Ok, Err}
 use Rattle.clap.specs.Words.{App, Row, Text, first_of, matches_of}
+use Rattle.layout_file.specs.declared.layouts.Layouts.{Layouts}
 use Rattle.ice_image.specs.Configuration.{Configuration}
 use Rattle.chipdb_reader.specs.Database.{Database}
 use Rattle.vlog_module.specs.Parts.{Parts}
@@ -11,7 +12,8 @@ use Rattle.fabric_rules.specs.Faults.{Fault, design_fault}
 use Rattle.vlog_emit.specs.Written.{module_of}
 use Rattle.tool_run.specs.Needs.{text_of}
 use Rattle.tool_run.specs.Tasks.{Answer, Done, Refused, Task, helped, not_taken}
-use Rattle.tool_words.specs.Commands.{command, is_taken, positional, short_option}
+use Rattle.tool_words.specs.Commands.{command, is_taken, long_option, positional, short_option}
+use Rattle.bitstream_tools.specs.Layouts.{answer_under, behind_layout, layouts_for, with_layout}
 use Rattle.bitstream_tools.specs.Pack.{text_limit}
 use Rattle.fabric_tools.specs.Explain.{database_limit}
 use Rattle.fabric_tools.specs.Images.{image_read}
@@ -43,8 +45,15 @@ written_of name (Err text) image = Refused text
 written_of name (Ok db) (Err text) = Refused text
 written_of name (Ok db) (Ok image) = written name db image
 
-abbrev pub vlog_answer : List ℕ → List (List ℕ) → Answer
-vlog_answer name texts = written_of name (database_read (get_or texts 0 [])) (image_read (get_or texts 1 []))
+-- the same for the bytes of both under layouts
+abbrev pub written_under : List ℕ → List ℕ → List ℕ → Layouts → Answer
+written_under name db image layouts = written_of name (database_read db) (image_read layouts image)
+
+-- `named` tells whether a layout file was loaded before the others
+abbrev pub vlog_answer : Bool → List ℕ → List (List ℕ) → Answer
+vlog_answer named name texts =
+    answer_under (layouts_for named texts)
+    (written_under name (get_or texts (behind_layout named 0) []) (get_or texts (behind_layout named 1) []))
 
 -- ---- the words
 
@@ -52,20 +61,20 @@ abbrev pub vlog_name : List ℕ
 vlog_name = codes "icebox_vlog"
 
 abbrev pub vlog_usage : List ℕ
-vlog_usage = codes "icebox_vlog [-n NAME] DB [IMAGE]"
+vlog_usage = codes "icebox_vlog [-n NAME] [--layout FILE] DB [IMAGE]"
 
 abbrev pub vlog_command : App
-vlog_command = command vlog_name (short_option (codes "name") 110 ∷ positional (codes "db") ∷ positional (codes "image") ∷ [])
+vlog_command = command vlog_name (short_option (codes "name") 110 ∷ long_option (codes "layout") ∷ positional (codes "db") ∷ positional (codes "image") ∷ [])
 
 -- ---- the task
 
 -- the database, and the image from a file or from standard input
-abbrev pub write_task : Text → Text → Option Text → Task
-write_task name db image = record {
+abbrev pub write_task : Text → Option Text → Text → Option Text → Task
+write_task name layout db image = record {
   speaker = vlog_name;
-  needs = record { name = Some db; limit = database_limit } ∷ record { name = image; limit = text_limit } ∷ [];
+  needs = with_layout layout (record { name = Some db; limit = database_limit } ∷ record { name = image; limit = text_limit } ∷ []);
   target = None;
-  answer = vlog_answer name;
+  answer = vlog_answer (is_some layout) name;
 }
 
 -- the bytes of a name, where there is one
@@ -74,13 +83,13 @@ name_text None = None
 name_text (Some name) = Some name.text.now
 
 -- there has to be a name, and a database
-abbrev pub vlog_task_of : Option Text → Option Text → Option Text → Task
-vlog_task_of (Some name) (Some db) image = write_task name db image
-vlog_task_of (Some name) None image = not_taken vlog_name vlog_usage
-vlog_task_of None db image = not_taken vlog_name vlog_usage
+abbrev pub vlog_task_of : Option Text → Option Text → Option Text → Option Text → Task
+vlog_task_of (Some name) layout (Some db) image = write_task name layout db image
+vlog_task_of (Some name) layout None image = not_taken vlog_name vlog_usage
+vlog_task_of None layout db image = not_taken vlog_name vlog_usage
 
 abbrev pub vlog_task_by : List Row → Task
-vlog_task_by rows = vlog_task_of (name_given (first_of (codes "name") rows)) (first_of (codes "db") rows) (first_of (codes "image") rows)
+vlog_task_by rows = vlog_task_of (name_given (first_of (codes "name") rows)) (first_of (codes "layout") rows) (first_of (codes "db") rows) (first_of (codes "image") rows)
 
 -- what the words of `icebox_vlog` ask for
 unfoldable pub vlog_task : List Text → Task
@@ -91,7 +100,7 @@ vlog_task words =
 -- the same by the request that was found in the words, where they are taken
 abbrev pub vlog_task_for : Option Request → Task
 vlog_task_for None = not_taken vlog_name vlog_usage
-vlog_task_for (Some request) = write_task request.name.text.now request.db.now (text_of request.image)
+vlog_task_for (Some request) = write_task request.name.text.now (text_of request.layout) request.db.now (text_of request.image)
 
 -- what the words of `icebox_vlog` ask for, its help among that
 abbrev pub vlog_outcome : List Text → Task

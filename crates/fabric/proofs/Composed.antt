@@ -11,7 +11,7 @@ use Rattle.net_extract.specs.Links.{LinkSet, AreLinks}
 use Rattle.fabric_rules.specs.Cells.{cells_of, sets_of}
 use Rattle.fabric_rules.specs.Rams.{rams_of}
 use Rattle.fabric_rules.specs.Pins.{pins_of, globals_of}
-use Rattle.ice_image.specs.Contents.{word_value}
+use Rattle.ice_image.specs.Bits.{ram_word_of}
 use Rattle.fabric_rules.specs.declared.ram.RamCell.{RamCell}
 use Rattle.fabric_rules.specs.declared.pin.Pin.{Pin}
 use Rattle.fabric_rules.specs.Tiles.{each_below}
@@ -65,11 +65,10 @@ module _ (db : Database) (image : Configuration) where
     unfolding fabric_of
     rams-kept = subst (λ d. All (λ (ram : RamCell). kind_of d ram.x ram.y ≡ Some RamB) rams) same (subst (All (λ ram. kind_of image.layout.device ram.x ram.y ≡ Some RamB)) (sym all) (rams-lower db image))
 
-    pub words-kept : AreWordsOf (fabric_of db image) (flat_map (λ ram. each_below 256 (word_value device image.bram ram.x ram.y)) rams)
+    pub words-kept : AreWordsOf (fabric_of db image) (flat_map (λ ram. each_below 256 (ram_word_of image ram.x ram.y)) rams)
     unfolding fabric_of
     words-kept =
-        subst (λ d. AreWordsOf (fabric_of db image) (flat_map (λ (ram : RamCell). each_below 256 (word_value d image.bram ram.x ram.y)) rams)) same
-        (subst (λ cells. AreWordsOf (fabric_of db image) (flat_map (λ (ram : RamCell). each_below 256 (word_value image.layout.device image.bram ram.x ram.y)) cells)) (sym all) (words-are db image))
+        subst (λ cells. AreWordsOf (fabric_of db image) (flat_map (λ (ram : RamCell). each_below 256 (ram_word_of image ram.x ram.y)) cells)) (sym all) (words-are db image)
 
   -- what is found is a design
   pub designed : IsFit db → (fabric_of db image).nets ≤ 4294967295 → AreTaken db image → fabric_fault db.chip.device (fabric_of db image) ≡ None
@@ -77,7 +76,7 @@ module _ (db : Database) (image : Configuration) where
       → (inputs : List Pin) → inputs ≡ filter (λ pin. not pin.output) parts.pins.items
       → (drivers : DriverSet) → AreDriversOf (fabric_of db image) drivers → (order : List ℕ) → IsWriteOrder (wiring_of (fabric_of db image)) order
       → (ends : List ClockEnd) → AreEndsOf (fabric_of db image) ends
-      → (words : List ℕ) → words ≡ flat_map (λ ram. each_below 256 (word_value device image.bram ram.x ram.y)) parts.rams.items
+      → (words : List ℕ) → words ≡ flat_map (λ ram. each_below 256 (ram_word_of image ram.x ram.y)) parts.rams.items
       → IsDesignOf db image (record { parts = parts; inputs = inputs; drivers = drivers; order = order; ends = ends; words = words })
   designed fit few taken none device same parts are inputs inputs-are drivers drivers-are order ordered ends ends-are words words-read =
       design-of fit few taken (subst (λ d. fabric_fault d (fabric_of db image) ≡ None) taken.device none) _ (record {

@@ -9,7 +9,7 @@ use Rattle.plane_map.specs.declared.tile.TileKind.TheVariants.{RamB}
 use Rattle.chipdb_lines.specs.Statements.{is_kind_there}
 use Rattle.chipdb_reader.specs.Database.{Database}
 use Rattle.ice_image.specs.Configuration.{Configuration}
-use Rattle.ice_image.specs.Contents.{word_value}
+use Rattle.ice_image.specs.Bits.{ram_word_of}
 use Rattle.place_search.specs.Places.{gathered_below}
 use Rattle.place_search.proofs.Places.{gathered_below-same}
 use Rattle.fabric_rules.specs.declared.ram.RamCell.{RamCell}
@@ -77,12 +77,12 @@ module _ (db : Database) (image : Configuration) where
   -- ---- words by their places
 
   abbrev values_of : RamCell → List ℕ
-  values_of ram = each_below 256 (word_value image.layout.device image.bram ram.x ram.y)
+  values_of ram = each_below 256 (ram_word_of image ram.x ram.y)
 
   word-value : (ram : RamCell) (word : ℕ) → word < 256 → get_or (values_of ram) word 0 ≡ word_of (get_or (words_of ram) word [])
   unfolding start_words
   word-value ram word below =
-      each_below-at 256 word (word_value image.layout.device image.bram ram.x ram.y) 0 below
+      each_below-at 256 word (ram_word_of image ram.x ram.y) 0 below
       ∙ sym (ap word_of (each_below-at 256 word (start_word image ram.x ram.y) [] below))
 
   pub words-are : AreWordsOf (fabric_of db image) (flat_map values_of (rams_of db image))

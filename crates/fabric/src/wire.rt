@@ -4,7 +4,7 @@ ghost use Rattle.std.specs.List.{flat_map};
 ghost use Rattle.plane_map.specs.Layout.{kind_of};
 ghost use Rattle.plane_map.specs.declared.tile.TileKind.TheVariants.{RamB};
 ghost use Rattle.ice_image.specs.Either.{configuration_of, device_of};
-ghost use Rattle.ice_image.specs.Contents.{word_value};
+ghost use Rattle.ice_image.specs.Bits.{ram_word_of};
 ghost use Rattle.fabric_rules.specs.Fabric.{Fabric};
 ghost use Rattle.fabric_rules.specs.Tiles.{first_of, each_below};
 ghost use Rattle.fabric_rules.specs.Wiring.{wiring_of, IsWriteOrder};
@@ -67,7 +67,7 @@ pub(crate) fn wire(
     ensures drivers { IfOk result (λ wired. AreDriversOf fabric wired.drivers) }
     ensures order { IfOk result (λ wired. IsWriteOrder (wiring_of fabric) wired.order.items) }
     ensures ends { IfOk result (λ wired. AreEndsOf fabric wired.ends.items) }
-    ensures words { IfOk result (λ wired. wired.words.items ≡ flat_map (λ ram. each_below 256 (word_value (device_of image.now) (configuration_of image.now).bram ram.x ram.y)) parts.now.rams.items) }
+    ensures words { IfOk result (λ wired. wired.words.items ≡ flat_map (λ ram. each_below 256 (ram_word_of (configuration_of image.now) ram.x ram.y)) parts.now.rams.items) }
     ensures taken { OnOk result (fabric_fault db.now.chip.device fabric ≡ None) }
     ensures refused { IfErr result (IsCause db.now.chip.device fabric (fabric_fault db.now.chip.device fabric)) }
 {

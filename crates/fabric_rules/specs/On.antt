@@ -7,7 +7,7 @@ use Rattle.plane_map.specs.declared.tile.TileKind.{TileKind}
 use Rattle.plane_map.specs.declared.tile.RowCol.{RowCol}
 use Rattle.plane_map.specs.declared.tile.Place.{Place}
 use Rattle.ice_image.specs.Configuration.{Configuration, place_bit}
-use Rattle.ice_image.specs.Contents.{listed_bits}
+use Rattle.ice_image.specs.Bits.{listed_bits}
 use Rattle.chipdb_lines.specs.Items.{FunctionLine}
 use Rattle.chipdb_lines.specs.Statements.{is_same_kind}
 use Rattle.chipdb_reader.specs.Database.{Database, Link}
@@ -15,7 +15,7 @@ use Rattle.chipdb_reader.specs.Lookups.{is_function, extra_place}
 
 -- the bits of the tile at (x, y) at these rows and columns
 abbrev pub bits_at : Configuration → ℕ → ℕ → List RowCol → List Bool
-bits_at image x y bits = listed_bits image.layout.device image.cram x y bits
+bits_at image x y bits = listed_bits image x y bits
 
 -- a function is on at a tile where all its bits are 1 there
 unfoldable pub are_set : Configuration → ℕ → ℕ → List RowCol → Bool

@@ -3,8 +3,8 @@ use Rattle.std.specs.Prelude.{ℕ, ◌+◌, ◌*◌, Bool, false, not, ◌||◌,
 use Rattle.bit_plane.specs.BitList.{bit_value}
 use Rattle.bit_plane.specs.Rows.{row_from}
 use Rattle.plane_map.specs.declared.tile.TileKind.TheVariants.{RamB, RamT}
-use Rattle.ice_image.specs.Configuration.{Configuration, place_bit}
-use Rattle.ice_image.specs.Contents.{word_bit_place}
+use Rattle.ice_image.specs.Configuration.{Configuration}
+use Rattle.ice_image.specs.Bits.{word_bit_of}
 use Rattle.chipdb_reader.specs.Database.{Database}
 use Rattle.place_search.specs.Places.{any_below, or_else}
 use Rattle.fabric_rules.specs.declared.ram.RamCell.{RamCell}
@@ -93,7 +93,7 @@ rams_of db image = over_rams db image (λ x y. ram_at db image x y ∷ [])
 
 -- a word that the image gives a RAM: its 16 bits, the lowest first
 abbrev pub start_word : Configuration → ℕ → ℕ → ℕ → List Bool
-start_word image x y word = row_from 16 (λ bit. place_bit image.bram (word_bit_place image.layout.device x y word bit))
+start_word image x y word = row_from 16 (word_bit_of image x y word)
 
 -- its 256 words
 unfoldable pub start_words : Configuration → ℕ → ℕ → List (List Bool)

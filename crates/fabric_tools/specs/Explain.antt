@@ -1,16 +1,18 @@
 -- `icebox_explain`: what the set bits of an image mean.
-use Rattle.std.specs.Prelude.{ℕ, ◌==◌, List, [], ◌∷◌, codes, get_or, option_map, if◌then◌else◌, Option, None, Some, Result, Ok, Err}
+use Rattle.std.specs.Prelude.{ℕ, ◌==◌, Bool, List, [], ◌∷◌, codes, get_or, is_some, option_map, if◌then◌else◌, Option, None, Some, Result, Ok, Err}
 use Rattle.std.specs.List.{before_first, after_first}
 use Rattle.clap.specs.Words.{App, Row, Text, first_of, matches_of}
 use Rattle.text_lines.specs.Words.{number_of}
 use Rattle.asc_text.specs.declared.fault.TileXy.{TileXy}
+use Rattle.layout_file.specs.declared.layouts.Layouts.{Layouts}
 use Rattle.ice_image.specs.Configuration.{Configuration}
 use Rattle.chipdb_reader.specs.Database.{Database}
 use Rattle.tile_bits.specs.declared.fault.ExplainFault.{ExplainFault}
 use Rattle.tile_bits.specs.Explained.{explained, explain_fault_of}
 use Rattle.tool_run.specs.Needs.{text_of}
 use Rattle.tool_run.specs.Tasks.{Answer, Done, Refused, Task, helped, not_taken}
-use Rattle.tool_words.specs.Commands.{command, is_taken, positional, short_option}
+use Rattle.tool_words.specs.Commands.{command, is_taken, long_option, positional, short_option}
+use Rattle.bitstream_tools.specs.Layouts.{answer_under, behind_layout, layouts_for, with_layout}
 use Rattle.bitstream_tools.specs.Pack.{text_limit}
 use Rattle.fabric_tools.specs.declared.request.Request.{Request}
 use Rattle.fabric_tools.specs.declared.request.TheConstants.{ICEBOX_EXPLAIN_HELP}
@@ -38,8 +40,15 @@ explained_of only (Err text) image = Refused text
 explained_of only (Ok database) (Err text) = Refused text
 explained_of only (Ok database) (Ok image) = told database image only
 
-abbrev pub explain_answer : Option TileXy → List (List ℕ) → Answer
-explain_answer only texts = explained_of only (database_read (get_or texts 0 [])) (image_read (get_or texts 1 []))
+-- the same for the bytes of both under layouts
+abbrev pub explained_under : Option TileXy → List ℕ → List ℕ → Layouts → Answer
+explained_under only db image layouts = explained_of only (database_read db) (image_read layouts image)
+
+-- `named` tells whether a layout file was loaded before the others
+abbrev pub explain_answer : Bool → Option TileXy → List (List ℕ) → Answer
+explain_answer named only texts =
+    answer_under (layouts_for named texts)
+    (explained_under only (get_or texts (behind_layout named 0) []) (get_or texts (behind_layout named 1) []))
 
 -- ---- the words
 
@@ -47,10 +56,10 @@ abbrev pub explain_name : List ℕ
 explain_name = codes "icebox_explain"
 
 abbrev pub explain_usage : List ℕ
-explain_usage = codes "icebox_explain [-t \"X Y\"] DB [IMAGE]"
+explain_usage = codes "icebox_explain [-t \"X Y\"] [--layout FILE] DB [IMAGE]"
 
 abbrev pub explain_command : App
-explain_command = command explain_name (short_option (codes "tile") 116 ∷ positional (codes "db") ∷ positional (codes "image") ∷ [])
+explain_command = command explain_name (short_option (codes "tile") 116 ∷ long_option (codes "layout") ∷ positional (codes "db") ∷ positional (codes "image") ∷ [])
 
 -- a tile by two numbers, where both are there
 abbrev pub tile_of : Option ℕ → Option ℕ → Option TileXy
@@ -68,22 +77,22 @@ tile_given (Some text) = option_map Some (tile_in text)
 
 -- ---- the task
 
-abbrev pub read_task : Option TileXy → Text → Option Text → Task
-read_task only db image = record {
+abbrev pub read_task : Option TileXy → Option Text → Text → Option Text → Task
+read_task only layout db image = record {
   speaker = explain_name;
-  needs = record { name = Some db; limit = database_limit } ∷ record { name = image; limit = text_limit } ∷ [];
+  needs = with_layout layout (record { name = Some db; limit = database_limit } ∷ record { name = image; limit = text_limit } ∷ []);
   target = None;
-  answer = explain_answer only;
+  answer = explain_answer (is_some layout) only;
 }
 
 -- there has to be a database
-abbrev pub explain_task_of : Option (Option TileXy) → Option Text → Option Text → Task
-explain_task_of (Some only) (Some db) image = read_task only db image
-explain_task_of (Some only) None image = not_taken explain_name explain_usage
-explain_task_of None db image = not_taken explain_name explain_usage
+abbrev pub explain_task_of : Option (Option TileXy) → Option Text → Option Text → Option Text → Task
+explain_task_of (Some only) layout (Some db) image = read_task only layout db image
+explain_task_of (Some only) layout None image = not_taken explain_name explain_usage
+explain_task_of None layout db image = not_taken explain_name explain_usage
 
 abbrev pub explain_task_by : List Row → Task
-explain_task_by rows = explain_task_of (tile_given (first_of (codes "tile") rows)) (first_of (codes "db") rows) (first_of (codes "image") rows)
+explain_task_by rows = explain_task_of (tile_given (first_of (codes "tile") rows)) (first_of (codes "layout") rows) (first_of (codes "db") rows) (first_of (codes "image") rows)
 
 -- what the words of `icebox_explain` ask for
 unfoldable pub explain_task : List Text → Task
@@ -94,7 +103,7 @@ explain_task words =
 -- the same by the request that was found in the words, where they are taken
 abbrev pub explain_task_for : Option Request → Task
 explain_task_for None = not_taken explain_name explain_usage
-explain_task_for (Some request) = read_task request.only request.db.now (text_of request.image)
+explain_task_for (Some request) = read_task request.only (text_of request.layout) request.db.now (text_of request.image)
 
 -- what the words of `icebox_explain` ask for, its help among that
 abbrev pub explain_outcome : List Text → Task

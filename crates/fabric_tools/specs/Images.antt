@@ -1,5 +1,6 @@
 -- An image, from a bitstream or from a text.
 use Rattle.std.specs.Prelude.{◌≡◌, ℕ, List, [], is_some, if◌then◌else◌, Option, None, Some, Result, Ok, Err}
+use Rattle.layout_file.specs.declared.layouts.Layouts.{Layouts}
 use Rattle.ice_image.specs.Configuration.{Configuration}
 use Rattle.asc_text.specs.Faults.{Fault as TextFault, asc_fault_of}
 use Rattle.asc_text.specs.Meaning.{asc_image_of}
@@ -22,9 +23,11 @@ of_text (Some fault) image = Err (asc_fault_text fault.line fault.tile fault.cau
 of_text None (Some image) = Ok image
 of_text None None = Err []
 
--- An image is a bitstream where the preamble stands in its bytes, and else a text.
-unfoldable pub image_read : List ℕ → Result Configuration (List ℕ)
-image_read bytes = if is_some (preamble_offset bytes) then of_stream (bin_read_of bytes) else of_text (asc_fault_of bytes) (asc_image_of bytes)
+-- An image is a bitstream where the preamble stands in its bytes, and else a text. It is read under layouts.
+unfoldable pub image_read : Layouts → List ℕ → Result Configuration (List ℕ)
+image_read layouts bytes =
+    if is_some (preamble_offset bytes) then of_stream (bin_read_of layouts bytes)
+    else of_text (asc_fault_of layouts bytes) (asc_image_of layouts bytes)
 
 -- where no image is read, its fault is told
 abbrev pub StopsImage : Result Configuration (List ℕ) → Stop → Type 0

@@ -20,22 +20,22 @@ use Rattle.ice_gen.specs.Image.{is_generated, is_tile_bit, is_row_bit, lut_draw,
 use Rattle.ice_gen.specs.Draws.{draw}
 use Rattle.ice_gen.specs.Inside.{FillsRow, IsFilled, turn, word_turn, is_tile_before, is_word_before}
 
--- the bits that count after a step are those before it, but for one bit
+-- the bits that count after a step are those before it, except one bit
 abbrev pub IsStep : DeviceName → Bit → (Bit → Bool) → (Bit → Bool) → Type 0
-IsStep device bit is_done is_next = (other : Bit) → IsBit device other → (other ≡ bit) ⊎ ((other ≢ bit) × (is_next other ≡ is_done other))
+IsStep device bit is_done is_next = (other : Bit) → IsBit (standard_layout device) other → (other ≡ bit) ⊎ ((other ≢ bit) × (is_next other ≡ is_done other))
 
 module _ (device : DeviceName) (seed : ℕ) (is_done is_next : Bit → Bool) where
   -- a bit that is 1 is set
   pub filled-set : (bit : Bit) (before after : Configuration) → IsStep device bit is_done is_next → is_next bit ≡ true → is_generated device seed bit ≡ true → IsSet bit true before after
       → IsFilled device seed is_done before → IsFilled device seed is_next after
   filled-set bit before after step reached one set filled = record {
-    device_is = set.others.device ∙ filled.device_is;
+    layout_is = set.others.layout ∙ filled.layout_is;
     comment = set.others.comment ∙ filled.comment;
     settings = set.others.settings ∙ filled.settings;
     whole = set.others.whole;
     bits = λ other is. elim (step other is) [
       | inl same ↦ ap (bit_of after) same ∙ set.set ∙ sym (ap (λ b. is_next b && is_generated device seed b) same ∙ rw (reached, one) refl)
-      | inr apart ↦ set.others.bits other (let P : DeviceName → Type 0 = λ d. IsBit d other in subst P (sym filled.device_is) is) apart.0 ∙ filled.bits other is ∙ ap (λ b. b && is_generated device seed other) (sym apart.1)
+      | inr apart ↦ set.others.bits other (let P : Layout → Type 0 = λ l. IsBit l other in subst P (sym filled.layout_is) is) apart.0 ∙ filled.bits other is ∙ ap (λ b. b && is_generated device seed other) (sym apart.1)
     ];
   }
 
@@ -43,7 +43,7 @@ module _ (device : DeviceName) (seed : ℕ) (is_done is_next : Bit → Bool) whe
   pub filled-past : (bit : Bit) (image : Configuration) → IsStep device bit is_done is_next → is_generated device seed bit ≡ false
       → IsFilled device seed is_done image → IsFilled device seed is_next image
   filled-past bit image step zero filled = record {
-    device_is = filled.device_is;
+    layout_is = filled.layout_is;
     comment = filled.comment;
     settings = filled.settings;
     whole = filled.whole;
@@ -54,10 +54,10 @@ module _ (device : DeviceName) (seed : ℕ) (is_done is_next : Bit → Bool) whe
   }
 
   -- places without a bit that is 1 are passed over
-  pub filled-same : (image : Configuration) → ((other : Bit) → IsBit device other → (is_done other ≡ is_next other) ⊎ (is_generated device seed other ≡ false))
+  pub filled-same : (image : Configuration) → ((other : Bit) → IsBit (standard_layout device) other → (is_done other ≡ is_next other) ⊎ (is_generated device seed other ≡ false))
       → IsFilled device seed is_done image → IsFilled device seed is_next image
   filled-same image same filled = record {
-    device_is = filled.device_is;
+    layout_is = filled.layout_is;
     comment = filled.comment;
     settings = filled.settings;
     whole = filled.whole;
@@ -97,8 +97,9 @@ unfolding kind_of
 width-most device x y width is = grind (arith, nat_tests)
 
 -- an image without bits has the device's sizes
-blank-whole : (device : DeviceName) → IsWhole (blank_image device)
+blank-whole : (device : DeviceName) → IsWhole (blank_image (standard_layout device))
 blank-whole device = record {
+  layout = standard-is_layout device;
   cram = AreBanks-blank (cram_width device) (cram_height device);
   bram = AreBanks-blank (bram_width device) (bram_height device);
 }
@@ -159,7 +160,7 @@ module _ (device : DeviceName) (seed : ℕ) (image : Configuration) where
       → IsFilled device seed (is_tile_before from) image → IsFilled device seed (is_tile_before to) image
   skip-tiles from to rise zero = filled-same device seed (is_tile_before from) (is_tile_before to) image each
     where
-      each : (other : Bit) → IsBit device other → (is_tile_before from other ≡ is_tile_before to other) ⊎ (is_generated device seed other ≡ false)
+      each : (other : Bit) → IsBit (standard_layout device) other → (is_tile_before from other ≡ is_tile_before to other) ⊎ (is_generated device seed other ≡ false)
       each (OfTile o) is =
           let t : ℕ = turn o.x o.y o.row o.col in
           elim (cases_lt t from) [
@@ -177,7 +178,7 @@ module _ (device : DeviceName) (seed : ℕ) (image : Configuration) where
       → IsFilled device seed (is_word_before from) image → IsFilled device seed (is_word_before to) image
   skip-words from to rise zero = filled-same device seed (is_word_before from) (is_word_before to) image each
     where
-      each : (other : Bit) → IsBit device other → (is_word_before from other ≡ is_word_before to other) ⊎ (is_generated device seed other ≡ false)
+      each : (other : Bit) → IsBit (standard_layout device) other → (is_word_before from other ≡ is_word_before to other) ⊎ (is_generated device seed other ≡ false)
       each (OfWord o) is =
           let t : ℕ = word_turn o.x o.y o.word o.bit in
           elim (cases_lt t from) [
@@ -222,7 +223,7 @@ module _ (device : DeviceName) (seed : ℕ) (image : Configuration) where
   pub skip-tiles-end : (y : ℕ) → y ≡ grid_height device → IsFilled device seed (is_tile_before (turn 0 y 0 0)) image → IsFilled device seed (is_word_before 0) image
   skip-tiles-end y last = filled-same device seed (is_tile_before (turn 0 y 0 0)) (is_word_before 0) image each
     where
-      each : (other : Bit) → IsBit device other → (is_tile_before (turn 0 y 0 0) other ≡ is_word_before 0 other) ⊎ (is_generated device seed other ≡ false)
+      each : (other : Bit) → IsBit (standard_layout device) other → (is_tile_before (turn 0 y 0 0) other ≡ is_word_before 0 other) ⊎ (is_generated device seed other ≡ false)
       each (OfTile o) is =
           let there = in-grid device o is in
           let inside = (columns_at-in device o.x o.y o.col is.col_in).1 in
@@ -260,19 +261,19 @@ module _ (device : DeviceName) (seed : ℕ) (image : Configuration) where
       subst (P bit.x) (sym y_is) across)
 
   -- no bit is set at first
-  pub blank-filled : image ≡ blank_image device → IsFilled device seed (is_tile_before 0) image
+  pub blank-filled : image ≡ blank_image (standard_layout device) → IsFilled device seed (is_tile_before 0) image
   blank-filled is = record {
-    device_is = ap (λ (c : Configuration). c.device) is;
+    layout_is = ap (λ (c : Configuration). c.layout) is;
     comment = ap (λ (c : Configuration). c.comment) is;
     settings = ap (λ (c : Configuration). c.settings) is;
     whole = subst (λ (c : Configuration). IsWhole c) (sym is) (blank-whole device);
     bits = each;
   }
     where
-      each : (bit : Bit) → IsBit device bit → bit_of image bit ≡ (is_tile_before 0 bit && is_generated device seed bit)
-      each (OfTile bit) is_bit = ap (λ c. bit_of c (OfTile bit)) is ∙ bit_of-blank device (OfTile bit) is_bit ∙ ap (λ b. b && is_generated device seed (OfTile bit)) (sym (le-ltb (turn bit.x bit.y bit.row bit.col) 0 (omega arith)))
-      each (OfWord bit) is_bit = ap (λ c. bit_of c (OfWord bit)) is ∙ bit_of-blank device (OfWord bit) is_bit
-      each (Extra at) is_bit = ap (λ c. bit_of c (Extra at)) is ∙ bit_of-blank device (Extra at) is_bit
+      each : (bit : Bit) → IsBit (standard_layout device) bit → bit_of image bit ≡ (is_tile_before 0 bit && is_generated device seed bit)
+      each (OfTile bit) is_bit = ap (λ c. bit_of c (OfTile bit)) is ∙ bit_of-blank (standard_layout device) (OfTile bit) is_bit ∙ ap (λ b. b && is_generated device seed (OfTile bit)) (sym (le-ltb (turn bit.x bit.y bit.row bit.col) 0 (omega arith)))
+      each (OfWord bit) is_bit = ap (λ c. bit_of c (OfWord bit)) is ∙ bit_of-blank (standard_layout device) (OfWord bit) is_bit
+      each (Extra at) is_bit = ap (λ c. bit_of c (Extra at)) is ∙ bit_of-blank (standard_layout device) (Extra at) is_bit
 
 -- ---- on a device by another name
 

@@ -28,16 +28,16 @@ module _ (device : DeviceName) (seed : ℕ) where
       lt-ltb (word_turn bit.x bit.y bit.word bit.bit) (word_turn 0 (grid_height device) 0 0) (omega (arith, is.bit_in, is.word_in, inside, narrow))
 
   -- an image whose extra bits are right too is the generated one
-  generated-from : (before after : Configuration) → after.device ≡ device → after.comment ≡ None → after.settings ≡ usual_settings → IsWhole after
-      → ((bit : Bit) → IsBit device bit → bit_of before bit ≡ (is_filled bit && is_generated device seed bit))
-      → ((bit : Bit) → IsBit device bit → (is_filled bit ≡ true) → bit_of after bit ≡ bit_of before bit)
-      → ((at : Place) → is_extra device at ≡ true → bit_of after (Extra at) ≡ is_generated device seed (Extra at))
+  generated-from : (before after : Configuration) → after.layout ≡ standard_layout device → after.comment ≡ None → after.settings ≡ usual_settings → IsWhole after
+      → ((bit : Bit) → IsBit (standard_layout device) bit → bit_of before bit ≡ (is_filled bit && is_generated device seed bit))
+      → ((bit : Bit) → IsBit (standard_layout device) bit → (is_filled bit ≡ true) → bit_of after bit ≡ bit_of before bit)
+      → ((at : Place) → is_extra (standard_layout device) at ≡ true → bit_of after (Extra at) ≡ is_generated device seed (Extra at))
       → after ≡ generated_image device seed
   unfolding generated_image
-  generated-from before after device_is comment settings whole filled kept extra =
-      image_from-is after device None usual_settings (is_generated device seed) whole device_is comment settings each
+  generated-from before after layout_is comment settings whole filled kept extra =
+      image_from-is after (standard_layout device) None usual_settings (is_generated device seed) whole layout_is comment settings each
     where
-      each : (bit : Bit) → IsBit device bit → bit_of after bit ≡ is_generated device seed bit
+      each : (bit : Bit) → IsBit (standard_layout device) bit → bit_of after bit ≡ is_generated device seed bit
       each (OfTile bit) is = kept (OfTile bit) is refl ∙ filled (OfTile bit) is
       each (OfWord bit) is = kept (OfWord bit) is (word-filled bit is) ∙ filled (OfWord bit) is ∙ ap (λ b. b && is_generated device seed (OfWord bit)) (word-filled bit is)
       each (Extra at) is = extra at is
@@ -45,15 +45,15 @@ module _ (device : DeviceName) (seed : ℕ) where
   -- the bit of the pad is set
   pub generated-set : (at : Place) (before after : Configuration) → at ≡ pad_drive device → IsSet (Extra at) true before after → IsFilled device seed is_filled before → after ≡ generated_image device seed
   generated-set at before after at_is set filled =
-      generated-from before after (set.others.device ∙ filled.device_is) (set.others.comment ∙ filled.comment) (set.others.settings ∙ filled.settings) set.others.whole filled.bits kept extra
+      generated-from before after (set.others.layout ∙ filled.layout_is) (set.others.comment ∙ filled.comment) (set.others.settings ∙ filled.settings) set.others.whole filled.bits kept extra
     where
-      in_before : (bit : Bit) → IsBit device bit → IsBit before.device bit
-      in_before bit is = let P : DeviceName → Type 0 = λ d. IsBit d bit in subst P (sym filled.device_is) is
+      in_before : (bit : Bit) → IsBit (standard_layout device) bit → IsBit before.layout bit
+      in_before bit is = let P : Layout → Type 0 = λ l. IsBit l bit in subst P (sym filled.layout_is) is
 
       apart : (bit : Bit) → is_filled bit ≡ true → bit ≢ Extra at
       apart bit is same = both_ways (is_filled bit) (ap is_filled same) is
 
-      kept : (bit : Bit) → IsBit device bit → is_filled bit ≡ true → bit_of after bit ≡ bit_of before bit
+      kept : (bit : Bit) → IsBit (standard_layout device) bit → is_filled bit ≡ true → bit_of after bit ≡ bit_of before bit
       kept bit is counts = set.others.bits bit (in_before bit is) (apart bit counts)
 
       other_than : (other : Place) → is_same_place other at ≡ false → Extra other ≢ Extra at
@@ -63,7 +63,7 @@ module _ (device : DeviceName) (seed : ℕ) where
           at_place (Extra o) = is_same_place o at
           at_place bit = true
 
-      extra : (other : Place) → is_extra device other ≡ true → bit_of after (Extra other) ≡ is_generated device seed (Extra other)
+      extra : (other : Place) → is_extra (standard_layout device) other ≡ true → bit_of after (Extra other) ≡ is_generated device seed (Extra other)
       extra other is =
           rw (sym at_is) (elim (cases_Bool (is_same_place other at)) [
             | inr apart_from ↦ set.others.bits (Extra other) (in_before (Extra other) is) (other_than other apart_from) ∙ filled.bits (Extra other) is ∙ sym apart_from
@@ -71,12 +71,12 @@ module _ (device : DeviceName) (seed : ℕ) where
           ])
 
   -- or there is no such bit
-  pub generated-unset : (image : Configuration) → is_extra device (pad_drive device) ≡ false → IsFilled device seed is_filled image → image ≡ generated_image device seed
+  pub generated-unset : (image : Configuration) → is_extra (standard_layout device) (pad_drive device) ≡ false → IsFilled device seed is_filled image → image ≡ generated_image device seed
   generated-unset image none filled =
-      generated-from image image filled.device_is filled.comment filled.settings filled.whole filled.bits (λ bit is counts. refl) extra
+      generated-from image image filled.layout_is filled.comment filled.settings filled.whole filled.bits (λ bit is counts. refl) extra
     where
-      extra : (other : Place) → is_extra device other ≡ true → bit_of image (Extra other) ≡ is_generated device seed (Extra other)
+      extra : (other : Place) → is_extra (standard_layout device) other ≡ true → bit_of image (Extra other) ≡ is_generated device seed (Extra other)
       extra other is = filled.bits (Extra other) is ∙ elim (cases_Bool (is_same_place other (pad_drive device))) [
         | inr apart_from ↦ sym apart_from
-        | inl same ↦ absurd (both_ways (is_extra device other) (ap (is_extra device) (is_same_place-same other (pad_drive device) same) ∙ none) is)
+        | inl same ↦ absurd (both_ways (is_extra (standard_layout device) other) (ap (is_extra (standard_layout device)) (is_same_place-same other (pad_drive device) same) ∙ none) is)
       ]

@@ -79,4 +79,4 @@ is_generated device seed (Extra at) = is_same_place at (pad_drive device)
 
 -- the image: no comment, the usual settings, and those bits
 unfoldable pub generated_image : DeviceName → ℕ → Configuration
-generated_image device seed = image_from device None usual_settings (is_generated device seed)
+generated_image device seed = image_from (standard_layout device) None usual_settings (is_generated device seed)

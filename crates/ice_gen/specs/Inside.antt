@@ -46,11 +46,11 @@ is_of_row device net y =
 
 -- an image of which some bits have their values, and all others are 0
 pub record IsFilled (device : DeviceName) (seed : ℕ) (is_done : Bit → Bool) (image : Configuration) : Type 0 where
-  pub device_is : image.layout.device ≡ device
+  pub layout_is : image.layout ≡ standard_layout device
   pub comment : image.comment ≡ None
   pub settings : image.settings ≡ usual_settings
   pub whole : IsWhole image
-  pub bits : (bit : Bit) → IsBit device bit → bit_of image bit ≡ (is_done bit && is_generated device seed bit)
+  pub bits : (bit : Bit) → IsBit (standard_layout device) bit → bit_of image bit ≡ (is_done bit && is_generated device seed bit)
 
 -- the place of a bit of a tile in the order in which they are set
 abbrev pub turn : ℕ → ℕ → ℕ → ℕ → ℕ

@@ -10,7 +10,7 @@ use Rattle.bit_plane.specs.BitList.{word_bits}
 use Rattle.plane_map.specs.declared.device.DeviceName.{DeviceName}
 use Rattle.plane_map.specs.declared.tile.RowCol.{RowCol}
 use Rattle.ice_image.specs.Configuration.{Configuration}
-use Rattle.ice_image.specs.Contents.{listed_bits}
+use Rattle.ice_image.specs.Bits.{listed_bits}
 use Rattle.chipdb_lines.specs.declared.chip.Chip.{Chip}
 use Rattle.chipdb_lines.specs.Kept.{low_bits}
 use Rattle.chipdb_reader.specs.declared.items.LinkLine.{LinkLine}
@@ -63,12 +63,11 @@ pointwise-tells result bits values tells =
     ]
 
 -- bits have the values of a number where they are its lowest bits
-pub values-tell : (image : Configuration) (x y : ℕ) (device : DeviceName) (bits : List RowCol) (values : ℕ) (result : Bool) → device ≡ image.layout.device
-    → IsTrue result ↔ (listed_bits device image.cram x y bits ≡ word_bits (length bits) values)
+pub values-tell : (image : Configuration) (x y : ℕ) (bits : List RowCol) (values : ℕ) (result : Bool) → IsTrue result ↔ (listed_bits image x y bits ≡ word_bits (length bits) values)
     → result ≡ pointwise beq (bits_at image x y bits) (low_bits (length bits) values)
-values-tell image x y device bits values result device_is tells =
-    pointwise-tells result (listed_bits device image.cram x y bits) (word_bits (length bits) values) tells
-    ∙ ap₂ (λ device number. pointwise beq (listed_bits device image.cram x y bits) number) device_is (sym (low_bits-is (length bits) values))
+values-tell image x y bits values result tells =
+    pointwise-tells result (listed_bits image x y bits) (word_bits (length bits) values) tells
+    ∙ ap (pointwise beq (listed_bits image x y bits)) (sym (low_bits-is (length bits) values))
 
 -- ---- one link after the other
 

@@ -26,10 +26,9 @@ pub(crate) struct OnLink {
 /// Whether these bits of the tile at (x, y) have these values: the first one that of the lowest bit.
 fn have_values(image: &AnyImage, x: u8, y: u8, bits: &[RowCol], values: u64) -> bool
     requires few { length bits.now ≤ 64 }
-    requires in_tile { All (IsBitOfTile (configuration_of image.now).layout.device x y) bits.now }
+    requires in_tile { All (IsBitOfTile (configuration_of image.now).layout x y) bits.now }
     ensures { result ≡ pointwise beq (bits_at (configuration_of image.now) x y bits.now) (low_bits (length bits.now) values) }
 {
-    let _device = image.device();
     image.tile_equals(x, y, bits, values)
 }
 

@@ -3,6 +3,7 @@
 
 mod columns;
 mod device;
+mod device_word;
 mod grid;
 mod layout;
 mod place;

@@ -7,7 +7,8 @@ use Rattle.bit_plane.specs.BitList.{word_bits}
 use Rattle.bit_plane.specs.Rows.{Rows}
 use Rattle.plane_map.specs.declared.device.DeviceName.{DeviceName}
 use Rattle.plane_map.specs.declared.tile.RowCol.{RowCol}
-use Rattle.ice_image.specs.Contents.{listed_bits}
+use Rattle.ice_image.specs.Configuration.{Configuration}
+use Rattle.ice_image.specs.Bits.{listed_bits}
 use Rattle.chipdb_lines.specs.Kept.{low_bits}
 use Rattle.tile_bits.specs.declared.item.Active.TheVariants.{Lc}
 
@@ -41,12 +42,11 @@ tested true xs ys is = sym (subst (λ zs. pointwise beq xs zs ≡ true) (is.0 re
 tested false xs ys is = not-alike (pointwise beq xs ys) xs ys refl (λ same. let no : false ≡ true = is.1 same in absurd cc)
 
 -- a link is on where the bits that were read have their values
-pub link-on : (device other : DeviceName) (cram : List Rows) (x y values : ℕ) (bits named : List RowCol) (result : Bool) → device ≡ other → bits ≡ named → (IsTrue result ↔ (listed_bits device cram x y bits ≡ word_bits (length bits) values)) → result ≡ pointwise beq (listed_bits other cram x y named) (low_bits (length named) values)
-link-on device other cram x y values bits named result same_device same_bits is =
-    tested result (listed_bits device cram x y bits) (word_bits (length bits) values) is
-    ∙ ap (λ d. pointwise beq (listed_bits d cram x y bits) (word_bits (length bits) values)) same_device
-    ∙ ap (λ bs. pointwise beq (listed_bits other cram x y bs) (word_bits (length bs) values)) same_bits
-    ∙ ap (pointwise beq (listed_bits other cram x y named)) (sym (low-word (length named) values))
+pub link-on : (image : Configuration) (x y values : ℕ) (bits named : List RowCol) (result : Bool) → bits ≡ named → (IsTrue result ↔ (listed_bits image x y bits ≡ word_bits (length bits) values)) → result ≡ pointwise beq (listed_bits image x y named) (low_bits (length named) values)
+link-on image x y values bits named result same_bits is =
+    tested result (listed_bits image x y bits) (word_bits (length bits) values) is
+    ∙ ap (λ bs. pointwise beq (listed_bits image x y bs) (word_bits (length bs) values)) same_bits
+    ∙ ap (pointwise beq (listed_bits image x y named)) (sym (low-word (length named) values))
 
 -- a cell where a bit is set
 pub cell-set : (test : Bool) (i lut flags picked_lut picked_flags : ℕ) → test ≡ true → lut ≡ picked_lut → flags ≡ picked_flags → Lc i lut flags ∷ [] ≡ (if test then Lc i picked_lut picked_flags ∷ [] else [])

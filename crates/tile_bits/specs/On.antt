@@ -5,8 +5,8 @@ use Rattle.std.specs.List.{list_all, list_any, starts_with}
 use Rattle.std.specs.Cmp.Lexicographic.{pointwise}
 use Rattle.plane_map.specs.declared.tile.RowCol.{RowCol}
 use Rattle.plane_map.specs.declared.tile.TileKind.{TileKind}
-use Rattle.ice_image.specs.Configuration.{Configuration, place_bit}
-use Rattle.ice_image.specs.Contents.{tile_place}
+use Rattle.ice_image.specs.Configuration.{Configuration}
+use Rattle.ice_image.specs.Bits.{tile_bit_of}
 use Rattle.chipdb_lines.specs.Items.{FunctionLine}
 use Rattle.chipdb_lines.specs.Statements.{is_same_kind}
 use Rattle.chipdb_reader.specs.Database.{Link}
@@ -14,7 +14,7 @@ use Rattle.chipdb_reader.specs.Lookups.{is_function}
 
 -- a bit of the tile at (x, y)
 abbrev pub tile_bit : Configuration → ℕ → ℕ → RowCol → Bool
-tile_bit image x y bit = place_bit image.cram (tile_place image.layout.device x y bit.row bit.col)
+tile_bit image x y bit = tile_bit_of image x y bit.row bit.col
 
 -- A function is on at a tile where all its bits are 1 there.
 unfoldable pub is_function_on : Configuration → ℕ → ℕ → FunctionLine → Bool

@@ -19,7 +19,6 @@ pub(crate) fn tile_bit(image: &AnyImage, at: TileAt, bit: RowCol) -> bool
     requires inside { IsBitIn (columns_of at.kind) bit }
     ensures { result ≡ bit_of (configuration_of image.now) at.x at.y bit }
 {
-    let _device = image.device();
     image.tile_bit(TileBit {
         x: at.x,
         y: at.y,
@@ -74,7 +73,6 @@ pub(crate) fn is_link_on(db: &ChipDb, image: &AnyImage, link: LinkLine) -> bool
     requires fit { IsLink db.now.chip (link_line db.now.bits link) }
     ensures { result ≡ is_link_on (configuration_of image.now) (link_line db.now.bits link) }
 {
-    let _device = image.device();
     image.tile_equals(link.x, link.y, db.bits(link.bits), link.values)
 }
 

@@ -18,7 +18,7 @@ use Rattle.chipdb_reader.specs.Fit.{IsFunctionLine, IsBitIn}
 use Rattle.chipdb_reader.specs.Kept.{function_line, function_lines}
 use Rattle.chipdb_reader.specs.Lookups.{function_place, is_function}
 use Rattle.ice_image.specs.Configuration.{Configuration, place_bit}
-use Rattle.ice_image.specs.Contents.{tile_place}
+use Rattle.ice_image.specs.Bits.{tile_bit_of}
 use Rattle.fabric_rules.specs.On.{bits_at}
 use Rattle.tile_lookups.proofs.InOrder.{is_same_kind-is}
 
@@ -113,7 +113,7 @@ all_set-not (false ∷ bits) (suc k) inside clear = refl
 
 -- as many bits as places
 pub length-bits_at : (image : Configuration) (x y : ℕ) (bits : List RowCol) → length (bits_at image x y bits) ≡ length bits
-length-bits_at image x y bits = length-map bits (λ bit. place_bit image.cram (tile_place image.layout.device x y bit.row bit.col))
+length-bits_at image x y bits = length-map bits (λ bit. tile_bit_of image x y bit.row bit.col)
 
 -- ---- tests that pass at some place
 

@@ -20,7 +20,7 @@ use Rattle.fabric.proofs.find.design.Goals as goal
 
 pub wire-requires : goal.wire-requires
 wire-requires c =
-    let same : (configuration_of c.args.image.now).layout.device ≡ device_of c.args.image.now = sym c.device-2.ensures.device ∙ c.device-2.ensures.name in (
+    let same : (configuration_of c.args.image.now).layout.device ≡ device_of c.args.image.now = refl in (
       c.in_ok-parts.ensures.parts,
       rams-kept (database_in c.args.db.now) (configuration_of c.args.image.now) (device_of c.args.image.now) same c.in_ok-parts.parts.rams.items c.in_ok-parts.ensures.parts.rams,
     )
@@ -41,7 +41,7 @@ of-requires c =
       db,
       image,
       designed db image c.in_ok-parts.ensures.fit c.in_ok-wired.ensures.few c.in_ok-parts.ensures.taken c.in_ok-wired.ensures.taken
-          (device_of c.args.image.now) (sym c.device-2.ensures.device ∙ c.device-2.ensures.name) c.in_ok-parts.parts c.in_ok-parts.ensures.parts
+          (device_of c.args.image.now) refl c.in_ok-parts.parts c.in_ok-parts.ensures.parts
           c.in_ok-inputs.inputs.items (c.in_ok-inputs.ensures ∙ ap (filter (λ pin. not pin.output)) c.deref.ensures.value)
           c.in_ok-wired.wired.drivers c.in_ok-wired.ensures.drivers c.in_ok-wired.wired.order.items c.in_ok-wired.ensures.order
           c.in_ok-wired.wired.ends.items c.in_ok-wired.ensures.ends c.in_ok-wired.wired.words.items c.in_ok-wired.ensures.words,
@@ -52,7 +52,7 @@ returns-clause-design c =
     let db = database_in c.args.db.now in
     let image = configuration_of c.args.image.now in
     subst (IsDesignOf db image) (sym c.of.ensures) (designed db image c.in_ok-parts.ensures.fit c.in_ok-wired.ensures.few c.in_ok-parts.ensures.taken c.in_ok-wired.ensures.taken
-    (device_of c.args.image.now) (sym c.device-2.ensures.device ∙ c.device-2.ensures.name) c.in_ok-parts.parts c.in_ok-parts.ensures.parts
+    (device_of c.args.image.now) refl c.in_ok-parts.parts c.in_ok-parts.ensures.parts
     c.in_ok-inputs.inputs.items (c.in_ok-inputs.ensures ∙ ap (filter (λ pin. not pin.output)) c.deref.ensures.value)
     c.in_ok-wired.wired.drivers c.in_ok-wired.ensures.drivers c.in_ok-wired.wired.order.items c.in_ok-wired.ensures.order
     c.in_ok-wired.wired.ends.items c.in_ok-wired.ensures.ends c.in_ok-wired.wired.words.items c.in_ok-wired.ensures.words)

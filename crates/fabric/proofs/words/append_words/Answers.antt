@@ -1,6 +1,6 @@
 use Rattle.std.proofs.Common.{◌≡◌, ◌+◌, ◌++◌, [], ◌∷◌, ℕ, ◌<◌, arith, ap, ◌∙◌}
 use Rattle.ice_image.specs.Either.{configuration_of, device_of}
-use Rattle.ice_image.specs.Contents.{word_value}
+use Rattle.ice_image.specs.Bits.{ram_word_of}
 use Rattle.fabric_rules.specs.Tiles.{each_below}
 use Rattle.tile_lookups.proofs.InOrder.{grown-none, grown-more}
 use Rattle.fabric.proofs.words.append_words.Goals as goal
@@ -10,13 +10,13 @@ loop-word-init c = grown-none _ _
 
 pub loop-word-preserved : goal.loop-word-preserved
 loop-word-preserved c =
-    let value = word_value (device_of c.args.image.now) (configuration_of c.args.image.now).bram c.args.x c.args.y in
+    let value = ram_word_of (configuration_of c.args.image.now) c.args.x c.args.y in
     let pushed = c.in_ok-push.ensures.items in
-    let read = c.ram_word.ensures.place in
+    let read = c.ram_word.ensures.bits in
     grown-more _ _ _ _ _ c.loop-word.invariant (pushed ∙ ap (λ word. c.loop-word.words.items ++ word ∷ []) read)
 
 pub returns : goal.returns
 returns c =
     let all : c.loop-word.word ≡ 256 = omega arith in
-    let value = word_value (device_of c.args.image.now) (configuration_of c.args.image.now).bram c.args.x c.args.y in
+    let value = ram_word_of (configuration_of c.args.image.now) c.args.x c.args.y in
     c.loop-word.invariant ∙ ap (λ n. c.args.words.now.items ++ each_below n value) all

@@ -7,4 +7,5 @@ use Rattle.ice_gen.proofs.whole.image.Goals as goal
 pub fill_tiles-requires-clause-filled : goal.fill_tiles-requires-clause-filled
 fill_tiles-requires-clause-filled c =
     let image = c.in_ok-image.image in
-    blank-filled (device_of image) _ (configuration_of image) (c.in_ok-image.ensures.blank ∙ ap blank_image (sym c.in_ok-image.ensures.device))
+    let device : device_of image ≡ c.args.device = ap (λ (c : Configuration). c.layout.device) c.in_ok-image.ensures in
+    blank-filled (device_of image) _ (configuration_of image) (c.in_ok-image.ensures ∙ ap (λ d. blank_image (standard_layout d)) (sym device))

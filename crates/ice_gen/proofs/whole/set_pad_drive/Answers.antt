@@ -11,7 +11,7 @@ returns-in-Some c =
     let device = device_of c.args.image.now in
     let named : Place = record { bank = c.from.result; px = c.from-2.result; py = c.from-3.result } in
     let named_is : named ≡ c.pad_drive-at.result = λ i. record { bank = c.from.ensures i; px = c.from-2.ensures i; py = c.from-3.ensures i } in
-    let at_is : c.in-Some.at ≡ pad_drive device = c.in-Some.ensures.1 ∙ named_is ∙ c.pad_drive-at.ensures ∙ ap pad_drive c.device.ensures.name in
+    let at_is : c.in-Some.at ≡ pad_drive device = c.in-Some.ensures.1 ∙ named_is ∙ c.pad_drive-at.ensures ∙ ap pad_drive c.device.ensures.device in
     λ seed filled. generated-set device seed c.in-Some.at (configuration_of c.args.image.now) (configuration_of c.set_extra_bit.new.self) at_is c.set_extra_bit.ensures.bits filled
 
 pub returns-in_default : goal.returns-in_default
@@ -19,6 +19,6 @@ returns-in_default c =
     let device = device_of c.args.image.now in
     let named : Place = record { bank = c.from.result; px = c.from-2.result; py = c.from-3.result } in
     let named_is : named ≡ c.pad_drive-at.result = λ i. record { bank = c.from.ensures i; px = c.from-2.ensures i; py = c.from-3.ensures i } in
-    let pad_is : named ≡ pad_drive device = named_is ∙ c.pad_drive-at.ensures ∙ ap pad_drive c.device.ensures.name in
+    let pad_is : named ≡ pad_drive device = named_is ∙ c.pad_drive-at.ensures ∙ ap pad_drive c.device.ensures.device in
     let none : is_extra device (pad_drive device) ≡ false = ap (is_extra device) (sym pad_is) ∙ c.in_default.ensures in
     λ seed filled. generated-unset device seed (configuration_of c.args.image.now) none filled

@@ -5,5 +5,4 @@ use Rattle.net_extract.proofs.on.have_values.Goals as goal
 
 pub returns : goal.returns
 returns c =
-    values-tell (configuration_of c.args.image.now) c.args.x c.args.y _ c.args.bits.now c.args.values c.tile_equals.result
-    (sym c.device-device.ensures.name ∙ c.device-device.ensures.device) c.tile_equals.ensures
+    values-tell (configuration_of c.args.image.now) c.args.x c.args.y c.args.bits.now c.args.values c.tile_equals.result c.tile_equals.ensures

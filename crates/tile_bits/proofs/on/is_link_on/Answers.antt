@@ -7,4 +7,4 @@ use Rattle.tile_bits.proofs.on.is_link_on.Goals as goal
 pub returns : goal.returns
 unfolding is_link_on
 returns c =
-    link-on _ (configuration_of c.args.image.now).layout.device (configuration_of c.args.image.now).cram c.args.link.x c.args.link.y c.args.link.values c.bits.result.now _ c.tile_equals.result (sym c.device-device.ensures.name ∙ c.device-device.ensures.device) c.bits.ensures c.tile_equals.ensures
+    link-on (configuration_of c.args.image.now) c.args.link.x c.args.link.y c.args.link.values c.bits.result.now _ c.tile_equals.result c.bits.ensures c.tile_equals.ensures

@@ -1,7 +1,7 @@
 -- Planes of banks, and the bits at their places.
 use Rattle.std.proofs.Common.{◌≡◌, ◌≢◌, ℕ, ◌<◌, Bool, List, [], length, set, sym, ap, ◌∙◌, subst, inl, inr, arith, length-set, get_or-set_same, get_or-set_other, ◌⊎◌, refl, replicate, ext_get_or, false}
 use Rattle.std.proofs.lemmas.Bool.{cases_eq, cases_lt}
-use Rattle.std.proofs.lemmas.List.{set_past, get_or-replicate}
+use Rattle.std.proofs.lemmas.List.{set_past, get_or_past, get_or-replicate}
 use Rattle.bit_plane.proofs.Grids.{IsGrid-blank, bit_at-blank, same_grids, IsGrid-with_bit, bit_at-with_bit_same, bit_at-with_bit_other}
 use Rattle.bit_plane.specs.Rows.{Rows, IsGrid, bit_at, with_bit, blank}
 use Rattle.plane_map.specs.declared.tile.Place.{Place}
@@ -71,6 +71,14 @@ AreBanks-blank width height = record {
 pub place_bit-blank : (width height : ℕ) (at : Place) → at.bank < 4 → place_bit (replicate 4 (blank width height)) at ≡ false
 place_bit-blank width height at bank =
     ap (λ rows. bit_at rows at.px at.py) (get_or-replicate 4 at.bank (blank width height) [] bank) ∙ bit_at-blank width height at.px at.py
+
+-- nor does a bank past them
+pub place_bit-none : (width height : ℕ) (at : Place) → place_bit (replicate 4 (blank width height)) at ≡ false
+place_bit-none width height at =
+    elim (cases_lt at.bank 4) [
+      | inl within ↦ place_bit-blank width height at within
+      | inr past ↦ ap (λ rows. bit_at rows at.px at.py) (get_or_past (replicate 4 (blank width height)) at.bank [] past)
+    ]
 
 -- planes of one size with the same bits are the same
 pub same_banks : (width height : ℕ) (a b : List Rows) → AreBanks width height a → AreBanks width height b → ((at : Place) → at.bank < 4 → at.px < width → at.py < height → place_bit a at ≡ place_bit b at) → a ≡ b

@@ -4,8 +4,7 @@ use Rattle.std.proofs.lemmas.Bool.{cases_lt}
 use Rattle.std.proofs.lemmas.List.Elements.{Contains-push, Contains-append_left, Contains-push_cases, Contains-get_or}
 use Rattle.std.proofs.lemmas.List.Quantifiers.{all_pairs_push}
 use Rattle.bit_plane.specs.Rows.{Rows}
-use Rattle.plane_map.specs.Layout.{IsInCram, cram_width, cram_height}
-use Rattle.plane_map.specs.declared.device.DeviceName.{DeviceName}
+use Rattle.plane_map.specs.Layout.{Layout, IsInCram, cram_width, cram_height}
 use Rattle.plane_map.specs.declared.tile.Place.{Place}
 use Rattle.ice_image.specs.Extras.{IsBefore, IsSetExtra, AreSetExtras}
 use Rattle.ice_image.specs.Written.{HasExtras, IsExtraAppended}
@@ -91,9 +90,9 @@ bank-end height bank at inside = (
   ],
 )
 
-module _ (device : DeviceName) (cram : List Rows) where
+module _ (layout : Layout) (cram : List Rows) where
   -- nothing is before the first place
-  pub extras-none : HasExtras device cram (place 0 0 0) []
+  pub extras-none : HasExtras layout cram (place 0 0 0) []
   extras-none = record {
     ordered = λ i j d before inside. absurd (omega arith);
     exact = λ at. (
@@ -109,7 +108,7 @@ module _ (device : DeviceName) (cram : List Rows) where
   }
 
   -- another limit with the same places before it
-  extras-moved : (limit next : Place) (places : List Place) → ((at : Place) → IsInCram device at → IsBefore at limit ↔ IsBefore at next) → HasExtras device cram limit places → HasExtras device cram next places
+  extras-moved : (limit next : Place) (places : List Place) → ((at : Place) → IsInCram layout.device at → IsBefore at limit ↔ IsBefore at next) → HasExtras layout cram limit places → HasExtras layout cram next places
   extras-moved limit next places same so_far = record {
     ordered = so_far.ordered;
     exact = λ at. (
@@ -119,13 +118,13 @@ module _ (device : DeviceName) (cram : List Rows) where
   }
 
   -- the next column, where the place is a set extra bit
-  extras-pushed : (bank px py : ℕ) (places : List Place) → HasExtras device cram (place bank px py) places → IsSetExtra device cram (place bank px py) → HasExtras device cram (place bank (px + 1) py) (places ++ place bank px py ∷ [])
+  extras-pushed : (bank px py : ℕ) (places : List Place) → HasExtras layout cram (place bank px py) places → IsSetExtra layout cram (place bank px py) → HasExtras layout cram (place bank (px + 1) py) (places ++ place bank px py ∷ [])
   extras-pushed bank px py places so_far here = record {
     ordered = all_pairs_push IsBefore places (place bank px py) so_far.ordered (λ k d inside. ((so_far.exact (get_or places k d)).0 (Contains-get_or places k d inside)).0);
     exact = λ at. (
       λ h. elim (Contains-push_cases places (place bank px py) at h) [
         | inl earlier ↦ (let k = (so_far.exact at).0 earlier in (before-last bank px py at k.0, k.1))
-        | inr same ↦ subst (λ (at : Place). IsBefore at (place bank (px + 1) py) × IsSetExtra device cram at) same (before-itself bank px py, here)
+        | inr same ↦ subst (λ (at : Place). IsBefore at (place bank (px + 1) py) × IsSetExtra layout cram at) same (before-itself bank px py, here)
       ],
       λ h. elim (before-next bank px py at h.0) [
         | inl earlier ↦ Contains-append_left places (place bank px py ∷ []) at ((so_far.exact at).1 (earlier, h.1))
@@ -135,38 +134,38 @@ module _ (device : DeviceName) (cram : List Rows) where
   }
 
   -- the next column, where the place is none
-  extras-passed : (bank px py : ℕ) (places : List Place) → HasExtras device cram (place bank px py) places → ¬ IsSetExtra device cram (place bank px py) → HasExtras device cram (place bank (px + 1) py) places
+  extras-passed : (bank px py : ℕ) (places : List Place) → HasExtras layout cram (place bank px py) places → ¬ IsSetExtra layout cram (place bank px py) → HasExtras layout cram (place bank (px + 1) py) places
   extras-passed bank px py places so_far none = record {
     ordered = so_far.ordered;
     exact = λ at. (
       λ h. let k = (so_far.exact at).0 h in (before-last bank px py at k.0, k.1),
       λ h. elim (before-next bank px py at h.0) [
         | inl earlier ↦ (so_far.exact at).1 (earlier, h.1)
-        | inr same ↦ absurd (none (subst (IsSetExtra device cram) same h.1))
+        | inr same ↦ absurd (none (subst (IsSetExtra layout cram) same h.1))
       ],
     );
   }
 
   -- the next column
-  pub extras-more : (bank px py : ℕ) (before after : List Place) → HasExtras device cram (place bank px py) before → IsExtraAppended device cram (place bank px py) before after → HasExtras device cram (place bank (px + 1) py) after
+  pub extras-more : (bank px py : ℕ) (before after : List Place) → HasExtras layout cram (place bank px py) before → IsExtraAppended layout cram (place bank px py) before after → HasExtras layout cram (place bank (px + 1) py) after
   extras-more bank px py before after so_far added =
       elim added [
-        | inl h ↦ subst (HasExtras device cram (place bank (px + 1) py)) (sym h.1) (extras-pushed bank px py before so_far h.0)
-        | inr h ↦ subst (HasExtras device cram (place bank (px + 1) py)) (sym h.1) (extras-passed bank px py before so_far h.0)
+        | inl h ↦ subst (HasExtras layout cram (place bank (px + 1) py)) (sym h.1) (extras-pushed bank px py before so_far h.0)
+        | inr h ↦ subst (HasExtras layout cram (place bank (px + 1) py)) (sym h.1) (extras-passed bank px py before so_far h.0)
       ]
 
   -- the next row
-  pub extras-row : (bank px py : ℕ) (places : List Place) → px ≡ cram_width device → HasExtras device cram (place bank px py) places → HasExtras device cram (place bank 0 (py + 1)) places
+  pub extras-row : (bank px py : ℕ) (places : List Place) → px ≡ cram_width layout.device → HasExtras layout cram (place bank px py) places → HasExtras layout cram (place bank 0 (py + 1)) places
   extras-row bank px py places last so_far =
       extras-moved (place bank px py) (place bank 0 (py + 1)) places (λ at inside. row-end px bank py at (omega (arith, inside.px_in))) so_far
 
   -- the next bank
-  pub extras-bank : (bank py : ℕ) (places : List Place) → py ≡ cram_height device → HasExtras device cram (place bank 0 py) places → HasExtras device cram (place (bank + 1) 0 0) places
+  pub extras-bank : (bank py : ℕ) (places : List Place) → py ≡ cram_height layout.device → HasExtras layout cram (place bank 0 py) places → HasExtras layout cram (place (bank + 1) 0 0) places
   extras-bank bank py places last so_far =
       extras-moved (place bank 0 py) (place (bank + 1) 0 0) places (λ at inside. bank-end py bank at (omega (arith, inside.py_in))) so_far
 
   -- all banks
-  pub extras-all : (bank : ℕ) (places : List Place) → bank ≡ 4 → HasExtras device cram (place bank 0 0) places → AreSetExtras device cram places
+  pub extras-all : (bank : ℕ) (places : List Place) → bank ≡ 4 → HasExtras layout cram (place bank 0 0) places → AreSetExtras layout cram places
   extras-all bank places last so_far = record {
     ordered = so_far.ordered;
     exact = λ at. (λ h. ((so_far.exact at).0 h).1, λ h. (so_far.exact at).1 (inl (let low : at.bank < bank = omega (arith, h.inside.bank_in) in low), h));

@@ -1,17 +1,19 @@
 -- The bits of tiles and of words lie in the planes.
-use Rattle.std.proofs.Common.{ℕ, ◌+◌, ◌-◌, ◌*◌, ◌<◌, ◌≤◌, refl, arith}
+use Rattle.std.proofs.Common.{ℕ, ◌+◌, ◌*◌, ◌<◌, arith}
 use Rattle.std.proofs.lemmas.Bool.Decides.{nat_tests}
-use Rattle.plane_map.specs.Layout.{place_of, word_place_of, px_of, bank_of, ram_of, from_end, grid_height, cram_height, bram_width, IsTileBit, IsWordBit, IsInCram, IsInBram}
+use Rattle.plane_map.specs.Layout.{Layout, IsLayout, place_of, word_place_of, bank_of, is_top, is_right, from_end, grid_height, cram_height, IsTileBit, IsWordBit, IsInCram, IsInBram}
 use Rattle.plane_map.specs.declared.device.DeviceName.{DeviceName}
 use Rattle.plane_map.specs.declared.device.DeviceName.TheVariants.{K1, K8}
 use Rattle.plane_map.specs.declared.tile.TileBit.{TileBit}
 use Rattle.plane_map.specs.declared.tile.WordBit.{WordBit}
-use Rattle.plane_map.proofs.Places.{px_of-in, py_of-is, height_of, height_of-below, tile_bit_is_placed, tile_bit_y_in}
-use Rattle.plane_map.proofs.Words.{lower-third}
+use Rattle.plane_map.proofs.Layouts.{are_banks, start_of-half}
+use Rattle.plane_map.proofs.Offsets.{entry-below, quarter-below}
+use Rattle.plane_map.proofs.Places.{px_of-before, py_of-is, height_of, height_of-below, tile_bit_is_placed, tile_bit_y_in}
+use Rattle.plane_map.proofs.Words.{ram_of_below}
 
 -- there are four banks
-bank_below : (device : DeviceName) (x y : ℕ) → bank_of device x y < 4
-bank_below device x y = grind (arith, nat_tests)
+bank_below : (layout : Layout) → IsLayout layout → (x y : ℕ) → bank_of layout x y < 4
+bank_below layout sound x y = entry-below layout.banks 4 4 (are_banks layout sound) _ (quarter-below (is_top layout.device y) (is_right layout.device x))
 
 -- a row of tiles lies in the planes
 row_below : (device : DeviceName) (y height : ℕ) → y < grid_height device → height < 16 → 16 * from_end device y + height < cram_height device
@@ -19,26 +21,21 @@ row_below K1 y height inside within = grind (arith, nat_tests)
 row_below K8 y height inside within = grind (arith, nat_tests)
 
 -- a bit of a tile lies in the planes
-pub tile_in : (device : DeviceName) (bit : TileBit) → IsTileBit device bit → IsInCram device (place_of device bit)
+pub tile_in : (layout : Layout) → IsLayout layout → (bit : TileBit) → IsTileBit layout.device bit → IsInCram layout.device (place_of layout bit)
 unfolding place_of
-tile_in device bit is =
-    let placed = tile_bit_is_placed device bit is in
+tile_in layout sound bit is =
+    let placed = tile_bit_is_placed layout sound bit is in
     record {
-      bank_in = bank_below device bit.x bit.y;
-      px_in = px_of-in device bit is (px_of device bit) refl;
-      py_in = omega (arith, py_of-is device bit placed, row_below device bit.y (height_of device bit) (tile_bit_y_in device bit is) (height_of-below device bit placed));
+      bank_in = bank_below layout sound bit.x bit.y;
+      px_in = omega (arith, px_of-before layout sound bit placed, start_of-half layout sound);
+      py_in = omega (arith, py_of-is layout sound bit placed, row_below layout.device bit.y (height_of layout bit) (tile_bit_y_in layout sound bit is) (height_of-below layout bit placed));
     }
 
--- so does a RAM
-ram_below : (device : DeviceName) (y bit : ℕ) → y + 3 ≤ grid_height device → 16 * ram_of device y + 15 - bit < bram_width device
-ram_below K1 y bit inside = grind (arith, nat_tests)
-ram_below K8 y bit inside = grind (arith, nat_tests)
-
--- and a bit of a word
-pub word_in : (device : DeviceName) (at : WordBit) → IsWordBit device at → IsInBram device (word_place_of device at)
+-- so does a bit of a word
+pub word_in : (layout : Layout) → IsLayout layout → (at : WordBit) → IsWordBit layout.device at → IsInBram layout.device (word_place_of layout at)
 unfolding word_place_of
-word_in device at is = record {
-  bank_in = bank_below device at.x at.y;
-  px_in = ram_below device at.y at.bit (lower-third device at.x at.y is.lower);
+word_in layout sound at is = record {
+  bank_in = bank_below layout sound at.x at.y;
+  px_in = omega (arith, ram_of_below layout at.x at.y is.lower, is.bit_in);
   py_in = omega (arith, is.word_in);
 }

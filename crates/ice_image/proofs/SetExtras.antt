@@ -47,7 +47,7 @@ and_true a b is is_not = rw (is, is_not) refl
 module _ (image : Configuration) where
   -- whether a bit is set and no tile's
   abbrev is_set_extra : Place → Bool
-  is_set_extra at = place_bit image.cram at && not (is_owned image.device at)
+  is_set_extra at = place_bit image.cram at && not (is_owned image.layout at)
 
   -- a place where its bit is so
   abbrev extra_at : Place → List Place
@@ -55,10 +55,10 @@ module _ (image : Configuration) where
 
   -- those of a row, of a bank, and all
   abbrev extras_of_row : ℕ → ℕ → List Place
-  extras_of_row bank py = gathered_below (cram_width image.device) (λ px. extra_at (place bank px py))
+  extras_of_row bank py = gathered_below (cram_width image.layout.device) (λ px. extra_at (place bank px py))
 
   abbrev extras_of_bank : ℕ → List Place
-  extras_of_bank bank = gathered_below (cram_height image.device) (λ py. extras_of_row bank py)
+  extras_of_bank bank = gathered_below (cram_height image.layout.device) (λ py. extras_of_row bank py)
 
   abbrev all_extras : List Place
   all_extras = gathered_below 4 extras_of_bank
@@ -69,9 +69,9 @@ module _ (image : Configuration) where
   at_test true here at is = (refl, let e : is.0 ≡ 0 = omega (arith, is.1) in subst (λ (k : ℕ). get_or (here ∷ []) k at ≡ at) e is.2)
   at_test false here at is = absurd (omega (arith, is.1))
 
-  in_row : (bank py : ℕ) (at : Place) → Contains (extras_of_row bank py) at → (at.px < cram_width image.device) × (place bank at.px py ≡ at) × (is_set_extra at ≡ true)
+  in_row : (bank py : ℕ) (at : Place) → Contains (extras_of_row bank py) at → (at.px < cram_width image.layout.device) × (place bank at.px py ≡ at) × (is_set_extra at ≡ true)
   in_row bank py at is =
-      let found = gathered-place (cram_width image.device) (λ px. extra_at (place bank px py)) at is in
+      let found = gathered-place (cram_width image.layout.device) (λ px. extra_at (place bank px py)) at is in
       let test = at_test (is_set_extra (place bank found.0 py)) (place bank found.0 py) at found.2 in
       let column : found.0 ≡ at.px = ap (λ (at : Place). at.px) test.1 in (
         omega (arith, found.1, column),
@@ -79,39 +79,39 @@ module _ (image : Configuration) where
         ap is_set_extra (sym test.1) ∙ test.0,
       )
 
-  in_bank : (bank : ℕ) (at : Place) → Contains (extras_of_bank bank) at → (at.py < cram_height image.device) × (at.px < cram_width image.device) × (bank ≡ at.bank) × (is_set_extra at ≡ true)
+  in_bank : (bank : ℕ) (at : Place) → Contains (extras_of_bank bank) at → (at.py < cram_height image.layout.device) × (at.px < cram_width image.layout.device) × (bank ≡ at.bank) × (is_set_extra at ≡ true)
   in_bank bank at is =
-      let found = gathered-place (cram_height image.device) (λ py. extras_of_row bank py) at is in
+      let found = gathered-place (cram_height image.layout.device) (λ py. extras_of_row bank py) at is in
       let row = in_row bank found.0 at found.2 in
       let py : found.0 ≡ at.py = ap (λ (at : Place). at.py) row.1 in
       (omega (arith, found.1, py), row.0, ap (λ (at : Place). at.bank) row.1, row.2)
 
   -- each of them is a set bit that is no tile's
-  in_all : (at : Place) → Contains all_extras at → IsSetExtra image.device image.cram at
+  in_all : (at : Place) → Contains all_extras at → IsSetExtra image.layout image.cram at
   in_all at is =
       let found = gathered-place 4 extras_of_bank at is in
       let bank = in_bank found.0 at found.2 in
-      let test = and_parts (place_bit image.cram at) (not (is_owned image.device at)) bank.3 in
+      let test = and_parts (place_bit image.cram at) (not (is_owned image.layout at)) bank.3 in
       record {
         inside = record { bank_in = omega (arith, found.1, bank.2); px_in = bank.1; py_in = bank.0 };
         is_set = test.0;
-        extra = extra-is_owned image.device at (from_not (is_owned image.device at) test.1);
+        extra = extra-is_owned image.layout at (from_not (is_owned image.layout at) test.1);
       }
 
   -- each such bit is among them
-  to_all : (at : Place) → IsSetExtra image.device image.cram at → Contains all_extras at
+  to_all : (at : Place) → IsSetExtra image.layout image.cram at → Contains all_extras at
   to_all at is =
-      let test : is_set_extra at ≡ true = and_true (place_bit image.cram at) (is_owned image.device at) is.is_set (is_owned-extra image.device at is.extra) in
+      let test : is_set_extra at ≡ true = and_true (place_bit image.cram at) (is_owned image.layout at) is.is_set (is_owned-extra image.layout at is.extra) in
       let alone : Contains (extra_at at) at = subst (λ (test : Bool). Contains (if test then at ∷ [] else []) at) (sym test) (0, omega arith, refl) in
       gathered-at 4 at.bank extras_of_bank at is.inside.bank_in
-      (gathered-at (cram_height image.device) at.py (λ py. extras_of_row at.bank py) at is.inside.py_in
-      (gathered-at (cram_width image.device) at.px (λ px. extra_at (place at.bank px at.py)) at is.inside.px_in alone))
+      (gathered-at (cram_height image.layout.device) at.py (λ py. extras_of_row at.bank py) at is.inside.py_in
+      (gathered-at (cram_width image.layout.device) at.px (λ px. extra_at (place at.bank px at.py)) at is.inside.px_in alone))
 
   -- ---- order
 
   row_ordered : (bank py : ℕ) → AllPairs IsBefore (extras_of_row bank py)
   row_ordered bank py =
-      ordered-gathered IsBefore (cram_width image.device) (λ px. extra_at (place bank px py)) (λ px below. alone_ordered (is_set_extra (place bank px py)) (place bank px py)) (λ j k a b before below is_a is_b.
+      ordered-gathered IsBefore (cram_width image.layout.device) (λ px. extra_at (place bank px py)) (λ px below. alone_ordered (is_set_extra (place bank px py)) (place bank px py)) (λ j k a b before below is_a is_b.
       let left = (at_test (is_set_extra (place bank j py)) (place bank j py) a is_a).1 in
       let right = (at_test (is_set_extra (place bank k py)) (place bank k py) b is_b).1 in
       let here : IsBefore (place bank j py) (place bank k py) = inr (refl, inr (refl, before)) in
@@ -119,7 +119,7 @@ module _ (image : Configuration) where
 
   bank_ordered : (bank : ℕ) → AllPairs IsBefore (extras_of_bank bank)
   bank_ordered bank =
-      ordered-gathered IsBefore (cram_height image.device) (λ py. extras_of_row bank py) (λ py below. row_ordered bank py) (λ j k a b before below is_a is_b.
+      ordered-gathered IsBefore (cram_height image.layout.device) (λ py. extras_of_row bank py) (λ py below. row_ordered bank py) (λ j k a b before below is_a is_b.
       let left = (in_row bank j a is_a).1 in
       let right = (in_row bank k b is_b).1 in
       let here : IsBefore (place bank a.px j) (place bank b.px k) = inr (refl, inl before) in
@@ -133,21 +133,21 @@ module _ (image : Configuration) where
       inl (let low : a.bank < b.bank = omega (arith, before, left, right) in low))
 
   -- a list that has these bits in order is that of the definition
-  pub set_extras-is : (places : List Place) → AreSetExtras image.device image.cram places → places ≡ set_extras image
+  pub set_extras-is : (places : List Place) → AreSetExtras image.layout image.cram places → places ≡ set_extras image
   unfolding set_extras
   set_extras-is places are =
       ordered-same IsBefore before-strict places all_extras are.ordered all_ordered (λ at is. to_all at ((are.exact at).0 is)) (λ at is. (are.exact at).1 (in_all at is))
 
   -- it has only set extra bits
-  pub set_extras-in : (at : Place) → Contains (set_extras image) at → (is_extra image.device at ≡ true) × (bit_of image (Extra at) ≡ true)
+  pub set_extras-in : (at : Place) → Contains (set_extras image) at → (is_extra image.layout at ≡ true) × (bit_of image (Extra at) ≡ true)
   unfolding set_extras
   set_extras-in at is =
       let found = in_all at is in
-      (extra_from image.device at found.inside (is_owned-extra image.device at found.extra), found.is_set)
+      (extra_from image.layout at found.inside (is_owned-extra image.layout at found.extra), found.is_set)
 
   -- and each of them
-  pub set_extras-at : (at : Place) → is_extra image.device at ≡ true → bit_of image (Extra at) ≡ true → Contains (set_extras image) at
+  pub set_extras-at : (at : Place) → is_extra image.layout at ≡ true → bit_of image (Extra at) ≡ true → Contains (set_extras image) at
   unfolding set_extras
   set_extras-at at extra is_set =
-      let facts = extra_in image.device at extra in
-      to_all at (record { inside = facts.0; is_set = is_set; extra = extra-is_owned image.device at facts.1 })
+      let facts = extra_in image.layout at extra in
+      to_all at (record { inside = facts.0; is_set = is_set; extra = extra-is_owned image.layout at facts.1 })

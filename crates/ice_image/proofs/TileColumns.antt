@@ -1,8 +1,7 @@
 -- How many columns tiles have, and that their bits lie apart.
-use Rattle.std.proofs.Common.{◌≡◌, ◌≢◌, ℕ, ◌<◌, ◌≤◌, ap, ◌∙◌, arith, Option, Some, None}
+use Rattle.std.proofs.Common.{◌≡◌, ◌≢◌, ℕ, ◌<◌, ◌≤◌, ap, ◌∙◌, sym, arith, Option, Some, None}
 use Rattle.plane_map.proofs.Places.{place_is_only}
-use Rattle.plane_map.proofs.Words.{word_place_is_only}
-use Rattle.plane_map.specs.Layout.{kind_of, columns_in, columns_at}
+use Rattle.plane_map.specs.Layout.{Layout, IsLayout, IsTileBit, IsWordBit, kind_of, columns_in, columns_at, place_of, word_place_of}
 use Rattle.plane_map.specs.declared.device.DeviceName.{DeviceName}
 use Rattle.plane_map.specs.declared.tile.TileKind.{TileKind}
 use Rattle.plane_map.specs.declared.tile.TileKind.TheVariants.{Io, Logic, RamB, RamT}
@@ -23,24 +22,29 @@ pub columns_at-le : (device : DeviceName) (x y : ℕ) → columns_at device x y 
 columns_at-le device x y = columns_in-le (kind_of device x y)
 
 -- two bits of one tile lie apart
-pub tile_place-same : (device : DeviceName) (x y row col row' col' : ℕ) → row < 16 → col < columns_at device x y → row' < 16 → col' < columns_at device x y → tile_place device x y row col ≡ tile_place device x y row' col' → (row ≡ row') × (col ≡ col')
-tile_place-same device x y row col row' col' row_in col_in row_in' col_in' same =
+pub tile_place-same : (layout : Layout) → IsLayout layout → (x y row col row' col' : ℕ) → row < 16 → col < columns_at layout.device x y → row' < 16 → col' < columns_at layout.device x y → tile_place layout x y row col ≡ tile_place layout x y row' col' → (row ≡ row') × (col ≡ col')
+tile_place-same layout sound x y row col row' col' row_in col_in row_in' col_in' same =
     let a : TileBit = record { x = x; y = y; row = row; col = col } in
     let b : TileBit = record { x = x; y = y; row = row'; col = col' } in
-    let e : a ≡ b = place_is_only device b a (record { row_in = row_in'; col_in = col_in' }) (record { row_in = row_in; col_in = col_in }) same in
+    let e : a ≡ b = place_is_only layout sound b a (record { row_in = row_in'; col_in = col_in' }) (record { row_in = row_in; col_in = col_in }) same in
     (ap (λ (bit : TileBit). bit.row) e, ap (λ (bit : TileBit). bit.col) e)
 
--- the columns before one lie apart from it
-pub tile_place-apart : (device : DeviceName) (x y row col : ℕ) (at : Place) → row < 16 → col < columns_at device x y → at ≡ tile_place device x y row col → (k : ℕ) → k < col → tile_place device x y row k ≢ at
-tile_place-apart device x y row col at inside column at_is k before same =
-    let e = tile_place-same device x y row k row col inside (omega arith) inside column (same ∙ at_is) in
-    absurd (omega (arith, e.1))
+-- where one bit alone lies at a place, the columns before it lie apart from it
+pub tile_place-apart : (layout : Layout) (x y row col : ℕ) (at : Place) → row < 16 → col < columns_at layout.device x y
+    → ((other : TileBit) → IsTileBit layout.device other → place_of layout other ≡ at → other ≡ record { x = x; y = y; row = row; col = col })
+    → (k : ℕ) → k < col → tile_place layout x y row k ≢ at
+tile_place-apart layout x y row col at inside column only k before same =
+    let other : TileBit = record { x = x; y = y; row = row; col = k } in
+    let e = only other (record { row_in = inside; col_in = (let small : k < columns_at layout.device x y = omega arith in small) }) same in
+    let columns : k ≡ col = ap (λ (bit : TileBit). bit.col) e in
+    absurd (omega (arith, columns))
 
--- the bits of a word before one lie apart from it
-pub word_bit_place-apart : (device : DeviceName) (x y word bit : ℕ) (at : Place) → kind_of device x y ≡ Some RamB → word < 256 → bit < 16 → at ≡ word_bit_place device x y word bit → (k : ℕ) → k < bit → word_bit_place device x y word k ≢ at
-word_bit_place-apart device x y word bit at lower word_in bit_in at_is k before same =
-    let a : WordBit = record { x = x; y = y; word = word; bit = k } in
-    let b : WordBit = record { x = x; y = y; word = word; bit = bit } in
-    let e : a ≡ b = word_place_is_only device b a (record { lower = lower; word_in = word_in; bit_in = bit_in }) (record { lower = lower; word_in = word_in; bit_in = (let small : k < 16 = omega arith in small) }) (same ∙ at_is) in
+-- so do the bits of a word
+pub word_bit_place-apart : (layout : Layout) (x y word bit : ℕ) (at : Place) → kind_of layout.device x y ≡ Some RamB → word < 256 → bit < 16
+    → ((other : WordBit) → IsWordBit layout.device other → word_place_of layout other ≡ at → other ≡ record { x = x; y = y; word = word; bit = bit })
+    → (k : ℕ) → k < bit → word_bit_place layout x y word k ≢ at
+word_bit_place-apart layout x y word bit at lower word_in bit_in only k before same =
+    let other : WordBit = record { x = x; y = y; word = word; bit = k } in
+    let e = only other (record { lower = lower; word_in = word_in; bit_in = (let small : k < 16 = omega arith in small) }) same in
     let bits : k ≡ bit = ap (λ (bit : WordBit). bit.bit) e in
     absurd (omega (arith, bits))

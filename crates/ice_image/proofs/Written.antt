@@ -5,8 +5,7 @@ use Rattle.std.proofs.lemmas.Nat.Bits.{shr_and_one}
 use Rattle.bit_plane.proofs.Words.{get_or-word_bits, word_bits-word_of}
 use Rattle.bit_plane.specs.BitList.{word_bits, word_of}
 use Rattle.bit_plane.specs.Rows.{Rows, IsGrid, row_at, bit_at, rows_from}
-use Rattle.plane_map.specs.Layout.{columns_at}
-use Rattle.plane_map.specs.declared.device.DeviceName.{DeviceName}
+use Rattle.plane_map.specs.Layout.{Layout, IsLayout, columns_at}
 use Rattle.plane_map.specs.declared.tile.Place.{Place}
 use Rattle.ice_image.specs.Configuration.{place_bit, with_place_bit, SameBut, AreBanks}
 use Rattle.ice_image.specs.Contents.{tile_place, tile_rows, IsPlaceOfTile, word_bit_place, word_value, IsPlaceOfWord}
@@ -48,9 +47,9 @@ word-more width height places count word n before now after at so_far bank colum
 
 -- ---- rows of a tile
 
-module _ (device : DeviceName) (x y width : ℕ) (tile : Rows) (wide : columns_at device x y ≡ width) where
+module _ (layout : Layout) (sound : IsLayout layout) (x y width : ℕ) (tile : Rows) (wide : columns_at layout.device x y ≡ width) where
   -- no row yet
-  pub rows_written-none : (planes : List Rows) → AreRowsWritten device x y width tile 0 planes planes
+  pub rows_written-none : (planes : List Rows) → AreRowsWritten layout x y width tile 0 planes planes
   rows_written-none planes = record {
     written = λ row col before column. absurd (omega arith);
     others = λ at apart. refl;
@@ -58,18 +57,18 @@ module _ (device : DeviceName) (x y width : ℕ) (tile : Rows) (wide : columns_a
   }
 
   -- one row more
-  pub rows_written-more : (r word : ℕ) (before now after : List Rows) → r < 16 → AreRowsWritten device x y width tile r before now → IsWritten (tile_place device x y r) (bit_of_word width word) width now after → word ≡ word_of (row_at tile r) → IsGrid width 16 tile → AreRowsWritten device x y width tile (r + 1) before after
+  pub rows_written-more : (r word : ℕ) (before now after : List Rows) → r < 16 → AreRowsWritten layout x y width tile r before now → IsWritten (tile_place layout x y r) (bit_of_word width word) width now after → word ≡ word_of (row_at tile r) → IsGrid width 16 tile → AreRowsWritten layout x y width tile (r + 1) before after
   rows_written-more r word before now after inside so_far row_written word_is grid =
       let bits : word_bits width word ≡ row_at tile r = ap (word_bits width) word_is ∙ ap (λ n. word_bits n (word_of (row_at tile r))) (sym (grid.width_is r inside)) ∙ word_bits-word_of (row_at tile r) in
       record {
         written = λ row col before_next column. elim (cases_lt row r) [
           | inl earlier ↦
-              row_written.others (tile_place device x y row col) (λ h.
-              let same = tile_place-same device x y r h.0 row col inside (omega (arith, h.1, wide)) (omega arith) (omega (arith, wide)) h.2 in
+              row_written.others (tile_place layout x y row col) (λ h.
+              let same = tile_place-same layout sound x y r h.0 row col inside (omega (arith, h.1, wide)) (omega arith) (omega (arith, wide)) h.2 in
               absurd (omega (arith, same.0))) ∙ so_far.written row col earlier column
           | inr last ↦
               let e : r ≡ row = omega arith in
-              subst (λ (row : ℕ). place_bit after (tile_place device x y row col) ≡ bit_at tile col row) e (row_written.written col column ∙ ap (λ bits. get_or bits col false) bits)
+              subst (λ (row : ℕ). place_bit after (tile_place layout x y row col) ≡ bit_at tile col row) e (row_written.written col column ∙ ap (λ bits. get_or bits col false) bits)
         ];
         others = λ at apart.
             row_written.others at (λ h. apart (r, h.0, (let next : r < r + 1 = omega arith in next), h.1, h.2)) ∙ so_far.others at (λ h. apart (h.0, h.1, (let next : h.0 < r + 1 = omega (arith, h.2) in next), h.3, h.4));
@@ -77,15 +76,15 @@ module _ (device : DeviceName) (x y width : ℕ) (tile : Rows) (wide : columns_a
       }
 
   -- all rows
-  pub rows_written-all : (r : ℕ) (before after : List Rows) → r ≡ 16 → AreRowsWritten device x y width tile r before after → (tile_rows device after x y ≡ tile) × SameBut (IsPlaceOfTile device x y) before after
+  pub rows_written-all : (r : ℕ) (before after : List Rows) → r ≡ 16 → AreRowsWritten layout x y width tile r before after → (tile_rows layout after x y ≡ tile) × SameBut (IsPlaceOfTile layout x y) before after
   rows_written-all r before after last whole =
-      let bit : ℕ → ℕ → Bool = λ col row. place_bit after (tile_place device x y row col) in
-      (ap (λ width. rows_from width 16 bit) wide ∙ rows_from-is width 16 bit tile (whole.shape (omega arith)) (λ col row column within. whole.written row col (omega arith) column), λ at apart. whole.others at (λ h. apart (h.0, h.1, (let within : h.0 < 16 = omega (arith, h.2) in within), (let column : h.1 < columns_at device x y = omega (arith, h.3, wide) in column), h.4)))
+      let bit : ℕ → ℕ → Bool = λ col row. place_bit after (tile_place layout x y row col) in
+      (ap (λ width. rows_from width 16 bit) wide ∙ rows_from-is width 16 bit tile (whole.shape (omega arith)) (λ col row column within. whole.written row col (omega arith) column), λ at apart. whole.others at (λ h. apart (h.0, h.1, (let within : h.0 < 16 = omega (arith, h.2) in within), (let column : h.1 < columns_at layout.device x y = omega (arith, h.3, wide) in column), h.4)))
 
 -- ---- the word of a RAM
 
 -- all bits
-pub word-all : (device : DeviceName) (x y word value n : ℕ) (before after : List Rows) → n ≡ 16 → value < 2 ^ 16 → IsWritten (word_bit_place device x y word) (bit_of_word 16 value) n before after → (word_value device after x y word ≡ value) × SameBut (IsPlaceOfWord device x y word) before after
-word-all device x y word value n before after last small whole =
-    let bit : ℕ → Bool = λ bit. place_bit after (word_bit_place device x y word bit) in
+pub word-all : (layout : Layout) (x y word value n : ℕ) (before after : List Rows) → n ≡ 16 → value < 2 ^ 16 → IsWritten (word_bit_place layout x y word) (bit_of_word 16 value) n before after → (word_value layout after x y word ≡ value) × SameBut (IsPlaceOfWord layout x y word) before after
+word-all layout x y word value n before after last small whole =
+    let bit : ℕ → Bool = λ bit. place_bit after (word_bit_place layout x y word bit) in
     (row_word-is 16 bit value small (λ k within. whole.written k (omega arith)), λ at apart. whole.others at (λ h. apart (h.0, (let within : h.0 < 16 = omega (arith, h.1) in within), h.2)))

@@ -2,6 +2,7 @@
 use Rattle.std.specs.Prelude.{◌≡◌, ℕ, ◌<◌, Bool, true, false, List, [], length, get_or, set, replicate, Option, None}
 use Rattle.bit_plane.specs.Rows.{Rows, IsGrid, bit_at, with_bit, blank}
 use Rattle.plane_map.specs.Layout.{Layout, IsLayout, cram_width, cram_height, bram_width, bram_height}
+use Rattle.plane_map.specs.declared.device.DeviceName.{DeviceName}
 use Rattle.plane_map.specs.declared.tile.Place.{Place}
 use Rattle.ice_image.specs.declared.settings.Settings.{Settings}
 use Rattle.ice_image.specs.declared.settings.Range.TheVariants.{Low}
@@ -49,6 +50,25 @@ pub record IsWhole (image : Configuration) : Type 0 where
   pub layout : IsLayout image.layout
   pub cram : AreBanks (cram_width image.layout.device) (cram_height image.layout.device) image.cram
   pub bram : AreBanks (bram_width image.layout.device) (bram_height image.layout.device) image.bram
+
+-- the size of the configuration planes of a device
+pub record IsCramSize (device : DeviceName) (width height : ℕ) : Type 0 where
+  pub width_is : width ≡ cram_width device
+  pub height_is : height ≡ cram_height device
+
+-- the size of its RAM planes
+pub record IsBramSize (device : DeviceName) (width height : ℕ) : Type 0 where
+  pub width_is : width ≡ bram_width device
+  pub height_is : height ≡ bram_height device
+
+-- an image for the device of that name, in planes of those sizes
+pub record IsImageOf (name : DeviceName) (cram_columns cram_rows bram_columns bram_rows : ℕ) (image : Configuration) : Type 0 where
+  pub name_is : image.layout.device ≡ name
+  pub cram_size : IsCramSize image.layout.device cram_columns cram_rows
+  pub bram_size : IsBramSize image.layout.device bram_columns bram_rows
+  pub layout : IsLayout image.layout
+  pub cram : AreBanks cram_columns cram_rows image.cram
+  pub bram : AreBanks bram_columns bram_rows image.bram
 
 -- ---- the first one
 

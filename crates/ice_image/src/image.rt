@@ -38,14 +38,13 @@ pub struct Image<D: Device> {
 }
 
 impl<D: Device> Model for Image<D> {
-    ghost use Rattle.std.specs.Prelude.{◌≡◌};
-    ghost use Rattle.ice_image.specs.Configuration.{Configuration, AreBanks};
+    ghost use Rattle.ice_image.specs.Configuration.{Configuration, IsImageOf};
 
     ghost Value = { Configuration };
 
     ghost view = { λ image. record { layout = image.layout; comment = image.comment; settings = image.settings; cram = image.cram; bram = image.bram } };
 
-    ghost invariant = { λ image. (image.layout.device ≡ D.NAME) × AreBanks D.Cram.WIDTH D.Cram.HEIGHT image.cram × AreBanks D.Bram.WIDTH D.Bram.HEIGHT image.bram };
+    ghost invariant = { λ image. IsImageOf D.NAME D.Cram.WIDTH D.Cram.HEIGHT D.Bram.WIDTH D.Bram.HEIGHT (record { layout = image.layout; comment = image.comment; settings = image.settings; cram = image.cram; bram = image.bram }) };
 }
 
 impl<D: Device> Image<D> {
@@ -61,6 +60,8 @@ impl<D: Device> Image<D> {
         requires { layout.device ≡ D.NAME }
         ensures { IfOk result (λ image. image ≡ blank_image layout) }
     {
+        // Says that it is a layout.
+        let _device = layout.device();
         Ok(Image {
             layout,
             comment: None,
@@ -143,7 +144,7 @@ impl<D: Device> Image<D> {
         requires { row < 16 }
         ensures { result ≡ word_of (row_of self.now x y row) }
     {
-        row_word::<D>(&self.cram, x, y, row, columns_on::<D>(x, y))
+        row_word(&self.layout, &self.cram, x, y, row, columns_on(self.layout.device(), x, y))
     }
 
     /// Sets an extra bit.
@@ -209,7 +210,7 @@ impl<D: Device> Image<D> {
         requires { columns_at self.now.layout.device x y ≡ C }
         ensures { result ≡ tile_rows self.now.layout self.now.cram x y }
     {
-        read_tile::<D, C>(&self.cram, x, y)
+        read_tile(&self.layout, &self.cram, x, y)
     }
 
     /// Sets all bits of the tile at (x, y), which has C columns, to those of another tile.
@@ -220,7 +221,7 @@ impl<D: Device> Image<D> {
         ensures rest { self.new ≡ record self.old { cram = self.new.cram } }
         ensures whole { IsWhole self.new }
     {
-        write_tile::<D, C>(&mut self.cram, x, y, tile);
+        write_tile(&self.layout, &mut self.cram, x, y, tile);
     }
 
     /// Whether bit k of the list has the value of bit k of `values`, for each k.
@@ -249,7 +250,7 @@ impl<D: Device> Image<D> {
         ensures place { result ≡ word_value self.now.layout self.now.bram x y word }
         ensures bits { result ≡ ram_word_of self.now x y word }
     {
-        read_word::<D>(&self.bram, x, y, word)
+        read_word(&self.layout, &self.bram, x, y, word)
     }
 
     /// Sets a word of the RAM whose lower tile is at (x, y), bit b having the value 2^b.
@@ -260,7 +261,7 @@ impl<D: Device> Image<D> {
         ensures rest { self.new ≡ record self.old { bram = self.new.bram } }
         ensures whole { IsWhole self.new }
     {
-        write_word::<D>(&mut self.bram, x, y, word, value);
+        write_word(&self.layout, &mut self.bram, x, y, word, value);
     }
 
     /// Sets a bit of a word of a RAM.
@@ -278,7 +279,7 @@ impl<D: Device> Image<D> {
         ensures exact { IfOk result (λ places. AreSetExtras self.now.layout self.now.cram places.items) }
         ensures bits { IfOk result (λ places. places.items ≡ set_extras self.now) }
     {
-        extras_of::<D>(&self.cram, alloc)
+        extras_of(&self.layout, &self.cram, alloc)
     }
 
     /// The place of the configuration planes with these numbers, where it belongs to no tile.
@@ -286,7 +287,7 @@ impl<D: Device> Image<D> {
         ensures { MatchOption result (is_extra self.now.layout (record { bank = bank; px = px; py = py }) ≡ false)
             (λ at. (is_extra self.now.layout at ≡ true) × (at ≡ record { bank = bank; px = px; py = py })) }
     {
-        extra_place::<D>(bank, px, py)
+        extra_place(&self.layout, bank, px, py)
     }
 
     /// Fills `out` with the bytes of `count` rows of a bank's plane, from row `first` on, the most significant bit of each

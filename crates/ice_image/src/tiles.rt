@@ -2,77 +2,103 @@
 ghost use Rattle.std.specs.Prelude.{◌≡◌, ◌<◌};
 ghost use Rattle.bit_plane.specs.BitList.{word_of};
 ghost use Rattle.bit_plane.specs.Rows.{row_from};
-ghost use Rattle.plane_map.specs.Layout.{columns_at};
-ghost use Rattle.ice_image.specs.Configuration.{place_bit, AreBanks, SameBut};
+ghost use Rattle.plane_map.specs.Layout.{IsLayout, columns_at};
+ghost use Rattle.ice_image.specs.Configuration.{place_bit, AreBanks, IsCramSize, SameBut};
 ghost use Rattle.ice_image.specs.Contents.{tile_place, tile_rows, IsPlaceOfTile};
 ghost use Rattle.ice_image.specs.Written.{IsWritten, bit_of_word};
 
 use crate::banks::Banks;
-use bit_plane::Tile;
-use plane_map::{Device, cram_place, kind_at, tile_width};
+use bit_plane::{Bits, Tile};
+use plane_map::{DeviceName, Layout, kind_on, tile_width};
 
 /// The tile at (x, y).
-pub(crate) fn read_tile<D: Device, const C: usize>(cram: &Banks<D::Cram>, x: u8, y: u8) -> Tile<C>
-    requires { columns_at D.NAME x y ≡ C }
-    ensures { result ≡ tile_rows D.NAME cram.now x y }
+pub(crate) fn read_tile<P: Bits, const C: usize>(
+    layout: &Layout,
+    cram: &Banks<P>,
+    x: u8,
+    y: u8,
+) -> Tile<C>
+    requires columns { columns_at layout.now.device x y ≡ C }
+    requires size { IsCramSize layout.now.device P.WIDTH P.HEIGHT }
+    ensures { result ≡ tile_rows layout.now cram.now x y }
 {
     let mut tile = Tile::new();
     for row in 0..16 {
-        tile.set_row(usize::from(row), row_word::<D>(cram, x, y, row, C));
+        tile.set_row(usize::from(row), row_word(layout, cram, x, y, row, C));
     }
     tile
 }
 
 /// How many columns of bits the tile at (x, y) has, and 0 where there is none.
-pub(crate) fn columns_on<D: Device>(x: u8, y: u8) -> usize
-    ensures { result ≡ columns_at D.NAME x y }
+pub(crate) fn columns_on(device: DeviceName, x: u8, y: u8) -> usize
+    ensures { result ≡ columns_at device x y }
 {
-    match kind_at::<D>(u32::from(x), u32::from(y)) {
+    match kind_on(device, u32::from(x), u32::from(y)) {
         Some(kind) => tile_width(kind),
         None => 0,
     }
 }
 
 /// A row of the tile at (x, y) as a word. Column c is the bit of value 2^c.
-pub(crate) fn row_word<D: Device>(cram: &Banks<D::Cram>, x: u8, y: u8, row: u8, width: usize) -> u64
+pub(crate) fn row_word<P: Bits>(
+    layout: &Layout,
+    cram: &Banks<P>,
+    x: u8,
+    y: u8,
+    row: u8,
+    width: usize,
+) -> u64
     requires row { row < 16 }
-    requires width { columns_at D.NAME x y ≡ width }
-    ensures { result ≡ word_of (row_from width (λ col. place_bit cram.now (tile_place D.NAME x y row col))) }
+    requires width { columns_at layout.now.device x y ≡ width }
+    requires size { IsCramSize layout.now.device P.WIDTH P.HEIGHT }
+    ensures { result ≡ word_of (row_from width (λ col. place_bit cram.now (tile_place layout.now x y row col))) }
 {
     let mut word = 0;
     for col in (0..width).rev() {
-        word = 2 * word + u64::from(cram.get(cram_place::<D>(x, y, row, col as u8)));
+        word = 2 * word + u64::from(cram.get(layout.cram_place(x, y, row, col as u8)));
     }
     word
 }
 
 /// Sets all bits of the tile at (x, y) to those of another tile.
-pub(crate) fn write_tile<D: Device, const C: usize>(
-    cram: &mut Banks<D::Cram>,
+pub(crate) fn write_tile<P: Bits, const C: usize>(
+    layout: &Layout,
+    cram: &mut Banks<P>,
     x: u8,
     y: u8,
     tile: &Tile<C>,
 )
-    requires width { columns_at D.NAME x y ≡ C }
-    requires whole { AreBanks D.Cram.WIDTH D.Cram.HEIGHT cram.old }
-    ensures tile { tile_rows D.NAME cram.new x y ≡ tile.now }
-    ensures others { SameBut (IsPlaceOfTile D.NAME x y) cram.old cram.new }
-    ensures whole { AreBanks D.Cram.WIDTH D.Cram.HEIGHT cram.new }
+    requires layout { IsLayout layout.now }
+    requires width { columns_at layout.now.device x y ≡ C }
+    requires size { IsCramSize layout.now.device P.WIDTH P.HEIGHT }
+    requires whole { AreBanks P.WIDTH P.HEIGHT cram.old }
+    ensures tile { tile_rows layout.now cram.new x y ≡ tile.now }
+    ensures others { SameBut (IsPlaceOfTile layout.now x y) cram.old cram.new }
+    ensures whole { AreBanks P.WIDTH P.HEIGHT cram.new }
 {
     for row in 0..16 {
-        write_row::<D>(cram, x, y, row, C, tile.row(usize::from(row)));
+        write_row(layout, cram, x, y, row, C, tile.row(usize::from(row)));
     }
 }
 
 /// Sets a row of the tile at (x, y) to the bits of a word. Column c gets the bit of value 2^c.
-fn write_row<D: Device>(cram: &mut Banks<D::Cram>, x: u8, y: u8, row: u8, width: usize, word: u64)
+fn write_row<P: Bits>(
+    layout: &Layout,
+    cram: &mut Banks<P>,
+    x: u8,
+    y: u8,
+    row: u8,
+    width: usize,
+    word: u64,
+)
     requires row { row < 16 }
-    requires width { columns_at D.NAME x y ≡ width }
-    requires whole { AreBanks D.Cram.WIDTH D.Cram.HEIGHT cram.old }
-    ensures written { IsWritten (tile_place D.NAME x y row) (bit_of_word width word) width cram.old cram.new }
-    ensures whole { AreBanks D.Cram.WIDTH D.Cram.HEIGHT cram.new }
+    requires width { columns_at layout.now.device x y ≡ width }
+    requires size { IsCramSize layout.now.device P.WIDTH P.HEIGHT }
+    requires whole { AreBanks P.WIDTH P.HEIGHT cram.old }
+    ensures written { IsWritten (tile_place layout.now x y row) (bit_of_word width word) width cram.old cram.new }
+    ensures whole { AreBanks P.WIDTH P.HEIGHT cram.new }
 {
     for col in 0..width {
-        cram.set(cram_place::<D>(x, y, row, col as u8), word >> col & 1 == 1);
+        cram.set(layout.cram_place(x, y, row, col as u8), word >> col & 1 == 1);
     }
 }

@@ -4,4 +4,4 @@ use Rattle.ice_image.proofs.extras.append_bank.Goals as goal
 
 pub returns : goal.returns
 returns g c =
-    extras-bank g.D.Device.NAME c.args.cram.now c.args.bank c.loop-py.py c.loop-py.places.items (omega (arith, g.met.D.Device.cram_height_is)) c.loop-py.invariant
+    extras-bank c.args.layout.now c.args.cram.now c.args.bank c.loop-py.py c.loop-py.places.items (omega (arith, c.requires.size.height_is)) c.loop-py.invariant

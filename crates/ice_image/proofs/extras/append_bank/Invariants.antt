@@ -3,4 +3,4 @@ use Rattle.ice_image.proofs.InOrder.{place}
 use Rattle.ice_image.proofs.extras.append_bank.Given as goal
 
 abbrev pub invariant-loop-py : goal.invariant-loop-py
-invariant-loop-py g l = HasExtras g.D.Device.NAME l.cram (place l.bank 0 l.py) l.places.items
+invariant-loop-py g l = HasExtras l.layout l.cram (place l.bank 0 l.py) l.places.items

@@ -4,4 +4,4 @@ use Rattle.ice_image.proofs.extras.extras_of.Goals as goal
 
 pub returns : goal.returns
 returns g c =
-    extras-all g.D.Device.NAME c.args.cram.now c.loop-bank.bank c.loop-bank.places.items (omega arith) c.loop-bank.invariant
+    extras-all c.args.layout.now c.args.cram.now c.loop-bank.bank c.loop-bank.places.items (omega arith) c.loop-bank.invariant

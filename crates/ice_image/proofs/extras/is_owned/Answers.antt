@@ -3,4 +3,4 @@ use Rattle.ice_image.proofs.Owned.{is_owned-answer}
 use Rattle.ice_image.proofs.extras.is_owned.Goals as goal
 
 pub returns : goal.returns
-returns g c = c.is_some.ensures ∙ is_owned-answer g.D.Device.NAME c.args.at _ c.owner_of.ensures.owner
+returns c = c.is_some.ensures ∙ is_owned-answer c.args.layout.now c.args.at _ c.owner_of.ensures.owner

@@ -9,15 +9,15 @@ loop-row-init g c = rows-none g.row.C 16 _ _ c.new-tile.ensures
 
 pub set_row-requires : goal.set_row-requires
 set_row-requires g c =
-    let bit : ℕ → Bool = λ col. place_bit c.args.cram.now (tile_place g.D.Device.NAME c.args.x c.args.y c.loop-row.row col) in
+    let bit : ℕ → Bool = λ col. place_bit c.args.cram.now (tile_place c.args.layout.now c.args.x c.args.y c.loop-row.row col) in
     (lit< tt, (omega arith, row_word-below g.row.C bit c.row_word.result c.row_word.ensures))
 
 pub loop-row-preserved : goal.loop-row-preserved
 loop-row-preserved g c =
-    let bit : ℕ → ℕ → Bool = λ col row. place_bit c.args.cram.now (tile_place g.D.Device.NAME c.args.x c.args.y row col) in
+    let bit : ℕ → ℕ → Bool = λ col row. place_bit c.args.cram.now (tile_place c.args.layout.now c.args.x c.args.y row col) in
     (rows-more g.row.C 16 bit c.loop-row.row c.from.result c.row_word.result c.loop-row.tile c.set_row.new.self c.loop-row.invariant.1 (omega arith) c.loop-row.invariant.0 c.row_word.ensures c.from.ensures c.set_row.ensures.bits, c.set_row.ensures.grid)
 
 pub returns : goal.returns
 returns g c =
-    let bit : ℕ → ℕ → Bool = λ col row. place_bit c.args.cram.now (tile_place g.D.Device.NAME c.args.x c.args.y row col) in
-    rows-all g.row.C 16 bit c.loop-row.row _ c.loop-row.tile c.loop-row.invariant.1 (omega arith) c.requires c.loop-row.invariant.0
+    let bit : ℕ → ℕ → Bool = λ col row. place_bit c.args.cram.now (tile_place c.args.layout.now c.args.x c.args.y row col) in
+    rows-all g.row.C 16 bit c.loop-row.row _ c.loop-row.tile c.loop-row.invariant.1 (omega arith) c.requires.columns c.loop-row.invariant.0

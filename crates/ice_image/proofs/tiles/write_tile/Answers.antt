@@ -5,16 +5,16 @@ use Rattle.ice_image.proofs.Written.{rows_written-none, rows_written-more, rows_
 use Rattle.ice_image.proofs.tiles.write_tile.Goals as goal
 
 pub loop-row-init : goal.loop-row-init
-loop-row-init g c = (rows_written-none g.D.Device.NAME c.args.x c.args.y g.row.C c.args.tile.now c.requires.width c.args.cram.now, c.requires.whole)
+loop-row-init g c = (rows_written-none c.args.layout.now c.requires.layout c.args.x c.args.y g.row.C c.args.tile.now c.requires.width c.args.cram.now, c.requires.whole)
 
 pub loop-row-preserved : goal.loop-row-preserved
 loop-row-preserved g c =
-    (rows_written-more g.D.Device.NAME c.args.x c.args.y g.row.C c.args.tile.now c.requires.width c.loop-row.row c.row.result c.args.cram.now c.loop-row.cram c.write_row.new.cram (omega arith) c.loop-row.invariant.0 c.write_row.ensures.written (c.row.ensures.word ∙ ap (λ row. word_of (row_at c.args.tile.now row)) c.from.ensures) c.row.ensures.grid, c.write_row.ensures.whole)
+    (rows_written-more c.args.layout.now c.requires.layout c.args.x c.args.y g.row.C c.args.tile.now c.requires.width c.loop-row.row c.row.result c.args.cram.now c.loop-row.cram c.write_row.new.cram (omega arith) c.loop-row.invariant.0 c.write_row.ensures.written (c.row.ensures.word ∙ ap (λ row. word_of (row_at c.args.tile.now row)) c.from.ensures) c.row.ensures.grid, c.write_row.ensures.whole)
 
 pub returns-clause-tile : goal.returns-clause-tile
 returns-clause-tile g c =
-    (rows_written-all g.D.Device.NAME c.args.x c.args.y g.row.C c.args.tile.now c.requires.width c.loop-row.row c.args.cram.now c.loop-row.cram (omega arith) c.loop-row.invariant.0).0
+    (rows_written-all c.args.layout.now c.requires.layout c.args.x c.args.y g.row.C c.args.tile.now c.requires.width c.loop-row.row c.args.cram.now c.loop-row.cram (omega arith) c.loop-row.invariant.0).0
 
 pub returns-clause-others : goal.returns-clause-others
 returns-clause-others g c =
-    (rows_written-all g.D.Device.NAME c.args.x c.args.y g.row.C c.args.tile.now c.requires.width c.loop-row.row c.args.cram.now c.loop-row.cram (omega arith) c.loop-row.invariant.0).1
+    (rows_written-all c.args.layout.now c.requires.layout c.args.x c.args.y g.row.C c.args.tile.now c.requires.width c.loop-row.row c.args.cram.now c.loop-row.cram (omega arith) c.loop-row.invariant.0).1

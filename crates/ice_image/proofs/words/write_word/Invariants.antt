@@ -4,4 +4,4 @@ use Rattle.ice_image.specs.Written.{IsWritten, bit_of_word}
 use Rattle.ice_image.proofs.words.write_word.Given as goal
 
 abbrev pub invariant-loop-bit : goal.invariant-loop-bit
-invariant-loop-bit g l = IsWritten (word_bit_place g.D.Device.NAME l.x l.y l.word) (bit_of_word 16 l.value) l.bit l.initial.bram l.bram × AreBanks g.D.Bram.Bits.WIDTH g.D.Bram.Bits.HEIGHT l.bram
+invariant-loop-bit g l = IsWritten (word_bit_place l.layout l.x l.y l.word) (bit_of_word 16 l.value) l.bit l.initial.bram l.bram × AreBanks g.P.Bits.WIDTH g.P.Bits.HEIGHT l.bram

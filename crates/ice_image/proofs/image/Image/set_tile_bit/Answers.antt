@@ -1,16 +1,10 @@
-use Rattle.std.proofs.Common.{rules, ◌≡◌, List, subst}
-use Rattle.bit_plane.specs.Rows.{Rows}
-use Rattle.ice_image.specs.Configuration.{IsWhole, AreBanks}
-use Rattle.ice_image.proofs.Bits.{tile_set_on, whole_on}
+use Rattle.std.proofs.Common.{rules, subst}
+use Rattle.ice_image.specs.Configuration.{IsWhole}
+use Rattle.ice_image.proofs.Bits.{tile_set_in, whole_of}
 use Rattle.ice_image.proofs.image.Image.set_tile_bit.Goals as goal
 
 pub returns-clause-bits : goal.returns-clause-bits
 returns-clause-bits g c =
     let before = c.args.self.now in
-    let device = g.met.D.Device in
-    let same : before.device ≡ g.D.Device.NAME = search rules in
-    let cram : c.self.inside.cram ≡ before.cram = search rules in
-    let bram : c.self.inside.bram ≡ before.bram = search rules in
-    let whole : IsWhole before = whole_on before g.D.Device.NAME g.D.Cram.Bits.WIDTH g.D.Cram.Bits.HEIGHT g.D.Bram.Bits.WIDTH g.D.Bram.Bits.HEIGHT same device.cram_width_is device.cram_height_is device.bram_width_is device.bram_height_is
-    (subst (λ (planes : List Rows). AreBanks g.D.Cram.Bits.WIDTH g.D.Cram.Bits.HEIGHT planes) cram c.self.invariant.0) (subst (λ (planes : List Rows). AreBanks g.D.Bram.Bits.WIDTH g.D.Bram.Bits.HEIGHT planes) bram c.self.invariant.1) in
-    tile_set_on before _ g.D.Device.NAME c.args.at c.args.bit same whole c.requires (search rules)
+    let whole : IsWhole before = subst IsWhole c.self.view_is (whole_of _ _ _ _ _ _ c.self.invariant) in
+    tile_set_in before _ c.args.at c.args.bit whole c.requires (search rules)

@@ -17,7 +17,7 @@ use Rattle.plane_map.specs.declared.tile.TileKind.TheVariants.{Io, Logic, RamB, 
 use Rattle.plane_map.specs.declared.tile.Place.{Place}
 use Rattle.plane_map.specs.declared.tile.TileBit.{TileBit}
 use Rattle.plane_map.specs.declared.tile.WordBit.{WordBit}
-use Rattle.ice_image.specs.Configuration.{Configuration}
+use Rattle.ice_image.specs.Configuration.{Configuration, IsWhole}
 use Rattle.ice_image.specs.Either.{configuration_of}
 use Rattle.asc_text.specs.declared.statement.Statement.{Statement}
 use Rattle.asc_text.specs.declared.statement.Statement.TheVariants.{Tile, RamData, ExtraBit}

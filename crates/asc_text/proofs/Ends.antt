@@ -48,7 +48,7 @@ HasRead-none layouts lines s are is =
       under = refl;
       fit = λ k lt. absurd (omega arith);
       stands = refl;
-      given = HasGiven-none lines;
+      given = HasGiven-none layouts lines;
       image = SetsNone-none lines;
       comment = HasComment-none lines;
     })

@@ -10,7 +10,7 @@ use Rattle.plane_map.specs.declared.tile.TileKind.{TileKind}
 use Rattle.plane_map.specs.declared.tile.TileKind.TheVariants.{RamB}
 use Rattle.layout_file.specs.declared.layouts.Layouts.{Layouts}
 use Rattle.layout_file.specs.Layouts.{layout_for}
-use Rattle.ice_image.specs.Configuration.{blank_image}
+use Rattle.ice_image.specs.Configuration.{blank_image, IsWhole}
 use Rattle.ice_image.specs.Either.{configuration_of, device_of}
 use Rattle.ice_image.specs.declared.any.AnyImage.{AnyImage}
 use Rattle.ice_image.specs.declared.settings.Settings.{Settings}
@@ -183,7 +183,7 @@ ImageGains None after is_set = ⊥
 
 -- an image with all bits 0, under the layout of a device
 abbrev pub IsBlank : Layouts → Option DeviceName → Option AnyImage → Type 0
-IsBlank layouts (Some device) (Some image) = configuration_of image ≡ blank_image (layout_for layouts device)
+IsBlank layouts (Some device) (Some image) = (configuration_of image ≡ blank_image (layout_for layouts device)) × IsWhole (configuration_of image)
 IsBlank layouts (Some device) None = ⊥
 IsBlank layouts None image = ⊥
 

@@ -16,7 +16,7 @@ use Rattle.plane_map.specs.declared.tile.WordBit.{WordBit}
 use Rattle.plane_map.proofs.Layouts.{columns_at-in}
 use Rattle.plane_map.proofs.Places.{place_is_only}
 use Rattle.plane_map.proofs.Words.{word_place_is_only, word_place_is_onto}
-use Rattle.ice_image.specs.Configuration.{Configuration, place_bit, with_place_bit, AreBanks, IsWhole, IsImageOf, blank_image}
+use Rattle.ice_image.specs.Configuration.{Configuration, place_bit, with_place_bit, AreBanks, IsWhole, blank_image}
 use Rattle.ice_image.specs.Contents.{tile_place, word_bit_place}
 use Rattle.ice_image.specs.Owned.{is_same_place, is_owned, is_extra}
 use Rattle.ice_image.specs.Bits.{Bit, OfTile, OfWord, Extra, IsBit, bit_of, IsSet, is_lower_kind, is_lower, cram_bit_from, bram_bit_from, image_from}
@@ -280,11 +280,3 @@ pub extra_set_in : (before after : Configuration) (at : Place) (value : Bool) �
     → after ≡ with_cram_bit before at value → IsSet (Extra at) value before after
 extra_set_in before after at value whole is changed =
     subst (λ (c : Configuration). IsSet (Extra at) value before c) (sym changed) (extra_set before at value whole is)
-
--- an image in planes of its device's sizes is whole
-pub whole_of : (name : DeviceName) (cram_columns cram_rows bram_columns bram_rows : ℕ) (image : Configuration) → IsImageOf name cram_columns cram_rows bram_columns bram_rows image → IsWhole image
-whole_of name cram_columns cram_rows bram_columns bram_rows image is = record {
-  layout = is.layout;
-  cram = rw (sym is.cram_size.width_is, sym is.cram_size.height_is) is.cram;
-  bram = rw (sym is.bram_size.width_is, sym is.bram_size.height_is) is.bram;
-}

@@ -8,5 +8,6 @@ pub mod Owned
 pub mod PlacesIn
 pub mod PlanesFrom
 pub mod SetExtras
+pub mod Sizes
 pub mod TileColumns
 pub mod Written

@@ -16,7 +16,7 @@ use crate::image::Image;
 use crate::planes::PlaneKind;
 use crate::settings::Settings;
 use bit_plane::Tile;
-use plane_map::{DeviceName, Layout, Hx1k, Hx8k, Place, RowCol, TileBit, TileKind, WordBit};
+use plane_map::{DeviceName, Hx1k, Hx8k, Layout, Place, RowCol, TileBit, TileKind, WordBit};
 use std::alloc::{AllocError, Global};
 
 /// An image of one of the devices.

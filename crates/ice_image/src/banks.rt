@@ -31,7 +31,8 @@ impl<P: Bits> Model for Banks<P> {
 impl<P: Bits> Banks<P> {
     /// All bits 0.
     pub(crate) fn zeroed(alloc: Global) -> Result<Banks<P>, AllocError>
-        ensures { IfOk result (λ banks. banks ≡ replicate 4 (blank P.WIDTH P.HEIGHT)) }
+        ensures planes { IfOk result (λ banks. banks ≡ replicate 4 (blank P.WIDTH P.HEIGHT)) }
+        ensures whole { IfOk result (λ banks. AreBanks P.WIDTH P.HEIGHT banks) }
     {
         Ok(Banks {
             left_bottom: P::zeroed(alloc)?,
@@ -85,7 +86,8 @@ impl<P: Bits> Banks<P> {
         requires column { at.px < P.WIDTH }
         requires row { at.py < P.HEIGHT }
         ensures planes { self.new ≡ with_place_bit self.old at bit }
-        ensures whole { AreBanks P.WIDTH P.HEIGHT self.old }
+        ensures before { AreBanks P.WIDTH P.HEIGHT self.old }
+        ensures whole { AreBanks P.WIDTH P.HEIGHT self.new }
     {
         let x = usize::from(at.px);
         let y = usize::from(at.py);

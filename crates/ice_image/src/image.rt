@@ -21,9 +21,7 @@ use crate::settings::{Range, Settings};
 use crate::tiles::{columns_on, read_tile, row_word, write_tile};
 use crate::words::{read_word, write_word};
 use bit_plane::{Bits, Tile};
-use plane_map::{
-    Device, DeviceName, Layout, Place, RowCol, TileBit, TileKind, WordBit,
-};
+use plane_map::{Device, DeviceName, Layout, Place, RowCol, TileBit, TileKind, WordBit};
 use std::alloc::{AllocError, Global};
 use std::marker::Model;
 
@@ -126,7 +124,8 @@ impl<D: Device> Image<D> {
         ensures place { result ≡ place_bit self.now.cram (place_of self.now.layout at) }
         ensures bit { result ≡ bit_of self.now (OfTile at) }
     {
-        self.cram.get(self.layout.cram_place(at.x, at.y, at.row, at.col))
+        self.cram
+            .get(self.layout.cram_place(at.x, at.y, at.row, at.col))
     }
 
     /// Sets a bit of a tile.
@@ -144,7 +143,14 @@ impl<D: Device> Image<D> {
         requires { row < 16 }
         ensures { result ≡ word_of (row_of self.now x y row) }
     {
-        row_word(&self.layout, &self.cram, x, y, row, columns_on(self.layout.device(), x, y))
+        row_word(
+            &self.layout,
+            &self.cram,
+            x,
+            y,
+            row,
+            columns_on(self.layout.device(), x, y),
+        )
     }
 
     /// Sets an extra bit.
@@ -299,8 +305,8 @@ impl<D: Device> Image<D> {
         ensures bytes { out.new ≡ bytes_of (length out.old) (flat (take count (drop first (rows_of_bank kind bank self.now)))) }
     {
         match kind {
-            PlaneKind::Cram => self.cram(bank).take_bytes(first, count, out),
-            PlaneKind::Bram => self.bram(bank).take_bytes(first, count, out),
+            PlaneKind::Cram => self.cram.plane(bank).take_bytes(first, count, out),
+            PlaneKind::Bram => self.bram.plane(bank).take_bytes(first, count, out),
         }
     }
 
@@ -332,6 +338,8 @@ impl<D: Device> Image<D> {
         requires bytes { 8 * length bytes.now ≡ count * cram_width self.old.layout.device }
         ensures { self.new ≡ with_rows Cram bank first (rows_of (cram_width self.old.layout.device) count (bits_of bytes.now)) self.old }
     {
+        // The device of the layout gives the sizes.
+        let _ = &self.layout;
         let plane = self.cram_mut(bank);
         plane.put_bytes(first, count, bytes);
     }
@@ -343,6 +351,8 @@ impl<D: Device> Image<D> {
         requires bytes { 8 * length bytes.now ≡ count * bram_width self.old.layout.device }
         ensures { self.new ≡ with_rows Bram bank first (rows_of (bram_width self.old.layout.device) count (bits_of bytes.now)) self.old }
     {
+        // The device of the layout gives the sizes.
+        let _ = &self.layout;
         let plane = self.bram_mut(bank);
         plane.put_bytes(first, count, bytes);
     }

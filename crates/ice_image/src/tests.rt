@@ -6,7 +6,7 @@ ghost use Rattle.ice_image.specs.Contents.{IsBitOfTile};
 use crate::{AnyImage, Comment, Image, Range, Settings, is_comment_line};
 use bit_plane::{Bits, Tile};
 use plane_map::{
-    Device, DeviceName, Hx1k, Hx8k, Place, RowCol, TileBit, TileKind, kind_at, tile_width,
+    Device, DeviceName, Hx1k, Hx8k, Layout, Place, RowCol, TileBit, TileKind, kind_at, tile_width,
 };
 use std::alloc::{AllocError, Global};
 
@@ -40,9 +40,10 @@ fn is_tile_bit(device: DeviceName, bit: TileBit) -> bool
     }
 }
 
-fn are_in_tile(device: DeviceName, x: u8, y: u8, bits: &[RowCol]) -> bool
-    ensures { IsTrue result → All (IsBitOfTile device x y) bits.now }
+fn are_in_tile(layout: &Layout, x: u8, y: u8, bits: &[RowCol]) -> bool
+    ensures { IsTrue result → All (IsBitOfTile layout.now x y) bits.now }
 {
+    let device = layout.device();
     bits.iter().all(|bit| {
         is_tile_bit(
             device,
@@ -80,10 +81,11 @@ fn is_in_cram(device: DeviceName, at: Place) -> bool
 
 // ---- bits of tiles
 
-/// Whether a new image has the device and the settings, and no comment.
+/// Whether a new image has the device, its layout and the settings, and no comment.
 fn is_new(alloc: Global, device: DeviceName, settings: Settings) -> Result<bool, AllocError> {
     let image = AnyImage::zeroed(alloc, device)?;
-    Ok(image.device() == device && image.settings() == settings && image.comment().is_none())
+    let is_for = image.device() == device && image.layout().device() == device;
+    Ok(is_for && image.settings() == settings && image.comment().is_none())
 }
 
 #[test]
@@ -138,7 +140,7 @@ fn bits_of_tiles_lie_at_their_places(rt: HostRuntime) {
 /// Whether a logic tile that is put at (x, y) is read there, by its rows and by listed bits.
 fn is_put(image: &mut AnyImage, x: u8, y: u8, tile: &Tile<54>, bits: &[RowCol]) -> bool {
     let device = image.device();
-    if !is_logic(device, x, y) || bits.len() > 64 || !are_in_tile(device, x, y, bits) {
+    if !is_logic(device, x, y) || bits.len() > 64 || !are_in_tile(&image.layout(), x, y, bits) {
         return false;
     }
     image.put_tile(x, y, tile);

@@ -99,6 +99,9 @@ fn write_row<P: Bits>(
     ensures whole { AreBanks P.WIDTH P.HEIGHT cram.new }
 {
     for col in 0..width {
-        cram.set(layout.cram_place(x, y, row, col as u8), word >> col & 1 == 1);
+        cram.set(
+            layout.cram_place(x, y, row, col as u8),
+            word >> col & 1 == 1,
+        );
     }
 }

@@ -1,11 +1,14 @@
 -- Each bit of a tile lies in the planes, and no two at one place.
 use Rattle.std.proofs.Common.{◌≡◌, ℕ, ◌+◌, ◌*◌, ◌<◌, ◌≤◌, Bool, true, ◌&&◌, sym, ◌∙◌, ap, subst, arith}
+use Rattle.std.proofs.lemmas.Bool.Decides.{nat_tests}
+use Rattle.plane_map.specs.declared.device.DeviceName.{DeviceName}
+use Rattle.plane_map.specs.declared.device.DeviceName.TheVariants.{K1, K8}
 use Rattle.plane_map.specs.declared.tile.TileBit.{TileBit}
 use Rattle.plane_map.specs.declared.tile.Place.{Place}
-use Rattle.plane_map.specs.Layout.{Layout, IsLayout, half_width, width_of, start_of, is_side, is_end, is_right, is_top, is_mirrored, from_side, from_end, quarter_of, bank_of, column_of, px_of, py_of, place_of, grid_width, grid_height, IsTileBit}
+use Rattle.plane_map.specs.Layout.{Layout, IsLayout, half_width, width_of, start_of, is_side, is_end, is_right, is_top, is_mirrored, from_side, from_end, quarter_of, bank_of, column_of, px_of, py_of, place_of, grid_width, grid_height, cram_height, IsTileBit, IsInCram}
 use Rattle.plane_map.proofs.Widths.{start-later, same_column}
-use Rattle.plane_map.proofs.Offsets.{entry-same, column, column-below, column-same, FitsColumn, fits-wider, fits-side, fits-end, turned, turned-below, turned-same, turned-is, height, height-below, height-same, height-is, same_row, quarter-below, quarter-same}
-use Rattle.plane_map.proofs.Layouts.{are_starts, are_columns, are_pad_rows, are_banks, width_of-least, columns_at-in, columns_at-fit, from_side-below, from_side-same, from_end-same}
+use Rattle.plane_map.proofs.Offsets.{entry-same, entry-below, column, column-below, column-same, FitsColumn, fits-wider, fits-side, fits-end, turned, turned-below, turned-same, turned-is, height, height-below, height-same, height-is, same_row, quarter-below, quarter-same}
+use Rattle.plane_map.proofs.Layouts.{start_of-half, are_starts, are_columns, are_pad_rows, are_banks, width_of-least, columns_at-in, columns_at-fit, from_side-below, from_side-same, from_end-same}
 
 -- a bit of a tile is in the grid and in its column and its row of tiles
 pub record IsPlaced (layout : Layout) (bit : TileBit) : Type 0 where
@@ -174,3 +177,24 @@ px_of-parts layout s bit h u start width column into mirrored u_is start_is widt
     let width' : width ≡ width_of layout (from_side layout.device bit.x) = width_is ∙ ap (width_of layout) u_is in
     let into' : into ≡ offset_of layout bit = into_is ∙ (λ i. turned (mirrored_is i) (width' i) (column_is i)) in
     (λ i. start' i + into' i) ∙ sym (px_of-is layout s bit (tile_bit_is_placed layout s bit h))
+
+-- a bank is one of four
+pub bank_of-below : (layout : Layout) → IsLayout layout → (x y : ℕ) → bank_of layout x y < 4
+bank_of-below layout s x y =
+    entry-below layout.banks 4 4 (are_banks layout s) (quarter_of layout.device x y) (quarter-below (is_top layout.device y) (is_right layout.device x))
+
+-- a row of tiles lies in the planes
+row-below : (device : DeviceName) (y height : ℕ) → y < grid_height device → height < 16 → 16 * from_end device y + height < cram_height device
+row-below K1 y height inside within = grind (arith, nat_tests)
+row-below K8 y height inside within = grind (arith, nat_tests)
+
+-- a bit of a tile lies in the planes
+pub place_is_in : (layout : Layout) → IsLayout layout → (bit : TileBit) → IsTileBit layout.device bit → IsInCram layout.device (place_of layout bit)
+unfolding place_of
+place_is_in layout s bit h =
+    let placed = tile_bit_is_placed layout s bit h in
+    record {
+      bank_in = bank_of-below layout s bit.x bit.y;
+      px_in = omega (arith, px_of-before layout s bit placed, start_of-half layout s);
+      py_in = omega (arith, py_of-is layout s bit placed, row-below layout.device bit.y (height_of layout bit) placed.y_in (height_of-below layout bit placed));
+    }

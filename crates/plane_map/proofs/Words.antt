@@ -9,7 +9,7 @@ use Rattle.plane_map.specs.declared.tile.Place.{Place}
 use Rattle.plane_map.specs.Layout.{Layout, IsLayout, kind_of, is_right, is_top, bank_of, ram_of, ram_column, last_x, last_y, grid_height, bram_width, word_place_of, IsWordBit, IsInBram}
 use Rattle.plane_map.proofs.Offsets.{entry-onto, quarter}
 use Rattle.plane_map.proofs.Layouts.{are_banks}
-use Rattle.plane_map.proofs.Places.{bank-halves}
+use Rattle.plane_map.proofs.Places.{bank-halves, bank_of-below}
 
 -- a lower tile of a RAM stands in a column of RAM
 pub lower-column : (device : DeviceName) (x y : ℕ) → kind_of device x y ≡ Some RamB → (x ≡ ram_column device) ⊎ (x + ram_column device ≡ last_x device)
@@ -145,3 +145,12 @@ word_place_is_onto layout s at h =
     let is_bit : IsWordBit device bit = record { lower = kind_of-in device flip halves.1 halves.0 k inside; word_in = h.py_in; bit_in = omega arith } in
     let place : word_place_of layout bit ≡ at = λ i. record { bank = bank i; px = px i; py = at.py } in
     (bit, is_bit, place)
+
+-- a bit of a word lies in the planes
+pub word_place_is_in : (layout : Layout) → IsLayout layout → (at : WordBit) → IsWordBit layout.device at → IsInBram layout.device (word_place_of layout at)
+unfolding word_place_of
+word_place_is_in layout s at h = record {
+  bank_in = bank_of-below layout s at.x at.y;
+  px_in = omega (arith, ram_of_below layout at.x at.y h.lower);
+  py_in = omega (arith, h.word_in);
+}

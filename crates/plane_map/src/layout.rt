@@ -7,15 +7,15 @@ use crate::place::{owner_on, place_of_word, place_on};
 use crate::tile::{Place, TileBit, TileKind, WordBit};
 use std::marker::Model;
 
-/// The column of bits of each column of an io tile of the left or the right edge, counted from the side edge.
+/// The standard columns of bits of an io tile of the left or the right edge, counted from the side edge.
 const SIDE_COLUMNS: [u8; 18] = [17, 16, 15, 14, 13, 12, 11, 10, 9, 8, 7, 6, 5, 4, 3, 2, 1, 0];
 
-/// The column of bits of each column of an io tile of the bottom or the top row, from the start of its column of tiles.
+/// The standard columns of bits of an io tile of the bottom or the top row, counted from the side edge.
 const PAD_COLUMNS: [u8; 18] = [
     23, 25, 26, 27, 16, 17, 18, 19, 20, 14, 32, 33, 34, 35, 36, 37, 4, 5,
 ];
 
-/// Its row of bits of each row, counted from the inner end.
+/// The standard rows of bits of an io tile of the bottom or the top row, counted from the inner end.
 const PAD_ROWS: [u8; 16] = [0, 1, 3, 2, 4, 5, 7, 6, 8, 9, 11, 10, 12, 13, 15, 14];
 
 /// How a device lays out the bits of its tiles and of the words of its RAMs in its planes.

@@ -1,10 +1,11 @@
 use Rattle.std.proofs.Common.{rules, subst}
 use Rattle.ice_image.specs.Configuration.{IsWhole}
-use Rattle.ice_image.proofs.Bits.{extra_set_in, whole_of}
+use Rattle.ice_image.proofs.Bits.{extra_set_in}
+use Rattle.ice_image.proofs.Sizes.{image_of-whole}
 use Rattle.ice_image.proofs.image.Image.set_extra_bit.Goals as goal
 
 pub returns : goal.returns
 returns g c =
     let before = c.args.self.now in
-    let whole : IsWhole before = subst IsWhole c.self.view_is (whole_of _ _ _ _ _ _ c.self.invariant) in
+    let whole : IsWhole before = subst IsWhole c.self.view_is (image_of-whole _ _ _ _ _ _ c.self.invariant) in
     extra_set_in before _ c.args.at c.args.bit whole c.requires (search rules)

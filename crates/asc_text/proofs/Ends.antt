@@ -6,7 +6,6 @@ use Rattle.std.proofs.lemmas.List.{length-drop}
 use Rattle.text_lines.specs.Lines.{lines_of, line_at}
 use Rattle.place_search.proofs.Places.{first_below-none, first_below-first}
 use Rattle.layout_file.specs.declared.layouts.Layouts.{Layouts}
-use Rattle.plane_map.specs.declared.device.DeviceName.{DeviceName}
 use Rattle.plane_map.specs.Layout.{Layout}
 use Rattle.layout_file.specs.Layouts.{layout_for, AreLayouts}
 use Rattle.ice_image.specs.Configuration.{Configuration, IsWhole}

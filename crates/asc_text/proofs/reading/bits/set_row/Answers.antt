@@ -1,6 +1,6 @@
-use Rattle.std.proofs.Common.{◌≡◌, ℕ, ◌&&◌, ◌+◌, sym, ap, ◌∙◌, refl, arith, subst}
-use Rattle.plane_map.specs.Layout.{columns_of, columns_in, columns_at, kind_of}
-use Rattle.ice_image.specs.Either.{configuration_of, device_of}
+use Rattle.std.proofs.Common.{◌≡◌, ℕ, ◌&&◌, ◌+◌, ap, ◌∙◌, refl, arith, subst}
+use Rattle.plane_map.specs.Layout.{columns_of, columns_in, columns_at}
+use Rattle.ice_image.specs.Either.{configuration_of}
 use Rattle.asc_text.specs.Rows.{row_bit}
 use Rattle.asc_text.specs.Meaning.{row_sets}
 use Rattle.asc_text.specs.inside.Gains.{Gains, is_tile_bit, row_sets_below}

@@ -1,4 +1,4 @@
-use Rattle.std.proofs.Common.{ℕ, List, ◌≡◌, ◌∙◌, ap, sym, arith}
+use Rattle.std.proofs.Common.{ℕ, List, ◌≡◌, ap, arith}
 use Rattle.plane_map.specs.Layout.{kind_of, grid_width}
 use Rattle.ice_image.specs.Either.{configuration_of, device_of}
 use Rattle.asc_text.specs.Canonical.{lines_of_tile_at}

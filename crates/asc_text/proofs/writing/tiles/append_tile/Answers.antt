@@ -1,7 +1,7 @@
 use Rattle.std.proofs.Common.{[], ◌∷◌, ◌++◌, ap, ◌∙◌, arith}
 use Rattle.text_lines.specs.Written.{text_of}
 use Rattle.ice_image.specs.Bits.{tile_bit_of}
-use Rattle.ice_image.specs.Either.{configuration_of, device_of}
+use Rattle.ice_image.specs.Either.{configuration_of}
 use Rattle.asc_text.specs.Canonical.{grid_line}
 use Rattle.asc_text.proofs.Pieces.{rows-none, rows-more, tile-written}
 use Rattle.asc_text.proofs.writing.tiles.append_tile.Goals as goal

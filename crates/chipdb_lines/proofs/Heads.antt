@@ -1,10 +1,9 @@
 -- Words that miss.
-use Rattle.std.proofs.Common.{◌≡◌, ℕ, ◌+◌, ◌<◌, ◌≤◌, true, false, cond, ltb, List, [], ◌∷◌, length, drop, refl, sym, ap, ◌∙◌, inl, inr, arith, true≢false, lit≤}
-use Rattle.std.specs.Prelude.{Option, Some, None, Result, Ok, Err, position}
+use Rattle.std.proofs.Common.{◌≡◌, ℕ, ◌≤◌, true, List, [], ◌∷◌, length, refl, sym, inl, inr, arith, true≢false, lit≤}
+use Rattle.std.specs.Prelude.{Option, Some, None, Ok, Err, position}
 use Rattle.std.specs.List.{position_or_len, after_first}
 use Rattle.std.proofs.lemmas.Bool.{cases_lt, lt-ltb}
 use Rattle.std.proofs.Math.ListN.{drop_of_length-le}
-use Rattle.plane_map.specs.declared.tile.RowCol.{RowCol}
 use Rattle.plane_map.specs.declared.tile.TileKind.{TileKind}
 use Rattle.plane_map.specs.declared.tile.TileKind.TheVariants.{Io, Logic, RamB, RamT}
 use Rattle.plane_map.specs.Layout.{columns_of}

@@ -1,6 +1,6 @@
 -- Bits that were added to a table one after another.
 use Rattle.std.proofs.Common.{◌≡◌, ℕ, ◌+◌, ◌-◌, ◌<◌, ◌≤◌, Bool, true, false, not, ◌&&◌, cond, ltb, List, [], ◌∷◌, ◌++◌, length, length-append, take, drop, append_assoc, append-nil, refl, sym, ap, ◌∙◌, arith, true≢false}
-use Rattle.std.specs.Prelude.{Option, Some, None, Result, Ok, Err, is_some, is_none, MatchOption}
+use Rattle.std.specs.Prelude.{Option, Some, None, Ok, Err, is_some, MatchOption}
 use Rattle.std.specs.Result.{result_err}
 use Rattle.std.proofs.lemmas.Bool.{le-ltb, lt-ltb}
 use Rattle.std.proofs.lemmas.List.{take_all}
@@ -12,7 +12,7 @@ use Rattle.std.specs.List.{list_all}
 use Rattle.plane_map.specs.declared.tile.RowCol.{RowCol}
 use Rattle.chipdb_lines.specs.declared.cause.DbCause.{DbCause}
 use Rattle.chipdb_lines.specs.declared.cause.DbCause.TheVariants.{BitName, BitRange, CellBits}
-use Rattle.chipdb_lines.specs.Words.{bit_of, bits_of, with_bit, words_in}
+use Rattle.chipdb_lines.specs.Words.{bit_of, bits_of, with_bit}
 use Rattle.chipdb_lines.specs.Statements.{is_in_columns, tile_bits_of, checked_bits}
 
 -- bits before others

@@ -1,12 +1,12 @@
 -- Lines below statements: what each says, or what is wrong with it. The tests of each kind stand in the order in which
 -- their faults are told.
-use Rattle.std.specs.Prelude.{ℕ, ◌+◌, Bool, true, false, not, ◌&&◌, ◌||◌, List, [], ◌∷◌, length, map, bytes_eq, codes, nat_le, nat_lt, ◌==◌, if◌then◌else◌, Option, Some, None, Result, Ok, Err}
+use Rattle.std.specs.Prelude.{ℕ, Bool, false, not, ◌&&◌, List, [], ◌∷◌, length, map, bytes_eq, codes, nat_le, nat_lt, ◌==◌, if◌then◌else◌, Option, Some, None, Result, Ok, Err}
 use Rattle.std.specs.List.{list_any}
 use Rattle.text_lines.specs.Words.{number_of, numbers_of}
 use Rattle.plane_map.specs.Layout.{kind_of, columns_of, grid_width, grid_height, cram_width, cram_height}
 use Rattle.plane_map.specs.declared.device.DeviceName.{DeviceName}
 use Rattle.plane_map.specs.declared.tile.TileKind.{TileKind}
-use Rattle.plane_map.specs.declared.tile.TileKind.TheVariants.{Io, Logic, RamB, RamT}
+use Rattle.plane_map.specs.declared.tile.TileKind.TheVariants.{Io, Logic}
 use Rattle.plane_map.specs.declared.tile.RowCol.{RowCol}
 use Rattle.plane_map.specs.declared.tile.Place.{Place}
 use Rattle.chipdb_lines.specs.declared.cause.DbCause.{DbCause}

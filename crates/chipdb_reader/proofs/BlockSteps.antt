@@ -1,17 +1,16 @@
 -- Devices, statements and blocks, one line further.
-use Rattle.std.proofs.Common.{◌≡◌, ℕ, ◌+◌, ◌<◌, ◌≤◌, Bool, true, false, ◌&&◌, ◌||◌, cond, List, [], ◌∷◌, length, drop, get_or, refl, sym, ap, ◌∙◌, inl, inr, arith}
-use Rattle.std.specs.Prelude.{Option, Some, None, Result, Ok, Err}
+use Rattle.std.proofs.Common.{◌≡◌, ℕ, ◌+◌, true, false, List, [], drop, get_or, refl, ap, ◌∙◌}
+use Rattle.std.specs.Prelude.{Option, Some, None, Result, Ok}
 use Rattle.std.specs.Result.{result_unwrap_or}
-use Rattle.std.proofs.lemmas.Bool.{cases_Bool, le-ltb}
 use Rattle.text_lines.specs.Lines.{line_at}
-use Rattle.place_search.specs.Places.{any_below, last_below, first_below, gathered_below, or_else}
-use Rattle.place_search.proofs.Places.{any_below-more, any_below-none, last_below-more, first_below-more, or_else-none}
+use Rattle.place_search.specs.Places.{or_else}
+use Rattle.place_search.proofs.Places.{last_below-more, first_below-more, or_else-none}
 use Rattle.chipdb_lines.specs.declared.cause.DbCause.{DbCause}
 use Rattle.chipdb_lines.specs.declared.chip.Chip.{Chip}
 use Rattle.chipdb_lines.specs.declared.keyword.Keyword.{Keyword}
 use Rattle.chipdb_lines.specs.declared.keyword.Keyword.TheVariants.{Device, GlobalInputs, GlobalPins, Tile, TileBits, ExtraBits, Net, Buffer, Routing}
-use Rattle.chipdb_lines.specs.Words.{is_statement, own_words, words_in}
-use Rattle.chipdb_lines.specs.Statements.{Block, passed, of_device, global_inputs, global_pins, functions, extra_bits, names, buffers, routings, block_by, device_block, chip_of_words, keyword_of, statement_of}
+use Rattle.chipdb_lines.specs.Words.{is_statement, words_in}
+use Rattle.chipdb_lines.specs.Statements.{Block, passed, of_device, block_by, device_block, chip_of_words, keyword_of, statement_of}
 use Rattle.chipdb_reader.specs.Blocks.{chip_by, chip_in, chip_before, statement_at, statement_over, block_over, block_by as block_at_place}
 
 -- ---- the device

@@ -1,5 +1,5 @@
 -- Lines of `.buffer` statements with one more.
-use Rattle.std.proofs.Common.{◌≡◌, ℕ, ◌+◌, ◌≤◌, Bool, true, cond, eqb, List, [], ◌∷◌, ◌++◌, length, length-append, drop, map, refl, sym, ap, ◌∙◌, arith}
+use Rattle.std.proofs.Common.{◌≡◌, ℕ, ◌+◌, ◌≤◌, cond, eqb, List, [], ◌∷◌, ◌++◌, length, length-append, drop, sym, ap, ◌∙◌, arith}
 use Rattle.std.specs.Prelude.{Option, Some, None, nat_eq}
 use Rattle.std.specs.Ordering.{nat_cmp, is_eq}
 use Rattle.std.specs.Cmp.{unsigned_ties}

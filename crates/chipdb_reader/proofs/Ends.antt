@@ -1,32 +1,28 @@
 -- The whole text: what is kept at its end, and its first faulty line.
-use Rattle.std.proofs.Common.{◌≡◌, ℕ, zero, suc, ◌+◌, ◌-◌, ◌^◌, ◌<◌, ◌≤◌, Bool, true, false, List, [], ◌∷◌, ◌++◌, length, length-drop, drop, get_or, refl, sym, ap, ◌∙◌, inl, inr, arith, subst}
-use Rattle.std.specs.Prelude.{Option, Some, None, Result, Ok, Err, All, IfOk, IfErr, MatchResult, nat_le}
+use Rattle.std.proofs.Common.{◌≡◌, ℕ, suc, ◌+◌, ◌<◌, ◌≤◌, true, List, [], ◌∷◌, length, length-drop, drop, get_or, refl, sym, ap, ◌∙◌, inl, inr, arith, subst}
+use Rattle.std.specs.Prelude.{Option, Some, None, Result, Ok, Err, IfOk, IfErr, nat_le}
 use Rattle.std.proofs.lemmas.Bool.{cases_eq, le-leb}
 use Rattle.std.proofs.lemmas.List.Elements.{All-nil}
 use Rattle.std.proofs.Math.Seq.{drop-cons}
-use Rattle.std.proofs.Math.ListN.{drop_of_length-le}
 use Rattle.text_lines.specs.Lines.{line_at, lines_of}
 use Rattle.place_search.specs.Places.{any_below, last_below, first_below, gathered_below}
 use Rattle.place_search.proofs.Places.{first_below-first, first_below-none}
 use Rattle.chipdb_lines.specs.declared.cause.DbCause.{DbCause}
 use Rattle.chipdb_lines.specs.declared.cause.DbCause.TheVariants.{NoDevice}
 use Rattle.chipdb_lines.specs.declared.chip.Chip.{Chip}
-use Rattle.chipdb_lines.specs.declared.statements.Below.{Below}
-use Rattle.chipdb_lines.specs.declared.statements.Below.TheVariants.{Passed}
 use Rattle.chipdb_lines.specs.Kept.{block_named}
 use Rattle.chipdb_reader.specs.declared.fault.DbFault.{DbFault}
 use Rattle.chipdb_reader.specs.declared.fault.DbFault.TheVariants.{At, Memory}
 use Rattle.chipdb_reader.specs.declared.reading.Reader.{Reader}
 use Rattle.chipdb_reader.specs.Blocks.{chip_before, statement_over, block_over}
-use Rattle.chipdb_reader.specs.Database.{Database, said_at, buffers_at, routings_at, database_of}
+use Rattle.chipdb_reader.specs.Database.{database_of}
 use Rattle.chipdb_reader.specs.Faults.{Fault, DbMeans, Tells, cause_at, db_fault_of, end_cause, fault_of_lines, fault_with, is_net_before}
 use Rattle.chipdb_reader.specs.Kept.{Kept, database_in, name_lines, link_lines, function_lines, extra_lines}
-use Rattle.chipdb_reader.specs.Nets.{has_net, net_names}
 use Rattle.chipdb_reader.specs.Reading.{EndsReading, FaultOf, FitsReader, IsOutOfMemory, IsUnread, RefusesLine, TakesLine}
 use Rattle.chipdb_reader.specs.Fit.{IsFit}
 use Rattle.chipdb_reader.proofs.FitPlaces.{means-fit}
-use Rattle.chipdb_reader.proofs.Holds.{Holds, InRange}
-use Rattle.chipdb_reader.proofs.LineSteps.{Taken, line-taken, line-refused}
+use Rattle.chipdb_reader.proofs.Holds.{Holds}
+use Rattle.chipdb_reader.proofs.LineSteps.{line-taken, line-refused}
 
 -- ---- the lines so far
 

@@ -1,23 +1,20 @@
 -- Lines that say something name tiles, bits and nets that the device has.
-use Rattle.std.proofs.Common.{◌≡◌, ℕ, ◌+◌, ◌<◌, ◌≤◌, Bool, true, false, not, ◌&&◌, cond, ltb, leb, List, [], ◌∷◌, length, map, get_or, refl, sym, ap, ◌∙◌, inl, inr, arith, true≢false}
+use Rattle.std.proofs.Common.{◌≡◌, ℕ, ◌<◌, ◌≤◌, Bool, true, false, not, ◌&&◌, cond, ltb, leb, List, [], ◌∷◌, length, map, refl, sym, ap, true≢false}
 use Rattle.std.specs.Prelude.{◌==◌, Option, Some, None, Result, Ok, Err, All}
 use Rattle.std.specs.List.{list_all}
-use Rattle.std.proofs.lemmas.Bool.{cases_Bool, and_parts, and_cases, ltb-true, ltb-false, leb-true, eqb-true, not-false}
+use Rattle.std.proofs.lemmas.Bool.{and_parts, ltb-true, ltb-false, leb-true, eqb-true, not-false}
 use Rattle.std.proofs.lemmas.List.Elements.{All-nil, All-cons}
-use Rattle.plane_map.specs.Layout.{kind_of, columns_of, grid_width, grid_height, cram_width, cram_height, IsInCram}
-use Rattle.plane_map.specs.declared.device.DeviceName.{DeviceName}
+use Rattle.plane_map.specs.Layout.{kind_of, columns_of, grid_width, grid_height, cram_width, cram_height}
 use Rattle.plane_map.specs.declared.tile.TileKind.{TileKind}
 use Rattle.plane_map.specs.declared.tile.TileKind.TheVariants.{Io, Logic, RamB, RamT}
 use Rattle.plane_map.specs.declared.tile.RowCol.{RowCol}
 use Rattle.text_lines.specs.Words.{numbers_of, number_of}
 use Rattle.chipdb_lines.specs.declared.cause.DbCause.{DbCause}
 use Rattle.chipdb_lines.specs.declared.chip.Chip.{Chip}
-use Rattle.chipdb_lines.specs.declared.globals.GlobalInput.{GlobalInput}
-use Rattle.chipdb_lines.specs.declared.globals.GlobalPin.{GlobalPin}
 use Rattle.chipdb_lines.specs.declared.cause.DbCause.TheVariants.{ValueLength}
 use Rattle.chipdb_lines.specs.Words.{bits_of, is_values}
 use Rattle.chipdb_lines.specs.Statements.{LinkHead, checked_bits, is_in_columns, is_kind_there, is_same_kind, link_at, link_head, link_of_numbers, link_of_words, net_of_numbers, tile_bits_of}
-use Rattle.chipdb_lines.specs.Items.{NameLine, FunctionLine, ExtraLine, LinkChoice, choice_by, choice_of, extra_of, extra_of_numbers, function_of, function_of_bits, function_with, global_input_of, global_input_of_numbers, global_pin_of, global_pin_of_numbers, is_cell, is_in_planes, name_of, name_of_numbers}
+use Rattle.chipdb_lines.specs.Items.{NameLine, LinkChoice, choice_by, choice_of, extra_of, extra_of_numbers, function_of, function_with, global_input_of, global_input_of_numbers, global_pin_of, global_pin_of_numbers, is_cell, is_in_planes, name_of, name_of_numbers}
 use Rattle.chipdb_reader.specs.Fit.{IsBitIn, IsExtraLine, IsFunctionLine, IsGlobalInput, IsGlobalPin}
 
 -- what holds of an answer that is one

@@ -1,5 +1,5 @@
 -- What a text means names tiles, bits and nets that its device has.
-use Rattle.std.proofs.Common.{◌≡◌, ℕ, zero, suc, ◌+◌, ◌<◌, ◌≤◌, Bool, true, false, ◌&&◌, cond, List, [], ◌∷◌, ◌++◌, length, drop, get_or, map, refl, sym, ap, ◌∙◌, inl, inr, arith, subst}
+use Rattle.std.proofs.Common.{◌≡◌, ℕ, zero, suc, ◌<◌, ◌≤◌, Bool, true, false, ◌&&◌, cond, List, [], ◌∷◌, length, drop, get_or, map, refl, sym, ap, ◌∙◌, inl, inr, arith, subst}
 use Rattle.plane_map.specs.Layout.{kind_of, columns_of}
 use Rattle.std.specs.Prelude.{◌==◌, Option, Some, None, Result, Ok, Err, All}
 use Rattle.std.specs.Result.{result_unwrap_or}
@@ -7,21 +7,19 @@ use Rattle.std.proofs.lemmas.Bool.{cases_lt}
 use Rattle.std.proofs.lemmas.List.Elements.{All-nil, All-cons, All-head, All-tail, All-append}
 use Rattle.text_lines.specs.Lines.{line_at, lines_of}
 use Rattle.text_lines.specs.Words.{numbers_of}
-use Rattle.place_search.specs.Places.{last_below, first_below, gathered_below, or_else}
+use Rattle.place_search.specs.Places.{first_below, gathered_below}
 use Rattle.place_search.proofs.Places.{last_below-place}
 use Rattle.plane_map.specs.declared.tile.TileKind.{TileKind}
 use Rattle.chipdb_lines.specs.declared.cause.DbCause.{DbCause}
 use Rattle.chipdb_lines.specs.declared.cause.DbCause.TheVariants.{TileKind as KindCause}
 use Rattle.chipdb_lines.specs.declared.chip.Chip.{Chip}
-use Rattle.chipdb_lines.specs.declared.globals.GlobalInput.{GlobalInput}
-use Rattle.chipdb_lines.specs.declared.globals.GlobalPin.{GlobalPin}
 use Rattle.chipdb_lines.specs.declared.keyword.Keyword.{Keyword}
 use Rattle.chipdb_lines.specs.declared.keyword.Keyword.TheVariants.{Device, GlobalInputs, GlobalPins, Tile, TileBits, ExtraBits, Net, Buffer, Routing}
 use Rattle.chipdb_lines.specs.Words.{has_none, is_statement, words_in}
-use Rattle.chipdb_lines.specs.Statements.{Block, LinkHead, passed, of_device, global_inputs, global_pins, functions, extra_bits, names, buffers, routings, alone, block_by, block_of, block_without, buffers_block, device_block, chip_of_words, is_kind_there, keyword_of, link_of_words, names_block, net_of_numbers, routings_block, statement_of, tile_bits_of_numbers, tile_of_numbers}
-use Rattle.chipdb_lines.specs.Items.{NameLine, FunctionLine, ExtraLine, LinkChoice}
+use Rattle.chipdb_lines.specs.Statements.{Block, LinkHead, passed, of_device, global_inputs, global_pins, functions, extra_bits, names, buffers, routings, block_by, block_of, block_without, buffers_block, device_block, chip_of_words, is_kind_there, keyword_of, link_of_words, names_block, net_of_numbers, routings_block, statement_of, tile_bits_of_numbers, tile_of_numbers}
+use Rattle.chipdb_lines.specs.Items.{NameLine, LinkChoice}
 use Rattle.chipdb_reader.specs.Blocks.{block_by as block_at_place, block_over, chip_before, chip_in, own_words_at, statement_at, statement_over}
-use Rattle.chipdb_reader.specs.Database.{Database, Link, Said, nothing, item, said_at, said_by, said_for, buffers_at, buffers_in, database_of, is_chosen_before, is_same_choice, link_of, new_choices, routings_at, routings_in}
+use Rattle.chipdb_reader.specs.Database.{Database, Said, nothing, item, said_at, said_by, said_for, buffers_at, buffers_in, database_of, is_chosen_before, is_same_choice, link_of, new_choices, routings_at, routings_in}
 use Rattle.chipdb_reader.specs.Faults.{DbMeans}
 use Rattle.chipdb_reader.specs.Fit.{IsExtraLine, IsFit, IsFunctionLine, IsGlobalInput, IsGlobalPin, IsLink, IsNameLine}
 use Rattle.chipdb_reader.proofs.Holds.{buffers_at-nothing, routings_at-nothing}

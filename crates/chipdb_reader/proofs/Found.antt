@@ -1,6 +1,6 @@
 -- Look-ups by ids find what look-ups by names would.
-use Rattle.std.proofs.Common.{◌≡◌, ℕ, suc, ◌+◌, ◌<◌, ◌≤◌, Bool, true, false, not, ◌&&◌, ◌||◌, cond, eqb, ltb, List, [], ◌∷◌, ◌++◌, length, map, append-nil, refl, sym, ap, ◌∙◌, inl, inr, arith, lit≤, true≢false}
-use Rattle.std.specs.Prelude.{Option, Some, None, All, bytes_eq, position, find, filter, flat_map, is_some, nat_eq}
+use Rattle.std.proofs.Common.{◌≡◌, ℕ, suc, ◌+◌, ◌<◌, Bool, true, false, not, ◌&&◌, cond, eqb, ltb, List, [], ◌∷◌, ◌++◌, length, map, append-nil, refl, sym, ap, ◌∙◌, inl, inr, arith, lit≤, true≢false}
+use Rattle.std.specs.Prelude.{Option, Some, None, All, bytes_eq, position, find, flat_map, nat_eq}
 use Rattle.std.specs.Option.{option_map}
 use Rattle.std.specs.List.{prefix_len}
 use Rattle.std.proofs.lemmas.List.{length-map, map-append}
@@ -8,9 +8,8 @@ use Rattle.std.specs.Map.{lookup}
 use Rattle.std.proofs.lemmas.Bool.{cases_Bool, cases_eq, ne_eqb, eq-eqb, le-ltb}
 use Rattle.std.proofs.lemmas.List.Elements.{All-head, All-tail, filter-append}
 use Rattle.plane_map.specs.declared.tile.TileKind.{TileKind}
-use Rattle.plane_map.specs.declared.tile.Place.{Place}
 use Rattle.plane_map.specs.declared.tile.RowCol.{RowCol}
-use Rattle.chipdb_lines.specs.Items.{NameLine, FunctionLine, ExtraLine}
+use Rattle.chipdb_lines.specs.Items.{NameLine, ExtraLine}
 use Rattle.chipdb_lines.specs.Statements.{is_same_kind}
 use Rattle.chipdb_reader.specs.declared.items.NetName.{NetName}
 use Rattle.chipdb_reader.specs.declared.items.Function.{Function}
@@ -24,7 +23,7 @@ use Rattle.std.specs.declared.vec.Vec.{Vec}
 use Rattle.std.specs.declared.alloc.Global.{Global}
 use Rattle.chipdb_reader.specs.declared.nets.Nets.{Nets}
 use Rattle.chipdb_reader.specs.Nets.{IsNetIndex, earlier_names, is_name, last_names, names_with, net_names, items_of}
-use Rattle.chipdb_reader.specs.Texts.{IsIndexed, Interns, text_at}
+use Rattle.chipdb_reader.specs.Texts.{IsIndexed, text_at}
 use Rattle.chipdb_reader.proofs.Searches.{bytes_eq-true}
 use Rattle.chipdb_reader.proofs.NameSteps.{text-tie, eqb-sym}
 

@@ -1,18 +1,16 @@
 -- What is kept says the same where more names and more bits are kept.
-use Rattle.std.proofs.Common.{◌≡◌, ℕ, ◌+◌, ◌-◌, ◌<◌, ◌≤◌, List, [], ◌∷◌, ◌++◌, length, length-append, length-drop, take, drop, map, get_or, refl, sym, ap, ◌∙◌, arith}
+use Rattle.std.proofs.Common.{◌≡◌, ℕ, ◌+◌, ◌<◌, ◌≤◌, List, [], ◌∷◌, ◌++◌, length, length-append, length-drop, take, drop, map, get_or, refl, ap, ◌∙◌, arith}
 use Rattle.std.specs.Prelude.{All}
 use Rattle.std.proofs.lemmas.List.{get_or_append_left, take-append-le, drop-append-le, length-take-le}
 use Rattle.std.proofs.lemmas.List.Elements.{All-head, All-tail}
 use Rattle.plane_map.specs.declared.tile.RowCol.{RowCol}
 use Rattle.chipdb_lines.specs.declared.bits.BitList.{BitList}
 use Rattle.chipdb_lines.specs.declared.links.LinkHead.{LinkHead as KeptHead}
-use Rattle.chipdb_lines.specs.Items.{NameLine, FunctionLine, ExtraLine}
 use Rattle.chipdb_lines.specs.Kept.{bits_named, head_named, low_bits, IsListOf}
 use Rattle.chipdb_reader.specs.declared.items.NetName.{NetName}
 use Rattle.chipdb_reader.specs.declared.items.LinkLine.{LinkLine}
 use Rattle.chipdb_reader.specs.declared.items.Function.{Function}
 use Rattle.chipdb_reader.specs.declared.items.Extra.{Extra}
-use Rattle.chipdb_reader.specs.Database.{Link}
 use Rattle.chipdb_reader.specs.Texts.{text_at}
 use Rattle.chipdb_reader.specs.Kept.{name_line, name_lines, link_line, link_lines, function_line, function_lines, extra_line, extra_lines}
 

@@ -1,28 +1,24 @@
 -- The reader keeps what the lines so far give, and one line more.
-use Rattle.std.proofs.Common.{◌≡◌, ℕ, ◌+◌, ◌-◌, ◌^◌, ◌<◌, ◌≤◌, Bool, true, false, ◌&&◌, ◌||◌, cond, List, [], ◌∷◌, ◌++◌, length, drop, map, append-nil, refl, sym, ap, ◌∙◌, inl, inr, arith, subst}
-use Rattle.std.specs.Prelude.{Option, Some, None, Result, Ok, Err, All, nat_lt}
+use Rattle.std.proofs.Common.{◌≡◌, ℕ, ◌+◌, ◌^◌, ◌<◌, ◌≤◌, Bool, false, ◌&&◌, ◌||◌, List, [], ◌++◌, length, drop, map, append-nil, refl, sym, ap, ◌∙◌, arith}
+use Rattle.std.specs.Prelude.{Option, Some, None, All, nat_lt}
 use Rattle.std.specs.List.{list_any}
-use Rattle.std.proofs.lemmas.Bool.{cases_Bool, lt-ltb}
+use Rattle.std.proofs.lemmas.Bool.{lt-ltb}
 use Rattle.std.proofs.Math.Bool.{or-false}
 use Rattle.text_lines.specs.Lines.{line_at}
-use Rattle.place_search.specs.Places.{any_below, last_below, gathered_below}
+use Rattle.place_search.specs.Places.{gathered_below}
 use Rattle.place_search.proofs.Places.{any_below-more, last_below-place, gathered_below-more}
-use Rattle.chipdb_lines.specs.declared.chip.Chip.{Chip}
 use Rattle.chipdb_lines.specs.declared.statements.Below.{Below}
 use Rattle.chipdb_lines.specs.declared.statements.Below.TheVariants.{Passed, Device, GlobalInputs, GlobalPins, Functions, ExtraBits, Names, Buffers, Routings}
 use Rattle.chipdb_lines.specs.declared.links.LinkHead.{LinkHead as KeptHead}
-use Rattle.chipdb_lines.specs.Words.{is_statement, own_words}
+use Rattle.chipdb_lines.specs.Words.{is_statement}
 use Rattle.chipdb_lines.specs.Statements.{Block, passed, of_device, global_inputs, global_pins, functions, extra_bits, names, buffers, routings}
 use Rattle.chipdb_lines.specs.Items.{LinkChoice}
 use Rattle.chipdb_lines.specs.Kept.{block_named, low_bits, IsListOf}
-use Rattle.chipdb_reader.specs.declared.items.NetName.{NetName}
 use Rattle.chipdb_reader.specs.declared.items.LinkLine.{LinkLine}
-use Rattle.chipdb_reader.specs.declared.items.Function.{Function}
-use Rattle.chipdb_reader.specs.declared.items.Extra.{Extra}
 use Rattle.chipdb_reader.specs.declared.reading.Reader.{Reader}
-use Rattle.chipdb_reader.specs.Blocks.{chip_before, statement_over, block_over, own_words_at}
+use Rattle.chipdb_reader.specs.Blocks.{chip_before, statement_over, block_over}
 use Rattle.chipdb_reader.specs.Buffers.{chosen_src}
-use Rattle.chipdb_reader.specs.Database.{Link, Said, nothing, said_at, said_by, any_since, is_chosen_before, new_choices, buffers_in, buffers_at, routings_in, routings_at}
+use Rattle.chipdb_reader.specs.Database.{Said, nothing, said_at, any_since, is_chosen_before, new_choices, buffers_in, buffers_at, routings_in, routings_at}
 use Rattle.chipdb_reader.specs.Faults.{is_net_before}
 use Rattle.chipdb_reader.specs.Kept.{name_lines, link_lines, function_lines, extra_lines}
 use Rattle.chipdb_reader.specs.Nets.{net_names, has_net}

@@ -1,7 +1,6 @@
 -- Lines below statements: what is kept after each, and that none is faulty that is taken.
-use Rattle.std.proofs.Common.{◌≡◌, ℕ, ◌+◌, ◌-◌, ◌^◌, ◌<◌, ◌≤◌, Bool, true, false, ◌&&◌, ◌||◌, cond, List, [], ◌∷◌, ◌++◌, length, length-append, drop, map, append-nil, refl, sym, ap, ◌∙◌, inl, inr, arith, subst}
-use Rattle.std.specs.Prelude.{Option, Some, None, Result, Ok, Err, All, nat_le, is_some}
-use Rattle.std.specs.Result.{result_err}
+use Rattle.std.proofs.Common.{◌≡◌, ℕ, ◌+◌, ◌<◌, ◌≤◌, false, List, [], ◌∷◌, ◌++◌, length, length-append, append-nil, refl, sym, ap, ◌∙◌, arith, subst}
+use Rattle.std.specs.Prelude.{Some, All, nat_le}
 use Rattle.std.specs.declared.vec.Vec.{Vec}
 use Rattle.std.specs.declared.alloc.Global.{Global}
 use Rattle.std.proofs.lemmas.Bool.{lt-leb}
@@ -10,16 +9,15 @@ use Rattle.std.proofs.lemmas.List.Elements.{All-push}
 use Rattle.text_lines.specs.Lines.{line_at}
 use Rattle.plane_map.specs.declared.tile.TileKind.{TileKind}
 use Rattle.plane_map.specs.declared.tile.RowCol.{RowCol}
-use Rattle.chipdb_lines.specs.declared.cause.DbCause.{DbCause}
 use Rattle.chipdb_lines.specs.declared.chip.Chip.{Chip}
 use Rattle.chipdb_lines.specs.declared.globals.GlobalInput.{GlobalInput}
 use Rattle.chipdb_lines.specs.declared.globals.GlobalPin.{GlobalPin}
 use Rattle.chipdb_lines.specs.declared.statements.Below.{Below}
-use Rattle.chipdb_lines.specs.declared.statements.Below.TheVariants.{Passed, Device, GlobalInputs, GlobalPins, Functions, ExtraBits, Names, Buffers, Routings}
+use Rattle.chipdb_lines.specs.declared.statements.Below.TheVariants.{GlobalInputs, GlobalPins, Functions, ExtraBits}
 use Rattle.chipdb_lines.specs.Words.{is_statement}
-use Rattle.chipdb_lines.specs.Statements.{Block, passed, of_device, global_inputs, global_pins, functions, extra_bits, names, buffers, routings}
+use Rattle.chipdb_lines.specs.Statements.{Block}
 use Rattle.chipdb_lines.specs.declared.bits.BitList.{BitList}
-use Rattle.chipdb_lines.specs.Items.{FunctionLine, ExtraLine, global_input_of, global_pin_of, function_of, extra_of}
+use Rattle.chipdb_lines.specs.Items.{FunctionLine, ExtraLine, global_input_of, global_pin_of}
 use Rattle.chipdb_lines.specs.Kept.{block_named, bits_named, IsListOf}
 use Rattle.chipdb_reader.specs.declared.items.Function.{Function}
 use Rattle.chipdb_reader.specs.declared.items.Extra.{Extra}
@@ -31,12 +29,12 @@ use Rattle.chipdb_reader.specs.Blocks.{chip_before, block_over, own_words_at}
 use Rattle.chipdb_reader.specs.Database.{Said, nothing, item, said_at, said_for}
 use Rattle.chipdb_reader.specs.Faults.{cause_at, item_cause}
 use Rattle.chipdb_reader.specs.Kept.{name_lines, link_lines, function_line, function_lines, extra_line, extra_lines}
-use Rattle.chipdb_reader.specs.Nets.{net_names, has_net}
-use Rattle.chipdb_reader.specs.Texts.{Interns, text_at}
-use Rattle.chipdb_reader.specs.Reading.{IsReady, Pushes, PushesFunction, PushesExtra}
+use Rattle.chipdb_reader.specs.Nets.{net_names}
+use Rattle.chipdb_reader.specs.Texts.{Interns}
+use Rattle.chipdb_reader.specs.Reading.{Pushes, PushesFunction, PushesExtra}
 use Rattle.chipdb_reader.proofs.Grown.{names-grown, extras-grown, functions-grown, links-grown, IsListOf-grown, All-weaker}
 use Rattle.chipdb_reader.proofs.TextSteps.{text-found}
-use Rattle.chipdb_reader.proofs.Holds.{Holds, InRange, ChoicesHold, own-step, kept-list, buffers_at-nothing, routings_at-nothing}
+use Rattle.chipdb_reader.proofs.Holds.{Holds, InRange, own-step, kept-list, buffers_at-nothing, routings_at-nothing}
 
 -- what the words of a line say
 pub said-is : (lines : List (List ℕ)) (n : ℕ) (word : List ℕ) (words : List (List ℕ)) (chip : Chip) (block : Block)

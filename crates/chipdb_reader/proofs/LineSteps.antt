@@ -1,7 +1,6 @@
 -- Lines: what is kept after each, and which are faulty.
-use Rattle.std.proofs.Common.{◌≡◌, ℕ, ◌+◌, ◌<◌, ◌≤◌, Bool, true, false, cond, List, [], ◌∷◌, length, refl, sym, ap, ◌∙◌, inl, inr, arith, subst}
-use Rattle.std.specs.Prelude.{Option, Some, None, Result, Ok, Err, nat_le, is_some}
-use Rattle.std.specs.Bool.{MatchBool}
+use Rattle.std.proofs.Common.{◌≡◌, ℕ, ◌+◌, ◌<◌, false, List, [], ◌∷◌, length, refl, sym, ap, ◌∙◌, inl, inr, subst}
+use Rattle.std.specs.Prelude.{Option, Some, None, nat_le, is_some}
 use Rattle.std.specs.Result.{result_err}
 use Rattle.std.proofs.lemmas.Bool.{cases_Bool, lt-leb, MatchBool-at_true, MatchBool-at_false}
 use Rattle.text_lines.specs.Lines.{line_at}
@@ -11,13 +10,13 @@ use Rattle.chipdb_lines.specs.declared.chip.Chip.{Chip}
 use Rattle.chipdb_lines.specs.declared.links.LinkHead.{LinkHead as KeptHead}
 use Rattle.chipdb_lines.specs.declared.statements.Below.{Below}
 use Rattle.chipdb_lines.specs.declared.statements.Below.TheVariants.{Passed, Device, GlobalInputs, GlobalPins, Functions, ExtraBits, Names, Buffers, Routings}
-use Rattle.chipdb_lines.specs.Words.{is_statement, own_words}
+use Rattle.chipdb_lines.specs.Words.{is_statement}
 use Rattle.chipdb_lines.specs.Statements.{Block}
 use Rattle.chipdb_lines.specs.Items.{choice_of}
 use Rattle.chipdb_lines.specs.Kept.{IsListOf}
 use Rattle.chipdb_reader.specs.declared.reading.Reader.{Reader}
 use Rattle.chipdb_reader.specs.Blocks.{chip_before, block_over, own_words_at}
-use Rattle.chipdb_reader.specs.Database.{Said, nothing, said_at, said_by}
+use Rattle.chipdb_reader.specs.Database.{nothing, said_at, said_by}
 use Rattle.chipdb_reader.specs.Faults.{cause_at, cause_if, choice_cause, name_cause, own_cause}
 use Rattle.chipdb_reader.specs.Reading.{IsReady, IsBelowReady, TakesItem, TakesWords, TakesLine, RefusesItem, RefusesWords, RefusesLine, NameRefusal, BufferRefusal, name_own, name_twice, buffer_own, buffer_twice}
 use Rattle.chipdb_reader.proofs.Grown.{length-bits_named}

@@ -1,43 +1,37 @@
 -- Lines of `.routing` and `.buffer`: what is kept after each, and which are faulty.
-use Rattle.std.proofs.Common.{◌≡◌, ℕ, zero, suc, ◌+◌, ◌-◌, ◌*◌, ◌/◌, ◌%◌, ◌^◌, ◌<◌, ◌≤◌, Bool, true, false, not, ◌&&◌, ◌||◌, cond, eqb, List, [], ◌∷◌, ◌++◌, length, drop, map, append-nil, refl, sym, ap, ◌∙◌, inl, inr, arith, subst, true≢false}
-use Rattle.std.specs.Prelude.{◌==◌, Option, Some, None, Result, Ok, Err, All, nat_eq}
+use Rattle.std.proofs.Common.{◌≡◌, ℕ, zero, suc, ◌+◌, ◌*◌, ◌/◌, ◌%◌, ◌^◌, ◌<◌, Bool, true, false, not, ◌&&◌, ◌||◌, cond, eqb, List, [], ◌∷◌, ◌++◌, length, drop, map, append-nil, refl, sym, ap, ◌∙◌, inl, inr, arith, subst, true≢false}
+use Rattle.std.specs.Prelude.{◌==◌, Option, Some, None, Ok, All, nat_eq}
 use Rattle.std.specs.Bool.{beq}
 use Rattle.std.specs.Cmp.Lexicographic.{pointwise}
 use Rattle.std.specs.List.{list_any}
 use Rattle.std.specs.Map.{lookup}
-use Rattle.std.specs.Result.{result_err}
 use Rattle.std.specs.declared.vec.Vec.{Vec}
 use Rattle.std.specs.declared.alloc.Global.{Global}
 use Rattle.std.proofs.lemmas.Bool.{cases_Bool, cases_eq, eqb-true, eqb-false, eq-eqb, ne_eqb, or_left, or_right, or_from, and_parts}
 use Rattle.std.proofs.lemmas.List.{map-append, drop-append-le}
 use Rattle.std.proofs.lemmas.List.Elements.{All-head, All-tail, All-push}
-use Rattle.std.proofs.Math.Bool.{or-false, or-true}
+use Rattle.std.proofs.Math.Bool.{or-false}
 use Rattle.std.proofs.Math.Nat.{pow-succ'}
-use Rattle.text_lines.specs.Lines.{line_at}
 use Rattle.plane_map.specs.declared.tile.RowCol.{RowCol}
-use Rattle.chipdb_lines.specs.declared.cause.DbCause.{DbCause}
 use Rattle.chipdb_lines.specs.declared.cause.DbCause.TheVariants.{ValuesTwice}
 use Rattle.chipdb_lines.specs.declared.chip.Chip.{Chip}
 use Rattle.chipdb_lines.specs.declared.links.LinkHead.{LinkHead as KeptHead}
 use Rattle.chipdb_lines.specs.declared.links.Choice.{Choice}
-use Rattle.chipdb_lines.specs.declared.statements.Below.{Below}
 use Rattle.chipdb_lines.specs.declared.statements.Below.TheVariants.{Buffers, Routings}
-use Rattle.chipdb_lines.specs.Words.{is_statement}
-use Rattle.chipdb_lines.specs.Statements.{Block, buffers, routings}
 use Rattle.chipdb_lines.specs.Items.{LinkChoice, choice_of}
 use Rattle.chipdb_lines.specs.Kept.{block_named, bits_named, choice_named, head_named, low_bits, IsListOf}
 use Rattle.chipdb_reader.specs.declared.items.LinkLine.{LinkLine}
 use Rattle.chipdb_reader.specs.declared.reading.Reader.{Reader}
 use Rattle.chipdb_reader.specs.Blocks.{block_over}
 use Rattle.chipdb_reader.specs.Buffers.{AddsBuffer, buffer_cause, choice_cause_of, chosen_src, choices_of, with_line}
-use Rattle.chipdb_reader.specs.Database.{Link, Said, nothing, item, said_at, said_for, link_of, new_choices, buffers_in, buffers_at, routings_in, routings_at, is_chosen_before, has_same_values, is_same_choice, is_other_choice}
-use Rattle.chipdb_reader.specs.Faults.{cause_at, cause_if, choice_cause, item_cause}
+use Rattle.chipdb_reader.specs.Database.{Said, nothing, item, said_at, link_of, new_choices, buffers_in, buffers_at, routings_in, routings_at, is_chosen_before, has_same_values, is_same_choice, is_other_choice}
+use Rattle.chipdb_reader.specs.Faults.{cause_at, cause_if, choice_cause}
 use Rattle.chipdb_reader.specs.Kept.{link_line, link_lines}
-use Rattle.chipdb_reader.specs.Reading.{IsReady, Chooses, PushesRouting, PushesBuffer, link_with}
+use Rattle.chipdb_reader.specs.Reading.{Chooses, PushesRouting, PushesBuffer, link_with}
 use Rattle.std.proofs.lemmas.List.Folds.{list_any-append}
 use Rattle.place_search.specs.Places.{or_else}
 use Rattle.chipdb_reader.proofs.Grown.{length-bits_named, All-weaker}
-use Rattle.chipdb_reader.proofs.Holds.{Holds, InRange, ChoicesHold, LastHolds, IsLastLine, kept_choice, last_lines, chosen-own, own-step, kept-list}
+use Rattle.chipdb_reader.proofs.Holds.{Holds, ChoicesHold, LastHolds, IsLastLine, kept_choice, last_lines, chosen-own, own-step, kept-list}
 use Rattle.chipdb_reader.proofs.ItemSteps.{At, block-at, said-at, cause-at, few-more}
 use Rattle.chipdb_reader.proofs.Searches.{lookup-push}
 

@@ -1,34 +1,30 @@
 -- Names of nets: what is kept after each line, and which are faulty.
-use Rattle.std.proofs.Common.{◌≡◌, ℕ, zero, suc, ◌+◌, ◌<◌, ◌≤◌, Bool, true, false, ◌&&◌, ◌||◌, cond, eqb, List, [], ◌∷◌, ◌++◌, length, length-append, map, append-nil, refl, sym, ap, ◌∙◌, inl, inr, arith, subst, true≢false}
-use Rattle.std.specs.Prelude.{Option, Some, None, Result, Ok, Err, All, bytes_eq, is_some, position}
+use Rattle.std.proofs.Common.{◌≡◌, ℕ, zero, suc, ◌+◌, ◌<◌, ◌≤◌, Bool, true, false, ◌&&◌, ◌||◌, cond, eqb, List, [], ◌∷◌, ◌++◌, length, length-append, append-nil, refl, sym, ap, ◌∙◌, inl, inr, arith, subst}
+use Rattle.std.specs.Prelude.{Option, Some, Ok, All, bytes_eq, is_some, position}
 use Rattle.std.specs.List.{list_any}
 use Rattle.std.specs.Map.{lookup}
-use Rattle.std.specs.Cmp.{unsigned_ties}
 use Rattle.std.proofs.lemmas.Bool.{cases_Bool, cases_eq, eq-eqb, ne_eqb}
 use Rattle.std.proofs.lemmas.Bool.Decides.{nat_tests}
 use Rattle.std.proofs.lemmas.List.{map-append}
 use Rattle.std.proofs.lemmas.List.Elements.{All-head, All-tail, All-push}
 use Rattle.std.proofs.lemmas.List.Folds.{list_any-append}
-use Rattle.text_lines.specs.Lines.{line_at}
 use Rattle.place_search.specs.Places.{any_below, gathered_below}
-use Rattle.chipdb_lines.specs.declared.cause.DbCause.{DbCause}
 use Rattle.chipdb_lines.specs.declared.cause.DbCause.TheVariants.{NameTwice}
 use Rattle.chipdb_lines.specs.declared.chip.Chip.{Chip}
-use Rattle.chipdb_lines.specs.declared.statements.Below.{Below}
 use Rattle.chipdb_lines.specs.declared.statements.Below.TheVariants.{Names}
 use Rattle.chipdb_lines.specs.Items.{NameLine, name_of}
 use Rattle.chipdb_reader.specs.declared.items.NetName.{NetName}
 use Rattle.chipdb_reader.specs.declared.texts.Texts.{Texts}
 use Rattle.chipdb_reader.specs.declared.reading.Reader.{Reader}
-use Rattle.chipdb_reader.specs.Database.{Said, nothing, item, said_at, said_for}
+use Rattle.chipdb_reader.specs.Database.{Said, nothing, item, said_at}
 use Rattle.chipdb_reader.specs.Faults.{cause_at, cause_if, is_named_before, is_same_name, name_cause}
 use Rattle.chipdb_reader.specs.Kept.{name_line, name_lines}
 use Rattle.chipdb_reader.specs.Nets.{is_name, named_net, net_names}
 use Rattle.chipdb_reader.specs.Texts.{Interns, text_at}
-use Rattle.chipdb_reader.specs.Reading.{IsReady, PushesName, IsNamedTwice}
+use Rattle.chipdb_reader.specs.Reading.{PushesName}
 use Rattle.chipdb_reader.proofs.Grown.{text-grown}
-use Rattle.chipdb_reader.proofs.Holds.{Holds, InRange, own-step, kept-list, buffers_at-nothing, routings_at-nothing}
-use Rattle.chipdb_reader.proofs.ItemSteps.{At, said-at, cause-at, Counts, interned-counts, in_range-grown, names-kept, extras-kept, functions-kept}
+use Rattle.chipdb_reader.proofs.Holds.{Holds, own-step, kept-list, buffers_at-nothing, routings_at-nothing}
+use Rattle.chipdb_reader.proofs.ItemSteps.{At, said-at, cause-at, interned-counts, in_range-grown, names-kept, extras-kept, functions-kept}
 use Rattle.chipdb_reader.proofs.Searches.{bytes_eq-same, bytes_eq-true}
 use Rattle.chipdb_reader.proofs.TextSteps.{text-found}
 

@@ -1,5 +1,5 @@
 -- What a call says that didn't fail, by the result that was made of its own.
-use Rattle.std.proofs.Common.{◌≡◌, Bool, true, false, cond, refl, sym, ap, ◌∙◌, true≢false}
+use Rattle.std.proofs.Common.{◌≡◌, true, false, refl, sym, ap, ◌∙◌, true≢false}
 use Rattle.std.specs.Prelude.{Option, Some, None, Result, Ok, Err, is_ok, is_some, OnOk, IfOk}
 
 -- a fact of a call that didn't fail

@@ -1,6 +1,6 @@
 -- Statements: what is kept after each, and which are faulty.
-use Rattle.std.proofs.Common.{◌≡◌, ℕ, ◌+◌, ◌<◌, ◌≤◌, Bool, true, false, ◌&&◌, ◌||◌, cond, List, [], ◌∷◌, ◌++◌, length, drop, map, append-nil, refl, sym, ap, ◌∙◌, inl, inr, arith, subst, true≢false}
-use Rattle.std.specs.Prelude.{Option, Some, None, Result, Ok, Err, All, nat_le, nat_lt}
+use Rattle.std.proofs.Common.{◌≡◌, ℕ, ◌+◌, ◌<◌, ◌≤◌, Bool, true, false, ◌&&◌, ◌||◌, cond, List, [], ◌++◌, length, drop, append-nil, refl, sym, ap, ◌∙◌, arith, subst}
+use Rattle.std.specs.Prelude.{Option, Some, None, Result, Ok, Err, nat_le, nat_lt}
 use Rattle.std.specs.Result.{result_err}
 use Rattle.std.specs.List.{list_any}
 use Rattle.std.specs.declared.vec.Vec.{Vec}
@@ -10,32 +10,30 @@ use Rattle.std.proofs.lemmas.List.Elements.{All-nil}
 use Rattle.std.proofs.Math.Bool.{or-false}
 use Rattle.std.proofs.Math.Seq.{drop-length}
 use Rattle.text_lines.specs.Lines.{line_at}
-use Rattle.place_search.specs.Places.{any_below, gathered_below, or_else}
+use Rattle.place_search.specs.Places.{or_else}
 use Rattle.place_search.proofs.Places.{any_below-more, any_below-none, or_else-none}
 use Rattle.plane_map.specs.declared.tile.RowCol.{RowCol}
 use Rattle.chipdb_lines.specs.declared.cause.DbCause.{DbCause}
 use Rattle.chipdb_lines.specs.declared.cause.DbCause.TheVariants.{NetTwice}
 use Rattle.chipdb_lines.specs.declared.chip.Chip.{Chip}
-use Rattle.chipdb_lines.specs.declared.links.LinkHead.{LinkHead as KeptHead}
 use Rattle.chipdb_lines.specs.declared.statements.Below.{Below}
 use Rattle.chipdb_lines.specs.declared.statements.Below.TheVariants.{Passed, Device, GlobalInputs, GlobalPins, Functions, ExtraBits, Names, Buffers, Routings}
 use Rattle.chipdb_lines.specs.Words.{is_statement, own_words, words_in}
 use Rattle.chipdb_lines.specs.Statements.{Block, statement_of}
 use Rattle.chipdb_lines.specs.Items.{LinkChoice}
-use Rattle.chipdb_lines.specs.Kept.{block_named, Extends, IsBelowIn, IsListOf}
-use Rattle.chipdb_reader.specs.declared.items.LinkLine.{LinkLine}
+use Rattle.chipdb_lines.specs.Kept.{block_named, Extends, IsBelowIn}
 use Rattle.chipdb_reader.specs.declared.nets.Nets.{Nets}
 use Rattle.chipdb_reader.specs.declared.buffers.Buffers.{Buffers as KeptBuffers}
 use Rattle.chipdb_reader.specs.declared.reading.Reader.{Reader}
-use Rattle.chipdb_reader.specs.Blocks.{chip_before, chip_in, statement_at, statement_over, block_over, own_words_at}
+use Rattle.chipdb_reader.specs.Blocks.{chip_in, statement_at, own_words_at}
 use Rattle.chipdb_reader.specs.Buffers.{BeginsBuffers}
-use Rattle.chipdb_reader.specs.Database.{Said, nothing, said_at, any_since, is_chosen_before, buffers_at, routings_at}
+use Rattle.chipdb_reader.specs.Database.{nothing, said_at, any_since, is_chosen_before, buffers_at, routings_at}
 use Rattle.chipdb_reader.specs.Faults.{cause_at, cause_if, is_net, is_net_before, net_in, statement_cause}
 use Rattle.chipdb_reader.specs.Kept.{name_lines, link_lines}
-use Rattle.chipdb_reader.specs.Nets.{IsNetIndex, BeginsNet, has_net, net_names}
-use Rattle.chipdb_reader.specs.Reading.{IsReady, IsBelowReady, BeginsBlock, ChangesAt, begin_cause, TakesStatement, StatementRefusal, statement_own, statement_twice}
+use Rattle.chipdb_reader.specs.Nets.{IsNetIndex, has_net, net_names}
+use Rattle.chipdb_reader.specs.Reading.{IsBelowReady, ChangesAt, begin_cause, TakesStatement, StatementRefusal, statement_own, statement_twice}
 use Rattle.chipdb_reader.proofs.BlockSteps.{chip-statement, chip-given, over-statement, block-statement, device_of}
-use Rattle.chipdb_reader.proofs.Holds.{Holds, InRange, ChoicesHold, last_lines, kept_choice, list-step, buffers_at-nothing, routings_at-nothing}
+use Rattle.chipdb_reader.proofs.Holds.{Holds, ChoicesHold, last_lines, list-step, buffers_at-nothing, routings_at-nothing}
 use Rattle.chipdb_reader.proofs.ItemSteps.{in_range-grown, functions-kept, links-kept}
 
 -- ---- causes

@@ -1,5 +1,5 @@
 -- The definitions at small texts, worked out by hand.
-use Rattle.std.proofs.Common.{◌≡◌, [], ◌∷◌, ◌++◌, List, ℕ, refl, true, false}
+use Rattle.std.proofs.Common.{◌≡◌, refl}
 use Rattle.std.specs.Prelude.{codes, Some, None}
 use Rattle.text_lines.specs.Lines.{lines_of}
 use Rattle.text_lines.specs.Words.{words_of, pieces_of, number_of, numbers_of}
@@ -11,7 +11,7 @@ use Rattle.chipdb_lines.specs.Statements.{keyword_of, chip_of_words, tile_bits_o
 use Rattle.chipdb_lines.specs.Items.{global_input_of, global_pin_of, function_of, extra_of, name_of, choice_of}
 use Rattle.chipdb_reader.specs.Blocks.{chip_in, chip_before, statement_at, statement_over, block_over}
 use Rattle.chipdb_reader.specs.Database.{said_at, is_chosen_before, buffers_at, routings_at, database_of}
-use Rattle.chipdb_reader.specs.Faults.{is_net_before, is_named_before, cause_at, Fault, fault_of_lines, db_fault_of}
+use Rattle.chipdb_reader.specs.Faults.{is_net_before, is_named_before, cause_at, fault_of_lines, db_fault_of}
 
 -- an empty text has no device
 empty : db_fault_of (codes "") ≡ Some (record { line = 1; cause = NoDevice })

@@ -1,5 +1,5 @@
 -- To which statement a line belongs, and what it says for it. Places of lines count from 0.
-use Rattle.std.specs.Prelude.{ℕ, Bool, true, false, List, [], ◌∷◌, drop, get_or, if◌then◌else◌, Option, Some, None, Result, Ok, Err, unwrap_or}
+use Rattle.std.specs.Prelude.{ℕ, List, [], drop, get_or, if◌then◌else◌, Option, Some, None, Result}
 use Rattle.std.specs.Result.{result_unwrap_or}
 use Rattle.text_lines.specs.Lines.{line_at}
 use Rattle.place_search.specs.Places.{last_below, first_below}

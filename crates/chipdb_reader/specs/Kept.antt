@@ -1,5 +1,5 @@
 -- A database as it is kept, and what it says.
-use Rattle.std.specs.Prelude.{◌≡◌, ℕ, ◌<◌, List, map, length, All}
+use Rattle.std.specs.Prelude.{ℕ, List, map, length}
 use Rattle.plane_map.specs.declared.tile.RowCol.{RowCol}
 use Rattle.chipdb_lines.specs.declared.chip.Chip.{Chip}
 use Rattle.chipdb_lines.specs.declared.globals.GlobalInput.{GlobalInput}

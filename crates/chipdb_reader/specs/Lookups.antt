@@ -1,5 +1,5 @@
 -- What look-ups find in the lists of a database.
-use Rattle.std.specs.Prelude.{ℕ, Bool, true, false, ◌&&◌, List, [], ◌∷◌, find, filter, position, bytes_eq, ◌==◌, Option, Some, None}
+use Rattle.std.specs.Prelude.{ℕ, Bool, ◌&&◌, List, find, filter, position, bytes_eq, ◌==◌, Option}
 use Rattle.std.specs.Option.{option_map}
 use Rattle.plane_map.specs.declared.tile.TileKind.{TileKind}
 use Rattle.plane_map.specs.declared.tile.Place.{Place}

@@ -3,7 +3,7 @@
 use Rattle.std.specs.Bool.{MatchBool}
 use Rattle.std.specs.declared.vec.Vec.{Vec}
 use Rattle.std.specs.declared.alloc.Global.{Global}
-use Rattle.std.specs.Prelude.{◌≡◌, ℕ, ◌<◌, ◌^◌, Bool, true, false, List, [], ◌∷◌, ◌++◌, length, is_some, if◌then◌else◌, Option, Some, None, Result, Ok, Err}
+use Rattle.std.specs.Prelude.{◌≡◌, ℕ, ◌<◌, ◌^◌, true, false, List, [], ◌∷◌, ◌++◌, length, is_some, if◌then◌else◌, Option, Some, None, Result, Ok, Err}
 use Rattle.std.specs.Result.{result_err, MatchResult}
 use Rattle.place_search.specs.Places.{or_else}
 use Rattle.plane_map.specs.declared.device.DeviceName.{DeviceName}
@@ -18,11 +18,10 @@ use Rattle.chipdb_lines.specs.declared.links.LinkHead.{LinkHead}
 use Rattle.chipdb_lines.specs.declared.links.Choice.{Choice}
 use Rattle.chipdb_lines.specs.declared.statements.Below.{Below}
 use Rattle.chipdb_lines.specs.declared.statements.Below.TheVariants.{Passed, Device, GlobalInputs, GlobalPins, Functions, ExtraBits, Names, Buffers, Routings}
-use Rattle.chipdb_lines.specs.Items.{NameLine, FunctionLine, ExtraLine, name_of, function_of, extra_of, global_input_of, global_pin_of, choice_of}
+use Rattle.chipdb_lines.specs.Items.{name_of, function_of, extra_of, global_input_of, global_pin_of, choice_of}
 use Rattle.chipdb_lines.specs.Kept.{bits_named, block_named, choice_named, Extends, IsBelowIn, IsListOf}
 use Rattle.chipdb_lines.specs.Statements.{statement_of}
 use Rattle.chipdb_lines.specs.Words.{is_statement, own_words, words_in}
-use Rattle.chipdb_reader.specs.declared.items.NetName.{NetName}
 use Rattle.chipdb_reader.specs.declared.items.LinkLine.{LinkLine}
 use Rattle.chipdb_reader.specs.declared.items.Function.{Function}
 use Rattle.chipdb_reader.specs.declared.items.Extra.{Extra}

@@ -1,6 +1,5 @@
 -- What is kept is in order.
-use Rattle.std.specs.Prelude.{◌≡◌, ℕ, ◌<◌, List, length, All, None}
-use Rattle.chipdb_reader.specs.declared.items.NetName.{NetName}
+use Rattle.std.specs.Prelude.{◌≡◌, ◌<◌, List, length, All, None}
 use Rattle.chipdb_reader.specs.declared.items.Function.{Function}
 use Rattle.chipdb_reader.specs.declared.items.Extra.{Extra}
 use Rattle.chipdb_reader.specs.declared.texts.Texts.{Texts}

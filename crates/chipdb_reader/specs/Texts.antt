@@ -1,5 +1,5 @@
 -- Names by their places, and the index from a name to its place.
-use Rattle.std.specs.Prelude.{◌≡◌, ℕ, ◌<◌, ◌≤◌, List, [], ◌++◌, length, get_or, bytes_eq, position, Option, Some}
+use Rattle.std.specs.Prelude.{◌≡◌, ℕ, ◌<◌, ◌≤◌, List, [], ◌++◌, length, get_or, bytes_eq, position, Some}
 use Rattle.std.specs.Map.{lookup}
 use Rattle.chipdb_reader.specs.declared.texts.Texts.{Texts}
 

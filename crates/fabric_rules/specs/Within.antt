@@ -1,5 +1,5 @@
 -- The nets that the parts of a fabric name are among its nets: the numbers below their count.
-use Rattle.std.specs.Prelude.{ℕ, ◌<◌, List, All, Option, Some, None}
+use Rattle.std.specs.Prelude.{ℕ, ◌<◌, All, Option, Some, None}
 use Rattle.fabric_rules.specs.declared.cell.Lc.{Lc}
 use Rattle.fabric_rules.specs.declared.cell.CarrySet.{CarrySet}
 use Rattle.fabric_rules.specs.declared.ram.RamCell.{RamCell}

@@ -1,4 +1,6 @@
 // The fields that a layout file gives.
+ghost use Rattle.std.specs.Prelude.{◌≡◌};
+ghost use Rattle.layout_file.specs.Lines.{flag_named, numbers_named};
 
 /// A field that is a list of numbers.
 #[derive(Clone, Copy, Debug, PartialEq, Eq)]
@@ -15,6 +17,27 @@ pub enum Numbers {
     Banks,
 }
 
+impl Numbers {
+    /// The field that a word names.
+    pub(crate) fn named(word: &[u8]) -> Option<Numbers>
+        ensures { result ≡ numbers_named word.now }
+    {
+        if word == b"widths".as_slice() {
+            Some(Numbers::Widths)
+        } else if word == b"sidecols".as_slice() {
+            Some(Numbers::SideColumns)
+        } else if word == b"iocols".as_slice() {
+            Some(Numbers::PadColumns)
+        } else if word == b"iorows".as_slice() {
+            Some(Numbers::PadRows)
+        } else if word == b"banks".as_slice() {
+            Some(Numbers::Banks)
+        } else {
+            None
+        }
+    }
+}
+
 /// A field that is `yes` or `no`.
 #[derive(Clone, Copy, Debug, PartialEq, Eq)]
 pub enum Flag {
@@ -27,4 +50,23 @@ pub enum Flag {
     PadMirror,
     /// `ramflip`: whether the RAMs of the top half are counted from the top.
     RamFlip,
+}
+
+impl Flag {
+    /// The field that a word names.
+    pub(crate) fn named(word: &[u8]) -> Option<Flag>
+        ensures { result ≡ flag_named word.now }
+    {
+        if word == b"mirror".as_slice() {
+            Some(Flag::Mirror)
+        } else if word == b"flip".as_slice() {
+            Some(Flag::Flip)
+        } else if word == b"padmirror".as_slice() {
+            Some(Flag::PadMirror)
+        } else if word == b"ramflip".as_slice() {
+            Some(Flag::RamFlip)
+        } else {
+            None
+        }
+    }
 }

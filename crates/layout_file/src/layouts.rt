@@ -4,7 +4,9 @@ ghost use Rattle.layout_file.specs.Layouts.{standard_layouts, layouts_in, layout
 ghost use Rattle.layout_file.specs.Faults.{layout_fault_of};
 
 use crate::fault::LayoutFault;
+use crate::reader::Reader;
 use plane_map::{DeviceName, Layout};
+use text_lines::first_line;
 
 /// A layout of each device.
 #[derive(Clone, Copy)]
@@ -18,7 +20,10 @@ impl Layouts {
     pub fn standard() -> Layouts
         ensures { result ≡ standard_layouts }
     {
-        todo
+        Layouts {
+            k1: Layout::standard(DeviceName::K1),
+            k8: Layout::standard(DeviceName::K8),
+        }
     }
 
     /// The layouts that a layout file gives, or its first faulty line.
@@ -33,7 +38,15 @@ impl Layouts {
         ensures accepted { IfOk result (λ _. layout_fault_of bytes.now ≡ None) }
         ensures refused { IfErr result (λ fault. layout_fault_of bytes.now ≡ Some fault) }
     {
-        todo
+        let mut reader = Reader::new();
+        let mut left = bytes;
+        let mut count = 0;
+        while let Some(line) = first_line(left) {
+            take_line(&mut reader, count + 1, line.content)?;
+            count += 1;
+            left = line.rest;
+        }
+        Ok(reader.layouts())
     }
 
     /// The layout of a device.
@@ -44,5 +57,25 @@ impl Layouts {
             DeviceName::K1 => self.k1,
             DeviceName::K8 => self.k8,
         }
+    }
+}
+
+ghost use Rattle.layout_file.specs.Lines.{line_of};
+ghost use Rattle.layout_file.specs.Faults.{fault_with};
+ghost use Rattle.layout_file.specs.Reading.{refusal, taken};
+ghost use Rattle.std.specs.Prelude.{OnOk};
+
+/// Takes the next line, which has that number.
+fn take_line(reader: &mut Reader, number: u64, line: &[u8]) -> Result<(), LayoutFault>
+    ensures taken { IfOk result (λ _. reader.new ≡ taken reader.old (line_of line.now)) }
+    ensures fits { OnOk result (refusal reader.old (line_of line.now) ≡ None) }
+    ensures refused { IfErr result (λ fault. fault_with number (refusal reader.old (line_of line.now)) ≡ Some fault) }
+{
+    match reader.accept(line) {
+        Ok(()) => Ok(()),
+        Err(cause) => Err(LayoutFault {
+            line: number,
+            cause,
+        }),
     }
 }

@@ -3,6 +3,7 @@ pub mod Layouts
 pub mod Offsets
 pub mod Owners
 pub mod Places
+pub mod Standard
 pub mod Widths
 pub mod Words
 mod Worked

@@ -7,6 +7,8 @@ use crate::place::{owner_on, place_of_word, place_on};
 use crate::tile::{Place, TileBit, TileKind, WordBit};
 use std::marker::Model;
 
+mod setters;
+
 /// The standard columns of bits of an io tile of the left or the right edge, counted from the side edge.
 const SIDE_COLUMNS: [u8; 18] = [17, 16, 15, 14, 13, 12, 11, 10, 9, 8, 7, 6, 5, 4, 3, 2, 1, 0];
 

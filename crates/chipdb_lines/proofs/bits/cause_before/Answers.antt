@@ -1,5 +1,5 @@
-use Rattle.std.proofs.Common.{◌≡◌, ◌∷◌, true, false, ap, ◌∙◌, refl}
-use Rattle.std.specs.Prelude.{Some, None, is_some}
+use Rattle.std.proofs.Common.{◌≡◌, false, ap, ◌∙◌, refl}
+use Rattle.std.specs.Prelude.{None, is_some}
 use Rattle.chipdb_lines.specs.Words.{bit_of, bits_of, words_in}
 use Rattle.chipdb_lines.proofs.TableBits.{none-by, some-by, some_bits-more, some_bits-nothing}
 use Rattle.chipdb_lines.proofs.bits.cause_before.Goals as goal

@@ -1,10 +1,10 @@
-use Rattle.std.proofs.Common.{◌≡◌, ◌-◌, ◌<◌, ◌≤◌, ap, ◌∙◌, sym, arith, length}
+use Rattle.std.proofs.Common.{◌-◌, ap, ◌∙◌, sym, arith}
 use Rattle.std.proofs.lemmas.Bool.{MatchBool-at_true, MatchBool-at_false}
 use Rattle.std.specs.Prelude.{Some}
 use Rattle.std.proofs.lemmas.Result.{err_from_is_err_and}
 use Rattle.std.specs.Result.{result_err}
 use Rattle.chipdb_lines.specs.Words.{words_in}
-use Rattle.chipdb_lines.proofs.TableBits.{Added, Added-push, Added-outside, Added-list, Added-many, told-unnamed}
+use Rattle.chipdb_lines.proofs.TableBits.{Added-push, Added-outside, Added-list, Added-many, told-unnamed}
 use Rattle.chipdb_lines.proofs.bits.push_bits.Goals as goal
 
 pub returns-in_err-push_bit-clause-named : goal.returns-in_err-push_bit-clause-named

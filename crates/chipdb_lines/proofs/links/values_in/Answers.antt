@@ -1,7 +1,7 @@
-use Rattle.std.proofs.Common.{◌≡◌, ◌+◌, ◌-◌, ◌*◌, ◌^◌, ◌<◌, ◌||◌, ◌&&◌, true, eqb, length, get_or, arith}
+use Rattle.std.proofs.Common.{◌-◌, ◌<◌, ◌||◌, length, get_or, arith}
 use Rattle.std.specs.Prelude.{◌==◌}
 use Rattle.std.specs.List.{list_all}
-use Rattle.chipdb_lines.proofs.Values.{Written, Written-more, Written-room, and-right, list_all-at, value-byte}
+use Rattle.chipdb_lines.proofs.Values.{Written-more, Written-room, and-right, list_all-at, value-byte}
 use Rattle.chipdb_lines.proofs.links.values_in.Goals as goal
 
 pub overflow_add-values : goal.overflow_add-values

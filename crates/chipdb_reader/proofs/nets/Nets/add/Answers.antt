@@ -1,5 +1,5 @@
 use Rattle.std.proofs.Common.{◌≡◌, ◌++◌, ◌∷◌, [], false, refl, sym, ◌∙◌}
-use Rattle.std.specs.Prelude.{is_some, None}
+use Rattle.std.specs.Prelude.{is_some}
 use Rattle.chipdb_reader.specs.Nets.{named_net}
 use Rattle.chipdb_reader.proofs.NetChanges.{adds-name}
 use Rattle.chipdb_reader.proofs.Outcomes.{none-of, ok-fact, ok-test}

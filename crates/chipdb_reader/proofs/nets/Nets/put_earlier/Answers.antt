@@ -1,4 +1,4 @@
-use Rattle.std.proofs.Common.{◌≡◌, [], refl, ap, ◌∙◌}
+use Rattle.std.proofs.Common.{refl, ap, ◌∙◌}
 use Rattle.std.specs.Prelude.{None}
 use Rattle.chipdb_reader.proofs.NetChanges.{closes-net}
 use Rattle.chipdb_reader.proofs.Outcomes.{ok-fact}

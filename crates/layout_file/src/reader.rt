@@ -1,0 +1,99 @@
+// A layout file read line by line.
+ghost use Rattle.std.specs.Prelude.{◌≡◌, None, Some, IfOk, IfErr, OnOk};
+ghost use Rattle.layout_file.specs.Lines.{line_of};
+ghost use Rattle.layout_file.specs.Reading.{begin_refusal, begun_with, flag_refusal_in, layouts_of, list_refusal, refusal, taken, unread, with_flag_in, with_list};
+
+use crate::fault::LayoutCause;
+use crate::field::{Flag, Numbers};
+use crate::layouts::Layouts;
+use crate::line::{LineKind, line_kind};
+use crate::section::Section;
+use plane_map::DeviceName;
+
+/// What the lines so far have given.
+#[derive(Drop)]
+pub(crate) struct Reader {
+    k1: Section,
+    k8: Section,
+    /// The device of the section in which the next line stands.
+    current: Option<DeviceName>,
+}
+
+impl Reader {
+    /// No line was read.
+    pub(crate) fn new() -> Reader
+        ensures { result ≡ unread }
+    {
+        Reader {
+            k1: Section::unread(DeviceName::K1),
+            k8: Section::unread(DeviceName::K8),
+            current: None,
+        }
+    }
+
+    /// Takes the next line.
+    pub(crate) fn accept(&mut self, line: &[u8]) -> Result<(), LayoutCause>
+        ensures taken { IfOk result (λ _. self.new ≡ taken self.old (line_of line.now)) }
+        ensures fits { OnOk result (refusal self.old (line_of line.now) ≡ None) }
+        ensures refused { IfErr result (λ cause. refusal self.old (line_of line.now) ≡ Some cause) }
+    {
+        match line_kind(line) {
+            LineKind::Passed => Ok(()),
+            LineKind::Section(device) => self.begin(device),
+            LineKind::List(field, numbers) => self.accept_list(field, numbers.items()),
+            LineKind::Answer(field, value) => self.accept_answer(field, value),
+            LineKind::Unknown => Err(LayoutCause::Statement),
+        }
+    }
+
+    /// Begins a section.
+    fn begin(&mut self, device: Option<DeviceName>) -> Result<(), LayoutCause>
+        ensures begun { IfOk result (λ _. self.new ≡ begun_with self.old device) }
+        ensures fits { OnOk result (begin_refusal self.old device ≡ None) }
+        ensures refused { IfErr result (λ cause. begin_refusal self.old device ≡ Some cause) }
+    {
+        match device {
+            None => return Err(LayoutCause::Device),
+            Some(DeviceName::K1) => self.k1.begin()?,
+            Some(DeviceName::K8) => self.k8.begin()?,
+        }
+        self.current = device;
+        Ok(())
+    }
+
+    /// Takes the numbers of a field.
+    fn accept_list(&mut self, field: Numbers, numbers: &[u32]) -> Result<(), LayoutCause>
+        ensures taken { IfOk result (λ _. self.new ≡ with_list self.old field numbers.now) }
+        ensures fits { OnOk result (list_refusal self.old field numbers.now ≡ None) }
+        ensures refused { IfErr result (λ cause. list_refusal self.old field numbers.now ≡ Some cause) }
+    {
+        match self.current {
+            None => Err(LayoutCause::Statement),
+            Some(DeviceName::K1) => self.k1.accept_numbers(field, numbers),
+            Some(DeviceName::K8) => self.k8.accept_numbers(field, numbers),
+        }
+    }
+
+    /// Takes `yes` or `no` of a field.
+    fn accept_answer(&mut self, field: Flag, value: bool) -> Result<(), LayoutCause>
+        ensures taken { IfOk result (λ _. self.new ≡ with_flag_in self.old field value) }
+        ensures fits { OnOk result (flag_refusal_in self.old field ≡ None) }
+        ensures refused { IfErr result (λ cause. flag_refusal_in self.old field ≡ Some cause) }
+    {
+        match self.current {
+            None => Err(LayoutCause::Statement),
+            Some(DeviceName::K1) => self.k1.accept_flag(field, value),
+            Some(DeviceName::K8) => self.k8.accept_flag(field, value),
+        }
+    }
+
+    /// The layouts that the lines have given.
+    pub(crate) fn layouts(&self) -> Layouts
+        ensures { result ≡ layouts_of self.now }
+    {
+        Layouts {
+            k1: self.k1.layout,
+            k8: self.k8.layout,
+        }
+    }
+}

@@ -7,15 +7,14 @@ use Rattle.place_search.specs.Places.{any_below}
 use Rattle.place_search.proofs.Places.{any_below-at, any_below-place}
 use Rattle.bit_plane.specs.Rows.{Rows}
 use Rattle.plane_map.specs.Layout.{Layout, IsLayout, kind_of, grid_width, grid_height, columns_at, place_of, word_place_of, cram_width, cram_height, bram_width, bram_height, IsTileBit, IsWordBit, IsInCram}
-use Rattle.plane_map.specs.declared.device.DeviceName.{DeviceName}
 use Rattle.plane_map.specs.declared.tile.Place.{Place}
 use Rattle.plane_map.specs.declared.tile.TileBit.{TileBit}
 use Rattle.plane_map.specs.declared.tile.TileKind.{TileKind}
 use Rattle.plane_map.specs.declared.tile.TileKind.TheVariants.{Io, Logic, RamB, RamT}
 use Rattle.plane_map.specs.declared.tile.WordBit.{WordBit}
 use Rattle.plane_map.proofs.Layouts.{columns_at-in}
-use Rattle.plane_map.proofs.Places.{place_is_only}
-use Rattle.plane_map.proofs.Words.{word_place_is_only, word_place_is_onto}
+use Rattle.plane_map.proofs.Places.{place_is_in, place_is_only}
+use Rattle.plane_map.proofs.Words.{word_place_is_in, word_place_is_only, word_place_is_onto}
 use Rattle.ice_image.specs.Configuration.{Configuration, place_bit, with_place_bit, AreBanks, IsWhole, blank_image}
 use Rattle.ice_image.specs.Contents.{tile_place, word_bit_place}
 use Rattle.ice_image.specs.Owned.{is_same_place, is_owned, is_extra}
@@ -23,7 +22,6 @@ use Rattle.ice_image.specs.Bits.{Bit, OfTile, OfWord, Extra, IsBit, bit_of, IsSe
 use Rattle.ice_image.specs.declared.settings.Settings.{Settings}
 use Rattle.ice_image.proofs.BankBits.{place_bit-same, place_bit-other, place_bit-none, AreBanks-with_place_bit, same_banks}
 use Rattle.ice_image.proofs.Owned.{is_same_place-same, is_same_place-self, is_owned-bit, is_owned-bit_at}
-use Rattle.ice_image.proofs.PlacesIn.{tile_in, word_in}
 use Rattle.ice_image.proofs.PlanesFrom.{AreBanks-planes_from, place_bit-planes_from}
 
 -- ---- extra bits
@@ -134,11 +132,11 @@ pub image_from-bit : (layout : Layout) → IsLayout layout → (comment : Option
 unfolding image_from
 image_from-bit layout sound comment settings bits (OfTile bit) is =
     let at = place_of layout bit in
-    let inside = tile_in layout sound bit is in
+    let inside = place_is_in layout sound bit is in
     place_bit-planes_from (cram_width layout.device) (cram_height layout.device) (cram_bit_from layout bits) at.bank at.px at.py inside.bank_in inside.px_in inside.py_in ∙ cram_from-tile layout sound bits bit is
 image_from-bit layout sound comment settings bits (OfWord bit) is =
     let at = word_place_of layout bit in
-    let inside = word_in layout sound bit is in
+    let inside = word_place_is_in layout sound bit is in
     place_bit-planes_from (bram_width layout.device) (bram_height layout.device) (bram_bit_from layout bits) at.bank at.px at.py inside.bank_in inside.px_in inside.py_in ∙ bram_from-word layout sound bits bit is
 image_from-bit layout sound comment settings bits (Extra at) is =
     let facts = extra_in layout at is in
@@ -205,7 +203,7 @@ pub tile_set : (image : Configuration) (bit : TileBit) (value : Bool) → IsWhol
 tile_set image bit value whole is =
     let device = image.layout.device in
     let at = place_of image.layout bit in
-    let inside = tile_in image.layout whole.layout bit is in
+    let inside = place_is_in image.layout whole.layout bit is in
     record {
       set = place_bit-same (cram_width device) (cram_height device) image.cram at value whole.cram inside.bank_in inside.px_in inside.py_in;
       others = record {
@@ -227,7 +225,7 @@ pub word_set : (image : Configuration) (bit : WordBit) (value : Bool) → IsWhol
 word_set image bit value whole is =
     let device = image.layout.device in
     let at = word_place_of image.layout bit in
-    let inside = word_in image.layout whole.layout bit is in
+    let inside = word_place_is_in image.layout whole.layout bit is in
     record {
       set = place_bit-same (bram_width device) (bram_height device) image.bram at value whole.bram inside.bank_in inside.px_in inside.py_in;
       others = record {

@@ -5,7 +5,6 @@ pub mod Listed
 pub mod Lists
 pub mod Made
 pub mod Owned
-pub mod PlacesIn
 pub mod PlanesFrom
 pub mod SetExtras
 pub mod Sizes

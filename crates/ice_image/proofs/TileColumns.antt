@@ -1,5 +1,5 @@
 -- How many columns tiles have, and that their bits lie apart.
-use Rattle.std.proofs.Common.{◌≡◌, ◌≢◌, ℕ, ◌<◌, ◌≤◌, ap, ◌∙◌, sym, arith, Option, Some, None}
+use Rattle.std.proofs.Common.{◌≡◌, ◌≢◌, ℕ, ◌<◌, ◌≤◌, ap, arith, Option, Some, None}
 use Rattle.plane_map.proofs.Places.{place_is_only}
 use Rattle.plane_map.specs.Layout.{Layout, IsLayout, IsTileBit, IsWordBit, kind_of, columns_in, columns_at, place_of, word_place_of}
 use Rattle.plane_map.specs.declared.device.DeviceName.{DeviceName}

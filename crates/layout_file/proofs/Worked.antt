@@ -1,10 +1,10 @@
 -- The definitions at small texts, worked out by hand.
-use Rattle.std.proofs.Common.{◌≡◌, ℕ, Bool, true, false, List, [], ◌∷◌, refl}
+use Rattle.std.proofs.Common.{◌≡◌, ℕ, true, false, [], ◌∷◌, refl}
 use Rattle.std.specs.Prelude.{codes, Option, Some, None}
 use Rattle.text_lines.specs.Lines.{lines_of, trimmed}
 use Rattle.text_lines.specs.Words.{words_of, pieces_of, numbers_of, number_of}
 use Rattle.place_search.specs.Places.{any_below, first_below, last_below}
-use Rattle.plane_map.specs.Layout.{start_in, standard_widths, standard_side_columns, standard_pad_columns, standard_pad_rows, standard_banks, standard_layout}
+use Rattle.plane_map.specs.Layout.{start_in, standard_layout}
 use Rattle.plane_map.specs.declared.device.DeviceName.TheVariants.{K1, K8}
 use Rattle.layout_file.specs.declared.fault.LayoutFault.{LayoutFault}
 use Rattle.layout_file.specs.declared.fault.LayoutCause.{LayoutCause}

@@ -54,10 +54,11 @@ fn is_remark(line: &[u8]) -> bool
 fn without_blanks(line: &[u8]) -> &[u8]
     ensures { result.now ≡ without_blanks line.now }
 {
-    match line {
-        [b' ' | b'\t', rest @ ..] => without_blanks(rest),
-        _ => line,
+    let mut left = line;
+    while let [b' ' | b'\t', rest @ ..] = left {
+        left = rest;
     }
+    left
 }
 
 /// What a line says by its first word and what stands behind it.

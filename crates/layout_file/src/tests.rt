@@ -1,4 +1,5 @@
 use super::*;
+use plane_map::Place;
 
 /// The fault of a text: line 0 where it is accepted.
 fn fault_of(text: &str) -> (u64, LayoutCause) {
@@ -89,5 +90,29 @@ fn accepts_the_first_and_the_last_numbers(rt: HostRuntime) {
         ".layout 8k\nbanks 003 2 1 0\nmirror yes\nflip no\npadmirror yes\nramflip no\n.layout 1k\nflip yes",
     ] {
         assert!(rt; fault_of(text).0 == 0, "of {text:?}");
+    }
+}
+
+/// Where bit (0, 0) of the tile at (12, 16) of a 1k lies under the layouts of a text.
+#[tactic(auto, unfolding(plane_map::specs::Layout::kind_of))]
+fn place_under(text: &str) -> Option<Place> {
+    match Layouts::read(text.as_bytes()) {
+        Ok(layouts) => Some(layouts.k1.cram_place(12, 16, 0, 0)),
+        Err(_) => None,
+    }
+}
+
+#[test]
+fn lays_bits_out_as_the_text_says(rt: HostRuntime) {
+    for (text, bank, px, py) in [
+        ("", 3, 71, 31),
+        (".layout 1k\nmirror no", 3, 18, 31),
+        (".layout 1k\nflip no", 3, 71, 16),
+        (".layout 1k\nbanks 3 2 1 0", 0, 71, 31),
+        (".layout 1k\nwidths 20 54 54 42 54 54 54", 3, 73, 31),
+        (".layout 8k\nmirror no\nflip no\nbanks 3 2 1 0", 3, 71, 31),
+    ] {
+        let is = place_under(text) == Some(Place { bank, px, py });
+        assert!(rt; is, "of {text:?}");
     }
 }

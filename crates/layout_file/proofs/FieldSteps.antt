@@ -1,6 +1,6 @@
 -- What the reader keeps behind a line.
 use Rattle.std.proofs.Common.{◌≡◌, ℕ, suc, Bool, true, false, List, refl, ap, ◌∙◌}
-use Rattle.std.specs.Prelude.{Option, Some, None, not, length, ◌==◌}
+use Rattle.std.specs.Prelude.{Option, Some, None, is_some, not, length, ◌==◌}
 use Rattle.place_search.specs.Places.{first_below, last_below, or_else}
 use Rattle.place_search.proofs.Found.{or_else-first, or_else-other}
 use Rattle.plane_map.specs.declared.device.DeviceName.{DeviceName}
@@ -12,7 +12,7 @@ use Rattle.layout_file.specs.declared.field.Flag.{Flag}
 use Rattle.layout_file.specs.declared.field.Flag.TheVariants.{Mirror, Flip, PadMirror, RamFlip}
 use Rattle.layout_file.specs.declared.fault.LayoutCause.TheVariants.{Statement, Repeated}
 use Rattle.layout_file.specs.Lines.{Line, Passed, Section, List_of, Flag_of, Unknown}
-use Rattle.layout_file.specs.Faults.{said_at, is_section, device_in, section_before, is_device, is_numbers, is_flag, numbers_in, flag_in, numbers_given, flag_given, numbers_before, flag_before, is_some, cause_if, cause_of, count_of, numbers_cause, section_cause, list_cause, flag_cause}
+use Rattle.layout_file.specs.Faults.{said_at, is_section, device_in, section_before, is_device, is_numbers, is_flag, numbers_in, flag_in, numbers_given, flag_given, numbers_before, flag_before, cause_if, cause_of, count_of, numbers_cause, section_cause, list_cause, flag_cause}
 use Rattle.layout_file.specs.inside.Reading.{begun_with, taken, with_flag, with_flag_at, with_list_at, with_numbers}
 use Rattle.layout_file.proofs.AcceptedNumbers.{no-cause}
 use Rattle.layout_file.proofs.LineSteps.{GivesNothing, begun-kept, current-kept, flag-kept, nothing-elsewhere, nothing-without, numbers-kept, part-begun, part-kept, part_before, reader-of, reader_before}

@@ -1,6 +1,6 @@
 -- What the reader keeps is what the lines before the next one give.
 use Rattle.std.proofs.Common.{◌≡◌, ℕ, suc, Bool, true, false, List, refl, ap, ◌∙◌}
-use Rattle.std.specs.Prelude.{Option, Some, None, if◌then◌else◌}
+use Rattle.std.specs.Prelude.{Option, Some, None, is_some, if◌then◌else◌}
 use Rattle.std.proofs.Math.Bool.{or-false, or-true}
 use Rattle.place_search.specs.Places.{any_below, first_below, last_below, or_else}
 use Rattle.place_search.proofs.Places.{or_else-none}
@@ -15,7 +15,7 @@ use Rattle.layout_file.specs.declared.section.Given.{Given}
 use Rattle.layout_file.specs.declared.section.Section.{Section as Part}
 use Rattle.layout_file.specs.declared.reader.Reader.{Reader}
 use Rattle.layout_file.specs.Lines.{Line, Passed, Section, List_of, Flag_of, Unknown}
-use Rattle.layout_file.specs.Faults.{said_at, is_section, device_in, section_before, has_section, is_device, numbers_in, flag_in, numbers_given, flag_given, numbers_before, flag_before, is_some, cause_of, section_cause, list_cause, flag_cause}
+use Rattle.layout_file.specs.Faults.{said_at, is_section, device_in, section_before, has_section, is_device, numbers_in, flag_in, numbers_given, flag_given, numbers_before, flag_before, cause_of, section_cause, list_cause, flag_cause}
 use Rattle.layout_file.specs.Layouts.{layout_before}
 use Rattle.layout_file.specs.inside.Reading.{begin_refusal, flag_refusal_at, has_flag, has_numbers, list_refusal_at, refusal, unread}
 

@@ -206,7 +206,7 @@ extras-set image at sets =
     ap (λ at. bit_of image (Extra at)) (sym same) ∙ (set_extras-in image found.0 found.1).1
 
 -- and each such bit that is no tile's
-pub extras-set_at : (image : Configuration) (at : Place) → is_extra image.layout.device at ≡ true → bit_of image (Extra at) ≡ true → some_piece (piece_sets (Extra at)) (all_extra_pieces image) ≡ true
+pub extras-set_at : (image : Configuration) (at : Place) → is_extra image.layout at ≡ true → bit_of image (Extra at) ≡ true → some_piece (piece_sets (Extra at)) (all_extra_pieces image) ≡ true
 extras-set_at image at extra bit =
     extras-at (piece_sets (Extra at)) (set_extras image) at (set_extras-at image at extra bit) (extra-sets at at ∙ is_same_place-self at)
 

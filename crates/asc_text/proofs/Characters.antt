@@ -7,14 +7,17 @@ use Rattle.std.proofs.lemmas.List.{get_or_past}
 use Rattle.text_lines.specs.Lines.{lines_of, line_at, trimmed}
 use Rattle.place_search.specs.Places.{any_below, least_below, first_below, or_here, or_else}
 use Rattle.place_search.proofs.Places.{any_below-at, any_below-place, least_below-first, first_below-sum}
-use Rattle.plane_map.specs.Layout.{kind_of, IsTileBit, IsWordBit}
+use Rattle.layout_file.specs.declared.layouts.Layouts.{Layouts}
+use Rattle.layout_file.specs.Layouts.{layout_for, AreLayouts}
+use Rattle.asc_text.proofs.HasRead.{layout_for-device}
+use Rattle.plane_map.specs.Layout.{Layout, IsLayout, kind_of, IsTileBit, IsWordBit}
 use Rattle.plane_map.specs.declared.device.DeviceName.{DeviceName}
 use Rattle.plane_map.specs.declared.tile.TileKind.{TileKind}
 use Rattle.plane_map.specs.declared.tile.TileKind.TheVariants.{Io, Logic, RamB, RamT}
 use Rattle.plane_map.specs.declared.tile.Place.{Place}
 use Rattle.plane_map.specs.declared.tile.TileBit.{TileBit}
 use Rattle.plane_map.specs.declared.tile.WordBit.{WordBit}
-use Rattle.ice_image.specs.Configuration.{Configuration}
+use Rattle.ice_image.specs.Configuration.{Configuration, IsWhole}
 use Rattle.ice_image.specs.Either.{configuration_of}
 use Rattle.asc_text.specs.declared.statement.Statement.{Statement}
 use Rattle.asc_text.specs.declared.statement.Statement.TheVariants.{Tile, RamData, ExtraBit}
@@ -189,8 +192,8 @@ top_over lines h top =
 -- ---- statements without a fault
 
 -- no line is faulty, and the text names the device
-record Accepted (lines : List (List ℕ)) (device : DeviceName) : Type 0 where
-  fit : (k : ℕ) → k ≤ length lines → cause_at lines k ≡ None
+record Accepted (layouts : Layouts) (lines : List (List ℕ)) (device : DeviceName) : Type 0 where
+  fit : (k : ℕ) → k ≤ length lines → cause_at layouts lines k ≡ None
   names : device_before lines (length lines) ≡ Some device
 
 -- a statement begins with a dot
@@ -205,15 +208,15 @@ dotted line statement is =
     ]
 
 -- nothing is wrong with it
-unfaulty : (lines : List (List ℕ)) (device : DeviceName) (h : ℕ) (statement : Statement) → Accepted lines device → h < length lines → depth_at lines h ≡ 0 → statement_in (line_at lines h) ≡ Some statement
-    → statement_cause lines h (Some statement) ≡ None
+unfaulty : (layouts : Layouts) (lines : List (List ℕ)) (device : DeviceName) (h : ℕ) (statement : Statement) → Accepted layouts lines device → h < length lines → depth_at lines h ≡ 0 → statement_in (line_at lines h) ≡ Some statement
+    → statement_cause layouts lines h (Some statement) ≡ None
 unfolding cause_at
-unfaulty lines device h statement accepted within top said =
+unfaulty layouts lines device h statement accepted within top said =
     let none = accepted.fit h (omega arith) in
     let dot = dotted (line_at lines h) statement said in
     let inside = lt-leb (length lines) h within in
-    let none' : statement_cause lines h (statement_in (line_at lines h)) ≡ None = rw (top, inside, dot) at none in
-    ap (statement_cause lines h) (sym said) ∙ none'
+    let none' : statement_cause layouts lines h (statement_in (line_at lines h)) ≡ None = rw (top, inside, dot) at none in
+    ap (statement_cause layouts lines h) (sym said) ∙ none'
 
 -- kinds that pass the test are one
 same_kind : (there kind : TileKind) → is_same_kind there kind ≡ true → there ≡ kind
@@ -252,9 +255,9 @@ no_kind_cause (Some there) kind none =
     ]
 
 -- a device that is known before a line is the text's
-one_device : (lines : List (List ℕ)) (device found : DeviceName) (h : ℕ) → Accepted lines device → h < length lines → device_before lines h ≡ Some found → found ≡ device
+one_device : (layouts : Layouts) (lines : List (List ℕ)) (device found : DeviceName) (h : ℕ) → Accepted layouts lines device → h < length lines → device_before lines h ≡ Some found → found ≡ device
 unfolding device_before
-one_device lines device found h accepted within is =
+one_device layouts lines device found h accepted within is =
     let later : first_below (length lines) (λ k. device_in (statement_at lines k)) ≡ Some found = first_below-later h (length lines) (λ k. device_in (statement_at lines k)) found is (omega arith) in
     let both : Some found ≡ Some device = sym later ∙ accepted.names in
     cc
@@ -284,24 +287,24 @@ ram_needs (Some device) repeated x y rest none = (
 )
 
 -- a tile's statement stands first, and names a tile of its kind
-tile_head : (lines : List (List ℕ)) (device : DeviceName) (h : ℕ) (kind : TileKind) (x y : ℕ) → Accepted lines device → h < length lines → depth_at lines h ≡ 0 → statement_in (line_at lines h) ≡ Some (Tile kind x y)
+tile_head : (layouts : Layouts) (lines : List (List ℕ)) (device : DeviceName) (h : ℕ) (kind : TileKind) (x y : ℕ) → Accepted layouts lines device → h < length lines → depth_at lines h ≡ 0 → statement_in (line_at lines h) ≡ Some (Tile kind x y)
     → (kind_of device x y ≡ Some kind) × (tile_statement lines x y ≡ Some h)
 unfolding tile_statement
-tile_head lines device h kind x y accepted within top said =
+tile_head layouts lines device h kind x y accepted within top said =
     let test : ℕ → Bool = λ k. names_tile x y (statement_at lines k) in
-    let needs = tile_needs (device_before lines h) (stands_before lines h (names_tile x y)) kind x y _ (unfaulty lines device h (Tile kind x y) accepted within top said) in
-    let same : needs.0 ≡ device = one_device lines device needs.0 h accepted within needs.1 in
+    let needs = tile_needs (device_before lines h) (stands_before lines h (names_tile x y)) kind x y _ (unfaulty layouts lines device h (Tile kind x y) accepted within top said) in
+    let same : needs.0 ≡ device = one_device layouts lines device needs.0 h accepted within needs.1 in
     let here : test h ≡ true = ap (names_tile x y) (top_at lines h top ∙ said) ∙ grind (arith, nat_tests) in
     (ap (λ d. kind_of d x y) (sym same) ∙ needs.2, least_below-first (length lines) h test within (λ j before. none_below h j test needs.3 before) here)
 
 -- and so does one of a RAM's contents
-ram_head : (lines : List (List ℕ)) (device : DeviceName) (h x y : ℕ) → Accepted lines device → h < length lines → depth_at lines h ≡ 0 → statement_in (line_at lines h) ≡ Some (RamData x y)
+ram_head : (layouts : Layouts) (lines : List (List ℕ)) (device : DeviceName) (h x y : ℕ) → Accepted layouts lines device → h < length lines → depth_at lines h ≡ 0 → statement_in (line_at lines h) ≡ Some (RamData x y)
     → (kind_of device x y ≡ Some RamB) × (ram_statement lines x y ≡ Some h)
 unfolding ram_statement
-ram_head lines device h x y accepted within top said =
+ram_head layouts lines device h x y accepted within top said =
     let test : ℕ → Bool = λ k. names_ram x y (statement_at lines k) in
-    let needs = ram_needs (device_before lines h) (stands_before lines h (names_ram x y)) x y _ (unfaulty lines device h (RamData x y) accepted within top said) in
-    let same : needs.0 ≡ device = one_device lines device needs.0 h accepted within needs.1 in
+    let needs = ram_needs (device_before lines h) (stands_before lines h (names_ram x y)) x y _ (unfaulty layouts lines device h (RamData x y) accepted within top said) in
+    let same : needs.0 ≡ device = one_device layouts lines device needs.0 h accepted within needs.1 in
     let here : test h ≡ true = ap (names_ram x y) (top_at lines h top ∙ said) ∙ grind (arith, nat_tests) in
     (ap (λ d. kind_of d x y) (sym same) ∙ needs.2, least_below-first (length lines) h test within (λ j before. none_below h j test needs.3 before) here)
 
@@ -323,10 +326,10 @@ row_index : (k depth : ℕ) → 0 < depth → depth ≤ k → k - depth + 1 + (d
 row_index k depth some within = omega arith
 
 -- a line that sets a bit of a tile has the bit's character
-set_character : (lines : List (List ℕ)) (device : DeviceName) (bit : TileBit) (k : ℕ) (statement : Option Statement) → Accepted lines device → k < length lines → statement_over lines k ≡ statement
+set_character : (layouts : Layouts) (lines : List (List ℕ)) (device : DeviceName) (bit : TileBit) (k : ℕ) (statement : Option Statement) → Accepted layouts lines device → k < length lines → statement_over lines k ≡ statement
     → sets_bit statement (depth_at lines k) (trimmed (line_at lines k)) (OfTile bit) ≡ true → character_of lines bit ≡ true
 unfolding statement_over
-set_character lines device bit k (Some (Tile kind x y)) accepted within is sets =
+set_character layouts lines device bit k (Some (Tile kind x y)) accepted within is sets =
     let depth = depth_at lines k in
     let line = trimmed (line_at lines k) in
     let parts = and_parts (row_sets x y (depth - 1) line (OfTile bit)) (nat_lt 0 depth) sets in
@@ -338,13 +341,13 @@ set_character lines device bit k (Some (Tile kind x y)) accepted within is sets 
     let ey : bit.y ≡ y = sym (eqb-true _ _ grid.1) in
     let er : bit.row ≡ depth - 1 = sym (eqb-true _ _ place.1) in
     let above = under lines k depth refl some in
-    let head = tile_head lines device (k - depth) kind x y accepted (omega arith) above.top is in
+    let head = tile_head layouts lines device (k - depth) kind x y accepted (omega arith) above.top is in
     let index : k - depth + 1 + (depth - 1) ≡ k = row_index k depth some above.within in
     (λ i. character_below lines (tile_statement lines (ex i) (ey i)) (er i) bit.col)
     ∙ ap (λ place. character_below lines place (depth - 1) bit.col) head.1
     ∙ ap (λ n. row_bit (trimmed (line_at lines n)) bit.col) index
     ∙ inner.1
-set_character lines device bit k statement accepted within is sets = absurd cc
+set_character layouts lines device bit k statement accepted within is sets = absurd cc
 
 -- a statement that names a tile is one of a kind
 named_tile : (x y : ℕ) (statement : Option Statement) → names_tile x y statement ≡ true → (kind : TileKind) × (statement ≡ Some (Tile kind x y))
@@ -368,11 +371,11 @@ no_character lines k col past is =
     no_bit (suc col) = refl
 
 -- a character 1 sets its bit
-character_sets : (lines : List (List ℕ)) (device : DeviceName) (bit : TileBit) (found : Option ℕ) → Accepted lines device → IsTileBit device bit → tile_statement lines bit.x bit.y ≡ found
+character_sets : (layouts : Layouts) (lines : List (List ℕ)) (device : DeviceName) (bit : TileBit) (found : Option ℕ) → Accepted layouts lines device → IsTileBit device bit → tile_statement lines bit.x bit.y ≡ found
     → character_below lines found bit.row bit.col ≡ true → is_set_before lines (length lines) (OfTile bit) ≡ true
 unfolding tile_statement is_set_before
-character_sets lines device bit None accepted is_bit is reads = absurd cc
-character_sets lines device bit (Some h) accepted is_bit is reads =
+character_sets layouts lines device bit None accepted is_bit is reads = absurd cc
+character_sets layouts lines device bit (Some h) accepted is_bit is reads =
     let n = length lines in
     let facts = least_below-place n h (λ k. names_tile bit.x bit.y (statement_at lines k)) is in
     let named = named_tile bit.x bit.y (statement_at lines h) facts.1 in
@@ -397,14 +400,14 @@ character_sets lines device bit (Some h) accepted is_bit is reads =
     ]
 
 -- a bit of a tile is set exactly where its character is 1
-tile_bits : (lines : List (List ℕ)) (device : DeviceName) (bit : TileBit) → Accepted lines device → IsTileBit device bit → is_set_before lines (length lines) (OfTile bit) ≡ character_of lines bit
+tile_bits : (layouts : Layouts) (lines : List (List ℕ)) (device : DeviceName) (bit : TileBit) → Accepted layouts lines device → IsTileBit device bit → is_set_before lines (length lines) (OfTile bit) ≡ character_of lines bit
 unfolding is_set_before
-tile_bits lines device bit accepted is_bit =
+tile_bits layouts lines device bit accepted is_bit =
     same_test (is_set_before lines (length lines) (OfTile bit)) (character_of lines bit)
     (λ set.
     let found = any_below-place (length lines) (λ k. sets_bit (statement_over lines k) (depth_at lines k) (trimmed (line_at lines k)) (OfTile bit)) set in
-    set_character lines device bit found.0 (statement_over lines found.0) accepted found.1 refl found.2)
-    (λ reads. character_sets lines device bit (tile_statement lines bit.x bit.y) accepted is_bit refl reads)
+    set_character layouts lines device bit found.0 (statement_over lines found.0) accepted found.1 refl found.2)
+    (λ reads. character_sets layouts lines device bit (tile_statement lines bit.x bit.y) accepted is_bit refl reads)
 
 -- ---- extra bits
 
@@ -442,10 +445,10 @@ extra_bits lines at =
 -- ---- bits of words
 
 -- a line that sets a bit of a word has the bit among its digits
-set_digit : (lines : List (List ℕ)) (device : DeviceName) (at : WordBit) (k : ℕ) (statement : Option Statement) → Accepted lines device → k < length lines → statement_over lines k ≡ statement
+set_digit : (layouts : Layouts) (lines : List (List ℕ)) (device : DeviceName) (at : WordBit) (k : ℕ) (statement : Option Statement) → Accepted layouts lines device → k < length lines → statement_over lines k ≡ statement
     → sets_bit statement (depth_at lines k) (trimmed (line_at lines k)) (OfWord at) ≡ true → digit_bit_of lines at ≡ true
 unfolding statement_over
-set_digit lines device at k (Some (RamData x y)) accepted within is sets =
+set_digit layouts lines device at k (Some (RamData x y)) accepted within is sets =
     let depth = depth_at lines k in
     let line = trimmed (line_at lines k) in
     let parts = and_parts (line_sets x y (depth - 1) line (OfWord at)) (nat_lt 0 depth) sets in
@@ -457,13 +460,13 @@ set_digit lines device at k (Some (RamData x y)) accepted within is sets =
     let ey : at.y ≡ y = sym (eqb-true _ _ grid.1) in
     let row : at.word / 16 ≡ depth - 1 = sym (eqb-true _ _ place.1) in
     let above = under lines k depth refl some in
-    let head = ram_head lines device (k - depth) x y accepted (omega arith) above.top is in
+    let head = ram_head layouts lines device (k - depth) x y accepted (omega arith) above.top is in
     let line_is : k - depth + 1 + at.word / 16 ≡ k = omega (arith, row, some, above.within) in
     (λ i. digit_bit_below lines (ram_statement lines (ex i) (ey i)) at.word at.bit)
     ∙ ap (λ p. digit_bit_below lines p at.word at.bit) head.1
     ∙ ap (λ n. memory_bit (trimmed (line_at lines n)) (at.word % 16) at.bit) line_is
     ∙ inner.1
-set_digit lines device at k statement accepted within is sets = absurd cc
+set_digit layouts lines device at k statement accepted within is sets = absurd cc
 
 -- a statement that names a RAM
 named_ram : (x y : ℕ) (statement : Option Statement) → names_ram x y statement ≡ true → statement ≡ Some (RamData x y)
@@ -480,10 +483,10 @@ unfolding is_memory_line trimmed
 short_memory = refl
 
 -- the lines of the contents of a RAM are there
-ram_within : (lines : List (List ℕ)) (device : DeviceName) (h x y row : ℕ) → Accepted lines device → h < length lines → depth_at lines h ≡ 0 → statement_in (line_at lines h) ≡ Some (RamData x y) → row < 16
+ram_within : (layouts : Layouts) (lines : List (List ℕ)) (device : DeviceName) (h x y row : ℕ) → Accepted layouts lines device → h < length lines → depth_at lines h ≡ 0 → statement_in (line_at lines h) ≡ Some (RamData x y) → row < 16
     → h + suc row < length lines
 unfolding cause_at
-ram_within lines device h x y row accepted here top said row_in =
+ram_within layouts lines device h x y row accepted here top said row_in =
     elim (cases_lt (h + suc row) (length lines)) [
       | inl within ↦ within
       | inr past ↦
@@ -501,11 +504,11 @@ ram_within lines device h x y row accepted here top said row_in =
     ]
 
 -- a bit among the digits of a word is set
-digit_sets : (lines : List (List ℕ)) (device : DeviceName) (at : WordBit) (found : Option ℕ) → Accepted lines device → IsWordBit device at → ram_statement lines at.x at.y ≡ found
+digit_sets : (layouts : Layouts) (lines : List (List ℕ)) (device : DeviceName) (at : WordBit) (found : Option ℕ) → Accepted layouts lines device → IsWordBit device at → ram_statement lines at.x at.y ≡ found
     → digit_bit_below lines found at.word at.bit ≡ true → is_set_before lines (length lines) (OfWord at) ≡ true
 unfolding ram_statement is_set_before
-digit_sets lines device at None accepted is_bit is reads = absurd cc
-digit_sets lines device at (Some h) accepted is_bit is reads =
+digit_sets layouts lines device at None accepted is_bit is reads = absurd cc
+digit_sets layouts lines device at (Some h) accepted is_bit is reads =
     let n = length lines in
     let facts = least_below-place n h (λ k. names_ram at.x at.y (statement_at lines k)) is in
     let named = named_ram at.x at.y (statement_at lines h) facts.1 in
@@ -526,35 +529,35 @@ digit_sets lines device at (Some h) accepted is_bit is reads =
     (and_from ((at.x == at.x) && (at.y == at.y)) (suc row - 1 == row) (and_from (at.x == at.x) (at.y == at.y) (eq-eqb at.x at.x refl) (eq-eqb at.y at.y refl)) (eq-eqb (suc row - 1) row back)) here
     in
     let sets : sets_bit (Some (RamData at.x at.y)) (suc row) line (OfWord at) ≡ true = and_from (line_sets at.x at.y (suc row - 1) line (OfWord at)) (nat_lt 0 (suc row)) line_here (lt-ltb 0 (suc row) (omega arith)) in
-    any_below-at n k (λ k. sets_bit (statement_over lines k) (depth_at lines k) (trimmed (line_at lines k)) (OfWord at)) (ram_within lines device h at.x at.y row accepted facts.0 top.0 top.1 row_in)
+    any_below-at n k (λ k. sets_bit (statement_over lines k) (depth_at lines k) (trimmed (line_at lines k)) (OfWord at)) (ram_within layouts lines device h at.x at.y row accepted facts.0 top.0 top.1 row_in)
     ((λ i. sets_bit (said i) (deep i) line (OfWord at)) ∙ sets)
 
 -- a bit of a word is set exactly where it is among the word's digits
-word_bits : (lines : List (List ℕ)) (device : DeviceName) (at : WordBit) → Accepted lines device → IsWordBit device at → is_set_before lines (length lines) (OfWord at) ≡ digit_bit_of lines at
+word_bits : (layouts : Layouts) (lines : List (List ℕ)) (device : DeviceName) (at : WordBit) → Accepted layouts lines device → IsWordBit device at → is_set_before lines (length lines) (OfWord at) ≡ digit_bit_of lines at
 unfolding is_set_before
-word_bits lines device at accepted is_bit =
+word_bits layouts lines device at accepted is_bit =
     same_test (is_set_before lines (length lines) (OfWord at)) (digit_bit_of lines at)
     (λ set.
     let found = any_below-place (length lines) (λ k. sets_bit (statement_over lines k) (depth_at lines k) (trimmed (line_at lines k)) (OfWord at)) set in
-    set_digit lines device at found.0 (statement_over lines found.0) accepted found.1 refl found.2)
-    (λ reads. digit_sets lines device at (ram_statement lines at.x at.y) accepted is_bit refl reads)
+    set_digit layouts lines device at found.0 (statement_over lines found.0) accepted found.1 refl found.2)
+    (λ reads. digit_sets layouts lines device at (ram_statement lines at.x at.y) accepted is_bit refl reads)
 
 -- ---- the whole
 
 -- a bit is set exactly where the text says so
-said_bits : (lines : List (List ℕ)) (device : DeviceName) (bit : Bit) → Accepted lines device → IsBit device bit → is_set_before lines (length lines) bit ≡ is_said lines bit
-said_bits lines device (OfTile bit) accepted is = tile_bits lines device bit accepted is
-said_bits lines device (OfWord bit) accepted is = word_bits lines device bit accepted is
-said_bits lines device (Extra at) accepted is = extra_bits lines at
+said_bits : (layouts : Layouts) (lines : List (List ℕ)) (layout : Layout) (bit : Bit) → Accepted layouts lines layout.device → IsBit layout bit → is_set_before lines (length lines) bit ≡ is_said lines bit
+said_bits layouts lines layout (OfTile bit) accepted is = tile_bits layouts lines layout.device bit accepted is
+said_bits layouts lines layout (OfWord bit) accepted is = word_bits layouts lines layout.device bit accepted is
+said_bits layouts lines layout (Extra at) accepted is = extra_bits lines at
 
 -- what the lines of an accepted text configure has their bits
-accepted_bits : (text : List ℕ) (device : DeviceName) → Accepted (lines_of text) device → HasBits text (image_before device (lines_of text) (length (lines_of text)))
+accepted_bits : (layouts : Layouts) (text : List ℕ) (layout : Layout) → IsLayout layout → Accepted layouts (lines_of text) layout.device → HasBits text (image_before layout (lines_of text) (length (lines_of text)))
 unfolding image_from
-accepted_bits text device accepted =
+accepted_bits layouts text layout sound accepted =
     let lines = lines_of text in
     let n = length lines in
     record {
-      bits = λ bit is. image_from-bit device (comment_before lines n) (settings_before lines n) (is_set_before lines n) bit is ∙ said_bits lines device bit accepted is;
+      bits = λ bit is. image_from-bit layout sound (comment_before lines n) (settings_before lines n) (is_set_before lines n) bit is ∙ said_bits layouts lines layout bit accepted is;
     }
 
 -- a line that has no fault has no cause
@@ -563,23 +566,27 @@ no_fault None line tile none = refl
 no_fault (Some cause) line tile none = absurd cc
 
 -- the same for the device that the lines name
-configured_bits : (text : List ℕ) (image : Configuration) (found : Option DeviceName) → device_before (lines_of text) (length (lines_of text)) ≡ found
-    → ((k : ℕ) → k ≤ length (lines_of text) → cause_at (lines_of text) k ≡ None) → image_for found (lines_of text) ≡ Some image → HasBits text image
-configured_bits text image None names fit is = absurd cc
-configured_bits text image (Some device) names fit is =
-    let same : image_before device (lines_of text) (length (lines_of text)) ≡ image = cc in
-    subst (HasBits text) same (accepted_bits text device (record { fit = fit; names = names }))
+configured_bits : (layouts : Layouts) (text : List ℕ) (image : Configuration) (found : Option DeviceName) → AreLayouts layouts → IsWhole image → device_before (lines_of text) (length (lines_of text)) ≡ found
+    → ((k : ℕ) → k ≤ length (lines_of text) → cause_at layouts (lines_of text) k ≡ None) → image_for layouts found (lines_of text) ≡ Some image → HasBits text image
+unfolding image_from
+configured_bits layouts text image None are whole names fit is = absurd cc
+configured_bits layouts text image (Some device) are whole names fit is =
+    let layout = layout_for layouts device in
+    let same : image_before layout (lines_of text) (length (lines_of text)) ≡ image = cc in
+    let sound : IsLayout layout = subst IsLayout (ap (λ (c : Configuration). c.layout) (sym same)) whole.layout in
+    subst (HasBits text) same (accepted_bits layouts text layout sound (record { fit = fit; names = names ∙ ap (λ d. Some d) (sym (layout_for-device layouts device are)) }))
 
 -- What a text means has each bit that the text says.
-pub bits_of_text : (text : List ℕ) (image : Configuration) (symbols : List NetName) → AscMeans text image symbols → HasBits text image
+pub bits_of_text : (layouts : Layouts) (text : List ℕ) (image : Configuration) (symbols : List NetName) → AreLayouts layouts → IsWhole image → AscMeans layouts text image symbols → HasBits text image
 unfolding asc_fault_of asc_image_of
-bits_of_text text image symbols means =
+bits_of_text layouts text image symbols are whole means =
     let lines = lines_of text in
-    configured_bits text image (device_before lines (length lines)) refl
-    (λ k within. no_fault (cause_at lines k) (k + 1) _ (first_below-each (length lines + 1) k (fault_at lines) means.accepted (omega arith)))
+    configured_bits layouts text image (device_before lines (length lines)) are whole refl
+    (λ k within. no_fault (cause_at layouts lines k) (k + 1) _ (first_below-each (length lines + 1) k (fault_at layouts lines) means.accepted (omega arith)))
     means.configures
 
 -- the same of what is answered
-pub answered_bits : (text : List ℕ) (r : Result AscFile AscFault) → IfOk r (λ file. AscMeans text (configuration_of file.image) file.symbols.items) → IfOk r (λ file. HasBits text (configuration_of file.image))
-answered_bits text (Ok file) means = bits_of_text text (configuration_of file.image) file.symbols.items means
-answered_bits text (Err fault) means = tt
+pub answered_bits : (layouts : Layouts) (text : List ℕ) (r : Result AscFile AscFault) → AreLayouts layouts → IfOk r (λ file. IsWhole (configuration_of file.image))
+    → IfOk r (λ file. AscMeans layouts text (configuration_of file.image) file.symbols.items) → IfOk r (λ file. HasBits text (configuration_of file.image))
+answered_bits layouts text (Ok file) are whole means = bits_of_text layouts text (configuration_of file.image) file.symbols.items are whole means
+answered_bits layouts text (Err fault) are whole means = tt

@@ -10,6 +10,7 @@ use Rattle.place_search.specs.Places.{any_below, first_below, last_below, gather
 use Rattle.text_lines.specs.Words.{from_word}
 use Rattle.text_lines.specs.Written.{IsPlain}
 use Rattle.place_search.proofs.Places.{any_below-none, first_below-none, last_below-none, last_below-is, gathered_below-none, gathered_below-same, gathered_below-sum}
+use Rattle.layout_file.specs.declared.layouts.Layouts.{Layouts}
 use Rattle.ice_image.specs.CommentLines.{IsPrintable, IsCommentLine}
 use Rattle.ice_image.specs.Bits.{Bit}
 use Rattle.asc_text.specs.declared.statement.Statement.{Statement}
@@ -108,16 +109,16 @@ dot-first lines count is k within =
 -- ---- no fault
 
 -- the first line is right
-sound-first : (lines : List (List ℕ)) (count : ℕ) → Commented lines count → cause_at lines 0 ≡ None
+sound-first : (layouts : Layouts) (lines : List (List ℕ)) (count : ℕ) → Commented lines count → cause_at layouts lines 0 ≡ None
 unfolding device_before first_below
-sound-first lines count is =
-    cause_at-statement lines 0 (depth-none lines count is 0 (omega arith)) (omega (arith, is.fits)) (ap begins_with_dot is.head)
-    ∙ ap (statement_cause lines 0) (first-says lines count is)
+sound-first layouts lines count is =
+    cause_at-statement layouts lines 0 (depth-none lines count is 0 (omega arith)) (omega (arith, is.fits)) (ap begins_with_dot is.head)
+    ∙ ap (statement_cause layouts lines 0) (first-says lines count is)
 
 -- each line of the comment is
-sound-line : (lines : List (List ℕ)) (count : ℕ) → Commented lines count → (k : ℕ) → k < count → cause_at lines (suc k) ≡ None
+sound-line : (layouts : Layouts) (lines : List (List ℕ)) (count : ℕ) → Commented lines count → (k : ℕ) → k < count → cause_at layouts lines (suc k) ≡ None
 unfolding cause_at
-sound-line lines count is k within =
+sound-line layouts lines count is k within =
     let line = line_at lines (suc k) in
     let comment : is_in_comment lines (dot_before lines (suc k)) ≡ true = ap (is_in_comment lines) (dot-first lines count is k (omega arith)) ∙ ap is_comment (first-says lines count is) in
     rw (depth-none lines count is (suc k) (omega arith), lt-leb (length lines) (suc k) (omega (arith, is.fits)), no-dot line (is.rest k within), comment) (no-cause line (is.rest k within))
@@ -150,13 +151,13 @@ bits-comment lines count reads bit =
     (λ k within. ap (λ says. sets_bit says (depth_at lines (suc k)) (trimmed (line_at lines (suc k))) bit) (reads.over k within)))
 
 -- behind them, the lines say that there is a comment, and no more
-holds-comment : (lines : List (List ℕ)) (count : ℕ) → Commented lines count → Holds lines (suc count) (alone Comment comment_keyword ∷ [])
+holds-comment : (layouts : Layouts) (lines : List (List ℕ)) (count : ℕ) → Commented lines count → Holds layouts lines (suc count) (alone Comment comment_keyword ∷ [])
 unfolding device_before
-holds-comment lines count is =
+holds-comment layouts lines count is =
     let says = reads lines count is in
     record {
       top = depth-none lines count is (suc count) (omega arith);
-      sound = first_or_later (λ k. cause_at lines k ≡ None) count (sound-first lines count is) (sound-line lines count is);
+      sound = first_or_later (λ k. cause_at layouts lines k ≡ None) count (sound-first layouts lines count is) (sound-line layouts lines count is);
       any = any-comment lines count says;
       device = first-comment lines count says device_in refl refl;
       warm_boot = first-comment lines count says warm_boot_in refl refl;
@@ -169,9 +170,9 @@ holds-comment lines count is =
     }
 
 -- before the first line nothing is said
-holds-nothing : (lines : List (List ℕ)) → Holds lines 0 []
+holds-nothing : (layouts : Layouts) (lines : List (List ℕ)) → Holds layouts lines 0 []
 unfolding depth_at any_below first_below device_before is_set_before some_piece first_piece
-holds-nothing lines = record {
+holds-nothing layouts lines = record {
   top = refl;
   sound = λ k within. absurd (omega arith);
   any = λ test none. refl;
@@ -195,9 +196,9 @@ commented lines cs are stands = record {
 }
 
 -- behind the comment the lines say that there is one, and no more
-pub holds-start : (lines : List (List ℕ)) (comment : Option (List (List ℕ))) → HasCommentLines comment → Stands lines 0 (comment_lines comment) → Holds lines (length (comment_lines comment)) (comment_pieces comment)
-holds-start lines None has stands = holds-nothing lines
-holds-start lines (Some cs) has stands = holds-comment lines (length cs) (commented lines cs has stands)
+pub holds-start : (layouts : Layouts) (lines : List (List ℕ)) (comment : Option (List (List ℕ))) → HasCommentLines comment → Stands lines 0 (comment_lines comment) → Holds layouts lines (length (comment_lines comment)) (comment_pieces comment)
+holds-start layouts lines None has stands = holds-nothing layouts lines
+holds-start layouts lines (Some cs) has stands = holds-comment layouts lines (length cs) (commented lines cs has stands)
 
 -- no line of a comment has a byte below the space
 pub plain-comment : (comment : Option (List (List ℕ))) → HasCommentLines comment → All IsPlain (comment_lines comment)

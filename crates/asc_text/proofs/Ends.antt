@@ -5,8 +5,10 @@ use Rattle.std.proofs.lemmas.Bool.{cases_eq, cases_Bool}
 use Rattle.std.proofs.lemmas.List.{length-drop}
 use Rattle.text_lines.specs.Lines.{lines_of, line_at}
 use Rattle.place_search.proofs.Places.{first_below-none, first_below-first}
-use Rattle.plane_map.specs.declared.device.DeviceName.{DeviceName}
-use Rattle.ice_image.specs.Configuration.{Configuration}
+use Rattle.layout_file.specs.declared.layouts.Layouts.{Layouts}
+use Rattle.plane_map.specs.Layout.{Layout}
+use Rattle.layout_file.specs.Layouts.{layout_for, AreLayouts}
+use Rattle.ice_image.specs.Configuration.{Configuration, IsWhole}
 use Rattle.ice_image.specs.Either.{configuration_of, device_of}
 use Rattle.ice_image.specs.declared.any.AnyImage.{AnyImage}
 use Rattle.ice_image.specs.declared.settings.Settings.{Settings}
@@ -36,14 +38,16 @@ use Rattle.asc_text.proofs.Refusals.{line_refused, line_fault, end_refused, end_
 
 -- ---- the beginning
 
-pub HasRead-none : (lines : List (List ℕ)) (s : ReaderState) → s ≡ begun → HasRead lines 0 s
+pub HasRead-none : (layouts : Layouts) (lines : List (List ℕ)) (s : ReaderState) → AreLayouts layouts → s ≡ begun layouts → HasRead layouts lines 0 s
 unfolding depth_at
-HasRead-none lines s is =
-    let P : ReaderState → Type 0 = λ t. HasRead lines 0 t in
+HasRead-none layouts lines s are is =
+    let P : ReaderState → Type 0 = λ t. HasRead layouts lines 0 t in
     subst P (sym is) (record {
+      devices = are;
+      under = refl;
       fit = λ k lt. absurd (omega arith);
       stands = refl;
-      given = HasGiven-none lines;
+      given = HasGiven-none layouts lines;
       image = SetsNone-none lines;
       comment = HasComment-none lines;
     })
@@ -51,28 +55,28 @@ HasRead-none lines s is =
 -- ---- a line
 
 -- a statement, or a line that is none
-took-dotted : (lines : List (List ℕ)) (n : ℕ) (s new : ReaderState) (given : Option Statement) → HasRead lines n s → s.expected ≡ AnyStatement → depth_at lines n ≡ 0 → cause_at lines n ≡ None
-    → begins_with_dot (line_at lines n) ≡ true → statement_in (line_at lines n) ≡ given → dotted_refusal s given ≡ None → TakesDotted s given (line_at lines n) new → HasRead lines (n + 1) new
-took-dotted lines n s new None read expected depth fits dot said none takes = absurd takes
-took-dotted lines n s new (Some statement) read expected depth fits dot said none takes = took-statement lines n s new statement read expected depth fits dot said none takes
+took-dotted : (layouts : Layouts) (lines : List (List ℕ)) (n : ℕ) (s new : ReaderState) (given : Option Statement) → HasRead layouts lines n s → s.expected ≡ AnyStatement → depth_at lines n ≡ 0 → cause_at layouts lines n ≡ None
+    → begins_with_dot (line_at lines n) ≡ true → statement_in (line_at lines n) ≡ given → dotted_refusal s given ≡ None → TakesDotted s given (line_at lines n) new → HasRead layouts lines (n + 1) new
+took-dotted layouts lines n s new None read expected depth fits dot said none takes = absurd takes
+took-dotted layouts lines n s new (Some statement) read expected depth fits dot said none takes = took-statement layouts lines n s new statement read expected depth fits dot said none takes
 
-took-any : (lines : List (List ℕ)) (n : ℕ) (s new : ReaderState) → HasRead lines n s → s.expected ≡ AnyStatement → depth_at lines n ≡ 0 → cause_at lines n ≡ None
-    → line_refusal s AnyStatement (line_at lines n) ≡ None → Takes s AnyStatement (line_at lines n) new → HasRead lines (n + 1) new
-took-any lines n s new read expected depth fits none takes =
+took-any : (layouts : Layouts) (lines : List (List ℕ)) (n : ℕ) (s new : ReaderState) → HasRead layouts lines n s → s.expected ≡ AnyStatement → depth_at lines n ≡ 0 → cause_at layouts lines n ≡ None
+    → line_refusal s AnyStatement (line_at lines n) ≡ None → Takes s AnyStatement (line_at lines n) new → HasRead layouts lines (n + 1) new
+took-any layouts lines n s new read expected depth fits none takes =
     let line = line_at lines n in
     elim (cases_Bool (begins_with_dot line)) [
       | inl dot ↦
           let taken : TakesDotted s (statement_in line) line new = rw dot at takes in
           let refusal : dotted_refusal s (statement_in line) ≡ None = rw dot at none in
-          took-dotted lines n s new (statement_in line) read expected depth fits dot refl refusal taken
-      | inr other ↦ took-text lines n s new read expected depth fits other (rw other at takes)
+          took-dotted layouts lines n s new (statement_in line) read expected depth fits dot refl refusal taken
+      | inr other ↦ took-text layouts lines n s new read expected depth fits other (rw other at takes)
     ]
 
-took : (lines : List (List ℕ)) (n : ℕ) (s new : ReaderState) (expected : Expected) → HasRead lines n s → s.expected ≡ expected → IsAt lines n s expected → cause_at lines n ≡ None
-    → line_refusal s expected (line_at lines n) ≡ None → Takes s expected (line_at lines n) new → HasRead lines (n + 1) new
-took lines n s new AnyStatement read is stands fits none takes = took-any lines n s new read is stands fits none takes
-took lines n s new (Row kind x y row) read is stands fits none takes = took-row lines n x y row kind s new read stands fits none takes
-took lines n s new (Memory x y row) read is stands fits none takes = took-memory lines n x y row s new read stands fits none takes
+took : (layouts : Layouts) (lines : List (List ℕ)) (n : ℕ) (s new : ReaderState) (expected : Expected) → HasRead layouts lines n s → s.expected ≡ expected → IsAt lines n s expected → cause_at layouts lines n ≡ None
+    → line_refusal s expected (line_at lines n) ≡ None → Takes s expected (line_at lines n) new → HasRead layouts lines (n + 1) new
+took layouts lines n s new AnyStatement read is stands fits none takes = took-any layouts lines n s new read is stands fits none takes
+took layouts lines n s new (Row kind x y row) read is stands fits none takes = took-row layouts lines n x y row kind s new read stands fits none takes
+took layouts lines n s new (Memory x y row) read is stands fits none takes = took-memory layouts lines n x y row s new read stands fits none takes
 
 -- the first line of those that are left
 pub cut : (lines : List (List ℕ)) (k : ℕ) (line : List ℕ) (more : List (List ℕ)) → drop k lines ≡ line ∷ more → (k < length lines) × (line_at lines k ≡ line) × (more ≡ drop (k + 1) lines)
@@ -85,37 +89,37 @@ cut (first ∷ lines) (suc k) line more e =
     (omega (arith, found.0), found.1, rw later found.2)
 
 -- a line that was taken
-pub HasRead-more : (lines : List (List ℕ)) (n : ℕ) (line : List ℕ) (more : List (List ℕ)) (s new : ReaderState) → HasRead lines n s → drop n lines ≡ line ∷ more
-    → line_refusal s s.expected line ≡ None → Takes s s.expected line new → HasRead lines (n + 1) new
-HasRead-more lines n line more s new read left none takes =
+pub HasRead-more : (layouts : Layouts) (lines : List (List ℕ)) (n : ℕ) (line : List ℕ) (more : List (List ℕ)) (s new : ReaderState) → HasRead layouts lines n s → drop n lines ≡ line ∷ more
+    → line_refusal s s.expected line ≡ None → Takes s s.expected line new → HasRead layouts lines (n + 1) new
+HasRead-more layouts lines n line more s new read left none takes =
     let found = cut lines n line more left in
     let at_none : List ℕ → Type 0 = λ l. line_refusal s s.expected l ≡ None in
     let at_takes : List ℕ → Type 0 = λ l. Takes s s.expected l new in
     let refusal = subst at_none (sym found.1) none in
-    took lines n s new s.expected read refl read.stands (line_refused lines n s read found.0 ∙ refusal) refusal (subst at_takes (sym found.1) takes)
+    took layouts lines n s new s.expected read refl read.stands (line_refused layouts lines n s read found.0 ∙ refusal) refusal (subst at_takes (sym found.1) takes)
 
 -- ---- the first fault
 
-unfaulty : (lines : List (List ℕ)) (k : ℕ) → cause_at lines k ≡ None → fault_at lines k ≡ None
-unfaulty lines k none = rw none refl
+unfaulty : (layouts : Layouts) (lines : List (List ℕ)) (k : ℕ) → cause_at layouts lines k ≡ None → fault_at layouts lines k ≡ None
+unfaulty layouts lines k none = rw none refl
 
 -- the fault of a line before which none is faulty
-first_fault : (text : List ℕ) (n : ℕ) (fault : AscFault) → n ≤ length (lines_of text) → ((k : ℕ) → k < n → cause_at (lines_of text) k ≡ None) → Tells (fault_at (lines_of text) n) fault → Tells (asc_fault_of text) fault
+first_fault : (layouts : Layouts) (text : List ℕ) (n : ℕ) (fault : AscFault) → n ≤ length (lines_of text) → ((k : ℕ) → k < n → cause_at layouts (lines_of text) k ≡ None) → Tells (fault_at layouts (lines_of text) n) fault → Tells (asc_fault_of layouts text) fault
 unfolding asc_fault_of
-first_fault text n (At line tile cause) within fit tells =
+first_fault layouts text n (At line tile cause) within fit tells =
     let lines = lines_of text in
-    first_below-first (length lines + 1) n (fault_at lines) (record { line = line; tile = tile; cause = cause }) (omega arith) (λ k below. unfaulty lines k (fit k below)) tells
-first_fault text n (OutOfMemory e) within fit tells = tt
+    first_below-first (length lines + 1) n (fault_at layouts lines) (record { line = line; tile = tile; cause = cause }) (omega arith) (λ k below. unfaulty layouts lines k (fit k below)) tells
+first_fault layouts text n (OutOfMemory e) within fit tells = tt
 
 -- a line that is refused
-pub refused : (text line : List ℕ) (n : ℕ) (more : List (List ℕ)) (s : ReaderState) (fault : AscFault) → HasRead (lines_of text) n s → drop n (lines_of text) ≡ line ∷ more
-    → Tells (fault_with (line_refusal s s.expected line) (n + 1) (tile_named (statement_of s.expected line))) fault → Tells (asc_fault_of text) fault
-refused text line n more s fault read left tells =
+pub refused : (layouts : Layouts) (text line : List ℕ) (n : ℕ) (more : List (List ℕ)) (s : ReaderState) (fault : AscFault) → HasRead layouts (lines_of text) n s → drop n (lines_of text) ≡ line ∷ more
+    → Tells (fault_with (line_refusal s s.expected line) (n + 1) (tile_named (statement_of s.expected line))) fault → Tells (asc_fault_of layouts text) fault
+refused layouts text line n more s fault read left tells =
     let lines = lines_of text in
     let found = cut lines n line more left in
     let at : List ℕ → Type 0 = λ l. Tells (fault_with (line_refusal s s.expected l) (n + 1) (tile_named (statement_of s.expected l))) fault in
     let told : Option Fault → Type 0 = λ f. Tells f fault in
-    first_fault text n fault (omega (arith, found.0)) read.fit (subst told (sym (line_fault lines n s read found.0)) (subst at (sym found.1) tells))
+    first_fault layouts text n fault (omega (arith, found.0)) read.fit (subst told (sym (line_fault layouts lines n s read found.0)) (subst at (sym found.1) tells))
 
 -- ---- the end
 
@@ -123,30 +127,30 @@ refused text line n more s fault read left tells =
 cut-end : (lines : List (List ℕ)) (k : ℕ) → drop k lines ≡ [] → k ≤ length lines → k ≡ length lines
 cut-end lines k none within = omega (arith, length-drop k lines, ap length none)
 
-pub ended : (text left : List ℕ) (n : ℕ) (s : ReaderState) → HasRead (lines_of text) n s → lines_of left ≡ drop n (lines_of text) → left ≡ [] → n ≤ length (lines_of text)
-    → (n ≡ length (lines_of text)) × HasRead (lines_of text) (length (lines_of text)) s
+pub ended : (layouts : Layouts) (text left : List ℕ) (n : ℕ) (s : ReaderState) → HasRead layouts (lines_of text) n s → lines_of left ≡ drop n (lines_of text) → left ≡ [] → n ≤ length (lines_of text)
+    → (n ≡ length (lines_of text)) × HasRead layouts (lines_of text) (length (lines_of text)) s
 unfolding lines_of
-ended text left n s read rest none within =
+ended layouts text left n s read rest none within =
     let all : n ≡ length (lines_of text) = cut-end (lines_of text) n (sym rest ∙ ap lines_of none) within in
-    let P : ℕ → Type 0 = λ k. HasRead (lines_of text) k s in
+    let P : ℕ → Type 0 = λ k. HasRead layouts (lines_of text) k s in
     (all, subst P all read)
 
 -- something is missing at the end
-pub end_told : (text : List ℕ) (s : ReaderState) (fault : AscFault) → HasRead (lines_of text) (length (lines_of text)) s
-    → Tells (fault_with (end_refusal s s.expected) (length (lines_of text) + 1) (tile_named (statement_of s.expected []))) fault → Tells (asc_fault_of text) fault
-end_told text s fault read tells =
+pub end_told : (layouts : Layouts) (text : List ℕ) (s : ReaderState) (fault : AscFault) → HasRead layouts (lines_of text) (length (lines_of text)) s
+    → Tells (fault_with (end_refusal s s.expected) (length (lines_of text) + 1) (tile_named (statement_of s.expected []))) fault → Tells (asc_fault_of layouts text) fault
+end_told layouts text s fault read tells =
     let lines = lines_of text in
     let told : Option Fault → Type 0 = λ f. Tells f fault in
-    first_fault text (length lines) fault (omega arith) read.fit (subst told (sym (end_fault lines s read)) tells)
+    first_fault layouts text (length lines) fault (omega arith) read.fit (subst told (sym (end_fault layouts lines s read)) tells)
 
 -- nothing is missing
-pub end_accepted : (text : List ℕ) (s : ReaderState) → HasRead (lines_of text) (length (lines_of text)) s → end_refusal s s.expected ≡ None → asc_fault_of text ≡ None
+pub end_accepted : (layouts : Layouts) (text : List ℕ) (s : ReaderState) → HasRead layouts (lines_of text) (length (lines_of text)) s → end_refusal s s.expected ≡ None → asc_fault_of layouts text ≡ None
 unfolding asc_fault_of
-end_accepted text s read none =
+end_accepted layouts text s read none =
     let lines = lines_of text in
-    first_below-none (length lines + 1) (fault_at lines) (λ k below. elim (cases_eq k (length lines)) [
-      | inl last ↦ ap (fault_at lines) last ∙ unfaulty lines (length lines) (end_refused lines s read ∙ none)
-      | inr before ↦ unfaulty lines k (read.fit k (omega arith))
+    first_below-none (length lines + 1) (fault_at layouts lines) (λ k below. elim (cases_eq k (length lines)) [
+      | inl last ↦ ap (fault_at layouts lines) last ∙ unfaulty layouts lines (length lines) (end_refused layouts lines s read ∙ none)
+      | inr before ↦ unfaulty layouts lines k (read.fit k (omega arith))
     ])
 
 -- ---- the meaning
@@ -166,49 +170,61 @@ same_bit image comment settings (OfWord bit) = refl
 same_bit image comment settings (Extra at) = refl
 
 -- the image is the one that the lines configure
-same_image : (lines : List (List ℕ)) (n : ℕ) (s : ReaderState) (image : AnyImage) → HasRead lines n s → HasBits lines n image
-    → record (configuration_of image) { settings = settings_in s; comment = s.comment } ≡ image_before (device_of image) lines n
-same_image lines n s image read has =
+same_image : (layouts : Layouts) (lines : List (List ℕ)) (n : ℕ) (s : ReaderState) (image : AnyImage) → HasRead layouts lines n s → HasBits layouts lines n image
+    → record (configuration_of image) { settings = settings_in s; comment = s.comment } ≡ image_before (layout_for layouts (device_of image)) lines n
+same_image layouts lines n s image read has =
     let c = configuration_of image in
-    image_from-is (record c { settings = settings_in s; comment = s.comment }) (device_of image) (comment_before lines n) (settings_before lines n) (is_set_before lines n)
-    (record { cram = has.whole.cram; bram = has.whole.bram }) has.device (sym read.comment.lines_are) (same_settings lines n s read.given)
+    image_from-is (record c { settings = settings_in s; comment = s.comment }) (layout_for layouts (device_of image)) (comment_before lines n) (settings_before lines n) (is_set_before lines n)
+    (record { layout = has.whole.layout; cram = has.whole.cram; bram = has.whole.bram }) has.layout (sym read.comment.lines_are) (same_settings lines n s read.given)
     (λ bit is.
-    let P : DeviceName → Type 0 = λ d. IsBit d bit in
-    same_bit c s.comment (settings_in s) bit ∙ has.bits bit (subst P (sym has.device) is))
+    let P : Layout → Type 0 = λ layout. IsBit layout bit in
+    same_bit c s.comment (settings_in s) bit ∙ has.bits bit (subst P (sym has.layout) is))
 
-configured : (lines : List (List ℕ)) (s : ReaderState) (image : Option AnyImage) (after : AnyImage) → HasRead lines (length lines) s → s.image ≡ image → HasImage lines (length lines) image → Finishes s image after
-    → image_for (device_known image) lines ≡ Some (configuration_of after)
-configured lines s None after read is has finishes = absurd finishes
-configured lines s (Some image) after read is has finishes = ap (λ c. Some c) (sym (finishes ∙ same_image lines (length lines) s image read has))
+configured : (layouts : Layouts) (lines : List (List ℕ)) (s : ReaderState) (image : Option AnyImage) (after : AnyImage) → HasRead layouts lines (length lines) s → s.image ≡ image → HasImage layouts lines (length lines) image → Finishes s image after
+    → image_for layouts (device_known image) lines ≡ Some (configuration_of after)
+configured layouts lines s None after read is has finishes = absurd finishes
+configured layouts lines s (Some image) after read is has finishes = ap (λ c. Some c) (sym (finishes ∙ same_image layouts lines (length lines) s image read has))
 
-pub means : (text : List ℕ) (s : ReaderState) (after : AnyImage) (symbols : List NetName) → HasRead (lines_of text) (length (lines_of text)) s → end_refusal s s.expected ≡ None → Finishes s s.image after → symbols ≡ s.symbols
-    → AscMeans text (configuration_of after) symbols
+pub means : (layouts : Layouts) (text : List ℕ) (s : ReaderState) (after : AnyImage) (symbols : List NetName) → HasRead layouts (lines_of text) (length (lines_of text)) s → end_refusal s s.expected ≡ None → Finishes s s.image after → symbols ≡ s.symbols
+    → AscMeans layouts text (configuration_of after) symbols
 unfolding asc_image_of asc_symbols_of
-means text s after symbols read none finishes named =
+means layouts text s after symbols read none finishes named =
     let lines = lines_of text in
     record {
-      accepted = end_accepted text s read none;
-      configures = ap (λ device. image_for device lines) (device_is lines (length lines) s read.given) ∙ configured lines s s.image after read refl read.image finishes;
+      accepted = end_accepted layouts text s read none;
+      configures = ap (λ device. image_for layouts device lines) (device_is lines (length lines) s read.given) ∙ configured layouts lines s s.image after read refl read.image finishes;
       names = read.given.symbols ∙ sym named;
     }
 
+-- the image that is answered is whole
+answered_whole : (layouts : Layouts) (lines : List (List ℕ)) (n : ℕ) (s : ReaderState) (image : Option AnyImage) (after : AnyImage) → HasImage layouts lines n image → Finishes s image after → IsWhole (configuration_of after)
+answered_whole layouts lines n s None after has finishes = absurd finishes
+answered_whole layouts lines n s (Some image) after has finishes =
+    let is_whole : Configuration → Type 0 = λ c. IsWhole c in
+    subst is_whole (sym finishes) (record { layout = has.whole.layout; cram = has.whole.cram; bram = has.whole.bram })
+
 -- ---- the answer
 
+pub whole : (layouts : Layouts) (text : List ℕ) (s : ReaderState) (r : Result AscFile AscFault) → HasRead layouts (lines_of text) (length (lines_of text)) s → IfOk r (λ file. Finishes s s.image file.image)
+    → IfOk r (λ file. IsWhole (configuration_of file.image))
+whole layouts text s (Ok file) read finishes = answered_whole layouts (lines_of text) (length (lines_of text)) s s.image file.image read.image finishes
+whole layouts text s (Err fault) read finishes = tt
+
 -- an image and its names that are answered
-pub answered : (text : List ℕ) (s : ReaderState) (r : Result AscFile AscFault) → HasRead (lines_of text) (length (lines_of text)) s → OnOk r (end_refusal s s.expected ≡ None) → IfOk r (λ file. Finishes s s.image file.image)
-    → IfOk r (λ file. file.symbols.items ≡ s.symbols) → IfOk r (λ file. AscMeans text (configuration_of file.image) file.symbols.items)
-answered text s (Ok file) read none finishes named = means text s file.image file.symbols.items read none finishes named
-answered text s (Err fault) read none finishes named = tt
+pub answered : (layouts : Layouts) (text : List ℕ) (s : ReaderState) (r : Result AscFile AscFault) → HasRead layouts (lines_of text) (length (lines_of text)) s → OnOk r (end_refusal s s.expected ≡ None) → IfOk r (λ file. Finishes s s.image file.image)
+    → IfOk r (λ file. file.symbols.items ≡ s.symbols) → IfOk r (λ file. AscMeans layouts text (configuration_of file.image) file.symbols.items)
+answered layouts text s (Ok file) read none finishes named = means layouts text s file.image file.symbols.items read none finishes named
+answered layouts text s (Err fault) read none finishes named = tt
 
 -- a text that is accepted
-pub accepted : (text : List ℕ) (s : ReaderState) (r : Result AscFile AscFault) → HasRead (lines_of text) (length (lines_of text)) s → OnOk r (end_refusal s s.expected ≡ None) → OnOk r (asc_fault_of text ≡ None)
-accepted text s (Ok file) read none = end_accepted text s read none
-accepted text s (Err fault) read none = tt
+pub accepted : (layouts : Layouts) (text : List ℕ) (s : ReaderState) (r : Result AscFile AscFault) → HasRead layouts (lines_of text) (length (lines_of text)) s → OnOk r (end_refusal s s.expected ≡ None) → OnOk r (asc_fault_of layouts text ≡ None)
+accepted layouts text s (Ok file) read none = end_accepted layouts text s read none
+accepted layouts text s (Err fault) read none = tt
 
 -- a fault that is answered
-pub told : (text : List ℕ) (s : ReaderState) (n : ℕ) (r : Result AscFile AscFault) → HasRead (lines_of text) (length (lines_of text)) s → n ≡ length (lines_of text)
-    → IfErr r (Tells (fault_with (end_refusal s s.expected) (n + 1) (tile_named (statement_of s.expected [])))) → IfErr r (Tells (asc_fault_of text))
-told text s n (Ok file) read all tells = tt
-told text s n (Err fault) read all tells =
+pub told : (layouts : Layouts) (text : List ℕ) (s : ReaderState) (n : ℕ) (r : Result AscFile AscFault) → HasRead layouts (lines_of text) (length (lines_of text)) s → n ≡ length (lines_of text)
+    → IfErr r (Tells (fault_with (end_refusal s s.expected) (n + 1) (tile_named (statement_of s.expected [])))) → IfErr r (Tells (asc_fault_of layouts text))
+told layouts text s n (Ok file) read all tells = tt
+told layouts text s n (Err fault) read all tells =
     let at : ℕ → Type 0 = λ k. Tells (fault_with (end_refusal s s.expected) (k + 1) (tile_named (statement_of s.expected []))) fault in
-    end_told text s fault read (subst at all tells)
+    end_told layouts text s fault read (subst at all tells)

@@ -4,8 +4,7 @@ use Rattle.std.proofs.lemmas.Bool.{cases_eq, cases_lt, cases_Bool, eq-eqb, ne_eq
 use Rattle.std.proofs.lemmas.Bool.Decides.{nat_tests}
 use Rattle.std.proofs.Math.Bool.{or-false, or-true, or_assoc}
 use Rattle.std.specs.Prelude.{Some, nat_lt}
-use Rattle.plane_map.specs.Layout.{kind_of, columns_of, columns_in, columns_at}
-use Rattle.plane_map.specs.declared.device.DeviceName.{DeviceName}
+use Rattle.plane_map.specs.Layout.{Layout, kind_of, columns_of, columns_in, columns_at}
 use Rattle.plane_map.specs.declared.tile.Place.{Place}
 use Rattle.plane_map.specs.declared.tile.TileBit.{TileBit}
 use Rattle.plane_map.specs.declared.tile.TileKind.{TileKind}
@@ -23,7 +22,7 @@ use Rattle.asc_text.specs.inside.Gains.{Gains, is_tile_bit, is_word_bit, row_set
 -- a test that only the bit passes that was set
 Gains-set : (bit : Bit) (test : Bit → Bool) (before after : Configuration) → ((other : Bit) → test other ≡ true → other ≡ bit) → test bit ≡ true → IsSet bit true before after → Gains test before after
 Gains-set bit test before after only passes set = record {
-  device = set.others.device;
+  layout = set.others.layout;
   whole = set.others.whole;
   bits = λ other is. elim (cases_Bool (test other)) [
     | inl here ↦
@@ -91,28 +90,28 @@ Gains-extra before after at = Gains-set (Extra at) (extra_sets at) before after 
 
 -- where nothing is asked, nothing is set
 pub Gains-nothing : (before : Configuration) (is_asked : Bool) (test : Bit → Bool) → IsWhole before → is_asked ≡ false → Gains (λ bit. is_asked && test bit) before before
-Gains-nothing before is_asked test whole off = record { device = refl; whole = whole; bits = λ bit is. rw off (sym (or-false (bit_of before bit))) }
+Gains-nothing before is_asked test whole off = record { layout = refl; whole = whole; bits = λ bit is. rw off (sym (or-false (bit_of before bit))) }
 
 -- ---- one after the other
 
 -- nothing is set yet
 pub Gains-none : (test : Bit → Bool) (before : Configuration) → IsWhole before → ((bit : Bit) → test bit ≡ false) → Gains test before before
-Gains-none test before whole none = record { device = refl; whole = whole; bits = λ bit is. sym (or-false (bit_of before bit)) ∙ ap (λ t. bit_of before bit || t) (sym (none bit)) }
+Gains-none test before whole none = record { layout = refl; whole = whole; bits = λ bit is. sym (or-false (bit_of before bit)) ∙ ap (λ t. bit_of before bit || t) (sym (none bit)) }
 
 -- one gain more
 pub Gains-more : (one more both : Bit → Bool) (before now after : Configuration) → Gains one before now → Gains more now after → ((bit : Bit) → (one bit || more bit) ≡ both bit) → Gains both before after
 Gains-more one more both before now after first next sum = record {
-  device = next.device ∙ first.device;
+  layout = next.layout ∙ first.layout;
   whole = next.whole;
   bits = λ bit is.
-      let P : DeviceName → Type 0 = λ d. IsBit d bit in
-      next.bits bit (subst P (sym first.device) is) ∙ ap (λ b. b || more bit) (first.bits bit is) ∙ or_assoc (bit_of before bit) (one bit) (more bit) ∙ ap (λ t. bit_of before bit || t) (sum bit);
+      let P : Layout → Type 0 = λ layout. IsBit layout bit in
+      next.bits bit (subst P (sym first.layout) is) ∙ ap (λ b. b || more bit) (first.bits bit is) ∙ or_assoc (bit_of before bit) (one bit) (more bit) ∙ ap (λ t. bit_of before bit || t) (sum bit);
 }
 
 -- the same bits by another test
-pub Gains-same : (one other : Bit → Bool) (before after : Configuration) → Gains one before after → ((bit : Bit) → IsBit before.device bit → one bit ≡ other bit) → Gains other before after
+pub Gains-same : (one other : Bit → Bool) (before after : Configuration) → Gains one before after → ((bit : Bit) → IsBit before.layout bit → one bit ≡ other bit) → Gains other before after
 Gains-same one other before after gains same = record {
-  device = gains.device;
+  layout = gains.layout;
   whole = gains.whole;
   bits = λ bit is. gains.bits bit is ∙ ap (λ t. bit_of before bit || t) (same bit is);
 }
@@ -186,20 +185,20 @@ and-last true b = refl
 and-last false b = refl
 
 -- all columns
-pub row-all : (device : DeviceName) (kind : TileKind) (x y row : ℕ) (line : List ℕ) → kind_of device x y ≡ Some kind → (bit : Bit) → IsBit device bit → row_sets_below x y row line (columns_of kind) bit ≡ row_sets x y row line bit
-row-all device kind x y row line there (OfTile bit) is =
+pub row-all : (layout : Layout) (kind : TileKind) (x y row : ℕ) (line : List ℕ) → kind_of layout.device x y ≡ Some kind → (bit : Bit) → IsBit layout bit → row_sets_below x y row line (columns_of kind) bit ≡ row_sets x y row line bit
+row-all layout kind x y row line there (OfTile bit) is =
     elim (cases_Bool ((x == bit.x) && (y == bit.y))) [
       | inl here ↦
           let grid = and_parts (x == bit.x) (y == bit.y) here in
           let ex : x ≡ bit.x = eqb-true _ _ grid.0 in
           let ey : y ≡ bit.y = eqb-true _ _ grid.1 in
-          let wide : columns_at device bit.x bit.y ≡ columns_of kind = (λ i. columns_at device (sym ex i) (sym ey i)) ∙ ap columns_in there in
+          let wide : columns_at layout.device bit.x bit.y ≡ columns_of kind = (λ i. columns_at layout.device (sym ex i) (sym ey i)) ∙ ap columns_in there in
           let within : nat_lt bit.col (columns_of kind) ≡ true = lt-ltb bit.col (columns_of kind) (omega (arith, is.col_in, wide)) in
           rw within (and-last ((x == bit.x) && (y == bit.y) && (row == bit.row)) (row_bit line bit.col))
       | inr other ↦ rw other refl
     ]
-row-all device kind x y row line there (OfWord bit) is = refl
-row-all device kind x y row line there (Extra at) is = refl
+row-all layout kind x y row line there (OfWord bit) is = refl
+row-all layout kind x y row line there (Extra at) is = refl
 
 -- no bit of a word yet
 pub word-none : (x y word value : ℕ) (bit : Bit) → word_sets_below x y word value 0 bit ≡ false
@@ -217,12 +216,12 @@ word-more x y word value n (OfTile bit) = nothing-more (number_bit value n)
 word-more x y word value n (Extra at) = nothing-more (number_bit value n)
 
 -- all bits
-pub word-all : (device : DeviceName) (x y word value : ℕ) (bit : Bit) → IsBit device bit → word_sets_below x y word value 16 bit ≡ word_sets x y word value bit
-word-all device x y word value (OfWord bit) is =
+pub word-all : (layout : Layout) (x y word value : ℕ) (bit : Bit) → IsBit layout bit → word_sets_below x y word value 16 bit ≡ word_sets x y word value bit
+word-all layout x y word value (OfWord bit) is =
     let within : nat_lt bit.bit 16 ≡ true = lt-ltb bit.bit 16 is.bit_in in
     rw within (and-last ((x == bit.x) && (y == bit.y) && (word == bit.word)) (number_bit value bit.bit))
-word-all device x y word value (OfTile bit) is = refl
-word-all device x y word value (Extra at) is = refl
+word-all layout x y word value (OfTile bit) is = refl
+word-all layout x y word value (Extra at) is = refl
 
 -- no word of a line yet
 pub bytes-none : (x y row : ℕ) (bytes : List ℕ) (bit : Bit) → bytes_set_below x y row bytes 0 bit ≡ false

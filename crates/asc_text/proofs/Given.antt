@@ -7,6 +7,7 @@ use Rattle.std.proofs.Math.Bool.{or-false}
 use Rattle.text_lines.specs.Lines.{line_at}
 use Rattle.place_search.specs.Places.{any_below, first_below, gathered_below, or_else}
 use Rattle.place_search.proofs.Places.{or_else-none, any_below-more, first_below-more, gathered_below-more}
+use Rattle.layout_file.specs.declared.layouts.Layouts.{Layouts}
 use Rattle.asc_text.specs.declared.statement.Statement.{Statement}
 use Rattle.asc_text.specs.declared.statement.Statement.TheVariants.{Comment, Device, WarmBoot, FrequencyRange, NoSleep, Tile, RamData, ExtraBit, Symbol}
 use Rattle.asc_text.specs.declared.fault.TileXy.{TileXy}
@@ -167,9 +168,9 @@ unfolding any_below
 AreNamed-none lines names = λ v w column row. no_tile v w column row
 
 -- nothing was read
-pub HasGiven-none : (lines : List (List ℕ)) → HasGiven lines 0 begun
+pub HasGiven-none : (layouts : Layouts) (lines : List (List ℕ)) → HasGiven lines 0 (begun layouts)
 unfolding symbols_before gathered_below
-HasGiven-none lines = record {
+HasGiven-none layouts lines = record {
   warm_boot = IsGiven-none _ lines warm_boot_in is_warm_boot;
   range = IsGiven-none _ lines range_in is_range;
   no_sleep = IsGiven-none _ lines no_sleep_in is_no_sleep;

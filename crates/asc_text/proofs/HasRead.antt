@@ -4,6 +4,9 @@ use Rattle.std.specs.Prelude.{Option, Some, None, is_some}
 use Rattle.text_lines.specs.Lines.{line_at}
 use Rattle.place_search.specs.Places.{any_below, first_below, last_below}
 use Rattle.plane_map.specs.declared.device.DeviceName.{DeviceName}
+use Rattle.plane_map.specs.declared.device.DeviceName.TheVariants.{K1, K8}
+use Rattle.layout_file.specs.declared.layouts.Layouts.{Layouts}
+use Rattle.layout_file.specs.Layouts.{layout_for, AreLayouts}
 use Rattle.plane_map.specs.declared.tile.TileKind.TheVariants.{RamB}
 use Rattle.ice_image.specs.Bits.{Bit, IsBit, bit_of}
 use Rattle.ice_image.specs.Configuration.{IsWhole}
@@ -41,19 +44,24 @@ abbrev pub device_known : Option AnyImage → Option DeviceName
 device_known None = None
 device_known (Some image) = Some (device_of image)
 
--- the image has the bits that the lines before a line set
-pub record HasBits (lines : List (List ℕ)) (n : ℕ) (image : AnyImage) : Type 0 where
-  pub device : (configuration_of image).layout.device ≡ device_of image
+-- each layout is for its device
+pub layout_for-device : (layouts : Layouts) (device : DeviceName) → AreLayouts layouts → (layout_for layouts device).device ≡ device
+layout_for-device layouts K1 are = are.k1
+layout_for-device layouts K8 are = are.k8
+
+-- the image has the layout of its device, and the bits that the lines before a line set
+pub record HasBits (layouts : Layouts) (lines : List (List ℕ)) (n : ℕ) (image : AnyImage) : Type 0 where
+  pub layout : (configuration_of image).layout ≡ layout_for layouts (device_of image)
   pub whole : IsWhole (configuration_of image)
-  pub bits : (bit : Bit) → IsBit (configuration_of image).layout.device bit → bit_of (configuration_of image) bit ≡ is_set_before lines n bit
+  pub bits : (bit : Bit) → IsBit (configuration_of image).layout bit → bit_of (configuration_of image) bit ≡ is_set_before lines n bit
 
 -- no line before a line sets a bit
 abbrev pub SetsNone : List (List ℕ) → ℕ → Type 0
 SetsNone lines n = (bit : Bit) → is_set_before lines n bit ≡ false
 
-abbrev pub HasImage : List (List ℕ) → ℕ → Option AnyImage → Type 0
-HasImage lines n None = SetsNone lines n
-HasImage lines n (Some image) = HasBits lines n image
+abbrev pub HasImage : Layouts → List (List ℕ) → ℕ → Option AnyImage → Type 0
+HasImage layouts lines n None = SetsNone lines n
+HasImage layouts lines n (Some image) = HasBits layouts lines n image
 
 -- where the last comment before a line begins
 abbrev pub comment_start : List (List ℕ) → ℕ → Option ℕ
@@ -76,9 +84,11 @@ pub record HasGiven (lines : List (List ℕ)) (n : ℕ) (s : ReaderState) : Type
   pub symbols : symbols_before lines n ≡ s.symbols
 
 -- the lines before a line were read, and none of them is faulty
-pub record HasRead (lines : List (List ℕ)) (n : ℕ) (s : ReaderState) : Type 0 where
-  pub fit : (k : ℕ) → k < n → cause_at lines k ≡ None
+pub record HasRead (layouts : Layouts) (lines : List (List ℕ)) (n : ℕ) (s : ReaderState) : Type 0 where
+  pub devices : AreLayouts layouts
+  pub under : s.layouts ≡ layouts
+  pub fit : (k : ℕ) → k < n → cause_at layouts lines k ≡ None
   pub stands : IsAt lines n s s.expected
   pub given : HasGiven lines n s
-  pub image : HasImage lines n s.image
+  pub image : HasImage layouts lines n s.image
   pub comment : HasComment lines n s.comment s.in_comment

@@ -4,6 +4,7 @@ use Rattle.std.proofs.lemmas.List.Elements.{All-cons, All-nil}
 use Rattle.std.specs.Prelude.{unwrap_or}
 use Rattle.place_search.specs.Places.{or_else}
 use Rattle.text_lines.specs.Written.{IsPlain}
+use Rattle.layout_file.specs.declared.layouts.Layouts.{Layouts}
 use Rattle.plane_map.specs.Layout.{kind_of, grid_width, grid_height}
 use Rattle.plane_map.specs.declared.device.DeviceName.{DeviceName}
 use Rattle.plane_map.specs.declared.tile.TileKind.{TileKind}
@@ -88,46 +89,46 @@ head-lines device warm_boot range no_sleep =
 -- ---- they are right
 
 -- a statement to which no lines belong is right where its cause is none
-alone-fine : (past : List Piece) (statement : Statement) (head : List ℕ) → IsSpelled head statement → has_rows (Some statement) ≡ false → is_comment (Some statement) ≡ false
-    → cause_behind (first_statement device_in past) (was_given past statement) statement ≡ None → IsFine past (alone statement head)
-alone-fine past statement head spelled rowless calm none = record {
+alone-fine : (layouts : Layouts) (past : List Piece) (statement : Statement) (head : List ℕ) → IsSpelled head statement → has_rows (Some statement) ≡ false → is_comment (Some statement) ≡ false
+    → cause_behind layouts (first_statement device_in past) (was_given past statement) statement ≡ None → IsFine layouts past (alone statement head)
+alone-fine layouts past statement head spelled rowless calm none = record {
   is = record { spells = spelled.spells; dot = spelled.dot; count = sym (ap rows_below rowless); calm = calm; plain = All-cons IsPlain head [] spelled.plain (All-nil IsPlain) };
   cause = none;
   rows = λ r within. absurd (omega arith);
 }
 
 -- the device is right behind the comment
-device-fine : (comment : Option (List (List ℕ))) (device : DeviceName) → IsFine (comment_pieces comment) (device_piece device)
+device-fine : (layouts : Layouts) (comment : Option (List (List ℕ))) (device : DeviceName) → IsFine layouts (comment_pieces comment) (device_piece device)
 unfolding first_piece some_piece
-device-fine None device = alone-fine [] (Device (Some device)) (device_piece device).head (device-spelled device) refl refl refl
-device-fine (Some lines) device = alone-fine (comment_pieces (Some lines)) (Device (Some device)) (device_piece device).head (device-spelled device) refl refl refl
+device-fine layouts None device = alone-fine layouts [] (Device (Some device)) (device_piece device).head (device-spelled device) refl refl refl
+device-fine layouts (Some lines) device = alone-fine layouts (comment_pieces (Some lines)) (Device (Some device)) (device_piece device).head (device-spelled device) refl refl refl
 
 -- so is a setting behind the device, where it wasn't given
-setting-fine : (device : DeviceName) (past : List Piece) (statement : Statement) (head : List ℕ) → Knows device past → IsSpelled head statement
-    → has_rows (Some statement) ≡ false → is_comment (Some statement) ≡ false → was_given past statement ≡ false → cause_behind (Some device) false statement ≡ None
-    → AreFine past (alone statement head ∷ [])
-setting-fine device past statement head knows spelled rowless calm new none =
-    AreFine-one past (alone statement head) (alone-fine past statement head spelled rowless calm ((λ i. cause_behind (knows i) (new i) statement) ∙ none))
+setting-fine : (layouts : Layouts) (device : DeviceName) (past : List Piece) (statement : Statement) (head : List ℕ) → Knows device past → IsSpelled head statement
+    → has_rows (Some statement) ≡ false → is_comment (Some statement) ≡ false → was_given past statement ≡ false → cause_behind layouts (Some device) false statement ≡ None
+    → AreFine layouts past (alone statement head ∷ [])
+setting-fine layouts device past statement head knows spelled rowless calm new none =
+    AreFine-one layouts past (alone statement head) (alone-fine layouts past statement head spelled rowless calm ((λ i. cause_behind layouts (knows i) (new i) statement) ∙ none))
 
 -- so is warm boot
-warm_boot-fine : (device : DeviceName) (past : List Piece) (warm_boot : Bool) → Knows device past → some_statement is_warm_boot past ≡ false → AreFine past (warm_boot_pieces warm_boot)
-warm_boot-fine device past true knows new = AreFine-none past
-warm_boot-fine device past false knows new =
-    setting-fine device past (WarmBoot (Some false)) (with_word warm_boot_keyword (switch_word false)) knows warm_boot-spelled refl refl new refl
+warm_boot-fine : (layouts : Layouts) (device : DeviceName) (past : List Piece) (warm_boot : Bool) → Knows device past → some_statement is_warm_boot past ≡ false → AreFine layouts past (warm_boot_pieces warm_boot)
+warm_boot-fine layouts device past true knows new = AreFine-none layouts past
+warm_boot-fine layouts device past false knows new =
+    setting-fine layouts device past (WarmBoot (Some false)) (with_word warm_boot_keyword (switch_word false)) knows warm_boot-spelled refl refl new refl
 
 -- so is the range
-range-fine : (device : DeviceName) (past : List Piece) (range : Range) → Knows device past → some_statement is_range past ≡ false → AreFine past (range_pieces range)
-range-fine device past Low knows new = AreFine-none past
-range-fine device past Medium knows new =
-    setting-fine device past (FrequencyRange (Some Medium)) (with_word range_keyword (range_word Medium)) knows medium-spelled refl refl new refl
-range-fine device past High knows new =
-    setting-fine device past (FrequencyRange (Some High)) (with_word range_keyword (range_word High)) knows high-spelled refl refl new refl
+range-fine : (layouts : Layouts) (device : DeviceName) (past : List Piece) (range : Range) → Knows device past → some_statement is_range past ≡ false → AreFine layouts past (range_pieces range)
+range-fine layouts device past Low knows new = AreFine-none layouts past
+range-fine layouts device past Medium knows new =
+    setting-fine layouts device past (FrequencyRange (Some Medium)) (with_word range_keyword (range_word Medium)) knows medium-spelled refl refl new refl
+range-fine layouts device past High knows new =
+    setting-fine layouts device past (FrequencyRange (Some High)) (with_word range_keyword (range_word High)) knows high-spelled refl refl new refl
 
 -- so is the flash
-no_sleep-fine : (device : DeviceName) (past : List Piece) (no_sleep : Bool) → Knows device past → some_statement is_no_sleep past ≡ false → AreFine past (no_sleep_pieces no_sleep)
-no_sleep-fine device past false knows new = AreFine-none past
-no_sleep-fine device past true knows new =
-    setting-fine device past (NoSleep (Some true)) (with_word no_sleep_keyword (switch_word true)) knows no_sleep-spelled refl refl new refl
+no_sleep-fine : (layouts : Layouts) (device : DeviceName) (past : List Piece) (no_sleep : Bool) → Knows device past → some_statement is_no_sleep past ≡ false → AreFine layouts past (no_sleep_pieces no_sleep)
+no_sleep-fine layouts device past false knows new = AreFine-none layouts past
+no_sleep-fine layouts device past true knows new =
+    setting-fine layouts device past (NoSleep (Some true)) (with_word no_sleep_keyword (switch_word true)) knows no_sleep-spelled refl refl new refl
 
 -- a test that none of these pieces passes
 pub record FailsHead (test : Piece → Bool) (device : DeviceName) : Type 0 where
@@ -184,9 +185,9 @@ head-knows comment device warm_boot range no_sleep =
     ∙ Knows-more device (comment_pieces comment ++ (device_piece device ∷ [])) rest (device-known comment device)
 
 -- the device and the settings are right behind the comment
-pub head-fine : (comment : Option (List (List ℕ))) (device : DeviceName) (warm_boot : Bool) (range : Range) (no_sleep : Bool)
-    → AreFine (comment_pieces comment) (head_pieces device warm_boot range no_sleep)
-head-fine comment device warm_boot range no_sleep =
+pub head-fine : (layouts : Layouts) (comment : Option (List (List ℕ))) (device : DeviceName) (warm_boot : Bool) (range : Range) (no_sleep : Bool)
+    → AreFine layouts (comment_pieces comment) (head_pieces device warm_boot range no_sleep)
+head-fine layouts comment device warm_boot range no_sleep =
     let start = comment_pieces comment in
     let named = start ++ (device_piece device ∷ []) in
     let booted = named ++ warm_boot_pieces warm_boot in
@@ -196,14 +197,14 @@ head-fine comment device warm_boot range no_sleep =
     let none_named : (test : Option Statement → Bool) → test (Some Comment) ≡ false → test (Some (Device (Some device))) ≡ false → some_statement test named ≡ false =
     λ test first second. append-none (passes test) start (device_piece device ∷ []) (comment-none (passes test) comment first) (some_piece-one (passes test) (device_piece device) ∙ second)
     in
-    AreFine-append start (device_piece device ∷ []) (warm_boot_pieces warm_boot ++ (range_pieces range ++ no_sleep_pieces no_sleep))
-    (AreFine-one start (device_piece device) (device-fine comment device))
-    (AreFine-append named (warm_boot_pieces warm_boot) (range_pieces range ++ no_sleep_pieces no_sleep)
-    (warm_boot-fine device named warm_boot knows (none_named is_warm_boot refl refl))
-    (AreFine-append booted (range_pieces range) (no_sleep_pieces no_sleep)
-    (range-fine device booted range (Knows-more device named (warm_boot_pieces warm_boot) knows)
+    AreFine-append layouts start (device_piece device ∷ []) (warm_boot_pieces warm_boot ++ (range_pieces range ++ no_sleep_pieces no_sleep))
+    (AreFine-one layouts start (device_piece device) (device-fine layouts comment device))
+    (AreFine-append layouts named (warm_boot_pieces warm_boot) (range_pieces range ++ no_sleep_pieces no_sleep)
+    (warm_boot-fine layouts device named warm_boot knows (none_named is_warm_boot refl refl))
+    (AreFine-append layouts booted (range_pieces range) (no_sleep_pieces no_sleep)
+    (range-fine layouts device booted range (Knows-more device named (warm_boot_pieces warm_boot) knows)
     (append-none (passes is_range) named (warm_boot_pieces warm_boot) (none_named is_range refl refl) (warm_boot-none (passes is_range) warm_boot refl)))
-    (no_sleep-fine device ranged no_sleep (Knows-more device booted (range_pieces range) (Knows-more device named (warm_boot_pieces warm_boot) knows))
+    (no_sleep-fine layouts device ranged no_sleep (Knows-more device booted (range_pieces range) (Knows-more device named (warm_boot_pieces warm_boot) knows))
     (append-none (passes is_no_sleep) booted (range_pieces range)
     (append-none (passes is_no_sleep) named (warm_boot_pieces warm_boot) (none_named is_no_sleep refl refl) (warm_boot-none (passes is_no_sleep) warm_boot refl))
     (range-none (passes is_no_sleep) range refl refl)))))

@@ -5,17 +5,19 @@ use Rattle.std.proofs.Math.Bool.{or-false}
 use Rattle.text_lines.specs.Lines.{line_at, trimmed}
 use Rattle.place_search.specs.Places.{any_below}
 use Rattle.place_search.proofs.Places.{any_below-more}
-use Rattle.plane_map.specs.Layout.{cram_width, cram_height, bram_width, bram_height}
+use Rattle.layout_file.specs.declared.layouts.Layouts.{Layouts}
+use Rattle.plane_map.specs.Layout.{Layout}
 use Rattle.plane_map.specs.declared.device.DeviceName.{DeviceName}
 use Rattle.ice_image.specs.Bits.{Bit, IsBit, bit_of}
-use Rattle.ice_image.specs.Configuration.{Configuration, IsWhole, blank_image}
+use Rattle.ice_image.specs.Configuration.{Configuration}
+use Rattle.ice_image.specs.Either.{device_of}
+use Rattle.layout_file.specs.Layouts.{layout_for, AreLayouts}
 use Rattle.ice_image.specs.declared.any.AnyImage.{AnyImage}
-use Rattle.ice_image.proofs.BankBits.{AreBanks-blank}
 use Rattle.ice_image.proofs.Bits.{bit_of-blank}
 use Rattle.asc_text.specs.Blocks.{depth_at, statement_over}
 use Rattle.asc_text.specs.Meaning.{sets_bit, is_set_before}
 use Rattle.asc_text.specs.inside.Reading.{ImageGains, IsBlank}
-use Rattle.asc_text.proofs.HasRead.{SetsNone, HasImage}
+use Rattle.asc_text.proofs.HasRead.{SetsNone, HasImage, layout_for-device}
 
 -- what a line sets
 abbrev pub set_here : List (List ℕ) → ℕ → Bit → Bool
@@ -32,45 +34,43 @@ set-same : (lines : List (List ℕ)) (n : ℕ) → SetsNo lines n → (bit : Bit
 set-same lines n none bit = set-more lines n bit ∙ ap (λ b. is_set_before lines n bit || b) (none bit) ∙ or-false (is_set_before lines n bit)
 
 -- a line that sets no bit
-pub image-stays : (lines : List (List ℕ)) (n : ℕ) (image : Option AnyImage) → HasImage lines n image → SetsNo lines n → HasImage lines (n + 1) image
-image-stays lines n None has none = λ bit. set-same lines n none bit ∙ has bit
-image-stays lines n (Some image) has none = record {
-  device = has.device;
+pub image-stays : (layouts : Layouts) (lines : List (List ℕ)) (n : ℕ) (image : Option AnyImage) → HasImage layouts lines n image → SetsNo lines n → HasImage layouts lines (n + 1) image
+image-stays layouts lines n None has none = λ bit. set-same lines n none bit ∙ has bit
+image-stays layouts lines n (Some image) has none = record {
+  layout = has.layout;
   whole = has.whole;
   bits = λ bit is. has.bits bit is ∙ sym (set-same lines n none bit);
 }
 
-blank-whole : (device : DeviceName) → IsWhole (blank_image device)
-blank-whole device = record {
-  cram = AreBanks-blank (cram_width device) (cram_height device);
-  bram = AreBanks-blank (bram_width device) (bram_height device);
-}
+-- a blank image under a device's layout is for the device
+pub blank-device : (layouts : Layouts) (device : DeviceName) (image : AnyImage) → AreLayouts layouts → IsBlank layouts (Some device) (Some image) → device_of image ≡ device
+blank-device layouts device image are blank = ap (λ (c : Configuration). c.layout.device) blank.0 ∙ layout_for-device layouts device are
 
 -- the statement of the device
-pub image-begins : (lines : List (List ℕ)) (n : ℕ) (device : Option DeviceName) (image : Option AnyImage) → HasImage lines n None → IsBlank device image → SetsNo lines n → HasImage lines (n + 1) image
-image-begins lines n None image has blank none = absurd blank
-image-begins lines n (Some device) None has blank none = absurd blank
-image-begins lines n (Some device) (Some image) has blank none =
-    let is_whole : Configuration → Type 0 = λ c. IsWhole c in
+pub image-begins : (layouts : Layouts) (lines : List (List ℕ)) (n : ℕ) (device : Option DeviceName) (image : Option AnyImage) → AreLayouts layouts → HasImage layouts lines n None → IsBlank layouts device image → SetsNo lines n → HasImage layouts lines (n + 1) image
+image-begins layouts lines n None image are has blank none = absurd blank
+image-begins layouts lines n (Some device) None are has blank none = absurd blank
+image-begins layouts lines n (Some device) (Some image) are has blank none =
+    let layout = layout_for layouts device in
     record {
-      device = ap (λ (c : Configuration). c.device) blank.1 ∙ sym blank.0;
-      whole = subst is_whole (sym blank.1) (blank-whole device);
+      layout = ap (λ (c : Configuration). c.layout) blank.0 ∙ ap (layout_for layouts) (sym (blank-device layouts device image are blank));
+      whole = blank.1;
       bits = λ bit is.
-          let P : Configuration → Type 0 = λ c. IsBit c.device bit in
-          ap (λ (c : Configuration). bit_of c bit) blank.1 ∙ bit_of-blank device bit (subst P blank.1 is) ∙ sym (set-same lines n none bit ∙ has bit);
+          let P : Configuration → Type 0 = λ c. IsBit c.layout bit in
+          ap (λ (c : Configuration). bit_of c bit) blank.0 ∙ bit_of-blank layout bit (subst P blank.0 is) ∙ sym (set-same lines n none bit ∙ has bit);
     }
 
 -- a line that sets bits
-pub image-gains : (lines : List (List ℕ)) (n : ℕ) (before after : Option AnyImage) (is_set : Bit → Bool) → HasImage lines n before → ImageGains before after is_set
-    → ((bit : Bit) → is_set bit ≡ set_here lines n bit) → HasImage lines (n + 1) after
-image-gains lines n None after is_set has gains same = absurd gains
-image-gains lines n (Some before) None is_set has gains same = absurd gains
-image-gains lines n (Some before) (Some after) is_set has gains same = record {
-  device = gains.gains.device ∙ has.device ∙ sym gains.device;
+pub image-gains : (layouts : Layouts) (lines : List (List ℕ)) (n : ℕ) (before after : Option AnyImage) (is_set : Bit → Bool) → HasImage layouts lines n before → ImageGains before after is_set
+    → ((bit : Bit) → is_set bit ≡ set_here lines n bit) → HasImage layouts lines (n + 1) after
+image-gains layouts lines n None after is_set has gains same = absurd gains
+image-gains layouts lines n (Some before) None is_set has gains same = absurd gains
+image-gains layouts lines n (Some before) (Some after) is_set has gains same = record {
+  layout = gains.gains.layout ∙ has.layout ∙ ap (layout_for layouts) (sym gains.device);
   whole = gains.gains.whole;
   bits = λ bit is.
-      let P : DeviceName → Type 0 = λ d. IsBit d bit in
-      let there = subst P gains.gains.device is in
+      let P : Layout → Type 0 = λ layout. IsBit layout bit in
+      let there = subst P gains.gains.layout is in
       gains.gains.bits bit there
       ∙ ap (λ b. b || is_set bit) (has.bits bit there)
       ∙ ap (λ b. is_set_before lines n bit || b) (same bit)

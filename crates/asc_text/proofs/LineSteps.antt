@@ -5,6 +5,7 @@ use Rattle.std.specs.List.{list_all}
 use Rattle.std.proofs.lemmas.Bool.{cases_Bool, cases_eq, eq-eqb, ne_eqb, lt-ltb, and_parts, eqb-true}
 use Rattle.text_lines.specs.Lines.{line_at, trimmed}
 use Rattle.text_lines.proofs.Blanks.{dot-trimmed}
+use Rattle.layout_file.specs.declared.layouts.Layouts.{Layouts}
 use Rattle.plane_map.specs.Layout.{kind_of, columns_of}
 use Rattle.plane_map.specs.declared.tile.TileKind.{TileKind}
 use Rattle.plane_map.specs.declared.tile.TileKind.TheVariants.{RamB}
@@ -58,10 +59,10 @@ depth-next lines n row depth other =
     depth-more lines n ∙ rw (depth, ne_eqb (row + 1) 0 (λ none. absurd (omega arith)), ne_eqb (row + 1) 16 (λ last. other (omega arith))) refl
 
 -- all lines so far fit, and one more
-pub fit-more : (lines : List (List ℕ)) (n : ℕ) → ((k : ℕ) → k < n → cause_at lines k ≡ None) → cause_at lines n ≡ None → (k : ℕ) → k < n + 1 → cause_at lines k ≡ None
-fit-more lines n fit here k lt =
+pub fit-more : (layouts : Layouts) (lines : List (List ℕ)) (n : ℕ) → ((k : ℕ) → k < n → cause_at layouts lines k ≡ None) → cause_at layouts lines n ≡ None → (k : ℕ) → k < n + 1 → cause_at layouts lines k ≡ None
+fit-more layouts lines n fit here k lt =
     elim (cases_eq k n) [
-      | inl last ↦ ap (cause_at lines) last ∙ here
+      | inl last ↦ ap (cause_at layouts lines) last ∙ here
       | inr before ↦ fit k (omega arith)
     ]
 
@@ -129,11 +130,13 @@ follows-row s line image expected same = record {
   symbols = refl;
 }
 
-row_step : (lines : List (List ℕ)) (n row : ℕ) (s : ReaderState) (image : Option AnyImage) (expected : Expected) → HasRead lines n s → depth_at lines n ≡ row + 1 → s.in_comment ≡ false
-    → cause_at lines n ≡ None → begins_with_dot (line_at lines n) ≡ false → device_known image ≡ device_known s.image → HasImage lines (n + 1) image → IsAt lines (n + 1) (moved s image expected) expected
-    → HasRead lines (n + 1) (moved s image expected)
-row_step lines n row s image expected read depth outside fits dot same has stands = record {
-  fit = fit-more lines n read.fit fits;
+row_step : (layouts : Layouts) (lines : List (List ℕ)) (n row : ℕ) (s : ReaderState) (image : Option AnyImage) (expected : Expected) → HasRead layouts lines n s → depth_at lines n ≡ row + 1 → s.in_comment ≡ false
+    → cause_at layouts lines n ≡ None → begins_with_dot (line_at lines n) ≡ false → device_known image ≡ device_known s.image → HasImage layouts lines (n + 1) image → IsAt lines (n + 1) (moved s image expected) expected
+    → HasRead layouts lines (n + 1) (moved s image expected)
+row_step layouts lines n row s image expected read depth outside fits dot same has stands = record {
+  devices = read.devices;
+  under = read.under;
+  fit = fit-more layouts lines n read.fit fits;
   stands = stands;
   given = HasGiven-more lines n s (moved s image expected) None read.given (at-row lines n row depth) (follows-row s (line_at lines n) image expected same);
   image = has;
@@ -190,30 +193,30 @@ before : (row : ℕ) → row + 1 - 1 ≡ row
 before row = omega arith
 
 -- a row of a tile
-pub took-row : (lines : List (List ℕ)) (n x y row : ℕ) (kind : TileKind) (s new : ReaderState) → HasRead lines n s → IsAt lines n s (Row kind x y row) → cause_at lines n ≡ None
-    → cause_if (not (is_row (columns_of kind) (trimmed (line_at lines n)))) RowCause ≡ None → TakesRow s kind x y row (trimmed (line_at lines n)) new → HasRead lines (n + 1) new
-took-row lines n x y row kind s new read stands fits refusal takes =
+pub took-row : (layouts : Layouts) (lines : List (List ℕ)) (n x y row : ℕ) (kind : TileKind) (s new : ReaderState) → HasRead layouts lines n s → IsAt lines n s (Row kind x y row) → cause_at layouts lines n ≡ None
+    → cause_if (not (is_row (columns_of kind) (trimmed (line_at lines n)))) RowCause ≡ None → TakesRow s kind x y row (trimmed (line_at lines n)) new → HasRead layouts lines (n + 1) new
+took-row layouts lines n x y row kind s new read stands fits refusal takes =
     let line = trimmed (line_at lines n) in
     let over : statement_over lines n ≡ Some (Tile kind x y) = over_is lines n s (Row kind x y row) stands in
     let same : device_known new.image ≡ device_known s.image = same_device s.image new.image (row_sets x y row line) takes.1 in
     let dot : begins_with_dot (line_at lines n) ≡ false = row-dotless (columns_of kind) (line_at lines n) (passes (is_row (columns_of kind) line) RowCause refusal) in
-    let has_read : ReaderState → Type 0 = λ t. HasRead lines (n + 1) t in
-    let bits : HasImage lines (n + 1) new.image = image-gains lines n s.image new.image (row_sets x y row line) read.image takes.1
+    let has_read : ReaderState → Type 0 = λ t. HasRead layouts lines (n + 1) t in
+    let bits : HasImage layouts lines (n + 1) new.image = image-gains layouts lines n s.image new.image (row_sets x y row line) read.image takes.1
     (λ bit. sym (rw (over, stands.0, later row, before row) (and-true (row_sets x y row line bit)))) in
-    subst has_read (sym takes.0) (row_step lines n row s new.image (after_row kind x y row) read stands.0 stands.4 fits dot same bits (row-stands lines n x y row kind s new.image stands same))
+    subst has_read (sym takes.0) (row_step layouts lines n row s new.image (after_row kind x y row) read stands.0 stands.4 fits dot same bits (row-stands lines n x y row kind s new.image stands same))
 
 -- a line of the contents of a RAM
-pub took-memory : (lines : List (List ℕ)) (n x y row : ℕ) (s new : ReaderState) → HasRead lines n s → IsAt lines n s (Memory x y row) → cause_at lines n ≡ None
-    → cause_if (not (is_memory_line (trimmed (line_at lines n)))) Hex ≡ None → TakesMemory s x y row (trimmed (line_at lines n)) new → HasRead lines (n + 1) new
-took-memory lines n x y row s new read stands fits refusal takes =
+pub took-memory : (layouts : Layouts) (lines : List (List ℕ)) (n x y row : ℕ) (s new : ReaderState) → HasRead layouts lines n s → IsAt lines n s (Memory x y row) → cause_at layouts lines n ≡ None
+    → cause_if (not (is_memory_line (trimmed (line_at lines n)))) Hex ≡ None → TakesMemory s x y row (trimmed (line_at lines n)) new → HasRead layouts lines (n + 1) new
+took-memory layouts lines n x y row s new read stands fits refusal takes =
     let line = trimmed (line_at lines n) in
     let over : statement_over lines n ≡ Some (RamData x y) = over_is lines n s (Memory x y row) stands in
     let same : device_known new.image ≡ device_known s.image = same_device s.image new.image (bytes_set x y row (memory_bytes line)) takes.1 in
     let dot : begins_with_dot (line_at lines n) ≡ false = memory-dotless (line_at lines n) (passes (is_memory_line line) Hex refusal) in
-    let has_read : ReaderState → Type 0 = λ t. HasRead lines (n + 1) t in
-    let bits : HasImage lines (n + 1) new.image = image-gains lines n s.image new.image (bytes_set x y row (memory_bytes line)) read.image takes.1
+    let has_read : ReaderState → Type 0 = λ t. HasRead layouts lines (n + 1) t in
+    let bits : HasImage layouts lines (n + 1) new.image = image-gains layouts lines n s.image new.image (bytes_set x y row (memory_bytes line)) read.image takes.1
     (λ bit. bytes-line x y row line bit ∙ sym (rw (over, stands.0, later row, before row) (and-true (line_sets x y row line bit)))) in
-    subst has_read (sym takes.0) (row_step lines n row s new.image (after_memory x y row) read stands.0 stands.4 fits dot same bits (memory-stands lines n x y row s new.image stands same))
+    subst has_read (sym takes.0) (row_step layouts lines n row s new.image (after_memory x y row) read stands.0 stands.4 fits dot same bits (memory-stands lines n x y row s new.image stands same))
 
 -- ---- a line that is no statement
 
@@ -248,20 +251,22 @@ text-comment lines n comment in_comment has dot here =
           subst is (sym same) (comment-passes lines n comment in_comment has dot here outside)
     ]
 
-pub took-text : (lines : List (List ℕ)) (n : ℕ) (s new : ReaderState) → HasRead lines n s → s.expected ≡ AnyStatement → depth_at lines n ≡ 0 → cause_at lines n ≡ None → begins_with_dot (line_at lines n) ≡ false
-    → new ≡ after_text s (line_at lines n) → HasRead lines (n + 1) new
-took-text lines n s new read expected depth fits dot takes =
+pub took-text : (layouts : Layouts) (lines : List (List ℕ)) (n : ℕ) (s new : ReaderState) → HasRead layouts lines n s → s.expected ≡ AnyStatement → depth_at lines n ≡ 0 → cause_at layouts lines n ≡ None → begins_with_dot (line_at lines n) ≡ false
+    → new ≡ after_text s (line_at lines n) → HasRead layouts lines (n + 1) new
+took-text layouts lines n s new read expected depth fits dot takes =
     let line = line_at lines n in
     let none : statement_in line ≡ None = none_without_dot line dot in
     let here : statement_at lines n ≡ None = at-statement lines n depth ∙ none in
     let over : statement_over lines n ≡ None = over_is lines n s AnyStatement depth ∙ none in
-    let has_read : ReaderState → Type 0 = λ t. HasRead lines (n + 1) t in
+    let has_read : ReaderState → Type 0 = λ t. HasRead layouts lines (n + 1) t in
     let at : Expected → Type 0 = λ e. IsAt lines (n + 1) (after_text s line) e in
     let next : depth_at lines (n + 1) ≡ 0 = depth-more lines n ∙ rw (depth, none) refl in
     subst has_read (sym takes) (record {
-      fit = fit-more lines n read.fit fits;
+      devices = read.devices;
+      under = read.under;
+      fit = fit-more layouts lines n read.fit fits;
       stands = subst at (sym expected) next;
       given = HasGiven-more lines n s (after_text s line) None read.given here (follows-text s line);
-      image = image-stays lines n s.image read.image (λ bit. rw over refl);
+      image = image-stays layouts lines n s.image read.image (λ bit. rw over refl);
       comment = text-comment lines n s.comment s.in_comment read.comment dot here;
     })

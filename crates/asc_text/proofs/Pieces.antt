@@ -14,7 +14,6 @@ use Rattle.bit_plane.proofs.Made.{get_or-row_from}
 use Rattle.bit_plane.proofs.Words.{get_or-word_bits}
 use Rattle.ice_image.proofs.Made.{row_word-bits}
 use Rattle.plane_map.specs.Layout.{kind_of, columns_of, columns_at, columns_in}
-use Rattle.plane_map.specs.declared.device.DeviceName.{DeviceName}
 use Rattle.plane_map.specs.declared.tile.TileKind.{TileKind}
 use Rattle.plane_map.specs.declared.tile.TileKind.TheVariants.{RamB}
 use Rattle.ice_image.specs.Bits.{tile_bit_of}
@@ -136,23 +135,22 @@ rows-more old now after width row bit so_far next =
 
 -- ---- tiles
 
-module _ (device : DeviceName) (x y : ℕ) where
+module _ (image : Configuration) (x y : ℕ) where
   -- a statement and all rows
-  pub tile-written : (image : Configuration) (kind : TileKind) (old middle after : List ℕ) (width row : ℕ) → image.layout.device ≡ device → kind_of device x y ≡ Some kind → width ≡ columns_of kind → row ≡ 16 → middle ≡ old ++ text_of (grid_line (tile_keyword kind) x y ∷ []) → after ≡ middle ++ text_of (map row_line (rows_from width row (λ col row. tile_bit_of image x y row col))) → after ≡ old ++ text_of (tile_lines image x y kind)
-  tile-written image kind old middle after width row same there wide last statement rows =
+  pub tile-written : (kind : TileKind) (old middle after : List ℕ) (width row : ℕ) → kind_of image.layout.device x y ≡ Some kind → width ≡ columns_of kind → row ≡ 16 → middle ≡ old ++ text_of (grid_line (tile_keyword kind) x y ∷ []) → after ≡ middle ++ text_of (map row_line (rows_from width row (λ col row. tile_bit_of image x y row col))) → after ≡ old ++ text_of (tile_lines image x y kind)
+  tile-written kind old middle after width row there wide last statement rows =
       let bit : ℕ → ℕ → Bool = λ col row. tile_bit_of image x y row col in
-      let wide_there : width ≡ columns_at image.layout.device x y = wide ∙ ap columns_in (sym there) ∙ ap (λ d. columns_at d x y) (sym same) in
+      let wide_there : width ≡ columns_at image.layout.device x y = wide ∙ ap columns_in (sym there) in
       lines-joined old middle after (grid_line (tile_keyword kind) x y ∷ []) (map row_line (rows_from (columns_at image.layout.device x y) 16 bit)) statement (rows ∙ ap (λ n. middle ++ text_of (map row_line (rows_from n row bit))) wide_there ∙ ap (λ n. middle ++ text_of (map row_line (rows_from (columns_at image.layout.device x y) n bit))) last)
 
   -- nothing where no tile is
-  pub none-written : (image : Configuration) (text : List ℕ) → image.layout.device ≡ device → kind_of device x y ≡ None → text ≡ text ++ text_of (lines_of_tile_at image x y (kind_of image.layout.device x y))
-  none-written image text same there =
-      nothing-written text (lines_of_tile_at image x y (kind_of image.layout.device x y)) (ap (lines_of_tile_at image x y) (ap (λ device. kind_of device x y) same ∙ there))
+  pub none-written : (text : List ℕ) → kind_of image.layout.device x y ≡ None → text ≡ text ++ text_of (lines_of_tile_at image x y (kind_of image.layout.device x y))
+  none-written text there = nothing-written text (lines_of_tile_at image x y (kind_of image.layout.device x y)) (ap (lines_of_tile_at image x y) there)
 
   -- a lower tile and its RAM's contents
-  pub ram_tile-written : (image : Configuration) (old middle after : List ℕ) → image.layout.device ≡ device → kind_of device x y ≡ Some RamB → middle ≡ old ++ text_of (tile_lines image x y RamB) → after ≡ middle ++ text_of (ram_lines image x y) → after ≡ old ++ text_of (lines_of_tile_at image x y (kind_of image.layout.device x y))
-  ram_tile-written image old middle after same there tile ram =
-      lines-joined old middle after (tile_lines image x y RamB) (ram_lines image x y) tile ram ∙ ap (λ kind. old ++ text_of (lines_of_tile_at image x y kind)) (sym there ∙ ap (λ device. kind_of device x y) (sym same))
+  pub ram_tile-written : (old middle after : List ℕ) → kind_of image.layout.device x y ≡ Some RamB → middle ≡ old ++ text_of (tile_lines image x y RamB) → after ≡ middle ++ text_of (ram_lines image x y) → after ≡ old ++ text_of (lines_of_tile_at image x y (kind_of image.layout.device x y))
+  ram_tile-written old middle after there tile ram =
+      lines-joined old middle after (tile_lines image x y RamB) (ram_lines image x y) tile ram ∙ ap (λ kind. old ++ text_of (lines_of_tile_at image x y kind)) (sym there)
 
 -- ---- the whole
 

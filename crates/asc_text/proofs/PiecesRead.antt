@@ -5,6 +5,7 @@ use Rattle.std.proofs.lemmas.List.{length-append, get_or_append_left, get_or-app
 use Rattle.text_lines.specs.Lines.{line_at, trimmed}
 use Rattle.place_search.specs.Places.{any_below, first_below, or_else}
 use Rattle.place_search.proofs.Places.{any_below-sum, any_below-same, first_below-sum}
+use Rattle.layout_file.specs.declared.layouts.Layouts.{Layouts}
 use Rattle.plane_map.specs.declared.device.DeviceName.{DeviceName}
 use Rattle.ice_image.specs.Bits.{Bit}
 use Rattle.asc_text.specs.declared.statement.Statement.{Statement}
@@ -122,19 +123,19 @@ was_given past (RamData x y) = some_statement (names_ram x y) past
 was_given past statement = false
 
 -- what is wrong with a statement behind these pieces, whose device is that one
-abbrev pub cause_behind : Option DeviceName → Bool → Statement → Option AscCause
-cause_behind device given statement =
+abbrev pub cause_behind : Layouts → Option DeviceName → Bool → Statement → Option AscCause
+cause_behind layouts device given statement =
     or_else (missing_device device statement)
     (or_else (unknown_device statement)
     (or_else (tile_cause device statement)
     (or_else (cause_if given Repeated)
-    (or_else (extra_cause device statement)
+    (or_else (extra_cause layouts device statement)
     (setting_cause statement)))))
 
 -- the lines before one are faultless, and say what these pieces say
-pub record Holds (lines : List (List ℕ)) (n : ℕ) (past : List Piece) : Type 0 where
+pub record Holds (layouts : Layouts) (lines : List (List ℕ)) (n : ℕ) (past : List Piece) : Type 0 where
   pub top : depth_at lines n ≡ 0
-  pub sound : (k : ℕ) → k < n → cause_at lines k ≡ None
+  pub sound : (k : ℕ) → k < n → cause_at layouts lines k ≡ None
   pub any : (test : Option Statement → Bool) → test None ≡ false → any_below n (λ k. test (statement_at lines k)) ≡ some_statement test past
   pub device : device_before lines n ≡ first_statement device_in past
   pub warm_boot : first_below n (λ k. warm_boot_in (statement_at lines k)) ≡ first_statement warm_boot_in past
@@ -144,9 +145,9 @@ pub record Holds (lines : List (List ℕ)) (n : ℕ) (past : List Piece) : Type 
   pub calm : (k : ℕ) → 0 < k → k < n → is_comment (statement_at lines k) ≡ false
 
 -- a piece is right behind those pieces
-pub record IsFine (past : List Piece) (piece : Piece) : Type 0 where
+pub record IsFine (layouts : Layouts) (past : List Piece) (piece : Piece) : Type 0 where
   pub is : IsPiece piece
-  pub cause : cause_behind (first_statement device_in past) (was_given past piece.statement) piece.statement ≡ None
+  pub cause : cause_behind layouts (first_statement device_in past) (was_given past piece.statement) piece.statement ≡ None
   pub rows : (r : ℕ) → r < length piece.rows → row_cause (Some piece.statement) (trimmed (line_at piece.rows r)) ≡ None
 
 -- the test of one piece more
@@ -196,45 +197,45 @@ bits-more lines n past piece stands says bit before =
 -- ---- faults
 
 -- whether a statement was given before is what the pieces say
-repeated-is : (lines : List (List ℕ)) (n : ℕ) (past : List Piece) → Holds lines n past → (statement : Statement) → is_repeated lines n statement ≡ was_given past statement
-repeated-is lines n past holds Comment = refl
-repeated-is lines n past holds (Device device) = holds.any is_device refl
-repeated-is lines n past holds (WarmBoot setting) = holds.any is_warm_boot refl
-repeated-is lines n past holds (FrequencyRange setting) = holds.any is_range refl
-repeated-is lines n past holds (NoSleep setting) = holds.any is_no_sleep refl
-repeated-is lines n past holds (Tile kind x y) = holds.any (names_tile x y) refl
-repeated-is lines n past holds (RamData x y) = holds.any (names_ram x y) refl
-repeated-is lines n past holds (ExtraBit bank x y) = refl
-repeated-is lines n past holds (Symbol net) = refl
+repeated-is : (layouts : Layouts) (lines : List (List ℕ)) (n : ℕ) (past : List Piece) → Holds layouts lines n past → (statement : Statement) → is_repeated lines n statement ≡ was_given past statement
+repeated-is layouts lines n past holds Comment = refl
+repeated-is layouts lines n past holds (Device device) = holds.any is_device refl
+repeated-is layouts lines n past holds (WarmBoot setting) = holds.any is_warm_boot refl
+repeated-is layouts lines n past holds (FrequencyRange setting) = holds.any is_range refl
+repeated-is layouts lines n past holds (NoSleep setting) = holds.any is_no_sleep refl
+repeated-is layouts lines n past holds (Tile kind x y) = holds.any (names_tile x y) refl
+repeated-is layouts lines n past holds (RamData x y) = holds.any (names_ram x y) refl
+repeated-is layouts lines n past holds (ExtraBit bank x y) = refl
+repeated-is layouts lines n past holds (Symbol net) = refl
 
 -- a line of a statement
-pub cause_at-statement : (lines : List (List ℕ)) (n : ℕ) → depth_at lines n ≡ 0 → n < length lines → begins_with_dot (line_at lines n) ≡ true
-    → cause_at lines n ≡ statement_cause lines n (statement_in (line_at lines n))
+pub cause_at-statement : (layouts : Layouts) (lines : List (List ℕ)) (n : ℕ) → depth_at lines n ≡ 0 → n < length lines → begins_with_dot (line_at lines n) ≡ true
+    → cause_at layouts lines n ≡ statement_cause layouts lines n (statement_in (line_at lines n))
 unfolding cause_at
-cause_at-statement lines n top within dot = rw (top, lt-leb (length lines) n within, dot) refl
+cause_at-statement layouts lines n top within dot = rw (top, lt-leb (length lines) n within, dot) refl
 
 -- a line below a statement
-cause_at-row : (lines : List (List ℕ)) (n : ℕ) → 0 < depth_at lines n → cause_at lines n ≡ row_cause (statement_over lines n) (trimmed (line_at lines n))
+cause_at-row : (layouts : Layouts) (lines : List (List ℕ)) (n : ℕ) → 0 < depth_at lines n → cause_at layouts lines n ≡ row_cause (statement_over lines n) (trimmed (line_at lines n))
 unfolding cause_at
-cause_at-row lines n below = rw (lt-ltb 0 (depth_at lines n) below) refl
+cause_at-row layouts lines n below = rw (lt-ltb 0 (depth_at lines n) below) refl
 
 -- the line of a statement is faultless
-sound-head : (lines : List (List ℕ)) (n : ℕ) (past : List Piece) (piece : Piece) → Holds lines n past → IsFine past piece → Stands lines n (piece_lines piece) → cause_at lines n ≡ None
-sound-head lines n past piece holds fine stands =
+sound-head : (layouts : Layouts) (lines : List (List ℕ)) (n : ℕ) (past : List Piece) (piece : Piece) → Holds layouts lines n past → IsFine layouts past piece → Stands lines n (piece_lines piece) → cause_at layouts lines n ≡ None
+sound-head layouts lines n past piece holds fine stands =
     let same : n + 0 ≡ n = omega arith in
     let line : line_at lines n ≡ piece.head = rw same at (stands.same 0 (omega arith)) in
     let said : statement_in (line_at lines n) ≡ Some piece.statement = ap statement_in line ∙ fine.is.spells in
-    cause_at-statement lines n holds.top (omega (arith, stands.fits)) (ap begins_with_dot line ∙ fine.is.dot)
-    ∙ ap (statement_cause lines n) said
-    ∙ (λ i. cause_behind (holds.device i) (repeated-is lines n past holds piece.statement i) piece.statement)
+    cause_at-statement layouts lines n holds.top (omega (arith, stands.fits)) (ap begins_with_dot line ∙ fine.is.dot)
+    ∙ ap (statement_cause layouts lines n) said
+    ∙ (λ i. cause_behind layouts (holds.device i) (repeated-is layouts lines n past holds piece.statement i) piece.statement)
     ∙ fine.cause
 
 -- and so are those below it
-sound-row : (lines : List (List ℕ)) (n : ℕ) (past : List Piece) (piece : Piece) → IsFine past piece → Stands lines n (piece_lines piece) → Says lines n piece
-    → (r : ℕ) → r < length piece.rows → cause_at lines (n + suc r) ≡ None
-sound-row lines n past piece fine stands says r within =
+sound-row : (layouts : Layouts) (lines : List (List ℕ)) (n : ℕ) (past : List Piece) (piece : Piece) → IsFine layouts past piece → Stands lines n (piece_lines piece) → Says lines n piece
+    → (r : ℕ) → r < length piece.rows → cause_at layouts lines (n + suc r) ≡ None
+sound-row layouts lines n past piece fine stands says r within =
     let deep : depth_at lines (n + suc r) ≡ suc r = says.depth (suc r) (omega arith) in
-    cause_at-row lines (n + suc r) (omega arith)
+    cause_at-row layouts lines (n + suc r) (omega arith)
     ∙ (λ i. row_cause (says.over (suc r) (omega arith) i) (trimmed (stands.same (suc r) (omega arith) i)))
     ∙ fine.rows r within
 
@@ -249,18 +250,18 @@ head_or_row n count k from before =
     ]
 
 -- behind one piece more the lines say what it says too
-pub one_more : (lines : List (List ℕ)) (n : ℕ) (past : List Piece) (piece : Piece) → Holds lines n past → IsFine past piece → Stands lines n (piece_lines piece)
-    → Holds lines (n + suc (length piece.rows)) (past ++ piece ∷ [])
+pub one_more : (layouts : Layouts) (lines : List (List ℕ)) (n : ℕ) (past : List Piece) (piece : Piece) → Holds layouts lines n past → IsFine layouts past piece → Stands lines n (piece_lines piece)
+    → Holds layouts lines (n + suc (length piece.rows)) (past ++ piece ∷ [])
 unfolding device_before
-one_more lines n past piece holds fine stands =
+one_more layouts lines n past piece holds fine stands =
     let said : Says lines n piece = says lines n piece fine.is stands holds.top in
     record {
       top = said.next;
       sound = λ k within. elim (cases_lt k n) [
         | inl earlier ↦ holds.sound k earlier
         | inr from ↦ elim (head_or_row n (length piece.rows) k from within) [
-          | inl here ↦ ap (cause_at lines) here ∙ sound-head lines n past piece holds fine stands
-          | inr row ↦ ap (cause_at lines) (sym row.2) ∙ sound-row lines n past piece fine stands said row.0 row.1
+          | inl here ↦ ap (cause_at layouts lines) here ∙ sound-head layouts lines n past piece holds fine stands
+          | inr row ↦ ap (cause_at layouts lines) (sym row.2) ∙ sound-row layouts lines n past piece fine stands said row.0 row.1
         ]
       ];
       any = λ test none. any-more lines n past piece said test none (holds.any test none);
@@ -281,16 +282,16 @@ one_more lines n past piece holds fine stands =
 -- ---- all pieces
 
 -- each piece is right behind those before it
-unfoldable pub AreFine : List Piece → List Piece → Type 0
-AreFine past [] = Unit {0}
-AreFine past (piece ∷ pieces) = IsFine past piece × AreFine (past ++ piece ∷ []) pieces
+unfoldable pub AreFine : Layouts → List Piece → List Piece → Type 0
+AreFine layouts past [] = Unit {0}
+AreFine layouts past (piece ∷ pieces) = IsFine layouts past piece × AreFine layouts (past ++ piece ∷ []) pieces
 
 -- pieces behind pieces are right
-pub AreFine-append : (past a b : List Piece) → AreFine past a → AreFine (past ++ a) b → AreFine past (a ++ b)
+pub AreFine-append : (layouts : Layouts) (past a b : List Piece) → AreFine layouts past a → AreFine layouts (past ++ a) b → AreFine layouts past (a ++ b)
 unfolding AreFine
-AreFine-append past [] b first second = rw (append-nil past) at second
-AreFine-append past (piece ∷ a) b first second =
-    (first.0, AreFine-append (past ++ piece ∷ []) a b first.1 (rw (append_assoc past (piece ∷ []) a) second))
+AreFine-append layouts past [] b first second = rw (append-nil past) at second
+AreFine-append layouts past (piece ∷ a) b first second =
+    (first.0, AreFine-append layouts (past ++ piece ∷ []) a b first.1 (rw (append_assoc past (piece ∷ []) a) second))
 
 -- parts of lines that stand one behind the other
 pub Stands-front : (lines : List (List ℕ)) (n : ℕ) (a b : List (List ℕ)) → Stands lines n (a ++ b) → Stands lines n a
@@ -309,14 +310,14 @@ Stands-back lines n a b stands = record {
 }
 
 -- behind all pieces the lines say what they all say
-pub all_more : (lines : List (List ℕ)) (n : ℕ) (past pieces : List Piece) → Holds lines n past → AreFine past pieces → Stands lines n (all_lines pieces)
-    → Holds lines (n + length (all_lines pieces)) (past ++ pieces)
+pub all_more : (layouts : Layouts) (lines : List (List ℕ)) (n : ℕ) (past pieces : List Piece) → Holds layouts lines n past → AreFine layouts past pieces → Stands lines n (all_lines pieces)
+    → Holds layouts lines (n + length (all_lines pieces)) (past ++ pieces)
 unfolding AreFine all_lines
-all_more lines n past [] holds fine stands =
+all_more layouts lines n past [] holds fine stands =
     let same : n + 0 ≡ n = omega arith in
     rw (same, append-nil past) holds
-all_more lines n past (piece ∷ pieces) holds fine stands =
+all_more layouts lines n past (piece ∷ pieces) holds fine stands =
     let sum : n + suc (length piece.rows) + length (all_lines pieces) ≡ n + length (piece_lines piece ++ all_lines pieces) = omega (arith, length-append piece.rows (all_lines pieces)) in
-    let first : Holds lines (n + suc (length piece.rows)) (past ++ piece ∷ []) = one_more lines n past piece holds fine.0 (Stands-front lines n (piece_lines piece) (all_lines pieces) stands) in
-    let rest = all_more lines (n + suc (length piece.rows)) (past ++ piece ∷ []) pieces first fine.1 (Stands-back lines n (piece_lines piece) (all_lines pieces) stands) in
-    subst (λ k. Holds lines k (past ++ piece ∷ pieces)) sum (rw (append_assoc past (piece ∷ []) pieces) at rest)
+    let first : Holds layouts lines (n + suc (length piece.rows)) (past ++ piece ∷ []) = one_more layouts lines n past piece holds fine.0 (Stands-front lines n (piece_lines piece) (all_lines pieces) stands) in
+    let rest = all_more layouts lines (n + suc (length piece.rows)) (past ++ piece ∷ []) pieces first fine.1 (Stands-back lines n (piece_lines piece) (all_lines pieces) stands) in
+    subst (λ k. Holds layouts lines k (past ++ piece ∷ pieces)) sum (rw (append_assoc past (piece ∷ []) pieces) at rest)

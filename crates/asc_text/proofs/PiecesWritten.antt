@@ -4,6 +4,7 @@ use Rattle.std.proofs.lemmas.Bool.{ne_eqb, and_left, and_right, or_from, or_case
 use Rattle.std.proofs.lemmas.List.{length-map, length-append, get_or-map, get_or_push, get_or_append_left}
 use Rattle.std.proofs.lemmas.List.Elements.{All-cons, All-nil, All-append, Contains-append_left, Contains-append_right, Contains-append_cases}
 use Rattle.std.specs.Prelude.{All}
+use Rattle.layout_file.specs.declared.layouts.Layouts.{Layouts}
 use Rattle.hex.specs.Hex.{IsBytes, encode_lower}
 use Rattle.text_lines.specs.Lines.{line_at, trimmed}
 use Rattle.place_search.specs.Places.{any_below, gathered_below, or_else}
@@ -11,7 +12,8 @@ use Rattle.text_lines.specs.Written.{IsPlain}
 use Rattle.place_search.proofs.Places.{any_below-none, any_below-at, any_below-place, gathered_below-same}
 use Rattle.bit_plane.specs.Rows.{Rows, row_from}
 use Rattle.bit_plane.proofs.Made.{length-row_from, length-rows_from, row_at-rows_from}
-use Rattle.plane_map.specs.Layout.{kind_of, columns_of, columns_in, columns_at, grid_width, grid_height, cram_width, cram_height}
+use Rattle.layout_file.specs.Layouts.{HasLayout}
+use Rattle.plane_map.specs.Layout.{Layout, kind_of, columns_of, columns_in, columns_at, grid_width, grid_height, cram_width, cram_height}
 use Rattle.plane_map.specs.declared.device.DeviceName.{DeviceName}
 use Rattle.plane_map.specs.declared.device.DeviceName.TheVariants.{K1, K8}
 use Rattle.plane_map.specs.declared.tile.TileKind.{TileKind}
@@ -79,21 +81,21 @@ first-none given (suc n) pieces none =
     first_piece-append given (gathered_below n pieces) (pieces n) ∙ (λ i. or_else (first-none given n pieces (λ k within. none k (omega arith)) i) (none n (omega arith) i))
 
 -- gathered pieces are right where those of each place are behind those before them
-pub AreFine-gathered : (past : List Piece) (n : ℕ) (given : ℕ → List Piece) → ((k : ℕ) → k < n → AreFine (past ++ gathered_below k given) (given k)) → AreFine past (gathered_below n given)
+pub AreFine-gathered : (layouts : Layouts) (past : List Piece) (n : ℕ) (given : ℕ → List Piece) → ((k : ℕ) → k < n → AreFine layouts (past ++ gathered_below k given) (given k)) → AreFine layouts past (gathered_below n given)
 unfolding gathered_below AreFine
-AreFine-gathered past zero given fine = tt
-AreFine-gathered past (suc n) given fine =
-    AreFine-append past (gathered_below n given) (given n) (AreFine-gathered past n given (λ k within. fine k (omega arith))) (fine n (omega arith))
+AreFine-gathered layouts past zero given fine = tt
+AreFine-gathered layouts past (suc n) given fine =
+    AreFine-append layouts past (gathered_below n given) (given n) (AreFine-gathered layouts past n given (λ k within. fine k (omega arith))) (fine n (omega arith))
 
 -- no pieces are right
-pub AreFine-none : (past : List Piece) → AreFine past []
+pub AreFine-none : (layouts : Layouts) (past : List Piece) → AreFine layouts past []
 unfolding AreFine
-AreFine-none past = tt
+AreFine-none layouts past = tt
 
 -- one piece that is right
-pub AreFine-one : (past : List Piece) (piece : Piece) → IsFine past piece → AreFine past (piece ∷ [])
+pub AreFine-one : (layouts : Layouts) (past : List Piece) (piece : Piece) → IsFine layouts past piece → AreFine layouts past (piece ∷ [])
 unfolding AreFine
-AreFine-one past piece fine = (fine, tt)
+AreFine-one layouts past piece fine = (fine, tt)
 
 -- the device is known
 abbrev pub Knows : DeviceName → List Piece → Type 0
@@ -185,12 +187,12 @@ same_kind RamB = refl
 same_kind RamT = refl
 
 -- a written tile is right where none of its place stands before it
-pub tile-fine : (image : Configuration) (x y : ℕ) (kind : TileKind) (past : List Piece) → x < 1000000000 → y < 1000000000 → kind_of image.layout.device x y ≡ Some kind
-    → Knows image.layout.device past → some_statement (names_tile x y) past ≡ false → IsFine past (tile_piece image x y kind)
-tile-fine image x y kind past small_x small_y is knows new = record {
+pub tile-fine : (layouts : Layouts) (image : Configuration) (x y : ℕ) (kind : TileKind) (past : List Piece) → x < 1000000000 → y < 1000000000 → kind_of image.layout.device x y ≡ Some kind
+    → Knows image.layout.device past → some_statement (names_tile x y) past ≡ false → IsFine layouts past (tile_piece image x y kind)
+tile-fine layouts image x y kind past small_x small_y is knows new = record {
   is = tile-is image x y kind small_x small_y;
   cause =
-      (λ i. cause_behind (knows i) (new i) (Tile kind x y))
+      (λ i. cause_behind layouts (knows i) (new i) (Tile kind x y))
       ∙ ap (λ there. or_else (kind_cause there kind) None) is
       ∙ ap (λ same. or_else (cause_if (not same) (Kind kind)) None) (same_kind kind);
   rows = λ r within.
@@ -259,12 +261,12 @@ ram-row image x y r within =
     ap trimmed (line_at-single 16 (memory_line image x y) r within) ∙ trimmed-encoded (words_bytes 16 (line_word image x y r)) (line-bytes image x y r)
 
 -- they are right where none of that RAM stand before them
-pub ram-fine : (image : Configuration) (x y : ℕ) (past : List Piece) → x < 1000000000 → y < 1000000000 → kind_of image.layout.device x y ≡ Some RamB
-    → Knows image.layout.device past → some_statement (names_ram x y) past ≡ false → IsFine past (ram_piece image x y)
-ram-fine image x y past small_x small_y is knows new = record {
+pub ram-fine : (layouts : Layouts) (image : Configuration) (x y : ℕ) (past : List Piece) → x < 1000000000 → y < 1000000000 → kind_of image.layout.device x y ≡ Some RamB
+    → Knows image.layout.device past → some_statement (names_ram x y) past ≡ false → IsFine layouts past (ram_piece image x y)
+ram-fine layouts image x y past small_x small_y is knows new = record {
   is = ram-is image x y small_x small_y;
   cause =
-      (λ i. cause_behind (knows i) (new i) (RamData x y))
+      (λ i. cause_behind layouts (knows i) (new i) (RamData x y))
       ∙ ap (λ there. or_else (kind_cause there RamB) None) is;
   rows = λ r within.
       let inside : r < 16 = omega (arith, length-single 16 (memory_line image x y)) in
@@ -281,23 +283,23 @@ grid-small K1 x y inside within = (omega arith, omega arith)
 grid-small K8 x y inside within = (omega arith, omega arith)
 
 -- the pieces of a place of the grid are right where none of that place stands before them
-pub kind-fine : (image : Configuration) (x y : ℕ) (past : List Piece) → x < 1000000000 → y < 1000000000 → Knows image.layout.device past
+pub kind-fine : (layouts : Layouts) (image : Configuration) (x y : ℕ) (past : List Piece) → x < 1000000000 → y < 1000000000 → Knows image.layout.device past
     → some_statement (names_tile x y) past ≡ false → some_statement (names_ram x y) past ≡ false
-    → (kind : Option TileKind) → kind_of image.layout.device x y ≡ kind → AreFine past (kind_pieces image x y kind)
+    → (kind : Option TileKind) → kind_of image.layout.device x y ≡ kind → AreFine layouts past (kind_pieces image x y kind)
 unfolding AreFine
-kind-fine image x y past small_x small_y knows tile ram None is = tt
-kind-fine image x y past small_x small_y knows tile ram (Some Io) is = (tile-fine image x y Io past small_x small_y is knows tile, tt)
-kind-fine image x y past small_x small_y knows tile ram (Some Logic) is = (tile-fine image x y Logic past small_x small_y is knows tile, tt)
-kind-fine image x y past small_x small_y knows tile ram (Some RamB) is =
+kind-fine layouts image x y past small_x small_y knows tile ram None is = tt
+kind-fine layouts image x y past small_x small_y knows tile ram (Some Io) is = (tile-fine layouts image x y Io past small_x small_y is knows tile, tt)
+kind-fine layouts image x y past small_x small_y knows tile ram (Some Logic) is = (tile-fine layouts image x y Logic past small_x small_y is knows tile, tt)
+kind-fine layouts image x y past small_x small_y knows tile ram (Some RamB) is =
     let first = tile_piece image x y RamB in (
-      tile-fine image x y RamB past small_x small_y is knows tile,
+      tile-fine layouts image x y RamB past small_x small_y is knows tile,
       (
-        ram-fine image x y (past ++ first ∷ []) small_x small_y is (Knows-more image.layout.device past (first ∷ []) knows)
+        ram-fine layouts image x y (past ++ first ∷ []) small_x small_y is (Knows-more image.layout.device past (first ∷ []) knows)
             (append-none (λ piece. names_ram x y (Some piece.statement)) past (first ∷ []) ram (some_piece-one (λ piece. names_ram x y (Some piece.statement)) first)),
         tt,
       ),
     )
-kind-fine image x y past small_x small_y knows tile ram (Some RamT) is = (tile-fine image x y RamT past small_x small_y is knows tile, tt)
+kind-fine layouts image x y past small_x small_y knows tile ram (Some RamT) is = (tile-fine layouts image x y RamT past small_x small_y is knows tile, tt)
 
 -- the pieces of a tile name no other tile
 kind-other_tile : (image : Configuration) (x y x' y' : ℕ) (kind : Option TileKind) → ((x' == x) && (y' == y)) ≡ false → some_statement (names_tile x y) (kind_pieces image x' y' kind) ≡ false
@@ -333,14 +335,14 @@ before-none image past x y test other none =
     other x' y (kind_of image.layout.device x' y) (and_left (x' == x) (y == y) (ne_eqb x' x (λ e. omega arith)))))
 
 -- all tiles are right behind pieces that name the device, and no tile
-pub tiles-fine : (image : Configuration) (past : List Piece) → Knows image.layout.device past
+pub tiles-fine : (layouts : Layouts) (image : Configuration) (past : List Piece) → Knows image.layout.device past
     → ((x y : ℕ) → some_statement (names_tile x y) past ≡ false) → ((x y : ℕ) → some_statement (names_ram x y) past ≡ false)
-    → AreFine past (all_tile_pieces image)
-tiles-fine image past knows tile ram =
-    AreFine-gathered past (grid_height image.layout.device) (row_pieces image) (λ y within.
-    AreFine-gathered (past ++ gathered_below y (row_pieces image)) (grid_width image.layout.device) (grid_pieces image y) (λ x inside.
+    → AreFine layouts past (all_tile_pieces image)
+tiles-fine layouts image past knows tile ram =
+    AreFine-gathered layouts past (grid_height image.layout.device) (row_pieces image) (λ y within.
+    AreFine-gathered layouts (past ++ gathered_below y (row_pieces image)) (grid_width image.layout.device) (grid_pieces image y) (λ x inside.
     let small = grid-small image.layout.device x y inside within in
-    kind-fine image x y ((past ++ gathered_below y (row_pieces image)) ++ gathered_below x (grid_pieces image y)) small.0 small.1
+    kind-fine layouts image x y ((past ++ gathered_below y (row_pieces image)) ++ gathered_below x (grid_pieces image y)) small.0 small.1
     (Knows-more image.layout.device (past ++ gathered_below y (row_pieces image)) (gathered_below x (grid_pieces image y)) (Knows-more image.layout.device past (gathered_below y (row_pieces image)) knows))
     (before-none image past x y (names_tile x y) (kind-other_tile image x y) (tile x y))
     (before-none image past x y (names_ram x y) (kind-other_ram image x y) (ram x y))
@@ -413,25 +415,26 @@ planes-small K1 px py inside within = (omega arith, omega arith)
 planes-small K8 px py inside within = (omega arith, omega arith)
 
 -- a written extra bit is right
-extra-fine : (device : DeviceName) (at : Place) (past : List Piece) → is_extra device at ≡ true → Knows device past → IsFine past (extra_piece at)
-extra-fine device at past extra knows =
-    let inside = (extra_in device at extra).0 in
-    let small = planes-small device at.px at.py inside.px_in inside.py_in in
+extra-fine : (layouts : Layouts) (layout : Layout) (at : Place) (past : List Piece) → HasLayout layouts layout → is_extra layout at ≡ true → Knows layout.device past → IsFine layouts past (extra_piece at)
+extra-fine layouts layout at past has extra knows =
+    let inside = (extra_in layout at extra).0 in
+    let small = planes-small layout.device at.px at.py inside.px_in inside.py_in in
     let spelled = extra-spelled at (omega (arith, inside.bank_in)) small.0 small.1 in
     record {
       is = record { spells = spelled.spells; dot = spelled.dot; count = refl; calm = refl; plain = All-cons IsPlain (extra_line at) [] spelled.plain (All-nil IsPlain) };
       cause =
-          ap (λ device. cause_behind device false (ExtraBit at.bank at.px at.py)) knows
+          ap (λ device. cause_behind layouts device false (ExtraBit at.bank at.px at.py)) knows
+          ∙ ap (λ (layout : Layout). or_else (cause_if (not (is_extra layout at)) ExtraPlace) None) has
           ∙ ap (λ good. or_else (cause_if (not good) ExtraPlace) None) extra;
       rows = λ r within. absurd (omega arith);
     }
 
-extras-fine_of : (device : DeviceName) (places : List Place) (past : List Piece) → ((at : Place) → Contains places at → is_extra device at ≡ true) → Knows device past → AreFine past (map extra_piece places)
+extras-fine_of : (layouts : Layouts) (layout : Layout) (places : List Place) (past : List Piece) → HasLayout layouts layout → ((at : Place) → Contains places at → is_extra layout at ≡ true) → Knows layout.device past → AreFine layouts past (map extra_piece places)
 unfolding AreFine
-extras-fine_of device [] past extra knows = tt
-extras-fine_of device (at ∷ places) past extra knows =
-    (extra-fine device at past (extra at (first-in at places)) knows, extras-fine_of device places (past ++ extra_piece at ∷ []) (λ other is. extra other (other-in at places other is)) (Knows-more device past (extra_piece at ∷ []) knows))
+extras-fine_of layouts layout [] past has extra knows = tt
+extras-fine_of layouts layout (at ∷ places) past has extra knows =
+    (extra-fine layouts layout at past has (extra at (first-in at places)) knows, extras-fine_of layouts layout places (past ++ extra_piece at ∷ []) has (λ other is. extra other (other-in at places other is)) (Knows-more layout.device past (extra_piece at ∷ []) knows))
 
 -- all extra bits are right behind pieces that name the device
-pub extras-fine : (image : Configuration) (past : List Piece) → Knows image.layout.device past → AreFine past (all_extra_pieces image)
-extras-fine image past knows = extras-fine_of image.layout.device (set_extras image) past (λ at is. (set_extras-in image at is).0) knows
+pub extras-fine : (layouts : Layouts) (image : Configuration) (past : List Piece) → HasLayout layouts image.layout → Knows image.layout.device past → AreFine layouts past (all_extra_pieces image)
+extras-fine layouts image past has knows = extras-fine_of layouts image.layout (set_extras image) past has (λ at is. (set_extras-in image at is).0) knows

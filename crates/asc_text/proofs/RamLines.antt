@@ -9,6 +9,7 @@ use Rattle.text_lines.specs.Lines.{lines_of, line_at, trimmed}
 use Rattle.text_lines.specs.Words.{first_word, behind_word, words_of, number_of, numbers_of}
 use Rattle.text_lines.specs.declared.words.Separators.TheVariants.{Spaces}
 use Rattle.text_lines.proofs.Blanks.{dot-trimmed}
+use Rattle.layout_file.specs.declared.layouts.Layouts.{Layouts}
 use Rattle.plane_map.specs.Layout.{columns_of}
 use Rattle.plane_map.specs.declared.tile.TileKind.{TileKind}
 use Rattle.plane_map.specs.declared.tile.TileKind.TheVariants.{Io, Logic, RamB, RamT}
@@ -132,24 +133,24 @@ fault-none (Some cause) line tile none = absurd cc
 fault-none None line tile none = refl
 
 -- nothing is wrong with any line
-pub fine : (text : List ℕ) (n : ℕ) → asc_fault_of text ≡ None → n ≤ length (lines_of text) → cause_at (lines_of text) n ≡ None
+pub fine : (layouts : Layouts) (text : List ℕ) (n : ℕ) → asc_fault_of layouts text ≡ None → n ≤ length (lines_of text) → cause_at layouts (lines_of text) n ≡ None
 unfolding asc_fault_of
-fine text n none within =
-    fault-none (cause_at (lines_of text) n) (n + 1) (tile_named (statement_over (lines_of text) n))
-    (first_below-clear (length (lines_of text) + 1) n (fault_at (lines_of text)) none (omega arith))
+fine layouts text n none within =
+    fault-none (cause_at layouts (lines_of text) n) (n + 1) (tile_named (statement_over (lines_of text) n))
+    (first_below-clear (length (lines_of text) + 1) n (fault_at layouts (lines_of text)) none (omega arith))
 
 -- a line below a statement is as it should be
-fine-row : (lines : List (List ℕ)) (n : ℕ) → cause_at lines n ≡ None → 0 < depth_at lines n → row_cause (statement_over lines n) (trimmed (line_at lines n)) ≡ None
+fine-row : (layouts : Layouts) (lines : List (List ℕ)) (n : ℕ) → cause_at layouts lines n ≡ None → 0 < depth_at lines n → row_cause (statement_over lines n) (trimmed (line_at lines n)) ≡ None
 unfolding cause_at
-fine-row lines n none deep = rw (lt-ltb 0 (depth_at lines n) deep) at none
+fine-row layouts lines n none deep = rw (lt-ltb 0 (depth_at lines n) deep) at none
 
 -- a line that begins with a dot has the form of a statement
-fine-statement : (lines : List (List ℕ)) (n : ℕ) → cause_at lines n ≡ None → depth_at lines n ≡ 0 → n < length lines → begins_with_dot (line_at lines n) ≡ true
+fine-statement : (layouts : Layouts) (lines : List (List ℕ)) (n : ℕ) → cause_at layouts lines n ≡ None → depth_at lines n ≡ 0 → n < length lines → begins_with_dot (line_at lines n) ≡ true
     → statement_in (line_at lines n) ≢ None
 unfolding cause_at
-fine-statement lines n none flat within dot missing =
+fine-statement layouts lines n none flat within dot missing =
     let outside : nat_lt 0 (depth_at lines n) ≡ false = rw flat refl in
-    let told : statement_cause lines n (statement_in (line_at lines n)) ≡ None = rw (outside, lt-leb (length lines) n within, dot) at none in
+    let told : statement_cause layouts lines n (statement_in (line_at lines n)) ≡ None = rw (outside, lt-leb (length lines) n within, dot) at none in
     let clash = rw missing at told in
     absurd cc
 
@@ -272,21 +273,21 @@ no_dot-below (Some (ExtraBit bank x y)) line rows other none dot = false≢true 
 no_dot-below (Some (Symbol net)) line rows other none dot = false≢true rows
 
 -- a line outside of RAMs that looks like the statement of one is one
-pub ram-begins : (text : List ℕ) (n : ℕ) → asc_fault_of text ≡ None → n < length (lines_of text) → is_in_ram (lines_of text) n ≡ false → is_ram_line (line_at (lines_of text) n) ≡ true
+pub ram-begins : (layouts : Layouts) (text : List ℕ) (n : ℕ) → asc_fault_of layouts text ≡ None → n < length (lines_of text) → is_in_ram (lines_of text) n ≡ false → is_ram_line (line_at (lines_of text) n) ≡ true
     → (depth_at (lines_of text) n ≡ 0) × (is_ram_data (statement_in (line_at (lines_of text) n)) ≡ true)
-ram-begins text n none within outside is =
+ram-begins layouts text n none within outside is =
     let lines = lines_of text in
     let line = line_at lines n in
-    let right = fine text n none (omega arith) in
+    let right = fine layouts text n none (omega arith) in
     let parts = and_parts (begins_with_dot line) (bytes_eq (first_word Spaces (trimmed line)) ram_data_keyword) is in
     elim (cases_lt 0 (depth_at lines n)) [
       | inl deep ↦
           let over = below lines n deep in
           let other : is_ram_data (statement_over lines n) ≡ false = rw (lt-ltb 0 (depth_at lines n) deep) at outside in
-          absurd (no_dot-below (statement_over lines n) line over.rows other (fine-row lines n right deep) parts.0)
+          absurd (no_dot-below (statement_over lines n) line over.rows other (fine-row layouts lines n right deep) parts.0)
       | inr flat ↦
           let zero_depth : depth_at lines n ≡ 0 = omega arith in
-          (zero_depth, ram_line-is line is (fine-statement lines n right zero_depth within parts.0))
+          (zero_depth, ram_line-is line is (fine-statement layouts lines n right zero_depth within parts.0))
     ]
 
 -- a line that doesn't look like one isn't
@@ -398,25 +399,25 @@ pub no_empty : is_memory_line (trimmed []) ≡ false
 unfolding is_memory_line trimmed
 no_empty = refl
 
-row-line : (text : List ℕ) (n row : ℕ) → asc_fault_of text ≡ None → depth_at (lines_of text) n ≡ 0 → is_ram_data (statement_in (line_at (lines_of text) n)) ≡ true → row < 16
+row-line : (layouts : Layouts) (text : List ℕ) (n row : ℕ) → asc_fault_of layouts text ≡ None → depth_at (lines_of text) n ≡ 0 → is_ram_data (statement_in (line_at (lines_of text) n)) ≡ true → row < 16
     → n + 1 + row ≤ length (lines_of text) → is_memory_line (trimmed (line_at (lines_of text) (n + 1 + row))) ≡ true
-row-line text n row none flat is few within =
+row-line layouts text n row none flat is few within =
     let lines = lines_of text in
     let r = row-of lines n row flat is few in
-    let right = fine-row lines (n + 1 + row) (fine text (n + 1 + row) none within) (omega (arith, r.depth)) in
+    let right = fine-row layouts lines (n + 1 + row) (fine layouts text (n + 1 + row) none within) (omega (arith, r.depth)) in
     let told : row_cause (statement_in (line_at lines n)) (trimmed (line_at lines (n + 1 + row))) ≡ None = rw r.over at right in
     ram_row (statement_in (line_at lines n)) (trimmed (line_at lines (n + 1 + row))) is told
 
 -- all sixteen lines are there
-pub rows-within : (text : List ℕ) (n : ℕ) → asc_fault_of text ≡ None → n < length (lines_of text) → depth_at (lines_of text) n ≡ 0 → is_ram_data (statement_in (line_at (lines_of text) n)) ≡ true
+pub rows-within : (layouts : Layouts) (text : List ℕ) (n : ℕ) → asc_fault_of layouts text ≡ None → n < length (lines_of text) → depth_at (lines_of text) n ≡ 0 → is_ram_data (statement_in (line_at (lines_of text) n)) ≡ true
     → n + 17 ≤ length (lines_of text)
-rows-within text n none within flat is =
+rows-within layouts text n none within flat is =
     let size = length (lines_of text) in
     elim (cases_lt size (n + 17)) [
       | inl short ↦
           let row = size - (n + 1) in
           let end : n + 1 + row ≡ size = omega arith in
-          let line = row-line text n row none flat is (omega arith) (omega arith) in
+          let line = row-line layouts text n row none flat is (omega arith) (omega arith) in
           let empty : line_at (lines_of text) (n + 1 + row) ≡ [] = get_or_past (lines_of text) (n + 1 + row) [] (omega arith) in
           let clash : is_memory_line (trimmed []) ≡ true = rw empty at line in
           absurd (false≢true (sym no_empty ∙ clash))
@@ -424,7 +425,7 @@ rows-within text n none within flat is =
     ]
 
 -- and they are those of a RAM
-pub begins : (text : List ℕ) (n : ℕ) → asc_fault_of text ≡ None → n < length (lines_of text) → depth_at (lines_of text) n ≡ 0 → is_ram_data (statement_in (line_at (lines_of text) n)) ≡ true
+pub begins : (layouts : Layouts) (text : List ℕ) (n : ℕ) → asc_fault_of layouts text ≡ None → n < length (lines_of text) → depth_at (lines_of text) n ≡ 0 → is_ram_data (statement_in (line_at (lines_of text) n)) ≡ true
     → BeginsWithRam (drop (n + 1) (lines_of text))
-begins text n none within flat is row few =
-    rw (get_or-drop (n + 1) (lines_of text) row []) (row-line text n row none flat is few (omega (arith, rows-within text n none within flat is)))
+begins layouts text n none within flat is row few =
+    rw (get_or-drop (n + 1) (lines_of text) row []) (row-line layouts text n row none flat is few (omega (arith, rows-within layouts text n none within flat is)))

@@ -10,6 +10,7 @@ use Rattle.std.proofs.lemmas.Map.Keys.{IsDistinct-push}
 use Rattle.std.proofs.lemmas.Map.Steps.{length-le_from_distinct_below}
 use Rattle.place_search.specs.Places.{gathered_below, or_else}
 use Rattle.text_lines.specs.Lines.{lines_of, line_at}
+use Rattle.layout_file.specs.declared.layouts.Layouts.{Layouts}
 use Rattle.plane_map.specs.Layout.{kind_of}
 use Rattle.plane_map.specs.declared.device.DeviceName.{DeviceName}
 use Rattle.plane_map.specs.declared.tile.TileKind.{TileKind}
@@ -67,11 +68,11 @@ placed : (device : Option DeviceName) (x y : ℕ) → missing_device device (Ram
 placed None x y missing none = absurd cc
 placed (Some device) x y missing none = there device x y (kind_of device x y) refl none
 
-statement-new : (lines : List (List ℕ)) (n x y : ℕ) → statement_cause lines n (Some (RamData x y)) ≡ None → IsNew lines n x y
-statement-new lines n x y none =
+statement-new : (layouts : Layouts) (lines : List (List ℕ)) (n x y : ℕ) → statement_cause layouts lines n (Some (RamData x y)) ≡ None → IsNew lines n x y
+statement-new layouts lines n x y none =
     let device = device_before lines n in
     let s = RamData x y in
-    let last = or_else (extra_cause device s) (setting_cause s) in
+    let last = or_else (extra_cause layouts device s) (setting_cause s) in
     let repeats = or_else (cause_if (is_repeated lines n s) Repeated) last in
     let tiles = or_else (tile_cause device s) repeats in
     let unknowns = or_else (unknown_device s) tiles in
@@ -97,20 +98,20 @@ dot-from line statement is =
       | inr other ↦ let none : None ≡ Some statement = rw other at is in absurd cc
     ]
 
-fine-cause : (lines : List (List ℕ)) (n : ℕ) → cause_at lines n ≡ None → depth_at lines n ≡ 0 → n < length lines → begins_with_dot (line_at lines n) ≡ true
-    → statement_cause lines n (statement_in (line_at lines n)) ≡ None
+fine-cause : (layouts : Layouts) (lines : List (List ℕ)) (n : ℕ) → cause_at layouts lines n ≡ None → depth_at lines n ≡ 0 → n < length lines → begins_with_dot (line_at lines n) ≡ true
+    → statement_cause layouts lines n (statement_in (line_at lines n)) ≡ None
 unfolding cause_at
-fine-cause lines n none flat within dot =
+fine-cause layouts lines n none flat within dot =
     let outside : nat_lt 0 (depth_at lines n) ≡ false = rw flat refl in
     rw (outside, lt-leb (length lines) n within, dot) at none
 
-new-at : (text : List ℕ) (n x y : ℕ) → asc_fault_of text ≡ None → n < length (lines_of text) → statement_at (lines_of text) n ≡ Some (RamData x y) → IsNew (lines_of text) n x y
-new-at text n x y none within is =
+new-at : (layouts : Layouts) (text : List ℕ) (n x y : ℕ) → asc_fault_of layouts text ≡ None → n < length (lines_of text) → statement_at (lines_of text) n ≡ Some (RamData x y) → IsNew (lines_of text) n x y
+new-at layouts text n x y none within is =
     let lines = lines_of text in
     let found = flat-from lines n x y is in
     let dot = dot-from (line_at lines n) (RamData x y) found.1 in
-    let cause = fine-cause lines n (fine text n none (omega arith)) found.0 within dot in
-    statement-new lines n x y (rw found.1 at cause)
+    let cause = fine-cause layouts lines n (fine layouts text n none (omega arith)) found.0 within dot in
+    statement-new layouts lines n x y (rw found.1 at cause)
 
 -- ---- all places
 
@@ -162,34 +163,34 @@ few-push places place q few within is =
 apart-other : (text : List ℕ) (n : ℕ) → AreApart (ram_places (lines_of text) n) → AreApart (ram_places (lines_of text) n ++ [])
 apart-other text n before = subst AreApart (sym (append-nil (ram_places (lines_of text) n))) before
 
-apart-more : (text : List ℕ) (n : ℕ) (statement : Option Statement) → asc_fault_of text ≡ None → n < length (lines_of text) → statement_at (lines_of text) n ≡ statement
+apart-more : (layouts : Layouts) (text : List ℕ) (n : ℕ) (statement : Option Statement) → asc_fault_of layouts text ≡ None → n < length (lines_of text) → statement_at (lines_of text) n ≡ statement
     → AreApart (ram_places (lines_of text) n) → AreApart (ram_places (lines_of text) n ++ ram_place statement)
-apart-more text n None none within is before = apart-other text n before
-apart-more text n (Some Comment) none within is before = apart-other text n before
-apart-more text n (Some (Device device)) none within is before = apart-other text n before
-apart-more text n (Some (WarmBoot setting)) none within is before = apart-other text n before
-apart-more text n (Some (FrequencyRange setting)) none within is before = apart-other text n before
-apart-more text n (Some (NoSleep setting)) none within is before = apart-other text n before
-apart-more text n (Some (Tile kind x y)) none within is before = apart-other text n before
-apart-more text n (Some (RamData x y)) none within is before =
+apart-more layouts text n None none within is before = apart-other text n before
+apart-more layouts text n (Some Comment) none within is before = apart-other text n before
+apart-more layouts text n (Some (Device device)) none within is before = apart-other text n before
+apart-more layouts text n (Some (WarmBoot setting)) none within is before = apart-other text n before
+apart-more layouts text n (Some (FrequencyRange setting)) none within is before = apart-other text n before
+apart-more layouts text n (Some (NoSleep setting)) none within is before = apart-other text n before
+apart-more layouts text n (Some (Tile kind x y)) none within is before = apart-other text n before
+apart-more layouts text n (Some (RamData x y)) none within is before =
     let lines = lines_of text in
-    let new = new-at text n x y none within is in
+    let new = new-at layouts text n x y none within is in
     let never : list_any (eqb (34 * y + x)) (ram_places lines n) ≡ false = any-none (34 * y + x) n (λ k. ram_place (statement_at lines k)) (λ k below.
     apart x y (statement_at lines k) new.column new.row
-    (λ v w there. let other = new-at text k v w none (omega arith) there in (other.column, other.row)) (new.first k below)) in
+    (λ v w there. let other = new-at layouts text k v w none (omega arith) there in (other.column, other.row)) (new.first k below)) in
     record {
       distinct = IsDistinct-push nat_eq_equiv (ram_places lines n) (34 * y + x) before.distinct never;
       few = λ q any. few-push (ram_places lines n) (34 * y + x) q before.few (omega (arith, new.column, new.row)) any;
     }
-apart-more text n (Some (ExtraBit bank x y)) none within is before = apart-other text n before
-apart-more text n (Some (Symbol net)) none within is before = apart-other text n before
+apart-more layouts text n (Some (ExtraBit bank x y)) none within is before = apart-other text n before
+apart-more layouts text n (Some (Symbol net)) none within is before = apart-other text n before
 
-all-apart : (text : List ℕ) (n : ℕ) → asc_fault_of text ≡ None → n ≤ length (lines_of text) → AreApart (ram_places (lines_of text) n)
+all-apart : (layouts : Layouts) (text : List ℕ) (n : ℕ) → asc_fault_of layouts text ≡ None → n ≤ length (lines_of text) → AreApart (ram_places (lines_of text) n)
 unfolding gathered_below
-all-apart text zero none within = apart-nothing
-all-apart text (suc n) none within = apart-more text n (statement_at (lines_of text) n) none (omega arith) refl (all-apart text n none (omega arith))
+all-apart layouts text zero none within = apart-nothing
+all-apart layouts text (suc n) none within = apart-more layouts text n (statement_at (lines_of text) n) none (omega arith) refl (all-apart layouts text n none (omega arith))
 
-pub few-rams : (text : List ℕ) (n : ℕ) → asc_fault_of text ≡ None → n ≤ length (lines_of text) → length (ram_places (lines_of text) n) ≤ 1156
-few-rams text n none within =
-    let places = all-apart text n none within in
+pub few-rams : (layouts : Layouts) (text : List ℕ) (n : ℕ) → asc_fault_of layouts text ≡ None → n ≤ length (lines_of text) → length (ram_places (lines_of text) n) ≤ 1156
+few-rams layouts text n none within =
+    let places = all-apart layouts text n none within in
     length-le_from_distinct_below (ram_places (lines_of text) n) 1156 places.distinct places.few

@@ -6,7 +6,9 @@ use Rattle.std.proofs.lemmas.Bool.Decides.{nat_tests}
 use Rattle.std.proofs.lemmas.List.{get_or_past}
 use Rattle.text_lines.specs.Lines.{line_at, trimmed}
 use Rattle.place_search.specs.Places.{or_else}
-use Rattle.plane_map.specs.Layout.{kind_of, columns_of, columns_at, grid_width, grid_height}
+use Rattle.layout_file.specs.declared.layouts.Layouts.{Layouts}
+use Rattle.layout_file.specs.Layouts.{layout_for}
+use Rattle.plane_map.specs.Layout.{Layout, kind_of, columns_of, columns_at, grid_width, grid_height}
 use Rattle.plane_map.specs.declared.device.DeviceName.{DeviceName}
 use Rattle.plane_map.specs.declared.device.DeviceName.TheVariants.{K1, K8}
 use Rattle.plane_map.specs.declared.tile.TileKind.{TileKind}
@@ -28,7 +30,7 @@ use Rattle.ice_image.specs.Owned.{is_extra}
 use Rattle.asc_text.specs.Blocks.{statement_over, device_before}
 use Rattle.asc_text.specs.Faults.{cause_at, end_cause, statement_cause, is_repeated, missing_device, unknown_device, tile_cause, kind_cause, extra_cause, setting_cause, cause_if, tile_named, fault_at, fault_with}
 use Rattle.asc_text.specs.inside.Reading.{ReaderState, statement_refusal, dotted_refusal, setting_refusal, tile_refusal, extra_refusal, line_refusal, end_refusal, statement_of}
-use Rattle.asc_text.proofs.HasRead.{HasRead, HasGiven, HasComment, IsAt, device_known}
+use Rattle.asc_text.proofs.HasRead.{HasRead, HasGiven, HasImage, HasComment, IsAt, device_known}
 use Rattle.place_search.proofs.Places.{or_else-none}
 
 -- ---- the grid
@@ -53,54 +55,54 @@ in_grid device x y kind there =
 -- ---- statements
 
 -- the first cause that holds, by the device and whether the same was given before
-abbrev chain : Option DeviceName → Bool → Statement → Option AscCause
-chain device repeated statement =
+abbrev chain : Layouts → Option DeviceName → Bool → Statement → Option AscCause
+chain layouts device repeated statement =
     or_else (missing_device device statement)
     (or_else (unknown_device statement)
     (or_else (tile_cause device statement)
     (or_else (cause_if repeated Repeated)
-    (or_else (extra_cause device statement)
+    (or_else (extra_cause layouts device statement)
     (setting_cause statement)))))
 
-chain-comment : (device : Option DeviceName) → chain device false Comment ≡ None
-chain-comment None = refl
-chain-comment (Some device) = refl
+chain-comment : (layouts : Layouts) (device : Option DeviceName) → chain layouts device false Comment ≡ None
+chain-comment layouts None = refl
+chain-comment layouts (Some device) = refl
 
-chain-symbol : (device : Option DeviceName) (net : ℕ) → chain device false (Symbol net) ≡ None
-chain-symbol None net = refl
-chain-symbol (Some device) net = refl
+chain-symbol : (layouts : Layouts) (device : Option DeviceName) (net : ℕ) → chain layouts device false (Symbol net) ≡ None
+chain-symbol layouts None net = refl
+chain-symbol layouts (Some device) net = refl
 
-chain-device : (device : Option DeviceName) (repeated : Bool) (name : Option DeviceName) → chain device repeated (Device name) ≡ or_else (unknown_device (Device name)) (cause_if repeated Repeated)
-chain-device None repeated None = refl
-chain-device (Some device) repeated None = refl
-chain-device None true (Some name) = refl
-chain-device None false (Some name) = refl
-chain-device (Some device) true (Some name) = refl
-chain-device (Some device) false (Some name) = refl
+chain-device : (layouts : Layouts) (device : Option DeviceName) (repeated : Bool) (name : Option DeviceName) → chain layouts device repeated (Device name) ≡ or_else (unknown_device (Device name)) (cause_if repeated Repeated)
+chain-device layouts None repeated None = refl
+chain-device layouts (Some device) repeated None = refl
+chain-device layouts None true (Some name) = refl
+chain-device layouts None false (Some name) = refl
+chain-device layouts (Some device) true (Some name) = refl
+chain-device layouts (Some device) false (Some name) = refl
 
-chain-warm_boot : (device : Option DeviceName) (repeated : Bool) (setting : Option Bool) → chain device repeated (WarmBoot setting) ≡ setting_refusal repeated (is_some setting)
-chain-warm_boot None true setting = refl
-chain-warm_boot None false None = refl
-chain-warm_boot None false (Some value) = refl
-chain-warm_boot (Some device) true setting = refl
-chain-warm_boot (Some device) false None = refl
-chain-warm_boot (Some device) false (Some value) = refl
+chain-warm_boot : (layouts : Layouts) (device : Option DeviceName) (repeated : Bool) (setting : Option Bool) → chain layouts device repeated (WarmBoot setting) ≡ setting_refusal repeated (is_some setting)
+chain-warm_boot layouts None true setting = refl
+chain-warm_boot layouts None false None = refl
+chain-warm_boot layouts None false (Some value) = refl
+chain-warm_boot layouts (Some device) true setting = refl
+chain-warm_boot layouts (Some device) false None = refl
+chain-warm_boot layouts (Some device) false (Some value) = refl
 
-chain-range : (device : Option DeviceName) (repeated : Bool) (setting : Option Range) → chain device repeated (FrequencyRange setting) ≡ setting_refusal repeated (is_some setting)
-chain-range None true setting = refl
-chain-range None false None = refl
-chain-range None false (Some value) = refl
-chain-range (Some device) true setting = refl
-chain-range (Some device) false None = refl
-chain-range (Some device) false (Some value) = refl
+chain-range : (layouts : Layouts) (device : Option DeviceName) (repeated : Bool) (setting : Option Range) → chain layouts device repeated (FrequencyRange setting) ≡ setting_refusal repeated (is_some setting)
+chain-range layouts None true setting = refl
+chain-range layouts None false None = refl
+chain-range layouts None false (Some value) = refl
+chain-range layouts (Some device) true setting = refl
+chain-range layouts (Some device) false None = refl
+chain-range layouts (Some device) false (Some value) = refl
 
-chain-no_sleep : (device : Option DeviceName) (repeated : Bool) (setting : Option Bool) → chain device repeated (NoSleep setting) ≡ setting_refusal repeated (is_some setting)
-chain-no_sleep None true setting = refl
-chain-no_sleep None false None = refl
-chain-no_sleep None false (Some value) = refl
-chain-no_sleep (Some device) true setting = refl
-chain-no_sleep (Some device) false None = refl
-chain-no_sleep (Some device) false (Some value) = refl
+chain-no_sleep : (layouts : Layouts) (device : Option DeviceName) (repeated : Bool) (setting : Option Bool) → chain layouts device repeated (NoSleep setting) ≡ setting_refusal repeated (is_some setting)
+chain-no_sleep layouts None true setting = refl
+chain-no_sleep layouts None false None = refl
+chain-no_sleep layouts None false (Some value) = refl
+chain-no_sleep layouts (Some device) true setting = refl
+chain-no_sleep layouts (Some device) false None = refl
+chain-no_sleep layouts (Some device) false (Some value) = refl
 
 -- a tile that is there is asked for in the set
 kind-then : (there : Option TileKind) (kind : TileKind) (repeated named : Bool) → ((other : TileKind) → there ≡ Some other → repeated ≡ named)
@@ -109,21 +111,23 @@ kind-then None kind repeated named same = refl
 kind-then (Some other) kind repeated named same =
     ap (λ cause. or_else (kind_cause (Some other) kind) cause) (or_else-none (cause_if repeated Repeated) ∙ ap (λ b. cause_if b Repeated) (same other refl))
 
-chain-tile : (image : Option AnyImage) (kind : TileKind) (x y : ℕ) (repeated named : Bool) → (x < 34 → y < 34 → repeated ≡ named)
-    → chain (device_known image) repeated (Tile kind x y) ≡ or_else (tile_refusal image kind x y) (cause_if named Repeated)
-chain-tile None kind x y repeated named same = refl
-chain-tile (Some image) kind x y repeated named same =
+chain-tile : (layouts : Layouts) (image : Option AnyImage) (kind : TileKind) (x y : ℕ) (repeated named : Bool) → (x < 34 → y < 34 → repeated ≡ named)
+    → chain layouts (device_known image) repeated (Tile kind x y) ≡ or_else (tile_refusal image kind x y) (cause_if named Repeated)
+chain-tile layouts None kind x y repeated named same = refl
+chain-tile layouts (Some image) kind x y repeated named same =
     kind-then (kind_of (device_of image) x y) kind repeated named (λ other there. let inside = in_grid (device_of image) x y other there in same inside.0 inside.1)
 
-chain-ram : (image : Option AnyImage) (x y : ℕ) (repeated named : Bool) → (x < 34 → y < 34 → repeated ≡ named)
-    → chain (device_known image) repeated (RamData x y) ≡ or_else (tile_refusal image RamB x y) (cause_if named Repeated)
-chain-ram None x y repeated named same = refl
-chain-ram (Some image) x y repeated named same =
+chain-ram : (layouts : Layouts) (image : Option AnyImage) (x y : ℕ) (repeated named : Bool) → (x < 34 → y < 34 → repeated ≡ named)
+    → chain layouts (device_known image) repeated (RamData x y) ≡ or_else (tile_refusal image RamB x y) (cause_if named Repeated)
+chain-ram layouts None x y repeated named same = refl
+chain-ram layouts (Some image) x y repeated named same =
     kind-then (kind_of (device_of image) x y) RamB repeated named (λ other there. let inside = in_grid (device_of image) x y other there in same inside.0 inside.1)
 
-chain-extra : (image : Option AnyImage) (bank x y : ℕ) → chain (device_known image) false (ExtraBit bank x y) ≡ extra_refusal image bank x y
-chain-extra None bank x y = refl
-chain-extra (Some image) bank x y = or_else-none (cause_if (not (is_extra (device_of image) (record { bank = bank; px = x; py = y }))) ExtraPlace)
+chain-extra : (layouts : Layouts) (lines : List (List ℕ)) (n : ℕ) (image : Option AnyImage) (bank x y : ℕ) → HasImage layouts lines n image → chain layouts (device_known image) false (ExtraBit bank x y) ≡ extra_refusal image bank x y
+chain-extra layouts lines n None bank x y has = refl
+chain-extra layouts lines n (Some image) bank x y has =
+    let refusal : Layout → Option AscCause = λ layout. cause_if (not (is_extra layout (record { bank = bank; px = x; py = y }))) ExtraPlace in
+    or_else-none (refusal (layout_for layouts (device_of image))) ∙ ap refusal (sym has.layout)
 
 some-device : (image : Option AnyImage) → is_some (device_known image) ≡ is_some image
 some-device None = refl
@@ -135,33 +139,33 @@ unfolding device_before
 device_is lines n s has = has.device.first
 
 -- what is wrong with a statement
-statement_refused : (lines : List (List ℕ)) (n : ℕ) (s : ReaderState) → HasGiven lines n s → (statement : Statement) → statement_cause lines n (Some statement) ≡ statement_refusal s statement
-statement_refused lines n s has Comment = chain-comment (device_before lines n)
-statement_refused lines n s has (Symbol net) = chain-symbol (device_before lines n) net
-statement_refused lines n s has (Device name) =
-    chain-device (device_before lines n) (is_repeated lines n (Device name)) name
+statement_refused : (layouts : Layouts) (lines : List (List ℕ)) (n : ℕ) (s : ReaderState) → HasGiven lines n s → HasImage layouts lines n s.image → (statement : Statement) → statement_cause layouts lines n (Some statement) ≡ statement_refusal s statement
+statement_refused layouts lines n s has image Comment = chain-comment layouts (device_before lines n)
+statement_refused layouts lines n s has image (Symbol net) = chain-symbol layouts (device_before lines n) net
+statement_refused layouts lines n s has image (Device name) =
+    chain-device layouts (device_before lines n) (is_repeated lines n (Device name)) name
     ∙ ap (λ b. or_else (unknown_device (Device name)) (cause_if b Repeated)) (has.device.given ∙ some-device s.image)
-statement_refused lines n s has (WarmBoot setting) =
-    chain-warm_boot (device_before lines n) (is_repeated lines n (WarmBoot setting)) setting
+statement_refused layouts lines n s has image (WarmBoot setting) =
+    chain-warm_boot layouts (device_before lines n) (is_repeated lines n (WarmBoot setting)) setting
     ∙ ap (λ b. setting_refusal b (is_some setting)) has.warm_boot.given
-statement_refused lines n s has (FrequencyRange setting) =
-    chain-range (device_before lines n) (is_repeated lines n (FrequencyRange setting)) setting
+statement_refused layouts lines n s has image (FrequencyRange setting) =
+    chain-range layouts (device_before lines n) (is_repeated lines n (FrequencyRange setting)) setting
     ∙ ap (λ b. setting_refusal b (is_some setting)) has.range.given
-statement_refused lines n s has (NoSleep setting) =
-    chain-no_sleep (device_before lines n) (is_repeated lines n (NoSleep setting)) setting
+statement_refused layouts lines n s has image (NoSleep setting) =
+    chain-no_sleep layouts (device_before lines n) (is_repeated lines n (NoSleep setting)) setting
     ∙ ap (λ b. setting_refusal b (is_some setting)) has.no_sleep.given
-statement_refused lines n s has (Tile kind x y) =
-    ap (λ d. chain d (is_repeated lines n (Tile kind x y)) (Tile kind x y)) (device_is lines n s has)
-    ∙ chain-tile s.image kind x y (is_repeated lines n (Tile kind x y)) (has_tile s.tiles x y) (λ column row. sym (has.tiles x y column row))
-statement_refused lines n s has (RamData x y) =
-    ap (λ d. chain d (is_repeated lines n (RamData x y)) (RamData x y)) (device_is lines n s has)
-    ∙ chain-ram s.image x y (is_repeated lines n (RamData x y)) (has_tile s.rams x y) (λ column row. sym (has.rams x y column row))
-statement_refused lines n s has (ExtraBit bank x y) =
-    ap (λ d. chain d false (ExtraBit bank x y)) (device_is lines n s has) ∙ chain-extra s.image bank x y
+statement_refused layouts lines n s has image (Tile kind x y) =
+    ap (λ d. chain layouts d (is_repeated lines n (Tile kind x y)) (Tile kind x y)) (device_is lines n s has)
+    ∙ chain-tile layouts s.image kind x y (is_repeated lines n (Tile kind x y)) (has_tile s.tiles x y) (λ column row. sym (has.tiles x y column row))
+statement_refused layouts lines n s has image (RamData x y) =
+    ap (λ d. chain layouts d (is_repeated lines n (RamData x y)) (RamData x y)) (device_is lines n s has)
+    ∙ chain-ram layouts s.image x y (is_repeated lines n (RamData x y)) (has_tile s.rams x y) (λ column row. sym (has.rams x y column row))
+statement_refused layouts lines n s has image (ExtraBit bank x y) =
+    ap (λ d. chain layouts d false (ExtraBit bank x y)) (device_is lines n s has) ∙ chain-extra layouts lines n s.image bank x y image
 
-dotted_refused : (lines : List (List ℕ)) (n : ℕ) (s : ReaderState) → HasGiven lines n s → (given : Option Statement) → statement_cause lines n given ≡ dotted_refusal s given
-dotted_refused lines n s has None = refl
-dotted_refused lines n s has (Some statement) = statement_refused lines n s has statement
+dotted_refused : (layouts : Layouts) (lines : List (List ℕ)) (n : ℕ) (s : ReaderState) → HasGiven lines n s → HasImage layouts lines n s.image → (given : Option Statement) → statement_cause layouts lines n given ≡ dotted_refusal s given
+dotted_refused layouts lines n s has image None = refl
+dotted_refused layouts lines n s has image (Some statement) = statement_refused layouts lines n s has image statement
 
 -- ---- lines
 
@@ -176,26 +180,26 @@ later : (row : ℕ) → nat_lt 0 (row + 1) ≡ true
 later row = lt-ltb 0 (row + 1) (omega arith)
 
 -- what is wrong with a line
-refused_at : (lines : List (List ℕ)) (n : ℕ) (s : ReaderState) (expected : Expected) → HasGiven lines n s → HasComment lines n s.comment s.in_comment → IsAt lines n s expected → n < length lines → cause_at lines n ≡ line_refusal s expected (line_at lines n)
+refused_at : (layouts : Layouts) (lines : List (List ℕ)) (n : ℕ) (s : ReaderState) (expected : Expected) → HasGiven lines n s → HasImage layouts lines n s.image → HasComment lines n s.comment s.in_comment → IsAt lines n s expected → n < length lines → cause_at layouts lines n ≡ line_refusal s expected (line_at lines n)
 unfolding cause_at
-refused_at lines n s AnyStatement given comment stands within =
+refused_at layouts lines n s AnyStatement given image comment stands within =
     let inside : nat_le (length lines) n ≡ false = grind (arith, nat_tests) in
-    rw (stands, inside, comment.is_in, dotted_refused lines n s given (statement_in (line_at lines n))) refl
-refused_at lines n s (Row kind x y row) given comment stands within =
+    rw (stands, inside, comment.is_in, dotted_refused layouts lines n s given image (statement_in (line_at lines n))) refl
+refused_at layouts lines n s (Row kind x y row) given image comment stands within =
     let over : statement_over lines n ≡ Some (Tile kind x y) = over_is lines n s (Row kind x y row) stands in
     rw (stands.0, later row, over) refl
-refused_at lines n s (Memory x y row) given comment stands within =
+refused_at layouts lines n s (Memory x y row) given image comment stands within =
     let over : statement_over lines n ≡ Some (RamData x y) = over_is lines n s (Memory x y row) stands in
     rw (stands.0, later row, over) refl
 
-pub line_refused : (lines : List (List ℕ)) (n : ℕ) (s : ReaderState) → HasRead lines n s → n < length lines → cause_at lines n ≡ line_refusal s s.expected (line_at lines n)
-line_refused lines n s read within = refused_at lines n s s.expected read.given read.comment read.stands within
+pub line_refused : (layouts : Layouts) (lines : List (List ℕ)) (n : ℕ) (s : ReaderState) → HasRead layouts lines n s → n < length lines → cause_at layouts lines n ≡ line_refusal s s.expected (line_at lines n)
+line_refused layouts lines n s read within = refused_at layouts lines n s s.expected read.given read.image read.comment read.stands within
 
 -- the fault of a line
-pub line_fault : (lines : List (List ℕ)) (n : ℕ) (s : ReaderState) → HasRead lines n s → n < length lines
-    → fault_at lines n ≡ fault_with (line_refusal s s.expected (line_at lines n)) (n + 1) (tile_named (statement_of s.expected (line_at lines n)))
-line_fault lines n s read within =
-    ap (λ cause. fault_with cause (n + 1) (tile_named (statement_over lines n))) (line_refused lines n s read within)
+pub line_fault : (layouts : Layouts) (lines : List (List ℕ)) (n : ℕ) (s : ReaderState) → HasRead layouts lines n s → n < length lines
+    → fault_at layouts lines n ≡ fault_with (line_refusal s s.expected (line_at lines n)) (n + 1) (tile_named (statement_of s.expected (line_at lines n)))
+line_fault layouts lines n s read within =
+    ap (λ cause. fault_with cause (n + 1) (tile_named (statement_over lines n))) (line_refused layouts lines n s read within)
     ∙ ap (λ over. fault_with (line_refusal s s.expected (line_at lines n)) (n + 1) (tile_named over)) (over_is lines n s s.expected read.stands)
 
 -- ---- the end
@@ -218,25 +222,25 @@ end_device : (image : Option AnyImage) → end_cause (device_known image) ≡ ca
 end_device None = refl
 end_device (Some image) = refl
 
-ended_at : (lines : List (List ℕ)) (s : ReaderState) (expected : Expected) → HasGiven lines (length lines) s → IsAt lines (length lines) s expected → cause_at lines (length lines) ≡ end_refusal s expected
+ended_at : (layouts : Layouts) (lines : List (List ℕ)) (s : ReaderState) (expected : Expected) → HasGiven lines (length lines) s → IsAt lines (length lines) s expected → cause_at layouts lines (length lines) ≡ end_refusal s expected
 unfolding cause_at
-ended_at lines s AnyStatement given stands =
+ended_at layouts lines s AnyStatement given stands =
     let past : nat_le (length lines) (length lines) ≡ true = grind (arith, nat_tests) in
     rw (stands, past, device_is lines (length lines) s given) (end_device s.image)
-ended_at lines s (Row kind x y row) given stands =
+ended_at layouts lines s (Row kind x y row) given stands =
     let over : statement_over lines (length lines) ≡ Some (Tile kind x y) = over_is lines (length lines) s (Row kind x y row) stands in
     rw (stands.0, later row, over, no_line lines, short_row kind) refl
-ended_at lines s (Memory x y row) given stands =
+ended_at layouts lines s (Memory x y row) given stands =
     let over : statement_over lines (length lines) ≡ Some (RamData x y) = over_is lines (length lines) s (Memory x y row) stands in
     rw (stands.0, later row, over, no_line lines, short_memory) refl
 
-pub end_refused : (lines : List (List ℕ)) (s : ReaderState) → HasRead lines (length lines) s → cause_at lines (length lines) ≡ end_refusal s s.expected
-end_refused lines s read = ended_at lines s s.expected read.given read.stands
+pub end_refused : (layouts : Layouts) (lines : List (List ℕ)) (s : ReaderState) → HasRead layouts lines (length lines) s → cause_at layouts lines (length lines) ≡ end_refusal s s.expected
+end_refused layouts lines s read = ended_at layouts lines s s.expected read.given read.stands
 
 -- the fault of the end
-pub end_fault : (lines : List (List ℕ)) (s : ReaderState) → HasRead lines (length lines) s
-    → fault_at lines (length lines) ≡ fault_with (end_refusal s s.expected) (length lines + 1) (tile_named (statement_of s.expected []))
-end_fault lines s read =
-    ap (λ cause. fault_with cause (length lines + 1) (tile_named (statement_over lines (length lines)))) (end_refused lines s read)
+pub end_fault : (layouts : Layouts) (lines : List (List ℕ)) (s : ReaderState) → HasRead layouts lines (length lines) s
+    → fault_at layouts lines (length lines) ≡ fault_with (end_refusal s s.expected) (length lines + 1) (tile_named (statement_of s.expected []))
+end_fault layouts lines s read =
+    ap (λ cause. fault_with cause (length lines + 1) (tile_named (statement_over lines (length lines)))) (end_refused layouts lines s read)
     ∙ ap (λ over. fault_with (end_refusal s s.expected) (length lines + 1) (tile_named over)) (over_is lines (length lines) s s.expected read.stands)
     ∙ ap (λ line. fault_with (end_refusal s s.expected) (length lines + 1) (tile_named (statement_of s.expected line))) (no_line lines)

@@ -9,7 +9,9 @@ use Rattle.place_search.specs.Places.{any_below, first_below}
 use Rattle.text_lines.specs.Written.{text_of, IsPlain}
 use Rattle.place_search.proofs.Places.{any_below-at, first_below-none, gathered_below-none}
 use Rattle.text_lines.proofs.Written.{lines_of-text_of}
+use Rattle.layout_file.specs.declared.layouts.Layouts.{Layouts}
 use Rattle.plane_map.specs.declared.device.DeviceName.{DeviceName}
+use Rattle.layout_file.specs.Layouts.{HasLayout}
 use Rattle.ice_image.specs.Bits.{Bit, OfTile, OfWord, Extra, IsBit, bit_of}
 use Rattle.ice_image.specs.Configuration.{Configuration, IsWhole}
 use Rattle.ice_image.proofs.Bits.{image_from-is}
@@ -63,28 +65,28 @@ canonical-written image =
 -- ---- they are read
 
 -- all pieces are right, each behind those before it
-body-fine : (image : Configuration) → AreFine (comment_pieces image.comment) (body_pieces image)
-body-fine image =
+body-fine : (layouts : Layouts) (image : Configuration) → HasLayout layouts image.layout → AreFine layouts (comment_pieces image.comment) (body_pieces image)
+body-fine layouts image under =
     let device = image.layout.device in
     let settings = image.settings in
     let start = comment_pieces image.comment in
     let head = head_pieces device settings.warm_boot settings.range settings.no_sleep in
     let knows = head-knows image.comment device settings.warm_boot settings.range settings.no_sleep in
-    AreFine-append start head (all_tile_pieces image ++ all_extra_pieces image)
-    (head-fine image.comment device settings.warm_boot settings.range settings.no_sleep)
-    (AreFine-append (start ++ head) (all_tile_pieces image) (all_extra_pieces image)
-    (tiles-fine image (start ++ head) knows
+    AreFine-append layouts start head (all_tile_pieces image ++ all_extra_pieces image)
+    (head-fine layouts image.comment device settings.warm_boot settings.range settings.no_sleep)
+    (AreFine-append layouts (start ++ head) (all_tile_pieces image) (all_extra_pieces image)
+    (tiles-fine layouts image (start ++ head) knows
     (λ x y. head-none (λ piece. names_tile x y (Some piece.statement)) image.comment device settings.warm_boot settings.range settings.no_sleep
     (record { at_comment = refl; at_device = refl; at_warm_boot = refl; at_medium = refl; at_high = refl; at_no_sleep = refl }))
     (λ x y. head-none (λ piece. names_ram x y (Some piece.statement)) image.comment device settings.warm_boot settings.range settings.no_sleep
     (record { at_comment = refl; at_device = refl; at_warm_boot = refl; at_medium = refl; at_high = refl; at_no_sleep = refl })))
-    (extras-fine image ((start ++ head) ++ all_tile_pieces image) (Knows-more device (start ++ head) (all_tile_pieces image) knows)))
+    (extras-fine layouts image ((start ++ head) ++ all_tile_pieces image) under (Knows-more device (start ++ head) (all_tile_pieces image) knows)))
 
 -- none of their lines has a byte below the space
-plain-pieces : (past pieces : List Piece) → AreFine past pieces → All IsPlain (all_lines pieces)
+plain-pieces : (layouts : Layouts) (past pieces : List Piece) → AreFine layouts past pieces → All IsPlain (all_lines pieces)
 unfolding AreFine all_lines
-plain-pieces past [] fine = All-nil IsPlain
-plain-pieces past (piece ∷ pieces) fine = All-append IsPlain (piece_lines piece) (all_lines pieces) fine.0.is.plain (plain-pieces (past ++ piece ∷ []) pieces fine.1)
+plain-pieces layouts past [] fine = All-nil IsPlain
+plain-pieces layouts past (piece ∷ pieces) fine = All-append IsPlain (piece_lines piece) (all_lines pieces) fine.0.is.plain (plain-pieces layouts (past ++ piece ∷ []) pieces fine.1)
 
 -- all lines stand at the first
 stands-whole : (lines : List (List ℕ)) → Stands lines 0 lines
@@ -94,16 +96,16 @@ stands-whole lines = record {
 }
 
 -- the lines say what the pieces say
-holds-whole : (image : Configuration) → HasCommentLines image.comment → Holds (written_lines image) (length (written_lines image)) (whole_pieces image)
-holds-whole image has =
+holds-whole : (layouts : Layouts) (image : Configuration) → HasLayout layouts image.layout → HasCommentLines image.comment → Holds layouts (written_lines image) (length (written_lines image)) (whole_pieces image)
+holds-whole layouts image under has =
     let lines = written_lines image in
     let front = comment_lines image.comment in
     let rest = all_lines (body_pieces image) in
     let stands : Stands lines 0 (front ++ rest) = stands-whole lines in
-    let start : Holds lines (length front) (comment_pieces image.comment) = holds-start lines image.comment has (Stands-front lines 0 front rest stands) in
+    let start : Holds layouts lines (length front) (comment_pieces image.comment) = holds-start layouts lines image.comment has (Stands-front lines 0 front rest stands) in
     let none : 0 + length front ≡ length front = omega arith in
     let behind : Stands lines (length front) rest = subst (λ n. Stands lines n rest) none (Stands-back lines 0 front rest stands) in
-    subst (λ n. Holds lines n (whole_pieces image)) (sym (length-append front rest)) (all_more lines (length front) (comment_pieces image.comment) (body_pieces image) start (body-fine image) behind)
+    subst (λ n. Holds layouts lines n (whole_pieces image)) (sym (length-append front rest)) (all_more layouts lines (length front) (comment_pieces image.comment) (body_pieces image) start (body-fine layouts image under) behind)
 
 -- ---- the bits
 
@@ -129,7 +131,7 @@ unfolding piece_sets any_below
 bits-fail device bit = record { at_comment = refl; at_device = refl; at_warm_boot = refl; at_medium = refl; at_high = refl; at_no_sleep = refl }
 
 -- the pieces set the bits of the image
-bits-whole : (image : Configuration) (bit : Bit) → IsBit image.layout.device bit → some_piece (piece_sets bit) (whole_pieces image) ≡ bit_of image bit
+bits-whole : (image : Configuration) (bit : Bit) → IsBit image.layout bit → some_piece (piece_sets bit) (whole_pieces image) ≡ bit_of image bit
 bits-whole image (OfTile bit) is =
     let test = piece_sets (OfTile bit) in
     let tiles = some_piece test (all_tile_pieces image) in
@@ -204,48 +206,48 @@ some-none image test fails fails' =
 -- ---- the whole
 
 -- the device is the image's
-device-whole : (image : Configuration) → HasCommentLines image.comment → device_before (written_lines image) (length (written_lines image)) ≡ Some image.layout.device
-device-whole image has =
+device-whole : (layouts : Layouts) (image : Configuration) → HasLayout layouts image.layout → HasCommentLines image.comment → device_before (written_lines image) (length (written_lines image)) ≡ Some image.layout.device
+device-whole layouts image under has =
     let settings = image.settings in
     let head = head_pieces image.layout.device settings.warm_boot settings.range settings.no_sleep in
     let places = all_tile_pieces image ++ all_extra_pieces image in
-    (holds-whole image has).device
+    (holds-whole layouts image under has).device
     ∙ ap (λ pieces. first_statement device_in pieces) (sym (append_assoc (comment_pieces image.comment) head places))
     ∙ Knows-more image.layout.device (comment_pieces image.comment ++ head) places (head-knows image.comment image.layout.device settings.warm_boot settings.range settings.no_sleep)
 
 -- nothing is wrong with the end where the device is known
-cause-end : (lines : List (List ℕ)) (device : DeviceName) → depth_at lines (length lines) ≡ 0 → device_before lines (length lines) ≡ Some device → cause_at lines (length lines) ≡ None
+cause-end : (layouts : Layouts) (lines : List (List ℕ)) (device : DeviceName) → depth_at lines (length lines) ≡ 0 → device_before lines (length lines) ≡ Some device → cause_at layouts lines (length lines) ≡ None
 unfolding cause_at
-cause-end lines device top named = rw (top, le-leb (length lines) (length lines) (omega arith), named) refl
+cause-end layouts lines device top named = rw (top, le-leb (length lines) (length lines) (omega arith), named) refl
 
 -- no line is faulty
-sound-whole : (image : Configuration) → HasCommentLines image.comment → first_below (length (written_lines image) + 1) (fault_at (written_lines image)) ≡ None
-sound-whole image has =
+sound-whole : (layouts : Layouts) (image : Configuration) → HasLayout layouts image.layout → HasCommentLines image.comment → first_below (length (written_lines image) + 1) (fault_at layouts (written_lines image)) ≡ None
+sound-whole layouts image under has =
     let lines = written_lines image in
-    let holds = holds-whole image has in
-    first_below-none (length lines + 1) (fault_at lines) (λ k within.
-    let sound : cause_at lines k ≡ None = elim (cases_lt k (length lines)) [
+    let holds = holds-whole layouts image under has in
+    first_below-none (length lines + 1) (fault_at layouts lines) (λ k within.
+    let sound : cause_at layouts lines k ≡ None = elim (cases_lt k (length lines)) [
       | inl inside ↦ holds.sound k inside
       | inr end ↦
           let here : k ≡ length lines = omega arith in
-          ap (cause_at lines) here ∙ cause-end lines image.layout.device holds.top (device-whole image has)
+          ap (cause_at layouts lines) here ∙ cause-end layouts lines image.layout.device holds.top (device-whole layouts image under has)
     ] in
     ap (λ cause. fault_with cause (k + 1) (tile_named (statement_over lines k))) sound)
 
 -- no piece begins a comment
-calm-pieces : (past pieces : List Piece) → AreFine past pieces → some_statement is_comment pieces ≡ false
+calm-pieces : (layouts : Layouts) (past pieces : List Piece) → AreFine layouts past pieces → some_statement is_comment pieces ≡ false
 unfolding AreFine some_piece
-calm-pieces past [] fine = refl
-calm-pieces past (piece ∷ pieces) fine =
-    or_from (is_comment (Some piece.statement)) (some_statement is_comment pieces) fine.0.is.calm (calm-pieces (past ++ piece ∷ []) pieces fine.1)
+calm-pieces layouts past [] fine = refl
+calm-pieces layouts past (piece ∷ pieces) fine =
+    or_from (is_comment (Some piece.statement)) (some_statement is_comment pieces) fine.0.is.calm (calm-pieces layouts (past ++ piece ∷ []) pieces fine.1)
 
 -- lines that begin with a comment, or with none, say it
-comment-read : (comment : Option (List (List ℕ))) → HasCommentLines comment → (lines : List (List ℕ)) (n : ℕ) (body : List Piece) → Stands lines 0 (comment_lines comment)
+comment-read : (layouts : Layouts) (comment : Option (List (List ℕ))) → HasCommentLines comment → (lines : List (List ℕ)) (n : ℕ) (body : List Piece) → Stands lines 0 (comment_lines comment)
     → length (comment_lines comment) < n → begins_with_dot (line_at lines (length (comment_lines comment))) ≡ true
-    → Holds lines n (comment_pieces comment ++ body) → some_statement is_comment body ≡ false → comment_before lines n ≡ comment
-comment-read None has lines n body stands within dot holds calm =
+    → Holds layouts lines n (comment_pieces comment ++ body) → some_statement is_comment body ≡ false → comment_before lines n ≡ comment
+comment-read layouts None has lines n body stands within dot holds calm =
     comment-none lines n (λ k below. none-at n k (λ k. is_comment (statement_at lines k)) below (holds.any is_comment refl ∙ calm))
-comment-read (Some cs) has lines n body stands within dot holds calm = comment-is lines cs n has stands within dot holds.calm
+comment-read layouts (Some cs) has lines n body stands within dot holds calm = comment-is lines cs n has stands within dot holds.calm
 
 -- the line behind the comment is the device's
 line-behind : (image : Configuration) → begins_with_dot (line_at (written_lines image) (length (comment_lines image.comment))) ≡ true
@@ -261,17 +263,17 @@ unfolding all_lines
 some-behind image = omega (arith, length-append (comment_lines image.comment) (all_lines (body_pieces image)))
 
 -- the comment is the image's
-comment-whole : (image : Configuration) → HasCommentLines image.comment → comment_before (written_lines image) (length (written_lines image)) ≡ image.comment
-comment-whole image has =
+comment-whole : (layouts : Layouts) (image : Configuration) → HasLayout layouts image.layout → HasCommentLines image.comment → comment_before (written_lines image) (length (written_lines image)) ≡ image.comment
+comment-whole layouts image under has =
     let lines = written_lines image in
-    comment-read image.comment has lines (length lines) (body_pieces image) (Stands-front lines 0 (comment_lines image.comment) (all_lines (body_pieces image)) (stands-whole lines))
-    (some-behind image) (line-behind image) (holds-whole image has) (calm-pieces (comment_pieces image.comment) (body_pieces image) (body-fine image))
+    comment-read layouts image.comment has lines (length lines) (body_pieces image) (Stands-front lines 0 (comment_lines image.comment) (all_lines (body_pieces image)) (stands-whole lines))
+    (some-behind image) (line-behind image) (holds-whole layouts image under has) (calm-pieces layouts (comment_pieces image.comment) (body_pieces image) (body-fine layouts image under))
 
 -- the settings are the image's
-settings-whole : (image : Configuration) → HasCommentLines image.comment → settings_before (written_lines image) (length (written_lines image)) ≡ image.settings
-settings-whole image has =
+settings-whole : (layouts : Layouts) (image : Configuration) → HasLayout layouts image.layout → HasCommentLines image.comment → settings_before (written_lines image) (length (written_lines image)) ≡ image.settings
+settings-whole layouts image under has =
     let settings = image.settings in
-    let holds = holds-whole image has in
+    let holds = holds-whole layouts image under has in
     let read = settings-read image image.comment image.layout.device settings.warm_boot settings.range settings.no_sleep in
     let warm_boot = ap (λ first. unwrap_or first true) holds.warm_boot ∙ read.warm_boot_is in
     let range = ap (λ first. unwrap_or first Low) holds.range ∙ read.range_is in
@@ -279,42 +281,43 @@ settings-whole image has =
     λ i. record { range = range i; warm_boot = warm_boot i; no_sleep = no_sleep i }
 
 -- what the lines configure is the image
-image-whole : (image : Configuration) → IsWhole image → HasCommentLines image.comment → image_before image.layout.device (written_lines image) (length (written_lines image)) ≡ image
-image-whole image whole has =
+image-whole : (layouts : Layouts) (image : Configuration) → HasLayout layouts image.layout → IsWhole image → HasCommentLines image.comment → image_before image.layout (written_lines image) (length (written_lines image)) ≡ image
+image-whole layouts image under whole has =
     let lines = written_lines image in
-    let holds = holds-whole image has in
-    sym (image_from-is image image.layout.device (comment_before lines (length lines)) (settings_before lines (length lines)) (is_set_before lines (length lines)) whole refl (sym (comment-whole image has)) (sym (settings-whole image has))
+    let holds = holds-whole layouts image under has in
+    sym (image_from-is image image.layout (comment_before lines (length lines)) (settings_before lines (length lines)) (is_set_before lines (length lines)) whole refl (sym (comment-whole layouts image under has)) (sym (settings-whole layouts image under has))
     (λ bit is. sym (holds.bits bit ∙ bits-whole image bit is)))
 
 -- they name nothing
-symbols-whole : (image : Configuration) → HasCommentLines image.comment → symbols_before (written_lines image) (length (written_lines image)) ≡ []
+symbols-whole : (layouts : Layouts) (image : Configuration) → HasLayout layouts image.layout → HasCommentLines image.comment → symbols_before (written_lines image) (length (written_lines image)) ≡ []
 unfolding symbols_before
-symbols-whole image has =
+symbols-whole layouts image under has =
     let lines = written_lines image in
     let none : any_below (length lines) (λ k. is_symbol (statement_at lines k)) ≡ false =
-    (holds-whole image has).any is_symbol refl
+    (holds-whole layouts image under has).any is_symbol refl
     ∙ some-none image is_symbol (record { at_comment = refl; at_device = refl; at_warm_boot = refl; at_medium = refl; at_high = refl; at_no_sleep = refl }) (record { tile = λ kind x y. refl; ram = λ x y. refl; extra = λ bank x y. refl })
     in
     gathered_below-none (length lines) (λ k. symbol_in (statement_at lines k) (line_at lines k)) (λ k within.
     no-symbol (statement_at lines k) (line_at lines k) (none-at (length lines) k (λ k. is_symbol (statement_at lines k)) within none))
 
 -- the lines of the text are those that were written
-lines-whole : (image : Configuration) → HasCommentLines image.comment → lines_of (asc_text_of image) ≡ written_lines image
+lines-whole : (layouts : Layouts) (image : Configuration) → HasLayout layouts image.layout → HasCommentLines image.comment → lines_of (asc_text_of image) ≡ written_lines image
 unfolding asc_text_of
-lines-whole image has =
+lines-whole layouts image under has =
     ap (λ lines. lines_of (text_of lines)) (canonical-written image)
-    ∙ lines_of-text_of (written_lines image) (All-append IsPlain (comment_lines image.comment) (all_lines (body_pieces image)) (plain-comment image.comment has) (plain-pieces (comment_pieces image.comment) (body_pieces image) (body-fine image)))
+    ∙ lines_of-text_of (written_lines image) (All-append IsPlain (comment_lines image.comment) (all_lines (body_pieces image)) (plain-comment image.comment has) (plain-pieces layouts (comment_pieces image.comment) (body_pieces image) (body-fine layouts image under)))
 
 -- the canonical text of an image means that image, and names nothing
-pub means_of_text : (image : Configuration) → IsWhole image → HasCommentLines image.comment → AscMeans (asc_text_of image) image []
+pub means_of_text : (layouts : Layouts) (image : Configuration) → HasLayout layouts image.layout → IsWhole image → HasCommentLines image.comment → AscMeans layouts (asc_text_of image) image []
 unfolding asc_fault_of asc_image_of asc_symbols_of
-means_of_text image whole has =
-    let is = lines-whole image has in
+means_of_text layouts image under whole has =
+    let is = lines-whole layouts image under has in
     record {
-      accepted = ap (λ lines. first_below (length lines + 1) (fault_at lines)) is ∙ sound-whole image has;
+      accepted = ap (λ lines. first_below (length lines + 1) (fault_at layouts lines)) is ∙ sound-whole layouts image under has;
       configures =
-          ap (λ lines. image_for (device_before lines (length lines)) lines) is
-          ∙ ap (λ device. image_for device (written_lines image)) (device-whole image has)
-          ∙ ap (λ image. Some image) (image-whole image whole has);
-      names = ap (λ lines. symbols_before lines (length lines)) is ∙ symbols-whole image has;
+          ap (λ lines. image_for layouts (device_before lines (length lines)) lines) is
+          ∙ ap (λ device. image_for layouts device (written_lines image)) (device-whole layouts image under has)
+          ∙ ap (λ layout. Some (image_before layout (written_lines image) (length (written_lines image)))) under
+          ∙ ap (λ image. Some image) (image-whole layouts image under whole has);
+      names = ap (λ lines. symbols_before lines (length lines)) is ∙ symbols-whole layouts image under has;
     }

@@ -8,6 +8,8 @@ use Rattle.plane_map.specs.Layout.{kind_of}
 use Rattle.plane_map.specs.declared.device.DeviceName.{DeviceName}
 use Rattle.plane_map.specs.declared.tile.TileKind.{TileKind}
 use Rattle.plane_map.specs.declared.tile.TileKind.TheVariants.{Io, Logic, RamB, RamT}
+use Rattle.layout_file.specs.declared.layouts.Layouts.{Layouts}
+use Rattle.layout_file.specs.Layouts.{AreLayouts}
 use Rattle.ice_image.specs.Either.{device_of}
 use Rattle.ice_image.specs.declared.any.AnyImage.{AnyImage}
 use Rattle.ice_image.specs.declared.settings.Range.{Range}
@@ -25,7 +27,7 @@ use Rattle.asc_text.specs.inside.Reading.{ReaderState, HasKind, IsBlank, TakesSt
 use Rattle.asc_text.proofs.HasRead.{HasRead, HasComment, HasImage, IsAt, device_known}
 use Rattle.asc_text.proofs.Given.{Follows, HasGiven-more}
 use Rattle.asc_text.proofs.CommentSteps.{comment-begins, comment-ends}
-use Rattle.asc_text.proofs.ImageSteps.{image-stays, image-begins, image-gains}
+use Rattle.asc_text.proofs.ImageSteps.{image-stays, image-begins, image-gains, blank-device}
 use Rattle.asc_text.proofs.LineSteps.{depth-more, at-statement, fit-more, same_device}
 use Rattle.asc_text.proofs.Refusals.{over_is}
 
@@ -83,17 +85,17 @@ abbrev pub calm : ReaderState → ReaderState
 calm s = record s { in_comment = false }
 
 -- a device and its image
-follows-device : (s : ReaderState) (name : Option DeviceName) (image : Option AnyImage) (line : List ℕ) → s.image ≡ None → IsBlank name image → Follows s (Some (Device name)) line (record (calm s) { image = image })
-follows-device s None image line none blank = absurd blank
-follows-device s (Some name) None line none blank = absurd blank
-follows-device s (Some name) (Some image) line none blank = record {
+follows-device : (s : ReaderState) (name : Option DeviceName) (image : Option AnyImage) (line : List ℕ) → AreLayouts s.layouts → s.image ≡ None → IsBlank s.layouts name image → Follows s (Some (Device name)) line (record (calm s) { image = image })
+follows-device s None image line are none blank = absurd blank
+follows-device s (Some name) None line are none blank = absurd blank
+follows-device s (Some name) (Some image) line are none blank = record {
   warm_boot = refl;
   warm_boot_known = refl;
   range = refl;
   range_known = refl;
   no_sleep = refl;
   no_sleep_known = refl;
-  device = (ap device_known none, ap (λ d. Some d) blank.0);
+  device = (ap device_known none, ap (λ d. Some d) (blank-device s.layouts name image are blank));
   device_known = refl;
   tiles = refl;
   rams = refl;
@@ -149,68 +151,69 @@ follows-no_sleep s (Some value) line taken = record {
 }
 
 -- what a statement gives
-follows : (s new : ReaderState) (statement : Statement) (line : List ℕ) → statement_refusal s statement ≡ None → TakesStatement (calm s) statement line new → Follows s (Some statement) line new
-follows s new Comment line none takes =
+follows : (s new : ReaderState) (statement : Statement) (line : List ℕ) → AreLayouts s.layouts → statement_refusal s statement ≡ None → TakesStatement (calm s) statement line new → Follows s (Some statement) line new
+follows s new Comment line are none takes =
     let P : ReaderState → Type 0 = λ t. Follows s (Some Comment) line t in
     subst P (sym takes) (record { warm_boot = refl; warm_boot_known = refl; range = refl; range_known = refl; no_sleep = refl; no_sleep_known = refl; device = refl; device_known = refl; tiles = refl; rams = refl; symbols = refl })
-follows s new (Device name) line none takes =
+follows s new (Device name) line are none takes =
     let P : ReaderState → Type 0 = λ t. Follows s (Some (Device name)) line t in
-    subst P (sym takes.0) (follows-device s name new.image line (not_given s.image ((neither (unknown_device (Device name)) (cause_if (is_some s.image) Repeated) none).1)) takes.1)
-follows s new (WarmBoot setting) line none takes =
+    subst P (sym takes.0) (follows-device s name new.image line are (not_given s.image ((neither (unknown_device (Device name)) (cause_if (is_some s.image) Repeated) none).1)) takes.1)
+follows s new (WarmBoot setting) line are none takes =
     let P : ReaderState → Type 0 = λ t. Follows s (Some (WarmBoot setting)) line t in
     subst P (sym takes) (follows-warm_boot s setting line (setting-taken s.warm_boot setting none))
-follows s new (FrequencyRange setting) line none takes =
+follows s new (FrequencyRange setting) line are none takes =
     let P : ReaderState → Type 0 = λ t. Follows s (Some (FrequencyRange setting)) line t in
     subst P (sym takes) (follows-range s setting line (setting-taken s.range setting none))
-follows s new (NoSleep setting) line none takes =
+follows s new (NoSleep setting) line are none takes =
     let P : ReaderState → Type 0 = λ t. Follows s (Some (NoSleep setting)) line t in
     subst P (sym takes) (follows-no_sleep s setting line (setting-taken s.no_sleep setting none))
-follows s new (Tile kind x y) line none takes =
+follows s new (Tile kind x y) line are none takes =
     let P : ReaderState → Type 0 = λ t. Follows s (Some (Tile kind x y)) line t in
     subst P (sym takes.0) (record { warm_boot = refl; warm_boot_known = refl; range = refl; range_known = refl; no_sleep = refl; no_sleep_known = refl; device = refl; device_known = refl; tiles = takes.1; rams = refl; symbols = refl })
-follows s new (RamData x y) line none takes =
+follows s new (RamData x y) line are none takes =
     let P : ReaderState → Type 0 = λ t. Follows s (Some (RamData x y)) line t in
     subst P (sym takes.0) (record { warm_boot = refl; warm_boot_known = refl; range = refl; range_known = refl; no_sleep = refl; no_sleep_known = refl; device = refl; device_known = refl; tiles = refl; rams = takes.1; symbols = refl })
-follows s new (ExtraBit bank x y) line none takes =
+follows s new (ExtraBit bank x y) line are none takes =
     let P : ReaderState → Type 0 = λ t. Follows s (Some (ExtraBit bank x y)) line t in
     let same = same_device s.image new.image (extra_sets (record { bank = bank; px = x; py = y })) takes.1 in
     subst P (sym takes.0) (record { warm_boot = refl; warm_boot_known = refl; range = refl; range_known = refl; no_sleep = refl; no_sleep_known = refl; device = same; device_known = refl; tiles = refl; rams = refl; symbols = refl })
-follows s new (Symbol net) line none takes =
+follows s new (Symbol net) line are none takes =
     let P : ReaderState → Type 0 = λ t. Follows s (Some (Symbol net)) line t in
     subst P (sym takes) (record { warm_boot = refl; warm_boot_known = refl; range = refl; range_known = refl; no_sleep = refl; no_sleep_known = refl; device = refl; device_known = refl; tiles = refl; rams = refl; symbols = refl })
 
 -- ---- the image
 
 -- the image after a statement
-image-after : (lines : List (List ℕ)) (n : ℕ) (s new : ReaderState) (statement : Statement) (line : List ℕ) → HasImage lines n s.image → statement_refusal s statement ≡ None → TakesStatement (calm s) statement line new
-    → depth_at lines n ≡ 0 → statement_over lines n ≡ Some statement → HasImage lines (n + 1) new.image
-image-after lines n s new Comment line has none takes depth over =
-    let P : ReaderState → Type 0 = λ t. HasImage lines (n + 1) t.image in
-    subst P (sym takes) (image-stays lines n s.image has (λ bit. rw over refl))
-image-after lines n s new (Device name) line has none takes depth over =
-    let P : Option AnyImage → Type 0 = λ i. HasImage lines n i in
+image-after : (layouts : Layouts) (lines : List (List ℕ)) (n : ℕ) (s new : ReaderState) (statement : Statement) (line : List ℕ) → AreLayouts layouts → s.layouts ≡ layouts → HasImage layouts lines n s.image → statement_refusal s statement ≡ None → TakesStatement (calm s) statement line new
+    → depth_at lines n ≡ 0 → statement_over lines n ≡ Some statement → HasImage layouts lines (n + 1) new.image
+image-after layouts lines n s new Comment line are same has none takes depth over =
+    let P : ReaderState → Type 0 = λ t. HasImage layouts lines (n + 1) t.image in
+    subst P (sym takes) (image-stays layouts lines n s.image has (λ bit. rw over refl))
+image-after layouts lines n s new (Device name) line are same has none takes depth over =
+    let P : Option AnyImage → Type 0 = λ i. HasImage layouts lines n i in
+    let Q : Layouts → Type 0 = λ l. IsBlank l name new.image in
     let nothing = not_given s.image ((neither (unknown_device (Device name)) (cause_if (is_some s.image) Repeated) none).1) in
-    image-begins lines n name new.image (subst P nothing has) takes.1 (λ bit. rw over refl)
-image-after lines n s new (WarmBoot setting) line has none takes depth over =
-    let P : ReaderState → Type 0 = λ t. HasImage lines (n + 1) t.image in
-    subst P (sym takes) (image-stays lines n s.image has (λ bit. rw over refl))
-image-after lines n s new (FrequencyRange setting) line has none takes depth over =
-    let P : ReaderState → Type 0 = λ t. HasImage lines (n + 1) t.image in
-    subst P (sym takes) (image-stays lines n s.image has (λ bit. rw over refl))
-image-after lines n s new (NoSleep setting) line has none takes depth over =
-    let P : ReaderState → Type 0 = λ t. HasImage lines (n + 1) t.image in
-    subst P (sym takes) (image-stays lines n s.image has (λ bit. rw over refl))
-image-after lines n s new (Tile kind x y) line has none takes depth over =
-    let P : ReaderState → Type 0 = λ t. HasImage lines (n + 1) t.image in
-    subst P (sym takes.0) (image-stays lines n s.image has (λ bit. rw (over, depth) (and-false _)))
-image-after lines n s new (RamData x y) line has none takes depth over =
-    let P : ReaderState → Type 0 = λ t. HasImage lines (n + 1) t.image in
-    subst P (sym takes.0) (image-stays lines n s.image has (λ bit. rw (over, depth) (and-false _)))
-image-after lines n s new (ExtraBit bank x y) line has none takes depth over =
-    image-gains lines n s.image new.image (extra_sets (record { bank = bank; px = x; py = y })) has takes.1 (λ bit. rw over refl)
-image-after lines n s new (Symbol net) line has none takes depth over =
-    let P : ReaderState → Type 0 = λ t. HasImage lines (n + 1) t.image in
-    subst P (sym takes) (image-stays lines n s.image has (λ bit. rw over refl))
+    image-begins layouts lines n name new.image are (subst P nothing has) (subst Q same takes.1) (λ bit. rw over refl)
+image-after layouts lines n s new (WarmBoot setting) line are same has none takes depth over =
+    let P : ReaderState → Type 0 = λ t. HasImage layouts lines (n + 1) t.image in
+    subst P (sym takes) (image-stays layouts lines n s.image has (λ bit. rw over refl))
+image-after layouts lines n s new (FrequencyRange setting) line are same has none takes depth over =
+    let P : ReaderState → Type 0 = λ t. HasImage layouts lines (n + 1) t.image in
+    subst P (sym takes) (image-stays layouts lines n s.image has (λ bit. rw over refl))
+image-after layouts lines n s new (NoSleep setting) line are same has none takes depth over =
+    let P : ReaderState → Type 0 = λ t. HasImage layouts lines (n + 1) t.image in
+    subst P (sym takes) (image-stays layouts lines n s.image has (λ bit. rw over refl))
+image-after layouts lines n s new (Tile kind x y) line are same has none takes depth over =
+    let P : ReaderState → Type 0 = λ t. HasImage layouts lines (n + 1) t.image in
+    subst P (sym takes.0) (image-stays layouts lines n s.image has (λ bit. rw (over, depth) (and-false _)))
+image-after layouts lines n s new (RamData x y) line are same has none takes depth over =
+    let P : ReaderState → Type 0 = λ t. HasImage layouts lines (n + 1) t.image in
+    subst P (sym takes.0) (image-stays layouts lines n s.image has (λ bit. rw (over, depth) (and-false _)))
+image-after layouts lines n s new (ExtraBit bank x y) line are same has none takes depth over =
+    image-gains layouts lines n s.image new.image (extra_sets (record { bank = bank; px = x; py = y })) has takes.1 (λ bit. rw over refl)
+image-after layouts lines n s new (Symbol net) line are same has none takes depth over =
+    let P : ReaderState → Type 0 = λ t. HasImage layouts lines (n + 1) t.image in
+    subst P (sym takes) (image-stays layouts lines n s.image has (λ bit. rw over refl))
 
 -- ---- the comment
 
@@ -270,18 +273,32 @@ stands-after lines n s new (RamData x y) line expected none takes depth said =
     let there = tile-taken s.image RamB x y ((neither (tile_refusal s.image RamB x y) (cause_if (has_tile s.rams x y) Repeated) none).0) in
     subst P (sym takes.0) (depth, ap (λ k. statement_in (line_at lines k)) (omega arith) ∙ said, there, omega arith, refl)
 
+-- the layouts stay
+layouts-stay : (s new : ReaderState) (statement : Statement) (line : List ℕ) → TakesStatement (calm s) statement line new → new.layouts ≡ s.layouts
+layouts-stay s new Comment line takes = ap (λ (t : ReaderState). t.layouts) takes
+layouts-stay s new (Device name) line takes = ap (λ (t : ReaderState). t.layouts) takes.0
+layouts-stay s new (WarmBoot setting) line takes = ap (λ (t : ReaderState). t.layouts) takes
+layouts-stay s new (FrequencyRange setting) line takes = ap (λ (t : ReaderState). t.layouts) takes
+layouts-stay s new (NoSleep setting) line takes = ap (λ (t : ReaderState). t.layouts) takes
+layouts-stay s new (Tile kind x y) line takes = ap (λ (t : ReaderState). t.layouts) takes.0
+layouts-stay s new (RamData x y) line takes = ap (λ (t : ReaderState). t.layouts) takes.0
+layouts-stay s new (ExtraBit bank x y) line takes = ap (λ (t : ReaderState). t.layouts) takes.0
+layouts-stay s new (Symbol net) line takes = ap (λ (t : ReaderState). t.layouts) takes
+
 -- ---- all of it
 
-pub took-statement : (lines : List (List ℕ)) (n : ℕ) (s new : ReaderState) (statement : Statement) → HasRead lines n s → s.expected ≡ AnyStatement → depth_at lines n ≡ 0 → cause_at lines n ≡ None
-    → begins_with_dot (line_at lines n) ≡ true → statement_in (line_at lines n) ≡ Some statement → statement_refusal s statement ≡ None → TakesStatement (calm s) statement (line_at lines n) new → HasRead lines (n + 1) new
-took-statement lines n s new statement read expected depth fits dot said none takes =
+pub took-statement : (layouts : Layouts) (lines : List (List ℕ)) (n : ℕ) (s new : ReaderState) (statement : Statement) → HasRead layouts lines n s → s.expected ≡ AnyStatement → depth_at lines n ≡ 0 → cause_at layouts lines n ≡ None
+    → begins_with_dot (line_at lines n) ≡ true → statement_in (line_at lines n) ≡ Some statement → statement_refusal s statement ≡ None → TakesStatement (calm s) statement (line_at lines n) new → HasRead layouts lines (n + 1) new
+took-statement layouts lines n s new statement read expected depth fits dot said none takes =
     let here : statement_at lines n ≡ Some statement = at-statement lines n depth ∙ said in
     let over : statement_over lines n ≡ Some statement = over_is lines n s AnyStatement depth ∙ said in
     let next : depth_at lines (n + 1) ≡ depth_after 0 (has_rows (Some statement)) = depth-more lines n ∙ ap (λ d. depth_after d (has_rows (statement_in (line_at lines n)))) depth ∙ ap (λ g. depth_after 0 (has_rows g)) said in
     record {
-      fit = fit-more lines n read.fit fits;
+      devices = read.devices;
+      under = layouts-stay s new statement (line_at lines n) takes ∙ read.under;
+      fit = fit-more layouts lines n read.fit fits;
       stands = stands-after lines n s new statement (line_at lines n) expected none takes next said;
-      given = HasGiven-more lines n s new (Some statement) read.given here (follows s new statement (line_at lines n) none takes);
-      image = image-after lines n s new statement (line_at lines n) read.image none takes depth over;
+      given = HasGiven-more lines n s new (Some statement) read.given here (follows s new statement (line_at lines n) (subst AreLayouts (sym read.under) read.devices) none takes);
+      image = image-after layouts lines n s new statement (line_at lines n) read.devices read.under read.image none takes depth over;
       comment = comment-after lines n s new statement (line_at lines n) read.comment takes dot here said;
     }

@@ -5,6 +5,7 @@ use Rattle.text_lines.specs.Lines.{lines_of, trimmed}
 use Rattle.text_lines.specs.Words.{words_of, pieces_of, from_word, number_of, numbers_of}
 use Rattle.place_search.specs.Places.{any_below, least_below, last_below, first_below}
 use Rattle.hex.specs.Hex.{decode_pairs}
+use Rattle.layout_file.specs.Layouts.{standard_layouts}
 use Rattle.plane_map.specs.Layout.{kind_of}
 use Rattle.plane_map.specs.declared.tile.TileKind.TheVariants.{RamB}
 use Rattle.asc_text.specs.declared.fault.AscCause.{AscCause}
@@ -24,24 +25,24 @@ abbrev tiled : ℕ → ℕ → ℕ → AscCause → Option Fault
 tiled line x y cause = Some (record { line = line; tile = Some (record { x = x; y = y }); cause = cause })
 
 -- an empty text has no device
-fault_of_nothing : asc_fault_of [] ≡ untiled 1 NoDevice
+fault_of_nothing : asc_fault_of standard_layouts [] ≡ untiled 1 NoDevice
 unfolding lines_of trimmed words_of pieces_of from_word number_of numbers_of any_below last_below first_below kind_of statement_in is_row depth_at statement_over statement_at dot_before device_before cause_at asc_fault_of
 fault_of_nothing = refl
 
 -- the device alone is a text
-fault_of_device : asc_fault_of (codes ".comment\nx\n\n.device 8k \n\n") ≡ None
+fault_of_device : asc_fault_of standard_layouts (codes ".comment\nx\n\n.device 8k \n\n") ≡ None
 unfolding lines_of trimmed words_of pieces_of from_word number_of numbers_of any_below last_below first_below kind_of statement_in is_row depth_at statement_over statement_at dot_before device_before cause_at asc_fault_of
 fault_of_device = refl
 
-fault_of_kind : asc_fault_of (codes ".device 1k\n.logic_tile 3 1\n") ≡ tiled 2 3 1 (Kind RamB)
+fault_of_kind : asc_fault_of standard_layouts (codes ".device 1k\n.logic_tile 3 1\n") ≡ tiled 2 3 1 (Kind RamB)
 unfolding lines_of trimmed words_of pieces_of from_word number_of numbers_of any_below last_below first_below kind_of statement_in is_row depth_at statement_over statement_at dot_before device_before cause_at asc_fault_of
 fault_of_kind = refl
 
-fault_of_stray : asc_fault_of (codes ".device 1k\n\n x\n") ≡ untiled 3 StrayData
+fault_of_stray : asc_fault_of standard_layouts (codes ".device 1k\n\n x\n") ≡ untiled 3 StrayData
 unfolding lines_of trimmed words_of pieces_of from_word number_of numbers_of any_below last_below first_below kind_of statement_in is_row depth_at statement_over statement_at dot_before device_before cause_at asc_fault_of
 fault_of_stray = refl
 
-fault_of_row : asc_fault_of (codes ".device 1k\n.io_tile 1 0\n000000000000000000\n") ≡ tiled 4 1 0 Row
+fault_of_row : asc_fault_of standard_layouts (codes ".device 1k\n.io_tile 1 0\n000000000000000000\n") ≡ tiled 4 1 0 Row
 unfolding lines_of trimmed words_of pieces_of from_word number_of numbers_of any_below last_below first_below kind_of statement_in is_row depth_at statement_over statement_at dot_before device_before cause_at asc_fault_of
 fault_of_row = refl
 

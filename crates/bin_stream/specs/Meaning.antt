@@ -72,7 +72,7 @@ abbrev pub planes_of : DeviceName → PlaneKind → List Command → List Rows
 planes_of device kind commands =
     plane_of device kind commands 0 ∷ plane_of device kind commands 1 ∷ plane_of device kind commands 2 ∷ plane_of device kind commands 3 ∷ []
 
--- what a front and the commands for a layout's device configure
+-- what a front and commands configure, under a layout of their device
 unfoldable pub meaning : Layout → List ℕ → List Command → Configuration
 meaning layout front commands = record {
   layout = layout;

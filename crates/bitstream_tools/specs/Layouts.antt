@@ -22,11 +22,11 @@ abbrev pub with_layout : Option Text → List Need → List Need
 with_layout None needs = needs
 with_layout (Some file) needs = record { name = Some file; limit = layout_limit } ∷ needs
 
--- the place of a need among what is loaded, by its place behind the layout file
+-- the index of a load, given its index without the layout file
 abbrev pub behind_layout : Bool → ℕ → ℕ
 behind_layout named place = if named then place + 1 else place
 
--- what is wrong with a line of a layout file
+-- the word for a cause
 abbrev pub layout_cause_text : LayoutCause → List ℕ
 layout_cause_text Statement = codes "Statement"
 layout_cause_text Device = codes "Device"
@@ -41,7 +41,7 @@ abbrev pub layouts_with : Layouts → Option LayoutFault → Result Layouts (Lis
 layouts_with layouts None = Ok layouts
 layouts_with layouts (Some fault) = Err (layout_fault_text fault)
 
--- the layouts that a layout file gives, or what is told of its fault
+-- the layouts that a layout file gives, or the message for its fault
 unfoldable pub layouts_read : List ℕ → Result Layouts (List ℕ)
 layouts_read bytes = layouts_with (layouts_in bytes) (layout_fault_of bytes)
 
@@ -55,7 +55,7 @@ abbrev pub answer_under : Result Layouts (List ℕ) → (Layouts → Answer) →
 answer_under (Ok layouts) answer = answer layouts
 answer_under (Err text) answer = Refuses text
 
--- where no layouts are read, the fault of the file is told
+-- where no layouts are read, the message is that of the file's fault
 abbrev pub StopsLayouts : Result Layouts (List ℕ) → Stop → Type 0
 StopsLayouts read (Refused refusal) = read ≡ Err (refusal_text refusal)
 StopsLayouts read (NotTaken refusal) = ⊥

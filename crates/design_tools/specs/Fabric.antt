@@ -74,8 +74,8 @@ AppendsFor P task contents left held new_held =
     × ((files : FileMap) (input : List ℕ) → Tells (outcome_of task files input) contents left files input
     → IsOkAnd (loaded files input task.needs) (λ texts. P texts bytes))
 
--- bytes spell the fabric of the database and the image that two texts mean, under the layouts of a text before them where a layout
--- file is named
+-- Bytes spell the fabric of a database and an image. The texts are those that were loaded: the layout file where one is `named`, then
+-- the database, then the image, which is read under the layouts.
 pub record WritesFabric (named : Bool) (texts : List (List ℕ)) (bytes : List ℕ) : Type 0 where
   pub layouts : Layouts
   pub db : Database

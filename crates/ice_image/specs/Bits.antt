@@ -1,5 +1,5 @@
 -- The bits of an image: those of its tiles, those of the words of its RAMs, and its extra bits, which are no tile's. An image is
--- known by them, its comment and its settings.
+-- known by them, its layout, its comment and its settings.
 use Rattle.std.specs.Prelude.{◌≡◌, ℕ, Bool, true, false, not, ◌&&◌, List, [], ◌∷◌, map, if◌then◌else◌, Option, Some}
 use Rattle.place_search.specs.Places.{any_below, gathered_below}
 use Rattle.bit_plane.specs.BitList.{word_of}
@@ -77,7 +77,7 @@ pub record OnlyBits (IsChanged : Bit → Type 0) (before after : Configuration) 
   pub whole : IsWhole after
   pub bits : (bit : Bit) → IsBit before.layout bit → ¬ IsChanged bit → bit_of after bit ≡ bit_of before bit
 
--- a bit has that value, and all other bits, the comment and the settings are as before
+-- a bit has that value, and all other bits, the layout, the comment and the settings are as before
 pub record IsSet (bit : Bit) (value : Bool) (before after : Configuration) : Type 0 where
   pub set : bit_of after bit ≡ value
   pub others : OnlyBits (λ other. other ≡ bit) before after

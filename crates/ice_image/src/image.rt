@@ -58,7 +58,7 @@ impl<D: Device> Image<D> {
         requires { layout.device ≡ D.NAME }
         ensures { IfOk result (λ image. image ≡ blank_image layout) }
     {
-        // Says that it is a layout.
+        // Tells the proof that no two bits have one place under it.
         let _device = layout.device();
         Ok(Image {
             layout,
@@ -338,7 +338,7 @@ impl<D: Device> Image<D> {
         requires bytes { 8 * length bytes.now ≡ count * cram_width self.old.layout.device }
         ensures { self.new ≡ with_rows Cram bank first (rows_of (cram_width self.old.layout.device) count (bits_of bytes.now)) self.old }
     {
-        // The device of the layout gives the sizes.
+        // Tells the proof the sizes of the planes.
         let _ = &self.layout;
         let plane = self.cram_mut(bank);
         plane.put_bytes(first, count, bytes);
@@ -351,7 +351,7 @@ impl<D: Device> Image<D> {
         requires bytes { 8 * length bytes.now ≡ count * bram_width self.old.layout.device }
         ensures { self.new ≡ with_rows Bram bank first (rows_of (bram_width self.old.layout.device) count (bits_of bytes.now)) self.old }
     {
-        // The device of the layout gives the sizes.
+        // Tells the proof the sizes of the planes.
         let _ = &self.layout;
         let plane = self.bram_mut(bank);
         plane.put_bytes(first, count, bytes);

@@ -111,13 +111,8 @@ fn is_at(image: &mut AnyImage, bit: TileBit, place: Place) -> bool {
     reaches && !image.tile_bit(bit)
 }
 
-fn lies_at(
-    alloc: Global,
-    device: DeviceName,
-    bit: TileBit,
-    place: Place,
-) -> Result<bool, AllocError> {
-    let mut image = AnyImage::zeroed(alloc, device)?;
+fn lies_at(alloc: Global, layout: Layout, bit: TileBit, place: Place) -> Result<bool, AllocError> {
+    let mut image = AnyImage::zeroed_with(alloc, layout)?;
     Ok(is_at(&mut image, bit, place))
 }
 
@@ -131,7 +126,29 @@ fn bits_of_tiles_lie_at_their_places(rt: HostRuntime) {
         (DeviceName::K8, bit(32, 32, 0, 0), at(3, 71, 31)),
     ] {
         assert!(rt;
-            lies_at(rt.alloc(), device, bit, place) == Ok(true),
+            lies_at(rt.alloc(), Layout::standard(device), bit, place) == Ok(true),
+            "at {bit:?}"
+        );
+    }
+}
+
+/// The standard layout with the banks of the bottom quarters exchanged, and with no mirrored tiles.
+fn exchanged(device: DeviceName) -> Layout {
+    let mut layout = Layout::standard(device);
+    layout.set_banks([2, 1, 0, 3]);
+    layout.set_mirror(false);
+    layout
+}
+
+#[test]
+fn bits_of_tiles_lie_where_the_layout_puts_them(rt: HostRuntime) {
+    for (device, bit, place) in [
+        (DeviceName::K1, bit(1, 1, 0, 0), at(2, 18, 16)),
+        (DeviceName::K1, bit(12, 16, 0, 0), at(3, 18, 31)),
+        (DeviceName::K8, bit(32, 1, 15, 53), at(0, 71, 31)),
+    ] {
+        assert!(rt;
+            lies_at(rt.alloc(), exchanged(device), bit, place) == Ok(true),
             "at {bit:?}"
         );
     }

@@ -1,6 +1,6 @@
 -- Lists over io tiles.
-use Rattle.std.proofs.Common.{◌≡◌, ℕ, List, ap, sym, ◌∙◌}
-use Rattle.std.specs.Prelude.{Option, Some, None}
+use Rattle.std.proofs.Common.{◌≡◌, List, ap, sym, ◌∙◌}
+use Rattle.std.specs.Prelude.{Option, Some}
 use Rattle.std.specs.List.{flat_map}
 use Rattle.place_search.specs.Places.{gathered_below, or_else}
 use Rattle.plane_map.specs.declared.tile.TileKind.TheVariants.{Io}

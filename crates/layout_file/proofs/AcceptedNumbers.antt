@@ -14,7 +14,7 @@ use Rattle.layout_file.specs.declared.fault.LayoutCause.{LayoutCause}
 use Rattle.layout_file.specs.declared.fault.LayoutCause.TheVariants.{Statement, Repeated}
 use Rattle.layout_file.specs.declared.section.Section.{Section as Part}
 use Rattle.layout_file.specs.Faults.{cause_if, count_of, numbers_cause}
-use Rattle.layout_file.specs.Reading.{has_numbers, numbers_refusal}
+use Rattle.layout_file.specs.inside.Reading.{has_numbers, numbers_refusal}
 use Rattle.layout_file.proofs.ReadWidths.{width-within}
 
 -- where there is no cause its test fails

@@ -9,7 +9,7 @@ use Rattle.layout_file.specs.declared.reader.Reader.{Reader}
 use Rattle.layout_file.specs.Lines.{line_of}
 use Rattle.layout_file.specs.Faults.{cause_of, fault_at, fault_with, layout_fault_of, said_at}
 use Rattle.layout_file.specs.Layouts.{layouts_in}
-use Rattle.layout_file.specs.Reading.{layouts_of, refusal, taken}
+use Rattle.layout_file.specs.inside.Reading.{layouts_of, refusal, taken}
 use Rattle.layout_file.proofs.LineSteps.{reader_before, refusal-is}
 use Rattle.layout_file.proofs.FieldSteps.{reader-next}
 

@@ -1,6 +1,6 @@
 -- What the reader keeps behind a line.
 use Rattle.std.proofs.Common.{◌≡◌, ℕ, suc, Bool, true, false, List, refl, ap, ◌∙◌}
-use Rattle.std.specs.Prelude.{Option, Some, None, not, length, ◌==◌}
+use Rattle.std.specs.Prelude.{Option, Some, None, is_some, not, length, ◌==◌}
 use Rattle.place_search.specs.Places.{first_below, last_below, or_else}
 use Rattle.place_search.proofs.Found.{or_else-first, or_else-other}
 use Rattle.plane_map.specs.declared.device.DeviceName.{DeviceName}
@@ -12,8 +12,8 @@ use Rattle.layout_file.specs.declared.field.Flag.{Flag}
 use Rattle.layout_file.specs.declared.field.Flag.TheVariants.{Mirror, Flip, PadMirror, RamFlip}
 use Rattle.layout_file.specs.declared.fault.LayoutCause.TheVariants.{Statement, Repeated}
 use Rattle.layout_file.specs.Lines.{Line, Passed, Section, List_of, Flag_of, Unknown}
-use Rattle.layout_file.specs.Faults.{said_at, is_section, device_in, section_before, is_device, is_numbers, is_flag, numbers_in, flag_in, numbers_given, flag_given, numbers_before, flag_before, has_value, cause_if, cause_of, count_of, numbers_cause, section_cause, list_cause, flag_cause}
-use Rattle.layout_file.specs.Reading.{begun_with, taken, with_flag, with_flag_at, with_list_at, with_numbers}
+use Rattle.layout_file.specs.Faults.{said_at, is_section, device_in, section_before, is_device, is_numbers, is_flag, numbers_in, flag_in, numbers_given, flag_given, numbers_before, flag_before, cause_if, cause_of, count_of, numbers_cause, section_cause, list_cause, flag_cause}
+use Rattle.layout_file.specs.inside.Reading.{begun_with, taken, with_flag, with_flag_at, with_list_at, with_numbers}
 use Rattle.layout_file.proofs.AcceptedNumbers.{no-cause}
 use Rattle.layout_file.proofs.LineSteps.{GivesNothing, begun-kept, current-kept, flag-kept, nothing-elsewhere, nothing-without, numbers-kept, part-begun, part-kept, part_before, reader-of, reader_before}
 
@@ -214,7 +214,7 @@ part-flag lines n device RamFlip value said here none =
 
 -- ---- a line of each kind
 
-no-value : {A : Type 0} (value : Option A) → has_value value ≡ false → value ≡ None
+no-value : {A : Type 0} (value : Option A) → is_some value ≡ false → value ≡ None
 no-value None none = refl
 no-value (Some value) none = absurd cc
 
@@ -261,10 +261,10 @@ not-given : (lines : List (List ℕ)) (n : ℕ) (device : DeviceName) (field : N
     → list_cause lines n (Some device) field numbers ≡ None → numbers_before lines n device field ≡ None
 not-given lines n device field numbers none =
     let first = cause_if (not (length numbers == count_of device field)) Statement in
-    let second = cause_if (has_value (numbers_before lines n device field)) Repeated in
+    let second = cause_if (is_some (numbers_before lines n device field)) Repeated in
     let third = numbers_cause device field numbers in
     no-value (numbers_before lines n device field)
-    (no-cause (has_value (numbers_before lines n device field)) Repeated (or_else-first second third (or_else-other first (or_else second third) none)))
+    (no-cause (is_some (numbers_before lines n device field)) Repeated (or_else-first second third (or_else-other first (or_else second third) none)))
 
 step-list : (lines : List (List ℕ)) (n : ℕ) (device : Option DeviceName) (field : Numbers) (numbers : List ℕ) → said_at lines n ≡ List_of field numbers
     → section_before lines n ≡ device → list_cause lines n device field numbers ≡ None
@@ -288,7 +288,7 @@ step-list lines n (Some K8) field numbers said current none =
 not-given_flag : (lines : List (List ℕ)) (n : ℕ) (device : DeviceName) (field : Flag)
     → flag_cause lines n (Some device) field ≡ None → flag_before lines n device field ≡ None
 not-given_flag lines n device field none =
-    no-value (flag_before lines n device field) (no-cause (has_value (flag_before lines n device field)) Repeated none)
+    no-value (flag_before lines n device field) (no-cause (is_some (flag_before lines n device field)) Repeated none)
 
 step-flag : (lines : List (List ℕ)) (n : ℕ) (device : Option DeviceName) (field : Flag) (value : Bool) → said_at lines n ≡ Flag_of field value
     → section_before lines n ≡ device → flag_cause lines n device field ≡ None

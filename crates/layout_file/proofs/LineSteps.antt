@@ -1,6 +1,6 @@
 -- What the reader keeps is what the lines before the next one give.
 use Rattle.std.proofs.Common.{◌≡◌, ℕ, suc, Bool, true, false, List, refl, ap, ◌∙◌}
-use Rattle.std.specs.Prelude.{Option, Some, None, if◌then◌else◌}
+use Rattle.std.specs.Prelude.{Option, Some, None, is_some, if◌then◌else◌}
 use Rattle.std.proofs.Math.Bool.{or-false, or-true}
 use Rattle.place_search.specs.Places.{any_below, first_below, last_below, or_else}
 use Rattle.place_search.proofs.Places.{or_else-none}
@@ -15,23 +15,23 @@ use Rattle.layout_file.specs.declared.section.Given.{Given}
 use Rattle.layout_file.specs.declared.section.Section.{Section as Part}
 use Rattle.layout_file.specs.declared.reader.Reader.{Reader}
 use Rattle.layout_file.specs.Lines.{Line, Passed, Section, List_of, Flag_of, Unknown}
-use Rattle.layout_file.specs.Faults.{said_at, is_section, device_in, section_before, has_section, is_device, numbers_in, flag_in, numbers_given, flag_given, numbers_before, flag_before, has_value, cause_of, section_cause, list_cause, flag_cause}
+use Rattle.layout_file.specs.Faults.{said_at, is_section, device_in, section_before, has_section, is_device, numbers_in, flag_in, numbers_given, flag_given, numbers_before, flag_before, cause_of, section_cause, list_cause, flag_cause}
 use Rattle.layout_file.specs.Layouts.{layout_before}
-use Rattle.layout_file.specs.Reading.{begin_refusal, flag_refusal_at, has_flag, has_numbers, list_refusal_at, refusal, unread}
+use Rattle.layout_file.specs.inside.Reading.{begin_refusal, flag_refusal_at, has_flag, has_numbers, list_refusal_at, refusal, unread}
 
 -- ---- what is kept before a line
 
 abbrev pub given_before : List (List ℕ) → ℕ → DeviceName → Given
 given_before lines n device = record {
-  widths = has_value (numbers_before lines n device Widths);
-  side_columns = has_value (numbers_before lines n device SideColumns);
-  pad_columns = has_value (numbers_before lines n device PadColumns);
-  pad_rows = has_value (numbers_before lines n device PadRows);
-  banks = has_value (numbers_before lines n device Banks);
-  mirror = has_value (flag_before lines n device Mirror);
-  flip = has_value (flag_before lines n device Flip);
-  pad_mirror = has_value (flag_before lines n device PadMirror);
-  ram_flip = has_value (flag_before lines n device RamFlip);
+  widths = is_some (numbers_before lines n device Widths);
+  side_columns = is_some (numbers_before lines n device SideColumns);
+  pad_columns = is_some (numbers_before lines n device PadColumns);
+  pad_rows = is_some (numbers_before lines n device PadRows);
+  banks = is_some (numbers_before lines n device Banks);
+  mirror = is_some (flag_before lines n device Mirror);
+  flip = is_some (flag_before lines n device Flip);
+  pad_mirror = is_some (flag_before lines n device PadMirror);
+  ram_flip = is_some (flag_before lines n device RamFlip);
 }
 
 abbrev pub part_before : List (List ℕ) → ℕ → DeviceName → Part
@@ -48,7 +48,7 @@ reader-first lines = refl
 -- ---- a refusal is the cause of the line
 
 numbers-known : (lines : List (List ℕ)) (n : ℕ) (device : DeviceName) (field : Numbers)
-    → has_numbers (given_before lines n device) field ≡ has_value (numbers_before lines n device field)
+    → has_numbers (given_before lines n device) field ≡ is_some (numbers_before lines n device field)
 numbers-known lines n device Widths = refl
 numbers-known lines n device SideColumns = refl
 numbers-known lines n device PadColumns = refl
@@ -56,7 +56,7 @@ numbers-known lines n device PadRows = refl
 numbers-known lines n device Banks = refl
 
 flag-known : (lines : List (List ℕ)) (n : ℕ) (device : DeviceName) (field : Flag)
-    → has_flag (given_before lines n device) field ≡ has_value (flag_before lines n device field)
+    → has_flag (given_before lines n device) field ≡ is_some (flag_before lines n device field)
 flag-known lines n device Mirror = refl
 flag-known lines n device Flip = refl
 flag-known lines n device PadMirror = refl

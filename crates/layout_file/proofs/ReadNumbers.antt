@@ -4,7 +4,7 @@ use Rattle.std.specs.Prelude.{Option, Some, None, nat_le}
 use Rattle.std.proofs.lemmas.Bool.{leb-true, lt-ltb}
 use Rattle.text_lines.specs.declared.words.Separators.TheVariants.{Spaces}
 use Rattle.text_lines.specs.Words.{numbers_of, number_of, words_of, with_number}
-use Rattle.layout_file.specs.Reading.{is_long}
+use Rattle.layout_file.specs.inside.Reading.{is_long}
 
 -- first numbers, and those that come behind them, where each is one
 abbrev pub after : List ℕ → Option (List ℕ) → Option (List ℕ)

@@ -11,7 +11,7 @@ use Rattle.layout_file.specs.declared.section.Section.{Section as Part}
 use Rattle.layout_file.specs.declared.reader.Reader.{Reader}
 use Rattle.layout_file.specs.Lines.{Line, Passed, Section, List_of, Flag_of, Unknown}
 use Rattle.layout_file.specs.Faults.{count_of}
-use Rattle.layout_file.specs.Reading.{is_none, list_refusal_at, numbers_refusal, refusal}
+use Rattle.layout_file.specs.inside.Reading.{is_refused_always, list_refusal_at, numbers_refusal, refusal}
 
 -- no field has more than 18 numbers
 few : (device : DeviceName) (field : Numbers) → count_of device field ≤ 18
@@ -35,7 +35,7 @@ too-many-at reader (Some K1) field numbers many = too-many reader.k1 field numbe
 too-many-at reader (Some K8) field numbers many = too-many reader.k8 field numbers many
 
 -- each reader refuses them
-pub refused-as-none : (reader : Reader) (line : Line) → is_none line ≡ true → refusal reader line ≡ Some Statement
+pub refused-as-none : (reader : Reader) (line : Line) → is_refused_always line ≡ true → refusal reader line ≡ Some Statement
 refused-as-none reader Passed none = absurd cc
 refused-as-none reader (Section word) none = absurd cc
 refused-as-none reader (List_of field numbers) none = too-many-at reader reader.current field numbers none

@@ -1,5 +1,5 @@
 -- Which lines of a layout file are faulty. Indexes of lines count from 0.
-use Rattle.std.specs.Prelude.{ℕ, ◌+◌, Bool, true, false, not, List, length, ◌==◌, if◌then◌else◌, Option, Some, None}
+use Rattle.std.specs.Prelude.{ℕ, ◌+◌, Bool, true, false, not, List, length, is_some, ◌==◌, if◌then◌else◌, Option, Some, None}
 use Rattle.text_lines.specs.Lines.{lines_of, line_at}
 use Rattle.place_search.specs.Places.{any_below, last_below, first_below, or_else}
 use Rattle.plane_map.specs.declared.device.DeviceName.{DeviceName}
@@ -21,6 +21,7 @@ said_at lines n = line_of (line_at lines n)
 
 -- ---- sections
 
+-- whether a line begins a section
 abbrev pub is_section : Line → Bool
 is_section (Section word) = true
 is_section line = false
@@ -30,11 +31,12 @@ abbrev pub device_in : Line → Option DeviceName
 device_in (Section word) = device_named word
 device_in line = None
 
+-- the same of the line of an index, where there is one
 abbrev pub device_at : List (List ℕ) → Option ℕ → Option DeviceName
 device_at lines None = None
 device_at lines (Some k) = device_in (said_at lines k)
 
--- the device of the section in which a line stands: that of the last `.layout` before the line
+-- the device of the section in which a line stands: that of the last `.layout` before the line, and none before the first
 unfoldable pub section_before : List (List ℕ) → ℕ → Option DeviceName
 section_before lines n = device_at lines (last_below n (λ k. is_section (said_at lines k)))
 
@@ -105,11 +107,7 @@ abbrev pub cause_if : Bool → LayoutCause → Option LayoutCause
 cause_if true cause = Some cause
 cause_if false cause = None
 
-abbrev pub has_value : {A : Type 0} → Option A → Bool
-has_value None = false
-has_value (Some value) = true
-
--- numbers under which two bits would have one place, or for which there is no room
+-- numbers that the field can't have
 abbrev pub numbers_cause : DeviceName → Numbers → List ℕ → Option LayoutCause
 numbers_cause device Widths numbers = cause_if (not (are_widths device numbers)) Width
 numbers_cause device SideColumns numbers = cause_if (not (are_places 18 18 numbers)) Place
@@ -117,19 +115,22 @@ numbers_cause device PadColumns numbers = cause_if (not (are_places 18 42 number
 numbers_cause device PadRows numbers = cause_if (not (are_places 16 16 numbers)) Place
 numbers_cause device Banks numbers = cause_if (not (are_places 4 4 numbers)) Place
 
+-- why the beginning of a section is faulty: an unknown device, or one that has a section
 abbrev pub section_cause : List (List ℕ) → ℕ → Option DeviceName → Option LayoutCause
 section_cause lines n None = Some Device
 section_cause lines n (Some device) = cause_if (has_section lines n device) Repeated
 
+-- why a field of numbers is faulty in a section
 abbrev pub list_cause : List (List ℕ) → ℕ → Option DeviceName → Numbers → List ℕ → Option LayoutCause
 list_cause lines n None field numbers = Some Statement
 list_cause lines n (Some device) field numbers =
     or_else (cause_if (not (length numbers == count_of device field)) Statement)
-    (or_else (cause_if (has_value (numbers_before lines n device field)) Repeated) (numbers_cause device field numbers))
+    (or_else (cause_if (is_some (numbers_before lines n device field)) Repeated) (numbers_cause device field numbers))
 
+-- why a field of `yes` or `no` is faulty in a section
 abbrev pub flag_cause : List (List ℕ) → ℕ → Option DeviceName → Flag → Option LayoutCause
 flag_cause lines n None field = Some Statement
-flag_cause lines n (Some device) field = cause_if (has_value (flag_before lines n device field)) Repeated
+flag_cause lines n (Some device) field = cause_if (is_some (flag_before lines n device field)) Repeated
 
 -- the least cause for which a line is faulty
 abbrev pub cause_of : List (List ℕ) → ℕ → Line → Option LayoutCause
@@ -139,10 +140,12 @@ cause_of lines n (List_of field numbers) = list_cause lines n (section_before li
 cause_of lines n (Flag_of field value) = flag_cause lines n (section_before lines n) field
 cause_of lines n Unknown = Some Statement
 
+-- a line by its number, and what is wrong with it
 abbrev pub fault_with : ℕ → Option LayoutCause → Option LayoutFault
 fault_with line None = None
 fault_with line (Some cause) = Some (record { line = line; cause = cause })
 
+-- what is wrong with the line of an index
 abbrev pub fault_at : List (List ℕ) → ℕ → Option LayoutFault
 fault_at lines n = fault_with (n + 1) (cause_of lines n (said_at lines n))
 

@@ -19,7 +19,7 @@ abbrev pub layout_for : Layouts → DeviceName → Layout
 layout_for layouts K1 = layouts.k1
 layout_for layouts K8 = layouts.k8
 
--- a layout is the one of its device
+-- the layouts give this layout for its device
 abbrev pub HasLayout : Layouts → Layout → Type 0
 HasLayout layouts layout = layout_for layouts layout.device ≡ layout
 

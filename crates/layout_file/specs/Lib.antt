@@ -1,4 +1,4 @@
 pub mod Faults
 pub mod Layouts
 pub mod Lines
-pub mod Reading
+pub mod inside

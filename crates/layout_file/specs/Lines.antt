@@ -1,4 +1,4 @@
--- What a line of a layout file says.
+-- What a line of a layout file says. The form of these files is this project's own.
 use Rattle.std.specs.Prelude.{ℕ, Bool, true, false, List, [], ◌∷◌, codes, bytes_eq, ◌==◌, if◌then◌else◌, Option, Some, None}
 use Rattle.text_lines.specs.Lines.{is_blank, trimmed}
 use Rattle.text_lines.specs.Words.{words_of, numbers_of}
@@ -9,7 +9,7 @@ use Rattle.layout_file.specs.declared.field.Flag.{Flag}
 use Rattle.layout_file.specs.declared.field.Flag.TheVariants.{Mirror, Flip, PadMirror, RamFlip}
 
 -- What a line is: one that is passed over, the beginning of a section with the word for its device, a field with its numbers,
--- a field with `yes` or `no`, or none of a layout file.
+-- a field with `yes` or `no`, or anything else.
 pub data Line : Type 0 where
   Passed : Line
   Section : (word : List ℕ) → Line
@@ -43,18 +43,22 @@ answer_of word =
     else if bytes_eq word (codes "no") then Some false
     else None
 
+-- a field with numbers, where each word behind its name is one
 abbrev pub list_line : Numbers → Option (List ℕ) → Line
 list_line field None = Unknown
 list_line field (Some numbers) = List_of field numbers
 
+-- a field with `yes` or `no`, where the word behind its name is one of them
 abbrev pub flag_line : Flag → Option Bool → Line
 flag_line field None = Unknown
 flag_line field (Some value) = Flag_of field value
 
+-- the same by the words behind its name, of which there has to be one
 abbrev pub flag_line_of : Flag → List (List ℕ) → Line
 flag_line_of field (word ∷ []) = flag_line field (answer_of word)
 flag_line_of field words = Unknown
 
+-- the beginning of a section by the words behind `.layout`, of which there has to be one
 abbrev pub section_of : List (List ℕ) → Line
 section_of (word ∷ []) = Section word
 section_of words = Unknown
@@ -65,6 +69,7 @@ field_of (Some field) flag words = list_line field (numbers_of words)
 field_of None (Some field) words = flag_line_of field words
 field_of None None words = Unknown
 
+-- a line by its words
 abbrev pub line_of_words : List (List ℕ) → Line
 line_of_words [] = Passed
 line_of_words (word ∷ words) =

@@ -3,7 +3,8 @@
 /// Why a line of a layout file is refused. Of several causes the first in this list is told.
 #[derive(Clone, Copy, Debug, PartialEq, Eq)]
 pub enum LayoutCause {
-    /// The line is none of a layout file, it has another number of words, or it stands before the first `.layout`.
+    /// It isn't a line of a layout file: another word at its beginning, another number of words, a word that isn't a decimal
+    /// number, or another word than `yes` or `no`. Or it stands before the first `.layout`.
     Statement = 1,
     /// A section of a device that isn't `1k` or `8k`.
     Device = 2,
@@ -11,7 +12,7 @@ pub enum LayoutCause {
     Repeated = 3,
     /// A column of tiles is too narrow, or a plane has no room for all of them.
     Width = 4,
-    /// Two bits would have one place, or a place is outside.
+    /// `sidecols`, `iorows` or `banks` isn't a permutation, or `iocols` has a number twice or one above 41.
     Place = 5,
 }
 

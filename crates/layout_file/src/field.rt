@@ -7,13 +7,14 @@ ghost use Rattle.layout_file.specs.Lines.{flag_named, numbers_named};
 pub enum Numbers {
     /// `widths`: how many columns of bits each column of tiles takes, from the side edge inwards.
     Widths,
-    /// `sidecols`: the column of bits of each column of an io tile of the left or the right edge.
+    /// `sidecols`: the column of bits of each column of an io tile of the left or the right edge, counted from that edge.
     SideColumns,
-    /// `iocols`: the column of bits of each column of an io tile of the bottom or the top row.
+    /// `iocols`: the column of bits of each column of an io tile of the bottom or the top row, from the start of its column of
+    /// tiles.
     PadColumns,
-    /// `iorows`: the row of bits of each row of an io tile of the bottom or the top row.
+    /// `iorows`: the row of bits of each row of an io tile of the bottom or the top row, from the inner end.
     PadRows,
-    /// `banks`: the bank of each quarter of the grid.
+    /// `banks`: the bank of each quarter of the grid: left bottom, left top, right bottom, right top.
     Banks,
 }
 
@@ -41,12 +42,12 @@ impl Numbers {
 /// A field that is `yes` or `no`.
 #[derive(Clone, Copy, Debug, PartialEq, Eq)]
 pub enum Flag {
-    /// `mirror`: whether the columns of inner tiles run towards the side edge in the right half.
+    /// `mirror`: whether the columns of tiles that are no io tiles are counted towards the side edge in the right half.
     Mirror,
-    /// `flip`: whether the rows of tiles run towards the end edge in the top half.
+    /// `flip`: whether row 0 of a tile is its innermost row of bits in the top half, except in the top row.
     Flip,
-    /// `padmirror`: whether the columns of io tiles of the bottom and the top row run towards the side edge in the right
-    /// half.
+    /// `padmirror`: whether the columns of io tiles of the bottom and the top row are counted towards the side edge in the
+    /// right half.
     PadMirror,
     /// `ramflip`: whether the RAMs of the top half are counted from the top.
     RamFlip,

@@ -62,7 +62,7 @@ impl Layouts {
 
 ghost use Rattle.layout_file.specs.Lines.{line_of};
 ghost use Rattle.layout_file.specs.Faults.{fault_with};
-ghost use Rattle.layout_file.specs.Reading.{refusal, taken};
+ghost use Rattle.layout_file.specs.inside.Reading.{refusal, taken};
 ghost use Rattle.std.specs.Prelude.{OnOk};
 
 /// Takes the next line, which has that number.

@@ -3,7 +3,7 @@ ghost use Rattle.std.specs.Prelude.{◌≡◌, ◌∷◌, true, MatchOption};
 ghost use Rattle.text_lines.specs.declared.words.Separators.TheVariants.{Spaces};
 ghost use Rattle.text_lines.specs.Words.{numbers_of, words_of};
 ghost use Rattle.layout_file.specs.Lines.{answer_of, flag_line_of, is_remark, line_of, line_of_words, list_line, section_of, without_blanks};
-ghost use Rattle.layout_file.specs.Reading.{Says, is_long};
+ghost use Rattle.layout_file.specs.inside.Reading.{Says, is_long};
 
 use crate::field::{Flag, Numbers};
 use crate::number_list::NumberList;

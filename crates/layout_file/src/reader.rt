@@ -1,7 +1,7 @@
 // A layout file read line by line.
 ghost use Rattle.std.specs.Prelude.{◌≡◌, None, Some, IfOk, IfErr, OnOk};
 ghost use Rattle.layout_file.specs.Lines.{line_of};
-ghost use Rattle.layout_file.specs.Reading.{begin_refusal, begun_with, flag_refusal_in, layouts_of, list_refusal, refusal, taken, unread, with_flag_in, with_list};
+ghost use Rattle.layout_file.specs.inside.Reading.{begin_refusal, begun_with, flag_refusal_in, layouts_of, list_refusal, refusal, taken, unread, with_flag_in, with_list};
 
 use crate::fault::LayoutCause;
 use crate::field::{Flag, Numbers};

@@ -1,7 +1,7 @@
 // A section of a layout file.
 ghost use Rattle.std.specs.Prelude.{◌≡◌, true, None, Some, IfOk, IfErr, OnOk};
 ghost use Rattle.layout_file.specs.Faults.{cause_if};
-ghost use Rattle.layout_file.specs.Reading.{has_flag, has_numbers, numbers_refusal, flag_refusal, unread_section, with_flag, with_numbers};
+ghost use Rattle.layout_file.specs.inside.Reading.{has_flag, has_numbers, numbers_refusal, flag_refusal, unread_section, with_flag, with_numbers};
 
 use crate::conditions::{count_of, numbers_cause};
 use crate::fault::LayoutCause;

@@ -1,6 +1,7 @@
 -- Which tiles a device has, and where a layout puts each of their bits in the device's planes: closed formulas over the
--- grid. The grid is counted from its left bottom corner. A formula needs only how far a column of tiles is from its side
--- edge, and a row of tiles from its end edge.
+-- grid. The standard layouts are this project's own tables; other layouts come from layout files. The grid is counted from
+-- its left bottom corner. The side edges are its left and its right edge, the end edges its bottom and its top row. A formula
+-- needs only how far a column of tiles is from its side edge, and a row of tiles from its end edge.
 use Rattle.std.specs.Prelude.{◌≡◌, ◌≢◌, ℕ, zero, suc, ◌+◌, ◌-◌, ◌*◌, ◌/◌, ◌%◌, ◌<◌, Bool, true, false, ◌&&◌, ◌||◌, List, [], ◌∷◌, slice_index, nat_lt, nat_le, not, ◌==◌, if◌then◌else◌, Option, Some, None, length}
 use Rattle.plane_map.specs.declared.device.DeviceName.{DeviceName}
 use Rattle.plane_map.specs.declared.device.DeviceName.TheVariants.{K1, K8}
@@ -35,11 +36,11 @@ last_x device = grid_width device - 1
 abbrev pub last_y : DeviceName → ℕ
 last_y device = grid_height device - 1
 
--- the left or the right edge
+-- whether a column of tiles is the left or the right edge
 abbrev pub is_side : DeviceName → ℕ → Bool
 is_side device x = (x == 0) || (x == last_x device)
 
--- the bottom or the top edge
+-- whether a row of tiles is the bottom or the top edge
 abbrev pub is_end : DeviceName → ℕ → Bool
 is_end device y = (y == 0) || (y == last_y device)
 
@@ -119,24 +120,24 @@ pub record Layout : Type 0 where
   pub device : DeviceName
   -- how many columns of bits each column of tiles takes, from the side edge inwards
   pub widths : List ℕ
-  -- the column of bits of each column of an io tile of the left or the right edge
+  -- the column of bits of each column of an io tile of the left or the right edge, counted from that edge
   pub side_columns : List ℕ
-  -- the column of bits of each column of an io tile of the bottom or the top row
+  -- the column of bits of each column of an io tile of the bottom or the top row, from the start of its column of tiles
   pub pad_columns : List ℕ
   -- the row of bits of each row of an io tile of the bottom or the top row, from the inner end
   pub pad_rows : List ℕ
   -- the bank of each quarter: left bottom, left top, right bottom, right top
   pub banks : List ℕ
-  -- whether the columns of inner tiles run towards the side edge in the right half
+  -- whether the columns of tiles that are no io tiles are counted towards the side edge in the right half
   pub mirror : Bool
-  -- whether the rows of tiles run towards the end edge in the top half
+  -- whether row 0 of a tile is its innermost row of bits in the top half, except in the top row
   pub flip : Bool
-  -- whether the columns of io tiles of the bottom and the top row run towards the side edge in the right half
+  -- whether the columns of io tiles of the bottom and the top row are counted towards the side edge in the right half
   pub pad_mirror : Bool
   -- whether the RAMs of the top half are counted from the top
   pub ram_flip : Bool
 
--- how many columns of tiles a half of the columns has
+-- how many columns of tiles each half of the grid has
 abbrev pub half_width : DeviceName → ℕ
 half_width device = grid_width device / 2
 
@@ -175,11 +176,11 @@ abbrev pub are_below : ℕ → List ℕ → Bool
 are_below n [] = true
 are_below n (x ∷ xs) = nat_lt x n && are_below n xs
 
--- whether a list has so many different entries, each below a bound
+-- whether a list has so many different entries, each below a bound: a permutation where both numbers are the same
 abbrev pub are_places : ℕ → ℕ → List ℕ → Bool
 are_places count bound entries = (length entries == count) && are_distinct entries && are_below bound entries
 
--- A layout under which no two bits have one place: its lists have the lengths and the numbers that they need.
+-- What a layout has to fulfil, so that no two bits have one place: its lists have the lengths and the numbers that they need.
 pub record IsLayout (layout : Layout) : Type 0 where
   pub widths : are_widths layout.device layout.widths ≡ true
   pub side_columns : are_places 18 18 layout.side_columns ≡ true
@@ -227,11 +228,11 @@ standard_layout device = record {
 
 -- ---- the places
 
--- the right half of the columns
+-- whether a column of tiles is in the right half
 abbrev pub is_right : DeviceName → ℕ → Bool
 is_right device x = nat_lt (last_x device) (2 * x)
 
--- the top half of the rows
+-- whether a row of tiles is in the top half
 abbrev pub is_top : DeviceName → ℕ → Bool
 is_top device y = nat_lt (last_y device) (2 * y)
 
@@ -259,15 +260,16 @@ width_of layout u = slice_index layout.widths u
 abbrev pub start_of : Layout → ℕ → ℕ
 start_of layout u = start_in layout.widths u
 
--- Which column of bits of its column of tiles a bit takes, counted from the side edge, or towards it where the tile is
--- mirrored: an io tile has a list of them, and any other tile has them in order.
+-- Which column of bits of its column of tiles a bit takes, counted from the side edge, or from the inner end where the tile
+-- is mirrored: an io tile has a list of them, and any other tile has them in order.
 abbrev pub column_of : Layout → TileBit → ℕ
 column_of layout bit =
     if is_side layout.device bit.x then slice_index layout.side_columns bit.col
     else if is_end layout.device bit.y then slice_index layout.pad_columns bit.col
     else bit.col
 
--- whether the columns of a tile run towards the side edge: those of the right half may, except in the edge itself
+-- whether the columns of bits of a tile are counted from the inner end of its column of tiles, and not from the side edge:
+-- those of the right half may be, except in the edge itself
 abbrev pub is_mirrored : Layout → ℕ → ℕ → Bool
 is_mirrored layout x y =
     is_right layout.device x && not (is_side layout.device x) && (if is_end layout.device y then layout.pad_mirror else layout.mirror)
@@ -279,8 +281,8 @@ px_of layout bit =
     let column = column_of layout bit in
     if is_mirrored layout bit.x bit.y then start_of layout u + width_of layout u - 1 - column else start_of layout u + column
 
--- The row of bits of a bit. Rows run from the end edge inwards, and towards it in the top half of a layout that flips it.
--- An io tile of the bottom or the top row has a list of its rows.
+-- The row of bits of a bit. Rows are counted from the end edge inwards, and towards it in the top half of a layout that flips
+-- it. An io tile of the bottom or the top row has a list of its rows, from the inner end.
 abbrev pub py_of : Layout → TileBit → ℕ
 py_of layout bit =
     let start = 16 * from_end layout.device bit.y in
@@ -296,8 +298,8 @@ place_of layout bit = record { bank = bank_of layout bit.x bit.y; px = px_of lay
 -- the lowest of that half.
 abbrev pub ram_of : Layout → ℕ → ℕ
 ram_of layout y =
-    let top = last_y layout.device in
-    if is_top layout.device y then (if layout.ram_flip then (top - 2 - y) / 2 else (y - (top + 1) / 2) / 2) else (y - 1) / 2
+    let last = last_y layout.device in
+    if is_top layout.device y then (if layout.ram_flip then (last - 2 - y) / 2 else (y - (last + 1) / 2) / 2) else (y - 1) / 2
 
 -- where a bit of a word of a RAM lies: a word is a row, its highest bit first
 unfoldable pub word_place_of : Layout → WordBit → Place

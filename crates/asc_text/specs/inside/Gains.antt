@@ -6,11 +6,11 @@ use Rattle.ice_image.specs.Bits.{Bit, OfTile, OfWord, IsBit, bit_of}
 use Rattle.ice_image.specs.Configuration.{Configuration, IsWhole}
 use Rattle.asc_text.specs.Rows.{row_bit}
 
--- the image is for the same device, and the bits are 1 that were 1 before and those that the test tells
+-- the image has the same layout, and the bits are 1 that were 1 before and those that the test tells
 pub record Gains (is_set : Bit → Bool) (before after : Configuration) : Type 0 where
-  pub device : after.device ≡ before.device
+  pub layout : after.layout ≡ before.layout
   pub whole : IsWhole after
-  pub bits : (bit : Bit) → IsBit before.device bit → bit_of after bit ≡ (bit_of before bit || is_set bit)
+  pub bits : (bit : Bit) → IsBit before.layout bit → bit_of after bit ≡ (bit_of before bit || is_set bit)
 
 -- whether a bit is that one
 abbrev pub is_tile_bit : TileBit → Bit → Bool

@@ -8,7 +8,9 @@ use Rattle.plane_map.specs.Layout.{kind_of, columns_of}
 use Rattle.plane_map.specs.declared.device.DeviceName.{DeviceName}
 use Rattle.plane_map.specs.declared.tile.TileKind.{TileKind}
 use Rattle.plane_map.specs.declared.tile.TileKind.TheVariants.{RamB}
-use Rattle.ice_image.specs.Configuration.{blank_image}
+use Rattle.layout_file.specs.declared.layouts.Layouts.{Layouts}
+use Rattle.layout_file.specs.Layouts.{layout_for}
+use Rattle.ice_image.specs.Configuration.{blank_image, IsWhole}
 use Rattle.ice_image.specs.Either.{configuration_of, device_of}
 use Rattle.ice_image.specs.declared.any.AnyImage.{AnyImage}
 use Rattle.ice_image.specs.declared.settings.Settings.{Settings}
@@ -39,6 +41,7 @@ use Rattle.ice_image.specs.Bits.{Bit}
 -- ---- what is kept
 
 pub record ReaderState : Type 0 where
+  pub layouts : Layouts
   pub warm_boot : Option Bool
   pub range : Option Range
   pub no_sleep : Option Bool
@@ -52,6 +55,7 @@ pub record ReaderState : Type 0 where
 
 abbrev pub state_of : Reader → ReaderState
 state_of reader = record {
+  layouts = reader.layouts;
   warm_boot = reader.warm_boot;
   range = reader.range;
   no_sleep = reader.no_sleep;
@@ -65,8 +69,9 @@ state_of reader = record {
 }
 
 -- what is kept before the first line
-abbrev pub begun : ReaderState
-begun = record {
+abbrev pub begun : Layouts → ReaderState
+begun layouts = record {
+  layouts = layouts;
   warm_boot = None;
   range = None;
   no_sleep = None;
@@ -114,7 +119,7 @@ tile_refusal (Some image) kind x y = kind_cause (kind_of (device_of image) x y) 
 -- what is wrong with the place of an extra bit
 abbrev pub extra_refusal : Option AnyImage → ℕ → ℕ → ℕ → Option AscCause
 extra_refusal None bank x y = Some NoDevice
-extra_refusal (Some image) bank x y = cause_if (not (is_extra (device_of image) (record { bank = bank; px = x; py = y }))) ExtraPlace
+extra_refusal (Some image) bank x y = cause_if (not (is_extra (configuration_of image).layout (record { bank = bank; px = x; py = y }))) ExtraPlace
 
 -- what is wrong with a statement
 abbrev pub statement_refusal : ReaderState → Statement → Option AscCause
@@ -176,11 +181,11 @@ ImageGains (Some before) (Some after) is_set = GainsBits before after is_set
 ImageGains (Some before) None is_set = ⊥
 ImageGains None after is_set = ⊥
 
--- an image of a device with all bits 0
-abbrev pub IsBlank : Option DeviceName → Option AnyImage → Type 0
-IsBlank (Some device) (Some image) = (device_of image ≡ device) × (configuration_of image ≡ blank_image device)
-IsBlank (Some device) None = ⊥
-IsBlank None image = ⊥
+-- an image with all bits 0, under the layout of a device
+abbrev pub IsBlank : Layouts → Option DeviceName → Option AnyImage → Type 0
+IsBlank layouts (Some device) (Some image) = (configuration_of image ≡ blank_image (layout_for layouts device)) × IsWhole (configuration_of image)
+IsBlank layouts (Some device) None = ⊥
+IsBlank layouts None image = ⊥
 
 -- the tiles with one more
 abbrev pub HasInserted : ℕ → ℕ → List Bool → List Bool → Type 0
@@ -205,7 +210,7 @@ after_memory x y row = if row == 15 then AnyStatement else Memory x y (row + 1)
 -- what a statement changes
 abbrev pub TakesStatement : ReaderState → Statement → List ℕ → ReaderState → Type 0
 TakesStatement s Comment line new = new ≡ record s { comment = Some []; in_comment = true }
-TakesStatement s (Device device) line new = (new ≡ record s { image = new.image }) × IsBlank device new.image
+TakesStatement s (Device device) line new = (new ≡ record s { image = new.image }) × IsBlank s.layouts device new.image
 TakesStatement s (WarmBoot setting) line new = new ≡ record s { warm_boot = setting }
 TakesStatement s (FrequencyRange setting) line new = new ≡ record s { range = setting }
 TakesStatement s (NoSleep setting) line new = new ≡ record s { no_sleep = setting }

@@ -46,7 +46,7 @@ fn set_where(image: &mut AnyImage, at: TileBit, is_asked: bool)
 
 /// Sets an extra bit.
 pub(crate) fn set_extra_bit(image: &mut AnyImage, at: Place)
-    requires { is_extra (device_of image.old) at ≡ true }
+    requires { is_extra (configuration_of image.old).layout at ≡ true }
     ensures device { device_of image.new ≡ device_of image.old }
     ensures bits { Gains (extra_sets at) (configuration_of image.old) (configuration_of image.new) }
 {

@@ -14,6 +14,7 @@ use crate::reading::spelling::{begins_with_dot, statement_in};
 use crate::reading::tile_set::TileSet;
 use crate::statement::Statement;
 use ice_image::{AnyImage, Comment, Range, Settings};
+use layout_file::Layouts;
 use plane_map::TileKind;
 use std::alloc::{AllocError, Global};
 use text_lines::trimmed;
@@ -101,6 +102,7 @@ impl Refusal {
 #[derive(Drop)]
 pub(crate) struct Reader {
     alloc: Global,
+    layouts: Layouts,
     warm_boot: Option<bool>,
     range: Option<Range>,
     no_sleep: Option<bool>,
@@ -119,11 +121,12 @@ impl Reader {
     ghost use Rattle.asc_text.specs.Statements.{statement_in};
 
     /// Nothing was read.
-    pub(crate) fn new(alloc: Global) -> Result<Reader, AllocError>
-        ensures { IfOk result (λ reader. state_of reader ≡ begun) }
+    pub(crate) fn new(alloc: Global, layouts: Layouts) -> Result<Reader, AllocError>
+        ensures { IfOk result (λ reader. state_of reader ≡ begun layouts) }
     {
         Ok(Reader {
             alloc,
+            layouts,
             warm_boot: None,
             range: None,
             no_sleep: None,
@@ -220,6 +223,7 @@ impl Reader {
         let settings = self.settings();
         let Reader {
             alloc: _,
+            layouts: _,
             warm_boot: _,
             range: _,
             no_sleep: _,

@@ -3,6 +3,7 @@
 use super::{BIT, EXTRA, is_in_cram, is_lower_ram, is_tile_bit};
 use crate::*;
 use ice_image::{AnyImage, Range, Settings};
+use layout_file::{LayoutFault, Layouts};
 use plane_map::{DeviceName, TileKind};
 use std::alloc::{AllocError, Global};
 use std::test::Fail;
@@ -332,6 +333,33 @@ fn is_read(alloc: Global) -> bool {
 #[test]
 fn reads_what_a_text_says(rt: HostRuntime) {
     assert!(rt; is_read(rt.alloc()));
+}
+
+/// A layout file that gives the outer columns of the 1k device's tiles two columns of bits more.
+const WIDER: &[u8] = b".layout 1k\nwidths 20 54 54 42 54 54 54\n";
+
+/// The fault that a text is told to have under that layout, and none where it is read.
+fn fault_under_wider(alloc: Global, text: &str) -> Result<Option<AscFault>, LayoutFault> {
+    match Layouts::read(WIDER) {
+        Ok(layouts) => match read_with(alloc, text.as_bytes(), layouts) {
+            Ok(_) => Ok(None),
+            Err(fault) => Ok(Some(fault)),
+        },
+        Err(fault) => Err(fault),
+    }
+}
+
+#[test]
+fn takes_the_extra_bits_of_the_layout(rt: HostRuntime) {
+    let told = AscFault::At {
+        line: 2,
+        tile: None,
+        cause: AscCause::ExtraPlace,
+    };
+    let between = ".device 1k\n.extra_bit 0 18 16\n";
+    let behind = ".device 1k\n.extra_bit 0 330 143\n";
+    assert!(rt; fault_under_wider(rt.alloc(), between) == Ok(None));
+    assert!(rt; fault_under_wider(rt.alloc(), behind) == Ok(Some(told)));
 }
 
 #[test]

@@ -18,7 +18,6 @@ use std::alloc::AllocError;
 /// Appends all tiles, row of the grid by row of the grid.
 #[tactic(auto, using(crate::proofs::Pieces::joined), unfolding(place_search::specs::Places::gathered_below))]
 pub(crate) fn append_tiles(text: &mut Vec<u8>, image: &AnyImage) -> Result<(), AllocError>
-    requires { (configuration_of image.now).layout.device ≡ device_of image.now }
     ensures { OnOk result (text.new.items ≡ text.old.items ++ text_of (all_tile_lines (configuration_of image.now))) }
 {
     for y in 0..image.device().rows() {
@@ -30,7 +29,6 @@ pub(crate) fn append_tiles(text: &mut Vec<u8>, image: &AnyImage) -> Result<(), A
 /// Appends the tiles of a row of the grid.
 #[tactic(auto, using(crate::proofs::Pieces::joined), unfolding(place_search::specs::Places::gathered_below))]
 fn append_grid_row(text: &mut Vec<u8>, image: &AnyImage, y: u8) -> Result<(), AllocError>
-    requires { (configuration_of image.now).layout.device ≡ device_of image.now }
     ensures { OnOk result (text.new.items ≡ text.old.items ++ text_of (gathered_below (grid_width (configuration_of image.now).layout.device) (λ x. lines_of_tile_at (configuration_of image.now) x y (kind_of (configuration_of image.now).layout.device x y)))) }
 {
     for x in 0..image.device().columns() {
@@ -41,7 +39,6 @@ fn append_grid_row(text: &mut Vec<u8>, image: &AnyImage, y: u8) -> Result<(), Al
 
 /// Appends the tile at a place of the grid, and behind a lower tile its RAM's contents.
 fn append_place(text: &mut Vec<u8>, image: &AnyImage, x: u8, y: u8) -> Result<(), AllocError>
-    requires { (configuration_of image.now).layout.device ≡ device_of image.now }
     ensures { OnOk result (text.new.items ≡ text.old.items ++ text_of (lines_of_tile_at (configuration_of image.now) x y (kind_of (configuration_of image.now).layout.device x y))) }
 {
     match kind_on(image.device(), u32::from(x), u32::from(y)) {
@@ -74,8 +71,7 @@ fn append_tile(
     x: u8,
     y: u8,
 ) -> Result<(), AllocError>
-    requires device { (configuration_of image.now).layout.device ≡ device_of image.now }
-    requires there { kind_of (device_of image.now) x y ≡ Some kind }
+    requires { kind_of (device_of image.now) x y ≡ Some kind }
     ensures { OnOk result (text.new.items ≡ text.old.items ++ text_of (tile_lines (configuration_of image.now) x y kind)) }
 {
     append_grid_line(text, tile_keyword(kind), x, y)?;

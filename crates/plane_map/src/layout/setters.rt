@@ -45,21 +45,21 @@ impl Layout {
         self.banks = banks;
     }
 
-    /// Sets whether the columns of inner tiles run towards the side edge in the right half.
+    /// Sets whether the columns of tiles that are no io tiles are counted towards the side edge in the right half.
     pub fn set_mirror(&mut self, mirror: bool)
         ensures { self.new ≡ record self.old { mirror = mirror } }
     {
         self.mirror = mirror;
     }
 
-    /// Sets whether the rows of tiles run towards the end edge in the top half.
+    /// Sets whether row 0 of a tile is its innermost row of bits in the top half, except in the top row.
     pub fn set_flip(&mut self, flip: bool)
         ensures { self.new ≡ record self.old { flip = flip } }
     {
         self.flip = flip;
     }
 
-    /// Sets whether the columns of io tiles of the bottom and the top row run towards the side edge in the right half.
+    /// Sets whether the columns of io tiles of the bottom and the top row are counted towards the side edge in the right half.
     pub fn set_pad_mirror(&mut self, pad_mirror: bool)
         ensures { self.new ≡ record self.old { pad_mirror = pad_mirror } }
     {

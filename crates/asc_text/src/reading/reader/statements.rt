@@ -1,5 +1,7 @@
 // What statements change.
 ghost use Rattle.std.specs.Prelude.{◌≡◌, ◌<◌, ◌++◌, ◌∷◌, [], Some, None, true, IfOk, IfErr, OnOk, is_some, MatchOption};
+ghost use Rattle.ice_image.specs.Configuration.{blank_image, IsWhole};
+ghost use Rattle.ice_image.specs.Either.{configuration_of};
 ghost use Rattle.asc_text.specs.Meaning.{extra_sets};
 ghost use Rattle.asc_text.specs.Faults.{tile_named};
 ghost use Rattle.asc_text.specs.inside.Reading.{state_of, statement_refusal, setting_refusal, tile_refusal, extra_refusal, TakesStatement, Reports, ImageGains, HasKind};
@@ -12,8 +14,8 @@ use crate::reading::reader::{Expected, Reader, Refusal};
 use crate::reading::spelling::name_in;
 use crate::statement::Statement;
 use ice_image::{AnyImage, Comment};
-use plane_map::{DeviceName, TileKind, kind_on};
-use std::alloc::AllocError;
+use plane_map::{DeviceName, Layout, TileKind, kind_on};
+use std::alloc::{AllocError, Global};
 
 impl Reader {
     /// Takes a statement.
@@ -58,7 +60,7 @@ impl Reader {
         if self.image.is_some() {
             return Err(Refusal::Cause(AscCause::Repeated));
         }
-        self.image = Some(AnyImage::zeroed(self.alloc, device)?);
+        self.image = Some(blank_image(self.alloc, self.layouts.of(device))?);
         Ok(())
     }
 
@@ -113,6 +115,17 @@ impl Reader {
         self.symbols.push(Symbol { net, name })?;
         Ok(())
     }
+}
+
+/// An image with all bits 0 under a layout.
+fn blank_image(alloc: Global, layout: Layout) -> Result<AnyImage, AllocError>
+    ensures blank { IfOk result (λ image. configuration_of image ≡ blank_image layout) }
+    ensures whole { IfOk result (λ image. IsWhole (configuration_of image)) }
+{
+    let image = AnyImage::zeroed_with(alloc, layout)?;
+    // The image is whole.
+    let _device = image.device();
+    Ok(image)
 }
 
 /// Sets a setting that has no value yet.

@@ -1,4 +1,4 @@
-use Rattle.std.proofs.Common.{◌≡◌, ℕ, ◌++◌, map, arith, ap, ◌∙◌}
+use Rattle.std.proofs.Common.{◌≡◌, ◌++◌, map, arith, ap, ◌∙◌}
 use Rattle.place_search.specs.Places.{gathered_below}
 use Rattle.chipdb_reader.specs.Kept.{database_in}
 use Rattle.fabric_rules.specs.Tiles.{item_if}

@@ -1,4 +1,4 @@
-use Rattle.std.proofs.Common.{◌≡◌, ◌<◌, ℕ, length, sym, subst}
+use Rattle.std.proofs.Common.{◌<◌, ℕ, length, sym, subst}
 use Rattle.std.specs.Prelude.{Option, IfSome, codes}
 use Rattle.chipdb_reader.specs.Kept.{database_in}
 use Rattle.fabric_rules.specs.Nets.{with_number}

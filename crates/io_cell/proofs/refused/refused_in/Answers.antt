@@ -1,4 +1,4 @@
-use Rattle.std.proofs.Common.{◌≡◌, [], ℕ, List, arith, ap, sym, ◌∙◌, refl}
+use Rattle.std.proofs.Common.{◌≡◌, arith, ap, sym, ◌∙◌, refl}
 use Rattle.std.specs.Prelude.{Some}
 use Rattle.place_search.specs.Places.{gathered_below}
 use Rattle.ice_image.specs.Either.{configuration_of}

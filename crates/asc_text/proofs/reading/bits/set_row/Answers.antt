@@ -1,6 +1,6 @@
-use Rattle.std.proofs.Common.{◌≡◌, ℕ, ◌&&◌, ◌+◌, sym, ap, ◌∙◌, refl, arith, subst}
-use Rattle.plane_map.specs.Layout.{columns_of, columns_in, columns_at, kind_of}
-use Rattle.ice_image.specs.Either.{configuration_of, device_of}
+use Rattle.std.proofs.Common.{◌≡◌, ℕ, ◌&&◌, ◌+◌, ap, ◌∙◌, refl, arith, subst}
+use Rattle.plane_map.specs.Layout.{columns_of, columns_in, columns_at}
+use Rattle.ice_image.specs.Either.{configuration_of}
 use Rattle.asc_text.specs.Rows.{row_bit}
 use Rattle.asc_text.specs.Meaning.{row_sets}
 use Rattle.asc_text.specs.inside.Gains.{Gains, is_tile_bit, row_sets_below}
@@ -37,8 +37,6 @@ pub returns-clause-bits : goal.returns-clause-bits
 returns-clause-bits c =
     let args = c.args in
     let before = configuration_of args.image.now in
-    let device : device_of args.image.now ≡ before.device = sym c.device-device.ensures.name ∙ c.device-device.ensures.device in
-    let there : kind_of before.device args.x args.y ≡ _ = ap (λ d. kind_of d args.x args.y) (sym device) ∙ c.requires.there in
     let last : c.loop-col.col ≡ columns_of args.kind = omega (arith, (length-row args.kind args.line.now c.requires.line).0) in
     let all = subst (λ (n : ℕ). Gains (row_sets_below args.x args.y args.row args.line.now n) before (configuration_of c.loop-col.image)) last c.loop-col.invariant.1 in
-    Gains-same (row_sets_below args.x args.y args.row args.line.now (columns_of args.kind)) (row_sets args.x args.y args.row args.line.now) before (configuration_of c.loop-col.image) all (row-all before.device args.kind args.x args.y args.row args.line.now there)
+    Gains-same (row_sets_below args.x args.y args.row args.line.now (columns_of args.kind)) (row_sets args.x args.y args.row args.line.now) before (configuration_of c.loop-col.image) all (row-all before.layout args.kind args.x args.y args.row args.line.now c.requires.there)

@@ -32,4 +32,4 @@ returns-clause-bits c =
     let after = configuration_of c.loop-bit.image in
     let last : c.loop-bit.bit ≡ 16 = omega arith in
     let all = subst (λ (n : ℕ). Gains (word_sets_below args.x args.y args.word args.value n) before after) last c.loop-bit.invariant.1 in
-    Gains-same (word_sets_below args.x args.y args.word args.value 16) (word_sets args.x args.y args.word args.value) before after all (word-all before.device args.x args.y args.word args.value)
+    Gains-same (word_sets_below args.x args.y args.word args.value 16) (word_sets args.x args.y args.word args.value) before after all (word-all before.layout args.x args.y args.word args.value)

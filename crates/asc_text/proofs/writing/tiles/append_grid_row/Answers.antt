@@ -1,4 +1,4 @@
-use Rattle.std.proofs.Common.{ℕ, List, ◌≡◌, ◌∙◌, ap, sym, arith}
+use Rattle.std.proofs.Common.{ℕ, List, ◌≡◌, ap, arith}
 use Rattle.plane_map.specs.Layout.{kind_of, grid_width}
 use Rattle.ice_image.specs.Either.{configuration_of, device_of}
 use Rattle.asc_text.specs.Canonical.{lines_of_tile_at}
@@ -7,6 +7,6 @@ use Rattle.asc_text.proofs.writing.tiles.append_grid_row.Goals as goal
 
 pub returns : goal.returns
 returns c =
-    let all_columns : c.loop-x.x ≡ grid_width (device_of c.args.image.now) = omega (arith, ap grid_width c.device.ensures.name) in
+    let all_columns : c.loop-x.x ≡ grid_width (device_of c.args.image.now) = omega (arith, ap grid_width c.device.ensures.device) in
     let given : ℕ → List (List ℕ) = λ x. lines_of_tile_at (configuration_of c.args.image.now) x c.args.y (kind_of (configuration_of c.args.image.now).layout.device x c.args.y) in
-    gathered-all c.args.text.now.items c.loop-x.text.items c.loop-x.x (grid_width (configuration_of c.args.image.now).layout.device) given (all_columns ∙ ap grid_width (sym c.requires)) c.loop-x.invariant
+    gathered-all c.args.text.now.items c.loop-x.text.items c.loop-x.x (grid_width (configuration_of c.args.image.now).layout.device) given all_columns c.loop-x.invariant

@@ -1,7 +1,7 @@
 use Rattle.std.proofs.Common.{[], ◌∷◌, ◌++◌, ap, ◌∙◌, arith}
 use Rattle.text_lines.specs.Written.{text_of}
 use Rattle.ice_image.specs.Bits.{tile_bit_of}
-use Rattle.ice_image.specs.Either.{configuration_of, device_of}
+use Rattle.ice_image.specs.Either.{configuration_of}
 use Rattle.asc_text.specs.Canonical.{grid_line}
 use Rattle.asc_text.proofs.Pieces.{rows-none, rows-more, tile-written}
 use Rattle.asc_text.proofs.writing.tiles.append_tile.Goals as goal
@@ -15,4 +15,4 @@ loop-row-preserved c =
 
 pub returns : goal.returns
 returns c =
-    tile-written (device_of c.args.image.now) c.args.x c.args.y (configuration_of c.args.image.now) c.args.kind c.args.text.now.items c.append_grid_line.new.text.items c.loop-row.text.items c.tile_width-width.result c.loop-row.row c.requires.device c.requires.there c.tile_width-width.ensures (omega arith) (c.in_ok-append_grid_line.ensures ∙ ap (λ keyword. c.args.text.now.items ++ text_of (grid_line keyword c.args.x c.args.y ∷ [])) c.tile_keyword.ensures) c.loop-row.invariant
+    tile-written (configuration_of c.args.image.now) c.args.x c.args.y c.args.kind c.args.text.now.items c.append_grid_line.new.text.items c.loop-row.text.items c.tile_width-width.result c.loop-row.row c.requires c.tile_width-width.ensures (omega arith) (c.in_ok-append_grid_line.ensures ∙ ap (λ keyword. c.args.text.now.items ++ text_of (grid_line keyword c.args.x c.args.y ∷ [])) c.tile_keyword.ensures) c.loop-row.invariant

@@ -18,5 +18,5 @@ returns-clause-text c =
 
 pub returns-clause-means : goal.returns-clause-means
 returns-clause-means c =
-    subst (λ text. AscMeans text (configuration_of c.args.image.now) []) (sym (returns-clause-text c))
-    (means_of_text (configuration_of c.args.image.now) c.device-device.ensures.whole (subst (λ comment. IfSome comment (All IsCommentLine)) c.comment.ensures c.in_ok-append_comment.ensures.lines))
+    λ layouts has. subst (λ text. AscMeans layouts text (configuration_of c.args.image.now) []) (sym (returns-clause-text c))
+    (means_of_text layouts (configuration_of c.args.image.now) has c.device-device.ensures.whole (subst (λ comment. IfSome comment (All IsCommentLine)) c.comment.ensures c.in_ok-append_comment.ensures.lines))

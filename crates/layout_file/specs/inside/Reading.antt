@@ -165,11 +165,11 @@ abbrev pub is_long : Option (List ℕ) → Bool
 is_long None = true
 is_long (Some numbers) = nat_lt 18 (length numbers)
 
--- a line that each reader refuses, as none of a layout file
-abbrev pub is_none : Line → Bool
-is_none Unknown = true
-is_none (List_of field numbers) = nat_lt 18 (length numbers)
-is_none line = false
+-- a line that each reader refuses
+abbrev pub is_refused_always : Line → Bool
+is_refused_always Unknown = true
+is_refused_always (List_of field numbers) = nat_lt 18 (length numbers)
+is_refused_always line = false
 
 pub record IsBeginning (device : Option DeviceName) (line : Line) : Type 0 where
   pub begins : is_section line ≡ true
@@ -181,4 +181,4 @@ Says kind.Passed line = line ≡ Passed
 Says (kind.Section device) line = IsBeginning device line
 Says (kind.List field numbers) line = line ≡ List_of field numbers
 Says (kind.Answer field value) line = line ≡ Flag_of field value
-Says kind.Unknown line = is_none line ≡ true
+Says kind.Unknown line = is_refused_always line ≡ true

@@ -4,7 +4,8 @@
 Usage: measure.py PROGRAM WORK TEXT...     PROGRAM is this project's, WORK a folder for files that aren't kept
 
 Each text is packed, and the bitstream that this project makes of it is unpacked, by both. Then four times the last text's
-bitstream is joined to a boot file, and eight RAMs of the last text get other contents, where it has so many.
+bitstream is joined to a boot file, and eight RAMs of the last text get other contents, where it has so many. Behind these, in a table of
+its own, this project packs and unpacks the last text under a layout file, and without one in the place of the stock tool.
 
 Wall times are medians of 20 rounds of 5 runs each, by hyperfine or, where that isn't installed and for a tool that reads
 standard input, by a loop here. In each
@@ -24,6 +25,7 @@ import time
 from statistics import median, quantiles
 
 ROUNDS, RUNS = 20, 5
+LAYOUT = os.path.join(os.path.dirname(os.path.abspath(__file__)), "../layouts/silicon.layout")
 GNU_TIME = "/usr/bin/time"
 
 
@@ -63,12 +65,12 @@ def peak_memory(command, source, work):
     return usage.ru_maxrss
 
 
-def measure(own, stock, source, work):
+def measure(commands, source, work):
     """The part of the table's line behind the text's name."""
     times, memory = ([], []), [0, 0]
     for number in range(ROUNDS):
         for which in (0, 1) if number % 2 == 0 else (1, 0):
-            command = (own, stock)[which]
+            command = commands[which]
             times[which].append(wall_times(command, source, work))
             memory[which] = max(memory[which], peak_memory(command, source, work))
     low, ratio, high = quantiles([median(a) / median(b) for a, b in zip(*times)], n=4)
@@ -77,17 +79,29 @@ def measure(own, stock, source, work):
         ours, theirs, ratio, low, high, memory[0], memory[1], memory[0] / memory[1])
 
 
-def line_of(program, tool, name, words, source, work):
-    """The table's line of a tool with these words behind its own and that standard input, and whether both take them.
-    `OUTPUT` among the words is a file that each of them writes."""
+def line_of(tool, name, commands, source, work):
+    """The table's line of two commands with that standard input, and whether both are taken. `OUTPUT` among their words is a file
+    that each of them writes."""
     head = "%-10s %-13s" % (tool, name)
-    own, stock = ([os.path.join(work, output) if word == "OUTPUT" else word for word in words]
-                  for output in ("own.out", "stock.out"))
-    own, stock = [program, tool] + own, [tool] + stock
-    refusing = [command[0] for command in (own, stock) if run(command, source, stderr=subprocess.DEVNULL).returncode != 0]
+    commands = [[os.path.join(work, output) if word == "OUTPUT" else word for word in command]
+                for command, output in zip(commands, ("first.out", "second.out"))]
+    refusing = [shlex.join(command) for command in commands
+                if run(command, source, stderr=subprocess.DEVNULL).returncode != 0]
     if refusing:
-        return "%s refused by %s" % (head, " and ".join(refusing)), False
-    return "%s %s" % (head, measure(own, stock, source, work)), True
+        return "%s refused: %s" % (head, ", ".join(refusing)), False
+    return "%s %s" % (head, measure(commands, source, work)), True
+
+
+def write_table(first, second, lines, work):
+    """Writes a table of commands with their names at its head, and tells whether all were taken."""
+    heads = ("tool", "input", first + " ms", second + " ms", "ratio", "", first + " KiB", second + " KiB", "ratio")
+    print("%-10s %-13s %9s %9s %6s %14s %9s %9s %6s" % heads)
+    all_taken = True
+    for tool, name, commands, source in lines:
+        line, taken = line_of(tool, name, commands, source, work)
+        print(line, flush=True)
+        all_taken = all_taken and taken
+    return all_taken
 
 
 def write_words(path, blocks):
@@ -122,9 +136,14 @@ def with_known_rams(text, work):
     return known, first_file, second_file
 
 
+def stream_of(text, work):
+    """The name of the bitstream of a text."""
+    return os.path.join(work, os.path.splitext(os.path.basename(text))[0] + ".bin")
+
+
 def lines_of_text(program, text, work):
-    """What is measured of each text: the tool, the input's name, the words and the standard input."""
-    stream = os.path.join(work, os.path.splitext(os.path.basename(text))[0] + ".bin")
+    """What is measured of each text: the tool, the input's name, the words behind the tool and the standard input."""
+    stream = stream_of(text, work)
     yield "icepack", os.path.basename(text), [text, "OUTPUT"], os.devnull
     if subprocess.run([program, "icepack", text, stream], stderr=subprocess.DEVNULL).returncode == 0:
         yield "iceunpack", os.path.basename(stream), [stream, "OUTPUT"], os.devnull
@@ -132,7 +151,7 @@ def lines_of_text(program, text, work):
 
 def lines_of_last(text, work):
     """What is measured of the last text alone."""
-    stream = os.path.join(work, os.path.splitext(os.path.basename(text))[0] + ".bin")
+    stream = stream_of(text, work)
     if os.path.exists(stream):
         yield "icemulti", "4 times that", ["-o", "OUTPUT"] + 4 * [stream], os.devnull
     known = with_known_rams(text, work)
@@ -140,21 +159,25 @@ def lines_of_last(text, work):
         yield "icebram", "8 known RAMs", list(known[1:]), known[0]
 
 
+def lines_with_layout(program, text, work):
+    """What is measured with a layout file and without one: the tool, the input's name, the two commands and the standard input."""
+    for tool, source in ("icepack", text), ("iceunpack", stream_of(text, work)):
+        if os.path.exists(source):
+            commands = [[program, tool] + words + [source, "OUTPUT"] for words in (["--layout", LAYOUT], [])]
+            yield tool, os.path.basename(source), commands, os.devnull
+
+
 def main(words):
     if len(words) < 3:
         sys.exit(__doc__)
     program, work, texts = words[0], words[1], words[2:]
-    status = 0
-    heads = ("tool", "input", "ours ms", "stock ms", "ratio", "", "ours KiB", "stock KiB", "ratio")
-    print("%-10s %-13s %9s %9s %6s %14s %9s %9s %6s" % heads)
     lines = [line for text in texts for line in lines_of_text(program, text, work)]
     lines += lines_of_last(texts[-1], work)
-    for tool, name, arguments, source in lines:
-        line, taken = line_of(program, tool, name, arguments, source, work)
-        print(line, flush=True)
-        if not taken:
-            status = 1
-    return status
+    beside = [(tool, name, ([program, tool] + arguments, [tool] + arguments), source) for tool, name, arguments, source in lines]
+    all_taken = write_table("ours", "stock", beside, work)
+    print()
+    all_taken = write_table("with", "without", lines_with_layout(program, texts[-1], work), work) and all_taken
+    return 0 if all_taken else 1
 
 
 if __name__ == "__main__":

@@ -41,4 +41,4 @@ count-rams from lines (suc n) column =
 
 -- a count has room for another RAM
 pub count-few : (from : Contents) (text : List ℕ) (n column : ℕ) → asc_fault_of standard_layouts text ≡ None → n ≤ length (lines_of text) → count_before from (lines_of text) n column ≤ 18496
-count-few from text n column none within = omega (arith, count-rams from (lines_of text) n column, few-rams text n none within)
+count-few from text n column none within = omega (arith, count-rams from (lines_of text) n column, few-rams standard_layouts text n none within)

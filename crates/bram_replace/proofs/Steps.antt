@@ -104,7 +104,7 @@ ram-at : (from to : Contents) (text left out found content whole rest : List ℕ
     → lines_of left ≡ content ∷ lines_of rest → whole_lines_of left ≡ whole ∷ whole_lines_of rest → is_ram_line content ≡ true → IsRamAt text rest p.n
 ram-at from to text left out found content whole rest none p lines wholes holds_so =
     let line = first from to text left out found content whole rest p lines wholes in
-    let found = ram-begins text p.n none line.there p.outside (subst (λ l. is_ram_line l ≡ true) (sym line.content_is) holds_so) in
+    let found = ram-begins standard_layouts text p.n none line.there p.outside (subst (λ l. is_ram_line l ≡ true) (sym line.content_is) holds_so) in
     record { flat = found.0; is = found.1 }
 
 -- its lines follow
@@ -113,7 +113,7 @@ pub ram-begins-next : (from to : Contents) (text left out found content whole re
 ram-begins-next from to text left out found content whole rest none p lines wholes holds_so =
     let line = first from to text left out found content whole rest p lines wholes in
     let ram = ram-at from to text left out found content whole rest none p lines wholes holds_so in
-    subst BeginsWithRam (sym line.lines) (begins text p.n none line.there ram.flat ram.is)
+    subst BeginsWithRam (sym line.lines) (begins standard_layouts text p.n none line.there ram.flat ram.is)
 
 -- and each count has room for it
 pub room : (from to : Contents) (text left out found : List ℕ) → asc_fault_of standard_layouts text ≡ None → Progress from to text left out found → (column : ℕ) → get_or found column 0 < 2 ^ 31
@@ -172,7 +172,7 @@ Progress-ram from to text left out found content whole rest middle after new cou
     let end : n + 17 ≡ n + 1 + 16 = omega arith in
     record {
       n = n + 1 + 16;
-      within = omega (arith, rows-within text n none line.there ram.flat ram.is);
+      within = omega (arith, rows-within standard_layouts text n none line.there ram.flat ram.is);
       lines = next ∙ ap (drop 16) line.lines ∙ drop-drop 16 (n + 1) all;
       wholes = next_wholes ∙ ap (drop 16) line.wholes ∙ drop-drop 16 (n + 1) (whole_lines_of text);
       outside = subst (λ k. is_in_ram all k ≡ false) end (row-end all n ram.flat ram.is);

@@ -1,1 +1,2 @@
 pub mod BothWays
+pub mod Laid

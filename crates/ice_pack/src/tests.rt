@@ -1,9 +1,11 @@
 // Texts and bitstreams that are known from outside.
+ghost use Rattle.layout_file.specs.Layouts.{AreLayouts};
 
-use crate::{pack, unpack};
+use crate::{pack, pack_with, unpack, unpack_with};
 use asc_text::{AscCause, AscFault, TileXy};
 use bin_stream::{BinCause, BinFault};
-use std::alloc::Global;
+use layout_file::Layouts;
+use std::alloc::{AllocError, Global};
 
 /// A text's bytes, and the text that is unpacked from them; nothing where one is refused.
 fn there_and_back(alloc: Global, text: &[u8], no_sleep: bool) -> Option<(Vec<u8>, Vec<u8>)> {
@@ -113,4 +115,73 @@ fn faults_are_told(rt: HostRuntime) {
     let text = b".device 1k\n.io_tile 1 0\n";
     assert!(rt; is_row_refused(rt.alloc(), text, 3, 1, 0));
     assert!(rt; is_refused(rt.alloc(), b"", 0, BinCause::NoPreamble));
+}
+
+/// Appends a row of a logic tile that has that bit in column 0, and no other.
+fn append_row(text: &mut Vec<u8>, bit: u8) -> Result<(), AllocError> {
+    text.push(bit)?;
+    for _ in 1..54 {
+        text.push(b'0')?;
+    }
+    text.push(b'\n')?;
+    Ok(())
+}
+
+/// A text that sets column 0 of row 0 of a logic tile in the right half.
+fn text_of_a_bit(alloc: Global) -> Result<Vec<u8>, AllocError> {
+    let mut text = Vec::new(alloc);
+    text.extend_from_slice(b".device 1k\n.logic_tile 12 1\n")?;
+    append_row(&mut text, b'1')?;
+    for _ in 1..16 {
+        append_row(&mut text, b'0')?;
+    }
+    Ok(text)
+}
+
+/// A text's bytes under layouts, and the text that is unpacked from them; nothing where one is refused.
+fn there_and_back_with(alloc: Global, text: &[u8], layouts: &Layouts) -> Option<(Vec<u8>, Vec<u8>)>
+    requires { AreLayouts layouts.now }
+{
+    match pack_with(alloc, text, false, *layouts) {
+        Ok(bytes) => match unpack_with(alloc, &bytes, *layouts) {
+            Ok(back) => Some((bytes, back)),
+            Err(_) => None,
+        },
+        Err(_) => None,
+    }
+}
+
+/// Whether bytes have one value at an offset and 0 at another.
+fn has_byte(bytes: &[u8], offset: usize, byte: u8, zero: usize) -> bool {
+    bytes.get(offset) == Some(&byte) && bytes.get(zero) == Some(&0)
+}
+
+/// Whether the bit of that text lies elsewhere under the layouts, and comes back from there.
+fn moves_and_comes_back(alloc: Global, layouts: &Layouts) -> Result<bool, AllocError>
+    requires { AreLayouts layouts.now }
+{
+    let text = text_of_a_bit(alloc)?;
+    let usual = there_and_back(alloc, &text, false);
+    let moved = there_and_back_with(alloc, &text, layouts);
+    Ok(match (usual, moved) {
+        (Some((bytes, back)), Some((other_bytes, other_back))) => {
+            has_byte(&bytes, 12_660, 0x01, 12_654)
+                && has_byte(&other_bytes, 12_654, 0x20, 12_660)
+                && back == other_back
+        }
+        _ => false,
+    })
+}
+
+/// Whether that is so without the mirror.
+fn moves_without_mirror(alloc: Global) -> Result<bool, AllocError> {
+    match Layouts::read(b".layout 1k\nmirror no\n") {
+        Ok(layouts) => moves_and_comes_back(alloc, &layouts),
+        Err(_) => Ok(false),
+    }
+}
+
+#[test]
+fn another_layout_moves_a_bit(rt: HostRuntime) {
+    assert!(rt; moves_without_mirror(rt.alloc()) == Ok(true));
 }

@@ -5,6 +5,9 @@
 //! other text the first fault: its cause, and the offset of the token at fault.
 #![tactic(auto)]
 
+mod again;
+
+pub use again::from_own_text;
 pub use vlog_forms::VlogCause;
 pub use vlog_module::{Atom, Atoms, Item, Lut, Module, Name, Port, Right, is_name};
 pub use vlog_parse::{VlogFault, parse};

@@ -1,26 +1,13 @@
-ghost use Rattle.vlog_parse.specs.Answers.{Takes};
-
 use super::*;
 use std::alloc::{AllocError, Global};
 
-/// What the printed text of a module is read as: the module.
-fn read_again(alloc: Global, module: &Module) -> Result<Module, VlogFault>
-    ensures { Takes «module».now result }
-{
-    match print(alloc, module) {
-        Ok(text) => parse(alloc, &text),
-        Err(refused) => Err(VlogFault::Memory(refused)),
-    }
-}
-
-/// Whether a text is a module, and its printed text too.
+/// Whether a text is a module, and the module that its printed text is read as is printed as the same.
 fn is_read_again(alloc: Global, text: &str) -> Result<bool, AllocError> {
     match parse(alloc, text.as_bytes()) {
-        Ok(parsed) => match read_again(alloc, &parsed) {
-            Ok(_) => Ok(true),
-            Err(VlogFault::At { .. }) => Ok(false),
-            Err(VlogFault::Memory(refused)) => Err(refused),
-        },
+        Ok(parsed) => {
+            let again = from_own_text(alloc, &parsed)?;
+            Ok(print(alloc, &again)?.as_slice() == print(alloc, &parsed)?.as_slice())
+        }
         Err(VlogFault::At { .. }) => Ok(false),
         Err(VlogFault::Memory(refused)) => Err(refused),
     }

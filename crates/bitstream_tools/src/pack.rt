@@ -76,9 +76,11 @@ fn packed_from(alloc: Global, tool: Pack, loaded: &[Vec<u8>]) -> Result<Vec<u8>,
     ensures bytes { IfOk result (λ bytes. pack_answer tool.named tool.no_sleep (map vec_items loaded.now) ≡ Done bytes.items) }
     ensures stops { IfErr result (StopsWith (pack_answer tool.named tool.no_sleep (map vec_items loaded.now))) }
 {
-    let layouts = layouts_for(tool.named, loaded)?;
     let text = behind_layout(tool.named, loaded, 0);
-    packed(alloc, text, tool.no_sleep, layouts)
+    match layouts_for(tool.named, loaded) {
+        Ok(layouts) => packed(alloc, text, tool.no_sleep, layouts),
+        Err(stop) => Err(stop),
+    }
 }
 
 // The bitstream of a text under layouts.

@@ -69,8 +69,11 @@ fn unpacked_from(alloc: Global, tool: Unpack, loaded: &[Vec<u8>]) -> Result<Vec<
     ensures text { IfOk result (λ text. unpack_answer tool.named (map vec_items loaded.now) ≡ Done text.items) }
     ensures stops { IfErr result (StopsWith (unpack_answer tool.named (map vec_items loaded.now))) }
 {
-    let layouts = layouts_for(tool.named, loaded)?;
-    unpacked(alloc, behind_layout(tool.named, loaded, 0), layouts)
+    let bytes = behind_layout(tool.named, loaded, 0);
+    match layouts_for(tool.named, loaded) {
+        Ok(layouts) => unpacked(alloc, bytes, layouts),
+        Err(stop) => Err(stop),
+    }
 }
 
 // The text of a bitstream under layouts.

@@ -60,10 +60,12 @@ fn written_from(
     ensures bytes { IfOk result (λ bytes. vlog_answer named name.now (map vec_items loaded.now) ≡ Done bytes.items) }
     ensures stops { IfErr result (StopsWith (vlog_answer named name.now (map vec_items loaded.now))) }
 {
-    let layouts = layouts_for(named, loaded)?;
     let db = behind_layout(named, loaded, 0);
     let image = behind_layout(named, loaded, 1);
-    written_by(alloc, db, image, name, layouts)
+    match layouts_for(named, loaded) {
+        Ok(layouts) => written_by(alloc, db, image, name, layouts),
+        Err(stop) => Err(stop),
+    }
 }
 
 // The module of a database and an image, both in bytes.

@@ -48,10 +48,12 @@ fn explained_from(alloc: Global, tool: Explaining, loaded: &[Vec<u8>]) -> Result
     ensures bytes { IfOk result (λ bytes. explain_answer tool.named tool.only (map vec_items loaded.now) ≡ Done bytes.items) }
     ensures stops { IfErr result (StopsWith (explain_answer tool.named tool.only (map vec_items loaded.now))) }
 {
-    let layouts = layouts_for(tool.named, loaded)?;
     let db = behind_layout(tool.named, loaded, 0);
     let image = behind_layout(tool.named, loaded, 1);
-    explained_by(alloc, db, image, tool.only, layouts)
+    match layouts_for(tool.named, loaded) {
+        Ok(layouts) => explained_by(alloc, db, image, tool.only, layouts),
+        Err(stop) => Err(stop),
+    }
 }
 
 // What an image means by a database, both in bytes.

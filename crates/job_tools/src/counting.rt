@@ -28,7 +28,7 @@ use std::alloc::{AllocError, Global};
 use text_lines::first_line;
 use tile_bits::{ExplainFault, explain};
 use vlog_cycle::{Event, Runner};
-use vlog_text::{Module, VlogFault, parse, print};
+use vlog_text::{Module, from_own_text};
 use vlog_write::emit;
 
 /// An image that was packed and unpacked.
@@ -95,19 +95,7 @@ fn module_of(alloc: Global, design: &Design) -> Result<Module, AllocError>
     ensures runs { IfOk result (λ made. (db : Database) (image : Configuration) → IsDesignOf db image design.now → RunsAs db image made) }
 {
     let module = emit(alloc, design, b"selfrun")?;
-    again(alloc, &module)
-}
-
-/// A module from its own text.
-fn again(alloc: Global, module: &Module) -> Result<Module, AllocError>
-    ensures { IfOk result (λ module_again. module_again ≡ «module».now) }
-{
-    let text = print(alloc, module)?;
-    match parse(alloc, &text) {
-        Ok(parsed) => Ok(parsed),
-        Err(VlogFault::Memory(error)) => Err(error),
-        Err(VlogFault::At { .. }) => unreachable!(),
-    }
+    from_own_text(alloc, &module)
 }
 
 /// How many bits are 1.

@@ -39,7 +39,12 @@ Usage: icepack [-u] [-s] [--layout FILE] [INPUT [OUTPUT]]
   -s        sets the flag that keeps the flash awake after the configuration
   -u        unpacks instead, as iceunpack does; not together with -s
   --layout FILE
-            the layout of the device's bits; the standard one if it is missing
+            the layout file; the standard layout if it is missing
+
+The standard layout isn't that of chips at two kinds of places: io tiles in the
+right half of the top and bottom row, and contents of RAMs in the top half. For
+chips give layouts/silicon.layout, which the installed icepack does by
+itself.
 
 Example: icepack blink.asc blink.bin
 

@@ -31,7 +31,12 @@ Usage: iceunpack [--layout FILE] [INPUT [OUTPUT]]
   INPUT     the bitstream; standard input if it is missing
   OUTPUT    the text; standard output if it is missing
   --layout FILE
-            the layout of the device's bits; the standard one if it is missing
+            the layout file; the standard layout if it is missing
+
+The standard layout isn't that of chips at two kinds of places: io tiles in the
+right half of the top and bottom row, and contents of RAMs in the top half. For
+chips give layouts/silicon.layout, which the installed iceunpack does by
+itself.
 
 Example: iceunpack blink.bin blink.asc
 

@@ -22,7 +22,12 @@ Usage: icebox_vlog [-n NAME] [--layout FILE] DB [IMAGE]
   IMAGE     a bitstream (.bin) or a text (.asc); standard input if it is missing
   -n NAME   the name of the module, at most 64 bytes; chip if it is missing
   --layout FILE
-            the layout of the device's bits; the standard one if it is missing
+            the layout file; the standard layout if it is missing
+
+The standard layout isn't that of chips at two kinds of places: io tiles in the
+right half of the top and bottom row, and contents of RAMs in the top half. For
+chips give layouts/silicon.layout, which the installed icebox_vlog does by
+itself.
 
 The module has a port for each pin that is used, io_X_Y_N for pin N of the io
 tile at column X and row Y; a register for each flip-flop, ff_X_Y_I; a register

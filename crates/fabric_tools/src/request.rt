@@ -24,7 +24,12 @@ Usage: icebox_explain [-t \"X Y\"] [--layout FILE] DB [IMAGE]
   -t \"X Y\"  explains the tile at column X and row Y alone, also where no bit of
             it is set
   --layout FILE
-            the layout of the device's bits; the standard one if it is missing
+            the layout file; the standard layout if it is missing
+
+The standard layout isn't that of chips at two kinds of places: io tiles in the
+right half of the top and bottom row, and contents of RAMs in the top half. For
+chips give layouts/silicon.layout, which the installed icebox_explain does by
+itself.
 
 Example: icebox_explain chipdb-1k.txt blink.asc
 

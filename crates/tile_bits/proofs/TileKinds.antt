@@ -1,7 +1,7 @@
 -- Tiles by their kinds: how wide they are, and where they stand.
 use Rattle.std.proofs.Common.{◌≡◌, ℕ, ◌<◌, ◌≤◌, List, Some, ap, sym, subst, arith}
 use Rattle.std.specs.Prelude.{All}
-use Rattle.plane_map.specs.Layout.{kind_of, columns_of, columns_in, grid_width, grid_height, IsTileBit}
+use Rattle.plane_map.specs.Layout.{kind_of, columns_of, columns_in, grid_width, grid_height, standard_layout, IsTileBit}
 use Rattle.plane_map.specs.declared.device.DeviceName.{DeviceName}
 use Rattle.plane_map.specs.declared.device.DeviceName.TheVariants.{K1, K8}
 use Rattle.plane_map.specs.declared.tile.RowCol.{RowCol}
@@ -9,6 +9,7 @@ use Rattle.plane_map.specs.declared.tile.TileBit.{TileBit}
 use Rattle.plane_map.specs.declared.tile.TileKind.{TileKind}
 use Rattle.plane_map.specs.declared.tile.TileKind.TheVariants.{Io, Logic, RamB, RamT}
 use Rattle.plane_map.proofs.Places.{tile_bit_x_in, tile_bit_y_in}
+use Rattle.plane_map.proofs.Standard.{standard_is_layout}
 use Rattle.chipdb_reader.specs.Fit.{IsBitIn}
 
 -- no kind has more than 54 columns of bits
@@ -48,7 +49,7 @@ module _ (device : DeviceName) (x y : ℕ) (kind : TileKind) (there : kind_of de
 
   -- a tile stands in the grid, which is less than 64 wide and high
   pub x-below : x < 64
-  x-below = least device x (tile_bit_x_in device (record { x = x; y = y; row = 0; col = 0 }) is-corner)
+  x-below = least device x (tile_bit_x_in (standard_layout device) (standard_is_layout device) (record { x = x; y = y; row = 0; col = 0 }) is-corner)
 
   pub y-below : y < 64
-  y-below = least_y device y (tile_bit_y_in device (record { x = x; y = y; row = 0; col = 0 }) is-corner)
+  y-below = least_y device y (tile_bit_y_in (standard_layout device) (standard_is_layout device) (record { x = x; y = y; row = 0; col = 0 }) is-corner)

@@ -69,3 +69,9 @@ returns-in-None-clause-filled c =
     let device = device_of c.args.image.now in
     let there : kind_of device c.args.x c.args.y ≡ None = cc (c.in-None.ensures.kind, c.device.ensures.device, c.from.ensures, c.from-2.ensures) in
     skip-kind device c.args.draws.now.seed (configuration_of c.args.image.now) c.args.x c.args.y (None) c.requires.column there (λ row col. refl) c.requires.filled
+
+pub returns-in-Some-Logic-clause-filled : goal.returns-in-Some-Logic-clause-filled
+returns-in-Some-Logic-clause-filled c =
+    let P : ℕ → Type 0 = λ n. IsFilled (device_of c.args.image.now) c.args.draws.now.seed (is_tile_before n) (configuration_of c.fill_cells.new.image) in
+    let same : turn c.args.x c.args.y 16 0 ≡ turn (c.args.x + 1) c.args.y 0 0 = omega arith in
+    subst P same c.fill_cells.ensures.filled

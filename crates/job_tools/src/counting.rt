@@ -1,10 +1,11 @@
 // What is counted of the parts of a design.
-ghost use Rattle.std.specs.Prelude.{◌≡◌, ◌<◌, ◌≤◌, ◌^◌, All, IfOk, None, codes, length, map};
+ghost use Rattle.std.specs.Prelude.{◌≡◌, ◌<◌, ◌≤◌, ◌^◌, All, IfOk, None, Ok, codes, length, map};
 ghost use Rattle.layout_file.specs.Layouts.{HasLayout, standard_layouts};
 ghost use Rattle.ice_image.specs.Configuration.{Configuration};
 ghost use Rattle.ice_image.specs.Either.{configuration_of};
 ghost use Rattle.text_lines.specs.Lines.{lines_of};
 ghost use Rattle.bin_stream.specs.CanonicalBytes.{canonical_bytes};
+ghost use Rattle.bin_stream.specs.Spelling.{bin_read_of};
 ghost use Rattle.chipdb_reader.specs.Database.{Database};
 ghost use Rattle.chipdb_reader.specs.Kept.{database_in};
 ghost use Rattle.tile_bits.specs.Explained.{explained};
@@ -39,13 +40,22 @@ pub(crate) struct Packed {
     pub(crate) bytes: usize,
 }
 
+/// The bitstream of an image of the standard layout.
+fn encoded(alloc: Global, image: &AnyImage) -> Result<Vec<u8>, AllocError>
+    requires { HasLayout standard_layouts (configuration_of image.now).layout }
+    ensures bytes { IfOk result (λ bytes. bytes.items ≡ canonical_bytes (configuration_of image.now)) }
+    ensures read { IfOk result (λ bytes. bin_read_of standard_layouts bytes.items ≡ Ok (configuration_of image.now)) }
+{
+    encode(alloc, image)
+}
+
 /// Packs an image of the standard layout and unpacks the bitstream.
 pub(crate) fn pack(alloc: Global, image: &AnyImage) -> Result<Packed, AllocError>
     requires { HasLayout standard_layouts (configuration_of image.now).layout }
     ensures image { IfOk result (λ packed. configuration_of packed.image ≡ configuration_of image.now) }
     ensures bytes { IfOk result (λ packed. packed.bytes ≡ length (canonical_bytes (configuration_of image.now))) }
 {
-    let bytes = encode(alloc, image)?;
+    let bytes = encoded(alloc, image)?;
     match decode(alloc, &bytes) {
         Ok(image) => Ok(Packed {
             image,

@@ -73,10 +73,10 @@ done-with name named db image fit few bytes None is done =
     subst (SpellsFabric db image) same (spells-fabric name named db image fit few is)
 
 module _ (name : List ℕ) (named : IsName name) (behind : Bool) (texts : List (List ℕ)) (bytes : List ℕ) where
-  db_text : List ℕ
+  abbrev db_text : List ℕ
   db_text = get_or texts (behind_layout behind 0) []
 
-  image_text : List ℕ
+  abbrev image_text : List ℕ
   image_text = get_or texts (behind_layout behind 1) []
 
   done-of : (layouts : Layouts) (db : Result Database (List ℕ)) (image : Result Configuration (List ℕ))

@@ -21,7 +21,7 @@ entered-own value n small own =
     ]
 
 -- eight bits of the register's high byte
-entered_byte : (value byte : ℕ) → value < 65536 → byte ≡ value / 256 → entered_all value (byte_bits byte) ≡ 256 * value % 65536
+pub entered_byte : (value byte : ℕ) → value < 65536 → byte ≡ value / 256 → entered_all value (byte_bits byte) ≡ 256 * value % 65536
 entered_byte value byte small own =
     let a : ℕ = 2 * value % 65536 in
     let b : ℕ = 4 * value % 65536 in

@@ -18,6 +18,7 @@ mod KnownValues
 mod Worked
 pub mod CanonicalCommands
 pub mod CheckLaw
+pub mod Tables
 pub mod FrontPlace
 pub mod CommentBack
 pub mod PlanesBack

@@ -22,7 +22,7 @@ unfolding doubled
 doubled_nothing = refl
 
 -- a remainder without x^15 doubles as a number
-doubled_low : (a : ℕ) → a < 32768 → doubled a ≡ 2 * a
+pub doubled_low : (a : ℕ) → a < 32768 → doubled a ≡ 2 * a
 unfolding doubled
 doubled_low a low = rw (lt-ltb a 32768 low) refl
 
@@ -130,9 +130,14 @@ powers_from-suc n (suc count) =
     ∙ sym (doubled-xor (power (n + count)) (powers_from n count) (power-below (n + count)) (powers_from-below n count))
 
 -- what a bit adds at the end
-last_power : Bool → ℕ
+pub last_power : Bool → ℕ
 last_power false = 0
 last_power true = power 16
+
+pub last_power-below : (bit : Bool) → last_power bit < 65536
+unfolding last_power
+last_power-below false = omega arith
+last_power-below true = power-below 16
 
 -- a bit more at the end doubles the sum, and adds its own power
 sum_of-push : (bits : List Bool) (bit : Bool) → sum_of (bits ++ bit ∷ []) ≡ bit_xor (doubled (sum_of bits)) (last_power bit)
@@ -169,7 +174,7 @@ entered_high r true low =
     let cancelled : bit_xor (bit_xor (2 * r) 4129) 4129 ≡ 2 * r = xor_assoc (2 * r) 4129 4129 ∙ ap (bit_xor (2 * r)) (xor_self 4129) ∙ xor_zero_r (2 * r) in
     rw (le-ltb (1 * 2 ^ 15 + r) 32768 high, shifted, cancelled) refl
 
-entered-is : (value : ℕ) (bit : Bool) → value < 65536 → entered value bit ≡ bit_xor (doubled value) (last_power bit)
+pub entered-is : (value : ℕ) (bit : Bool) → value < 65536 → entered value bit ≡ bit_xor (doubled value) (last_power bit)
 entered-is value bit in_range =
     elim (split_top value in_range) [
       | inl low ↦ entered_low value bit low ∙ ap (λ n. bit_xor n (last_power bit)) (sym (doubled_low value low))

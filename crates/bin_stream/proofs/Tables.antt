@@ -1,0 +1,141 @@
+-- Bytes enter the register by tables.
+use Rattle.std.proofs.Common.{◌≡◌, ℕ, zero, suc, ◌+◌, ◌*◌, ◌/◌, ◌%◌, ◌^◌, ◌<◌, List, [], ◌∷◌, ◌++◌, length, map, get_or, Bool, true, false, refl, sym, ap, ap₂, ◌∙◌, arith}
+use Rattle.std.proofs.lemmas.Nat.{xor_block, xor_lt, xor_comm}
+use Rattle.std.proofs.lemmas.List.FromFn.{get_or-map-range_with_len}
+use Rattle.std.specs.Int.Bits.{xor_assoc, xor_self, xor_zero_r}
+use Rattle.std.specs.List.{range_with_len}
+use Rattle.std.specs.Prelude.{bit_xor}
+use Rattle.bit_plane.specs.BitList.{byte_bits}
+use Rattle.bin_stream.specs.CheckValue.{doubled}
+use Rattle.bin_stream.specs.declared.check_value.TheConstants.{FIRST, SECOND}
+use Rattle.bin_stream.specs.inside.Register.{entered, entered_all}
+use Rattle.bin_stream.proofs.Powers.{doubled_low, doubled-xor, doubled-below, last_power, last_power-below, entered-is, entered_all-append}
+use Rattle.bin_stream.proofs.CheckLaw.{entered_byte}
+
+-- a remainder that many times doubled
+unfoldable pub doubled_by : ℕ → ℕ → ℕ
+doubled_by zero n = n
+doubled_by (suc count) n = doubled_by count (doubled n)
+
+doubled_by-xor : (count a b : ℕ) → a < 65536 → b < 65536 → doubled_by count (bit_xor a b) ≡ bit_xor (doubled_by count a) (doubled_by count b)
+unfolding doubled_by
+doubled_by-xor zero a b a_in b_in = refl
+doubled_by-xor (suc count) a b a_in b_in =
+    ap (doubled_by count) (doubled-xor a b a_in b_in)
+    ∙ doubled_by-xor count (doubled a) (doubled b) (doubled-below a a_in) (doubled-below b b_in)
+
+-- the low byte comes to the place of the high one
+doubled_by-low : (n : ℕ) → n < 256 → doubled_by 8 n ≡ 256 * n
+unfolding doubled_by
+doubled_by-low n low =
+    let s0 : doubled n ≡ 2 * n = doubled_low n (omega arith) in
+    let s1 : doubled (2 * n) ≡ 4 * n = doubled_low (2 * n) (omega arith) ∙ omega arith in
+    let s2 : doubled (4 * n) ≡ 8 * n = doubled_low (4 * n) (omega arith) ∙ omega arith in
+    let s3 : doubled (8 * n) ≡ 16 * n = doubled_low (8 * n) (omega arith) ∙ omega arith in
+    let s4 : doubled (16 * n) ≡ 32 * n = doubled_low (16 * n) (omega arith) ∙ omega arith in
+    let s5 : doubled (32 * n) ≡ 64 * n = doubled_low (32 * n) (omega arith) ∙ omega arith in
+    let s6 : doubled (64 * n) ≡ 128 * n = doubled_low (64 * n) (omega arith) ∙ omega arith in
+    let s7 : doubled (128 * n) ≡ 256 * n = doubled_low (128 * n) (omega arith) ∙ omega arith in
+    rw (s0, s1, s2, s3, s4, s5, s6, s7) refl
+
+-- a sum of bytes as the high one and the low one, each sixteen times doubled
+pub summed : (high low : ℕ) → high < 256 → low < 256 → doubled_by 16 (256 * high + low) ≡ bit_xor (doubled_by 16 (256 * high)) (doubled_by 16 low)
+summed high low high_in low_in =
+    let left : 256 * high ≡ high * 2 ^ 8 + 0 = omega arith in
+    let right : low ≡ 0 * 2 ^ 8 + low = omega arith in
+    let joined : 256 * high + low ≡ bit_xor (256 * high) low =
+    sym (ap₂ bit_xor left right ∙ xor_block 8 high 0 0 low (omega arith) low_in ∙ ap (λ n. n * 2 ^ 8 + low) (xor_zero_r high) ∙ omega arith) in
+    ap (doubled_by 16) joined ∙ doubled_by-xor 16 (256 * high) low (omega arith) (omega arith)
+
+-- ---- the tables
+
+first_all : FIRST ≡ map (λ byte. doubled_by 16 (256 * byte)) (range_with_len 0 256)
+unfolding doubled_by doubled
+first_all = refl
+
+second_all : SECOND ≡ map (doubled_by 16) (range_with_len 0 256)
+unfolding doubled_by doubled
+second_all = refl
+
+-- what each has at a byte
+pub first_at : (byte : ℕ) → byte < 256 → get_or FIRST byte 0 ≡ doubled_by 16 (256 * byte)
+first_at byte in_range = ap (λ xs. get_or xs byte 0) first_all ∙ get_or-map-range_with_len (λ byte. doubled_by 16 (256 * byte)) 0 256 byte byte 0 in_range (omega arith)
+
+pub second_at : (byte : ℕ) → byte < 256 → get_or SECOND byte 0 ≡ doubled_by 16 byte
+second_at byte in_range = ap (λ xs. get_or xs byte 0) second_all ∙ get_or-map-range_with_len (doubled_by 16) 0 256 byte byte 0 in_range (omega arith)
+
+-- ---- bits that enter
+
+entered-below : (value : ℕ) (bit : Bool) → value < 65536 → entered value bit < 65536
+entered-below value bit in_range = rw (entered-is value bit in_range) (xor_lt 16 (doubled value) (last_power bit) (doubled-below value in_range) (last_power-below bit))
+
+-- a sum that a bit enters is the sum of what the bit leaves of the one, and the other doubled
+entered-xor : (a b : ℕ) (bit : Bool) → a < 65536 → b < 65536 → entered (bit_xor a b) bit ≡ bit_xor (entered a bit) (doubled b)
+entered-xor a b bit a_in b_in =
+    entered-is (bit_xor a b) bit (xor_lt 16 a b a_in b_in)
+    ∙ ap (λ n. bit_xor n (last_power bit)) (doubled-xor a b a_in b_in)
+    ∙ xor_assoc (doubled a) (doubled b) (last_power bit)
+    ∙ ap (bit_xor (doubled a)) (xor_comm (doubled b) (last_power bit))
+    ∙ sym (xor_assoc (doubled a) (last_power bit) (doubled b))
+    ∙ ap (λ n. bit_xor n (doubled b)) (sym (entered-is a bit a_in))
+
+entered_all-xor : (a b : ℕ) (bits : List Bool) → a < 65536 → b < 65536 → entered_all (bit_xor a b) bits ≡ bit_xor (entered_all a bits) (doubled_by (length bits) b)
+unfolding doubled_by
+entered_all-xor a b [] a_in b_in = refl
+entered_all-xor a b (bit ∷ bits) a_in b_in =
+    ap (λ n. entered_all n bits) (entered-xor a b bit a_in b_in)
+    ∙ entered_all-xor (entered a bit) (doubled b) bits (entered-below a bit a_in) (doubled-below b b_in)
+
+-- ---- bytes that enter
+
+-- a sum with a value gives the other part
+xor_back : (a b : ℕ) → bit_xor a (bit_xor a b) ≡ b
+xor_back a b = sym (xor_assoc a a b) ∙ ap (λ n. bit_xor n b) (xor_self a)
+
+-- two bytes that enter are added to the register, and it is sixteen times doubled
+pub entered_pair : (value first second : ℕ) → value < 65536 → first < 256 → second < 256 → entered_all (entered_all value (byte_bits first)) (byte_bits second) ≡ doubled_by 16 (256 * bit_xor (value / 256) first + bit_xor (value % 256) second)
+entered_pair value first second in_range first_in second_in =
+    let word : ℕ = 256 * first + second in
+    let bits : List Bool = byte_bits first ++ byte_bits second in
+    let sum : ℕ = 256 * bit_xor (value / 256) first + bit_xor (value % 256) second in
+    let word_is : word ≡ first * 2 ^ 8 + second = omega arith in
+    let value_is : value ≡ value / 256 * 2 ^ 8 + value % 256 = omega arith in
+    let sum_is : bit_xor word value ≡ sum =
+    ap₂ bit_xor word_is value_is
+    ∙ xor_block 8 first (value / 256) second (value % 256) second_in (omega arith)
+    ∙ ap₂ (λ a b. a * 2 ^ 8 + b) (xor_comm first (value / 256)) (xor_comm second (value % 256))
+    ∙ omega arith in
+    let gone : entered_all word bits ≡ 0 =
+    entered_all-append word (byte_bits first) (byte_bits second)
+    ∙ ap (λ n. entered_all n (byte_bits second)) (entered_byte word first (omega arith) (omega arith))
+    ∙ entered_byte (256 * word % 65536) second (omega arith) (omega arith)
+    ∙ omega arith in
+    sym (entered_all-append value (byte_bits first) (byte_bits second))
+    ∙ ap (λ n. entered_all n bits) (sym (xor_back word value))
+    ∙ entered_all-xor word (bit_xor word value) bits (omega arith) (xor_lt 16 word value (omega arith) in_range)
+    ∙ ap₂ (λ a b. bit_xor a (doubled_by 16 b)) gone sum_is
+
+-- one byte that enters is added to the register's high one, and the register is eight times doubled
+pub entered_one : (value byte : ℕ) → value < 65536 → byte < 256 → entered_all value (byte_bits byte) ≡ bit_xor (256 * value % 65536) (doubled_by 16 (bit_xor (value / 256) byte))
+unfolding doubled_by
+entered_one value byte in_range byte_in =
+    let sum : ℕ = bit_xor (value / 256) byte in
+    let low : ℕ = value % 256 in
+    let sum_in : sum < 256 = xor_lt 8 (value / 256) byte (omega arith) byte_in in
+    let byte_is : 256 * byte ≡ byte * 2 ^ 8 + 0 = omega arith in
+    let value_is : value ≡ value / 256 * 2 ^ 8 + value % 256 = omega arith in
+    let left : 256 * sum ≡ sum * 2 ^ 8 + 0 = omega arith in
+    let right : low ≡ 0 * 2 ^ 8 + low = omega arith in
+    let sum_is : bit_xor (256 * byte) value ≡ bit_xor (256 * sum) low =
+    ap₂ bit_xor byte_is value_is
+    ∙ xor_block 8 byte (value / 256) 0 low (omega arith) (omega arith)
+    ∙ ap (λ n. n * 2 ^ 8 + bit_xor 0 low) (xor_comm byte (value / 256) ∙ sym (xor_zero_r sum))
+    ∙ sym (ap₂ bit_xor left right ∙ xor_block 8 sum 0 0 low (omega arith) (omega arith)) in
+    let gone : entered_all (256 * byte) (byte_bits byte) ≡ 0 = entered_byte (256 * byte) byte (omega arith) (omega arith) ∙ omega arith in
+    let shifted : 256 * low ≡ 256 * value % 65536 = omega arith in
+    ap (λ n. entered_all n (byte_bits byte)) (sym (xor_back (256 * byte) value))
+    ∙ entered_all-xor (256 * byte) (bit_xor (256 * byte) value) (byte_bits byte) (omega arith) (xor_lt 16 (256 * byte) value (omega arith) in_range)
+    ∙ ap₂ (λ a b. bit_xor a (doubled_by 8 b)) gone sum_is
+    ∙ doubled_by-xor 8 (256 * sum) low (omega arith) (omega arith)
+    ∙ xor_comm (doubled_by 8 (256 * sum)) (doubled_by 8 low)
+    ∙ ap₂ bit_xor (doubled_by-low low (omega arith) ∙ shifted) (ap (doubled_by 8) (sym (doubled_by-low sum sum_in)))

@@ -1,5 +1,5 @@
 -- The register holds the sum of powers.
-use Rattle.std.proofs.Common.{◌≡◌, ℕ, zero, suc, ◌+◌, ◌-◌, ◌*◌, ◌/◌, ◌%◌, ◌^◌, ◌<◌, ◌≤◌, Bool, true, false, List, [], ◌∷◌, ◌++◌, length, get_or, take, ◌==◌, refl, sym, ap, ◌∙◌, arith, inl, inr, ◌⊎◌}
+use Rattle.std.proofs.Common.{◌≡◌, ℕ, zero, suc, ◌+◌, ◌-◌, ◌*◌, ◌%◌, ◌^◌, ◌<◌, ◌≤◌, Bool, true, false, List, [], ◌∷◌, ◌++◌, length, get_or, take, refl, sym, ap, ◌∙◌, arith, inl, inr, ◌⊎◌}
 use Rattle.std.proofs.lemmas.Bool.{cases_lt, lt-ltb, le-ltb}
 use Rattle.std.proofs.lemmas.Nat.{xor_block, xor_lt, xor_comm}
 use Rattle.std.proofs.lemmas.List.{length-append, append-nil, take_more}
@@ -209,28 +209,6 @@ entered_all-from_start bits = ap (λ value. entered_all value bits) (sym check_v
 pub entered_all-append : (value : ℕ) (bits more : List Bool) → entered_all value (bits ++ more) ≡ entered_all (entered_all value bits) more
 entered_all-append value [] more = refl
 entered_all-append value (bit ∷ bits) more = entered_all-append (entered value bit) bits more
-
--- bit k of a byte from the highest on
-pub byte_bits-at : (byte k : ℕ) → k < 8 → get_or (byte_bits byte) k false ≡ (byte / 2 ^ (7 - k) % 2 == 1)
-byte_bits-at byte zero lt = refl
-byte_bits-at byte (suc zero) lt = refl
-byte_bits-at byte (suc (suc zero)) lt = refl
-byte_bits-at byte (suc (suc (suc zero))) lt = refl
-byte_bits-at byte (suc (suc (suc (suc zero)))) lt = refl
-byte_bits-at byte (suc (suc (suc (suc (suc zero))))) lt = refl
-byte_bits-at byte (suc (suc (suc (suc (suc (suc zero)))))) lt = refl
-byte_bits-at byte (suc (suc (suc (suc (suc (suc (suc zero))))))) lt =
-    let whole : byte ≡ byte / 1 = omega arith in
-    ap (λ n. n % 2 == 1) whole
-byte_bits-at byte (suc (suc (suc (suc (suc (suc (suc (suc k)))))))) lt = absurd (omega arith)
-
--- the register after one bit more of a byte
-pub entered_all-more : (value byte k : ℕ) → k < 8 → entered_all value (take (k + 1) (byte_bits byte)) ≡ entered (entered_all value (take k (byte_bits byte))) (byte / 2 ^ (7 - k) % 2 == 1)
-entered_all-more value byte k lt =
-    let bits = byte_bits byte in
-    ap (entered_all value) (take_more bits k false lt)
-    ∙ entered_all-append value (take k bits) (get_or bits k false ∷ [])
-    ∙ ap (entered (entered_all value (take k bits))) (byte_bits-at byte k lt)
 
 -- the register after one byte more
 pub entered_all-byte : (value : ℕ) (bytes : List ℕ) (k : ℕ) → k < length bytes → entered_all value (bits_of (take (k + 1) bytes)) ≡ entered_all (entered_all value (bits_of (take k bytes))) (byte_bits (get_or bytes k 0))

@@ -1,5 +1,5 @@
 -- Bytes enter the register by tables.
-use Rattle.std.proofs.Common.{◌≡◌, ℕ, zero, suc, ◌+◌, ◌*◌, ◌/◌, ◌%◌, ◌^◌, ◌<◌, List, [], ◌∷◌, ◌++◌, length, map, get_or, Bool, true, false, refl, sym, ap, ap₂, ◌∙◌, arith}
+use Rattle.std.proofs.Common.{◌≡◌, ℕ, zero, suc, ◌+◌, ◌*◌, ◌/◌, ◌%◌, ◌^◌, ◌<◌, List, [], ◌∷◌, ◌++◌, length, map, get_or, Bool, refl, sym, ap, ap₂, ◌∙◌, arith}
 use Rattle.std.proofs.lemmas.Nat.{xor_block, xor_lt, xor_comm}
 use Rattle.std.proofs.lemmas.List.FromFn.{get_or-map-range_with_len}
 use Rattle.std.specs.Int.Bits.{xor_assoc, xor_self, xor_zero_r}
@@ -38,7 +38,7 @@ doubled_by-low n low =
     let s7 : doubled (128 * n) ≡ 256 * n = doubled_low (128 * n) (omega arith) ∙ omega arith in
     rw (s0, s1, s2, s3, s4, s5, s6, s7) refl
 
--- a sum of bytes as the high one and the low one, each sixteen times doubled
+-- two bytes that are sixteen times doubled are the sum of each alone
 pub summed : (high low : ℕ) → high < 256 → low < 256 → doubled_by 16 (256 * high + low) ≡ bit_xor (doubled_by 16 (256 * high)) (doubled_by 16 low)
 summed high low high_in low_in =
     let left : 256 * high ≡ high * 2 ^ 8 + 0 = omega arith in
@@ -115,7 +115,7 @@ entered_pair value first second in_range first_in second_in =
     ∙ entered_all-xor word (bit_xor word value) bits (omega arith) (xor_lt 16 word value (omega arith) in_range)
     ∙ ap₂ (λ a b. bit_xor a (doubled_by 16 b)) gone sum_is
 
--- one byte that enters is added to the register's high one, and the register is eight times doubled
+-- one byte that enters is added to the register's high one, and the low one moves up
 pub entered_one : (value byte : ℕ) → value < 65536 → byte < 256 → entered_all value (byte_bits byte) ≡ bit_xor (256 * value % 65536) (doubled_by 16 (bit_xor (value / 256) byte))
 unfolding doubled_by
 entered_one value byte in_range byte_in =

@@ -1,8 +1,8 @@
-// The check value of bytes, which the bitstream documentation calls the CRC: one register that bits enter one by one.
-ghost use Rattle.std.specs.Prelude.{◌≡◌, ◌<◌, ◌^◌, ◌/◌, ◌%◌, ◌==◌, slice_index};
+// The check value of bytes, which the bitstream documentation calls the CRC: one register, which two bytes enter at a time.
+ghost use Rattle.std.specs.Prelude.{◌≡◌, slice_index};
 ghost use Rattle.bit_plane.specs.BitList.{bits_of, byte_bits};
 ghost use Rattle.bin_stream.specs.CheckValue.{check_value};
-ghost use Rattle.bin_stream.specs.inside.Register.{entered, entered_all};
+ghost use Rattle.bin_stream.specs.inside.Register.{entered_all};
 
 /// What the register holds before the first bit.
 pub(crate) const START: u16 = 0xFFFF;
@@ -33,26 +33,26 @@ pub(crate) fn enter_bytes(value: u16, bytes: &[u8]) -> u16
 fn enter_pair(value: u16, first: u8, second: u8) -> u16
     ensures { result ≡ entered_all (entered_all value (byte_bits first)) (byte_bits second) }
 {
-    entry_of(&FIRST, value >> 8 ^ u16::from(first))
-        ^ entry_of(&SECOND, value % 256 ^ u16::from(second))
+    let [high, low] = value.to_be_bytes();
+    entry_of(&FIRST, high ^ first) ^ entry_of(&SECOND, low ^ second)
 }
 
 /// The register after a byte has entered.
 fn enter_byte(value: u16, byte: u8) -> u16
     ensures { result ≡ entered_all value (byte_bits byte) }
 {
-    value << 8 ^ entry_of(&SECOND, value >> 8 ^ u16::from(byte))
+    let [high, _] = value.to_be_bytes();
+    value << 8 ^ entry_of(&SECOND, high ^ byte)
 }
 
 /// The entry of a byte.
-fn entry_of(table: &[u16; 256], byte: u16) -> u16
-    requires { byte < 256 }
+fn entry_of(table: &[u16; 256], byte: u8) -> u16
     ensures { result ≡ slice_index table.now byte }
 {
     table[usize::from(byte)]
 }
 
-/// What the high byte of a sum comes to when sixteen bits have gone by, for each byte.
+/// What each byte adds to the register where one byte follows: the remainder of its bits times x^24.
 const FIRST: [u16; 256] = [
     0x0000, 0x3331, 0x6662, 0x5553, 0xCCC4, 0xFFF5, 0xAAA6, 0x9997, 0x89A9, 0xBA98, 0xEFCB, 0xDCFA,
     0x456D, 0x765C, 0x230F, 0x103E, 0x0373, 0x3042, 0x6511, 0x5620, 0xCFB7, 0xFC86, 0xA9D5, 0x9AE4,
@@ -78,7 +78,7 @@ const FIRST: [u16; 256] = [
     0x56AC, 0x659D, 0x30CE, 0x03FF,
 ];
 
-/// What the low byte of a sum comes to when sixteen bits have gone by, for each byte.
+/// What each byte adds to the register where none follows: the remainder of its bits times x^16.
 const SECOND: [u16; 256] = [
     0x0000, 0x1021, 0x2042, 0x3063, 0x4084, 0x50A5, 0x60C6, 0x70E7, 0x8108, 0x9129, 0xA14A, 0xB16B,
     0xC18C, 0xD1AD, 0xE1CE, 0xF1EF, 0x1231, 0x0210, 0x3273, 0x2252, 0x52B5, 0x4294, 0x72F7, 0x62D6,

@@ -1,4 +1,4 @@
-use Rattle.std.proofs.Common.{◌≡◌, ◌+◌, ◌-◌, ◌*◌, ◌/◌, ◌≤◌, length, take, get_or, sym, ap, ap₂, ◌∙◌, arith}
+use Rattle.std.proofs.Common.{◌≡◌, ◌+◌, ◌-◌, ◌*◌, length, take, get_or, sym, ap, ◌∙◌, arith}
 use Rattle.std.proofs.lemmas.List.{take_all}
 use Rattle.bit_plane.specs.BitList.{bits_of, byte_bits}
 use Rattle.bin_stream.specs.inside.Register.{entered_all}
@@ -33,6 +33,7 @@ returns-then-bytes-eq1 c =
     ∙ sym last
     ∙ ap (λ taken. entered_all c.args.value (bits_of taken)) all
 
+-- no byte is left
 pub returns-else-bytes-eq1 : goal.returns-else-bytes-eq1
 returns-else-bytes-eq1 c =
     let all : take (2 * c.loop-pair.pair) c.args.bytes.now ≡ c.args.bytes.now = take_all (2 * c.loop-pair.pair) c.args.bytes.now (omega arith) in

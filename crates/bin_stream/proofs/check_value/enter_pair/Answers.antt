@@ -1,4 +1,4 @@
-use Rattle.std.proofs.Common.{◌≡◌, ◌%◌, ◌*◌, ◌/◌, ◌<◌, get_or, sym, ap, ap₂, ◌∙◌, arith}
+use Rattle.std.proofs.Common.{◌≡◌, ◌/◌, ◌%◌, ◌<◌, get_or, sym, ap, ap₂, ◌∙◌, arith}
 use Rattle.std.proofs.lemmas.Nat.{xor_lt}
 use Rattle.std.specs.Prelude.{bit_xor}
 use Rattle.bin_stream.specs.declared.check_value.TheConstants.{FIRST, SECOND}
@@ -7,14 +7,17 @@ use Rattle.bin_stream.proofs.check_value.enter_pair.Goals as goal
 
 pub returns : goal.returns
 returns c =
-    let high = bit_xor (c.args.value / 256) c.args.first in
-    let low = bit_xor (c.args.value % 256) c.args.second in
-    let high_in : high < 256 = xor_lt 8 (c.args.value / 256) c.args.first (omega arith) (omega arith) in
-    let low_in : low < 256 = xor_lt 8 (c.args.value % 256) c.args.second (omega arith) (omega arith) in
-    let first : c.entry_of.result ≡ get_or FIRST (bit_xor (c.args.value / 256) c.from.result) 0 = c.entry_of.ensures in
-    let second : c.entry_of-2.result ≡ get_or SECOND (bit_xor (c.args.value % 256) c.from-2.result) 0 = c.entry_of-2.ensures in
+    let value = c.args.value in
+    let high_is : get_or c.to_be_bytes.result 0 0 ≡ value / 256 = ap (λ bytes. get_or bytes 0 0) c.to_be_bytes.ensures ∙ omega arith in
+    let low_is : get_or c.to_be_bytes.result 1 0 ≡ value % 256 = ap (λ bytes. get_or bytes 1 0) c.to_be_bytes.ensures in
+    let high = bit_xor (value / 256) c.args.first in
+    let low = bit_xor (value % 256) c.args.second in
+    let high_in : high < 256 = xor_lt 8 (value / 256) c.args.first (omega arith) (omega arith) in
+    let low_in : low < 256 = xor_lt 8 (value % 256) c.args.second (omega arith) (omega arith) in
+    let first : c.entry_of.result ≡ get_or FIRST (bit_xor (get_or c.to_be_bytes.result 0 0) c.args.first) 0 = c.entry_of.ensures in
+    let second : c.entry_of-2.result ≡ get_or SECOND (bit_xor (get_or c.to_be_bytes.result 1 0) c.args.second) 0 = c.entry_of-2.ensures in
     ap₂ bit_xor
-    (first ∙ ap (λ n. get_or FIRST (bit_xor (c.args.value / 256) n) 0) c.from.ensures ∙ first_at high high_in)
-    (second ∙ ap (λ n. get_or SECOND (bit_xor (c.args.value % 256) n) 0) c.from-2.ensures ∙ second_at low low_in)
+    (first ∙ ap (λ n. get_or FIRST (bit_xor n c.args.first) 0) high_is ∙ first_at high high_in)
+    (second ∙ ap (λ n. get_or SECOND (bit_xor n c.args.second) 0) low_is ∙ second_at low low_in)
     ∙ sym (summed high low high_in low_in)
-    ∙ sym (entered_pair c.args.value c.args.first c.args.second (omega arith) (omega arith) (omega arith))
+    ∙ sym (entered_pair value c.args.first c.args.second (omega arith) (omega arith) (omega arith))

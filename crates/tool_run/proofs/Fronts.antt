@@ -2,6 +2,8 @@
 use Rattle.std.proofs.Common.{◌≡◌, ℕ, zero, suc, ◌^◌, ◌<◌, ◌≤◌, Bool, true, false, not, ◌||◌, List, [], ◌∷◌, ◌++◌, length, get_or, refl, sym, ap, subst, ◌∙◌, arith}
 use Rattle.std.specs.Prelude.{Option, None, Some, Result, Ok, Err, IfOk, IfErr, OnOk, Contains, nat_lt, slice_get}
 use Rattle.std.specs.Io.KnownBytes.{IsAtEnd}
+use Rattle.std.proofs.Math.ListN.{get_or-append}
+use Rattle.std.proofs.Math.Seq.{get_or-append_seam}
 use Rattle.std.proofs.lemmas.Bool.{le-ltb}
 use Rattle.std.proofs.lemmas.List.{append-nil, length-append}
 use Rattle.std.proofs.lemmas.List.Folds.{list_any-append}
@@ -14,6 +16,7 @@ use Rattle.tool_run.specs.Answering.{Answers, Gives, Made}
 use Rattle.tool_run.specs.declared.load.LoadStop.{LoadStop}
 use Rattle.tool_run.specs.declared.load.LoadStop.TheVariants.{Failed, TooLong, Memory}
 use Rattle.tool_run.proofs.Loading.{IsSound-rest, SourceRose-earlier, file-name, not-first}
+use Rattle.tool_run.proofs.Outcomes.{or-left, or-right}
 
 -- ---- what is loaded and reached of a front and what is behind it
 
@@ -85,23 +88,11 @@ slice_get-front [] back k lt = absurd (omega arith)
 slice_get-front (need ∷ front) back zero lt = refl
 slice_get-front (need ∷ front) back (suc k) lt = slice_get-front front back k (omega arith)
 
-get_or-front : (front back : List Need) (k : ℕ) (none : Need) → k < length front → get_or (front ++ back) k none ≡ get_or front k none
-get_or-front [] back k none lt = absurd (omega arith)
-get_or-front (need ∷ front) back zero none lt = refl
-get_or-front (need ∷ front) back (suc k) none lt = get_or-front front back k none (omega arith)
-
-get_or-behind : (front : List Need) (need none : Need) → get_or (front ++ need ∷ []) (length front) none ≡ need
-get_or-behind [] need none = refl
-get_or-behind (first ∷ front) need none = get_or-behind front need none
-
 pub sound_front : (front : List Need) (need : Need) → IsSound (front ++ need ∷ []) → IsSound front
 sound_front front need sound = record {
   last = λ k lt. subst IsFile (slice_get-front front (need ∷ []) k (omega arith)) (sound.last k (omega (arith, lt, length-append front (need ∷ []))));
-  limits = λ k none lt. subst (λ (n : Need). n.limit < 2 ^ 32) (get_or-front front (need ∷ []) k none lt) (sound.limits k none (omega (arith, lt, length-append front (need ∷ []))));
+  limits = λ k none lt. subst (λ (n : Need). n.limit < 2 ^ 32) (get_or-append front (need ∷ []) none k lt) (sound.limits k none (omega (arith, lt, length-append front (need ∷ []))));
 }
-
-pub sound_limit : (front : List Need) (need : Need) → IsSound (front ++ need ∷ []) → need.limit < 2 ^ 32
-sound_limit front need sound = subst (λ (n : Need). n.limit < 2 ^ 32) (get_or-behind front need need) (sound.limits (length front) need (omega (arith, length-append front (need ∷ []))))
 
 pub front_files : (front : List Need) (need : Need) → IsSound (front ++ need ∷ []) → reads_input front ≡ false
 front_files [] need sound = refl
@@ -112,19 +103,11 @@ front_files (first ∷ front) need sound =
 -- ---- where loading stops
 
 in_front : (front back : List Need) (need : Need) → Contains front need → Contains (front ++ back) need
-in_front front back need (k, lt, same) = (k, omega (arith, lt, length-append front back), get_or-front front back k need lt ∙ same)
+in_front front back need (k, lt, same) = (k, omega (arith, lt, length-append front back), get_or-append front back need k lt ∙ same)
 
 at_end : (front : List Need) (need other : Need) → Contains (need ∷ []) other → Contains (front ++ need ∷ []) other
-at_end front need other (zero, lt, same) = (length front, omega (arith, length-append front (need ∷ [])), get_or-behind front need other ∙ same)
+at_end front need other (zero, lt, same) = (length front, omega (arith, length-append front (need ∷ [])), get_or-append_seam front need [] other ∙ same)
 at_end front need other (suc k, lt, same) = absurd (omega arith)
-
-or-left : (b c : Bool) → b ≡ true → (b || c) ≡ true
-or-left true c e = refl
-or-left false c e = absurd cc
-
-or-right : (b c : Bool) → c ≡ true → (b || c) ≡ true
-or-right true c e = refl
-or-right false c e = e
 
 reads_front : (known : FileMap) (text : List ℕ) (front back : List Need) → reads_input (reached known text front) ≡ true → reads_input (reached known text (front ++ back)) ≡ true
 reads_front known text front back reads =

@@ -36,11 +36,11 @@ ended-reads_input task needs (Ok texts) = answered-reads_input task needs (task.
 ended-reads_input task needs (Err (Missing need)) = refl
 ended-reads_input task needs (Err (TooLong need)) = refl
 
-or-left : (b c : Bool) → b ≡ true → (b || c) ≡ true
+pub or-left : (b c : Bool) → b ≡ true → (b || c) ≡ true
 or-left true c e = refl
 or-left false c e = absurd cc
 
-or-right : (b c : Bool) → c ≡ true → (b || c) ≡ true
+pub or-right : (b c : Bool) → c ≡ true → (b || c) ≡ true
 or-right true c e = refl
 or-right false c e = e
 

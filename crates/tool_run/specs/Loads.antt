@@ -2,7 +2,7 @@
 use Rattle.std.specs.Prelude.{◌≡◌, ℕ, Bool, true, false, List, [], ◌∷◌, Option, None, Some, Ok, Err, MatchOption, Contains}
 use Rattle.ice_io.specs.Files.{FileMap, LacksFile}
 use Rattle.tool_run.specs.Needs.{Need, is_stream, need_of, reads_input}
-use Rattle.tool_run.specs.Tasks.{Missing, TooLong as MissesLimit, bytes_of, loaded, reached}
+use Rattle.tool_run.specs.Tasks.{LoadFault, Missing, TooLong as MissesLimit, bytes_of, loaded, reached}
 use Rattle.tool_run.specs.Effects.{SourceRose}
 use Rattle.tool_run.specs.declared.load.LoadStop.{LoadStop}
 use Rattle.tool_run.specs.declared.load.LoadStop.TheVariants.{Failed, TooLong, Memory}

@@ -1,5 +1,5 @@
 -- What a run of a task does, whatever the task is.
-use Rattle.std.specs.Prelude.{◌≡◌, ◌≢◌, ◌⊎◌, ℕ, ◌≤◌, Bool, true, false, List, Option, None, MatchOption, Contains}
+use Rattle.std.specs.Prelude.{◌≡◌, ◌≢◌, ◌⊎◌, ℕ, ◌≤◌, Bool, true, false, List, Option, None, Some, MatchOption, Contains}
 use Rattle.std.specs.Io.KnownBytes.{IsAtEnd}
 use Rattle.ice_io.specs.Faults.{Rose}
 use Rattle.ice_io.specs.Files.{FileMap, LacksFile}

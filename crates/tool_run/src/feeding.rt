@@ -21,7 +21,7 @@ pub(crate) fn feed_all<T: PieceTool, I: Source>(
     limit: usize,
 ) -> Result<(), TakeFault>
     requires limit { limit < 2 ^ 32 }
-    requires none { T.counted intake.old ≡ 0 }
+    requires none { T.fed intake.old ≡ 0 }
     ensures whole { OnOk result ((bytes : List ℕ) × TakesAll (I.left input.old) (I.left input.new) bytes
         × (length bytes ≤ limit) × TakesMore (T.takes tool.now) intake.old intake.new bytes) }
     ensures too_long { IsErrOf result TakeFault.TooLong → TakesCount (I.left input.old) (I.left input.new) (limit + 1) }

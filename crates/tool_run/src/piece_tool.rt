@@ -15,19 +15,19 @@ pub trait PieceTool: Tool {
     /// Behind the bytes of the needs before, an intake has taken these.
     ghost takes: { Self → List (List ℕ) → Self.Intake → List ℕ → Type 0 };
 
-    /// How many bytes an intake counts, at most as many as it has taken.
-    ghost counted: { Self.Intake → ℕ };
+    /// How many bytes count towards the most that an intake takes. They are never more than it has taken.
+    ghost fed: { Self.Intake → ℕ };
 
     /// An intake that has taken nothing, behind what was loaded before.
     fn begin(&self, alloc: Global, loaded: &Vec<Vec<u8>>) -> Self::Intake
         ensures taken { takes self.now (map vec_items loaded.now.items) result [] }
-        ensures none { counted result ≡ 0 };
+        ensures none { fed result ≡ 0 };
 
     /// Takes a piece behind those before.
     fn feed(&self, intake: &mut Self::Intake, piece: &[u8])
-        requires { counted intake.old + length piece.now < 2 ^ 32 }
+        requires { fed intake.old + length piece.now < 2 ^ 32 }
         ensures taken { TakesMore (takes self.now) intake.old intake.new piece.now }
-        ensures bound { counted intake.new ≤ counted intake.old + length piece.now };
+        ensures bound { fed intake.new ≤ fed intake.old + length piece.now };
 
     /// The bytes for the target, or why there are none, after the last piece.
     fn finish(&self, alloc: Global, intake: Self::Intake) -> Result<Vec<u8>, Stop>

@@ -6,9 +6,9 @@ use Rattle.tool_run.proofs.feeding.feed_all.Given as goal
 -- the bytes taken from the source are those that the intake took
 abbrev pub invariant-loop-buffer : goal.invariant-loop-buffer
 invariant-loop-buffer g l = record {
-  fed : (bytes : List ℕ) × Consumes (g.I.Source.left l.initial.input) (g.I.Source.left l.input) bytes × (length bytes ≡ l.taken)
+  taken : (bytes : List ℕ) × Consumes (g.I.Source.left l.initial.input) (g.I.Source.left l.input) bytes × (length bytes ≡ l.taken)
       × TakesMore (g.T.PieceTool.takes l.tool) l.initial.intake l.intake bytes;
-  counted : g.T.PieceTool.counted l.intake ≤ l.taken;
+  fed : g.T.PieceTool.fed l.intake ≤ l.taken;
   within : l.taken ≤ l.limit;
   room : 1 ≤ vec_len l.buffer;
   faults : g.I.Source.faults l.initial.input ≤ g.I.Source.faults l.input;

@@ -1,10 +1,11 @@
-use Rattle.std.proofs.Common.{◌≡◌, ◌+◌, ◌++◌, ◌∷◌, [], List, false, not, drop, get_or, refl, sym, ap, subst, ◌∙◌, arith}
+use Rattle.std.proofs.Common.{◌≡◌, ◌+◌, ◌++◌, ◌∷◌, [], ◌||◌, ℕ, List, Bool, true, false, not, drop, get_or, refl, sym, ap, subst, ◌∙◌, arith}
 use Rattle.std.specs.Prelude.{None, map, vec_items, IsOkAnd}
 use Rattle.std.specs.Io.KnownBytes.{IsAtEnd}
 use Rattle.std.proofs.lemmas.List.{map_push, append-nil}
 use Rattle.tool_run.specs.declared.load.Load.{Load}
+use Rattle.tool_run.specs.declared.load.LoadStop.{LoadStop}
 use Rattle.tool_run.specs.Needs.{Need, IsSound, is_stream, need_of, reads_input, reads_files}
-use Rattle.tool_run.specs.Tasks.{loaded, reached}
+use Rattle.tool_run.specs.Tasks.{bytes_of, loaded, reached}
 use Rattle.tool_run.specs.Loads.{StopsLoading, WhereTold}
 use Rattle.tool_run.proofs.Loading.{Between, IsSound-rest, drop-all, drop-need, end-here, loads_all, not-first, not-others, stops_first, stops_later, stream-not, unreached-first, unreached-rest}
 use Rattle.tool_run.proofs.load.load_all.Goals as goal

@@ -1,5 +1,5 @@
-use Rattle.std.proofs.Common.{ap}
-use Rattle.tool_run.specs.Needs.{text_of}
+use Rattle.std.proofs.Common.{◌≡◌, ◌∙◌, ap, subst, sym, rules, arith}
+use Rattle.tool_run.specs.Needs.{need_of, text_of}
 use Rattle.tool_run.proofs.Loading.{file_stops, input_stops, failed-is}
 use Rattle.tool_run.proofs.load.load_one.Goals as goal
 

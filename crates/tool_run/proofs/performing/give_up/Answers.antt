@@ -1,4 +1,4 @@
-use Rattle.std.proofs.Common.{ℕ, List, refl, subst, sym, inl, inr, arith}
+use Rattle.std.proofs.Common.{◌≡◌, ℕ, List, refl, ap, subst, sym, inl, inr, arith}
 use Rattle.tool_run.specs.Lines.{line_of, out_of_memory}
 use Rattle.tool_run.specs.Effects.{Writes}
 use Rattle.tool_run.proofs.performing.give_up.Goals as goal

@@ -1,8 +1,8 @@
 // A task from its loads to its target.
-ghost use Rattle.std.specs.Prelude.{◌≡◌, ◌≢◌, ◌⊎◌, ◌≤◌, ℕ, List, None, map, vec_items};
+ghost use Rattle.std.specs.Prelude.{◌≡◌, map};
 ghost use Rattle.tool_run.specs.Needs.{IsSound, need_of, text_of};
-ghost use Rattle.tool_run.specs.Lines.{line_of, out_of_memory, source_name, target_name, write_failed};
-ghost use Rattle.tool_run.specs.Tasks.{Answer, Done, Task};
+ghost use Rattle.tool_run.specs.Lines.{line_of, out_of_memory, source_name, target_name};
+ghost use Rattle.tool_run.specs.Tasks.{Task};
 ghost use Rattle.tool_run.specs.Effects.{Writes};
 ghost use Rattle.tool_run.specs.Concluding.{Concludes, TellsStop};
 ghost use Rattle.tool_run.specs.Jobs.{task_of};

@@ -33,7 +33,8 @@ fn answer_to(alloc: Global, bytes: u64, has_zero: bool) -> Result<Vec<u8>, Stop>
 }
 
 impl Tool for Counting {
-    ghost use Rattle.std.specs.Prelude.{◌∷◌, [], ◌-◌, ◌%◌, length, codes, get_or, list_any, nat_eq, if◌then◌else◌};
+    ghost use Rattle.std.specs.Prelude.{◌∷◌, [], ◌-◌, ◌%◌, length, codes, get_or, nat_eq, if◌then◌else◌};
+    ghost use Rattle.std.specs.List.{list_any};
     ghost use Rattle.tool_run.specs.Tasks.{Done, Refused};
 
     ghost answer_of = { λ tool texts. if list_any (λ byte. nat_eq byte 0) (get_or texts (length texts - 1) []) then Refused (codes "zero") else Done (length (get_or texts (length texts - 1) []) % 256 ∷ []) };
@@ -45,7 +46,8 @@ impl Tool for Counting {
 }
 
 impl PieceTool for Counting {
-    ghost use Rattle.std.specs.Prelude.{◌≡◌, length, list_any, nat_eq};
+    ghost use Rattle.std.specs.Prelude.{◌≡◌, length, nat_eq};
+    ghost use Rattle.std.specs.List.{list_any};
 
     type Intake = Count;
 

@@ -11,8 +11,8 @@ use std::alloc::Global;
 // How many bytes a piece has, at most.
 const PIECE: usize = 65536;
 
-/// Feeds all bytes up to the end of the source, if there are at most `limit`. `TooLong` leaves `limit + 1` bytes read. A refusal
-/// of the tool doesn't end the reading.
+/// Feeds all bytes up to the end of the source, if there are at most `limit`. `TooLong` leaves `limit + 1` bytes read. What
+/// the tool refuses doesn't end the reading.
 pub(crate) fn feed_all<T: PieceTool, I: Source>(
     alloc: Global,
     tool: &T,

@@ -136,8 +136,8 @@ pub fn perform<T: Tool, F: Files, I: Source, O: Sink, E: Sink>(
     }
 }
 
-/// The same as `perform`, but where the last load is standard input, the tool takes that in pieces of at most 65,536 bytes, as they
-/// are read. A refusal is told only after the input was read to its end, so the statuses are those of `perform`.
+/// Performs the job as `perform` does, but where its last load is standard input, the tool takes that in pieces of at most
+/// 65,536 bytes, as they are read. A refusal is told only after the input was read to its end, so the statuses are the same.
 pub fn perform_in_pieces<T: PieceTool, F: Files, I: Source, O: Sink, E: Sink>(
     alloc: Global,
     tool: &T,

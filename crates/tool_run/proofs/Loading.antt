@@ -1,7 +1,6 @@
 -- Loading one need after the other.
-use Rattle.std.proofs.Common.{◌≡◌, ℕ, zero, suc, ◌+◌, ◌^◌, ◌<◌, ◌≤◌, Bool, true, false, not, ◌||◌, List, [], ◌∷◌, ◌++◌, length, drop, get_or, refl, sym, ap, subst, ◌∙◌, inl, inr, arith, append_assoc}
-use Rattle.std.specs.Prelude.{Option, None, Some, IsSome, Result, Ok, Err, IsErrOf, IsOkAnd, IsSomeAnd, MatchOption, Contains, All, map, slice_get}
-use Rattle.std.specs.Ordering.{nat_cmp}
+use Rattle.std.proofs.Common.{◌≡◌, ℕ, zero, suc, ◌+◌, ◌<◌, ◌≤◌, Bool, true, false, not, ◌||◌, List, [], ◌∷◌, ◌++◌, length, drop, get_or, refl, sym, ap, subst, ◌∙◌, inl, inr, arith, append_assoc}
+use Rattle.std.specs.Prelude.{Option, None, Some, IsSome, Result, Ok, Err, IsErrOf, IsOkAnd, IsSomeAnd, MatchOption, Contains, map}
 use Rattle.std.specs.FinMap.{get}
 use Rattle.std.specs.Prelude.{nat_lt}
 use Rattle.std.specs.declared.alloc.AllocError.{AllocError}
@@ -16,7 +15,7 @@ use Rattle.std.proofs.lemmas.Bool.{cases_Bool, lt-ltb}
 use Rattle.tool_run.specs.declared.load.Load.{Load}
 use Rattle.tool_run.specs.declared.load.LoadStop.{LoadStop}
 use Rattle.tool_run.specs.declared.load.LoadStop.TheVariants.{Failed, TooLong, Memory}
-use Rattle.tool_run.specs.Needs.{Need, need_of, text_of, is_stream, reads_input, reads_files, IsFile, IsSound}
+use Rattle.tool_run.specs.Needs.{Need, need_of, text_of, is_stream, reads_input, IsFile, IsSound}
 use Rattle.tool_run.specs.Tasks.{LoadFault, Missing, TooLong as MissesLimit, bytes_by, bytes_of, found, loaded, loaded_after, with_first, reached, reached_after}
 use Rattle.tool_run.specs.Effects.{SourceRose}
 use Rattle.tool_run.specs.Loads.{AreTold, FailsToLoad, StopsLoading, WhereTold}
@@ -138,7 +137,7 @@ stops_first contents steady left need needs loads new_loads inputs new_inputs Me
 -- ---- those behind the first
 
 -- a file isn't standard input
-file-name : (need : Need) → IsFile (Some need) → is_stream need.name ≡ false
+pub file-name : (need : Need) → IsFile (Some need) → is_stream need.name ≡ false
 file-name need file = named need.name file
   where
     named : (name : Option (List ℕ)) → IsSome name → is_stream name ≡ false
@@ -178,7 +177,7 @@ rest_reads known text need needs bytes gives e = rw (gives, e) (or-true (is_stre
     or-true false = refl
 
 -- a count that rose since later rose since earlier
-SourceRose-earlier : (need : Need) (loads earlier_loads new_loads inputs earlier_inputs new_inputs : ℕ) → earlier_loads ≤ loads → earlier_inputs ≤ inputs → SourceRose need loads new_loads inputs new_inputs → SourceRose need earlier_loads new_loads earlier_inputs new_inputs
+pub SourceRose-earlier : (need : Need) (loads earlier_loads new_loads inputs earlier_inputs new_inputs : ℕ) → earlier_loads ≤ loads → earlier_inputs ≤ inputs → SourceRose need loads new_loads inputs new_inputs → SourceRose need earlier_loads new_loads earlier_inputs new_inputs
 SourceRose-earlier need loads earlier_loads new_loads inputs earlier_inputs new_inputs load_le input_le rose = by_name need.name rose
   where
     by_name : (name : Option (List ℕ)) → MatchOption name (Rose inputs new_inputs) (λ n. Rose loads new_loads) → MatchOption name (Rose earlier_inputs new_inputs) (λ n. Rose earlier_loads new_loads)

@@ -1,6 +1,6 @@
 -- From loading and delivering to what a run does.
 use Rattle.std.proofs.Common.{◌≡◌, ◌⊎◌, ◌≤◌, ℕ, Bool, true, false, not, ◌||◌, List, [], ◌∷◌, ◌++◌, refl, sym, ap, subst, ◌∙◌, inl, inr, arith}
-use Rattle.std.specs.Prelude.{Option, None, Some, Result, Ok, Err, IsOkAnd, MatchOption}
+use Rattle.std.specs.Prelude.{Option, None, Some, Result, Ok, Err, IfOk, IfErr, IsOkAnd, MatchOption}
 use Rattle.std.proofs.lemmas.Bool.{cases_Bool}
 use Rattle.ice_io.specs.Faults.{Rose}
 use Rattle.ice_io.specs.Files.{FileMap}
@@ -9,6 +9,8 @@ use Rattle.tool_run.specs.Lines.{line_of, read_failed}
 use Rattle.tool_run.specs.Tasks.{Answer, Done, Refused, NotTaken, LoadFault, Missing, TooLong, Outcome, Task, answered, bytes_of, ended, loaded, outcome_of, reached, reached_after}
 use Rattle.tool_run.specs.Effects.{Foretells, SourceRose, Tells}
 use Rattle.tool_run.specs.Loads.{AreTold, FailsToLoad, NameIsTold, WhereTold}
+use Rattle.tool_run.specs.Stops.{StopsWith}
+use Rattle.tool_run.specs.Answering.{Gives, Made}
 use Rattle.tool_run.specs.Jobs.{RefusesWith}
 use Rattle.tool_run.specs.Runs.{HasBytes, IsRefusal, IsStatusFor}
 
@@ -34,11 +36,11 @@ ended-reads_input task needs (Ok texts) = answered-reads_input task needs (task.
 ended-reads_input task needs (Err (Missing need)) = refl
 ended-reads_input task needs (Err (TooLong need)) = refl
 
-or-left : (b c : Bool) → b ≡ true → (b || c) ≡ true
+pub or-left : (b c : Bool) → b ≡ true → (b || c) ≡ true
 or-left true c e = refl
 or-left false c e = absurd cc
 
-or-right : (b c : Bool) → c ≡ true → (b || c) ≡ true
+pub or-right : (b c : Bool) → c ≡ true → (b || c) ≡ true
 or-right true c e = refl
 or-right false c e = e
 
@@ -99,6 +101,11 @@ pub has_bytes : (task : Task) (needs : List Need) (answer : Answer) (bytes : Lis
 has_bytes task needs answer bytes done =
     let has : Answer → Type 0 = λ a. HasBytes bytes (answered task needs a) in
     subst has (sym done) (refl, refl)
+
+-- the bytes that are made are an answer, or the stop is its refusal
+pub gives_of : (made : Made) (answer : Answer) → IfOk made (λ bytes. answer ≡ Done bytes.items) → IfErr made (StopsWith answer) → Gives answer made
+gives_of (Ok bytes) answer done stops = done
+gives_of (Err stop) answer done stops = stops
 
 pub refuses : (task : Task) (needs : List Need) (answer : Answer) (status : ℕ) (said : List ℕ) (S : List ℕ → Type 0) → RefusesWith answer status said → S (line_of task.speaker said)
     → ((answered task needs answer).status ≡ status) × S (answered task needs answer).message

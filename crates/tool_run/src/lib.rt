@@ -6,13 +6,16 @@
 //! function here that answers a status has it as its one clause.
 #![tactic(auto)]
 
+mod answering;
 mod at_once;
 mod delivery;
+mod feeding;
 mod help;
 mod line;
 mod load;
 mod loaded;
 mod performing;
+mod piece_tool;
 mod tool;
 
 pub use at_once::{AtOnce, answer_at_once};
@@ -20,5 +23,9 @@ pub use help::asks_for_help;
 pub use line::{Number, Phrase, Refusal, decimal, text};
 pub use load::Load;
 pub use loaded::loaded_at;
-pub use performing::{Job, give_up, perform};
+pub use performing::{Job, give_up, perform, perform_in_pieces};
+pub use piece_tool::PieceTool;
 pub use tool::{Stop, Tool};
+
+#[cfg(test)]
+mod tests;

@@ -38,8 +38,8 @@ impl<'a, T: Drop> From<AllocFailed<T>> for LoadStop<'a> {
     }
 }
 
-// Why a load stopped at that fault.
-fn stop_of(fault: TakeFault, load: Load<'_>) -> LoadStop<'_>
+/// Why a load stopped at that fault.
+pub(crate) fn stop_of(fault: TakeFault, load: Load<'_>) -> LoadStop<'_>
     ensures failed { fault ≡ TakeFault.Failed → result ≡ LoadStop.Failed load.entry }
     ensures too_long { fault ≡ TakeFault.TooLong → result ≡ LoadStop.TooLong load.entry }
     ensures memory { (e : AllocError) → fault ≡ TakeFault.Memory e → result ≡ LoadStop.Memory }

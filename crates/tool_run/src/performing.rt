@@ -1,15 +1,18 @@
 // A task from its loads to its target.
-ghost use Rattle.std.specs.Prelude.{◌≡◌, ◌≢◌, ◌⊎◌, ◌≤◌, ℕ, List, None, map, vec_items};
+ghost use Rattle.std.specs.Prelude.{◌≡◌, map};
 ghost use Rattle.tool_run.specs.Needs.{IsSound, need_of, text_of};
-ghost use Rattle.tool_run.specs.Lines.{line_of, out_of_memory, source_name, target_name, write_failed};
-ghost use Rattle.tool_run.specs.Tasks.{Answer, Done, Task};
-ghost use Rattle.tool_run.specs.Effects.{Delivers, DeliversPart, TargetRose, Writes};
-ghost use Rattle.tool_run.specs.Jobs.{RefusesWith, task_of};
+ghost use Rattle.tool_run.specs.Lines.{line_of, out_of_memory, source_name, target_name};
+ghost use Rattle.tool_run.specs.Tasks.{Task};
+ghost use Rattle.tool_run.specs.Effects.{Writes};
+ghost use Rattle.tool_run.specs.Concluding.{Concludes, TellsStop};
+ghost use Rattle.tool_run.specs.Jobs.{task_of};
 ghost use Rattle.tool_run.specs.Runs.{Does, outside, scene};
 
+use crate::answering::{answer_in_pieces, answer_whole};
 use crate::delivery::deliver;
 use crate::line::{Phrase, Refusal, decimal, text, write_named, write_refusal};
-use crate::load::{Load, LoadStop, load_all};
+use crate::load::{Load, LoadStop};
+use crate::piece_tool::PieceTool;
 use crate::tool::{Stop, Tool};
 use ice_io::{Files, Sink, Source};
 use std::alloc::Global;
@@ -52,38 +55,18 @@ fn write_out_of_memory<E: Sink>(errors: &mut E, speaker: &str)
     write_named(errors, speaker, "out of memory", "", text(""));
 }
 
-// Delivers the tool's answer to what was loaded.
-fn conclude<T: Tool, F: Files, O: Sink, E: Sink>(
-    alloc: Global,
-    tool: &T,
+// Delivers what the tool made, or says why there is nothing.
+fn conclude<F: Files, O: Sink, E: Sink>(
     job: &Job<'_>,
-    loaded: &Vec<Vec<u8>>,
+    made: Result<Vec<u8>, Stop>,
     files: &mut F,
     output: &mut O,
     errors: &mut E,
 ) -> u8
-    ensures statuses { (result ≡ 0) ⊎ (result ≡ 1) ⊎ (result ≡ 2) ⊎ (result ≡ 4) ⊎ (result ≡ 5) }
-    ensures whole { result ≡ 0 → (bytes : List ℕ)
-        × Delivers (text_of job.now.target) bytes (F.contents files.old) (F.contents files.new) (O.held output.old) (O.held output.new)
-        × (T.answer_of tool.now (map vec_items loaded.now.items) ≡ Done bytes) }
-    ensures silent { result ≡ 0 → errors.new ≡ errors.old }
-    ensures refused { (result ≡ 1) ⊎ (result ≡ 2) → (said : List ℕ)
-        × RefusesWith (T.answer_of tool.now (map vec_items loaded.now.items)) result said
-        × Writes (line_of job.now.speaker.now said) (E.held errors.old) (E.held errors.new) (E.faults errors.old) (E.faults errors.new) }
-    ensures part { result ≡ 4 → (bytes : List ℕ)
-        × DeliversPart (text_of job.now.target) bytes (F.contents files.old) (F.contents files.new) (O.held output.old) (O.held output.new)
-        × (T.answer_of tool.now (map vec_items loaded.now.items) ≡ Done bytes) }
-    ensures rose { result ≡ 4 → TargetRose (text_of job.now.target) (F.store_faults files.old) (F.store_faults files.new) (O.faults output.old) (O.faults output.new) }
-    ensures target_line { result ≡ 4 → Writes (line_of job.now.speaker.now (write_failed (text_of job.now.target)))
-        (E.held errors.old) (E.held errors.new) (E.faults errors.old) (E.faults errors.new) }
-    ensures memory { result ≡ 5 → Writes (line_of job.now.speaker.now out_of_memory) (E.held errors.old) (E.held errors.new) (E.faults errors.old) (E.faults errors.new) }
-    ensures untouched { result ≢ 0 → result ≢ 4 → output.new ≡ output.old }
-    ensures kept { result ≢ 0 → result ≢ 4 → files.new ≡ files.old }
-    ensures aside { text_of job.now.target ≢ None → output.new ≡ output.old }
-    ensures unasked { text_of job.now.target ≡ None → files.new ≡ files.old }
-    ensures same_load_faults { F.load_faults files.new ≡ F.load_faults files.old }
+    ensures { Concludes F.contents F.store_faults O.held O.faults E.held E.faults job.now.speaker.now (text_of job.now.target) made result
+        files.old files.new output.old output.new errors.old errors.new }
 {
-    match tool.answer(alloc, loaded) {
+    match made {
         Ok(bytes) => match deliver(job.target, &bytes, files, output) {
             Ok(()) => 0,
             Err(_) => {
@@ -107,6 +90,28 @@ fn conclude<T: Tool, F: Files, O: Sink, E: Sink>(
     }
 }
 
+// Says why loading stopped.
+fn tell_stop<E: Sink>(errors: &mut E, speaker: &str, stop: LoadStop<'_>) -> u8
+    ensures { TellsStop result (λ said. Writes (line_of speaker.now said) (E.held errors.old) (E.held errors.new) (E.faults errors.old) (E.faults errors.new)) stop.entry }
+{
+    match stop {
+        LoadStop::Failed(load) => {
+            let name = source_name(load);
+            write_named(errors, speaker, "read failed: ", name, text(""));
+            3
+        }
+        LoadStop::TooLong(load) => {
+            let limit = decimal(" limit ", load.limit as u64);
+            write_named(errors, speaker, "too long: ", source_name(load), limit);
+            6
+        }
+        LoadStop::Memory => {
+            write_out_of_memory(errors, speaker);
+            5
+        }
+    }
+}
+
 /// Loads what the job needs, in order, makes the tool's answer of it, and delivers that to the target. All of the answer
 /// is made before its first byte goes out. The status is 0 where all was done, 1 where the tool refuses what it was given,
 /// 2 where it doesn't take the command line, 3 where a read failed, 4 where a write failed, 5 where memory ran out, and 6
@@ -125,23 +130,31 @@ pub fn perform<T: Tool, F: Files, I: Source, O: Sink, E: Sink>(
         (task_of job.now (T.answer_of tool.now)) result
         (scene files.old input.old output.old errors.old) (scene files.new input.new output.new errors.new) }
 {
-    let mut loaded = Vec::new(alloc);
-    match load_all(alloc, job.loads, files, input, &mut loaded) {
-        Ok(()) => conclude(alloc, tool, job, &loaded, files, output, errors),
-        Err(LoadStop::Failed(load)) => {
-            let name = source_name(load);
-            write_named(errors, job.speaker, "read failed: ", name, text(""));
-            3
-        }
-        Err(LoadStop::TooLong(load)) => {
-            let limit = decimal(" limit ", load.limit as u64);
-            write_named(errors, job.speaker, "too long: ", source_name(load), limit);
-            6
-        }
-        Err(LoadStop::Memory) => {
-            write_out_of_memory(errors, job.speaker);
-            5
-        }
+    match answer_whole(alloc, tool, job.loads, files, input) {
+        Ok(made) => conclude(job, made, files, output, errors),
+        Err(stop) => tell_stop(errors, job.speaker, stop),
+    }
+}
+
+/// Performs the job as `perform` does, but where its last load is standard input, the tool takes that in pieces of at most
+/// 65,536 bytes, as they are read. A refusal is told only after the input was read to its end, so the statuses are the same.
+pub fn perform_in_pieces<T: PieceTool, F: Files, I: Source, O: Sink, E: Sink>(
+    alloc: Global,
+    tool: &T,
+    job: &Job<'_>,
+    files: &mut F,
+    input: &mut I,
+    output: &mut O,
+    errors: &mut E,
+) -> u8
+    requires { IsSound (map need_of job.now.loads.now) }
+    ensures { Does (outside F.contents F.steady F.load_faults F.store_faults I.left I.faults O.held O.faults E.held E.faults)
+        (task_of job.now (T.answer_of tool.now)) result
+        (scene files.old input.old output.old errors.old) (scene files.new input.new output.new errors.new) }
+{
+    match answer_in_pieces(alloc, tool, job.loads, files, input) {
+        Ok(made) => conclude(job, made, files, output, errors),
+        Err(stop) => tell_stop(errors, job.speaker, stop),
     }
 }
 

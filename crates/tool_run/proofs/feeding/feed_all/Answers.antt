@@ -1,0 +1,29 @@
+use Rattle.std.proofs.Common.{arith, ◌+◌, ◌++◌, append_assoc, subst, take}
+use Rattle.std.proofs.KnownBytes.{Consumes-trans}
+use Rattle.std.proofs.lemmas.Grind.{common_steps}
+use Rattle.ice_io.proofs.Parts.{TakesCount_more}
+use Rattle.tool_run.proofs.feeding.feed_all.Goals as goal
+
+pub returns-then-taken-count-clause-too_long : goal.returns-then-taken-count-clause-too_long
+returns-then-taken-count-clause-too_long g c =
+    let taken = c.loop-buffer.invariant.taken in
+    λ _. TakesCount_more (g.I.Source.left c.args.input.now) (g.I.Source.left c.loop-buffer.input) (g.I.Source.left c.read.new.self) taken.0 (take c.in_ok-count.count c.read.new.into) (c.args.limit + 1)
+    taken.1 c.in_ok-count.ensures.bytes.0 (grind (arith, common_steps, taken.2))
+
+pub loop-buffer-preserved : goal.loop-buffer-preserved
+loop-buffer-preserved g c =
+    let i = c.loop-buffer.invariant in
+    let bytes = i.taken.0 in
+    let piece = take c.in_ok-count.count c.read.new.into in
+    record {
+      taken = (
+        bytes ++ piece,
+        Consumes-trans (g.I.Source.left c.args.input.now) (g.I.Source.left c.loop-buffer.input) (g.I.Source.left c.read.new.self) bytes piece i.taken.1 c.in_ok-count.ensures.bytes.0,
+        grind (arith, common_steps, i.taken.2),
+        λ texts before takes. subst (λ all. g.T.PieceTool.takes c.args.tool.now texts c.feed.new.intake all) (append_assoc before bytes piece) (c.feed.ensures.taken texts (before ++ bytes) (i.taken.3 texts before takes)),
+      );
+      fed = grind (arith, common_steps, i.fed, c.feed.ensures.bound);
+      within = omega (arith, c.if-taken-count.false);
+      room = i.room;
+      faults = omega (arith, i.faults, c.in_ok-count.ensures.never_falls);
+    }

@@ -51,3 +51,11 @@ Follows-right before [] more follows = subst (λ all. Follows all more) (sym (ap
 Follows-right before (command ∷ commands) more follows =
     subst (λ all. Follows all more) (append_assoc before (command ∷ []) commands)
     (Follows-right (before ++ command ∷ []) commands more follows.1)
+
+-- another command behind them
+pub Follows-push : (before commands : List Command) (command : Command) → Follows before commands → IsAllowedAfter (before ++ commands) command → Follows before (commands ++ command ∷ [])
+Follows-push before [] command follows allowed = (subst (λ all. IsAllowedAfter all command) (append-nil before) allowed, tt)
+Follows-push before (first ∷ commands) command follows allowed = (
+  follows.0,
+  Follows-push (before ++ first ∷ []) commands command follows.1 (subst (λ all. IsAllowedAfter all command) (sym (append_assoc before (first ∷ []) commands)) allowed),
+)

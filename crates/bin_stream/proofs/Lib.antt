@@ -25,3 +25,6 @@ pub mod PlanesBack
 pub mod CanonicalAllowed
 pub mod RoundTrip
 pub mod Assembled
+pub mod Settled
+pub mod FrontGrown
+pub mod Stages

@@ -53,7 +53,7 @@ unfolding spelled
 spelled-one command = append-nil (spelling command)
 
 -- one command more
-spelled-push : (commands : List Command) (command : Command) → spelled (commands ++ command ∷ []) ≡ spelled commands ++ spelling command
+pub spelled-push : (commands : List Command) (command : Command) → spelled (commands ++ command ∷ []) ≡ spelled commands ++ spelling command
 spelled-push commands command = spelled-append commands (command ∷ []) ∙ ap (λ bytes. spelled commands ++ bytes) (spelled-one command)
 
 -- allowed commands without a wake-up are read as they are spelled

@@ -15,7 +15,7 @@ use Rattle.bin_stream.specs.declared.fault.BinCause.TheVariants.{Truncated, Long
 -- ---- an allowed command
 
 -- what is wrong with a command, by the parts of its first byte
-fault-head : (before : List Command) (place head count opcode : ℕ) (rest payload behind : List ℕ) → head % 16 ≡ count → head / 16 ≡ opcode → count < 5 → count ≤ length rest → take count rest ≡ payload → drop count rest ≡ behind → first_fault before place (head ∷ rest) ≡ payload_fault before place opcode payload (data_kind opcode (number_of payload)) behind
+pub fault-head : (before : List Command) (place head count opcode : ℕ) (rest payload behind : List ℕ) → head % 16 ≡ count → head / 16 ≡ opcode → count < 5 → count ≤ length rest → take count rest ≡ payload → drop count rest ≡ behind → first_fault before place (head ∷ rest) ≡ payload_fault before place opcode payload (data_kind opcode (number_of payload)) behind
 fault-head before place head count opcode rest payload behind count_is opcode_is short within taken dropped =
     rw (count_is, opcode_is, le-ltb 4 count (omega arith), le-ltb (length rest) count within, taken, dropped) refl
 

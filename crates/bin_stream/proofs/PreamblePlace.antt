@@ -11,7 +11,7 @@ or_here-from None true here k is = inr (refl, cc)
 or_here-from None false here k is = absurd cc
 
 -- the least place that passes is below the bound, and passes
-least_below-place : (n k : ℕ) (test : ℕ → Bool) → least_below n test ≡ Some k → (k < n) × (test k ≡ true)
+pub least_below-place : (n k : ℕ) (test : ℕ → Bool) → least_below n test ≡ Some k → (k < n) × (test k ≡ true)
 unfolding least_below
 least_below-place zero k test is = absurd cc
 least_below-place (suc n) k test is =

@@ -18,24 +18,28 @@ use Rattle.bin_stream.specs.Front.{preamble_offset, comment_of}
 use Rattle.bin_stream.specs.Meaning.{meaning, planes_of, plane_bit}
 use Rattle.bin_stream.specs.Spelling.{first_command, commands_from, device_or, image_of, read_behind, bin_read_of, Tells}
 use Rattle.bin_stream.specs.inside.Registers.{Held, held_first, held_after, settings_by}
-use Rattle.bin_stream.specs.inside.Step.{Refuses, IsEntered, HasRead, IsFinished, IsDrawn, IsBlank, Holds}
+use Rattle.bin_stream.specs.inside.Step.{Refuses, IsEntered, HasRead, IsFinished, IsDrawn, IsBlank, Holds, Stands}
 use Rattle.bin_stream.specs.declared.fault.BinCause.TheVariants.{NoPreamble}
 use Rattle.bin_stream.specs.declared.fault.BinFault.{BinFault}
 use Rattle.bin_stream.specs.declared.fault.BinFault.TheVariants.{At, Memory}
 use Rattle.bin_stream.proofs.Steps.{held_first-is}
 
+-- what holds before the first command
+pub Stands-first : (layouts : Layouts) (held : Held) → held ≡ held_first → Stands layouts [] held None
+unfolding any_below first_below last_below device_after plane_bit
+Stands-first layouts held is = record {
+  held_is = is ∙ held_first-is;
+  drawn = record { no_device = refl; not_reached = refl; no_bit = λ kind at. refl };
+}
+
 -- nothing is read
 pub HasRead-first : (layouts : Layouts) (bytes : List ℕ) (start : ℕ) (held : Held) → held ≡ held_first → HasRead layouts bytes start start held None
-unfolding any_below first_below last_below device_after plane_bit
 HasRead-first layouts bytes start held is = record {
   commands = [];
   most = length bytes + 1;
   enough = omega arith;
   goes_on = refl;
-  stands = record {
-    held_is = is ∙ held_first-is;
-    drawn = record { no_device = refl; not_reached = refl; no_bit = λ kind at. refl };
-  };
+  stands = Stands-first layouts held is;
 }
 
 -- what there is where the first command is read

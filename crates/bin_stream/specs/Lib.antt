@@ -6,4 +6,6 @@ pub mod Front
 pub mod Meaning
 pub mod Spelling
 pub mod CanonicalBytes
+pub mod Settled
+pub mod Decoding
 pub mod inside

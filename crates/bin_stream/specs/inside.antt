@@ -3,3 +3,4 @@ pub mod Register
 pub mod Registers
 pub mod Step
 pub mod Pieces
+pub mod Stages

@@ -9,7 +9,7 @@ mod reading;
 mod writing;
 
 pub use fault::{BinCause, BinFault};
-pub use reading::{decode, decode_with};
+pub use reading::{Decoder, decode, decode_with};
 pub use writing::encode;
 
 #[cfg(test)]

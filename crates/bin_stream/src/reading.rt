@@ -5,6 +5,10 @@ mod decoder;
 mod front;
 mod head;
 mod machine;
+mod pieces;
 mod registers;
+mod stage;
+mod taking;
 
 pub use decoder::{decode, decode_with};
+pub use pieces::Decoder;

@@ -1,4 +1,5 @@
 // Streams that are known from outside.
 
+mod pieces;
 mod reading;
 mod writing;

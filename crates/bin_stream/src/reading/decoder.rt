@@ -4,12 +4,12 @@ ghost use Rattle.layout_file.specs.Layouts.{standard_layouts, AreLayouts};
 ghost use Rattle.ice_image.specs.Either.{configuration_of};
 ghost use Rattle.bin_stream.specs.Spelling.{IsDecided, commands_from, image_of, bin_read_of, Tells};
 ghost use Rattle.bin_stream.specs.Front.{comment_of};
-ghost use Rattle.bin_stream.specs.inside.Step.{IsFinished};
 
 use super::front::{comment_of, preamble_offset};
 use super::head::fault_at;
 use super::machine::Machine;
 use super::registers::Registers;
+use super::taking::image_at_end;
 use crate::fault::{BinCause, BinFault};
 use crate::marks::PREAMBLE;
 use ice_image::AnyImage;
@@ -67,24 +67,5 @@ fn read_commands(
             return image_at_end(machine, offset);
         }
         offset += entered.size;
-    }
-}
-
-/// The image at the wake-up, which is at that offset, with the settings that the commands give.
-fn image_at_end(machine: Machine, offset: usize) -> Result<AnyImage, BinFault>
-    ensures image { IfOk result (λ image. IsFinished machine.registers machine.image image) }
-    ensures missing { IfErr result (λ fault. machine.image ≡ None) }
-{
-    let Machine {
-        registers,
-        image,
-        ..
-    } = machine;
-    match image {
-        Some(mut image) => {
-            image.set_settings(registers.settings());
-            Ok(image)
-        }
-        None => Err(fault_at(offset, BinCause::NoDevice)),
     }
 }

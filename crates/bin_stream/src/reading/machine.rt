@@ -1,5 +1,5 @@
 // Taking the commands of a bitstream, one after the other.
-ghost use Rattle.std.specs.Prelude.{List, ◌≡◌, ◌+◌, ◌*◌, ◌/◌, ◌%◌, ◌<◌, ◌≤◌, ◌^◌, ◌==◌, ◌&&◌, None, Some, IfOk, IfErr, length, take, drop, get_or};
+ghost use Rattle.std.specs.Prelude.{List, ◌≡◌, ◌+◌, ◌*◌, ◌/◌, ◌%◌, ◌<◌, ◌≤◌, ◌^◌, ◌==◌, ◌&&◌, None, Some, true, IfOk, IfErr, length, take, drop, get_or};
 ghost use Rattle.place_search.specs.Places.{or_else};
 ghost use Rattle.layout_file.specs.Layouts.{AreLayouts};
 ghost use Rattle.ice_image.specs.Either.{configuration_of};
@@ -8,6 +8,7 @@ ghost use Rattle.bin_stream.specs.State.{device_with};
 ghost use Rattle.bin_stream.specs.Refusals.{first_fault};
 ghost use Rattle.bin_stream.specs.inside.Registers.{Fits, size_by, after_data};
 ghost use Rattle.bin_stream.specs.inside.Step.{Refuses, data_refusal, device_if, image_or_blank, IsDrawnOn, Stands, IsEntered};
+ghost use Rattle.bin_stream.specs.inside.Stages.{is_cut};
 
 use super::data_kind::data_kind;
 use super::head::{body_of, fault_at, number_of, payload_of};
@@ -52,6 +53,8 @@ impl Machine {
         ensures some { IfOk result (λ entered. 0 < entered.size) }
         ensures entered { IfOk result (λ entered. (commands : List Command) → Stands self.old.layouts commands self.old.registers self.old.image → IsEntered self.old.layouts commands offset bytes.now entered.size entered.is_last self.new.registers self.new.image) }
         ensures refused { IfErr result (λ fault. (commands : List Command) → Stands self.old.layouts commands self.old.registers self.old.image → Refuses (first_fault commands offset bytes.now) fault) }
+        ensures same_registers { IfErr result (λ fault. is_cut fault ≡ true → self.new.registers ≡ self.old.registers) }
+        ensures same_image { IfErr result (λ fault. is_cut fault ≡ true → self.new.image ≡ self.old.image) }
     {
         let payload = payload_of(offset, bytes)?;
         let start = 1 + payload.len();
@@ -95,6 +98,8 @@ impl Machine {
         ensures drawn { IfOk result (λ size. IsDrawnOn self.old.layouts kind self.old.registers (take (size_by self.old.registers) (drop start bytes.now)) self.old.image self.new.image) }
         ensures allowed { IfOk result (λ size. data_refusal self.old.registers (device_if self.old.image) kind offset (offset + start) (drop start bytes.now) ≡ None) }
         ensures refused { IfErr result (Refuses (data_refusal self.old.registers (device_if self.old.image) kind offset (offset + start) (drop start bytes.now))) }
+        ensures same_registers { IfErr result (λ fault. is_cut fault ≡ true → self.new.registers ≡ self.old.registers) }
+        ensures same_image { IfErr result (λ fault. is_cut fault ≡ true → self.new.image ≡ self.old.image) }
     {
         match self.registers.device_for(kind, self.device()) {
             Err(cause) => Err(fault_at(offset, cause)),

@@ -8,7 +8,7 @@ use plane_map::{DeviceName, Place};
 use std::alloc::{AllocError, Global};
 
 /// Up to the bytes of the last two rows of a configuration plane of the HX1K.
-const HX1K_HEAD: &[u8] = b"\x7E\xAA\x99\x7E\x62\x01\x4B\x72\x00\x02\x82\x00\x8E\x01\x01";
+pub(super) const HX1K_HEAD: &[u8] = b"\x7E\xAA\x99\x7E\x62\x01\x4B\x72\x00\x02\x82\x00\x8E\x01\x01";
 
 /// Up to the bytes of the last row of bank 3's configuration plane of the HX8K.
 const HX8K_HEAD: &[u8] = b"\x7E\xAA\x99\x7E\x62\x03\x67\x72\x00\x01\x82\x01\x0F\x11\x03\x01\x01";
@@ -17,10 +17,10 @@ const HX8K_HEAD: &[u8] = b"\x7E\xAA\x99\x7E\x62\x03\x67\x72\x00\x01\x82\x01\x0F\
 const AGAIN: &[u8] = b"\x00\x00\x01\x01\x80";
 
 /// The end of data, and the wake-up.
-const END: &[u8] = b"\x00\x00\x01\x06";
+pub(super) const END: &[u8] = b"\x00\x00\x01\x06";
 
 /// Bytes, and behind them so many copies of one byte.
-type Part = (&'static [u8], u8, usize);
+pub(super) type Part = (&'static [u8], u8, usize);
 
 /// Appends a part of a stream.
 fn append_part(stream: &mut Vec<u8>, part: &Part) -> Result<(), AllocError> {
@@ -33,7 +33,7 @@ fn append_part(stream: &mut Vec<u8>, part: &Part) -> Result<(), AllocError> {
 }
 
 /// A stream in parts.
-fn stream_of(alloc: Global, parts: &[Part]) -> Result<Vec<u8>, AllocError> {
+pub(super) fn stream_of(alloc: Global, parts: &[Part]) -> Result<Vec<u8>, AllocError> {
     let mut stream = Vec::new(alloc);
     for part in parts {
         append_part(&mut stream, part)?;
@@ -218,7 +218,7 @@ fn a_front_may_hold_a_comment(rt: HostRuntime) {
 }
 
 /// The stream of an image of the HX1K without a bit, with a comment without lines.
-fn blank_stream(alloc: Global) -> Result<Vec<u8>, AllocError> {
+pub(super) fn blank_stream(alloc: Global) -> Result<Vec<u8>, AllocError> {
     let mut image = AnyImage::zeroed(alloc, DeviceName::K1)?;
     image.set_comment(Some(Comment::new(alloc)));
     encode(alloc, &image)

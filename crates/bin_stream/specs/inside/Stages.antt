@@ -1,0 +1,90 @@
+-- What a decoder keeps of the bytes so far.
+use Rattle.std.specs.Prelude.{◌≡◌, ◌≢◌, ℕ, ◌+◌, ◌-◌, ◌≤◌, Bool, true, false, List, ◌∷◌, [], ◌++◌, length, take, drop, bytes_eq, Option, Some, None, Result, Ok, Err}
+use Rattle.std.specs.declared.vec.Vec.{Vec}
+use Rattle.layout_file.specs.declared.layouts.Layouts.{Layouts}
+use Rattle.ice_image.specs.Configuration.{Configuration}
+use Rattle.ice_image.specs.Either.{configuration_of}
+use Rattle.ice_image.specs.declared.any.AnyImage.{AnyImage}
+use Rattle.bin_stream.specs.Commands.{Command, spelled}
+use Rattle.bin_stream.specs.Refusals.{Fault, fault_at, first_fault}
+use Rattle.bin_stream.specs.Front.{preamble, preamble_offset, comment_of}
+use Rattle.bin_stream.specs.Spelling.{IsAllowed, IsFront, NoWakeUp, bin_read_of}
+use Rattle.bin_stream.specs.Settled.{is_unfinished, Settles}
+use Rattle.bin_stream.specs.inside.Registers.{Held}
+use Rattle.bin_stream.specs.inside.Step.{Stands, IsFinished}
+use Rattle.bin_stream.specs.declared.fault.BinCause.TheVariants.{Truncated}
+use Rattle.bin_stream.specs.declared.fault.BinFault.{BinFault}
+use Rattle.bin_stream.specs.declared.fault.BinFault.TheVariants.{At, Memory}
+use Rattle.bin_stream.specs.declared.reading.stage.Stage.{Stage}
+use Rattle.bin_stream.specs.declared.reading.stage.Stage.TheVariants.{Front, Commands, Image, Refused}
+
+-- whether a fault is that the input ends too early
+abbrev pub is_cut : BinFault → Bool
+is_cut (At offset cause) = is_unfinished cause
+is_cut (Memory e) = false
+
+-- ---- before the preamble
+
+abbrev pub begins_comment : List ℕ → Bool
+begins_comment bytes = bytes_eq (take 2 bytes) (0xFF ∷ 0 ∷ [])
+
+-- Bytes without a preamble, of which the last ones are kept: all of them, or where there is no comment three at least.
+pub record KeepsFront (bytes : List ℕ) (is_plain : Bool) (kept : List ℕ) : Type 0 where
+  pub none : preamble_offset bytes ≡ None
+  pub within : length kept ≤ length bytes
+  pub kept_is : kept ≡ drop (length bytes - length kept) bytes
+  pub whole : is_plain ≡ false → kept ≡ bytes
+  pub plain : is_plain ≡ true → (3 ≤ length kept) × (begins_comment bytes ≡ false)
+
+-- ---- commands
+
+-- The bytes are a front, the preamble, allowed commands without a wake-up up to an offset, and a rest. The comment is that of
+-- the front, and registers and an image are what the commands leave.
+pub record IsReading (layouts : Layouts) (bytes : List ℕ) (comment : Option (List (List ℕ))) (held : Held) (image : Option AnyImage) (offset : ℕ) (rest : List ℕ) : Type 0 where
+  pub front : List ℕ
+  pub commands : List Command
+  pub spelled_is : bytes ≡ front ++ preamble ++ (spelled commands ++ rest)
+  pub front_is : IsFront front bytes
+  pub comment_is : comment ≡ comment_of front
+  pub allowed : IsAllowed commands
+  pub before : NoWakeUp commands
+  pub stands : Stands layouts commands held image
+  pub offset_is : offset ≡ length front + 4 + length (spelled commands)
+
+-- the same where the rest is less than a command
+pub record IsCut (layouts : Layouts) (bytes : List ℕ) (comment : Option (List (List ℕ))) (held : Held) (image : Option AnyImage) (offset : ℕ) (rest : List ℕ) : Type 0 where
+  pub reading : IsReading layouts bytes comment held image offset rest
+  pub cut : first_fault reading.commands offset rest ≡ Some (fault_at (offset + length rest) Truncated)
+
+-- the wake-up was read: with the settings and the comment the image is what the bytes spell
+pub record IsWoken (layouts : Layouts) (bytes : List ℕ) (comment : Option (List (List ℕ))) (held : Held) (image : Option AnyImage) : Type 0 where
+  pub is_there : image ≢ None
+  pub read : (finished : AnyImage) → IsFinished held image finished → bin_read_of layouts bytes ≡ Ok (record (configuration_of finished) { comment = comment })
+
+-- ---- stages
+
+-- how many bytes a stage keeps
+abbrev pub length_kept : Stage → ℕ
+length_kept (Front is_plain kept) = length kept.items
+length_kept (Commands comment registers image pending) = length pending.items
+length_kept (Image image) = 0
+length_kept (Refused fault) = 0
+
+-- a stage is that of the bytes
+abbrev pub IsStage : Layouts → List ℕ → Stage → Type 0
+IsStage layouts bytes (Front is_plain kept) = KeepsFront bytes is_plain kept.items
+IsStage layouts bytes (Commands comment registers image pending) = IsCut layouts bytes comment registers image (length bytes - length pending.items) pending.items
+IsStage layouts bytes (Image image) = bin_read_of layouts bytes ≡ Ok (configuration_of image)
+IsStage layouts bytes (Refused fault) = Settles (bin_read_of layouts bytes) fault
+
+-- the stage that follows, which is a refusal where there is a fault
+abbrev pub stage_of : Result Stage BinFault → Stage
+stage_of (Ok stage) = stage
+stage_of (Err fault) = Refused fault
+
+-- the fault of a refusal
+abbrev pub fault_in : Stage → Option BinFault
+fault_in (Front is_plain kept) = None
+fault_in (Commands comment registers image pending) = None
+fault_in (Image image) = None
+fault_in (Refused fault) = Some fault

@@ -1,8 +1,11 @@
 pub mod Bytes
 pub mod Flats
 pub mod Grids
+pub mod Packed
+pub mod Parts
 pub mod Places
 pub mod TileRows
+pub mod Turned
 pub mod Words
 mod Worked
 pub mod Made

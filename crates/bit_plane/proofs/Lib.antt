@@ -1,9 +1,11 @@
 pub mod Bytes
 pub mod Flats
 pub mod Grids
+pub mod Kept
 pub mod Packed
 pub mod Parts
 pub mod Places
+pub mod Streams
 pub mod TileRows
 pub mod Turned
 pub mod Words

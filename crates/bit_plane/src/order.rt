@@ -136,6 +136,14 @@ pub fn put_bytes(words: &mut [u64], position: usize, bytes: &[u8])
     put_each(words, position + 8 * whole, &bytes[whole..]);
 }
 
+/// Sets eight bytes from a place on.
+fn set_eight(bytes: &mut [u8], at: usize, eight: [u8; 8])
+    requires { at + 8 ≤ length bytes.old }
+    ensures { bytes.new ≡ placed at eight bytes.old }
+{
+    bytes[at..at + 8].copy_from_slice(&eight);
+}
+
 /// Fills the bytes, up to the last eight whole ones, with the bits from a position on.
 fn take_eights(words: &[u64], position: usize, bytes: &mut [u8])
     requires words { position + 8 * length bytes.old < 64 * length words.now }
@@ -144,7 +152,7 @@ fn take_eights(words: &[u64], position: usize, bytes: &mut [u8])
 {
     for index in 0..bytes.len() / 8 {
         let eight = take_word(words, position + 64 * index, 64);
-        bytes[8 * index..8 * index + 8].copy_from_slice(&bytes_of_word(eight));
+        set_eight(bytes, 8 * index, bytes_of_word(eight));
     }
 }
 

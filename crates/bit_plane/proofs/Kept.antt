@@ -1,5 +1,5 @@
 -- What is written into a plane's words, and read from them, as bits of its rows.
-use Rattle.std.proofs.Common.{◌≡◌, ℕ, zero, suc, ◌+◌, ◌-◌, ◌*◌, ◌/◌, ◌==◌, ◌^◌, ◌<◌, ◌≤◌, Bool, true, false, List, [], ◌∷◌, ◌++◌, length, get_or, set, take, drop, replicate, refl, sym, ap, ap₂, ◌∙◌, arith, take_at, drop_at, take-take, take-append-drop, length-append, length-take-le, length-drop}
+use Rattle.std.proofs.Common.{◌≡◌, ℕ, zero, suc, ◌+◌, ◌-◌, ◌*◌, ◌/◌, ◌==◌, ◌^◌, ◌<◌, ◌≤◌, Bool, true, false, List, [], ◌∷◌, ◌++◌, length, get_or, set, take, drop, replicate, refl, sym, ap, ap₂, ◌∙◌, arith, append_assoc, take_at, drop_at, take-take, take-append-drop, length-append, length-take-le, length-drop}
 use mir.Val.{bool_byte}
 use Rattle.std.proofs.lemmas.List.{drop-take, take-set, drop-set, take-replicate, drop-replicate, replicate-append-replicate, length-replicate}
 use Rattle.bit_plane.specs.BitList.{word_bits, word_of, byte_of, bytes_of, placed}
@@ -49,8 +49,8 @@ clear_after size at len part words lent new written clear =
 
 -- one item of a list written
 pub placed-one : {A : Type 0} (at : ℕ) (item : A) (whole : List A) → at < length whole → placed at (item ∷ []) whole ≡ set whole at item
-placed-one at item whole within =
-    sym (sym (take-append-drop at (set whole at item)) ∙ ap₂ (λ (front back : List _). front ++ back) (take-set whole at item) (drop-set whole at item within))
+placed-one {A} at item whole within =
+    append_assoc (take at whole) (item ∷ []) (drop (at + 1) whole) ∙ sym (ap₂ (λ (front back : List A). front ++ back) (take-set whole at item) (drop-set whole at item within)) ∙ take-append-drop at (set whole at item)
 
 -- the one low bit of a Boolean's number
 pub one_bit : (bit : Bool) → word_bits 1 (bool_byte bit) ≡ bit ∷ []
@@ -83,7 +83,7 @@ one_read (bit ∷ bits) (suc at) within = one_read bits at (omega arith)
 -- ---- planes that are equal
 
 -- words with the same bits are the same
-packed-same : (a b : List ℕ) → ((i : ℕ) → get_or a i 0 < 2 ^ 64) → ((i : ℕ) → get_or b i 0 < 2 ^ 64) → length a ≡ length b → packed a ≡ packed b → a ≡ b
+pub packed-same : (a b : List ℕ) → ((i : ℕ) → get_or a i 0 < 2 ^ 64) → ((i : ℕ) → get_or b i 0 < 2 ^ 64) → length a ≡ length b → packed a ≡ packed b → a ≡ b
 unfolding packed
 packed-same [] [] a_small b_small long same = refl
 packed-same [] (y ∷ b) a_small b_small long same = absurd (omega (arith, long))
@@ -96,16 +96,15 @@ packed-same (x ∷ a) (y ∷ b) a_small b_small long same =
     let heads : x ≡ y = sym (word_of-word_bits 64 x (a_small 0)) ∙ ap word_of fronts ∙ word_of-word_bits 64 y (b_small 0) in
     ap₂ (λ first rest. first ∷ rest) heads (packed-same a b (λ i. a_small (suc i)) (λ i. b_small (suc i)) (omega (arith, long)) backs)
 
--- the same rows stand in the same words, where the bits past them are clear
-pub words_same : (width height : ℕ) (a b : List ℕ) → ((i : ℕ) → get_or a i 0 < 2 ^ 64) → ((i : ℕ) → get_or b i 0 < 2 ^ 64) → length a ≡ width * height / 64 + 1 → length b ≡ width * height / 64 + 1 → IsClearFrom (width * height) a → IsClearFrom (width * height) b → rows_in width height a ≡ rows_in width height b → a ≡ b
-words_same width height a b a_small b_small a_sized b_sized a_clear b_clear same =
+-- the same rows stand in words with the same bits, where those past the rows are clear
+pub bits_same : (width height : ℕ) (a b : List ℕ) → length a ≡ width * height / 64 + 1 → length b ≡ width * height / 64 + 1 → IsClearFrom (width * height) a → IsClearFrom (width * height) b → rows_in width height a ≡ rows_in width height b → packed a ≡ packed b
+bits_same width height a b a_sized b_sized a_clear b_clear same =
     let size : ℕ = width * height in
     let a_long : length (take size (packed a)) ≡ size = length-take-le size (packed a) (omega (arith, a_sized, length-packed a)) in
     let b_long : length (take size (packed b)) ≡ size = length-take-le size (packed b) (omega (arith, b_sized, length-packed b)) in
-    let long : length a ≡ length b = a_sized ∙ sym b_sized in
     let fronts : take size (packed a) ≡ take size (packed b) = same_bits width height (take size (packed a)) (take size (packed b)) a_long b_long same in
-    let backs : drop size (packed a) ≡ drop size (packed b) = a_clear ∙ ap (λ n. replicate (64 * n - size) false) long ∙ sym b_clear in
-    packed-same a b a_small b_small long (sym (take-append-drop size (packed a)) ∙ ap₂ (λ (front back : List Bool). front ++ back) fronts backs ∙ take-append-drop size (packed b))
+    let backs : drop size (packed a) ≡ drop size (packed b) = a_clear ∙ ap (λ n. replicate (64 * n - size) false) (a_sized ∙ sym b_sized) ∙ sym b_clear in
+    sym (take-append-drop size (packed a)) ∙ ap₂ (λ (front back : List Bool). front ++ back) fronts backs ∙ take-append-drop size (packed b)
 
 -- ---- words of zeros
 

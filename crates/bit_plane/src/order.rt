@@ -1,6 +1,6 @@
 // The two orders in which numbers hold bits, over slices of words. Bit p of such a slice is bit p % 64 of word p / 64.
 // One bit at least follows those that are read or written, so that a word is there even where no bit is.
-ghost use Rattle.std.specs.Prelude.{◌≡◌, ◌+◌, ◌*◌, ◌/◌, ◌%◌, ◌^◌, ◌<◌, ◌≤◌, length, take, drop};
+ghost use Rattle.std.specs.Prelude.{◌≡◌, ◌+◌, ◌*◌, ◌/◌, ◌%◌, ◌^◌, ◌<◌, ◌≤◌, ◌↔◌, IsTrue, length, take, drop};
 ghost use Rattle.bit_plane.specs.BitList.{word_bits, word_of, byte_bits, byte_of, bits_of, bytes_of, placed};
 ghost use Rattle.bit_plane.specs.inside.Packed.{packed};
 
@@ -177,4 +177,17 @@ pub fn take_bytes(words: &[u64], position: usize, bytes: &mut [u8])
 {
     take_eights(words, position, bytes);
     take_each(words, position, bytes, bytes.len() / 8 * 8);
+}
+
+/// Whether all bits are equal.
+pub fn same(words: &[u64], other: &[u64]) -> bool
+    requires { length words.now ≡ length other.now }
+    ensures { IsTrue result ↔ (packed words.now ≡ packed other.now) }
+{
+    for index in 0..words.len() {
+        if words[index] != other[index] {
+            return false;
+        }
+    }
+    true
 }

@@ -73,7 +73,7 @@ impl<const W: usize, const H: usize> Bits for Plane<W, H> {
     }
 
     fn same(&self, other: &Self) -> bool {
-        self.words == other.words
+        order::same(&self.words, &other.words)
     }
 
     ghost is_grid = { λ plane. IsGrid-rows_in W H plane.words.items (sym plane.words.ok.0 ∙ plane.sized) };

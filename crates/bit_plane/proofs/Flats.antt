@@ -1,12 +1,12 @@
 -- What a change or a reading of a plane's flat bits means for its rows.
-use Rattle.std.proofs.Common.{◌≡◌, ℕ, zero, suc, ◌+◌, ◌*◌, ◌<◌, ◌≤◌, Bool, false, List, ◌∷◌, ◌++◌, length, get_or, take, drop, refl, sym, ap, ◌∙◌, arith, ◌-◌, take_at, take-take, drop-drop, length-drop}
-use Rattle.std.proofs.lemmas.Nat.{mul-add-lt, mul-le}
-use Rattle.std.proofs.lemmas.List.{get_or_read, drop-take}
+use Rattle.std.proofs.Common.{◌≡◌, ℕ, zero, suc, ◌+◌, ◌*◌, ◌<◌, ◌≤◌, Bool, List, ◌∷◌, length, take, drop, refl, sym, ap, ◌∙◌, arith, ◌-◌, take-take, drop-drop, length-drop}
+use Rattle.std.proofs.lemmas.Nat.{mul-le}
+use Rattle.std.proofs.lemmas.List.{drop-take}
 use Rattle.bit_plane.specs.BitList.{placed, bytes_of, word_of}
-use Rattle.bit_plane.specs.Rows.{row_at, bit_at, with_row, flat, rows_of}
+use Rattle.bit_plane.specs.Rows.{row_at, with_row, flat, rows_of}
 use Rattle.bit_plane.proofs.Bytes.{bytes_of-take}
 use Rattle.bit_plane.proofs.Places.{take-placed, drop-placed, take-placed_before, drop-placed_before}
-use Rattle.bit_plane.proofs.Grids.{row_at-rows_of, bit_at-rows_of, flat-run, flat-rows_of, rows_of-placed}
+use Rattle.bit_plane.proofs.Grids.{row_at-rows_of, flat-run}
 
 -- bits within a row lie within the flat bits
 pub within_row : (width height x y count : ℕ) → y < height → x + count ≤ width → y * width + x + count ≤ width * height

@@ -1,8 +1,8 @@
 -- What is written into a plane's words, and read from them, as bits of its rows.
-use Rattle.std.proofs.Common.{◌≡◌, ℕ, zero, suc, ◌+◌, ◌-◌, ◌*◌, ◌/◌, ◌==◌, ◌^◌, ◌<◌, ◌≤◌, Bool, true, false, List, [], ◌∷◌, ◌++◌, length, get_or, set, take, drop, replicate, refl, sym, ap, ap₂, ◌∙◌, arith, append_assoc, take_at, drop_at, take-take, take-append-drop, length-append, length-take-le, length-drop}
+use Rattle.std.proofs.Common.{◌≡◌, ℕ, zero, suc, ◌+◌, ◌-◌, ◌*◌, ◌/◌, ◌==◌, ◌^◌, ◌<◌, ◌≤◌, Bool, true, false, List, [], ◌∷◌, ◌++◌, length, get_or, set, take, drop, replicate, refl, sym, ap, ap₂, ◌∙◌, arith, append_assoc, take_at, drop_at, take-take, take-append-drop, length-take-le}
 use mir.Val.{bool_byte}
 use Rattle.std.proofs.lemmas.List.{drop-take, take-set, drop-set, take-replicate, drop-replicate, replicate-append-replicate, length-replicate}
-use Rattle.bit_plane.specs.BitList.{word_bits, word_of, byte_of, bytes_of, placed}
+use Rattle.bit_plane.specs.BitList.{word_bits, word_of, bytes_of, placed}
 use Rattle.bit_plane.specs.Rows.{rows_of, blank}
 use Rattle.bit_plane.specs.inside.Packed.{packed, rows_in, IsClearFrom}
 use Rattle.bit_plane.proofs.Words.{length-word_bits, word_of-word_bits, word_bits-zeros}

@@ -1,5 +1,5 @@
 -- The bits of several words.
-use Rattle.std.proofs.Common.{◌≡◌, ℕ, zero, suc, ◌+◌, ◌-◌, ◌*◌, ◌/◌, ◌<◌, ◌≤◌, Bool, false, List, [], ◌∷◌, ◌++◌, length, get_or, set, take, drop, refl, sym, ap, ap₂, ◌∙◌, arith, append_assoc, length-append, length-drop, length-take-le, length-set, drop-drop, ◌%◌, ◌^◌, bit_or}
+use Rattle.std.proofs.Common.{◌≡◌, ℕ, zero, suc, ◌+◌, ◌-◌, ◌*◌, ◌/◌, ◌<◌, ◌≤◌, Bool, List, [], ◌∷◌, ◌++◌, length, get_or, set, take, drop, sym, ap, ap₂, ◌∙◌, arith, append_assoc, length-drop, length-take-le, length-set, drop-drop, ◌%◌, ◌^◌, bit_or}
 use Rattle.std.proofs.Math.Seq.{drop-append-add, take-append-add, take-add}
 use Rattle.std.proofs.lemmas.List.{take-append-le, drop-append-le}
 use Rattle.bit_plane.specs.BitList.{word_bits, word_of, placed}

@@ -1,15 +1,14 @@
 -- Parts of the bits of a word.
-use Rattle.std.proofs.Common.{◌≡◌, ℕ, zero, suc, ◌+◌, ◌-◌, ◌*◌, ◌/◌, ◌%◌, ◌==◌, ◌^◌, ◌<◌, ◌≤◌, Bool, true, false, List, [], ◌∷◌, ◌++◌, length, get_or, take, drop, refl, sym, ap, ap₂, ◌∙◌, arith, take_at, drop_at, inl, inr, ext_get_or, pow-suc, pow_mono, bit_or, length-append, length-take-le}
+use Rattle.std.proofs.Common.{◌≡◌, ℕ, zero, suc, ◌+◌, ◌-◌, ◌*◌, ◌/◌, ◌%◌, ◌==◌, ◌^◌, ◌<◌, ◌≤◌, Bool, false, List, [], ◌∷◌, ◌++◌, length, get_or, take, drop, refl, sym, ap, ap₂, ◌∙◌, arith, take_at, drop_at, inl, inr, ext_get_or, pow-suc, pow_mono, bit_or}
 use Rattle.std.specs.Int.RustNames.{bit_xor}
-use Rattle.std.proofs.Math.Seq.{take-add}
 use Rattle.std.specs.Int.{bit_at}
 use Rattle.std.proofs.Math.Nat.{div-div-eq-div-mul, mod-eq_of_lt, mul_assoc, mul_comm, pow-succ', mod-lt}
 use Rattle.std.proofs.lemmas.Nat.{mod-pow-add, pow-add, div-add-mod', mul-add-lt, pow_pos}
 use Rattle.std.specs.Int.Bits.{or_shifted_r}
 use Rattle.std.proofs.lemmas.Nat.Bits.{bit_at_xor, bit_at_cat_low, bit_at_cat_high, bit_at_above, bit_at-lt, bit_at-zero}
 use Rattle.std.proofs.lemmas.Bool.{cases_lt}
-use Rattle.bit_plane.specs.BitList.{bit_value, word_bits, word_of, placed}
-use Rattle.bit_plane.proofs.Words.{length-word_bits, get_or-word_bits, word_of-word_bits, bit_value-test, word_of-lt}
+use Rattle.bit_plane.specs.BitList.{word_bits, word_of, placed}
+use Rattle.bit_plane.proofs.Words.{length-word_bits, get_or-word_bits, bit_value-test, word_of-lt}
 use Rattle.bit_plane.proofs.Places.{length-placed, get_or-placed, get_or-placed_before, get_or-placed_after}
 
 -- the low bits and those above them
@@ -119,9 +118,9 @@ replaced_is word at count bits within =
     get_or-word_bits 64 new i i_small ∙ elim (cases_lt i at) [
       | inl before ↦ ap (λ m. m == 1) (bit_kept word (change * 2 ^ at) i (moved_below change at i before)) ∙ sym (get_or-placed_before at i part whole false before (omega arith) ∙ get_or-word_bits 64 word i i_small)
       | inr after ↦ elim (cases_lt i (at + count)) [
-          | inl among ↦
-              let back : at + (i - at) ≡ i = omega arith in
-              ap (λ m. m == 1) (bit_changed word at count bits i after among) ∙ sym (ap (λ k. get_or (placed at part whole) k false) (sym back) ∙ get_or-placed at (i - at) part whole false (omega arith) (omega arith) ∙ get_or-word_bits count bits (i - at) (omega arith))
-          | inr past ↦ ap (λ m. m == 1) (bit_kept word (change * 2 ^ at) i (moved change at i after ∙ bit_at_above change count (i - at) small (omega arith))) ∙ sym (get_or-placed_after at i part whole false (omega arith) (omega arith) ∙ get_or-word_bits 64 word i i_small)
-        ]
+        | inl among ↦
+            let back : at + (i - at) ≡ i = omega arith in
+            ap (λ m. m == 1) (bit_changed word at count bits i after among) ∙ sym (ap (λ k. get_or (placed at part whole) k false) (sym back) ∙ get_or-placed at (i - at) part whole false (omega arith) (omega arith) ∙ get_or-word_bits count bits (i - at) (omega arith))
+        | inr past ↦ ap (λ m. m == 1) (bit_kept word (change * 2 ^ at) i (moved change at i after ∙ bit_at_above change count (i - at) small (omega arith))) ∙ sym (get_or-placed_after at i part whole false (omega arith) (omega arith) ∙ get_or-word_bits 64 word i i_small)
+      ]
     ])

@@ -1,11 +1,10 @@
 -- The two orders of bits: a number whose bits are turned round, last first.
-use Rattle.std.proofs.Common.{◌≡◌, ℕ, zero, suc, ◌+◌, ◌-◌, ◌*◌, ◌/◌, ◌%◌, ◌==◌, ◌^◌, ◌<◌, ◌≤◌, Bool, List, [], ◌∷◌, ◌++◌, length, get_or, take, drop, refl, sym, ap, ap₂, ◌∙◌, arith, append_assoc, append-nil, reverse, flat_map, w8, w64}
+use Rattle.std.proofs.Common.{◌≡◌, ℕ, zero, suc, ◌+◌, ◌*◌, ◌/◌, ◌%◌, ◌==◌, ◌^◌, ◌<◌, Bool, List, [], ◌∷◌, ◌++◌, length, get_or, refl, sym, ap, ap₂, ◌∙◌, arith, append_assoc, append-nil, reverse, w8, w64}
 use Rattle.std.specs.Int.{reverse_bits, reverse_bits_onto, from_be_bytes, to_be_bytes}
 use Rattle.std.proofs.Math.Nat.{mod-eq_of_lt, div-eq_of_lt, add-mul-div_right, add-mul-mod_self_right}
-use Rattle.std.proofs.Math.Seq.{take-add}
 use Rattle.std.proofs.lemmas.List.{reverse-append, reverse-reverse}
 use Rattle.std.proofs.lemmas.Nat.{pow-add, pow_pos, mul-add-lt, from_be_bytes-to_be_bytes_8}
-use Rattle.std.proofs.lemmas.Grind.{flat_map-append, reverse_onto}
+use Rattle.std.proofs.lemmas.Grind.{reverse_onto}
 use Rattle.bit_plane.specs.BitList.{word_bits, word_of, byte_bits, byte_of, bits_of, bytes_of}
 use Rattle.bit_plane.proofs.Words.{length-word_bits, word_bits-word_of}
 use Rattle.bit_plane.proofs.Parts.{word_bits-add, word_of-low}

@@ -3,6 +3,7 @@ use Rattle.std.proofs.Common.{◌≡◌, ℕ, zero, suc, ◌+◌, ◌-◌, ◌*�
 use mir.Val.{bool_byte}
 use Rattle.std.proofs.lemmas.List.{take_more_set, at_drop_more, at_drop_all}
 use Rattle.bit_plane.specs.BitList.{bit_value, word_bits, word_of}
+pub use Rattle.bit_plane.specs.inside.Packed.{length-word_bits}
 use Rattle.std.proofs.lemmas.Bool.{cases_eq}
 use Rattle.std.proofs.lemmas.Nat.{or_lt, pow_below, one_shl}
 use Rattle.std.proofs.lemmas.Nat.Bits.{bit_at_lowest, bit_at-suc, bit_at_set_same, bit_at_set_other, bit_at_clear_same, bit_at_clear_other}
@@ -46,12 +47,6 @@ bool_byte-is false = refl
 pub word_of-drop_all : (bits : List Bool) → word_of (drop (length bits) bits) ≡ 0
 unfolding word_of
 word_of-drop_all bits = at_drop_all word_of bits (length bits) (omega arith)
-
--- as many bits as were asked for
-pub length-word_bits : (count n : ℕ) → length (word_bits count n) ≡ count
-unfolding word_bits
-length-word_bits zero n = refl
-length-word_bits (suc count) n = ap suc (length-word_bits count (n / 2))
 
 -- the lowest bit, and those of the half
 pub word_bits-more : (count n : ℕ) → 0 < count → word_bits count n ≡ (n % 2 == 1) ∷ word_bits (count - 1) (n / 2)

@@ -1,5 +1,5 @@
 -- How a plane keeps its bits: in words of sixty-four, the first bit of each word the bit of value 1.
-use Rattle.std.proofs.Common.{◌≡◌, ℕ, ◌+◌, ◌*◌, ◌/◌, ◌-◌, ◌++◌, Bool, false, List, [], ◌∷◌, length, take, drop, replicate, flat_map, refl, ap, ◌∙◌, arith, length-append, length-take-le, zero, suc}
+use Rattle.std.proofs.Common.{◌≡◌, ℕ, ◌+◌, ◌*◌, ◌/◌, ◌-◌, Bool, false, List, [], ◌∷◌, length, take, drop, replicate, flat_map, refl, ap, arith, length-append, length-take-le, zero, suc}
 use Rattle.bit_plane.specs.BitList.{word_bits}
 use Rattle.bit_plane.specs.Rows.{Rows, IsGrid, rows_of}
 use Rattle.bit_plane.specs.Cut.{IsGrid-rows_of}
@@ -16,7 +16,8 @@ rows_in width height words = rows_of width height (take (width * height) (packed
 abbrev pub IsClearFrom : ℕ → List ℕ → Type 0
 IsClearFrom size words = drop size (packed words) ≡ replicate (64 * length words - size) false
 
-length-word_bits : (count n : ℕ) → length (word_bits count n) ≡ count
+-- as many bits as were asked for
+pub length-word_bits : (count n : ℕ) → length (word_bits count n) ≡ count
 unfolding word_bits
 length-word_bits zero n = refl
 length-word_bits (suc count) n = ap suc (length-word_bits count (n / 2))

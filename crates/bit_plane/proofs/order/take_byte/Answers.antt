@@ -1,4 +1,4 @@
-use Rattle.std.proofs.Common.{ap, ◌≡◌, ◌∙◌, arith, length, take, drop, length-take-le, length-drop, pow_mono}
+use Rattle.std.proofs.Common.{◌≡◌, ◌∙◌, arith, length, take, drop, length-take-le, length-drop, pow_mono}
 use Rattle.bit_plane.specs.inside.Packed.{packed}
 use Rattle.bit_plane.proofs.Words.{word_of-lt}
 use Rattle.bit_plane.proofs.Packed.{length-packed}

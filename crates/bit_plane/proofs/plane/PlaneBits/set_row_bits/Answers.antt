@@ -1,6 +1,6 @@
-use Rattle.std.proofs.Common.{◌≡◌, ◌+◌, ◌-◌, ◌*◌, ◌≤◌, ℕ, List, Bool, refl, sym, ap, ◌∙◌, arith, length, take, drop, length-take-le}
-use Rattle.bit_plane.specs.BitList.{word_bits, word_of, byte_bits, byte_of, bits_of, bytes_of, placed}
-use Rattle.bit_plane.specs.Rows.{Rows, rows_of}
+use Rattle.std.proofs.Common.{◌≡◌, ◌+◌, ◌*◌, ap, ◌∙◌, arith, length, take, length-take-le}
+use Rattle.bit_plane.specs.BitList.{word_bits}
+use Rattle.bit_plane.specs.Rows.{rows_of}
 use Rattle.bit_plane.specs.inside.Packed.{packed}
 use Rattle.bit_plane.proofs.Packed.{length-packed}
 use Rattle.bit_plane.proofs.Words.{length-word_bits}

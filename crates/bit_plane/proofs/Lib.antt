@@ -6,6 +6,7 @@ pub mod Packed
 pub mod Parts
 pub mod Places
 pub mod Streams
+mod Table
 pub mod TileRows
 pub mod Turned
 pub mod Words

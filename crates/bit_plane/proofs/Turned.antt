@@ -1,9 +1,8 @@
 -- The two orders of bits: a number whose bits are turned round, last first.
-use Rattle.std.proofs.Common.{◌≡◌, ℕ, zero, suc, ◌+◌, ◌*◌, ◌/◌, ◌%◌, ◌==◌, ◌^◌, ◌<◌, Bool, List, [], ◌∷◌, ◌++◌, length, get_or, refl, sym, ap, ap₂, ◌∙◌, arith, append_assoc, append-nil, reverse, w8, w64}
-use Rattle.std.specs.Int.{reverse_bits, reverse_bits_onto, from_be_bytes, to_be_bytes}
-use Rattle.std.proofs.Math.Nat.{mod-eq_of_lt, div-eq_of_lt, add-mul-div_right, add-mul-mod_self_right}
-use Rattle.std.proofs.lemmas.List.{reverse-append, reverse-reverse}
-use Rattle.std.proofs.lemmas.Nat.{pow-add, pow_pos, mul-add-lt, from_be_bytes-to_be_bytes_8}
+use Rattle.std.proofs.Common.{◌≡◌, ℕ, zero, suc, ◌+◌, ◌*◌, ◌/◌, ◌%◌, ◌==◌, ◌^◌, ◌<◌, Bool, List, [], ◌∷◌, ◌++◌, length, get_or, refl, sym, ap, ap₂, ◌∙◌, arith, append_assoc, append-nil, reverse, map, flat_map, w8, w64}
+use Rattle.std.specs.Int.{reverse_bits, reverse_bits_onto, from_le_bytes, to_le_bytes}
+use Rattle.std.proofs.lemmas.List.{reverse-reverse}
+use Rattle.std.proofs.lemmas.Nat.{from_le_bytes-to_le_bytes_8}
 use Rattle.std.proofs.lemmas.Grind.{reverse_onto}
 use Rattle.bit_plane.specs.BitList.{word_bits, word_of, byte_bits, byte_of, bits_of, bytes_of}
 use Rattle.bit_plane.proofs.Words.{length-word_bits, word_bits-word_of}
@@ -56,48 +55,73 @@ word_bits-low : (count n : ℕ) → word_bits count (n % 2 ^ count) ≡ word_bit
 word_bits-low count n =
     ap₂ word_bits (sym (length-word_bits count n)) (sym (word_of-low count n)) ∙ word_bits-word_of (word_bits count n)
 
--- the number of bytes, the highest first
-high_first : List ℕ → ℕ
-high_first [] = 0
-high_first (byte ∷ bytes) = high_first bytes + byte * 2 ^ (8 * length bytes)
+-- the number of bytes, the lowest first
+low_first : List ℕ → ℕ
+low_first [] = 0
+low_first (byte ∷ bytes) = byte + low_first bytes * 256
 
--- it has eight bits a byte, and turned round they are those of the stream
-high_first-bits : (bytes : List ℕ) → ((i : ℕ) → get_or bytes i 0 < 256) → (high_first bytes < 2 ^ (8 * length bytes)) × (reverse (word_bits (8 * length bytes) (high_first bytes)) ≡ bits_of bytes)
-unfolding word_bits high_first
-high_first-bits [] small = (omega arith, refl)
-high_first-bits (byte ∷ bytes) small =
-    let n : ℕ = 8 * length bytes in
-    let rest = high_first-bits bytes (λ i. small (suc i)) in
+-- it has the bits of the bytes, each byte's lowest bit first
+low_first-bits : (bytes : List ℕ) → ((i : ℕ) → get_or bytes i 0 < 256) → word_bits (8 * length bytes) (low_first bytes) ≡ flat_map (word_bits 8) bytes
+unfolding word_bits low_first
+low_first-bits [] small = refl
+low_first-bits (byte ∷ bytes) small =
     let first : byte < 256 = small 0 in
-    let whole : 8 * length (byte ∷ bytes) ≡ n + 8 = omega arith in
-    let number : ℕ = high_first bytes + byte * 2 ^ n in
-    let above : number / 2 ^ n ≡ byte = add-mul-div_right (high_first bytes) byte (pow_pos n) ∙ omega (arith, div-eq_of_lt rest.0) in
-    let below : number % 2 ^ n ≡ high_first bytes = add-mul-mod_self_right (high_first bytes) byte (2 ^ n) ∙ mod-eq_of_lt rest.0 in
-    let room : byte * 2 ^ n + high_first bytes < 2 ^ n * 256 = mul-add-lt byte (2 ^ n) (high_first bytes) 256 first rest.0 in
-    let fits : number < 2 ^ (8 * length (byte ∷ bytes)) = rw whole (omega (arith, room, pow-add 2 n 8)) in
-    let low : word_bits n number ≡ word_bits n (high_first bytes) = sym (word_bits-low n number) ∙ ap (word_bits n) below in
-    let bits : word_bits (8 * length (byte ∷ bytes)) number ≡ word_bits n (high_first bytes) ++ word_bits 8 byte = ap (λ k. word_bits k number) whole ∙ word_bits-add n 8 number ∙ ap₂ (λ (front back : List Bool). front ++ back) low (ap (word_bits 8) above) in
-    (fits, ap reverse bits ∙ reverse-append (word_bits n (high_first bytes)) (word_bits 8 byte) ∙ ap₂ (λ (front back : List Bool). front ++ back) (reverse-byte byte) rest.1)
+    let whole : 8 * length (byte ∷ bytes) ≡ 8 + 8 * length bytes = omega arith in
+    let number : ℕ = byte + low_first bytes * 256 in
+    let above : number / 2 ^ 8 ≡ low_first bytes = omega arith in
+    let below : number % 2 ^ 8 ≡ byte = omega arith in
+    let low : word_bits 8 number ≡ word_bits 8 byte = sym (word_bits-low 8 number) ∙ ap (word_bits 8) below in
+    ap (λ k. word_bits k number) whole ∙ word_bits-add 8 (8 * length bytes) number ∙ ap₂ (λ (front back : List Bool). front ++ back) low (ap (word_bits (8 * length bytes)) above ∙ low_first-bits bytes (λ i. small (suc i)))
 
--- eight bytes one by one
-pub eight_bytes : (bytes : List ℕ) → length bytes ≡ 8 → get_or bytes 0 0 ∷ get_or bytes 1 0 ∷ get_or bytes 2 0 ∷ get_or bytes 3 0 ∷ get_or bytes 4 0 ∷ get_or bytes 5 0 ∷ get_or bytes 6 0 ∷ get_or bytes 7 0 ∷ [] ≡ bytes
-eight_bytes (a ∷ b ∷ c ∷ d ∷ e ∷ f ∷ g ∷ h ∷ []) eight = refl
-eight_bytes _ eight = absurd (omega (arith, eight))
+-- a byte turned round is a byte
+turned-small : (b : ℕ) → reverse_bits w8 b < 256
+unfolding reverse_bits_onto
+turned-small b = omega arith
+
+-- bytes turned round, one by one
+abbrev pub turned_all : List ℕ → List ℕ
+turned_all bytes = map (reverse_bits w8) bytes
+
+turned_all-small : (bytes : List ℕ) (i : ℕ) → get_or (turned_all bytes) i 0 < 256
+turned_all-small [] i = omega arith
+turned_all-small (byte ∷ bytes) zero = turned-small byte
+turned_all-small (byte ∷ bytes) (suc i) = turned_all-small bytes i
+
+-- turned round they have the bits of the stream
+turned_all-bits : (bytes : List ℕ) → flat_map (word_bits 8) (turned_all bytes) ≡ bits_of bytes
+turned_all-bits [] = refl
+turned_all-bits (byte ∷ bytes) = ap₂ (λ (front back : List Bool). front ++ back) (turned-byte byte) (turned_all-bits bytes)
+
+-- and the other way round
+bits_of-turned_all : (bytes : List ℕ) → bits_of (turned_all bytes) ≡ flat_map (word_bits 8) bytes
+bits_of-turned_all [] = refl
+bits_of-turned_all (byte ∷ bytes) =
+    ap₂ (λ (front back : List Bool). front ++ back) (sym (reverse-byte (reverse_bits w8 byte)) ∙ ap reverse (turned 8 byte) ∙ reverse-reverse (word_bits 8 byte)) (bits_of-turned_all bytes)
+
+-- eight bytes one by one, turned round
+pub eight_turned : (bytes : List ℕ) → length bytes ≡ 8 → reverse_bits w8 (get_or bytes 0 0) ∷ reverse_bits w8 (get_or bytes 1 0) ∷ reverse_bits w8 (get_or bytes 2 0) ∷ reverse_bits w8 (get_or bytes 3 0) ∷ reverse_bits w8 (get_or bytes 4 0) ∷ reverse_bits w8 (get_or bytes 5 0) ∷ reverse_bits w8 (get_or bytes 6 0) ∷ reverse_bits w8 (get_or bytes 7 0) ∷ [] ≡ turned_all bytes
+eight_turned (a ∷ b ∷ c ∷ d ∷ e ∷ f ∷ g ∷ h ∷ []) eight = refl
+eight_turned _ eight = absurd (omega (arith, eight))
 
 -- the number of eight bytes
-from_be_bytes-is : (bytes : List ℕ) → length bytes ≡ 8 → from_be_bytes w64 bytes ≡ high_first bytes
-unfolding high_first
-from_be_bytes-is (a ∷ b ∷ c ∷ d ∷ e ∷ f ∷ g ∷ h ∷ []) eight = omega arith
-from_be_bytes-is _ eight = absurd (omega (arith, eight))
+from_le_bytes-is : (bytes : List ℕ) → length bytes ≡ 8 → from_le_bytes w64 bytes ≡ low_first bytes
+unfolding low_first
+from_le_bytes-is (a ∷ b ∷ c ∷ d ∷ e ∷ f ∷ g ∷ h ∷ []) eight = omega arith
+from_le_bytes-is _ eight = absurd (omega (arith, eight))
+
+length-turned_all : (bytes : List ℕ) → length (turned_all bytes) ≡ length bytes
+length-turned_all [] = refl
+length-turned_all (byte ∷ bytes) = ap suc (length-turned_all bytes)
 
 -- the number of eight bytes turned round has their bits
-pub turned-bytes : (bytes : List ℕ) → length bytes ≡ 8 → ((i : ℕ) → get_or bytes i 0 < 256) → word_bits 64 (reverse_bits w64 (from_be_bytes w64 bytes)) ≡ bits_of bytes
-turned-bytes bytes eight small =
-    let whole : 64 ≡ 8 * length bytes = omega (arith, eight) in
-    turned 64 (from_be_bytes w64 bytes) ∙ ap₂ (λ n k. reverse (word_bits n k)) whole (from_be_bytes-is bytes eight) ∙ (high_first-bits bytes small).1
+pub turned-bytes : (bytes : List ℕ) → length bytes ≡ 8 → word_bits 64 (from_le_bytes w64 (turned_all bytes)) ≡ bits_of bytes
+turned-bytes bytes eight =
+    let long : length (turned_all bytes) ≡ 8 = length-turned_all bytes ∙ eight in
+    let whole : 64 ≡ 8 * length (turned_all bytes) = omega (arith, long) in
+    ap₂ word_bits whole (from_le_bytes-is (turned_all bytes) long) ∙ low_first-bits (turned_all bytes) (turned_all-small bytes) ∙ turned_all-bits bytes
 
 -- the bytes of a number are bytes
-bytes-small : (n i : ℕ) → get_or (to_be_bytes w64 n) i 0 < 256
+bytes-small : (n i : ℕ) → get_or (to_le_bytes w64 n) i 0 < 256
 bytes-small n zero = omega arith
 bytes-small n (suc zero) = omega arith
 bytes-small n (suc (suc zero)) = omega arith
@@ -108,11 +132,10 @@ bytes-small n (suc (suc (suc (suc (suc (suc zero)))))) = omega arith
 bytes-small n (suc (suc (suc (suc (suc (suc (suc zero))))))) = omega arith
 bytes-small n (suc (suc (suc (suc (suc (suc (suc (suc i)))))))) = omega arith
 
--- the bytes of a number turned round are those of its bits
-pub bytes_of-turned : (word : ℕ) → reverse_bits w64 word < 2 ^ 64 → to_be_bytes w64 (reverse_bits w64 word) ≡ bytes_of 8 (word_bits 64 word)
+-- the bytes of a number, each turned round, are those of its bits
+pub bytes_of-turned : (word : ℕ) → word < 2 ^ 64 → turned_all (to_le_bytes w64 word) ≡ bytes_of 8 (word_bits 64 word)
 bytes_of-turned word fits =
-    let turn : ℕ = reverse_bits w64 word in
-    let bytes : List ℕ = to_be_bytes w64 turn in
-    let number : from_be_bytes w64 bytes ≡ turn = from_be_bytes-to_be_bytes_8 turn fits in
-    let bits : bits_of bytes ≡ word_bits 64 word = sym (turned-bytes bytes refl (bytes-small turn)) ∙ turned 64 (from_be_bytes w64 bytes) ∙ ap (λ n. reverse (word_bits 64 n)) number ∙ ap reverse (turned 64 word) ∙ reverse-reverse (word_bits 64 word) in
-    sym (bytes_of-bits_of bytes (bytes-small turn)) ∙ ap (bytes_of 8) bits
+    let bytes : List ℕ = to_le_bytes w64 word in
+    let number : low_first bytes ≡ word = sym (from_le_bytes-is bytes refl) ∙ from_le_bytes-to_le_bytes_8 word fits in
+    let bits : bits_of (turned_all bytes) ≡ word_bits 64 word = bits_of-turned_all bytes ∙ sym (low_first-bits bytes (bytes-small word)) ∙ ap (word_bits 64) number in
+    sym (bytes_of-bits_of (turned_all bytes) (turned_all-small bytes)) ∙ ap (bytes_of 8) bits

@@ -14,4 +14,4 @@ overflow_cast-take_word c =
 pub returns : goal.returns
 returns c =
     let bits = drop c.args.position (packed c.args.words.now) in
-    c.reverse_bits.ensures ∙ byte_of-turned (take 8 bits) c.take_word.result (length-take-le 8 bits (omega (arith, c.requires, length-packed c.args.words.now, length-drop c.args.position (packed c.args.words.now)))) c.take_word.ensures (omega (arith, c.reverse_bits.type_inv, c.reverse_bits.ensures))
+    c.turned.ensures ∙ byte_of-turned (take 8 bits) c.take_word.result (length-take-le 8 bits (omega (arith, c.requires, length-packed c.args.words.now, length-drop c.args.position (packed c.args.words.now)))) c.take_word.ensures (omega (arith, c.turned.type_inv, c.turned.ensures))

@@ -148,6 +148,23 @@ fn rows_of_65_bits_cross_words(rt: HostRuntime) {
     assert!(rt; high_bits_are_dropped::<Plane<65, 3>>(rt.alloc()) == Ok(true));
 }
 
+/// Whether rows of no bits are written and read.
+fn holds_nothing(plane: &mut Plane<0, 4>) -> bool {
+    plane.put_bytes(1, 3, &[]);
+    plane.set_row_bits(0, 3, 0, u64::MAX);
+    plane.row_bits(0, 3, 0) == 0
+}
+
+fn nothing_is_held(alloc: Global) -> Result<bool, AllocError> {
+    let mut plane = Plane::<0, 4>::zeroed(alloc)?;
+    Ok(holds_nothing(&mut plane))
+}
+
+#[test]
+fn rows_of_no_bits_hold_nothing(rt: HostRuntime) {
+    assert!(rt; nothing_is_held(rt.alloc()) == Ok(true));
+}
+
 /// Whether column c of a tile's row is the bit of value 2^c of the row's word.
 fn rows_are_words(tile: &mut Tile<54>) -> bool {
     tile.set_row(15, 0x15_5555_5555_5555);

@@ -3,13 +3,14 @@ use Rattle.std.proofs.Common.{◌≡◌, ℕ, zero, suc, ◌+◌, ◌-◌, ◌*�
 use mir.Val.{bool_byte}
 use Rattle.std.proofs.lemmas.List.{drop-take, take-set, drop-set, take-replicate, drop-replicate, replicate-append-replicate, length-replicate}
 use Rattle.bit_plane.specs.BitList.{word_bits, word_of, bytes_of, placed}
-use Rattle.bit_plane.specs.Rows.{rows_of, blank}
+use Rattle.bit_plane.specs.Rows.{rows_of, row_at, bit_at, blank}
 use Rattle.bit_plane.specs.inside.Packed.{packed, rows_in, IsClearFrom}
 use Rattle.bit_plane.proofs.Words.{length-word_bits, word_of-word_bits, word_bits-zeros}
 use Rattle.bit_plane.proofs.Bytes.{bytes_of-take}
 use Rattle.bit_plane.proofs.Places.{take-placed, drop-placed}
 use Rattle.bit_plane.proofs.Packed.{length-packed}
-use Rattle.bit_plane.proofs.Grids.{same_bits, rows_of-zeros}
+use Rattle.bit_plane.proofs.Grids.{same_bits, rows_of-zeros, bit_at-rows_of}
+use Rattle.bit_plane.proofs.Flats.{within_row, row_read}
 
 -- ---- what is written
 
@@ -79,6 +80,30 @@ one_read [] at within = absurd (omega arith)
 one_read (true ∷ bits) zero within = refl
 one_read (false ∷ bits) zero within = refl
 one_read (bit ∷ bits) (suc at) within = one_read bits at (omega arith)
+
+-- bits within the rows, read from the words that were lent
+lent_read : (size at count n : ℕ) (words lent : List ℕ) → at + count ≤ size → lent ≡ words → n ≡ word_of (take count (drop at (packed lent))) → n ≡ word_of (take count (drop at (take size (packed words))))
+lent_read size at count n words lent within lent_is n_is =
+    n_is ∙ ap (λ ws. word_of (take count (drop at (packed ws)))) lent_is ∙ ap word_of (sym (read_within size at count (packed words) within))
+
+-- the number of some bits of one row
+pub word_in_rows : (width height : ℕ) (words lent : List ℕ) (x y count n : ℕ) → x + count ≤ width → y < height → lent ≡ words → n ≡ word_of (take count (drop (y * width + x) (packed lent))) → n ≡ word_of (take count (drop x (row_at (rows_in width height words) y)))
+word_in_rows width height words lent x y count n columns row lent_is n_is =
+    let size : ℕ = width * height in
+    let bits : List Bool = take size (packed words) in
+    let within : y * width + x + count ≤ size = within_row width height x y count row columns in
+    row_read width height x y count n bits bits columns row refl (lent_read size (y * width + x) count n words lent within lent_is n_is)
+
+-- one bit of the rows, by the number of it
+pub bit_in_rows : (width height : ℕ) (words lent : List ℕ) (x y n : ℕ) → x < width → y < height → length words ≡ width * height / 64 + 1 → lent ≡ words → n ≡ word_of (take 1 (drop (y * width + x) (packed lent))) → (n == 1) ≡ bit_at (rows_in width height words) x y
+bit_in_rows width height words lent x y n column row sized lent_is n_is =
+    let size : ℕ = width * height in
+    let at : ℕ = y * width + x in
+    let bits : List Bool = take size (packed words) in
+    let within : at + 1 ≤ size = within_row width height x y 1 row (omega (arith, column)) in
+    let exact : length bits ≡ size = length-take-le size (packed words) (omega (arith, sized, length-packed words)) in
+    let read : n ≡ word_of (take 1 (drop at bits)) = lent_read size at 1 n words lent within lent_is n_is in
+    ap (λ m. m == 1) read ∙ one_read bits at (omega (arith, exact, within)) ∙ sym (bit_at-rows_of width height bits x y column row)
 
 -- ---- planes that are equal
 

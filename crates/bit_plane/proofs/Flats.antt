@@ -1,22 +1,18 @@
 -- What a change or a reading of a plane's flat bits means for its rows.
-use Rattle.std.proofs.Common.{◌≡◌, ℕ, zero, suc, ◌+◌, ◌*◌, ◌<◌, ◌≤◌, Bool, false, List, ◌∷◌, ◌++◌, length, get_or, take, drop, refl, sym, ap, ◌∙◌, arith, ◌-◌, take_at, take-take, drop-drop, length-drop}
-use Rattle.std.proofs.lemmas.Nat.{mul-add-lt, mul-le}
-use Rattle.std.proofs.lemmas.List.{get_or_read, drop-take}
+use Rattle.std.proofs.Common.{◌≡◌, ℕ, zero, suc, ◌+◌, ◌*◌, ◌<◌, ◌≤◌, Bool, List, ◌∷◌, length, take, drop, refl, sym, ap, ◌∙◌, arith, ◌-◌, take-take, drop-drop, length-drop}
+use Rattle.std.proofs.lemmas.Nat.{mul-le}
+use Rattle.std.proofs.lemmas.List.{drop-take}
 use Rattle.bit_plane.specs.BitList.{placed, bytes_of, word_of}
-use Rattle.bit_plane.specs.Rows.{row_at, bit_at, with_row, flat, rows_of}
+use Rattle.bit_plane.specs.Rows.{row_at, with_row, flat, rows_of}
 use Rattle.bit_plane.proofs.Bytes.{bytes_of-take}
 use Rattle.bit_plane.proofs.Places.{take-placed, drop-placed, take-placed_before, drop-placed_before}
-use Rattle.bit_plane.proofs.Grids.{row_at-rows_of, bit_at-rows_of, flat-run, flat-rows_of, rows_of-placed}
+use Rattle.bit_plane.proofs.Grids.{row_at-rows_of, flat-run}
 
--- the bit that the flat bits have at a column and row
-pub bit_read : (width height : ℕ) (bits : List Bool) (x y : ℕ) (bit : Bool) → length bits ≡ width * height → x < width → y < height → bit ≡ get_or bits (y * width + x) bit → bit ≡ bit_at (rows_of width height bits) x y
-bit_read width height bits x y bit exact column row read =
-    get_or_read bits (y * width + x) bit (omega (arith, mul-add-lt y width x height row column)) read false ∙ sym (bit_at-rows_of width height bits x y column row)
-
--- a vector's items after a part of all of them was written
-pub written : (len at : ℕ) (part bits lent new : List Bool) → len ≡ length bits → lent ≡ bits → length new ≡ length lent → new ≡ placed at part lent → take len (new ++ drop (length new) bits) ≡ placed at part bits
-written len at part bits lent new len_is lent_is same new_is =
-    take_at new (drop (length new) bits) len (same ∙ ap length lent_is ∙ sym len_is) ∙ new_is ∙ ap (placed at part) lent_is
+-- bits within a row lie within the flat bits
+pub within_row : (width height x y count : ℕ) → y < height → x + count ≤ width → y * width + x + count ≤ width * height
+within_row width height x y count row columns =
+    let room : (y + 1) * width ≤ height * width = mul-le (y + 1) width height width (omega arith) (omega arith) in
+    omega (arith, room)
 
 -- whole rows lie within the flat bits
 pub run_within : (width height first count n len : ℕ) → first + count ≤ height → n ≡ count * width → len ≡ width * height → first * width + n ≤ len
@@ -50,18 +46,3 @@ row_read width height x y count word bits lent columns row lent_is word_is =
     let cut : drop x (take width (drop (y * width) bits)) ≡ take (width - x) (drop x (drop (y * width) bits)) = ap (λ n. drop x (take n (drop (y * width) bits))) parts ∙ drop-take x (width - x) (drop (y * width) bits) in
     let read : take count (drop x (row_at (rows_of width height bits) y)) ≡ take count (drop (y * width + x) bits) = ap (λ bits. take count (drop x bits)) (row_at-rows_of width height bits y row) ∙ ap (take count) cut ∙ take-take count (width - x) (drop x (drop (y * width) bits)) (omega arith) ∙ ap (take count) (drop-drop x (y * width) bits) in
     word_is ∙ ap (λ bits. word_of (take count (drop (y * width + x) bits))) lent_is ∙ ap word_of (sym read)
-
--- the rows after bits from a position on were written
-pub byte_put : (width height len at : ℕ) (part bits lent new : List Bool) → length bits ≡ width * height → len ≡ length bits → lent ≡ bits → length new ≡ length lent → new ≡ placed at part lent → rows_of width height (take len (new ++ drop (length new) bits)) ≡ rows_of width height (placed at part (flat (rows_of width height bits)))
-byte_put width height len at part bits lent new exact len_is lent_is same new_is =
-    ap (rows_of width height) (written len at part bits lent new len_is lent_is same new_is ∙ ap (placed at part) (sym (flat-rows_of width height bits exact)))
-
--- the rows after a run of whole rows was written
-pub run_put : (width height first count len : ℕ) (part bits lent new : List Bool) → first + count ≤ height → length part ≡ count * width → length bits ≡ width * height → len ≡ length bits → lent ≡ bits → length new ≡ length lent → new ≡ placed (first * width) part lent → rows_of width height (take len (new ++ drop (length new) bits)) ≡ placed first (rows_of width count part) (rows_of width height bits)
-run_put width height first count len part bits lent new within whole exact len_is lent_is same new_is =
-    ap (rows_of width height) (written len (first * width) part bits lent new len_is lent_is same new_is) ∙ rows_of-placed width height first count part bits within whole exact
-
--- the rows after some bits of one row were written
-pub row_put : (width height x y len : ℕ) (part bits lent new : List Bool) → x + length part ≤ width → y < height → length bits ≡ width * height → len ≡ length bits → lent ≡ bits → length new ≡ length lent → new ≡ placed (y * width + x) part lent → rows_of width height (take len (new ++ drop (length new) bits)) ≡ with_row (rows_of width height bits) y (placed x part (row_at (rows_of width height bits) y))
-row_put width height x y len part bits lent new columns row exact len_is lent_is same new_is =
-    ap (rows_of width height) (written len (y * width + x) part bits lent new len_is lent_is same new_is) ∙ rows_of-placed_in_row width height x y part bits columns row exact

@@ -1,8 +1,9 @@
 -- Words and the bits that they are, the lowest first.
-use Rattle.std.proofs.Common.{◌≡◌, ℕ, zero, suc, ◌+◌, ◌-◌, ◌*◌, ◌/◌, ◌%◌, ◌==◌, ◌^◌, ◌<◌, ◌≤◌, Bool, true, false, List, [], ◌∷◌, ◌++◌, length, get_or, take, drop, refl, sym, ap, ◌∙◌, append_assoc, append-nil, arith, take_all, length-set, set, pow-suc, pow_mono, ◌≢◌, replicate, bit_and, bit_or, ap₂, subst, inl, inr, get_or-set_same, get_or-set_other, ext_get_or, w64}
+use Rattle.std.proofs.Common.{◌≡◌, ℕ, zero, suc, ◌+◌, ◌-◌, ◌*◌, ◌/◌, ◌%◌, ◌==◌, ◌^◌, ◌<◌, ◌≤◌, Bool, true, false, List, [], ◌∷◌, length, get_or, drop, refl, sym, ap, ◌∙◌, arith, length-set, set, pow-suc, pow_mono, ◌≢◌, replicate, bit_and, bit_or, ap₂, subst, inl, inr, get_or-set_same, get_or-set_other, ext_get_or, w64}
 use mir.Val.{bool_byte}
-use Rattle.std.proofs.lemmas.List.{take_more_set, at_drop_more, at_drop_all}
+use Rattle.std.proofs.lemmas.List.{at_drop_more, at_drop_all}
 use Rattle.bit_plane.specs.BitList.{bit_value, word_bits, word_of}
+pub use Rattle.bit_plane.specs.inside.Packed.{length-word_bits}
 use Rattle.std.proofs.lemmas.Bool.{cases_eq}
 use Rattle.std.proofs.lemmas.Nat.{or_lt, pow_below, one_shl}
 use Rattle.std.proofs.lemmas.Nat.Bits.{bit_at_lowest, bit_at-suc, bit_at_set_same, bit_at_set_other, bit_at_clear_same, bit_at_clear_other}
@@ -47,36 +48,11 @@ pub word_of-drop_all : (bits : List Bool) → word_of (drop (length bits) bits) 
 unfolding word_of
 word_of-drop_all bits = at_drop_all word_of bits (length bits) (omega arith)
 
--- as many bits as were asked for
-pub length-word_bits : (count n : ℕ) → length (word_bits count n) ≡ count
-unfolding word_bits
-length-word_bits zero n = refl
-length-word_bits (suc count) n = ap suc (length-word_bits count (n / 2))
-
 -- the lowest bit, and those of the half
 pub word_bits-more : (count n : ℕ) → 0 < count → word_bits count n ≡ (n % 2 == 1) ∷ word_bits (count - 1) (n / 2)
 unfolding word_bits
 word_bits-more zero n some = absurd (omega arith)
 word_bits-more (suc count) n some = let e : suc count - 1 ≡ count = omega arith in rw e refl
-
--- no bits
-pub word_bits-zero : (n : ℕ) → word_bits 0 n ≡ []
-unfolding word_bits
-word_bits-zero n = refl
-
--- one bit more of a word is written
-pub word_bits_step : (bits : List Bool) (i rest word : ℕ) → i < length bits → take i bits ++ word_bits (length bits - i) rest ≡ word_bits (length bits) word → take (i + 1) (set bits i (rest % 2 == 1)) ++ word_bits (length (set bits i (rest % 2 == 1)) - (i + 1)) (rest / 2) ≡ word_bits (length (set bits i (rest % 2 == 1))) word
-word_bits_step bits i rest word within before =
-    let left : length bits - i - 1 ≡ length bits - (i + 1) = omega arith in
-    let more : word_bits (length bits - i) rest ≡ (rest % 2 == 1) ∷ word_bits (length bits - (i + 1)) (rest / 2) = word_bits-more (length bits - i) rest (omega arith) ∙ ap (λ n. (rest % 2 == 1) ∷ word_bits n (rest / 2)) left in
-    rw (length-set bits i (rest % 2 == 1), take_more_set bits i (rest % 2 == 1) within, append_assoc (take i bits) ((rest % 2 == 1) ∷ []) (word_bits (length bits - (i + 1)) (rest / 2))) (ap (λ back. take i bits ++ back) (sym more) ∙ before)
-
--- all bits of a word are written
-pub word_bits_end : (bits : List Bool) (i rest word : ℕ) → length bits ≤ i → take i bits ++ word_bits (length bits - i) rest ≡ word_bits (length bits) word → bits ≡ word_bits (length bits) word
-word_bits_end bits i rest word past whole =
-    let none : length bits - i ≡ 0 = omega arith in
-    let front : take i bits ++ word_bits (length bits - i) rest ≡ bits = rw (none, word_bits-zero rest, take_all i bits past) (append-nil bits) in
-    sym front ∙ whole
 
 -- place i of a word's bits is whether it has the bit of value 2 ^ i
 pub get_or-word_bits : (count n i : ℕ) → i < count → get_or (word_bits count n) i false ≡ (n / 2 ^ i % 2 == 1)

@@ -1,3 +1,4 @@
 pub mod BitList
 pub mod Rows
 pub mod Cut
+pub mod inside

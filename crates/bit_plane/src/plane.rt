@@ -1,21 +1,25 @@
-// A plane that keeps a byte for each bit.
-ghost use Rattle.std.specs.Prelude.{◌≡◌, ◌*◌, vec_len};
+// A plane that keeps its bits in words.
+ghost use Rattle.std.specs.Prelude.{◌≡◌, ◌+◌, ◌*◌, ◌/◌, ◌^◌, ◌<◌, vec_len};
+ghost use Rattle.bit_plane.specs.inside.Packed.{IsClearFrom};
 
 use crate::bits::Bits;
 use crate::order;
 use std::alloc::{AllocError, Global};
 
-/// `H` rows of `W` bits, each bit in a byte of its own.
+/// `H` rows of `W` bits, one row after the other in words of sixty-four bits.
+///
+/// Position p is the bit of value 2^(p % 64) in word p / 64. The bits past the last position are 0.
 #[derive(Drop)]
 pub struct Plane<const W: usize, const H: usize> {
-    bits: Vec<bool>,
-    ghost sized: { vec_len bits ≡ W * H },
+    words: Vec<u64>,
+    ghost fits: { W * H < 2 ^ 64 },
+    ghost sized: { vec_len words ≡ W * H / 64 + 1 },
+    ghost clear: { IsClearFrom (W * H) words.items },
 }
 
 impl<const W: usize, const H: usize> Bits for Plane<W, H> {
-    ghost use Rattle.bit_plane.specs.Rows.{rows_of};
+    ghost use Rattle.bit_plane.specs.inside.Packed.{rows_in, IsGrid-rows_in};
     ghost use Rattle.std.proofs.Common.{sym, ◌∙◌};
-    ghost use Rattle.bit_plane.specs.Cut.{IsGrid-rows_of};
 
     ghost WIDTH = { W };
 
@@ -25,52 +29,52 @@ impl<const W: usize, const H: usize> Bits for Plane<W, H> {
 
     const HEIGHT: usize = H;
 
-    ghost rows = { λ plane. rows_of W H plane.bits.items };
+    ghost rows = { λ plane. rows_in W H plane.words.items };
 
     fn zeroed(alloc: Global) -> Result<Self, AllocError> {
         match W.checked_mul(H) {
             Some(size) => Ok(Plane {
-                bits: vec![in alloc; false; size]?,
+                words: vec![in alloc; 0; size / 64 + 1]?,
             }),
             None => Err(AllocError),
         }
     }
 
     fn get(&self, x: usize, y: usize) -> bool {
-        self.bits[y * W + x]
+        order::take_word(&self.words, y * W + x, 1) == 1
     }
 
     fn set(&mut self, x: usize, y: usize, bit: bool) {
-        self.bits[y * W + x] = bit;
+        order::put_word(&mut self.words, y * W + x, 1, u64::from(bit));
     }
 
     fn put_byte(&mut self, position: usize, byte: u8) {
-        order::put_byte(&mut self.bits, position, byte);
+        order::put_byte(&mut self.words, position, byte);
     }
 
     fn take_byte(&self, position: usize) -> u8 {
-        order::take_byte(&self.bits, position)
+        order::take_byte(&self.words, position)
     }
 
     fn put_bytes(&mut self, first: usize, _count: usize, bytes: &[u8]) {
-        order::put_bytes(&mut self.bits, first * W, bytes);
+        order::put_bytes(&mut self.words, first * W, bytes);
     }
 
     fn take_bytes(&self, first: usize, _count: usize, out: &mut [u8]) {
-        order::take_bytes(&self.bits, first * W, out);
+        order::take_bytes(&self.words, first * W, out);
     }
 
     fn row_bits(&self, x: usize, y: usize, count: usize) -> u64 {
-        order::take_word(&self.bits, y * W + x, count)
+        order::take_word(&self.words, y * W + x, count)
     }
 
     fn set_row_bits(&mut self, x: usize, y: usize, count: usize, bits: u64) {
-        order::put_word(&mut self.bits, y * W + x, count, bits);
+        order::put_word(&mut self.words, y * W + x, count, bits);
     }
 
     fn same(&self, other: &Self) -> bool {
-        self.bits == other.bits
+        order::same(&self.words, &other.words)
     }
 
-    ghost is_grid = { λ plane. IsGrid-rows_of W H plane.bits.items (sym plane.bits.ok.0 ∙ plane.sized) };
+    ghost is_grid = { λ plane. IsGrid-rows_in W H plane.words.items (sym plane.words.ok.0 ∙ plane.sized) };
 }

@@ -1,14 +1,21 @@
-use Rattle.std.proofs.Common.{◌≡◌, ◌+◌, ◌*◌, sym, ap, ◌∙◌, arith}
-use Rattle.std.proofs.Common.{get_or, length, take, length-take-le}
+use Rattle.std.proofs.Common.{◌≡◌, ◌+◌, ◌-◌, ◌*◌, ◌/◌, sym, ap, ◌∙◌, arith, length, take, drop, length-take-le, length-drop, take-append-drop, take_all}
+use Rattle.std.proofs.lemmas.Grind.{flat_map-append}
 use Rattle.bit_plane.specs.BitList.{byte_bits, bits_of, placed}
-use Rattle.bit_plane.proofs.Bytes.{length-bits_of, bits_of-take}
+use Rattle.bit_plane.specs.inside.Packed.{packed}
+use Rattle.bit_plane.proofs.Bytes.{length-bits_of}
 use Rattle.bit_plane.proofs.Places.{placed-more}
+use Rattle.bit_plane.proofs.Packed.{length-packed}
 use Rattle.bit_plane.proofs.order.put_bytes.Goals as goal
 
-pub loop-index-preserved : goal.loop-index-preserved
-loop-index-preserved c =
-    let i = c.loop-index.index in
+pub returns : goal.returns
+returns c =
     let bytes = c.args.bytes.now in
-    let front = bits_of (take i bytes) in
-    let front_long : length front ≡ 8 * i = omega (arith, length-bits_of (take i bytes), length-take-le i bytes (omega arith)) in
-    c.put_byte.ensures ∙ ap (placed (c.args.position + 8 * i) (byte_bits (get_or bytes i 0))) c.loop-index.invariant ∙ placed-more c.args.position (c.args.position + 8 * i) front (byte_bits (get_or bytes i 0)) c.args.bits.now (omega arith) (omega arith) ∙ ap (λ part. placed c.args.position part c.args.bits.now) (sym (bits_of-take bytes i (omega arith)))
+    let whole = length bytes / 8 * 8 in
+    let at = c.args.position + 8 * whole in
+    let old = packed c.args.words.now in
+    let front = bits_of (take whole bytes) in
+    let back = bits_of (drop whole bytes) in
+    let front_long : length front ≡ 8 * whole = omega (arith, length-bits_of (take whole bytes), length-take-le whole bytes (omega arith)) in
+    let back_long : length back ≡ 8 * length bytes - 8 * whole = omega (arith, length-bits_of (drop whole bytes), length-drop whole bytes) in
+    let rest : take (length bytes - whole) (drop whole bytes) ≡ drop whole bytes = take_all (length bytes - whole) (drop whole bytes) (omega (arith, length-drop whole bytes)) in
+    c.put_each.ensures ∙ ap (λ rest. placed at (bits_of rest) (packed c.put_eights.new.words)) rest ∙ ap (placed at back) c.put_eights.ensures ∙ placed-more c.args.position at front back old (omega (arith, front_long)) (omega (arith, back_long, c.requires.words, length-packed c.args.words.now)) ∙ ap (λ part. placed c.args.position part old) (sym (flat_map-append byte_bits (take whole bytes) (drop whole bytes)) ∙ ap bits_of (take-append-drop whole bytes))

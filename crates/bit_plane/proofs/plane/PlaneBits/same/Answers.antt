@@ -1,13 +1,16 @@
-use Rattle.std.proofs.Common.{sym, ap, ◌∙◌}
-use Rattle.std.specs.Cmp.{booleans_Decides}
-use Rattle.std.proofs.lemmas.Slice.Eq.{slice_eq-Decides}
+use Rattle.std.proofs.Common.{sym, ap, ◌≡◌, ◌∙◌}
+use Rattle.bit_plane.specs.inside.Packed.{packed}
 use Rattle.bit_plane.specs.Rows.{rows_of}
-use Rattle.bit_plane.proofs.Grids.{same_bits}
+use Rattle.std.proofs.Common.{take, ◌*◌}
+use Rattle.bit_plane.proofs.Kept.{bits_same}
 use Rattle.bit_plane.proofs.plane.PlaneBits.same.Goals as goal
 
 pub returns : goal.returns
 returns g c =
     let here = c.args.self.now in
     let there = c.args.other.now in
-    let decides = slice_eq-Decides booleans_Decides here.bits.items there.bits.items c.eq.result c.eq.ensures in
-    (λ equal. ap (rows_of g.row.W g.row.H) (decides.0 equal), λ rows. decides.1 (same_bits g.row.W g.row.H here.bits.items there.bits.items (sym here.bits.ok.0 ∙ here.sized) (sym there.bits.ok.0 ∙ there.sized) rows))
+    let lent : packed c.deref.result.now ≡ packed here.words.items = ap packed c.deref.ensures.value in
+    let lent_too : packed c.deref-2.result.now ≡ packed there.words.items = ap packed c.deref-2.ensures.value in (
+      λ equal. ap (λ bits. rows_of g.row.W g.row.H (take (g.row.W * g.row.H) bits)) (sym lent ∙ c.same.ensures.0 equal ∙ lent_too),
+      λ rows. c.same.ensures.1 (lent ∙ bits_same g.row.W g.row.H here.words.items there.words.items (sym here.words.ok.0 ∙ here.sized) (sym there.words.ok.0 ∙ there.sized) here.clear there.clear rows ∙ sym lent_too),
+    )

@@ -1,6 +1,45 @@
+use Rattle.std.proofs.Common.{◌≡◌, ◌+◌, ◌*◌, ap, ◌∙◌, arith, length, take, length-take-le}
+use Rattle.bit_plane.specs.BitList.{word_bits, placed}
+use Rattle.bit_plane.specs.Rows.{rows_of}
+use Rattle.bit_plane.specs.inside.Packed.{packed}
+use Rattle.bit_plane.proofs.Packed.{length-packed}
+use Rattle.bit_plane.proofs.Words.{length-word_bits}
+use Rattle.bit_plane.proofs.Flats.{within_row}
 use Rattle.bit_plane.proofs.Grids.{rows_of-set}
+use Rattle.bit_plane.proofs.Kept.{one_bit, placed-one}
+use Rattle.bit_plane.proofs.Kept.{IsWritten, bits_after, clear_after}
 use Rattle.bit_plane.proofs.plane.PlaneBits.set.Goals as goal
+
+pub invariant_of-self-clause-clear : goal.invariant_of-self-clause-clear
+invariant_of-self-clause-clear g c =
+    let plane = c.args.self.now in
+    let at = c.args.y * g.row.W + c.args.x in
+    let part = word_bits 1 c.from.result in
+    let written : IsWritten (g.row.W * g.row.H) at plane.words.len part plane.words.items c.deref_mut.result.now c.put_word.new.words = record {
+      within = within_row g.row.W g.row.H c.args.x c.args.y (length (word_bits 1 c.from.result)) c.requires.row (omega (arith, length-word_bits 1 c.from.result, c.requires.column));
+      sized = plane.sized;
+      items = plane.words.ok.0;
+      lent_is = c.deref_mut.ensures.value;
+      same = c.put_word.auto.words;
+      new_is = c.put_word.ensures;
+    } in
+    clear_after (g.row.W * g.row.H) at plane.words.len part plane.words.items c.deref_mut.result.now c.put_word.new.words written plane.clear
 
 pub returns : goal.returns
 returns g c =
-    rows_of-set g.row.W g.row.H c.args.self.now.bits.items c.args.x c.args.y c.args.bit c.requires.column c.requires.row
+    let plane = c.args.self.now in
+    let at = c.args.y * g.row.W + c.args.x in
+    let part = word_bits 1 c.from.result in
+    let size = g.row.W * g.row.H in
+    let words = plane.words.items in
+    let bits = take size (packed words) in
+    let exact : length bits ≡ size = length-take-le size (packed words) (omega (arith, plane.sized, plane.words.ok.0, length-packed words)) in
+    let written : IsWritten size at plane.words.len part words c.deref_mut.result.now c.put_word.new.words = record {
+      within = within_row g.row.W g.row.H c.args.x c.args.y (length (word_bits 1 c.from.result)) c.requires.row (omega (arith, length-word_bits 1 c.from.result, c.requires.column));
+      sized = plane.sized;
+      items = plane.words.ok.0;
+      lent_is = c.deref_mut.ensures.value;
+      same = c.put_word.auto.words;
+      new_is = c.put_word.ensures;
+    } in
+    ap (rows_of g.row.W g.row.H) (bits_after size at plane.words.len part words c.deref_mut.result.now c.put_word.new.words written) ∙ ap (rows_of g.row.W g.row.H) (ap (λ part. placed at part bits) (ap (word_bits 1) c.from.ensures ∙ one_bit c.args.bit) ∙ placed-one at c.args.bit bits (omega (arith, exact, within_row g.row.W g.row.H c.args.x c.args.y 1 c.requires.row (omega (arith, c.requires.column))))) ∙ rows_of-set g.row.W g.row.H bits c.args.x c.args.y c.args.bit c.requires.column c.requires.row

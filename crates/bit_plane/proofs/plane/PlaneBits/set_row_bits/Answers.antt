@@ -1,10 +1,43 @@
-use Rattle.std.proofs.Common.{sym, ◌∙◌, arith}
+use Rattle.std.proofs.Common.{◌≡◌, ◌+◌, ◌*◌, ap, ◌∙◌, arith, length, take, length-take-le}
 use Rattle.bit_plane.specs.BitList.{word_bits}
+use Rattle.bit_plane.specs.Rows.{rows_of}
+use Rattle.bit_plane.specs.inside.Packed.{packed}
+use Rattle.bit_plane.proofs.Packed.{length-packed}
 use Rattle.bit_plane.proofs.Words.{length-word_bits}
-use Rattle.bit_plane.proofs.Flats.{row_put}
+use Rattle.bit_plane.proofs.Flats.{rows_of-placed_in_row, within_row}
+use Rattle.bit_plane.proofs.Kept.{IsWritten, bits_after, clear_after}
 use Rattle.bit_plane.proofs.plane.PlaneBits.set_row_bits.Goals as goal
+
+pub invariant_of-self-clause-clear : goal.invariant_of-self-clause-clear
+invariant_of-self-clause-clear g c =
+    let plane = c.args.self.now in
+    let at = c.args.y * g.row.W + c.args.x in
+    let part = word_bits c.args.count c.args.bits in
+    let written : IsWritten (g.row.W * g.row.H) at plane.words.len part plane.words.items c.deref_mut.result.now c.put_word.new.words = record {
+      within = within_row g.row.W g.row.H c.args.x c.args.y (length (word_bits c.args.count c.args.bits)) c.requires.row (omega (arith, length-word_bits c.args.count c.args.bits, c.requires.columns));
+      sized = plane.sized;
+      items = plane.words.ok.0;
+      lent_is = c.deref_mut.ensures.value;
+      same = c.put_word.auto.words;
+      new_is = c.put_word.ensures;
+    } in
+    clear_after (g.row.W * g.row.H) at plane.words.len part plane.words.items c.deref_mut.result.now c.put_word.new.words written plane.clear
 
 pub returns : goal.returns
 returns g c =
     let plane = c.args.self.now in
-    row_put g.row.W g.row.H c.args.x c.args.y plane.bits.len (word_bits c.args.count c.args.bits) plane.bits.items c.deref_mut.result.now c.put_word.new.bits (omega (arith, length-word_bits c.args.count c.args.bits, c.requires.columns)) c.requires.row (sym plane.bits.ok.0 ∙ plane.sized) plane.bits.ok.0 c.deref_mut.ensures.value c.put_word.auto.bits c.put_word.ensures
+    let at = c.args.y * g.row.W + c.args.x in
+    let part = word_bits c.args.count c.args.bits in
+    let size = g.row.W * g.row.H in
+    let words = plane.words.items in
+    let bits = take size (packed words) in
+    let exact : length bits ≡ size = length-take-le size (packed words) (omega (arith, plane.sized, plane.words.ok.0, length-packed words)) in
+    let written : IsWritten size at plane.words.len part words c.deref_mut.result.now c.put_word.new.words = record {
+      within = within_row g.row.W g.row.H c.args.x c.args.y (length (word_bits c.args.count c.args.bits)) c.requires.row (omega (arith, length-word_bits c.args.count c.args.bits, c.requires.columns));
+      sized = plane.sized;
+      items = plane.words.ok.0;
+      lent_is = c.deref_mut.ensures.value;
+      same = c.put_word.auto.words;
+      new_is = c.put_word.ensures;
+    } in
+    ap (rows_of g.row.W g.row.H) (bits_after size at plane.words.len part words c.deref_mut.result.now c.put_word.new.words written) ∙ rows_of-placed_in_row g.row.W g.row.H c.args.x c.args.y part bits (omega (arith, length-word_bits c.args.count c.args.bits, c.requires.columns)) c.requires.row exact

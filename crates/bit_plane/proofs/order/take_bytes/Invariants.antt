@@ -1,6 +1,0 @@
-use Rattle.std.proofs.Common.{◌≡◌, take, drop}
-use Rattle.bit_plane.specs.BitList.{bytes_of}
-use Rattle.bit_plane.proofs.order.take_bytes.Given as goal
-
-abbrev pub invariant-loop-index : goal.invariant-loop-index
-invariant-loop-index l = take l.index l.bytes ≡ bytes_of l.index (drop l.position l.bits)

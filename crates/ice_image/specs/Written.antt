@@ -1,10 +1,11 @@
 -- What holds along the way: bits that are written one after the other, and set extra bits that are found place after
 -- place. Only contracts within this crate cite this.
-use Rattle.std.specs.Prelude.{◌≡◌, ℕ, ◌<◌, ◌⊎◌, ◌↔◌, Bool, false, List, [], ◌∷◌, ◌++◌, get_or, Contains, AllPairs}
+use Rattle.std.specs.Prelude.{◌≡◌, ℕ, ◌<◌, ◌⊎◌, ◌↔◌, Bool, false, ◌||◌, List, [], ◌∷◌, ◌++◌, get_or, Contains, AllPairs}
 use Rattle.bit_plane.specs.BitList.{word_bits}
 use Rattle.bit_plane.specs.Rows.{Rows, IsGrid, bit_at}
 use Rattle.plane_map.specs.Layout.{Layout}
 use Rattle.plane_map.specs.declared.tile.Place.{Place}
+use Rattle.ice_image.specs.Bits.{number_bit}
 use Rattle.ice_image.specs.Configuration.{place_bit, SameBut}
 use Rattle.ice_image.specs.Contents.{tile_place}
 use Rattle.ice_image.specs.Extras.{IsBefore, IsSetExtra}
@@ -12,6 +13,10 @@ use Rattle.ice_image.specs.Extras.{IsBefore, IsSetExtra}
 -- one of the low bits of a word
 abbrev pub bit_of_word : ℕ → ℕ → ℕ → Bool
 bit_of_word count word k = get_or (word_bits count word) k false
+
+-- the bit at a place, or 1 where that bit of a number is
+abbrev pub gained_bit : (ℕ → Place) → List Rows → ℕ → ℕ → Bool
+gained_bit places planes ones k = place_bit planes (places k) || number_bit ones k
 
 -- one of the first places of a list that is given by its items
 abbrev pub IsAmong : (ℕ → Place) → ℕ → Place → Type 0

@@ -5,7 +5,7 @@ ghost use Rattle.bit_plane.specs.Rows.{row_from};
 ghost use Rattle.plane_map.specs.Layout.{IsLayout, columns_at};
 ghost use Rattle.ice_image.specs.Configuration.{place_bit, AreBanks, IsCramSize, SameBut};
 ghost use Rattle.ice_image.specs.Contents.{tile_place, tile_rows, IsPlaceOfTile};
-ghost use Rattle.ice_image.specs.Written.{IsWritten, bit_of_word};
+ghost use Rattle.ice_image.specs.Written.{IsWritten, bit_of_word, gained_bit};
 
 use crate::banks::Banks;
 use bit_plane::{Bits, Tile};
@@ -79,6 +79,26 @@ pub(crate) fn write_tile<P: Bits, const C: usize>(
     for row in 0..16 {
         write_row(layout, cram, x, y, row, C, tile.row(usize::from(row)));
     }
+}
+
+/// Sets the bits of a row of the tile at (x, y) at which `ones` has a 1. Column c is the bit of value 2^c.
+pub(crate) fn set_row_ones<P: Bits>(
+    layout: &Layout,
+    cram: &mut Banks<P>,
+    x: u8,
+    y: u8,
+    row: u8,
+    ones: u64,
+)
+    requires row { row < 16 }
+    requires size { IsCramSize layout.now.device P.WIDTH P.HEIGHT }
+    requires whole { AreBanks P.WIDTH P.HEIGHT cram.old }
+    ensures written { IsWritten (tile_place layout.now x y row) (gained_bit (tile_place layout.now x y row) cram.old ones) (columns_at layout.now.device x y) cram.old cram.new }
+    ensures whole { AreBanks P.WIDTH P.HEIGHT cram.new }
+{
+    let width = columns_on(layout.device(), x, y);
+    let word = row_word(layout, cram, x, y, row, width);
+    write_row(layout, cram, x, y, row, width, word | ones);
 }
 
 /// Sets a row of the tile at (x, y) to the bits of a word. Column c gets the bit of value 2^c.

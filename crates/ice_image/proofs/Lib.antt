@@ -5,6 +5,7 @@ pub mod InOrder
 pub mod Listed
 pub mod Lists
 pub mod Made
+pub mod Marked
 pub mod Owned
 pub mod PlanesFrom
 pub mod RunBits

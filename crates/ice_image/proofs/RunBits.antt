@@ -11,7 +11,7 @@ use Rattle.plane_map.specs.declared.tile.Run.{Run}
 use Rattle.plane_map.specs.Runs.{IsRunIn, run_place}
 use Rattle.ice_image.specs.Bits.{number_bit}
 use Rattle.ice_image.specs.Configuration.{bank_rows, place_bit, with_bank, AreBanks}
-use Rattle.ice_image.specs.Written.{IsAmong, IsWritten, bit_of_word}
+use Rattle.ice_image.specs.Written.{IsWritten, bit_of_word}
 use Rattle.ice_image.proofs.BankBits.{same_place}
 use Rattle.ice_image.proofs.Gained.{number_bit-row}
 use Rattle.ice_image.proofs.Made.{row_from-is, row_word-is, row_word-below}
@@ -52,6 +52,11 @@ module _ (width height : ℕ) (planes : List Rows) (banks : AreBanks width heigh
   row_bits-is =
       sym (row_from-is count (λ k. place_bit planes (record { bank = bank; px = x + k; py = y })) (take count (drop x row)) (length-take-le count (drop x row) (omega (arith, length-drop x row, wide))) (λ k within.
       sym (get_or-take count (drop x row) k false within ∙ get_or-drop x row k false)))
+
+  -- a bit of their word
+  pub row_bit-is : (word k : ℕ) → k < count → word ≡ word_of (take count (drop x row)) → number_bit word k ≡ place_bit planes (record { bank = bank; px = x + k; py = y })
+  row_bit-is word k within word_is =
+      ap (λ n. number_bit n k) (word_is ∙ ap word_of row_bits-is) ∙ number_bit-row count (λ k. place_bit planes (record { bank = bank; px = x + k; py = y })) k within
 
   -- other bits in their place
   module _ (word : ℕ) where

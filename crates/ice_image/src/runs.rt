@@ -16,12 +16,7 @@ pub(crate) fn run_word<P: Bits>(planes: &Banks<P>, run: Run, count: usize) -> u6
     requires { IsRunIn P.WIDTH P.HEIGHT count run }
     ensures { result ≡ word_of (row_from count (λ k. place_bit planes.now (run_place run count k))) }
 {
-    let bits = planes.row_bits(
-        run.bank as usize,
-        run.px as usize,
-        run.py as usize,
-        count,
-    );
+    let bits = planes.row_bits(run.bank as usize, run.px as usize, run.py as usize, count);
     turned(run.backwards, bits, count)
 }
 

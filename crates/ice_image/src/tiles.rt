@@ -123,7 +123,7 @@ pub(crate) fn set_row_ones<P: Bits>(
 }
 
 /// Sets a row of the tile at (x, y) to the bits of a word. Column c gets the bit of value 2^c.
-fn write_row<P: Bits>(
+pub(crate) fn write_row<P: Bits>(
     layout: &Layout,
     cram: &mut Banks<P>,
     x: u8,

@@ -1,13 +1,18 @@
 -- The set extra bits, place after place.
-use Rattle.std.proofs.Common.{◌≡◌, ℕ, ◌+◌, ◌<◌, ◌↔◌, ◌⊎◌, List, [], ◌∷◌, ◌++◌, get_or, refl, sym, subst, inl, inr, arith, Contains}
-use Rattle.std.proofs.lemmas.Bool.{cases_lt}
+use Rattle.std.proofs.Common.{◌≡◌, ℕ, zero, suc, ◌+◌, ◌<◌, ◌≤◌, ◌↔◌, ◌⊎◌, Bool, true, false, not, if◌then◌else◌, List, [], ◌∷◌, ◌++◌, get_or, refl, sym, ap, ◌∙◌, subst, inl, inr, arith, append_assoc, append-nil, Contains}
+use Rattle.std.proofs.lemmas.Bool.{cases_lt, and_parts, both_ways, not-true}
+use Rattle.place_search.specs.Places.{gathered_below}
 use Rattle.std.proofs.lemmas.List.Elements.{Contains-push, Contains-append_left, Contains-push_cases, Contains-get_or}
 use Rattle.std.proofs.lemmas.List.Quantifiers.{all_pairs_push}
 use Rattle.bit_plane.specs.Rows.{Rows}
 use Rattle.plane_map.specs.Layout.{Layout, IsInCram, cram_width, cram_height}
 use Rattle.plane_map.specs.declared.tile.Place.{Place}
 use Rattle.ice_image.specs.Extras.{IsBefore, IsSetExtra, AreSetExtras}
-use Rattle.ice_image.specs.Written.{HasExtras, IsExtraAppended}
+use Rattle.ice_image.specs.Bits.{number_bit}
+use Rattle.ice_image.specs.Configuration.{place_bit}
+use Rattle.ice_image.specs.Owned.{is_owned}
+use Rattle.ice_image.specs.Written.{HasExtras, IsExtraAppended, is_set_extra, free_places}
+use Rattle.ice_image.proofs.Owned.{is_owned-extra, extra-is_owned}
 use Rattle.ice_image.proofs.BankBits.{same_place}
 
 -- the place of a bank's column and row
@@ -153,6 +158,35 @@ module _ (layout : Layout) (cram : List Rows) where
         | inl h ↦ subst (HasExtras layout cram (place bank (px + 1) py)) (sym h.1) (extras-pushed bank px py before so_far h.0)
         | inr h ↦ subst (HasExtras layout cram (place bank (px + 1) py)) (sym h.1) (extras-passed bank px py before so_far h.0)
       ]
+
+  -- a place of a set bit that is no tile's, by the test
+  set_extra-from : (at : Place) → IsInCram layout.device at → is_set_extra layout cram at ≡ true → IsSetExtra layout cram at
+  set_extra-from at inside is =
+      let parts = and_parts (place_bit cram at) (not (is_owned layout at)) is in
+      record { inside = inside; is_set = parts.0; extra = extra-is_owned layout at (not-true (is_owned layout at) parts.1) }
+
+  set_extra-to : (at : Place) → IsSetExtra layout cram at → is_set_extra layout cram at ≡ true
+  set_extra-to at is = rw (is.is_set, is_owned-extra layout at is.extra) refl
+
+  -- one bit more of a number
+  free-more : (test : Bool) (at : Place) (before found : List Place) → IsInCram layout.device at → test ≡ is_set_extra layout cram at → IsExtraAppended layout cram at (before ++ found) (before ++ (found ++ (if test then at ∷ [] else [])))
+  free-more true at before found inside is = inl (set_extra-from at inside (sym is), sym (append_assoc before found (at ∷ [])))
+  free-more false at before found inside is = inr (λ h. both_ways false refl (is ∙ set_extra-to at h), ap (λ (found : List Place). before ++ found) (append-nil found))
+
+  -- the next columns, by the bits of a number
+  pub extras-free : (bank px py free count : ℕ) (places : List Place) → bank < 4 → px + count ≤ cram_width layout.device → py < cram_height layout.device
+      → ((k : ℕ) → k < count → number_bit free k ≡ is_set_extra layout cram (place bank (px + k) py)) → HasExtras layout cram (place bank px py) places
+      → HasExtras layout cram (place bank (px + count) py) (places ++ free_places bank px py free count)
+  unfolding gathered_below
+  extras-free bank px py free zero places bank_in columns_in row_in bits so_far =
+      let e : px ≡ px + 0 = omega arith in
+      subst (λ (n : ℕ). HasExtras layout cram (place bank n py) (places ++ [])) e (subst (HasExtras layout cram (place bank px py)) (sym (append-nil places)) so_far)
+  extras-free bank px py free (suc n) places bank_in columns_in row_in bits so_far =
+      let e : px + n + 1 ≡ px + suc n = omega arith in
+      let inside : IsInCram layout.device (place bank (px + n) py) = record { bank_in = bank_in; px_in = omega (arith, columns_in); py_in = row_in } in
+      let before = extras-free bank px py free n places bank_in (omega (arith, columns_in)) row_in (λ k within. bits k (omega (arith, within))) so_far in
+      subst (λ (m : ℕ). HasExtras layout cram (place bank m py) (places ++ free_places bank px py free (suc n))) e
+      (extras-more bank (px + n) py (places ++ free_places bank px py free n) (places ++ free_places bank px py free (suc n)) before (free-more (number_bit free n) (place bank (px + n) py) places (free_places bank px py free n) inside (bits n (omega arith))))
 
   -- the next row
   pub extras-row : (bank px py : ℕ) (places : List Place) → px ≡ cram_width layout.device → HasExtras layout cram (place bank px py) places → HasExtras layout cram (place bank 0 (py + 1)) places

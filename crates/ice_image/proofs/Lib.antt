@@ -1,12 +1,16 @@
 pub mod BankBits
 pub mod Bits
+pub mod Gained
 pub mod InOrder
 pub mod Listed
 pub mod Lists
 pub mod Made
+pub mod Marked
 pub mod Owned
 pub mod PlanesFrom
+pub mod RunBits
 pub mod SetExtras
 pub mod Sizes
 pub mod TileColumns
+pub mod Turned
 pub mod Written

@@ -1,14 +1,13 @@
 -- How many columns tiles have, and that their bits lie apart.
 use Rattle.std.proofs.Common.{◌≡◌, ◌≢◌, ℕ, ◌<◌, ◌≤◌, ap, arith, Option, Some, None}
 use Rattle.plane_map.proofs.Places.{place_is_only}
-use Rattle.plane_map.specs.Layout.{Layout, IsLayout, IsTileBit, IsWordBit, kind_of, columns_in, columns_at, place_of, word_place_of}
+use Rattle.plane_map.specs.Layout.{Layout, IsLayout, IsTileBit, kind_of, columns_in, columns_at, place_of}
 use Rattle.plane_map.specs.declared.device.DeviceName.{DeviceName}
 use Rattle.plane_map.specs.declared.tile.TileKind.{TileKind}
 use Rattle.plane_map.specs.declared.tile.TileKind.TheVariants.{Io, Logic, RamB, RamT}
 use Rattle.plane_map.specs.declared.tile.TileBit.{TileBit}
-use Rattle.plane_map.specs.declared.tile.WordBit.{WordBit}
 use Rattle.plane_map.specs.declared.tile.Place.{Place}
-use Rattle.ice_image.specs.Contents.{tile_place, word_bit_place}
+use Rattle.ice_image.specs.Contents.{tile_place}
 
 -- no kind has more columns than a word has bits
 columns_in-le : (kind : Option TileKind) → columns_in kind ≤ 54
@@ -38,13 +37,3 @@ tile_place-apart layout x y row col at inside column only k before same =
     let e = only other (record { row_in = inside; col_in = (let small : k < columns_at layout.device x y = omega arith in small) }) same in
     let columns : k ≡ col = ap (λ (bit : TileBit). bit.col) e in
     absurd (omega (arith, columns))
-
--- so do the bits of a word
-pub word_bit_place-apart : (layout : Layout) (x y word bit : ℕ) (at : Place) → kind_of layout.device x y ≡ Some RamB → word < 256 → bit < 16
-    → ((other : WordBit) → IsWordBit layout.device other → word_place_of layout other ≡ at → other ≡ record { x = x; y = y; word = word; bit = bit })
-    → (k : ℕ) → k < bit → word_bit_place layout x y word k ≢ at
-word_bit_place-apart layout x y word bit at lower word_in bit_in only k before same =
-    let other : WordBit = record { x = x; y = y; word = word; bit = k } in
-    let e = only other (record { lower = lower; word_in = word_in; bit_in = (let small : k < 16 = omega arith in small) }) same in
-    let bits : k ≡ bit = ap (λ (bit : WordBit). bit.bit) e in
-    absurd (omega (arith, bits))

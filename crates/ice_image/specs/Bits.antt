@@ -1,6 +1,6 @@
 -- The bits of an image: those of its tiles, those of the words of its RAMs, and its extra bits, which are no tile's. An image is
 -- known by them, its layout, its comment and its settings.
-use Rattle.std.specs.Prelude.{◌≡◌, ℕ, Bool, true, false, not, ◌&&◌, List, [], ◌∷◌, map, if◌then◌else◌, Option, Some}
+use Rattle.std.specs.Prelude.{◌≡◌, ℕ, ◌/◌, ◌%◌, ◌^◌, ◌==◌, Bool, true, false, not, ◌&&◌, ◌||◌, List, [], ◌∷◌, map, if◌then◌else◌, Option, Some}
 use Rattle.place_search.specs.Places.{any_below, gathered_below}
 use Rattle.bit_plane.specs.BitList.{word_of}
 use Rattle.bit_plane.specs.Rows.{Rows, row_from, rows_from}
@@ -81,6 +81,28 @@ pub record OnlyBits (IsChanged : Bit → Type 0) (before after : Configuration) 
 pub record IsSet (bit : Bit) (value : Bool) (before after : Configuration) : Type 0 where
   pub set : bit_of after bit ≡ value
   pub others : OnlyBits (λ other. other ≡ bit) before after
+
+-- the layout, the comment and the settings are as before, and the bits are 1 that were 1 before and those that the test tells
+pub record Gains (is_set : Bit → Bool) (before after : Configuration) : Type 0 where
+  pub layout : after.layout ≡ before.layout
+  pub comment : after.comment ≡ before.comment
+  pub settings : after.settings ≡ before.settings
+  pub whole : IsWhole after
+  pub bits : (bit : Bit) → IsBit before.layout bit → bit_of after bit ≡ (bit_of before bit || is_set bit)
+
+-- a bit of a number, bit b being worth 2 ^ b
+abbrev pub number_bit : ℕ → ℕ → Bool
+number_bit number bit = number / 2 ^ bit % 2 == 1
+
+-- whether a number is 1 at a bit of a row of a tile
+abbrev pub row_ones : ℕ → ℕ → ℕ → ℕ → Bit → Bool
+row_ones x y row ones (OfTile bit) = (x == bit.x) && (y == bit.y) && (row == bit.row) && number_bit ones bit.col
+row_ones x y row ones bit = false
+
+-- whether a number is 1 at a bit of a word of a RAM
+abbrev pub word_ones : ℕ → ℕ → ℕ → ℕ → Bit → Bool
+word_ones x y word ones (OfWord bit) = (x == bit.x) && (y == bit.y) && (word == bit.word) && number_bit ones bit.bit
+word_ones x y word ones bit = false
 
 -- ---- the image that has given bits
 

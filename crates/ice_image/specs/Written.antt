@@ -1,17 +1,24 @@
 -- What holds along the way: bits that are written one after the other, and set extra bits that are found place after
 -- place. Only contracts within this crate cite this.
-use Rattle.std.specs.Prelude.{◌≡◌, ℕ, ◌<◌, ◌⊎◌, ◌↔◌, Bool, false, List, [], ◌∷◌, ◌++◌, get_or, Contains, AllPairs}
+use Rattle.std.specs.Prelude.{◌≡◌, ℕ, ◌+◌, ◌<◌, ◌⊎◌, ◌↔◌, Bool, true, false, not, ◌&&◌, ◌||◌, if◌then◌else◌, List, [], ◌∷◌, ◌++◌, get_or, Contains, AllPairs}
+use Rattle.place_search.specs.Places.{gathered_below}
 use Rattle.bit_plane.specs.BitList.{word_bits}
 use Rattle.bit_plane.specs.Rows.{Rows, IsGrid, bit_at}
 use Rattle.plane_map.specs.Layout.{Layout}
 use Rattle.plane_map.specs.declared.tile.Place.{Place}
+use Rattle.ice_image.specs.Bits.{number_bit}
 use Rattle.ice_image.specs.Configuration.{place_bit, SameBut}
 use Rattle.ice_image.specs.Contents.{tile_place}
 use Rattle.ice_image.specs.Extras.{IsBefore, IsSetExtra}
+use Rattle.ice_image.specs.Owned.{is_owned}
 
 -- one of the low bits of a word
 abbrev pub bit_of_word : ℕ → ℕ → ℕ → Bool
 bit_of_word count word k = get_or (word_bits count word) k false
+
+-- the bit at a place, or 1 where that bit of a number is
+abbrev pub gained_bit : (ℕ → Place) → List Rows → ℕ → ℕ → Bool
+gained_bit places planes ones k = place_bit planes (places k) || number_bit ones k
 
 -- one of the first places of a list that is given by its items
 abbrev pub IsAmong : (ℕ → Place) → ℕ → Place → Type 0
@@ -42,3 +49,32 @@ pub record HasExtras (layout : Layout) (cram : List Rows) (limit : Place) (place
 abbrev pub IsExtraAppended : Layout → List Rows → Place → List Place → List Place → Type 0
 IsExtraAppended layout cram at before after =
     (IsSetExtra layout cram at × (after ≡ before ++ at ∷ [])) ⊎ ((¬ IsSetExtra layout cram at) × (after ≡ before))
+
+-- whether a bit is set and no tile's
+abbrev pub is_set_extra : Layout → List Rows → Place → Bool
+is_set_extra layout cram at = place_bit cram at && not (is_owned layout at)
+
+-- the places of the bits that are set in a number, from a column of a row on
+abbrev pub free_places : ℕ → ℕ → ℕ → ℕ → ℕ → List Place
+free_places bank px py free count = gathered_below count (λ k. if number_bit free k then record { bank = bank; px = px + k; py = py } ∷ [] else [])
+
+-- ---- the places of tiles, marked in planes
+
+-- only places that belong to tiles are set
+abbrev pub AreMarks : Layout → List Rows → Type 0
+AreMarks layout owned = (at : Place) → place_bit owned at ≡ true → is_owned layout at ≡ true
+
+-- what was set is so still
+abbrev pub AreKept : List Rows → List Rows → Type 0
+AreKept before after = (at : Place) → place_bit before at ≡ true → place_bit after at ≡ true
+
+-- each place of a row that belongs to a tile is set
+abbrev pub IsMarked : Layout → List Rows → ℕ → ℕ → Type 0
+IsMarked layout owned bank py =
+    (px : ℕ) → is_owned layout (record { bank = bank; px = px; py = py }) ≡ true → place_bit owned (record { bank = bank; px = px; py = py }) ≡ true
+
+-- only such places are set, and in the first banks all of them in row 0, which lies in an end row of tiles, and in row 16
+pub record AreMarked (layout : Layout) (count : ℕ) (owned : List Rows) : Type 0 where
+  pub marks : AreMarks layout owned
+  pub ends : (bank : ℕ) → bank < count → IsMarked layout owned bank 0
+  pub inner : (bank : ℕ) → bank < count → IsMarked layout owned bank 16

@@ -7,7 +7,7 @@ ghost use Rattle.ice_image.specs.Configuration.{place_bit, with_place_bit, SameB
 ghost use Rattle.ice_image.specs.Contents.{tile_rows, IsPlaceOfTile, word_value, IsPlaceOfWord, IsBitOfTile};
 ghost use Rattle.ice_image.specs.Either.{configuration_of, device_of};
 ghost use Rattle.ice_image.specs.Extras.{AreSetExtras};
-ghost use Rattle.ice_image.specs.Bits.{OfTile, OfWord, Extra, bit_of, listed_bits, row_of, ram_word_of, set_extras, IsSet};
+ghost use Rattle.ice_image.specs.Bits.{OfTile, OfWord, Extra, bit_of, listed_bits, row_of, ram_word_of, set_extras, row_ones, word_ones, IsSet, Gains};
 ghost use Rattle.ice_image.specs.Owned.{is_extra};
 ghost use Rattle.ice_image.specs.Planes.{plane_width, plane_height, rows_of_bank, with_rows};
 
@@ -144,6 +144,19 @@ impl AnyImage {
         }
     }
 
+    /// Sets the bits of a row of a tile at which `ones` has a 1. Column c is the bit of value 2^c; bits past the tile's
+    /// columns are passed over, and where there is no tile nothing changes.
+    pub fn set_ones(&mut self, x: u8, y: u8, row: u8, ones: u64)
+        requires { row < 16 }
+        ensures device { device_of self.new ≡ device_of self.old }
+        ensures bits { Gains (row_ones x y row ones) (configuration_of self.old) (configuration_of self.new) }
+    {
+        match self {
+            AnyImage::K1(image) => image.set_ones(x, y, row, ones),
+            AnyImage::K8(image) => image.set_ones(x, y, row, ones),
+        }
+    }
+
     /// Sets an extra bit.
     pub fn set_extra_bit(&mut self, at: Place, bit: bool)
         requires { is_extra (configuration_of self.old).layout at ≡ true }
@@ -241,6 +254,18 @@ impl AnyImage {
         match self {
             AnyImage::K1(image) => image.set_ram_word(x, y, word, value),
             AnyImage::K8(image) => image.set_ram_word(x, y, word, value),
+        }
+    }
+
+    /// Sets the bits of a word of the RAM whose lower tile is at (x, y) at which `ones` has a 1. Bit b has the value 2^b.
+    pub fn set_word_ones(&mut self, x: u8, y: u8, word: u8, ones: u16)
+        requires { kind_of (device_of self.old) x y ≡ Some TileKind.RamB }
+        ensures device { device_of self.new ≡ device_of self.old }
+        ensures bits { Gains (word_ones x y word ones) (configuration_of self.old) (configuration_of self.new) }
+    {
+        match self {
+            AnyImage::K1(image) => image.set_word_ones(x, y, word, ones),
+            AnyImage::K8(image) => image.set_word_ones(x, y, word, ones),
         }
     }
 

@@ -7,7 +7,7 @@ ghost use Rattle.plane_map.specs.Layout.{kind_of, columns_at, standard_layout, p
 ghost use Rattle.ice_image.specs.Configuration.{bank_rows, place_bit, with_bank, with_place_bit, SameBut, blank_image, IsWhole};
 ghost use Rattle.ice_image.specs.Contents.{tile_rows, IsPlaceOfTile, word_value, IsPlaceOfWord, IsBitOfTile};
 ghost use Rattle.ice_image.specs.Extras.{AreSetExtras};
-ghost use Rattle.ice_image.specs.Bits.{OfTile, OfWord, Extra, bit_of, listed_bits, row_of, ram_word_of, set_extras, IsSet};
+ghost use Rattle.ice_image.specs.Bits.{OfTile, OfWord, Extra, bit_of, listed_bits, row_of, ram_word_of, set_extras, row_ones, word_ones, IsSet, Gains};
 ghost use Rattle.ice_image.specs.Owned.{is_extra};
 ghost use Rattle.ice_image.specs.Planes.{plane_width, plane_height, rows_of_bank, with_rows};
 ghost use Rattle.ice_image.specs.declared.planes.PlaneKind.TheVariants.{Cram, Bram};
@@ -18,8 +18,8 @@ use crate::comment::Comment;
 use crate::extras::{extra_place, extras_of};
 use crate::planes::PlaneKind;
 use crate::settings::{Range, Settings};
-use crate::tiles::{columns_on, read_tile, row_word, write_tile};
-use crate::words::{read_word, write_word};
+use crate::tiles::{columns_on, read_tile, row_word, set_row_ones, write_tile};
+use crate::words::{read_word, set_ones_of_word, write_word};
 use bit_plane::{Bits, Tile};
 use plane_map::{Device, DeviceName, Layout, Place, RowCol, TileBit, TileKind, WordBit};
 use std::alloc::{AllocError, Global};
@@ -153,6 +153,15 @@ impl<D: Device> Image<D> {
         )
     }
 
+    /// Sets the bits of a row of a tile at which `ones` has a 1. Column c is the bit of value 2^c; bits past the tile's
+    /// columns are passed over, and where there is no tile nothing changes.
+    pub fn set_ones(&mut self, x: u8, y: u8, row: u8, ones: u64)
+        requires { row < 16 }
+        ensures { Gains (row_ones x y row ones) self.old self.new }
+    {
+        set_row_ones(&self.layout, &mut self.cram, x, y, row, ones);
+    }
+
     /// Sets an extra bit.
     pub fn set_extra_bit(&mut self, at: Place, bit: bool)
         requires { is_extra self.old.layout at ≡ true }
@@ -268,6 +277,14 @@ impl<D: Device> Image<D> {
         ensures whole { IsWhole self.new }
     {
         write_word(&self.layout, &mut self.bram, x, y, word, value);
+    }
+
+    /// Sets the bits of a word of the RAM whose lower tile is at (x, y) at which `ones` has a 1. Bit b has the value 2^b.
+    pub fn set_word_ones(&mut self, x: u8, y: u8, word: u8, ones: u16)
+        requires { kind_of self.old.layout.device x y ≡ Some TileKind.RamB }
+        ensures { Gains (word_ones x y word ones) self.old self.new }
+    {
+        set_ones_of_word(&self.layout, &mut self.bram, x, y, word, ones);
     }
 
     /// Sets a bit of a word of a RAM.

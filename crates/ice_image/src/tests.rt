@@ -185,15 +185,57 @@ fn tiles_are_read_and_written_whole(rt: HostRuntime) {
     assert!(rt; keeps_a_tile(rt.alloc(), DeviceName::K8, 32, 1) == Ok(true));
 }
 
+/// Whether the first bit of a row, and then all of its bits, are set by the ones of words, and the first one at that place.
+fn gains_ones(image: &mut AnyImage, x: u8, y: u8, first: Place, all: u64) -> bool {
+    if !is_in_cram(image.device(), first) {
+        return false;
+    }
+    image.set_ones(x, y, 0, 1);
+    let is_there = image.cram_bit(first) == (all != 0);
+    image.set_ones(x, y, 0, u64::MAX - 1);
+    is_there && image.tile_row(x, y, 0) == all
+}
+
+fn has_row(
+    alloc: Global,
+    device: DeviceName,
+    x: u8,
+    y: u8,
+    first: Place,
+    all: u64,
+) -> Result<bool, AllocError> {
+    let mut image = AnyImage::zeroed(alloc, device)?;
+    Ok(gains_ones(&mut image, x, y, first, all))
+}
+
+#[test]
+fn rows_of_tiles_gain_the_ones_of_words(rt: HostRuntime) {
+    for (device, x, y, first, all) in [
+        (DeviceName::K1, 1, 1, at(0, 18, 16), 0x3f_ffff_ffff_ffff),
+        (DeviceName::K1, 12, 16, at(3, 71, 31), 0x3f_ffff_ffff_ffff),
+        (DeviceName::K1, 0, 1, at(0, 17, 16), 0x3_ffff),
+        (DeviceName::K1, 3, 1, at(0, 126, 16), 0x3ff_ffff_ffff),
+        (DeviceName::K1, 0, 0, at(0, 0, 0), 0),
+        (DeviceName::K8, 25, 1, at(2, 437, 16), 0x3ff_ffff_ffff),
+    ] {
+        assert!(rt;
+            has_row(rt.alloc(), device, x, y, first, all) == Ok(true),
+            "at {x} {y}"
+        );
+    }
+}
+
 // ---- words and planes
 
-/// Whether a word of a RAM is read as it was written.
+/// Whether a word of a RAM is read as it was written, and gains the ones of another.
 fn is_written(image: &mut AnyImage, x: u8, y: u8, word: u8) -> bool {
     if !is_lower_ram(image.device(), x, y) {
         return false;
     }
     image.set_ram_word(x, y, word, 0x1234);
-    image.ram_word(x, y, word) == 0x1234
+    let is_read = image.ram_word(x, y, word) == 0x1234;
+    image.set_word_ones(x, y, word, 0x8014);
+    is_read && image.ram_word(x, y, word) == 0x9234
 }
 
 fn keeps_a_word(alloc: Global, device: DeviceName, x: u8, y: u8) -> Result<bool, AllocError> {
@@ -284,6 +326,15 @@ fn extra_bits_come_in_order(rt: HostRuntime) {
     let small = [at(1, 330, 0), at(0, 18, 16), at(0, 330, 143), at(0, 331, 5)];
     let ordered = [at(0, 331, 5), at(0, 330, 143), at(1, 330, 0)];
     assert!(rt; has_extras(rt.alloc(), DeviceName::K1, &small, &ordered) == Ok(true));
+    let pads = [
+        at(1, 23, 12),
+        at(1, 24, 12),
+        at(1, 34, 12),
+        at(1, 42, 12),
+        at(1, 24, 30),
+    ];
+    let ordered = [at(1, 24, 12), at(1, 42, 12)];
+    assert!(rt; has_extras(rt.alloc(), DeviceName::K1, &pads, &ordered) == Ok(true));
     let large = [at(3, 870, 271), at(3, 871, 2), at(2, 869, 100)];
     let ordered = [at(3, 871, 2), at(3, 870, 271)];
     assert!(rt; has_extras(rt.alloc(), DeviceName::K8, &large, &ordered) == Ok(true));

@@ -5,9 +5,10 @@ ghost use Rattle.bit_plane.specs.Rows.{row_from};
 ghost use Rattle.plane_map.specs.Layout.{IsLayout, columns_at};
 ghost use Rattle.ice_image.specs.Configuration.{place_bit, AreBanks, IsCramSize, SameBut};
 ghost use Rattle.ice_image.specs.Contents.{tile_place, tile_rows, IsPlaceOfTile};
-ghost use Rattle.ice_image.specs.Written.{IsWritten, bit_of_word};
+ghost use Rattle.ice_image.specs.Written.{IsWritten, bit_of_word, gained_bit};
 
 use crate::banks::Banks;
+use crate::runs::{run_word, write_run};
 use bit_plane::{Bits, Tile};
 use plane_map::{DeviceName, Layout, kind_on, tile_width};
 
@@ -53,6 +54,26 @@ pub(crate) fn row_word<P: Bits>(
     requires size { IsCramSize layout.now.device P.WIDTH P.HEIGHT }
     ensures { result ≡ word_of (row_from width (λ col. place_bit cram.now (tile_place layout.now x y row col))) }
 {
+    match layout.row_run(x, y, row) {
+        Some(run) => run_word(cram, run, width),
+        None => scattered_word(layout, cram, x, y, row, width),
+    }
+}
+
+/// The same, bit by bit.
+fn scattered_word<P: Bits>(
+    layout: &Layout,
+    cram: &Banks<P>,
+    x: u8,
+    y: u8,
+    row: u8,
+    width: usize,
+) -> u64
+    requires row { row < 16 }
+    requires width { columns_at layout.now.device x y ≡ width }
+    requires size { IsCramSize layout.now.device P.WIDTH P.HEIGHT }
+    ensures { result ≡ word_of (row_from width (λ col. place_bit cram.now (tile_place layout.now x y row col))) }
+{
     let mut word = 0;
     for col in (0..width).rev() {
         word = 2 * word + u64::from(cram.get(layout.cram_place(x, y, row, col as u8)));
@@ -81,8 +102,51 @@ pub(crate) fn write_tile<P: Bits, const C: usize>(
     }
 }
 
+/// Sets the bits of a row of the tile at (x, y) at which `ones` has a 1. Column c is the bit of value 2^c.
+pub(crate) fn set_row_ones<P: Bits>(
+    layout: &Layout,
+    cram: &mut Banks<P>,
+    x: u8,
+    y: u8,
+    row: u8,
+    ones: u64,
+)
+    requires row { row < 16 }
+    requires size { IsCramSize layout.now.device P.WIDTH P.HEIGHT }
+    requires whole { AreBanks P.WIDTH P.HEIGHT cram.old }
+    ensures written { IsWritten (tile_place layout.now x y row) (gained_bit (tile_place layout.now x y row) cram.old ones) (columns_at layout.now.device x y) cram.old cram.new }
+    ensures whole { AreBanks P.WIDTH P.HEIGHT cram.new }
+{
+    let width = columns_on(layout.device(), x, y);
+    let word = row_word(layout, cram, x, y, row, width);
+    write_row(layout, cram, x, y, row, width, word | ones);
+}
+
 /// Sets a row of the tile at (x, y) to the bits of a word. Column c gets the bit of value 2^c.
-fn write_row<P: Bits>(
+pub(crate) fn write_row<P: Bits>(
+    layout: &Layout,
+    cram: &mut Banks<P>,
+    x: u8,
+    y: u8,
+    row: u8,
+    width: usize,
+    word: u64,
+)
+    requires row { row < 16 }
+    requires width { columns_at layout.now.device x y ≡ width }
+    requires size { IsCramSize layout.now.device P.WIDTH P.HEIGHT }
+    requires whole { AreBanks P.WIDTH P.HEIGHT cram.old }
+    ensures written { IsWritten (tile_place layout.now x y row) (bit_of_word width word) width cram.old cram.new }
+    ensures whole { AreBanks P.WIDTH P.HEIGHT cram.new }
+{
+    match layout.row_run(x, y, row) {
+        Some(run) => write_run(cram, run, width, word),
+        None => write_scattered(layout, cram, x, y, row, width, word),
+    }
+}
+
+/// The same, bit by bit.
+fn write_scattered<P: Bits>(
     layout: &Layout,
     cram: &mut Banks<P>,
     x: u8,

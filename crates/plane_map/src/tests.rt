@@ -1,6 +1,7 @@
 // Kinds and places that are known from outside, at each public function.
 use crate::{
-    Device, DeviceName, Hx1k, Hx8k, Layout, Place, TileBit, TileKind, kind_at, kind_on, tile_width,
+    Device, DeviceName, Hx1k, Hx8k, Layout, Place, Run, TileBit, TileKind, TileRow, kind_at,
+    kind_on, tile_width,
 };
 
 /// A place by its bank, column and row.
@@ -110,4 +111,56 @@ fn finds_the_owners_of_places(rt: HostRuntime) {
     }
     let k8 = Layout::standard(DeviceName::K8);
     assert!(rt; has_owner(&k8, at(0, 870, 271), None));
+}
+
+/// A run by its bank, first column and row.
+fn run(bank: u8, px: u16, py: u16, backwards: bool) -> Run {
+    Run {
+        bank,
+        px,
+        py,
+        backwards,
+    }
+}
+
+#[test]
+fn finds_the_runs_of_rows(rt: HostRuntime) {
+    let k1 = Layout::standard(DeviceName::K1);
+    for (x, y, found, what) in [
+        (1, 1, Some(run(0, 18, 16, false)), "logic"),
+        (12, 16, Some(run(3, 18, 31, true)), "mirrored logic"),
+        (3, 1, Some(run(0, 126, 16, false)), "RAM"),
+        (0, 1, None, "side"),
+        (1, 17, None, "pad"),
+        (0, 0, None, "corner"),
+    ] {
+        assert!(rt; k1.row_run(x, y, 0) == found, "{what}");
+    }
+    let k8 = Layout::standard(DeviceName::K8);
+    assert!(rt; k8.row_run(25, 1, 15) == Some(run(2, 396, 31, true)));
+}
+
+/// The run of a word of the RAM at (x, y), if there is one.
+fn run_of_word(layout: &Layout, x: u8, y: u8, word: u8) -> Option<Run> {
+    if kind_on(layout.device(), u32::from(x), u32::from(y)) == Some(TileKind::RamB) {
+        Some(layout.word_run(x, y, word))
+    } else {
+        None
+    }
+}
+
+#[test]
+fn finds_the_runs_of_words(rt: HostRuntime) {
+    let k1 = Layout::standard(DeviceName::K1);
+    assert!(rt; run_of_word(&k1, 3, 1, 0) == Some(run(0, 0, 0, true)));
+    let k8 = Layout::standard(DeviceName::K8);
+    assert!(rt; run_of_word(&k8, 8, 17, 7) == Some(run(1, 112, 7, true)));
+}
+
+#[test]
+fn finds_the_rows_of_tiles_in_rows_of_bits(rt: HostRuntime) {
+    let k1 = Layout::standard(DeviceName::K1);
+    assert!(rt; k1.tile_row_at(0, 16) == TileRow { y: 1, row: 0 });
+    assert!(rt; k1.tile_row_at(1, 12) == TileRow { y: 17, row: 2 });
+    assert!(rt; k1.tile_row_at(3, 31) == TileRow { y: 16, row: 0 });
 }

@@ -34,9 +34,9 @@ use Rattle.asc_text.specs.inside.TileSets.{has_tile}
 use Rattle.asc_text.specs.Rows.{is_row, is_memory_line, memory_bytes}
 use Rattle.ice_image.specs.Owned.{is_extra}
 use Rattle.asc_text.specs.Faults.{cause_if, unknown_device, kind_cause, comment_cause, stray_cause}
-use Rattle.asc_text.specs.inside.Gains.{Gains, bytes_set}
+use Rattle.asc_text.specs.inside.Gains.{bytes_set}
 use Rattle.asc_text.specs.Meaning.{row_sets, extra_sets}
-use Rattle.ice_image.specs.Bits.{Bit}
+use Rattle.ice_image.specs.Bits.{Bit, Gains}
 
 -- ---- what is kept
 

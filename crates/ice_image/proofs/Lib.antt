@@ -7,7 +7,9 @@ pub mod Lists
 pub mod Made
 pub mod Owned
 pub mod PlanesFrom
+pub mod RunBits
 pub mod SetExtras
 pub mod Sizes
 pub mod TileColumns
+pub mod Turned
 pub mod Written

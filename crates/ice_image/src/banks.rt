@@ -1,6 +1,7 @@
 // The planes of the four banks, one for each quarter of the grid.
-ghost use Rattle.std.specs.Prelude.{◌≡◌, ◌<◌, IfOk, replicate};
-ghost use Rattle.bit_plane.specs.Rows.{blank};
+ghost use Rattle.std.specs.Prelude.{◌≡◌, ◌+◌, ◌<◌, ◌≤◌, IfOk, replicate, take, drop};
+ghost use Rattle.bit_plane.specs.BitList.{word_bits, word_of, placed};
+ghost use Rattle.bit_plane.specs.Rows.{blank, row_at, with_row};
 ghost use Rattle.ice_image.specs.Configuration.{bank_rows, place_bit, with_bank, with_place_bit, AreBanks};
 ghost use Rattle.std.specs.Borrow.{Lends, sem};
 ghost use Rattle.ice_image.specs.contracts.banks.Banks.{the_row};
@@ -66,6 +67,43 @@ impl<P: Bits> Banks<P> {
             1 => &mut self.left_top,
             2 => &mut self.right_bottom,
             _ => &mut self.right_top,
+        }
+    }
+
+    /// `count` bits of row y of a bank's plane, from column x on. The first is the bit of value 1.
+    pub(crate) fn row_bits(&self, bank: usize, x: usize, y: usize, count: usize) -> u64
+        requires bank { bank < 4 }
+        requires count { count ≤ 64 }
+        requires columns { x + count ≤ P.WIDTH }
+        requires row { y < P.HEIGHT }
+        ensures bits { result ≡ word_of (take count (drop x (row_at (bank_rows self.now bank) y))) }
+        ensures whole { AreBanks P.WIDTH P.HEIGHT self.now }
+    {
+        match bank {
+            0 => self.left_bottom.row_bits(x, y, count),
+            1 => self.left_top.row_bits(x, y, count),
+            2 => self.right_bottom.row_bits(x, y, count),
+            _ => self.right_top.row_bits(x, y, count),
+        }
+    }
+
+    /// Sets `count` bits of row y of a bank's plane, from column x on, to the low bits of `bits`. The first gets the bit of
+    /// value 1.
+    pub(crate) fn set_row_bits(&mut self, bank: usize, x: usize, y: usize, count: usize, bits: u64)
+        requires bank { bank < 4 }
+        requires count { count ≤ 64 }
+        requires columns { x + count ≤ P.WIDTH }
+        requires row { y < P.HEIGHT }
+        ensures planes { self.new ≡ with_bank self.old bank (with_row (bank_rows self.old bank) y
+            (placed x (word_bits count bits) (row_at (bank_rows self.old bank) y))) }
+        ensures before { AreBanks P.WIDTH P.HEIGHT self.old }
+        ensures whole { AreBanks P.WIDTH P.HEIGHT self.new }
+    {
+        match bank {
+            0 => self.left_bottom.set_row_bits(x, y, count, bits),
+            1 => self.left_top.set_row_bits(x, y, count, bits),
+            2 => self.right_bottom.set_row_bits(x, y, count, bits),
+            _ => self.right_top.set_row_bits(x, y, count, bits),
         }
     }
 

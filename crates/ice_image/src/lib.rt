@@ -7,6 +7,7 @@ mod comment;
 mod extras;
 mod image;
 mod planes;
+mod runs;
 mod settings;
 mod tiles;
 mod words;

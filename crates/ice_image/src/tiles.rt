@@ -8,6 +8,7 @@ ghost use Rattle.ice_image.specs.Contents.{tile_place, tile_rows, IsPlaceOfTile}
 ghost use Rattle.ice_image.specs.Written.{IsWritten, bit_of_word, gained_bit};
 
 use crate::banks::Banks;
+use crate::runs::{run_word, write_run};
 use bit_plane::{Bits, Tile};
 use plane_map::{DeviceName, Layout, kind_on, tile_width};
 
@@ -41,6 +42,26 @@ pub(crate) fn columns_on(device: DeviceName, x: u8, y: u8) -> usize
 
 /// A row of the tile at (x, y) as a word. Column c is the bit of value 2^c.
 pub(crate) fn row_word<P: Bits>(
+    layout: &Layout,
+    cram: &Banks<P>,
+    x: u8,
+    y: u8,
+    row: u8,
+    width: usize,
+) -> u64
+    requires row { row < 16 }
+    requires width { columns_at layout.now.device x y ≡ width }
+    requires size { IsCramSize layout.now.device P.WIDTH P.HEIGHT }
+    ensures { result ≡ word_of (row_from width (λ col. place_bit cram.now (tile_place layout.now x y row col))) }
+{
+    match layout.row_run(x, y, row) {
+        Some(run) => run_word(cram, run, width),
+        None => scattered_word(layout, cram, x, y, row, width),
+    }
+}
+
+/// The same, bit by bit.
+fn scattered_word<P: Bits>(
     layout: &Layout,
     cram: &Banks<P>,
     x: u8,
@@ -103,6 +124,29 @@ pub(crate) fn set_row_ones<P: Bits>(
 
 /// Sets a row of the tile at (x, y) to the bits of a word. Column c gets the bit of value 2^c.
 fn write_row<P: Bits>(
+    layout: &Layout,
+    cram: &mut Banks<P>,
+    x: u8,
+    y: u8,
+    row: u8,
+    width: usize,
+    word: u64,
+)
+    requires row { row < 16 }
+    requires width { columns_at layout.now.device x y ≡ width }
+    requires size { IsCramSize layout.now.device P.WIDTH P.HEIGHT }
+    requires whole { AreBanks P.WIDTH P.HEIGHT cram.old }
+    ensures written { IsWritten (tile_place layout.now x y row) (bit_of_word width word) width cram.old cram.new }
+    ensures whole { AreBanks P.WIDTH P.HEIGHT cram.new }
+{
+    match layout.row_run(x, y, row) {
+        Some(run) => write_run(cram, run, width, word),
+        None => write_scattered(layout, cram, x, y, row, width, word),
+    }
+}
+
+/// The same, bit by bit.
+fn write_scattered<P: Bits>(
     layout: &Layout,
     cram: &mut Banks<P>,
     x: u8,

@@ -6,6 +6,7 @@ ghost use Rattle.ice_image.specs.Contents.{word_value, word_bit_place, IsPlaceOf
 ghost use Rattle.ice_image.specs.Written.{IsWritten, bit_of_word, gained_bit};
 
 use crate::banks::Banks;
+use crate::runs::{run_word, write_run};
 use bit_plane::Bits;
 use plane_map::{Layout, TileKind};
 
@@ -15,11 +16,7 @@ pub(crate) fn read_word<P: Bits>(layout: &Layout, bram: &Banks<P>, x: u8, y: u8,
     requires size { IsBramSize layout.now.device P.WIDTH P.HEIGHT }
     ensures { result ≡ word_value layout.now bram.now x y word }
 {
-    let mut value = 0;
-    for bit in (0..16).rev() {
-        value = 2 * value + u16::from(bram.get(layout.bram_place(x, y, word, bit)));
-    }
-    value
+    run_word(bram, layout.word_run(x, y, word), 16) as u16
 }
 
 /// Sets a word of the RAM whose lower tile is at (x, y).
@@ -39,9 +36,7 @@ pub(crate) fn write_word<P: Bits>(
     ensures others { SameBut (IsPlaceOfWord layout.now x y word) bram.old bram.new }
     ensures whole { AreBanks P.WIDTH P.HEIGHT bram.new }
 {
-    for bit in 0..16 {
-        bram.set(layout.bram_place(x, y, word, bit), value >> bit & 1 == 1);
-    }
+    write_run(bram, layout.word_run(x, y, word), 16, value as u64);
 }
 
 /// Sets the bits of a word of the RAM whose lower tile is at (x, y) at which `ones` has a 1.

@@ -3,6 +3,7 @@ pub mod Layouts
 pub mod Offsets
 pub mod Owners
 pub mod Places
+pub mod RowRuns
 pub mod Standard
 pub mod Widths
 pub mod Words

@@ -1,3 +1,4 @@
 pub mod DeviceWords
 pub mod Inside
 pub mod Layout
+pub mod Runs

@@ -1,10 +1,12 @@
 // Layouts.
 ghost use Rattle.std.specs.Prelude.{◌≡◌, ◌≢◌, ℕ, ◌+◌, ◌<◌, ◌≤◌, Some, IfSome, MatchOption, length, slice_index, if◌then◌else◌};
-ghost use Rattle.plane_map.specs.Layout.{kind_of, columns_at, half_width, width_of, start_of, cram_width, standard_layout, place_of, word_place_of, IsLayout, IsTileBit, IsWordBit, IsInCram, IsInBram, IsExtraBit};
+ghost use Rattle.plane_map.specs.Layout.{kind_of, columns_at, half_width, width_of, start_of, cram_width, cram_height, bram_width, bram_height, standard_layout, place_of, word_place_of, IsLayout, IsTileBit, IsWordBit, IsInCram, IsInBram, IsExtraBit};
+ghost use Rattle.plane_map.specs.Runs.{IsRunIn, row_run, word_run, run_place};
 
 use crate::device::DeviceName;
 use crate::place::{owner_on, place_of_word, place_on};
-use crate::tile::{Place, TileBit, TileKind, WordBit};
+use crate::runs::{run_of_word, run_on, tile_row_on};
+use crate::tile::{Place, Run, TileBit, TileKind, TileRow, WordBit};
 use std::marker::Model;
 
 mod setters;
@@ -121,6 +123,40 @@ impl Layout {
         ensures onto { (at : Place) → IsInBram self.now.device at → (word_bit : WordBit) × IsWordBit self.now.device word_bit × (word_place_of self.now word_bit ≡ at) }
     {
         place_of_word(self, WordBit { x, y, word, bit })
+    }
+
+    /// Where the bits of a row of a tile lie in the configuration planes, where they lie side by side: none at io tiles and
+    /// where there is no tile. Bit 0 of the run is column 0 of the tile.
+    pub fn row_run(&self, x: u8, y: u8, row: u8) -> Option<Run>
+        requires { row < 16 }
+        ensures run { result ≡ row_run self.now x y row }
+        ensures in_planes { IfSome result (IsRunIn (cram_width self.now.device) (cram_height self.now.device) (columns_at self.now.device x y)) }
+        ensures places { IfSome result (λ run. (col : ℕ) → col < columns_at self.now.device x y
+            → place_of self.now (record { x = x; y = y; row = row; col = col }) ≡ run_place run (columns_at self.now.device x y) col) }
+    {
+        run_on(self, x, y, row)
+    }
+
+    /// Where the 16 bits of a word lie in the RAM planes; (x, y) is the RAM's lower tile.
+    pub fn word_run(&self, x: u8, y: u8, word: u8) -> Run
+        requires { kind_of self.now.device x y ≡ Some TileKind.RamB }
+        ensures run { result ≡ word_run self.now x y word }
+        ensures in_planes { IsRunIn (bram_width self.now.device) (bram_height self.now.device) 16 result }
+        ensures places { (bit : ℕ) → bit < 16 → word_place_of self.now (record { x = x; y = y; word = word; bit = bit }) ≡ run_place result 16 bit }
+    {
+        run_of_word(self, x, y, word)
+    }
+
+    /// The row of tiles whose bits lie in row `py` of the configuration plane of a bank, and which of its tiles' rows.
+    pub fn tile_row_at(&self, bank: u8, py: u16) -> TileRow
+        requires bank { bank < 4 }
+        requires row { py < cram_height self.now.device }
+        ensures in_tile { result.row < 16 }
+        ensures only { (bit : TileBit) → IsTileBit self.now.device bit → (place_of self.now bit).bank ≡ bank → (place_of self.now bit).py ≡ py
+            → (bit.y ≡ result.y) × (bit.row ≡ result.row) }
+        ensures there { (bit : TileBit) → IsTileBit self.now.device bit → bit.y ≡ result.y → bit.row ≡ result.row → (place_of self.now bit).py ≡ py }
+    {
+        tile_row_on(self, bank, py)
     }
 
     /// The one bit of a tile that lies at a place of the configuration planes: none at an extra bit.

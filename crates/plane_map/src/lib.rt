@@ -8,13 +8,14 @@ mod grid;
 mod layout;
 mod place;
 mod rows;
+mod runs;
 mod tile;
 
 pub use device::{Device, DeviceName, Hx1k, Hx8k};
 pub use grid::kind_on;
 pub use layout::Layout;
 pub use place::{kind_at, tile_width};
-pub use tile::{Place, RowCol, TileBit, TileKind, WordBit};
+pub use tile::{Place, RowCol, Run, TileBit, TileKind, TileRow, WordBit};
 
 #[cfg(test)]
 mod tests;

@@ -45,3 +45,21 @@ pub struct Place {
     pub px: u16,
     pub py: u16,
 }
+
+/// Bits that lie side by side in row `py` of the plane of a bank.
+#[derive(Clone, Copy, Debug, PartialEq, Eq)]
+pub struct Run {
+    pub bank: u8,
+    /// The first column.
+    pub px: u16,
+    pub py: u16,
+    /// Whether bit 0 lies in the last column, and not in the first one.
+    pub backwards: bool,
+}
+
+/// A row of each tile of a row of tiles.
+#[derive(Clone, Copy, Debug, PartialEq, Eq)]
+pub struct TileRow {
+    pub y: u8,
+    pub row: u8,
+}

@@ -1,30 +1,17 @@
-use Rattle.std.proofs.Common.{◌≡◌, ℕ, ◌-◌, ◌*◌, ◌+◌, Bool, arith, drop}
-use Rattle.bit_plane.specs.BitList.{word_of}
-use Rattle.bit_plane.specs.Rows.{row_from}
+use Rattle.std.proofs.Common.{ℕ, Bool, ◌∙◌, arith}
+use Rattle.plane_map.specs.Runs.{run_place}
 use Rattle.ice_image.specs.Configuration.{place_bit}
 use Rattle.ice_image.specs.Contents.{word_bit_place}
-use Rattle.ice_image.proofs.BankBits.{read_at}
-use Rattle.ice_image.proofs.Made.{row_word-none, row_word-more, row_word-double, row_word-lt}
+use Rattle.ice_image.proofs.Made.{row_word-below}
+use Rattle.ice_image.proofs.RunBits.{word-at}
 use Rattle.ice_image.proofs.words.read_word.Goals as goal
 
-pub loop-bit-init : goal.loop-bit-init
-loop-bit-init g c = row_word-none 16 _
+pub overflow_cast-result : goal.overflow_cast-result
+overflow_cast-result g c =
+    let bit : ℕ → Bool = λ k. place_bit c.args.bram.now (run_place c.word_run.result 16 k) in
+    omega (arith, row_word-below 16 bit c.run_word.result c.run_word.ensures)
 
--- the word with the bit before
-step : (g : _) (c : goal.After-from g) → 2 * c.loop-bit.value + c.from.result ≡ word_of (drop (c.loop-bit.bit - 1) (row_from 16 (λ bit. place_bit c.args.bram.now (word_bit_place c.args.layout.now c.args.x c.args.y c.args.word bit))))
-step g c =
-    let bit : ℕ → Bool = λ bit. place_bit c.args.bram.now (word_bit_place c.args.layout.now c.args.x c.args.y c.args.word bit) in
-    row_word-more 16 bit c.loop-bit.bit c.loop-bit.value c.from.result c.get.result (omega arith) (omega arith) c.loop-bit.invariant c.from.ensures (read_at c.args.bram.now c.bram_place.result (word_bit_place c.args.layout.now c.args.x c.args.y c.args.word (c.loop-bit.bit - 1)) c.get.result c.get.ensures c.bram_place.ensures.place)
-
-pub overflow_mul-value : goal.overflow_mul-value
-overflow_mul-value g c =
-    let bit : ℕ → Bool = λ bit. place_bit c.args.bram.now (word_bit_place c.args.layout.now c.args.x c.args.y c.args.word bit) in
-    omega (arith, row_word-double 16 bit c.loop-bit.bit c.loop-bit.value (omega arith) (omega arith) c.loop-bit.invariant)
-
-pub overflow_add-value : goal.overflow_add-value
-overflow_add-value g c =
-    let bit : ℕ → Bool = λ bit. place_bit c.args.bram.now (word_bit_place c.args.layout.now c.args.x c.args.y c.args.word bit) in
-    omega (arith, step g c, row_word-lt 16 bit (c.loop-bit.bit - 1))
-
-pub loop-bit-preserved : goal.loop-bit-preserved
-loop-bit-preserved g c = step g c
+pub returns : goal.returns
+returns g c =
+    let args = c.args in
+    c.run_word.ensures ∙ word-at (run_place c.word_run.result 16) (word_bit_place args.layout.now args.x args.y args.word) 16 args.bram.now c.word_run.ensures.places

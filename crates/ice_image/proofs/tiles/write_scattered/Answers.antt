@@ -2,7 +2,7 @@ use Rattle.std.proofs.Common.{arith}
 use Rattle.ice_image.specs.Contents.{tile_place}
 use Rattle.ice_image.proofs.TileColumns.{tile_place-apart}
 use Rattle.ice_image.proofs.Written.{word-more}
-use Rattle.ice_image.proofs.tiles.write_row.Goals as goal
+use Rattle.ice_image.proofs.tiles.write_scattered.Goals as goal
 
 pub loop-col-preserved : goal.loop-col-preserved
 loop-col-preserved g c =

@@ -95,6 +95,12 @@ IsReady image AnyStatement = Unit {0}
 IsReady image (Row kind x y row) = HasKind image x y kind × (row < 16)
 IsReady image (Memory x y row) = HasKind image x y RamB × (row < 16)
 
+-- how many bytes a line has that is what is expected, and has no blanks at its end; statements have no such number
+abbrev pub likely_length : Expected → ℕ
+likely_length AnyStatement = 0
+likely_length (Row kind x y row) = columns_of kind
+likely_length (Memory x y row) = 64
+
 -- ---- what is wrong
 
 -- a cause that is told is that one

@@ -1,9 +1,12 @@
 // The lines that follow the statement of a tile, of the contents of a RAM, or of a comment.
-ghost use Rattle.std.specs.Prelude.{◌≡◌, ℕ, ◌≤◌, ◌==◌, ◌||◌, true, false, MatchOption};
+ghost use Rattle.std.specs.Prelude.{◌≡◌, ℕ, ◌≤◌, true, false, MatchOption};
 ghost use Rattle.std.specs.List.{list_all};
 ghost use Rattle.asc_text.specs.Faults.{is_printable};
 ghost use Rattle.ice_image.specs.Bits.{number_bit};
 ghost use Rattle.asc_text.specs.Rows.{is_memory_line, is_row, memory_bytes, row_bit};
+ghost use Rattle.asc_text.specs.inside.RowNumbers.{is_bit};
+
+use crate::reading::eights::in_eights;
 
 /// A row of a tile with that many columns as a number, column c being worth 2^c. None where the line is not such a row.
 pub(crate) fn row_ones(line: &[u8], width: usize) -> Option<u64>
@@ -14,10 +17,11 @@ pub(crate) fn row_ones(line: &[u8], width: usize) -> Option<u64>
     if line.len() != width {
         return None;
     }
-    let mut ones = 0;
-    let mut are_bits = true;
-    for col in (0..width).rev() {
-        ones = 2 * ones + u64::from(line[col] == b'1');
+    let tail = in_eights(line);
+    let mut ones = tail.ones;
+    let mut are_bits = tail.are_bits;
+    for col in (0..tail.start).rev() {
+        ones = 2 * ones + u64::from(line[col] & 1);
         are_bits &= is_bit(line[col]);
     }
     if are_bits { Some(ones) } else { None }
@@ -25,7 +29,7 @@ pub(crate) fn row_ones(line: &[u8], width: usize) -> Option<u64>
 
 /// Whether the byte is the character `0` or `1`.
 fn is_bit(byte: u8) -> bool
-    ensures { result ≡ ((byte == 48) || (byte == 49)) }
+    ensures { result ≡ is_bit byte }
 {
     byte == b'0' || byte == b'1'
 }

@@ -6,6 +6,8 @@ pub mod PieceRead
 pub mod PiecesRead
 pub mod PiecesWritten
 pub mod RoundTrip
+pub mod Packed
+pub mod RowNumbers
 pub mod RowsRead
 pub mod Spelled
 pub mod WordsRead

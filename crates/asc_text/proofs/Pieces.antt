@@ -1,22 +1,21 @@
 -- Texts that are written piece by piece.
 use Rattle.std.proofs.Common.{◌≡◌, ℕ, ◌+◌, ◌-◌, ◌*◌, Bool, ◌<◌, ◌≤◌, List, [], ◌∷◌, ◌++◌, length, get_or, take, map, Some, None, refl, ap, sym, ◌∙◌, subst, add-one, append_assoc, append-nil, arith}
-use Rattle.std.proofs.lemmas.List.{map-append, take_more, take_all}
-use Rattle.std.proofs.lemmas.Grind.{flat_map-append}
+use Rattle.std.proofs.lemmas.List.{map-append, take_more, take_all, length-map, length-take-le, get_or-map, get_or-take, get_or-set_same, get_or-set_other}
+use Rattle.std.proofs.lemmas.Bool.{cases_eq}
+use Rattle.std.proofs.lemmas.Grind.{flat_map-append, same_number_lists}
 use Rattle.hex.specs.Hex.{encode_with, lower_digits, encode_lower}
 use Rattle.place_search.specs.Places.{gathered_below}
 use Rattle.text_lines.specs.Written.{text_of}
 use Rattle.place_search.proofs.Places.{gathered_below-more, gathered_below-none}
-use Rattle.std.proofs.Common.{◌/◌, ◌^◌, ◌==◌, false, bit_and}
-use Rattle.std.proofs.lemmas.Nat.Bits.{shr_and_one}
-use Rattle.bit_plane.specs.BitList.{word_bits, word_of}
+use Rattle.std.proofs.Common.{false, set, inl, inr}
+use Rattle.bit_plane.specs.BitList.{word_of}
 use Rattle.bit_plane.specs.Rows.{row_from, rows_from}
-use Rattle.bit_plane.proofs.Made.{get_or-row_from}
-use Rattle.bit_plane.proofs.Words.{get_or-word_bits}
-use Rattle.ice_image.proofs.Made.{row_word-bits}
+use Rattle.bit_plane.proofs.Made.{length-row_from, get_or-row_from}
+use Rattle.ice_image.proofs.Gained.{number_bit-row}
 use Rattle.plane_map.specs.Layout.{kind_of, columns_of, columns_at, columns_in}
 use Rattle.plane_map.specs.declared.tile.TileKind.{TileKind}
 use Rattle.plane_map.specs.declared.tile.TileKind.TheVariants.{RamB}
-use Rattle.ice_image.specs.Bits.{tile_bit_of}
+use Rattle.ice_image.specs.Bits.{tile_bit_of, number_bit}
 use Rattle.ice_image.specs.Configuration.{Configuration}
 use Rattle.plane_map.specs.DeviceWords.{device_word}
 use Rattle.asc_text.specs.Statements.{tile_keyword, device_keyword}
@@ -98,29 +97,24 @@ digits-all old now after n all given same so_far ended =
 
 -- ---- rows
 
--- no bit yet
-pub bits-none : (text : List ℕ) (bit : ℕ → Bool) → text ≡ text ++ row_line (row_from 0 bit)
-unfolding row_from
-bits-none text bit = sym (append-nil text)
+-- one character more
+pub characters-more : (word col here : ℕ) (characters : List ℕ) → col < length characters → ((k : ℕ) → k < col → get_or characters k 0 ≡ bit_character (number_bit word k)) → here ≡ bit_character (number_bit word col)
+    → (k : ℕ) → k < col + 1 → get_or (set characters col here) k 0 ≡ bit_character (number_bit word k)
+characters-more word col here characters within so_far here_is k below = elim (cases_eq k col) [
+  | inl e ↦ ap (λ k. get_or (set characters col here) k 0) e ∙ get_or-set_same characters col here 0 within ∙ here_is ∙ ap (λ k. bit_character (number_bit word k)) (sym e)
+  | inr ne ↦ get_or-set_other characters col k here 0 ne ∙ so_far k (omega arith)
+]
 
--- one bit more
-pub bits-more : (old now after : List ℕ) (col : ℕ) (bit : ℕ → Bool) → now ≡ old ++ row_line (row_from col bit) → after ≡ now ++ bit_character (bit col) ∷ [] → after ≡ old ++ row_line (row_from (col + 1) bit)
-unfolding row_from
-bits-more old now after col bit so_far next =
-    rw add-one (next ∙ ap (λ text. text ++ bit_character (bit col) ∷ []) so_far ∙ append_assoc old (row_line (row_from col bit)) (bit_character (bit col) ∷ []) ∙ ap (λ text. old ++ text) (sym (map-append bit_character (row_from col bit) (bit col ∷ []))))
-
--- all bits, and the end of the line
-pub bits-all : (old now after : List ℕ) (col width : ℕ) (bit : ℕ → Bool) → col ≡ width → now ≡ old ++ row_line (row_from col bit) → after ≡ now ++ 10 ∷ [] → after ≡ old ++ text_of (row_line (row_from width bit) ∷ [])
-bits-all old now after col width bit same so_far ended =
-    line-ended old now after (row_line (row_from width bit)) (so_far ∙ ap (λ n. old ++ row_line (row_from n bit)) same) ended
-
--- a bit of the word of a row, as code tests it
-pub row_bit_read : (width : ℕ) (bit : ℕ → Bool) (word col : ℕ) → word ≡ word_of (row_from width bit) → col < width → (bit_and (word / 2 ^ col) 1 == 1) ≡ bit col
-row_bit_read width bit word col is within =
-    ap (λ n. n == 1) (shr_and_one word col)
-    ∙ sym (get_or-word_bits width word col within)
-    ∙ ap (λ bits. get_or bits col false) (ap (word_bits width) is ∙ row_word-bits width bit)
-    ∙ get_or-row_from width bit col within
+-- the characters of a row's word are the row
+pub row-written : (width word : ℕ) (bit : ℕ → Bool) (characters : List ℕ) → word ≡ word_of (row_from width bit) → width ≤ 64 → length characters ≡ 64
+    → ((col : ℕ) → col < 64 → get_or characters col 0 ≡ bit_character (number_bit word col)) → take width characters ≡ row_line (row_from width bit)
+row-written width word bit characters is few size written =
+    let taken : length (take width characters) ≡ width = length-take-le width characters (omega arith) in
+    same_number_lists (take width characters) (row_line (row_from width bit)) (taken ∙ sym (length-map (row_from width bit) bit_character ∙ length-row_from width bit)) (λ k within.
+    let inside : k < width = omega (arith, taken) in
+    get_or-take width characters k 0 inside ∙ written k (omega arith)
+    ∙ ap bit_character (ap (λ n. number_bit n k) is ∙ number_bit-row width bit k inside)
+    ∙ sym (get_or-map bit_character (row_from width bit) k false 0 (omega (arith, length-row_from width bit)) ∙ ap bit_character (get_or-row_from width bit k inside)))
 
 -- no row yet
 pub rows-none : (text : List ℕ) (width : ℕ) (bit : ℕ → ℕ → Bool) → text ≡ text ++ text_of (map row_line (rows_from width 0 bit))

@@ -3,3 +3,4 @@ pub mod Keywords
 pub mod TileSets
 pub mod Gains
 pub mod Reading
+pub mod RowNumbers

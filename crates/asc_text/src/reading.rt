@@ -1,6 +1,7 @@
 // Texts read.
 
 mod bits;
+mod eights;
 mod keyword;
 mod reader;
 mod rows;

@@ -1,10 +1,11 @@
 -- A text cut at its first byte that passes a test, as an end of a line or a separator of words.
 use Rattle.std.proofs.Common.{◌≡◌, ℕ, ◌+◌, ◌<◌, ◌≤◌, Bool, true, false, not, List, ◌∷◌, ◌++◌, length, take, drop, get_or, refl, ap, ◌∙◌, arith, inl, inr}
-use Rattle.std.proofs.lemmas.Bool.{cases_lt, lt-ltb}
+use Rattle.std.proofs.lemmas.Bool.{cases_lt, cases_Bool, lt-ltb, ltb-true, not-true, and_parts, both_ways}
+use Rattle.std.proofs.lemmas.List.Folds.{list_any_at}
 use Rattle.std.proofs.lemmas.List.{length-take-le, take_all, get_or-take}
-use Rattle.std.proofs.lemmas.List.Sums.{prefix_len-le-length, split_at_first, passes_at_first, fails_before_first}
-use Rattle.std.specs.Prelude.{None, Some, All, position}
-use Rattle.std.specs.List.{position_or_len}
+use Rattle.std.proofs.lemmas.List.Sums.{prefix_len-le-length, position_or_len_is, split_at_first, passes_at_first, fails_before_first}
+use Rattle.std.specs.Prelude.{◌&&◌, None, Some, All, nat_lt, position}
+use Rattle.std.specs.List.{list_any, position_or_len}
 
 -- the end is within the text
 pub end-within : (test : ℕ → Bool) (bytes : List ℕ) → position_or_len test bytes ≤ length bytes
@@ -42,3 +43,17 @@ position_or_len-none test bytes none =
       | inl lt ↦ let chosen : position test bytes ≡ Some (position_or_len test bytes) = rw (lt-ltb (position_or_len test bytes) (length bytes) lt) refl in absurd cc
       | inr le ↦ omega arith
     ]
+
+-- a place that passes, with no element before it that does, is the first
+pub position_or_len-here : (test : ℕ → Bool) (bytes : List ℕ) (i : ℕ) → (nat_lt i (length bytes) && test (get_or bytes i 0) && not (list_any test (take i bytes))) ≡ true → position_or_len test bytes ≡ i
+position_or_len-here test bytes i here =
+    let parts = and_parts (nat_lt i (length bytes) && test (get_or bytes i 0)) (not (list_any test (take i bytes))) here in
+    let inside = and_parts (nat_lt i (length bytes)) (test (get_or bytes i 0)) parts.0 in
+    let within : i < length bytes = ltb-true i (length bytes) inside.0 in
+    let none : list_any test (take i bytes) ≡ false = not-true (list_any test (take i bytes)) parts.1 in
+    position_or_len_is test bytes i 0 (omega arith) (λ k before. elim (cases_Bool (test (get_or bytes k 0))) [
+      | inl passes ↦
+          let count : length (take i bytes) ≡ i = length-take-le i bytes (omega arith) in
+          absurd (both_ways (list_any test (take i bytes)) none (list_any_at test (take i bytes) k 0 (omega arith) (ap test (get_or-take i bytes k 0 before) ∙ passes)))
+      | inr fails ↦ fails
+    ]) (λ _. inside.1)

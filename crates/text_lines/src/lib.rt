@@ -8,7 +8,7 @@
 mod lines;
 mod words;
 
-pub use lines::{FirstLine, first_line, trimmed};
+pub use lines::{FirstLine, first_line, first_line_near, trimmed};
 pub use words::{
     Separators, four_numbers, number, one_number, one_word, split_word, three_numbers, two_numbers,
 };

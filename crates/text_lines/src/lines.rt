@@ -1,6 +1,6 @@
 // Lines from the front of a text, and blanks at the end of a line.
-ghost use Rattle.std.specs.Prelude.{◌≡◌, ◌∷◌, ◌++◌, [], ◌<◌, ◌-◌, ◌==◌, length, take, get_or, position, IfSome, MatchOption, if◌then◌else◌};
-ghost use Rattle.std.specs.List.{position_or_len};
+ghost use Rattle.std.specs.Prelude.{◌≡◌, ◌∷◌, ◌++◌, [], ◌<◌, ◌-◌, ◌==◌, length, take, get_or, position, nat_lt, not, ◌&&◌, IfSome, MatchOption, if◌then◌else◌};
+ghost use Rattle.std.specs.List.{list_any, position_or_len};
 ghost use Rattle.text_lines.specs.Lines.{is_blank, lines_of, trimmed, whole_lines_of};
 
 /// The first line of a text, and what follows it.
@@ -22,10 +22,21 @@ pub fn first_line<'a>(text: &'a [u8]) -> Option<FirstLine<'a>>
     ensures parts { IfSome result (λ line. text.now ≡ line.whole.now ++ line.rest.now) }
     ensures shorter { IfSome result (λ line. length line.rest.now < length text.now) }
 {
+    first_line_near(text, 0)
+}
+
+/// The same. It is found in less time where LF stands behind that many bytes.
+pub fn first_line_near<'a>(text: &'a [u8], len: usize) -> Option<FirstLine<'a>>
+    ensures lines { MatchOption result (text.now ≡ [])
+        (λ line. lines_of text.now ≡ line.content.now ∷ lines_of line.rest.now) }
+    ensures whole_lines { IfSome result (λ line. whole_lines_of text.now ≡ line.whole.now ∷ whole_lines_of line.rest.now) }
+    ensures parts { IfSome result (λ line. text.now ≡ line.whole.now ++ line.rest.now) }
+    ensures shorter { IfSome result (λ line. length line.rest.now < length text.now) }
+{
     if text.is_empty() {
         return None;
     }
-    let end = length_before_lf(text);
+    let end = length_before_lf(text, len);
     if end < text.len() {
         Some(FirstLine {
             content: without_cr(&text[..end]),
@@ -70,14 +81,35 @@ fn without_cr(line: &[u8]) -> &[u8]
     }
 }
 
-/// How many bytes stand before the first LF, or in all where there is none.
-fn length_before_lf(text: &[u8]) -> usize
+/// How many bytes stand before the first LF, or in all where there is none. The guess is tried first.
+fn length_before_lf(text: &[u8], guess: usize) -> usize
     ensures { result ≡ position_or_len (λ byte. byte == 10) text.now }
 {
+    if is_first_lf(text, guess) {
+        return guess;
+    }
     match first_lf(text) {
         Some(offset) => offset,
         None => text.len(),
     }
+}
+
+/// Whether the first LF stands at that offset.
+fn is_first_lf(text: &[u8], offset: usize) -> bool
+    ensures { result ≡ (nat_lt offset (length text.now) && (get_or text.now offset 0 == 10) && not (list_any (λ byte. byte == 10) (take offset text.now))) }
+{
+    offset < text.len() && text[offset] == b'\n' && !has_lf(&text[..offset])
+}
+
+/// Whether one of the bytes is LF. It looks at all of them, which takes less time than to stop at the first.
+fn has_lf(bytes: &[u8]) -> bool
+    ensures { result ≡ list_any (λ byte. byte == 10) bytes.now }
+{
+    let mut found = false;
+    for byte in bytes {
+        found |= *byte == b'\n';
+    }
+    found
 }
 
 /// The offset of the first LF.

@@ -20,6 +20,21 @@ fn takes_the_first_line(rt: HostRuntime) {
         assert!(rt; is, "of {text:?}");
     }
     assert!(rt; first_line(b"").is_none());
+    assert!(rt; first_line_near(b"", 3).is_none());
+    for (text, content) in [
+        ("one\ntwo\n", "one"),
+        ("one\r\n\n", "one"),
+        ("on\ntwo\n", "on"),
+        ("o\n\n\n", "o"),
+        ("ones\n", "ones"),
+        ("one", "one"),
+    ] {
+        let is = match first_line_near(text.as_bytes(), 3) {
+            Some(line) => line.content == content.as_bytes(),
+            None => false,
+        };
+        assert!(rt; is, "of {text:?}");
+    }
 }
 
 #[test]

@@ -34,9 +34,9 @@ use Rattle.asc_text.specs.inside.TileSets.{has_tile}
 use Rattle.asc_text.specs.Rows.{is_row, is_memory_line, memory_bytes}
 use Rattle.ice_image.specs.Owned.{is_extra}
 use Rattle.asc_text.specs.Faults.{cause_if, unknown_device, kind_cause, comment_cause, stray_cause}
-use Rattle.asc_text.specs.inside.Gains.{Gains, bytes_set}
+use Rattle.asc_text.specs.inside.Gains.{bytes_set}
 use Rattle.asc_text.specs.Meaning.{row_sets, extra_sets}
-use Rattle.ice_image.specs.Bits.{Bit}
+use Rattle.ice_image.specs.Bits.{Bit, Gains}
 
 -- ---- what is kept
 
@@ -94,6 +94,12 @@ abbrev pub IsReady : Option AnyImage → Expected → Type 0
 IsReady image AnyStatement = Unit {0}
 IsReady image (Row kind x y row) = HasKind image x y kind × (row < 16)
 IsReady image (Memory x y row) = HasKind image x y RamB × (row < 16)
+
+-- how many bytes a line has that is what is expected, and has no blanks at its end; statements have no such number
+abbrev pub likely_length : Expected → ℕ
+likely_length AnyStatement = 0
+likely_length (Row kind x y row) = columns_of kind
+likely_length (Memory x y row) = 64
 
 -- ---- what is wrong
 

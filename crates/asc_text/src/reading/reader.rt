@@ -15,7 +15,7 @@ use crate::reading::tile_set::TileSet;
 use crate::statement::Statement;
 use ice_image::{AnyImage, Comment, Range, Settings};
 use layout_file::Layouts;
-use plane_map::TileKind;
+use plane_map::{TileKind, tile_width};
 use std::alloc::{AllocError, Global};
 use text_lines::trimmed;
 
@@ -117,7 +117,7 @@ pub(crate) struct Reader {
 
 impl Reader {
     ghost use Rattle.asc_text.specs.Faults.{Tells, fault_with, tile_named};
-    ghost use Rattle.asc_text.specs.inside.Reading.{state_of, begun, IsReady, Takes, TakesDotted, dotted_refusal, line_refusal, statement_of, text_refusal, after_text, Reports, end_refusal, Finishes, settings_in};
+    ghost use Rattle.asc_text.specs.inside.Reading.{state_of, begun, likely_length, IsReady, Takes, TakesDotted, dotted_refusal, line_refusal, statement_of, text_refusal, after_text, Reports, end_refusal, Finishes, settings_in};
     ghost use Rattle.asc_text.specs.Statements.{statement_in};
 
     /// Nothing was read.
@@ -138,6 +138,17 @@ impl Reader {
             symbols: Vec::new(alloc),
             expected: Expected::Statement,
         })
+    }
+
+    /// How many bytes the next line has, most likely: as many as its row or its digits take.
+    pub(crate) fn likely_len(&self) -> usize
+        ensures { result ≡ likely_length self.now.expected }
+    {
+        match self.expected {
+            Expected::Statement => 0,
+            Expected::Row { kind, .. } => tile_width(kind),
+            Expected::Memory { .. } => 64,
+        }
     }
 
     /// Takes the next line, which has that number.

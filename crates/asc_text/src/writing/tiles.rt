@@ -1,11 +1,11 @@
 // The lines of the tiles, and of the contents of the RAMs.
-ghost use Rattle.std.specs.Prelude.{◌≡◌, ◌<◌, [], ◌∷◌, ◌++◌, Some, OnOk};
+ghost use Rattle.std.specs.Prelude.{◌≡◌, ℕ, ◌<◌, [], ◌∷◌, ◌++◌, get_or, Some, OnOk};
 ghost use Rattle.place_search.specs.Places.{gathered_below};
 ghost use Rattle.text_lines.specs.Written.{text_of};
 ghost use Rattle.bit_plane.specs.Rows.{row_from};
 ghost use Rattle.hex.specs.Hex.{encode_lower};
 ghost use Rattle.plane_map.specs.Layout.{kind_of, columns_at, grid_width, grid_height};
-ghost use Rattle.ice_image.specs.Bits.{tile_bit_of};
+ghost use Rattle.ice_image.specs.Bits.{number_bit, tile_bit_of};
 ghost use Rattle.ice_image.specs.Either.{configuration_of, device_of};
 ghost use Rattle.asc_text.specs.Statements.{tile_keyword as keyword_of};
 ghost use Rattle.asc_text.specs.Canonical.{bit_character as character_of, all_tile_lines, lines_of_tile_at, tile_lines, row_line, ram_lines, memory_line, two_bytes};
@@ -95,11 +95,20 @@ fn append_row(
     requires width { columns_at (configuration_of image.now).layout.device x y ≡ width }
     ensures { OnOk result (text.new.items ≡ text.old.items ++ text_of (row_line (row_from width (tile_bit_of (configuration_of image.now) x y row)) ∷ [])) }
 {
-    let bits = image.tile_row(x, y, row);
-    for col in 0..width {
-        text.push(bit_character(bits >> col & 1 == 1))?;
-    }
+    let characters = characters_of(image.tile_row(x, y, row));
+    text.extend_from_slice(&characters[..usize::from(width)])?;
     end_line(text)
+}
+
+/// The characters of the bits of a word, that of value 1 first.
+fn characters_of(bits: u64) -> [u8; 64]
+    ensures { (col : ℕ) → col < 64 → get_or result col 0 ≡ character_of (number_bit bits col) }
+{
+    let mut characters = [0; 64];
+    for col in 0..64 {
+        characters[col] = bit_character(bits >> col & 1 == 1);
+    }
+    characters
 }
 
 /// The character of a bit.

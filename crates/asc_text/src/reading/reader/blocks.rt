@@ -1,15 +1,13 @@
 // What the sixteen lines below a statement change: rows of a tile, and lines of a RAM's contents.
-ghost use Rattle.std.specs.Prelude.{◌≡◌, ◌<◌, true, Some, None, IfOk, IfErr, OnOk};
-ghost use Rattle.plane_map.specs.Layout.{columns_of};
-ghost use Rattle.asc_text.specs.Rows.{is_row};
-ghost use Rattle.asc_text.specs.Meaning.{row_sets};
+ghost use Rattle.std.specs.Prelude.{◌≡◌, ◌<◌, Some, None, IfOk, IfErr, OnOk};
+ghost use Rattle.ice_image.specs.Bits.{row_ones};
 ghost use Rattle.asc_text.specs.inside.Gains.{bytes_set};
 ghost use Rattle.asc_text.specs.inside.Reading.{state_of, HasKind, row_refusal, memory_refusal, TakesRow, TakesMemory, ImageGains, after_row, after_memory};
 
 use crate::fault::AscCause;
 use crate::reading::bits;
 use crate::reading::reader::{Expected, Reader};
-use crate::reading::rows::{is_row, memory_bytes};
+use crate::reading::rows::{memory_bytes, row_ones};
 use ice_image::AnyImage;
 use plane_map::{TileKind, tile_width};
 
@@ -29,12 +27,14 @@ impl Reader {
         ensures accepted { OnOk result (row_refusal kind line.now ≡ None) }
         ensures refused { IfErr result (λ cause. row_refusal kind line.now ≡ Some cause) }
     {
-        if !is_row(line, tile_width(kind)) {
-            return Err(AscCause::Row);
+        match row_ones(line, tile_width(kind)) {
+            Some(ones) => {
+                set_row(&mut self.image, x, y, row, ones);
+                self.expected = after_row(kind, x, y, row);
+                Ok(())
+            }
+            None => Err(AscCause::Row),
         }
-        set_row(&mut self.image, kind, x, y, row, line);
-        self.expected = after_row(kind, x, y, row);
-        Ok(())
     }
 
     /// Takes a line of the contents of a RAM, without the blanks at its end.
@@ -62,15 +62,14 @@ impl Reader {
     }
 }
 
-/// Sets the bits of a row of a tile, where there is an image.
-fn set_row(image: &mut Option<AnyImage>, kind: TileKind, x: u8, y: u8, row: u8, line: &[u8])
-    requires there { HasKind image.old x y kind }
+/// Sets the bits of a row of a tile at which a number has a 1, where there is an image.
+fn set_row(image: &mut Option<AnyImage>, x: u8, y: u8, row: u8, ones: u64)
+    requires there { (kind : TileKind) × HasKind image.old x y kind }
     requires row { row < 16 }
-    requires line { is_row (columns_of kind) line.now ≡ true }
-    ensures { ImageGains image.old image.new (row_sets x y row line.now) }
+    ensures { ImageGains image.old image.new (row_ones x y row ones) }
 {
     match image {
-        Some(image) => bits::set_row(image, kind, x, y, row, line),
+        Some(image) => image.set_ones(x, y, row, ones),
         None => {}
     }
 }

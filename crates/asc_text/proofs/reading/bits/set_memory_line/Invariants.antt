@@ -1,6 +1,7 @@
 use Rattle.std.specs.Prelude.{◌≡◌}
 use Rattle.ice_image.specs.Either.{configuration_of, device_of}
-use Rattle.asc_text.specs.inside.Gains.{Gains, bytes_set_below}
+use Rattle.ice_image.specs.Bits.{Gains}
+use Rattle.asc_text.specs.inside.Gains.{bytes_set_below}
 use Rattle.asc_text.proofs.reading.bits.set_memory_line.Given as goal
 
 abbrev pub invariant-loop-index : goal.invariant-loop-index

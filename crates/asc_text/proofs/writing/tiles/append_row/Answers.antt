@@ -1,20 +1,19 @@
-use Rattle.std.proofs.Common.{◌∷◌, [], ◌++◌, ap, ◌∙◌, arith}
+use Rattle.std.proofs.Common.{ℕ, Bool, ◌≤◌, ◌++◌, ap, ◌∙◌, take, arith}
 use Rattle.std.proofs.lemmas.Result.{on_ok_weaker}
-use Rattle.ice_image.specs.Bits.{tile_bit_of}
-use Rattle.ice_image.specs.Either.{configuration_of}
-use Rattle.asc_text.specs.Canonical.{bit_character}
 use Rattle.bit_plane.specs.BitList.{word_of}
 use Rattle.bit_plane.specs.Rows.{row_from}
-use Rattle.asc_text.proofs.Pieces.{bits-none, bits-more, bits-all, row_bit_read}
+use Rattle.ice_image.specs.Bits.{tile_bit_of}
+use Rattle.ice_image.specs.Either.{configuration_of}
+use Rattle.ice_image.proofs.TileColumns.{columns_at-le}
+use Rattle.asc_text.specs.Canonical.{row_line}
+use Rattle.asc_text.proofs.Pieces.{row-written, line-ended}
 use Rattle.asc_text.proofs.writing.tiles.append_row.Goals as goal
-
-pub loop-col-init : goal.loop-col-init
-loop-col-init c = bits-none _ _
-
-pub loop-col-preserved : goal.loop-col-preserved
-loop-col-preserved c =
-    bits-more c.args.text.now.items c.loop-col.text.items c.push.new.self.items c.loop-col.col (λ col. tile_bit_of (configuration_of c.args.image.now) c.args.x c.args.y c.args.row col) c.loop-col.invariant (c.in_ok-push.ensures.items ∙ ap (λ character. c.loop-col.text.items ++ character ∷ []) (c.bit_character.ensures ∙ ap bit_character (row_bit_read c.args.width (tile_bit_of (configuration_of c.args.image.now) c.args.x c.args.y c.args.row) c.tile_row-bits.result c.loop-col.col (c.tile_row-bits.ensures ∙ ap (λ n. word_of (row_from n (tile_bit_of (configuration_of c.args.image.now) c.args.x c.args.y c.args.row))) c.requires.width) (omega arith))))
 
 pub returns : goal.returns
 returns c =
-    on_ok_weaker c.end_line.result (λ ended. bits-all c.args.text.now.items c.loop-col.text.items c.end_line.new.text.items c.loop-col.col c.args.width (λ col. tile_bit_of (configuration_of c.args.image.now) c.args.x c.args.y c.args.row col) (omega arith) c.loop-col.invariant ended) c.end_line.ensures
+    let bit : ℕ → Bool = tile_bit_of (configuration_of c.args.image.now) c.args.x c.args.y c.args.row in
+    let word = c.tile_row.ensures ∙ ap (λ n. word_of (row_from n bit)) c.requires.width in
+    let few : c.args.width ≤ 64 = omega (arith, c.requires.width, columns_at-le (configuration_of c.args.image.now).layout.device c.args.x c.args.y) in
+    let row = row-written c.args.width c.tile_row.result bit c.characters_of-characters.result word few (omega arith) c.characters_of-characters.ensures in
+    let taken = ap (λ n. take n c.characters_of-characters.result) c.from.ensures ∙ row in
+    on_ok_weaker c.end_line.result (λ ended. line-ended c.args.text.now.items c.extend_from_slice.new.self.items c.end_line.new.text.items (row_line (row_from c.args.width bit)) (c.in_ok-extend_from_slice.ensures.items ∙ ap (λ more. c.args.text.now.items ++ more) taken) ended) c.end_line.ensures

@@ -1,7 +1,7 @@
 use Rattle.std.proofs.Common.{◌≡◌, ◌∙◌, ◌≤◌, ◌∷◌, length, take, drop, ◌-◌, ◌+◌, ap, sym, false, ◌==◌, arith}
 use Rattle.text_lines.specs.Lines.{lines_of}
 use Rattle.text_lines.proofs.Written.{lf_place, chomped-is, first_line-ended, first_line-whole, whole_line-ended, whole_line-whole}
-use Rattle.text_lines.proofs.lines.first_line.Goals as goal
+use Rattle.text_lines.proofs.lines.first_line_near.Goals as goal
 
 pub returns-then-end-text-clause-lines : goal.returns-then-end-text-clause-lines
 returns-then-end-text-clause-lines c =

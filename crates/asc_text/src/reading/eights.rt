@@ -1,0 +1,82 @@
+// Lines of the characters 0 and 1 as numbers, eight characters at a time.
+ghost use Rattle.std.specs.Prelude.{◌≡◌, ◌+◌, ◌≤◌, List, ℕ, take, drop, map, length};
+ghost use Rattle.std.specs.List.{list_all};
+ghost use Rattle.bit_plane.specs.BitList.{word_of};
+ghost use Rattle.asc_text.specs.inside.RowNumbers.{is_bit, is_odd, bytes_number, AreEight};
+
+/// What the bytes of a line from a place on give.
+#[derive(Drop)]
+pub(crate) struct Tail {
+    /// The place.
+    pub(crate) start: usize,
+    /// Their lowest bits as a number, that of the first byte worth 1.
+    pub(crate) ones: u64,
+    /// Whether each is the character 0 or 1.
+    pub(crate) are_bits: bool,
+}
+
+/// The end of a line, as much of it as can be read eight bytes at a time.
+pub(crate) fn in_eights(line: &[u8]) -> Tail
+    requires { length line.now ≤ 64 }
+    ensures start { result.start ≤ length line.now }
+    ensures ones { result.ones ≡ word_of (drop result.start (map is_odd line.now)) }
+    ensures bits { result.are_bits ≡ list_all is_bit (drop result.start line.now) }
+{
+    let mut start = line.len();
+    let mut ones = 0;
+    let mut are_bits = true;
+    while 8 <= start {
+        start -= 8;
+        let eight = eight_at(line, start);
+        ones = 256 * ones + u64::from(eight.0);
+        are_bits &= eight.1;
+    }
+    Tail {
+        start,
+        ones,
+        are_bits,
+    }
+}
+
+/// The lowest bits of eight bytes of a line as a number, that of the first byte worth 1, and whether each is the character 0
+/// or 1.
+fn eight_at(line: &[u8], start: usize) -> (u8, bool)
+    requires { start + 8 ≤ length line.now }
+    ensures ones { result.0 ≡ word_of (map is_odd (take 8 (drop start line.now))) }
+    ensures bits { result.1 ≡ list_all is_bit (take 8 (drop start line.now)) }
+{
+    let word = word_at(line, start);
+    (packed(word), are_bits(word))
+}
+
+/// Eight bytes of a line as a number, the first worth 1.
+fn word_at(line: &[u8], start: usize) -> u64
+    requires { start + 8 ≤ length line.now }
+    ensures { result ≡ bytes_number (take 8 (drop start line.now)) }
+{
+    u64::from_le_bytes([
+        line[start],
+        line[start + 1],
+        line[start + 2],
+        line[start + 3],
+        line[start + 4],
+        line[start + 5],
+        line[start + 6],
+        line[start + 7],
+    ])
+}
+
+/// The lowest bits of eight bytes as a number, that of the first byte worth 1.
+fn packed(word: u64) -> u8
+    ensures { (bytes : List ℕ) → AreEight bytes → word ≡ bytes_number bytes → result ≡ word_of (map is_odd bytes) }
+{
+    // The product has the sum of 2^i times the lowest bit of byte i in its highest byte.
+    ((word & 0x0101_0101_0101_0101).wrapping_mul(0x0102_0408_1020_4080) >> 56) as u8
+}
+
+/// Whether each of eight bytes is the character 0 or 1.
+fn are_bits(word: u64) -> bool
+    ensures { (bytes : List ℕ) → AreEight bytes → word ≡ bytes_number bytes → result ≡ list_all is_bit bytes }
+{
+    word & 0xFEFE_FEFE_FEFE_FEFE == 0x3030_3030_3030_3030
+}

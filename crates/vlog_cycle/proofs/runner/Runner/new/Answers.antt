@@ -13,7 +13,7 @@ returns c =
     let names = c.in_ok-names.names in
     let plan = c.in_ok-plan.plan in
     let begun = c.in_ok-names.ensures in
-    let after : Started m plan names.bits.items names.words.items = started-values m plan names.bits.items names.words.items begun.bits begun.words c.in_ok-plan.ensures in
+    let after : Started m plan names.bits.items names.words.items = started-values m plan names.bits.items names.words.items begun.bits begun.words c.in_ok-plan.ensures.plan in
     let settled_bits : c.settle.new.bits ≡ fold (wire_slot names.words.items) names.bits.items plan.wires.items =
     c.settle.ensures
     ∙ ap₂ (λ w b. fold (wire_slot w) b c.deref.result.now) c.deref-2.ensures.value c.deref_mut.ensures.value

@@ -1,5 +1,5 @@
 -- Cells have what operands read, and wires over them get their values.
-use Rattle.std.proofs.Common.{◌≡◌, ℕ, zero, suc, ◌+◌, ◌*◌, ◌/◌, ◌%◌, ◌^◌, ◌<◌, ◌≤◌, Bool, true, false, cond, eqb, List, [], ◌∷◌, ◌++◌, ap, ap₂, arith, fold, get_or, length, ltb, refl, set, subst, sym, take, ◌∙◌}
+use Rattle.std.proofs.Common.{◌≡◌, ℕ, zero, suc, ◌+◌, ◌*◌, ◌/◌, ◌%◌, ◌^◌, ◌<◌, Bool, true, false, cond, eqb, List, [], ◌∷◌, ◌++◌, ap, ap₂, arith, fold, get_or, length, ltb, refl, set, subst, sym, take, ◌∙◌}
 use Rattle.std.specs.Prelude.{◌&&◌, map}
 use Rattle.std.proofs.Math.Nat.{zero-div}
 use Rattle.std.proofs.Math.Seq.{set_out}
@@ -124,12 +124,12 @@ gate-same bits words wire small =
     let zero_is : cell_at (cells_of bits words) (zero_cell (length bits) (length words)) ≡ false = zero-in bits words in
     elim wire.rule as (λ rule. gate_value (cells_of bits words) (gate_of (length bits) (length words) (record { slot = wire.slot; rule = rule })) ≡ rule_value bits words rule) [
       | Copy operand ↦
-      ap₂ (λ a z. bit_of 2 (number_of (a ∷ z ∷ z ∷ z ∷ []))) (operand-in bits words operand small) zero_is ∙ copy-table (operand_value bits words operand)
+          ap₂ (λ a z. bit_of 2 (number_of (a ∷ z ∷ z ∷ z ∷ []))) (operand-in bits words operand small) zero_is ∙ copy-table (operand_value bits words operand)
       | Lookup table ↦ ap (λ list. bit_of table.word (number_of list)) (operands-in bits words table.ins small)
       | Majority a b c ↦
-      ap₂ (λ x y. bit_of 232 (number_of (x ∷ y ∷ cell_at (cells_of bits words) (operand_cell (length bits) (length words) c) ∷ cell_at (cells_of bits words) (zero_cell (length bits) (length words)) ∷ []))) (operand-in bits words a small) (operand-in bits words b small)
-      ∙ ap₂ (λ z o. bit_of 232 (number_of (operand_value bits words a ∷ operand_value bits words b ∷ z ∷ o ∷ []))) (operand-in bits words c small) zero_is
-      ∙ majority-table (operand_value bits words a) (operand_value bits words b) (operand_value bits words c)
+          ap₂ (λ x y. bit_of 232 (number_of (x ∷ y ∷ cell_at (cells_of bits words) (operand_cell (length bits) (length words) c) ∷ cell_at (cells_of bits words) (zero_cell (length bits) (length words)) ∷ []))) (operand-in bits words a small) (operand-in bits words b small)
+          ∙ ap₂ (λ z o. bit_of 232 (number_of (operand_value bits words a ∷ operand_value bits words b ∷ z ∷ o ∷ []))) (operand-in bits words c small) zero_is
+          ∙ majority-table (operand_value bits words a) (operand_value bits words b) (operand_value bits words c)
     ]
 
 set-case : (bits : List Bool) (behind : List Bool) (slot : ℕ) (value : Bool) (b : Bool) → ltb slot (length bits) ≡ b

@@ -5,8 +5,8 @@ ghost use Rattle.vlog_cycle.specs.ModuleSlots.{IsPlan, places_of};
 ghost use Rattle.vlog_cycle.specs.Steps.{operand_value};
 
 use crate::build::{assign_outputs, blank_outputs};
-use crate::places::{Places, flips_of, reads_of, writes_of};
 use crate::gates::Gate;
+use crate::places::{Places, flips_of, reads_of, writes_of};
 use crate::plan::Plan;
 use crate::steps::write_outputs;
 use std::alloc::{AllocError, Global};

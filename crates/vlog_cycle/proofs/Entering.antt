@@ -8,7 +8,7 @@ use Rattle.vlog_module.specs.Parts.{Parts}
 use Rattle.vlog_cycle.specs.declared.event.Event.{Event}
 use Rattle.vlog_cycle.specs.declared.plan.Plan.{Plan}
 use Rattle.vlog_cycle.specs.Entries.{Entry}
-use Rattle.vlog_cycle.specs.ModuleSlots.{IsNamed, IsPlan, memory_names, places_of, register_names, wire_names, wire_start, word_names}
+use Rattle.vlog_cycle.specs.ModuleSlots.{IsNamed, IsPlan, memory_names, module_wires, places_of, register_names, wire_names, wire_start, word_names}
 use Rattle.vlog_cycle.specs.Named.{names_of, values_of}
 use Rattle.vlog_cycle.specs.Numbered.{numbered}
 use Rattle.vlog_cycle.specs.Plans.{Places, flip_of, outputs_of, read_of, wires_of, write_of}
@@ -54,16 +54,16 @@ places-same m entry named =
     (ap (λ names. value_in (numbered 0 names)) named.memories)
 
 -- the wires get their values, whatever they had before
-pub settled-bits : (m : Parts) (plan : Plan) (inputs registers : List (List ℕ × Bool)) (words : List (List ℕ × ℕ)) (memories : List (List ℕ × List ℕ)) (old : List Bool)
-    → AreNamed m inputs registers words memories → IsPlan m plan → length old ≡ length (wire_names m.items)
-    → fold (wire_slot (values_of words)) (values_of (inputs ++ registers) ++ old) plan.wires.items ≡ values_of (readable (settled m inputs registers words memories)).bits
+pub settled-bits : (m : Parts) (inputs registers : List (List ℕ × Bool)) (words : List (List ℕ × ℕ)) (memories : List (List ℕ × List ℕ)) (old : List Bool)
+    → AreNamed m inputs registers words memories → length old ≡ length (wire_names m.items)
+    → fold (wire_slot (values_of words)) (values_of (inputs ++ registers) ++ old) (module_wires m) ≡ values_of (readable (settled m inputs registers words memories)).bits
 unfolding settled
-settled-bits m plan inputs registers words memories old named planned size =
+settled-bits m inputs registers words memories old named size =
     let known : List (List ℕ × Bool) = inputs ++ registers in
     let names : input_names m.ports ++ register_names m.items ≡ names_of (known ++ []) =
     sym (ap names_of (append-nil known) ∙ map-append (λ (e : List ℕ × Bool). e.0) inputs registers ∙ ap₂ (λ a b. a ++ b) named.inputs_are named.registers_are) in
     ap₂ (λ list wires. fold (wire_slot (values_of words)) (values_of list ++ old) wires) (sym (append-nil known))
-    (planned.wires ∙ ap₂ (λ find all. wires_of find all m.items) (ap (λ all. value_in (numbered 0 all)) (sym named.words_are)) names)
+    (ap₂ (λ find all. wires_of find all m.items) (ap (λ all. value_in (numbered 0 all)) (sym named.words_are)) names)
     ∙ settle-same known words [] m.items old size
 
 -- the outputs get their values
@@ -150,15 +150,15 @@ registers-changed m plan entry event named planned within =
     ∙ ap (λ list. list ++ values_of entry.wires) (sym (map-append (λ (e : List ℕ × Bool). e.1) (with_input entry.inputs event.pin event.bit) next))
 
 pub bits-changed : (m : Parts) (plan : Plan) (entry : Entry) (event : Event) → IsNamed m entry → IsPlan m plan → event.pin < length (input_names m.ports)
-    → bits_after plan event (values_of (readable entry).bits) (values_of entry.words) (values_of entry.memories) ≡ values_of (readable (changed m entry event)).bits
+    → bits_after plan (module_wires m) event (values_of (readable entry).bits) (values_of entry.words) (values_of entry.memories) ≡ values_of (readable (changed m entry event)).bits
 unfolding changed
 bits-changed m plan entry event named planned within =
     let words : List (List ℕ × ℕ) = fold (word_step m entry event) entry.words m.items in
     let size : length (values_of entry.wires) ≡ length (wire_names m.items) =
     length-map entry.wires (λ (e : List ℕ × Bool). e.1) ∙ sym (length-map entry.wires (λ (e : List ℕ × Bool). e.0)) ∙ ap length named.wires in
-    ap₂ (λ list bits. fold (wire_slot list) bits plan.wires.items) (words-changed m plan entry event named planned) (registers-changed m plan entry event named planned within)
-    ∙ settled-bits m plan (with_input entry.inputs event.pin event.bit) (fold (register_step m entry event) entry.registers m.items) words (fold (memory_step m entry event) entry.memories m.items)
-    (values_of entry.wires) (changed-named m entry event named) planned size
+    ap₂ (λ list bits. fold (wire_slot list) bits (module_wires m)) (words-changed m plan entry event named planned) (registers-changed m plan entry event named planned within)
+    ∙ settled-bits m (with_input entry.inputs event.pin event.bit) (fold (register_step m entry event) entry.registers m.items) words (fold (memory_step m entry event) entry.memories m.items)
+    (values_of entry.wires) (changed-named m entry event named) size
 
 -- an input's bit is that of its slot
 pub input-slot : (m : Parts) (entry : Entry) (pin : ℕ) → IsNamed m entry → pin < length (input_names m.ports) → get_or (values_of (readable entry).bits) pin false ≡ input_bit entry pin
@@ -171,10 +171,10 @@ input-slot m entry pin named within =
 -- ---- what the slots have after an event
 
 pub record Changed (m : Parts) (plan : Plan) (entry : Entry) (event : Event) (bits : List Bool) (words : List ℕ) (memories : List (List ℕ)) : Type 0 where
-  pub bits_are : bits_after plan event bits words memories ≡ values_of (readable (changed m entry event)).bits
+  pub bits_are : bits_after plan (module_wires m) event bits words memories ≡ values_of (readable (changed m entry event)).bits
   pub words_are : words_after plan event bits words memories ≡ values_of (changed m entry event).words
   pub memories_are : memories_after plan event bits words memories ≡ values_of (changed m entry event).memories
-  pub outputs_are : map (operand_value (bits_after plan event bits words memories) (words_after plan event bits words memories)) plan.outputs.items ≡ values_of (changed m entry event).outputs
+  pub outputs_are : map (operand_value (bits_after plan (module_wires m) event bits words memories) (words_after plan event bits words memories)) plan.outputs.items ≡ values_of (changed m entry event).outputs
   pub named : IsNamed m (changed m entry event)
 
 changed-from : (m : Parts) (plan : Plan) (entry : Entry) (event : Event) → IsNamed m entry → IsPlan m plan → event.pin < length (input_names m.ports)
@@ -214,8 +214,8 @@ followed-same m entry event same = sym (ap (λ b. cond b entry (changed m entry 
 -- ---- what the slots have at the start
 
 pub record Started (m : Parts) (plan : Plan) (bits : List Bool) (words : List ℕ) : Type 0 where
-  pub bits_are : fold (wire_slot words) bits plan.wires.items ≡ values_of (readable (start m)).bits
-  pub outputs_are : map (operand_value (fold (wire_slot words) bits plan.wires.items) words) plan.outputs.items ≡ values_of (start m).outputs
+  pub bits_are : fold (wire_slot words) bits (module_wires m) ≡ values_of (readable (start m)).bits
+  pub outputs_are : map (operand_value (fold (wire_slot words) bits (module_wires m)) words) plan.outputs.items ≡ values_of (start m).outputs
   pub named : IsNamed m (start m)
 
 pub started-values : (m : Parts) (plan : Plan) (bits : List Bool) (words : List ℕ)
@@ -229,9 +229,9 @@ started-values m plan bits words bits_are words_are planned =
     let word_map : List (List ℕ × ℕ) = flat_map word_start m.items in
     let memories : List (List ℕ × List ℕ) = fold start_step (flat_map memory_start m.items) m.items in
     let size : length (values_of wires) ≡ length (wire_names m.items) = length-map wires (λ (e : List ℕ × Bool). e.1) ∙ sym (length-map wires (λ (e : List ℕ × Bool). e.0)) in
-    let settled_bits : fold (wire_slot words) bits plan.wires.items ≡ values_of (readable (start m)).bits =
-    ap₂ (λ w b. fold (wire_slot w) b plan.wires.items) words_are (bits_are ∙ map-append (λ (e : List ℕ × Bool). e.1) (inputs ++ registers) wires)
-    ∙ settled-bits m plan inputs registers word_map memories (values_of wires) (start-named m) planned size in
+    let settled_bits : fold (wire_slot words) bits (module_wires m) ≡ values_of (readable (start m)).bits =
+    ap₂ (λ w b. fold (wire_slot w) b (module_wires m)) words_are (bits_are ∙ map-append (λ (e : List ℕ × Bool). e.1) (inputs ++ registers) wires)
+    ∙ settled-bits m inputs registers word_map memories (values_of wires) (start-named m) size in
     record {
       bits_are = settled_bits;
       outputs_are = ap₂ (λ b w. map (operand_value b w) plan.outputs.items) settled_bits words_are ∙ settled-outputs m plan inputs registers word_map memories (start-named m) planned;

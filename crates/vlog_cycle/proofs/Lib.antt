@@ -1,5 +1,6 @@
 pub mod Atoms
 pub mod Beginning
+pub mod Cells
 pub mod Clocked
 pub mod Entering
 pub mod EventLines

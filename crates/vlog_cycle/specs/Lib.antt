@@ -1,4 +1,5 @@
 pub mod Begun
+pub mod Cells
 pub mod Entries
 pub mod Events
 pub mod Found

@@ -6,6 +6,7 @@ use Rattle.vlog_module.specs.declared.item.Item.TheVariants.{Wire}
 use Rattle.vlog_module.specs.Maps.{value_in}
 use Rattle.vlog_module.specs.Parts.{Parts}
 use Rattle.vlog_cycle.specs.declared.plan.Plan.{Plan}
+use Rattle.vlog_cycle.specs.declared.plan.Wire.{Wire as WireOver}
 use Rattle.vlog_cycle.specs.Entries.{Entry}
 use Rattle.vlog_cycle.specs.Numbered.{numbered}
 use Rattle.vlog_cycle.specs.Named.{names_of, values_of}
@@ -51,9 +52,12 @@ places_of m = record {
   memories = value_in (numbered 0 (memory_names m.items));
 }
 
--- the plan has the items of the module over their slots
+-- the wires of the module over their slots
+abbrev pub module_wires : Parts → List WireOver
+module_wires m = wires_of (places_of m).words (input_names m.ports ++ register_names m.items) m.items
+
+-- the plan has the other items of the module over their slots
 pub record IsPlan (m : Parts) (plan : Plan) : Type 0 where
-  pub wires : plan.wires.items ≡ wires_of (places_of m).words (input_names m.ports ++ register_names m.items) m.items
   pub outputs : plan.outputs.items ≡ values_of (outputs_of (places_of m).bits (places_of m).words m.ports m.items)
   pub flips : plan.flips.items ≡ filter_map (flip_of (places_of m)) m.items
   pub reads : plan.reads.items ≡ filter_map (read_of (places_of m)) m.items

@@ -1,10 +1,11 @@
 -- When a runner shows an entry of a module.
-use Rattle.std.specs.Prelude.{◌≡◌, length, ◌++◌}
+use Rattle.std.specs.Prelude.{◌≡◌, length, map, ◌++◌}
 use Rattle.vlog_module.specs.Parts.{Parts}
 use Rattle.vlog_cycle.specs.declared.runner.Runner.{Runner}
+use Rattle.vlog_cycle.specs.Cells.{gate_of}
 use Rattle.vlog_cycle.specs.Entries.{Entry}
 use Rattle.vlog_cycle.specs.Found.{places_in}
-use Rattle.vlog_cycle.specs.ModuleSlots.{IsNamed, IsPlan, places_of, register_names}
+use Rattle.vlog_cycle.specs.ModuleSlots.{IsNamed, IsPlan, module_wires, places_of, register_names}
 use Rattle.vlog_cycle.specs.Named.{values_of}
 use Rattle.vlog_cycle.specs.Run.{input_names, readable}
 
@@ -12,6 +13,7 @@ use Rattle.vlog_cycle.specs.Run.{input_names, readable}
 pub record Shows (runner : Runner) (m : Parts) (entry : Entry) : Type 0 where
   pub named : IsNamed m entry
   pub plan : IsPlan m runner.plan
+  pub gates : runner.plan.gates.items ≡ map (gate_of (length runner.bits.items) (length runner.words.items)) (module_wires m)
   pub places : places_in runner.places ≡ places_of m
   pub input_count : runner.input_count ≡ length (input_names m.ports)
   pub first_wire : runner.first_wire ≡ length (input_names m.ports ++ register_names m.items)

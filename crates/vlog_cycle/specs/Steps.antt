@@ -77,7 +77,7 @@ words_after plan event bits words memories = fold (read_slot event bits words me
 abbrev pub memories_after : Plan → Event → List Bool → List ℕ → List (List ℕ) → List (List ℕ)
 memories_after plan event bits words memories = fold (write_slot event bits words memories) memories plan.writes.items
 
-abbrev pub bits_after : Plan → Event → List Bool → List ℕ → List (List ℕ) → List Bool
-bits_after plan event bits words memories =
+abbrev pub bits_after : Plan → List Wire → Event → List Bool → List ℕ → List (List ℕ) → List Bool
+bits_after plan wires event bits words memories =
     fold (wire_slot (words_after plan event bits words memories))
-    (slice_set (fold (flip_slot event bits words) bits plan.flips.items) event.pin event.bit) plan.wires.items
+    (slice_set (fold (flip_slot event bits words) bits plan.flips.items) event.pin event.bit) wires

@@ -4,6 +4,7 @@
 mod build;
 mod event;
 mod event_lines;
+mod gates;
 mod named;
 mod names;
 mod places;

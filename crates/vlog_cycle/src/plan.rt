@@ -1,5 +1,7 @@
 // Items of a module over numbered slots in place of names.
 
+use crate::gates::Gate;
+
 /// An operand of one bit.
 #[derive(Clone, Copy)]
 pub(crate) enum Operand {
@@ -80,8 +82,8 @@ pub(crate) type Memory = [u16; 256];
 /// The items of a module over slots.
 #[derive(Drop)]
 pub(crate) struct Plan {
-    /// In the order of the text.
-    pub(crate) wires: Vec<Wire>,
+    /// The wires, in the order of the text.
+    pub(crate) gates: Vec<Gate>,
     /// What the outputs have, in the order of the ports.
     pub(crate) outputs: Vec<Operand>,
     pub(crate) flips: Vec<Flip>,

@@ -1,14 +1,13 @@
 // The items of a module over its slots.
-ghost use Rattle.std.specs.Prelude.{◌≡◌, ◌++◌, IfOk, length, map};
+ghost use Rattle.std.specs.Prelude.{◌≡◌, IfOk, map};
 ghost use Rattle.vlog_cycle.specs.Found.{places_in};
-ghost use Rattle.vlog_cycle.specs.ModuleSlots.{IsPlan, places_of, register_names};
-ghost use Rattle.vlog_cycle.specs.Plans.{wires_of};
-ghost use Rattle.vlog_cycle.specs.Run.{input_names};
+ghost use Rattle.vlog_cycle.specs.ModuleSlots.{IsPlan, places_of};
 ghost use Rattle.vlog_cycle.specs.Steps.{operand_value};
 
 use crate::build::{assign_outputs, blank_outputs};
+use crate::gates::Gate;
 use crate::places::{Places, flips_of, reads_of, writes_of};
-use crate::plan::{Plan, Wire};
+use crate::plan::Plan;
 use crate::steps::write_outputs;
 use std::alloc::{AllocError, Global};
 use vlog_module::Module;
@@ -18,17 +17,17 @@ pub(crate) fn plan_of(
     alloc: Global,
     module: &Module,
     places: &Places,
-    wires: Vec<Wire>,
+    gates: Vec<Gate>,
 ) -> Result<Plan, AllocError>
-    requires places { places_in places.now ≡ places_of «module».now }
-    requires wires { wires.items ≡ wires_of (places_of «module».now).words (input_names «module».now.ports ++ register_names «module».now.items) «module».now.items }
-    ensures { IfOk result (IsPlan «module».now) }
+    requires { places_in places.now ≡ places_of «module».now }
+    ensures gates { IfOk result (λ plan. plan.gates.items ≡ gates.items) }
+    ensures plan { IfOk result (IsPlan «module».now) }
 {
     let items = module.items();
     let mut outputs = blank_outputs(alloc, module.ports())?;
     assign_outputs(&mut outputs, &places.bits, &places.words, items);
     Ok(Plan {
-        wires,
+        gates,
         outputs: outputs.values,
         flips: flips_of(alloc, places, items)?,
         reads: reads_of(alloc, places, items)?,

@@ -1,13 +1,14 @@
 // A module that runs.
-ghost use Rattle.std.specs.Prelude.{◌≡◌, ◌<◌, ◌≤◌, IfOk, drop, is_some, length, get_or, take, vec_len};
+ghost use Rattle.std.specs.Prelude.{◌≡◌, ◌<◌, ◌≤◌, ◌+◌, ◌*◌, IfOk, drop, is_some, length, get_or, take, vec_len};
 ghost use Rattle.std.specs.Option.{option_map};
 
 use crate::event::Event;
+use crate::gates::{cells_room, gates_of, settle};
 use crate::names::{Names, names_of};
 use crate::places::Places;
 use crate::plan::{Memory, Plan};
 use crate::planning::{first_outputs, plan_of};
-use crate::steps::{bit_at, change, is_same_bit, settle, word_at, word_in};
+use crate::steps::{bit_at, change, is_same_bit, word_at, word_in};
 use std::alloc::{AllocError, Global};
 use vlog_module::Module;
 
@@ -27,10 +28,13 @@ pub struct Runner {
     outputs: Vec<bool>,
     /// Room for the bits that an event gives.
     next_bits: Vec<bool>,
+    /// Room for all that wires read.
+    cells: Vec<bool>,
     next_words: Vec<u16>,
     /// Room for the words that writes put in memories.
     written: Vec<u16>,
     ghost bits_room: { vec_len next_bits ≡ vec_len bits },
+    ghost cells_room: { vec_len cells ≡ vec_len bits + 16 * vec_len words + 2 },
     ghost words_room: { vec_len next_words ≡ vec_len words },
     ghost writes_room: { vec_len written ≡ vec_len plan.writes },
     ghost outputs_room: { vec_len outputs ≡ vec_len plan.outputs },
@@ -59,8 +63,10 @@ impl Runner {
             memories,
             wires,
         } = names;
-        let plan = plan_of(alloc, module, &places, wires)?;
-        settle(&plan.wires, &words, &mut bits);
+        let mut cells = cells_room(alloc, &bits, &words)?;
+        let gates = gates_of(alloc, bits.len(), words.len(), &wires)?;
+        let plan = plan_of(alloc, module, &places, gates)?;
+        settle(&plan.gates, &words, &mut bits, &mut cells);
         let outputs = first_outputs(alloc, &plan, &bits, &words)?;
         let next_bits = Vec::from_slice(alloc, &bits)?;
         let next_words = Vec::from_slice(alloc, &words)?;
@@ -75,6 +81,7 @@ impl Runner {
             memories,
             outputs,
             next_bits,
+            cells,
             next_words,
             written,
         })
@@ -93,6 +100,7 @@ impl Runner {
             Event { pin, bit },
             &mut self.bits,
             &mut self.next_bits,
+            &mut self.cells,
             &mut self.words,
             &mut self.next_words,
             &mut self.memories,

@@ -1,11 +1,14 @@
 // What an event does to the bits, words and memories of the slots.
 ghost use Rattle.std.specs.Prelude.{◌≡◌, ◌<◌, ◌≤◌, ◌^◌, ◌+◌, ◌*◌, ◌&&◌, ℕ, List, [], false, length, map, fold, get_or, slice_set, if◌then◌else◌};
 ghost use Rattle.vlog_cycle.specs.Run.{is_edge, is_same_bit, masked};
-ghost use Rattle.vlog_cycle.specs.Steps.{bits_after, flip_slot, is_edge_of, memories_after, operand_value, operands_value, read_slot, rule_value, set_word, table_value, wire_slot, word_in, words_after, write_slot, written_word};
-ghost use Rattle.vlog_cycle.specs.Values.{bit_of, majority, number_of};
+ghost use Rattle.vlog_cycle.specs.Steps.{bits_after, flip_slot, is_edge_of, memories_after, operand_value, operands_value, read_slot, set_word, table_value, word_in, words_after, write_slot, written_word};
+ghost use Rattle.vlog_cycle.specs.Cells.{gate_of};
+ghost use Rattle.vlog_cycle.specs.Values.{bit_of, number_of};
+ghost use Rattle.vlog_cycle.specs.declared.plan.Wire.{Wire as wire_of};
 
 use crate::event::Event;
-use crate::plan::{Edge, Flip, Memory, Operand, Plan, Read, Rule, Table, Wire, Write};
+use crate::gates::settle;
+use crate::plan::{Edge, Flip, Memory, Operand, Plan, Read, Table, Write};
 
 /// The bit of a slot, and 0 past the last.
 pub(crate) fn bit_at(bits: &[bool], slot: usize) -> bool
@@ -28,7 +31,7 @@ pub(crate) fn word_at(words: &[u16], slot: usize) -> u16
 }
 
 /// Bit `k` of a word; bit 0 is the lowest.
-fn bit_of(word: u16, k: u32) -> bool
+pub(crate) fn bit_of(word: u16, k: u32) -> bool
     ensures { result ≡ bit_of word k }
 {
     k < 16 && (word >> k) & 1 == 1
@@ -66,47 +69,12 @@ fn table_value(bits: &[bool], words: &[u16], table: &Table) -> bool
     bit_of(table.word, number(bits, words, &table.ins))
 }
 
-/// What two of three bits have.
-fn majority(a: bool, b: bool, c: bool) -> bool
-    ensures { result ≡ majority a b c }
-{
-    (a && b) || (a && c) || (b && c)
-}
-
-/// The value of a right side.
-fn rule_value(bits: &[bool], words: &[u16], rule: &Rule) -> bool
-    ensures { result ≡ rule_value bits.now words.now rule.now }
-{
-    match rule {
-        Rule::Copy(operand) => operand_value(bits, words, *operand),
-        Rule::Lookup(table) => table_value(bits, words, table),
-        Rule::Majority { a, b, c } => {
-            let (a, b, c) = (
-                operand_value(bits, words, *a),
-                operand_value(bits, words, *b),
-                operand_value(bits, words, *c),
-            );
-            majority(a, b, c)
-        }
-    }
-}
-
 /// Gives the bit of a slot, where there is such a slot.
-fn set_bit(bits: &mut [bool], slot: usize, bit: bool)
+pub(crate) fn set_bit(bits: &mut [bool], slot: usize, bit: bool)
     ensures { bits.new ≡ slice_set bits.old slot bit }
 {
     if slot < bits.len() {
         bits[slot] = bit;
-    }
-}
-
-/// Gives each wire its value, one after the other.
-pub(crate) fn settle(wires: &[Wire], words: &[u16], bits: &mut [bool])
-    ensures { bits.new ≡ fold (wire_slot words.now) bits.old wires.now }
-{
-    for wire in wires {
-        let bit = rule_value(bits, words, &wire.rule);
-        set_bit(bits, wire.slot, bit);
     }
 }
 
@@ -298,7 +266,7 @@ pub(crate) fn write_outputs(
 }
 
 /// Copies bits to as many bits.
-fn copy_bits(from: &[bool], to: &mut [bool])
+pub(crate) fn copy_bits(from: &[bool], to: &mut [bool])
     ensures { length to.old ≡ length from.now → to.new ≡ from.now }
 {
     if to.len() == from.len() {
@@ -321,6 +289,7 @@ pub(crate) fn change(
     event: Event,
     bits: &mut [bool],
     next_bits: &mut [bool],
+    cells: &mut [bool],
     words: &mut [u16],
     next_words: &mut [u16],
     memories: &mut [Memory],
@@ -328,10 +297,12 @@ pub(crate) fn change(
     outputs: &mut [bool],
 )
     requires bits_room { length next_bits.old ≡ length bits.old }
+    requires cells_room { length cells.old ≡ length bits.old + 16 * length words.old + 2 }
     requires words_room { length next_words.old ≡ length words.old }
     requires writes_room { length written.old ≡ length plan.now.writes.items }
     requires outputs_room { length outputs.old ≡ length plan.now.outputs.items }
-    ensures bits { bits.new ≡ bits_after plan.now event bits.old words.old memories.old }
+    ensures bits { (wires : List wire_of) → plan.now.gates.items ≡ map (gate_of (length bits.old) (length words.old)) wires
+        → bits.new ≡ bits_after plan.now wires event bits.old words.old memories.old }
     ensures words { words.new ≡ words_after plan.now event bits.old words.old memories.old }
     ensures memories { memories.new ≡ memories_after plan.now event bits.old words.old memories.old }
     ensures outputs { outputs.new ≡ map (operand_value bits.new words.new) plan.now.outputs.items }
@@ -345,7 +316,7 @@ pub(crate) fn change(
     copy_bits(next_bits, bits);
     copy_words(next_words, words);
     set_bit(bits, event.pin, event.bit);
-    settle(&plan.wires, words, bits);
+    settle(&plan.gates, words, bits, cells);
     write_outputs(&plan.outputs, bits, words, outputs);
 }
 

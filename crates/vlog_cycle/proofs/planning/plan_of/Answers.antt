@@ -17,14 +17,13 @@ reads_of-requires c = subst (All IsShaped) (sym c.items-items.ensures.items) (al
 pub writes_of-requires : goal.writes_of-requires
 writes_of-requires c = subst (All IsShaped) (sym c.items-items.ensures.items) (all-shaped c.args.module.now c.items-items.ensures.well_formed)
 
-pub returns : goal.returns
-returns c =
+pub returns-clause-plan : goal.returns-clause-plan
+returns-clause-plan c =
     let m = c.args.module.now in
     let items = c.items-items.ensures.items in
-    let at = c.requires.places in
+    let at = c.requires in
     let found = places_in c.args.places.now in
     record {
-      wires = c.requires.wires;
       outputs = (c.assign_outputs.ensures (flat_map blank_output c.ports.result.now) c.in_ok-outputs.ensures).values
           ∙ ap₂ (λ ports list. values_of (outputs_of found.bits found.words ports list)) c.ports.ensures.ports items
           ∙ ap (λ (p : Places). values_of (outputs_of p.bits p.words m.ports m.items)) at;

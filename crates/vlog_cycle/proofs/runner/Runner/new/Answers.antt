@@ -1,8 +1,12 @@
-use Rattle.std.proofs.Common.{◌≡◌, ap, ap₂, arith, fold, ◌∙◌}
+use Rattle.std.proofs.Common.{◌≡◌, ℕ, Bool, List, ap, ap₂, arith, fold, length, sym, ◌∙◌}
 use Rattle.std.specs.Prelude.{map}
 use Rattle.std.proofs.lemmas.List.{with_items_is}
+use Rattle.vlog_cycle.specs.declared.plan.Wire.{Wire}
+use Rattle.vlog_cycle.specs.Cells.{gate_of}
+use Rattle.vlog_cycle.specs.ModuleSlots.{module_wires}
 use Rattle.vlog_cycle.specs.Run.{start, settled}
 use Rattle.vlog_cycle.specs.Steps.{operand_value, wire_slot}
+use Rattle.vlog_cycle.proofs.Cells.{length-settled}
 use Rattle.vlog_cycle.proofs.Entering.{Started, started-values}
 use Rattle.vlog_cycle.proofs.runner.Runner.new.Goals as goal
 
@@ -13,15 +17,26 @@ returns c =
     let names = c.in_ok-names.names in
     let plan = c.in_ok-plan.plan in
     let begun = c.in_ok-names.ensures in
-    let after : Started m plan names.bits.items names.words.items = started-values m plan names.bits.items names.words.items begun.bits begun.words c.in_ok-plan.ensures in
-    let settled_bits : c.settle.new.bits ≡ fold (wire_slot names.words.items) names.bits.items plan.wires.items =
-    c.settle.ensures
-    ∙ ap₂ (λ w b. fold (wire_slot w) b c.deref.result.now) c.deref-2.ensures.value c.deref_mut.ensures.value
-    ∙ ap (fold (wire_slot names.words.items) names.bits.items) c.deref.ensures.value in
+    let bits : List Bool = names.bits.items in
+    let words : List ℕ = names.words.items in
+    let wires : List Wire = module_wires m in
+    let after : Started m plan bits words = started-values m plan bits words begun.bits begun.words c.in_ok-plan.ensures.plan in
+    let bit_count : c.len.result ≡ length bits = omega (arith, c.len.ensures, names.bits.ok.0) in
+    let word_count : c.len-2.result ≡ length words = omega (arith, c.len-2.ensures, names.words.ok.0) in
+    let gates : plan.gates.items ≡ map (gate_of (length bits) (length words)) wires =
+    c.in_ok-plan.ensures.gates
+    ∙ c.in_ok-gates.ensures
+    ∙ ap (map (gate_of c.len.result c.len-2.result)) (c.deref-3.ensures.value ∙ begun.wires)
+    ∙ ap₂ (λ (b w : ℕ). map (gate_of b w) wires) bit_count word_count in
+    let settled_bits : c.settle.new.bits ≡ fold (wire_slot words) bits wires =
+    c.settle.ensures wires
+    (c.deref-4.ensures.value ∙ gates ∙ ap₂ (λ (b : List Bool) (w : List ℕ). map (gate_of (length b) (length w)) wires) (sym c.deref_mut.ensures.value) (sym c.deref-5.ensures.value))
+    ∙ ap₂ (λ w b. fold (wire_slot w) b wires) c.deref-5.ensures.value c.deref_mut.ensures.value in
     let written = with_items_is names.bits c.settle.new.bits (omega (arith, c.settle.auto.bits, names.bits.ok.0)) in
     record {
       named = after.named;
-      plan = c.in_ok-plan.ensures;
+      plan = c.in_ok-plan.ensures.plan;
+      gates = gates ∙ ap (λ (b : ℕ). map (gate_of b (length words)) wires) (sym (ap (λ (list : List Bool). length list) (written ∙ settled_bits) ∙ length-settled bits words wires));
       places = begun.places;
       input_count = begun.input_count;
       first_wire = begun.first_wire;
@@ -29,6 +44,6 @@ returns c =
       words = begun.words;
       memories = begun.memories;
       outputs = c.in_ok-outputs.ensures
-          ∙ ap₂ (λ b w. map (operand_value b w) plan.outputs.items) (c.deref-3.ensures.value ∙ written ∙ settled_bits) c.deref-4.ensures.value
+          ∙ ap₂ (λ b w. map (operand_value b w) plan.outputs.items) (c.deref-6.ensures.value ∙ written ∙ settled_bits) c.deref-7.ensures.value
           ∙ after.outputs_are;
     }

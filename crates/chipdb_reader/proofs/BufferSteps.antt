@@ -1,6 +1,6 @@
 -- Lines of `.buffer` statements with one more.
-use Rattle.std.proofs.Common.{◌≡◌, ℕ, ◌+◌, ◌≤◌, cond, eqb, List, [], ◌∷◌, ◌++◌, length, length-append, drop, sym, ap, ◌∙◌, arith}
-use Rattle.std.specs.Prelude.{Option, Some, None, nat_eq}
+use Rattle.std.proofs.Common.{◌≡◌, ℕ, ◌+◌, ◌≤◌, Bool, true, false, cond, eqb, List, [], ◌∷◌, ◌++◌, length, length-append, drop, refl, sym, ap, ◌∙◌, arith}
+use Rattle.std.specs.Prelude.{Option, Some, None, find, nat_eq, option_map}
 use Rattle.std.specs.Ordering.{nat_cmp, is_eq}
 use Rattle.std.specs.Cmp.{unsigned_ties}
 use Rattle.std.specs.Map.{lookup}
@@ -8,7 +8,7 @@ use Rattle.std.proofs.lemmas.Bool.{eqb-true}
 use Rattle.std.proofs.lemmas.Bool.Decides.{nat_tests}
 use Rattle.std.proofs.lemmas.List.{drop-append-le, map-append}
 use Rattle.chipdb_reader.specs.declared.items.LinkLine.{LinkLine}
-use Rattle.std.specs.BTreeMap.{Updates}
+use Rattle.std.specs.BTreeMap.{Updates, get}
 use Rattle.chipdb_reader.specs.declared.buffers.Buffers.{Buffers}
 use Rattle.chipdb_reader.specs.Buffers.{AddsBuffer, IsChosen, choices_of, chosen_src, with_line}
 use Rattle.chipdb_reader.proofs.Searches.{index-push}
@@ -28,18 +28,52 @@ chosen-push old new lines start line within updates found none q =
     ap choices_of (drop-append-le start lines (line ∷ []) within) ∙ map-append (λ (l : LinkLine). (l.values, l.src)) (drop start lines) (line ∷ []) in
     pushed ∙ ap (lookup (nat_eq q)) (sym more)
 
--- what a new line changes
-pub adds-new : (old new : Buffers) (line : LinkLine) → IsChosen old → chosen_src old line.values ≡ None → Updates nat_cmp old.chosen new.chosen line.values (Some line.src) → new.lines.items ≡ old.lines.items ++ line ∷ [] → new.start ≡ old.start
-    → AddsBuffer old new line
-adds-new old new line indexed none updates pushed start =
+-- what a new line changes where the lines are in the index
+pub adds-indexed : (old new : Buffers) (line : LinkLine) → IsChosen old → old.is_indexed ≡ true → chosen_src old line.values ≡ None → Updates nat_cmp old.chosen new.chosen line.values (Some line.src)
+    → new.lines.items ≡ old.lines.items ++ line ∷ [] → new.start ≡ old.start → new.is_indexed ≡ old.is_indexed → AddsBuffer old new line
+adds-indexed old new line indexed many none updates pushed start kept =
     let within : old.start ≤ length old.lines.items = indexed.within in
     let count : length new.lines.items ≡ length old.lines.items + 1 = ap length pushed ∙ length-append old.lines.items (line ∷ []) in
     record {
       indexed = record {
-        found = λ q. chosen-push (chosen_src old) (chosen_src new) old.lines.items old.start line indexed.within updates.0 indexed.found none q
+        found = λ _ q. chosen-push (get nat_cmp old.chosen) (get nat_cmp new.chosen) old.lines.items old.start line indexed.within updates.0 (indexed.found many) (indexed.found many line.values ∙ none) q
             ∙ (λ i. lookup (nat_eq q) (choices_of (drop (sym start i) (sym pushed i))));
+        unused = λ few. let both : true ≡ false = sym (kept ∙ many) ∙ few in absurd cc;
         within = omega arith;
       };
       lines = pushed ∙ ap (λ o. with_line o old.lines.items line) (sym none);
       start = start;
     }
+
+-- what a new line changes where they aren't
+pub adds-few : (old new : Buffers) (line : LinkLine) → IsChosen old → old.is_indexed ≡ false → chosen_src old line.values ≡ None
+    → new.lines.items ≡ old.lines.items ++ line ∷ [] → new.start ≡ old.start → new.is_indexed ≡ old.is_indexed → new.chosen ≡ old.chosen → AddsBuffer old new line
+adds-few old new line indexed few none pushed start kept same =
+    let within : old.start ≤ length old.lines.items = indexed.within in
+    let count : length new.lines.items ≡ length old.lines.items + 1 = ap length pushed ∙ length-append old.lines.items (line ∷ []) in
+    record {
+      indexed = record {
+        found = λ many. let both : false ≡ true = sym (kept ∙ few) ∙ many in absurd cc;
+        unused = λ _ q. ap (λ index. get nat_cmp index q) same ∙ indexed.unused few q;
+        within = omega arith;
+      };
+      lines = pushed ∙ ap (λ o. with_line o old.lines.items line) (sym none);
+      start = start;
+    }
+
+-- the net that the first line with those values has
+pub first-lookup : (values : ℕ) (lines : List LinkLine) → option_map (λ (line : LinkLine). line.src) (find (λ (line : LinkLine). eqb values line.values) lines) ≡ lookup (nat_eq values) (choices_of lines)
+first-lookup values [] = refl
+first-lookup values (line ∷ lines) = by (eqb values line.values) (first-lookup values lines)
+  where
+    by : (b : Bool) → option_map (λ (l : LinkLine). l.src) (find (λ (l : LinkLine). eqb values l.values) lines) ≡ lookup (nat_eq values) (choices_of lines)
+        → option_map (λ (l : LinkLine). l.src) (cond b (Some line) (find (λ (l : LinkLine). eqb values l.values) lines)) ≡ cond b (Some line.src) (lookup (nat_eq values) (choices_of lines))
+    by true rest = refl
+    by false rest = rest
+
+-- an index of lines with one more before them
+pub index-before : (line : LinkLine) (lines : List LinkLine) (old new : ℕ → Option ℕ)
+    → ((q : ℕ) → new q ≡ cond (is_eq (nat_cmp line.values q)) (Some line.src) (old q)) → ((q : ℕ) → old q ≡ lookup (nat_eq q) (choices_of lines))
+    → (q : ℕ) → new q ≡ lookup (nat_eq q) (choices_of (line ∷ lines))
+index-before line lines old new updates found q =
+    updates q ∙ ap (λ b. cond b (Some line.src) (old q)) (sym (unsigned_ties line.values q) ∙ nat_eq-sym line.values q) ∙ ap (λ o. cond (eqb q line.values) (Some line.src) o) (found q)

@@ -276,7 +276,7 @@ last-holds old lines n head holds under = subst (ChoicesHold old lines n) under 
 pub buffer-judged : (old : Reader) (lines : List (List ℕ)) (n : ℕ) (chip : Chip) (head : KeptHead) (word : List ℕ) (words : List (List ℕ)) (choice : Choice) → At old lines n chip (Buffers head) word words
     → choice.values < 2 ^ head.bits.count → Judged old lines n head choice (chosen_src old.buffers choice.values)
 buffer-judged old lines n chip head word words choice at small =
-    judged old lines n head choice (chosen_src old.buffers choice.values) (last-holds old lines n head at.holds.choices at.under) small refl (sym (at.holds.ready.buffers.found choice.values))
+    judged old lines n head choice (chosen_src old.buffers choice.values) (last-holds old lines n head at.holds.choices at.under) small refl refl
 
 -- the causes agree
 cause_of_apart : (found : Option ℕ) (src : ℕ) → cause_if (is_apart found src) ValuesTwice ≡ choice_cause_of found src
@@ -328,10 +328,9 @@ grows-new old new lines n chip head word words choice at is chosen added none =
     (λ i. drop (added.start i) (pushed i)) ∙ drop-append-le old.buffers.start old.buffers.lines.items (line ∷ []) at.holds.ready.buffers.within in
     let range = at.holds.in_range in
     let found : (values : ℕ) → chosen_src new.buffers values ≡ or_else (chosen_src old.buffers values) (cond (eqb values choice.values) (Some choice.src) None) =
-    λ values. added.indexed.found values ∙ ap (λ ls. lookup (nat_eq values) (choices_of ls)) last
+    λ values. ap (λ ls. lookup (nat_eq values) (choices_of ls)) last
     ∙ ap (lookup (nat_eq values)) (map-append (λ (l : LinkLine). (l.values, l.src)) (last_lines old) (line ∷ []))
-    ∙ lookup-push (nat_eq values) (choices_of (last_lines old)) (choice.values, choice.src)
-    ∙ ap (λ o. or_else o (cond (eqb values choice.values) (Some choice.src) None)) (sym (at.holds.ready.buffers.found values)) in
+    ∙ lookup-push (nat_eq values) (choices_of (last_lines old)) (choice.values, choice.src) in
     let older : (l : LinkLine) → IsLastLine old head l → IsLastLine new head l =
     λ l before. record { bits = before.bits; small = before.small; chosen = found l.values ∙ ap (λ o. or_else o (cond (eqb l.values choice.values) (Some choice.src) None)) before.chosen } in
     let newest : IsLastLine new head line =
@@ -367,10 +366,10 @@ grows-equal old new lines n chip head word words choice src at is chosen added s
     let last : last_lines new ≡ last_lines old = λ i. drop (added.start i) (kept i) in
     let range = at.holds.in_range in
     let found : (values : ℕ) → chosen_src new.buffers values ≡ chosen_src old.buffers values =
-    λ values. added.indexed.found values ∙ ap (λ ls. lookup (nat_eq values) (choices_of ls)) last ∙ sym (at.holds.ready.buffers.found values) in
+    λ values. ap (λ ls. lookup (nat_eq values) (choices_of ls)) last in
     let older : (l : LinkLine) → IsLastLine old head l → IsLastLine new head l =
     λ l before. record { bits = before.bits; small = before.small; chosen = found l.values ∙ before.chosen } in
-    let looked : lookup (nat_eq choice.values) (choices_of (last_lines old)) ≡ Some src = sym (at.holds.ready.buffers.found choice.values) ∙ some in
+    let looked : lookup (nat_eq choice.values) (choices_of (last_lines old)) ≡ Some src = some in
     let again : (test : LinkChoice → Bool) → (list_any test (map (kept_choice head.bits.count) (last_lines old)) || (test lc || false)) ≡ list_any test (map (kept_choice head.bits.count) (last_lines old)) =
     λ test. elim (cases_Bool (test lc)) [
       | inl held ↦

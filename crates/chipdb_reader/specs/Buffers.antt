@@ -1,5 +1,5 @@
 -- Lines of `.buffer` statements, and the index from the values of the last statement's lines to their nets.
-use Rattle.std.specs.Prelude.{◌≡◌, ℕ, ◌≤◌, List, [], ◌∷◌, ◌++◌, length, drop, map, nat_eq, ◌==◌, if◌then◌else◌, Option, Some, None}
+use Rattle.std.specs.Prelude.{◌≡◌, ℕ, true, false, ◌≤◌, List, [], ◌∷◌, ◌++◌, length, drop, map, nat_eq, ◌==◌, if◌then◌else◌, Option, Some, None}
 use Rattle.std.specs.Ordering.{nat_cmp}
 use Rattle.std.specs.BTreeMap.{get}
 use Rattle.std.specs.Map.{lookup}
@@ -8,18 +8,26 @@ use Rattle.chipdb_lines.specs.declared.cause.DbCause.TheVariants.{ValuesTwice}
 use Rattle.chipdb_reader.specs.declared.items.LinkLine.{LinkLine}
 use Rattle.chipdb_reader.specs.declared.buffers.Buffers.{Buffers}
 
--- the net that the index has for values
-abbrev pub chosen_src : Buffers → ℕ → Option ℕ
-chosen_src buffers values = get nat_cmp buffers.chosen values
-
 -- the values of lines with their nets
 abbrev pub choices_of : List LinkLine → List (ℕ × ℕ)
 choices_of lines = map (λ line. (line.values, line.src)) lines
 
--- the index has the nets of the last statement's lines
+-- the net that values choose in the last statement so far
+abbrev pub chosen_src : Buffers → ℕ → Option ℕ
+chosen_src buffers values = lookup (nat_eq values) (choices_of (drop buffers.start buffers.lines.items))
+
+-- the index has the nets of the last statement's lines, or nothing where they aren't in it
 pub record IsChosen (buffers : Buffers) : Type 0 where
-  pub found : (values : ℕ) → chosen_src buffers values ≡ lookup (nat_eq values) (choices_of (drop buffers.start buffers.lines.items))
+  pub found : buffers.is_indexed ≡ true → (values : ℕ) → get nat_cmp buffers.chosen values ≡ chosen_src buffers values
+  pub unused : buffers.is_indexed ≡ false → (values : ℕ) → get nat_cmp buffers.chosen values ≡ None
   pub within : buffers.start ≤ length buffers.lines.items
+
+-- the last statement's lines are put into the index
+pub record Indexes (old new : Buffers) : Type 0 where
+  pub indexed : IsChosen new
+  pub many : new.is_indexed ≡ true
+  pub lines : new.lines ≡ old.lines
+  pub start : new.start ≡ old.start
 
 -- another statement begins
 pub record BeginsBuffers (old new : Buffers) : Type 0 where

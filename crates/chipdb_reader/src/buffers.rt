@@ -1,13 +1,18 @@
 // The lines of `.buffer` statements.
-ghost use Rattle.std.specs.Prelude.{◌≡◌, [], IfOk, IfErr, OnOk};
+ghost use Rattle.std.specs.Prelude.{◌≡◌, [], ℕ, true, false, None, Some, cond, find, nat_eq, option_map, IfOk, IfErr, OnOk};
 ghost use Rattle.chipdb_lines.specs.Kept.{Reports};
 ghost use Rattle.std.specs.Ordering.{nat_cmp};
-ghost use Rattle.std.specs.BTreeMap.{get};
+ghost use Rattle.std.specs.BTreeMap.{get, is_at};
+ghost use Rattle.std.specs.Map.{lookup};
+ghost use Rattle.chipdb_reader.specs.Buffers.{choices_of};
 
 use crate::items::LinkLine;
 use chipdb_lines::{DbCause, Refusal};
 use std::alloc::{AllocError, Global};
 use std::collections::BTreeMap;
+
+/// How many lines of a statement are looked through; where it has more, they are looked up in an index.
+const FEW: usize = 16;
 
 /// Lines of `.buffer` statements, and the choices of the statement that came last.
 #[derive(Drop)]
@@ -15,12 +20,14 @@ pub(crate) struct Buffers {
     pub(crate) lines: Vec<LinkLine>,
     /// Where the lines of the last statement begin.
     start: usize,
-    /// The net that each of their values choose.
+    /// Whether they are in the index.
+    is_indexed: bool,
+    /// The index: the net that each of their values choose. It is empty where they aren't in it.
     chosen: BTreeMap<u64, u32>,
 }
 
 impl Buffers {
-    ghost use Rattle.chipdb_reader.specs.Buffers.{AddsBuffer, BeginsBuffers, buffer_cause, IsChosen};
+    ghost use Rattle.chipdb_reader.specs.Buffers.{AddsBuffer, BeginsBuffers, buffer_cause, chosen_src, Indexes, IsChosen};
 
     /// No lines. It takes no memory yet.
     pub(crate) fn new(alloc: Global) -> Buffers
@@ -30,6 +37,7 @@ impl Buffers {
         Buffers {
             lines: Vec::new(alloc),
             start: 0,
+            is_indexed: false,
             chosen: BTreeMap::new(alloc),
         }
     }
@@ -46,6 +54,7 @@ impl Buffers {
         ensures { BeginsBuffers self.old self.new }
     {
         self.start = self.lines.len();
+        self.is_indexed = false;
         self.chosen.clear();
     }
 
@@ -57,17 +66,59 @@ impl Buffers {
         ensures refused { IfErr result (Reports (buffer_cause self.old line)) }
         ensures fits { OnOk result (buffer_cause self.old line ≡ None) }
     {
-        match self.chosen.get(&line.values).copied() {
+        match self.chosen_src(line.values) {
             None => self.add_new(line),
             Some(src) if src == line.src => Ok(()),
             Some(_) => Err(Refusal::Cause(DbCause::ValuesTwice)),
         }
     }
 
+    /// The net that values choose in the last statement so far.
+    fn chosen_src(&self, values: u64) -> Option<u32>
+        requires { IsChosen self.now }
+        ensures { result ≡ chosen_src self.now values }
+    {
+        if self.is_indexed {
+            self.chosen.get(&values).copied()
+        } else {
+            first_src(&self.lines[self.start..], values)
+        }
+    }
+
     /// Adds a line whose values no other has.
     fn add_new(&mut self, line: LinkLine) -> Result<(), Refusal>
         requires indexed { IsChosen self.old }
-        requires absent { get nat_cmp self.old.chosen line.values ≡ None }
+        requires absent { chosen_src self.old line.values ≡ None }
+        ensures added { IfOk result (λ _. AddsBuffer self.old self.new line) }
+        ensures refused { IfErr result (Reports None) }
+    {
+        if self.is_indexed {
+            self.add_indexed(line)
+        } else if self.lines.len() - self.start < FEW {
+            self.add_few(line)
+        } else {
+            self.index()?;
+            self.add_indexed(line)
+        }
+    }
+
+    /// Adds a line whose values no other has, where the lines aren't in the index.
+    fn add_few(&mut self, line: LinkLine) -> Result<(), Refusal>
+        requires indexed { IsChosen self.old }
+        requires few { self.old.is_indexed ≡ false }
+        requires absent { chosen_src self.old line.values ≡ None }
+        ensures added { IfOk result (λ _. AddsBuffer self.old self.new line) }
+        ensures refused { IfErr result (Reports None) }
+    {
+        self.lines.push(line).map_err(AllocError::from)?;
+        Ok(())
+    }
+
+    /// Adds a line whose values no other has, where the lines are in the index.
+    fn add_indexed(&mut self, line: LinkLine) -> Result<(), Refusal>
+        requires indexed { IsChosen self.old }
+        requires many { self.old.is_indexed ≡ true }
+        requires absent { chosen_src self.old line.values ≡ None }
         ensures added { IfOk result (λ _. AddsBuffer self.old self.new line) }
         ensures refused { IfErr result (Reports None) }
     {
@@ -76,5 +127,50 @@ impl Buffers {
             .map_err(AllocError::from)?;
         self.lines.push(line).map_err(AllocError::from)?;
         Ok(())
+    }
+
+    /// Puts the lines of the last statement into the index.
+    fn index(&mut self) -> Result<(), AllocError>
+        requires indexed { IsChosen self.old }
+        requires few { self.old.is_indexed ≡ false }
+        ensures { IfOk result (λ _. Indexes self.old self.new) }
+    {
+        index_lines(&mut self.chosen, &self.lines[self.start..])?;
+        self.is_indexed = true;
+        Ok(())
+    }
+}
+
+/// The net of the first line with these values.
+fn first_src(lines: &[LinkLine], values: u64) -> Option<u32>
+    ensures { result ≡ option_map (λ line. line.src) (find (λ line. nat_eq values line.values) lines.now) }
+{
+    match lines.iter().find(|line| values == line.values) {
+        None => None,
+        Some(line) => Some(line.src),
+    }
+}
+
+/// Puts lines into an index that has none. There are few of them.
+fn index_lines(chosen: &mut BTreeMap<u64, u32>, lines: &[LinkLine]) -> Result<(), AllocError>
+    requires { (q : ℕ) → get nat_cmp chosen.old q ≡ None }
+    ensures { OnOk result ((q : ℕ) → get nat_cmp chosen.new q ≡ lookup (nat_eq q) (choices_of lines.now)) }
+{
+    match lines {
+        [] => Ok(()),
+        [line, rest @ ..] => {
+            index_lines(chosen, rest)?;
+            put(chosen, line.values, line.src)
+        }
+    }
+}
+
+/// Gives values their net, whether or not they have one.
+fn put(chosen: &mut BTreeMap<u64, u32>, values: u64, src: u32) -> Result<(), AllocError>
+    ensures { OnOk result ((q : ℕ) → get nat_cmp chosen.new q ≡ cond (is_at (nat_cmp values) q) (Some src) (get nat_cmp chosen.old q)) }
+{
+    match chosen.insert(values, src) {
+        Ok(_) => Ok(()),
+        Err(e) => Err(AllocError::from(e)),
     }
 }

@@ -1,6 +1,8 @@
 // The nets of a database and their names.
-ghost use Rattle.std.specs.Prelude.{◌≡◌, ℕ, [], false, is_some, if◌then◌else◌, IfOk, IfErr, OnOk};
+ghost use Rattle.std.specs.Prelude.{◌≡◌, ℕ, [], false, None, Some, is_some, if◌then◌else◌, IfOk, IfErr, OnOk};
+ghost use Rattle.std.specs.BTreeMap.{get, Updates};
 ghost use Rattle.chipdb_lines.specs.Kept.{Reports};
+ghost use Rattle.chipdb_reader.specs.Nets.{name_cmp};
 
 use crate::items::NetName;
 use chipdb_lines::{DbCause, Refusal};
@@ -87,10 +89,10 @@ impl Nets {
         ensures added { IfOk result (λ _. AddsName self.old self.new net name) }
         ensures refused { IfErr result (Reports (if is_some (named_net self.old name) then Some DbCause.NameTwice else None)) }
     {
-        if self.index.contains_key(&name) {
+        let earlier = put(&mut self.index, &name, net)?;
+        if earlier.is_some() {
             return Err(Refusal::Cause(DbCause::NameTwice));
         }
-        self.index.insert(name, net).map_err(AllocError::from)?;
         self.names.push(name).map_err(AllocError::from)?;
         Ok(())
     }
@@ -110,5 +112,16 @@ impl Nets {
             None => &[],
             Some(names) => names,
         }
+    }
+}
+
+/// Gives a name its net, and tells which net it had before.
+fn put(index: &mut BTreeMap<NetName, u32>, name: &NetName, net: u32) -> Result<Option<u32>, AllocError>
+    ensures updates { OnOk result (Updates name_cmp index.old index.new name.now (Some net)) }
+    ensures earlier { IfOk result (λ earlier. earlier ≡ get name_cmp index.old name.now) }
+{
+    match index.insert(*name, net) {
+        Ok(earlier) => Ok(earlier),
+        Err(e) => Err(AllocError::from(e)),
     }
 }

@@ -1,9 +1,8 @@
 -- Bytes that are taken in parts.
-use Rattle.std.proofs.Common.{arith, ◌≡◌, ◌∙◌, ℕ, ◌+◌, ◌-◌, ◌<◌, ◌≤◌, min, List, [], Option, ◌++◌, length, take, drop, subst, sym, ap, length-append, take-append-drop, length-take-le, length-drop, append_assoc}
+use Rattle.std.proofs.Common.{arith, ◌≡◌, ◌∙◌, ℕ, ◌+◌, ◌-◌, ◌<◌, ◌≤◌, min, List, [], Option, ◌++◌, length, take, drop, subst, sym, ap, take-append-drop, length-take-le, length-drop, append_assoc}
 use Rattle.std.proofs.lemmas.List.{drop-take, take-take, drop-drop, take_at, take_rest, drop_all}
 use Rattle.std.specs.Io.KnownBytes.{Appends, Consumes}
 use Rattle.std.proofs.KnownBytes.{Appends-trans, Consumes-trans}
-use Rattle.ice_io.specs.Taken.{TakesCount, TakesAtMost}
 
 -- a part and the next one
 pub take_parts : (bytes : List ℕ) (i n : ℕ) → take i bytes ++ take n (drop i bytes) ≡ take (i + n) bytes
@@ -20,15 +19,10 @@ Appends_parts a b c bytes i n p q =
     let next : Appends b c (take n (drop i bytes)) = subst (λ rest. Appends b c (take n rest)) (take_rest bytes i) q in
     subst (Appends a c) (take_parts bytes i n) (Appends-trans a b c _ _ p next)
 
--- bytes that were taken, and then more, as a count
-pub TakesCount_more : (a b c : Option (List ℕ)) (xs ys : List ℕ) (n : ℕ) → Consumes a b xs → Consumes b c ys
-    → length xs + length ys ≡ n → TakesCount a c n
-TakesCount_more a b c xs ys n p q e = (xs ++ ys, Consumes-trans a b c xs ys p q, length-append xs ys ∙ e)
-
--- bytes that were taken, and then more, within a bound
-pub TakesAtMost_more : (a b c : Option (List ℕ)) (xs ys : List ℕ) (n : ℕ) → Consumes a b xs → Consumes b c ys
-    → length xs + length ys ≤ n → TakesAtMost a c n
-TakesAtMost_more a b c xs ys n p q e = (xs ++ ys, Consumes-trans a b c xs ys p q, omega (arith, length-append xs ys))
+-- the first i bytes were taken, and then the next n
+pub Consumes_parts : (a b c : Option (List ℕ)) (old new : List ℕ) (i n : ℕ) → take i new ≡ take i old → Consumes a b (take i old) → Consumes b c (take n (drop i new)) → Consumes a c (take (i + n) new)
+Consumes_parts a b c old new i n kept p q =
+    subst (Consumes a c) (ap (λ front. front ++ take n (drop i new)) (sym kept) ∙ take_parts new i n) (Consumes-trans a b c (take i old) (take n (drop i new)) p q)
 
 -- what is left falls into the k bytes that were copied from its front, and the rest
 pub front_given : (left bytes into old : List ℕ) (at k : ℕ) → left ≡ drop at bytes → k ≤ length left

@@ -8,8 +8,9 @@ ghost use Rattle.ice_io.specs.Put.{written_before};
 use crate::files::{Files, StoreFault};
 use crate::real::{StdSink, StdSource};
 use crate::sink::{PutFault, write_whole};
-use crate::source::{TakeFault, read_all};
+use crate::source::{TakeFault, read_expected};
 use std::alloc::Global;
+use std::fs::OpenFile;
 use std::marker::Model;
 use std::{fs, rt};
 
@@ -106,7 +107,16 @@ fn load_from<R: rt::Files>(
     let Ok(file) = fs::open(rt, name) else {
         return Err(TakeFault::Failed);
     };
-    read_all(alloc, &mut StdSource::new(file), limit)
+    let expected = length_of(&file);
+    read_expected(alloc, &mut StdSource::new(file), limit, expected)
+}
+
+// How many bytes the system says that a file has. It may say too many or too few.
+fn length_of<F: OpenFile>(file: &F) -> usize {
+    match file.metadata() {
+        Ok(metadata) => metadata.len() as usize,
+        Err(_) => 0,
+    }
 }
 
 // Creates a file, or empties it, and writes the bytes.

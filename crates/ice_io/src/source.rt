@@ -1,6 +1,6 @@
 // Reading bytes.
-ghost use Rattle.std.specs.Prelude.{◌≡◌, ◌≢◌, ◌+◌, ◌<◌, ◌≤◌, ◌^◌, ℕ, List, Option, length, vec_len, take, IfOk, OnErr, IsErrOf};
-ghost use Rattle.std.specs.Io.KnownBytes.{ReadConsumes};
+ghost use Rattle.std.specs.Prelude.{◌≡◌, ◌≢◌, ◌+◌, ◌<◌, ◌≤◌, ◌^◌, ℕ, List, Option, length, vec_len, take, drop, IfOk, OnOk, OnErr, IsErrOf};
+ghost use Rattle.std.specs.Io.KnownBytes.{Consumes, IsAtEnd, Keeps, ReadConsumes};
 ghost use Rattle.ice_io.specs.Faults.{Rose};
 ghost use Rattle.ice_io.specs.Taken.{TakesCount, TakesAtMost, TakesAll};
 
@@ -58,7 +58,7 @@ impl From<Failed> for TakeFault {
     }
 }
 
-/// How many bytes `read_all` asks for at a time, at most.
+/// For how many bytes room is made at a time, at most.
 const TURN: usize = 65536;
 
 /// Reads all bytes up to the end, if there are at most `limit`. `TooLong` leaves `limit + 1` bytes read.
@@ -77,18 +77,83 @@ pub fn read_all<S: Source>(
     ensures never_falls { S.faults source.old ≤ S.faults source.new }
     ensures failed { IsErrOf result TakeFault.Failed → Rose (S.faults source.old) (S.faults source.new) }
 {
-    let mut buffer = vec![in alloc; 0u8; TURN.min(limit + 1)]?;
-    let mut bytes = Vec::new(alloc);
+    read_expected(alloc, source, limit, TURN - 1)
+}
+
+/// Reads all bytes up to the end, as `read_all` does. So many are expected, and memory for them is taken at once; there may be
+/// more or fewer.
+pub(crate) fn read_expected<S: Source>(
+    alloc: Global,
+    source: &mut S,
+    limit: usize,
+    expected: usize,
+) -> Result<Vec<u8>, TakeFault>
+    requires { limit < 2 ^ 32 }
+    ensures whole { IfOk result (λ bytes. TakesAll (S.left source.old) (S.left source.new) bytes.items) }
+    ensures within { IfOk result (λ bytes. vec_len bytes ≤ limit) }
+    ensures too_long { IsErrOf result TakeFault.TooLong
+        → TakesCount (S.left source.old) (S.left source.new) (limit + 1) }
+    ensures not_too_long { (IsErrOf result TakeFault.TooLong → ⊥)
+        → TakesAtMost (S.left source.old) (S.left source.new) limit }
+    ensures never_falls { S.faults source.old ≤ S.faults source.new }
+    ensures failed { IsErrOf result TakeFault.Failed → Rose (S.faults source.old) (S.faults source.new) }
+{
+    let mut bytes = Vec::with_capacity(alloc, expected.min(limit) + 1)?;
+    let mut filled = 0;
     loop {
-        let room = buffer.len().min(limit + 1 - bytes.len());
-        let turn = &mut buffer[..room];
-        let count = source.read(turn)?;
+        make_room(&mut bytes, filled, limit)?;
+        let count = read_behind(source, &mut bytes, filled)?;
         if count == 0 {
+            bytes.truncate(filled);
             return Ok(bytes);
         }
-        if bytes.len() + count > limit {
+        filled += count;
+        if filled > limit {
             return Err(TakeFault::TooLong);
         }
-        bytes.extend_from_slice(&turn[..count])?;
     }
+}
+
+// Makes room behind the first bytes, where there is none.
+fn make_room(bytes: &mut Vec<u8>, filled: usize, limit: usize) -> Result<(), AllocError>
+    requires small { limit < 2 ^ 32 }
+    requires below { filled ≤ limit }
+    requires filled { filled ≤ vec_len bytes.old }
+    requires most { vec_len bytes.old ≤ limit + 1 }
+    ensures room { OnOk result (filled < vec_len bytes.new) }
+    ensures most { vec_len bytes.new ≤ limit + 1 }
+    ensures kept { take filled bytes.new.items ≡ take filled bytes.old.items }
+{
+    if filled < bytes.len() {
+        return Ok(());
+    }
+    let room = turn(bytes.capacity() - filled).min(limit + 1 - filled);
+    bytes.resize(filled + room, 0)
+}
+
+// For how many bytes room is made, where there is memory for so many more.
+fn turn(spare: usize) -> usize
+    ensures some { 0 < result }
+    ensures most { result ≤ 65536 }
+{
+    if spare == 0 { TURN } else { spare.min(TURN) }
+}
+
+// One read into the room behind the first bytes.
+fn read_behind<S: Source>(
+    source: &mut S,
+    bytes: &mut Vec<u8>,
+    filled: usize,
+) -> Result<usize, Failed>
+    requires { filled < vec_len bytes.old }
+    ensures length { vec_len bytes.new ≡ vec_len bytes.old }
+    ensures count { IfOk result (λ n. filled + n ≤ vec_len bytes.new) }
+    ensures kept { take filled bytes.new.items ≡ take filled bytes.old.items }
+    ensures taken { IfOk result (λ n. Consumes (S.left source.old) (S.left source.new) (take n (drop filled bytes.new.items))) }
+    ensures end { IfOk result (λ n. n ≡ 0 → IsAtEnd (S.left source.new)) }
+    ensures none { OnErr result (Keeps (S.left source.old) (S.left source.new)) }
+    ensures never_falls { S.faults source.old ≤ S.faults source.new }
+    ensures failed { OnErr result (Rose (S.faults source.old) (S.faults source.new)) }
+{
+    source.read(&mut bytes[filled..])
 }

@@ -54,7 +54,7 @@ pub fn join(alloc: Global, images: &Vec<Vec<u8>>, options: Options) -> Result<Ve
     check(images.len(), options)?;
     let found = places(alloc, images, options)?;
     let places = found.as_slice();
-    let mut file = headers(alloc, places, options)?;
+    let mut file = headers(alloc, places, options, size(places, images))?;
     for (index, image) in images.iter().enumerate() {
         file.resize(places[index] as usize, 0xFF)?;
         file.extend_from_slice(image)?;
@@ -62,14 +62,27 @@ pub fn join(alloc: Global, images: &Vec<Vec<u8>>, options: Options) -> Result<Ve
     Ok(file)
 }
 
-/// The headers, from the places of the images.
-fn headers(alloc: Global, places: &[u32], options: Options) -> Result<Vec<u8>, AllocError>
+/// Where the last image ends, of images with those places.
+fn size(places: &[u32], images: &Vec<Vec<u8>>) -> usize {
+    match (places.last(), images.last()) {
+        (Some(place), Some(image)) => image.len().saturating_add(*place as usize),
+        _ => 0,
+    }
+}
+
+/// The headers, from the places of the images, with room for as many bytes in all.
+fn headers(
+    alloc: Global,
+    places: &[u32],
+    options: Options,
+    room: usize,
+) -> Result<Vec<u8>, AllocError>
     requires power_on { options.power_on < length places.now }
     requires small { (index : ℕ) → get_or places.now index 0 < 2 ^ 24 }
     ensures { IfOk result (λ file. HasBytes
         (header_byte (length places.now) (λ index. get_or places.now index 0) options) 160 file.items) }
 {
-    let mut file = Vec::new(alloc);
+    let mut file = Vec::with_capacity(alloc, room)?;
     for index in 0..HEADER_COUNT {
         let address = places[image_booted(places.len(), options, index)];
         let header = header(is_cold(options, index), address);

@@ -4,7 +4,7 @@ use Rattle.multi_boot.proofs.Bytes.{HasBytes-none, HasBytes-header}
 use Rattle.multi_boot.proofs.joining.headers.Goals as goal
 
 pub loop-index-init : goal.loop-index-init
-loop-index-init c = HasBytes-none _ c.new-file.result.items c.new-file.ensures.items
+loop-index-init c = HasBytes-none _ c.in_ok-file.file.items c.in_ok-file.ensures.items
 
 pub loop-index-preserved : goal.loop-index-preserved
 loop-index-preserved c =

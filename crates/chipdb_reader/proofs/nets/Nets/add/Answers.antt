@@ -1,15 +1,15 @@
-use Rattle.std.proofs.Common.{◌≡◌, ◌++◌, ◌∷◌, [], false, refl, sym, ◌∙◌}
+use Rattle.std.proofs.Common.{◌≡◌, ◌++◌, ◌∷◌, [], false, refl, sym, ap, ◌∙◌}
 use Rattle.std.specs.Prelude.{is_some}
 use Rattle.chipdb_reader.specs.Nets.{named_net}
 use Rattle.chipdb_reader.proofs.NetChanges.{adds-name}
-use Rattle.chipdb_reader.proofs.Outcomes.{none-of, ok-fact, ok-test}
+use Rattle.chipdb_reader.proofs.Outcomes.{none-of, ok-test}
 use Rattle.chipdb_reader.proofs.nets.Nets.add.Goals as goal
 
 pub returns-clause-added : goal.returns-clause-added
 returns-clause-added c =
-    let pushed = ok-test c.push.result c.map_err-2.result c.in_ok-map_err-2.field-0 c.map_err-2.ensures.variant c.in_ok-map_err-2.was in
+    let pushed = ok-test c.push.result c.map_err.result c.in_ok-map_err.field-0 c.map_err.ensures.variant c.in_ok-map_err.was in
     let items : c.push.new.self.items ≡ c.args.self.now.names.items ++ c.args.name ∷ [] = rw pushed at c.push.ensures.items in
-    let unnamed : is_some (named_net c.args.self.now c.args.name) ≡ false = sym c.contains_key.ensures ∙ c.if-contains_key.false in
-    adds-name c.args.self.now (record { earlier = c.args.self.now.earlier; last = c.args.self.now.last; names = c.push.new.self; index = c.insert.new.self; alloc = c.args.self.now.alloc })
+    let unnamed : is_some (named_net c.args.self.now c.args.name) ≡ false = ap is_some (sym c.in_ok-earlier.ensures.earlier) ∙ sym c.is_some.ensures ∙ c.if-is_some.false in
+    adds-name c.args.self.now (record { earlier = c.args.self.now.earlier; last = c.args.self.now.last; names = c.push.new.self; index = c.put.new.index; alloc = c.args.self.now.alloc })
     c.args.net c.args.name c.requires.indexed c.requires.last (none-of (named_net c.args.self.now c.args.name) unnamed)
-    (ok-fact c.insert.result c.map_err.result c.in_ok-map_err.field-0 _ c.map_err.ensures.variant c.in_ok-map_err.was c.insert.ensures.updates) items refl refl
+    c.in_ok-earlier.ensures.updates items refl refl

@@ -116,7 +116,11 @@ impl Nets {
 }
 
 /// Gives a name its net, and tells which net it had before.
-fn put(index: &mut BTreeMap<NetName, u32>, name: &NetName, net: u32) -> Result<Option<u32>, AllocError>
+fn put(
+    index: &mut BTreeMap<NetName, u32>,
+    name: &NetName,
+    net: u32,
+) -> Result<Option<u32>, AllocError>
     ensures updates { OnOk result (Updates name_cmp index.old index.new name.now (Some net)) }
     ensures earlier { IfOk result (λ earlier. earlier ≡ get name_cmp index.old name.now) }
 {

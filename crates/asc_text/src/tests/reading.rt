@@ -11,7 +11,7 @@ use std::test::Fail;
 /// A faulty text, its first faulty line, the tile or RAM to which that belongs, and what is wrong.
 type Faulty = (&'static str, u64, Option<TileXy>, AscCause);
 
-static FAULTY: [Faulty; 25] = [
+static FAULTY: [Faulty; 29] = [
     ("", 1, None, AscCause::NoDevice),
     (".comment\n.sym 1 a\n", 3, None, AscCause::NoDevice),
     (
@@ -52,6 +52,30 @@ static FAULTY: [Faulty; 25] = [
     ),
     (
         ".device 1k\n.io_tile 1 0\n0101\n",
+        3,
+        Some(TileXy { x: 1, y: 0 }),
+        AscCause::Row,
+    ),
+    (
+        ".device 1k\n.io_tile 1 0\n00000000000000000\n",
+        3,
+        Some(TileXy { x: 1, y: 0 }),
+        AscCause::Row,
+    ),
+    (
+        ".device 1k\n.io_tile 1 0\n0000000000000000000\n",
+        3,
+        Some(TileXy { x: 1, y: 0 }),
+        AscCause::Row,
+    ),
+    (
+        ".device 1k\n.io_tile 1 0\n000000000000000002\n",
+        3,
+        Some(TileXy { x: 1, y: 0 }),
+        AscCause::Row,
+    ),
+    (
+        ".device 1k\n.io_tile 1 0\n\u{b0}0000000000000000\n",
         3,
         Some(TileXy { x: 1, y: 0 }),
         AscCause::Row,
@@ -144,7 +168,7 @@ type FaultyBlock = (
     AscCause,
 );
 
-static FAULTY_BLOCKS: [FaultyBlock; 5] = [
+static FAULTY_BLOCKS: [FaultyBlock; 6] = [
     (
         ".io_tile 3 0\n",
         ROW,
@@ -168,6 +192,15 @@ static FAULTY_BLOCKS: [FaultyBlock; 5] = [
         ROW,
         16,
         ROW,
+        19,
+        None,
+        AscCause::StrayData,
+    ),
+    (
+        ".io_tile 3 0\n",
+        ROW,
+        15,
+        "000000000000000000\r\nx\n",
         19,
         None,
         AscCause::StrayData,
@@ -230,6 +263,20 @@ fn counts_sixteen_lines_of_a_block(rt: HostRuntime) {
             block.0
         );
     }
+}
+
+#[test]
+fn takes_a_last_row_without_lf(rt: HostRuntime) {
+    let block: FaultyBlock = (
+        ".io_tile 3 0\n",
+        ROW,
+        15,
+        "000000000000000000",
+        18,
+        None,
+        AscCause::Row,
+    );
+    assert!(rt; fault_of_block(rt.alloc(), &block) == Ok(None));
 }
 
 /// A text as a placer may write it: lines with CR LF, blanks at ends, capital digits, statements in any order.

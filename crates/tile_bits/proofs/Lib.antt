@@ -4,3 +4,4 @@ pub mod TileKinds
 pub mod Ons
 pub mod Lists
 pub mod Texts
+pub mod Firsts

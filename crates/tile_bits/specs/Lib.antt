@@ -4,3 +4,4 @@ pub mod Items
 pub mod Inside
 pub mod Explained
 pub mod Known
+pub mod Keys

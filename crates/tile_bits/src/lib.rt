@@ -9,6 +9,7 @@ mod extras;
 mod fault;
 mod functions;
 mod item;
+mod keys;
 mod known;
 mod lines;
 mod links;
@@ -21,3 +22,6 @@ pub use explaining::explain;
 pub use fault::ExplainFault;
 pub use item::Active;
 pub use tile::active;
+
+#[cfg(test)]
+mod tests;

@@ -1,0 +1,12 @@
+use Rattle.std.proofs.Common.{◌≡◌, arith, ap}
+use Rattle.std.proofs.Common.{drop, subst}
+use Rattle.std.specs.Prelude.{find}
+use Rattle.tile_bits.proofs.Firsts.{extras-more, extras-none}
+use Rattle.tile_bits.proofs.extras.first_extras.Goals as goal
+
+pub loop-place-init : goal.loop-place-init
+loop-place-init c = extras-none c.args.extras.now _ c.new.result (omega arith) c.new.ensures.empty
+
+pub loop-place-preserved : goal.loop-place-preserved
+loop-place-preserved c =
+    extras-more c.args.extras.now c.loop-place.place _ c.loop-place.firsts c.put_first.new.firsts (omega arith) (omega arith) c.loop-place.invariant c.in_ok-put_first.ensures

@@ -12,7 +12,7 @@ use Rattle.std.specs.BTreeMap.{BTreeMap, get, is_at}
 use Rattle.std.specs.Map.{lookup}
 use Rattle.chipdb_reader.specs.declared.items.Extra.{Extra}
 use Rattle.tile_bits.specs.declared.keys.PlaceKey.{PlaceKey}
-use Rattle.tile_bits.specs.Keys.{place_cmp, place_key}
+use Rattle.tile_bits.specs.Keys.{FindsExtras, place_cmp, place_key}
 
 is_eq-then : (a b : Ordering) → is_eq (ordering_then a b) ≡ (is_eq a && is_eq b)
 is_eq-then Less b = refl
@@ -50,3 +50,9 @@ extras-more extras n d old new some within so_far put at =
     let first = get_or extras (n - 1) d in
     finds-more (λ extra. is_same_place extra.at at) extras n d (get place_cmp old (place_key at)) (get place_cmp new (place_key at)) some within (so_far at)
     (put (place_key at) ∙ ap (λ here. cond here (Some first) (get place_cmp old (place_key at))) (place-ties first.at at))
+
+pub extras-all : (extras : List Extra) (n : ℕ) (firsts : BTreeMap PlaceKey Extra) → n ≤ 0
+    → ((at : Place) → get place_cmp firsts (place_key at) ≡ find (λ extra. is_same_place extra.at at) (drop n extras)) → FindsExtras firsts extras
+extras-all extras n firsts none so_far at =
+    let first : n ≡ 0 = omega arith in
+    so_far at ∙ ap (λ n. find (λ extra. is_same_place extra.at at) (drop n extras)) first

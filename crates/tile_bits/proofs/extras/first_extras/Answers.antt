@@ -1,7 +1,5 @@
-use Rattle.std.proofs.Common.{◌≡◌, arith, ap}
-use Rattle.std.proofs.Common.{drop, subst}
-use Rattle.std.specs.Prelude.{find}
-use Rattle.tile_bits.proofs.Firsts.{extras-more, extras-none}
+use Rattle.std.proofs.Common.{arith}
+use Rattle.tile_bits.proofs.Firsts.{extras-all, extras-more, extras-none}
 use Rattle.tile_bits.proofs.extras.first_extras.Goals as goal
 
 pub loop-place-init : goal.loop-place-init
@@ -10,3 +8,6 @@ loop-place-init c = extras-none c.args.extras.now _ c.new.result (omega arith) c
 pub loop-place-preserved : goal.loop-place-preserved
 loop-place-preserved c =
     extras-more c.args.extras.now c.loop-place.place _ c.loop-place.firsts c.put_first.new.firsts (omega arith) (omega arith) c.loop-place.invariant c.in_ok-put_first.ensures
+
+pub returns : goal.returns
+returns c = extras-all c.args.extras.now c.loop-place.place c.loop-place.firsts (omega arith) c.loop-place.invariant

@@ -1,5 +1,5 @@
 -- The first item of each key: items that are put into an index from the last to the first.
-use Rattle.std.proofs.Common.{◌≡◌, ℕ, ◌+◌, ◌-◌, ◌<◌, ◌≤◌, Bool, ◌&&◌, cond, List, [], ◌∷◌, length, get_or, drop, refl, sym, ap, ◌∙◌, subst, arith}
+use Rattle.std.proofs.Common.{◌≡◌, ℕ, ◌+◌, ◌-◌, ◌<◌, ◌≤◌, Bool, ◌&&◌, ◌==◌, true, false, cond, List, [], ◌∷◌, length, get_or, drop, refl, sym, ap, ◌∙◌, subst, arith}
 use Rattle.std.specs.Prelude.{find, Option, Some, None}
 use Rattle.std.specs.declared.cmp.Ordering.{Ordering}
 use Rattle.std.specs.declared.cmp.Ordering.TheVariants.{Less, Equal, Greater}
@@ -19,12 +19,17 @@ is_eq-then Less b = refl
 is_eq-then Equal b = refl
 is_eq-then Greater b = refl
 
+and-left : (a b c : Bool) → (a && (b && c)) ≡ ((a && b) && c)
+and-left true b c = refl
+and-left false b c = refl
+
 -- places are the same key where all their parts are
 pub place-ties : (a b : Place) → is_eq (place_cmp (place_key a) (place_key b)) ≡ is_same_place a b
 place-ties a b =
     is_eq-then (nat_cmp a.bank b.bank) (ordering_then (nat_cmp a.px b.px) (nat_cmp a.py b.py))
     ∙ ap (λ t. is_eq (nat_cmp a.bank b.bank) && t) (is_eq-then (nat_cmp a.px b.px) (nat_cmp a.py b.py))
     ∙ (λ i. sym (unsigned_ties a.bank b.bank) i && (sym (unsigned_ties a.px b.px) i && sym (unsigned_ties a.py b.py) i))
+    ∙ and-left (a.bank == b.bank) (a.px == b.px) (a.py == b.py)
 
 -- no item so far
 finds-none : {A : Type 0} (test : A → Bool) (items : List A) (n : ℕ) (found : Option A) → length items ≤ n → found ≡ None → found ≡ find test (drop n items)
@@ -42,14 +47,14 @@ pub extras-none : (extras : List Extra) (n : ℕ) (firsts : BTreeMap PlaceKey Ex
 extras-none extras n firsts past empty at =
     finds-none (λ extra. is_same_place extra.at at) extras n (get place_cmp firsts (place_key at)) past (ap (λ entries. lookup (is_at (place_cmp (place_key at))) entries) empty)
 
-pub extras-more : (extras : List Extra) (n : ℕ) (d : Extra) (old new : BTreeMap PlaceKey Extra) → 0 < n → n ≤ length extras
+pub extras-more : (extras : List Extra) (n : ℕ) (first : Extra) (old new : BTreeMap PlaceKey Extra) → 0 < n → n ≤ length extras → first ≡ get_or extras (n - 1) first
     → ((at : Place) → get place_cmp old (place_key at) ≡ find (λ extra. is_same_place extra.at at) (drop n extras))
-    → ((key : PlaceKey) → get place_cmp new key ≡ cond (is_at (place_cmp (place_key (get_or extras (n - 1) d).at)) key) (Some (get_or extras (n - 1) d)) (get place_cmp old key))
+    → ((key : PlaceKey) → get place_cmp new key ≡ cond (is_at (place_cmp (place_key first.at)) key) (Some first) (get place_cmp old key))
     → (at : Place) → get place_cmp new (place_key at) ≡ find (λ extra. is_same_place extra.at at) (drop (n - 1) extras)
-extras-more extras n d old new some within so_far put at =
-    let first = get_or extras (n - 1) d in
-    finds-more (λ extra. is_same_place extra.at at) extras n d (get place_cmp old (place_key at)) (get place_cmp new (place_key at)) some within (so_far at)
-    (put (place_key at) ∙ ap (λ here. cond here (Some first) (get place_cmp old (place_key at))) (place-ties first.at at))
+extras-more extras n first old new some within here so_far put at =
+    finds-more (λ extra. is_same_place extra.at at) extras n first (get place_cmp old (place_key at)) (get place_cmp new (place_key at)) some within (so_far at)
+    (put (place_key at) ∙ ap (λ here. cond here (Some first) (get place_cmp old (place_key at))) (place-ties first.at at)
+    ∙ ap (λ (extra : Extra). cond (is_same_place extra.at at) (Some extra) (get place_cmp old (place_key at))) here)
 
 pub extras-all : (extras : List Extra) (n : ℕ) (firsts : BTreeMap PlaceKey Extra) → n ≤ 0
     → ((at : Place) → get place_cmp firsts (place_key at) ≡ find (λ extra. is_same_place extra.at at) (drop n extras)) → FindsExtras firsts extras

@@ -95,10 +95,7 @@ fn append_place(text: &mut Vec<u8>, at: Place) -> Result<(), AllocError>
 }
 
 /// The first extra bit of each place.
-fn first_extras(
-    alloc: Global,
-    extras: &[Extra],
-) -> Result<BTreeMap<PlaceKey, Extra>, AllocError>
+fn first_extras(alloc: Global, extras: &[Extra]) -> Result<BTreeMap<PlaceKey, Extra>, AllocError>
     ensures { IfOk result (λ firsts. FindsExtras firsts extras.now) }
 {
     let mut firsts = BTreeMap::new(alloc);

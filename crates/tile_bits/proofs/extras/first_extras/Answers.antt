@@ -7,7 +7,7 @@ loop-place-init c = extras-none c.args.extras.now _ c.new-firsts.result (omega a
 
 pub loop-place-preserved : goal.loop-place-preserved
 loop-place-preserved c =
-    extras-more c.args.extras.now c.loop-place.place c.index-extras-place.result c.loop-place.firsts c.put_first.new.firsts (omega arith) (omega arith) c.index-extras-place.ensures c.loop-place.invariant c.in_ok-put_first.ensures
+    extras-more c.args.extras.now c.loop-place.place c.index-extras-place.result c.loop-place.firsts c.put_first.new.firsts (omega arith) (omega arith) c.index-extras-place.is c.loop-place.invariant c.in_ok-put_first.ensures
 
 pub returns : goal.returns
 returns c = extras-all c.args.extras.now c.loop-place.place c.loop-place.firsts (omega arith) c.loop-place.invariant

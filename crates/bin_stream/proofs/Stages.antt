@@ -50,6 +50,12 @@ reading-first layouts bytes place comment held is comment_is held_is =
       offset_is = omega (arith, long);
     }
 
+-- the same of bytes that are all at hand
+pub reading-whole : (layouts : Layouts) (bytes : List ℕ) (place : ℕ) (comment : Option (List (List ℕ))) (held : Held) → Some place ≡ preamble_offset bytes → comment ≡ comment_of (take place bytes) → held ≡ held_first → IsReading layouts bytes comment held None (0 + (place + 4)) (drop (place + 4) bytes)
+reading-whole layouts bytes place comment held is comment_is held_is =
+    let e : place + 4 ≡ 0 + (place + 4) = omega arith in
+    subst (λ (offset : ℕ). IsReading layouts bytes comment held None offset (drop (place + 4) bytes)) e (reading-first layouts bytes place comment held (sym is) comment_is held_is)
+
 module _ (layouts : Layouts) (bytes : List ℕ) (comment : Option (List (List ℕ))) (held : Held) (image : Option AnyImage) (offset : ℕ) (rest : List ℕ) (reading : IsReading layouts bytes comment held image offset rest) where
   abbrev commands : List Command
   commands = reading.commands
@@ -299,10 +305,6 @@ settles-tells read (Memory e) settles = tt
 pub refuses-cut : (commands : List Command) (place : ℕ) (bytes : List ℕ) (fault : BinFault) → Refuses (first_fault commands place bytes) fault → is_cut fault ≡ true → first_fault commands place bytes ≡ Some (fault_at (place + length bytes) Truncated)
 refuses-cut commands place bytes (At there cause) wrong cut = first_fault-ends commands place bytes (fault_at there cause) wrong cut
 refuses-cut commands place bytes (Memory e) wrong cut = absurd cc
-
--- the image at the wake-up has no fault
-pub woken-there : (layouts : Layouts) (bytes : List ℕ) (comment : Option (List (List ℕ))) (held : Held) (image : Option AnyImage) (fault : BinFault) → IsWoken layouts bytes comment held image → image ≡ None → Settles (bin_read_of layouts bytes) fault
-woken-there layouts bytes comment held image fault woken none = absurd (woken.is_there none)
 
 -- what is pending stands at the end
 pub cut-pending : (layouts : Layouts) (all : List ℕ) (comment : Option (List (List ℕ))) (held : Held) (image : Option AnyImage) (offset : ℕ) (rest pending : List ℕ) → IsCut layouts all comment held image offset rest → pending ≡ rest → IsCut layouts all comment held image (length all - length pending) pending

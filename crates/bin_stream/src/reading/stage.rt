@@ -214,8 +214,7 @@ fn commands_after(
         is_last,
     } = taken;
     if is_last {
-        let mut image = image_at_end(machine, offset)?;
-        image.set_comment(comment);
+        let image = image_at_end(machine, comment, offset)?;
         Ok(Stage::Image(image))
     } else {
         let Machine {

@@ -287,6 +287,16 @@ stage_settled layouts bytes (Refused other) fault is refused =
     let same : other ≡ fault = cc in
     subst (Settles (bin_read_of layouts bytes)) same is
 
+-- a fault that was told
+pub settles-tells : (read : Result Configuration Fault) (fault : BinFault) → Settles read fault → Tells read fault
+settles-tells read (At place cause) settles = settles.0
+settles-tells read (Memory e) settles = tt
+
+-- whatever follows
+pub stage_stays : (layouts : Layouts) → AreLayouts layouts → (bytes more : List ℕ) (stage : Stage) (fault : BinFault) → IsStage layouts bytes stage → fault_in stage ≡ Some fault → Tells (bin_read_of layouts (bytes ++ more)) fault
+stage_stays layouts are bytes more stage fault is refused =
+    settles-tells (bin_read_of layouts (bytes ++ more)) fault (settles-grown layouts are bytes more fault (stage_settled layouts bytes stage fault is refused))
+
 -- and nothing is elsewhere
 pub stage_open : (layouts : Layouts) (bytes : List ℕ) (stage : Stage) → IsStage layouts bytes stage → fault_in stage ≡ None → IsOpen (bin_read_of layouts bytes)
 stage_open layouts bytes (Front is_plain kept) is open_stage =
@@ -295,11 +305,6 @@ stage_open layouts bytes (Commands comment registers image pending) is open_stag
     subst IsOpen (sym (cut-told layouts bytes comment registers image (length bytes - length pending.items) pending.items (length bytes) (At (length bytes) Truncated) is refl refl)) refl
 stage_open layouts bytes (Image image) is open_stage = subst IsOpen (sym is) tt
 stage_open layouts bytes (Refused fault) is open_stage = absurd cc
-
--- a fault that was told
-pub settles-tells : (read : Result Configuration Fault) (fault : BinFault) → Settles read fault → Tells read fault
-settles-tells read (At place cause) settles = settles.0
-settles-tells read (Memory e) settles = tt
 
 -- a fault of the input's end
 pub refuses-cut : (commands : List Command) (place : ℕ) (bytes : List ℕ) (fault : BinFault) → Refuses (first_fault commands place bytes) fault → is_cut fault ≡ true → first_fault commands place bytes ≡ Some (fault_at (place + length bytes) Truncated)

@@ -75,7 +75,10 @@ impl Decoder {
         ensures kept { IfErr result (λ fault. refusal_of self.new ≡ Some fault) }
         ensures again { (fault : Fault) → refusal_of self.old ≡ Some fault → result ≡ Err fault }
     {
-        let stage = mem::replace(&mut self.stage, Stage::Refused(fault_at(0, BinCause::Truncated)));
+        let stage = mem::replace(
+            &mut self.stage,
+            Stage::Refused(fault_at(0, BinCause::Truncated)),
+        );
         let stage = stage.after(self.alloc, self.layouts, self.fed, piece);
         let answer = stage.answer();
         self.fed += piece.len();

@@ -205,8 +205,11 @@ keeps-last bytes is_plain kept last keeps long plain is =
       within = omega arith;
       kept_is = is ∙ ap (λ (all : List ℕ). drop (length kept - 3) all) keeps.kept_is ∙ drop-drop (length kept - 3) (length bytes - length kept) bytes ∙ ap (λ n. drop n bytes) e;
       whole = λ is_no. absurd cc;
-      plain = λ is_yes. (omega arith, elim (cases_Bool is_plain) [
-        | inl was ↦ (keeps.plain was).1
-        | inr wasnt ↦ ap begins_comment (sym (keeps.whole wasnt)) ∙ plain wasnt
-      ]);
+      plain = λ is_yes. (
+        omega arith,
+        elim (cases_Bool is_plain) [
+          | inl was ↦ (keeps.plain was).1
+          | inr wasnt ↦ ap begins_comment (sym (keeps.whole wasnt)) ∙ plain wasnt
+        ],
+      );
     }

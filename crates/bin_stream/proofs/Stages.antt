@@ -50,6 +50,12 @@ reading-first layouts bytes place comment held is comment_is held_is =
       offset_is = omega (arith, long);
     }
 
+-- the same of bytes that are all at hand
+pub reading-whole : (layouts : Layouts) (bytes : List ℕ) (place : ℕ) (comment : Option (List (List ℕ))) (held : Held) → Some place ≡ preamble_offset bytes → comment ≡ comment_of (take place bytes) → held ≡ held_first → IsReading layouts bytes comment held None (0 + (place + 4)) (drop (place + 4) bytes)
+reading-whole layouts bytes place comment held is comment_is held_is =
+    let e : place + 4 ≡ 0 + (place + 4) = omega arith in
+    subst (λ (offset : ℕ). IsReading layouts bytes comment held None offset (drop (place + 4) bytes)) e (reading-first layouts bytes place comment held (sym is) comment_is held_is)
+
 module _ (layouts : Layouts) (bytes : List ℕ) (comment : Option (List (List ℕ))) (held : Held) (image : Option AnyImage) (offset : ℕ) (rest : List ℕ) (reading : IsReading layouts bytes comment held image offset rest) where
   abbrev commands : List Command
   commands = reading.commands
@@ -281,6 +287,16 @@ stage_settled layouts bytes (Refused other) fault is refused =
     let same : other ≡ fault = cc in
     subst (Settles (bin_read_of layouts bytes)) same is
 
+-- a fault that was told
+pub settles-tells : (read : Result Configuration Fault) (fault : BinFault) → Settles read fault → Tells read fault
+settles-tells read (At place cause) settles = settles.0
+settles-tells read (Memory e) settles = tt
+
+-- whatever follows
+pub stage_stays : (layouts : Layouts) → AreLayouts layouts → (bytes more : List ℕ) (stage : Stage) (fault : BinFault) → IsStage layouts bytes stage → fault_in stage ≡ Some fault → Tells (bin_read_of layouts (bytes ++ more)) fault
+stage_stays layouts are bytes more stage fault is refused =
+    settles-tells (bin_read_of layouts (bytes ++ more)) fault (settles-grown layouts are bytes more fault (stage_settled layouts bytes stage fault is refused))
+
 -- and nothing is elsewhere
 pub stage_open : (layouts : Layouts) (bytes : List ℕ) (stage : Stage) → IsStage layouts bytes stage → fault_in stage ≡ None → IsOpen (bin_read_of layouts bytes)
 stage_open layouts bytes (Front is_plain kept) is open_stage =
@@ -290,19 +306,10 @@ stage_open layouts bytes (Commands comment registers image pending) is open_stag
 stage_open layouts bytes (Image image) is open_stage = subst IsOpen (sym is) tt
 stage_open layouts bytes (Refused fault) is open_stage = absurd cc
 
--- a fault that was told
-pub settles-tells : (read : Result Configuration Fault) (fault : BinFault) → Settles read fault → Tells read fault
-settles-tells read (At place cause) settles = settles.0
-settles-tells read (Memory e) settles = tt
-
 -- a fault of the input's end
 pub refuses-cut : (commands : List Command) (place : ℕ) (bytes : List ℕ) (fault : BinFault) → Refuses (first_fault commands place bytes) fault → is_cut fault ≡ true → first_fault commands place bytes ≡ Some (fault_at (place + length bytes) Truncated)
 refuses-cut commands place bytes (At there cause) wrong cut = first_fault-ends commands place bytes (fault_at there cause) wrong cut
 refuses-cut commands place bytes (Memory e) wrong cut = absurd cc
-
--- the image at the wake-up has no fault
-pub woken-there : (layouts : Layouts) (bytes : List ℕ) (comment : Option (List (List ℕ))) (held : Held) (image : Option AnyImage) (fault : BinFault) → IsWoken layouts bytes comment held image → image ≡ None → Settles (bin_read_of layouts bytes) fault
-woken-there layouts bytes comment held image fault woken none = absurd (woken.is_there none)
 
 -- what is pending stands at the end
 pub cut-pending : (layouts : Layouts) (all : List ℕ) (comment : Option (List (List ℕ))) (held : Held) (image : Option AnyImage) (offset : ℕ) (rest pending : List ℕ) → IsCut layouts all comment held image offset rest → pending ≡ rest → IsCut layouts all comment held image (length all - length pending) pending

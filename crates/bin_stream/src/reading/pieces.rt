@@ -70,11 +70,15 @@ impl Decoder {
         ensures stands { (layouts : Layouts) (bytes : List ℕ) → StandsFor layouts bytes self.old → StandsFor layouts (bytes ++ piece.now) self.new }
         ensures goes_on { IfOk result (λ _. (layouts : Layouts) (bytes : List ℕ) → StandsFor layouts bytes self.old → IsOpen (bin_read_of layouts (bytes ++ piece.now))) }
         ensures refused { IfErr result (λ fault. (layouts : Layouts) (bytes : List ℕ) → StandsFor layouts bytes self.old → Settles (bin_read_of layouts (bytes ++ piece.now)) fault) }
+        ensures stays { IfErr result (λ fault. (layouts : Layouts) (bytes more : List ℕ) → StandsFor layouts bytes self.old → Tells (bin_read_of layouts (bytes ++ piece.now ++ more)) fault) }
         ensures clear { IfOk result (λ _. refusal_of self.new ≡ None) }
         ensures kept { IfErr result (λ fault. refusal_of self.new ≡ Some fault) }
         ensures again { (fault : Fault) → refusal_of self.old ≡ Some fault → result ≡ Err fault }
     {
-        let stage = mem::replace(&mut self.stage, Stage::Refused(fault_at(0, BinCause::Truncated)));
+        let stage = mem::replace(
+            &mut self.stage,
+            Stage::Refused(fault_at(0, BinCause::Truncated)),
+        );
         let stage = stage.after(self.alloc, self.layouts, self.fed, piece);
         let answer = stage.answer();
         self.fed += piece.len();

@@ -23,7 +23,10 @@ const KEPT: usize = 3;
 #[derive(Drop)]
 pub(crate) enum Stage {
     /// There is no preamble yet. The bytes that are kept are all; where the front is plain, which has no comment, the last three.
-    Front { is_plain: bool, kept: Vec<u8> },
+    Front {
+        is_plain: bool,
+        kept: Vec<u8>,
+    },
     /// The commands so far, and the bytes of one that isn't whole.
     Commands {
         comment: Option<Comment>,
@@ -39,13 +42,7 @@ pub(crate) enum Stage {
 
 impl Stage {
     /// What is known with a piece more, where so many bytes came before it.
-    pub(crate) fn after(
-        self,
-        alloc: Global,
-        layouts: Layouts,
-        fed: usize,
-        piece: &[u8],
-    ) -> Stage
+    pub(crate) fn after(self, alloc: Global, layouts: Layouts, fed: usize, piece: &[u8]) -> Stage
         requires layouts { AreLayouts layouts }
         requires fed { fed + length piece.now < 2 ^ 64 }
         requires room { length_kept self ≤ fed }
@@ -126,18 +123,21 @@ fn front_after(
                 registers: Registers::new(),
                 image: None,
             };
-            commands_after(alloc, machine, comment, before, joined, place + PREAMBLE.len())
+            commands_after(
+                alloc,
+                machine,
+                comment,
+                before,
+                joined,
+                place + PREAMBLE.len(),
+            )
         }
         None => Ok(front_kept(alloc, is_plain, joined)?),
     }
 }
 
 /// The comment in the bytes before the preamble, which a plain front hasn't.
-fn comment_where(
-    alloc: Global,
-    is_plain: bool,
-    front: &[u8],
-) -> Result<Option<Comment>, AllocError>
+fn comment_where(alloc: Global, is_plain: bool, front: &[u8]) -> Result<Option<Comment>, AllocError>
     ensures plain { IfOk result (λ comment. is_plain ≡ true → comment ≡ None) }
     ensures whole { IfOk result (λ comment. is_plain ≡ false → comment ≡ comment_of front.now) }
 {
@@ -214,8 +214,7 @@ fn commands_after(
         is_last,
     } = taken;
     if is_last {
-        let mut image = image_at_end(machine, offset)?;
-        image.set_comment(comment);
+        let image = image_at_end(machine, comment, offset)?;
         Ok(Stage::Image(image))
     } else {
         let Machine {

@@ -1,7 +1,7 @@
 -- A command that was entered, or what is wrong with it.
-use Rattle.std.proofs.Common.{◌≡◌, ℕ, suc, ◌+◌, ◌*◌, ◌/◌, ◌%◌, ◌≤◌, Bool, true, false, not, ◌&&◌, List, [], ◌∷◌, ◌++◌, length, take, drop, refl, sym, ap, ap₂, subst, ◌∙◌, arith, inl, inr, append_assoc, length-append, length-take-le, take_at, take-append-drop, drop-drop}
-use Rattle.std.specs.Prelude.{Option, Some, None, nat_lt, ◌==◌}
-use Rattle.std.proofs.lemmas.Bool.{cases_Bool, ltb-false, eqb-true, and_parts}
+use Rattle.std.proofs.Common.{◌≡◌, ℕ, suc, ◌+◌, ◌*◌, ◌/◌, ◌%◌, ◌≤◌, Bool, true, false, not, ◌&&◌, List, [], ◌∷◌, ◌++◌, length, take, drop, sym, ap, ap₂, subst, ◌∙◌, arith, inl, inr, append_assoc, length-append, length-take-le, take_at, take-append-drop, drop-drop}
+use Rattle.std.specs.Prelude.{Option, Some, None, ◌==◌}
+use Rattle.std.proofs.lemmas.Bool.{cases_Bool, eqb-true, and_parts}
 use Rattle.place_search.specs.Places.{or_else}
 use Rattle.layout_file.specs.declared.layouts.Layouts.{Layouts}
 use Rattle.layout_file.specs.Layouts.{AreLayouts}
@@ -9,13 +9,13 @@ use Rattle.ice_image.specs.declared.any.AnyImage.{AnyImage}
 use Rattle.ice_image.specs.declared.planes.PlaneKind.{PlaneKind}
 use Rattle.bin_stream.specs.Commands.{Command, Short, Data, number_of, spelling, is_wake_up, control_opcode, wake_up_number}
 use Rattle.bin_stream.specs.State.{size_after}
-use Rattle.bin_stream.specs.Refusals.{Fault, cause_if, fault_at, first_fault, payload_fault, fault_where, body_fault, end_fault, data_cause, data_fault, data_kind}
+use Rattle.bin_stream.specs.Refusals.{Fault, cause_if, fault_at, first_fault, payload_fault, fault_where, body_fault, data_cause, data_fault, data_kind}
 use Rattle.bin_stream.specs.Spelling.{first_command, command_of}
 use Rattle.bin_stream.specs.inside.Registers.{Held, held_after, short_cause_by, checked, after_short, data_cause_by, after_data}
 use Rattle.bin_stream.specs.inside.Step.{payload_refusal, device_if, Refuses, IsDrawnOn, Stands, IsEntered}
 use Rattle.bin_stream.specs.declared.fault.BinCause.{BinCause}
 use Rattle.bin_stream.specs.declared.fault.BinFault.{BinFault}
-use Rattle.bin_stream.specs.declared.fault.BinCause.TheVariants.{Truncated, DataEnd, NoDevice}
+use Rattle.bin_stream.specs.declared.fault.BinCause.TheVariants.{NoDevice}
 use Rattle.bin_stream.proofs.OneCommand.{neither, kind-from, body-ends}
 use Rattle.bin_stream.proofs.Steps.{head_of, payload_in, behind_payload, with_payload, read_fault, read_command, length-payload, spelled_short, short_cause-is, after_short-is, held_after-short, held_after-data}
 use Rattle.bin_stream.proofs.Drawn.{device_if-is, Holds-short, Holds-data}

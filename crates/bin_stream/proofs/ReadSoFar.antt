@@ -1,5 +1,5 @@
 -- Commands that are read one after the other.
-use Rattle.std.proofs.Common.{◌≡◌, ℕ, suc, ◌+◌, ◌-◌, ◌<◌, ◌≤◌, Bool, true, false, List, [], ◌∷◌, ◌++◌, length, take, drop, refl, sym, ap, ap₂, subst, ◌∙◌, arith, drop-drop}
+use Rattle.std.proofs.Common.{◌≡◌, ℕ, suc, ◌+◌, ◌-◌, ◌≤◌, Bool, true, false, List, [], ◌∷◌, ◌++◌, length, take, drop, refl, sym, ap, subst, ◌∙◌, arith}
 use Rattle.std.specs.Prelude.{Option, Some, None, Result, Ok, Err}
 use Rattle.place_search.specs.Places.{any_below, last_below, first_below}
 use Rattle.bit_plane.specs.Rows.{Rows}
@@ -11,7 +11,7 @@ use Rattle.ice_image.specs.declared.settings.Settings.{Settings}
 use Rattle.ice_image.specs.Either.{configuration_of, device_of}
 use Rattle.ice_image.specs.declared.any.AnyImage.{AnyImage}
 use Rattle.ice_image.specs.declared.planes.PlaneKind.TheVariants.{Cram}
-use Rattle.bin_stream.specs.Commands.{Command, spelling, is_wake_up}
+use Rattle.bin_stream.specs.Commands.{Command, is_wake_up}
 use Rattle.bin_stream.specs.State.{device_after}
 use Rattle.bin_stream.specs.Refusals.{Fault, fault_at, first_fault, reached_in}
 use Rattle.bin_stream.specs.Front.{preamble_offset, comment_of}

@@ -1,6 +1,5 @@
 -- What a decoder keeps, as commands are taken and bytes follow.
-use Rattle.std.proofs.Common.{◌≡◌, ℕ, suc, ◌+◌, ◌-◌, ◌<◌, ◌≤◌, ◌⊎◌, Bool, true, false, List, [], ◌∷◌, ◌++◌, length, take, drop, Option, Some, None, Result, Ok, Err, length-append, append_assoc, append-nil, drop-drop, refl, sym, ap, ap₂, subst, ◌∙◌, inl, inr, arith}
-use Rattle.std.proofs.lemmas.Bool.{cases_Bool}
+use Rattle.std.proofs.Common.{◌≡◌, ℕ, ◌+◌, ◌-◌, ◌≤◌, Bool, true, false, List, [], ◌∷◌, ◌++◌, length, take, drop, Option, Some, None, Result, Ok, Err, length-append, append_assoc, drop-drop, refl, sym, ap, ap₂, subst, ◌∙◌, arith}
 use Rattle.std.proofs.lemmas.List.{take_at, drop_at, length-take-le}
 use Rattle.std.proofs.lemmas.List.Elements.{All-nil, All-cons, All-append}
 use Rattle.layout_file.specs.declared.layouts.Layouts.{Layouts}
@@ -11,10 +10,10 @@ use Rattle.ice_image.specs.declared.any.AnyImage.{AnyImage}
 use Rattle.bin_stream.specs.Commands.{Command, spelling, spelled, is_wake_up}
 use Rattle.bin_stream.specs.Refusals.{Fault, fault_at, first_fault}
 use Rattle.bin_stream.specs.Front.{preamble, preamble_offset, comment_of}
-use Rattle.bin_stream.specs.Spelling.{Spells, FailsAt, IsRefused, IsFront, IsAllowed, NoWakeUp, first_command, commands_from, image_of, bin_read_of, Tells}
+use Rattle.bin_stream.specs.Spelling.{Spells, FailsAt, IsRefused, first_command, commands_from, image_of, bin_read_of, Tells}
 use Rattle.bin_stream.specs.Settled.{is_unfinished, Settles, IsOpen}
 use Rattle.bin_stream.specs.inside.Registers.{Held, held_first}
-use Rattle.bin_stream.specs.inside.Step.{Refuses, IsEntered, HasRead, IsFinished, Stands}
+use Rattle.bin_stream.specs.inside.Step.{Refuses, IsEntered, HasRead, Stands}
 use Rattle.bin_stream.specs.inside.Stages.{is_cut, KeepsFront, IsReading, IsCut, IsWoken, IsStage, fault_in}
 use Rattle.bin_stream.specs.declared.fault.BinCause.TheVariants.{NoPreamble, Truncated}
 use Rattle.bin_stream.specs.declared.fault.BinFault.{BinFault}

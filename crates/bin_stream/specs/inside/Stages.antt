@@ -1,12 +1,10 @@
 -- What a decoder keeps of the bytes so far.
 use Rattle.std.specs.Prelude.{◌≡◌, ◌≢◌, ℕ, ◌+◌, ◌-◌, ◌≤◌, Bool, true, false, List, ◌∷◌, [], ◌++◌, length, take, drop, bytes_eq, Option, Some, None, Result, Ok, Err}
-use Rattle.std.specs.declared.vec.Vec.{Vec}
 use Rattle.layout_file.specs.declared.layouts.Layouts.{Layouts}
-use Rattle.ice_image.specs.Configuration.{Configuration}
 use Rattle.ice_image.specs.Either.{configuration_of}
 use Rattle.ice_image.specs.declared.any.AnyImage.{AnyImage}
 use Rattle.bin_stream.specs.Commands.{Command, spelled}
-use Rattle.bin_stream.specs.Refusals.{Fault, fault_at, first_fault}
+use Rattle.bin_stream.specs.Refusals.{fault_at, first_fault}
 use Rattle.bin_stream.specs.Front.{preamble, preamble_offset, comment_of}
 use Rattle.bin_stream.specs.Spelling.{IsAllowed, IsFront, NoWakeUp, bin_read_of}
 use Rattle.bin_stream.specs.Settled.{is_unfinished, Settles}

@@ -1,4 +1,4 @@
-use Rattle.std.proofs.Common.{◌≡◌, ◌+◌, ◌∙◌, List, ℕ, drop, ap, sym, subst}
+use Rattle.std.proofs.Common.{◌+◌, ◌∙◌, List, ℕ, drop, ap, sym, subst}
 use Rattle.std.proofs.lemmas.Result.{err_from_is_err_and}
 use Rattle.bin_stream.specs.inside.Stages.{IsReading}
 use Rattle.bin_stream.proofs.Stages.{cut-pending}

@@ -1,4 +1,4 @@
-use Rattle.std.proofs.Common.{◌≡◌, ◌+◌, ◌-◌, ◌≤◌, ◌++◌, ◌∙◌, List, ℕ, length, take, drop, ap, ap₂, sym, subst, arith, length-drop, take_all}
+use Rattle.std.proofs.Common.{◌≡◌, ◌+◌, ◌-◌, ◌++◌, ◌∙◌, length, take, drop, ap, arith, length-drop, take_all}
 use Rattle.std.specs.Prelude.{Some, None}
 use Rattle.bin_stream.specs.Front.{preamble_offset, comment_of}
 use Rattle.bin_stream.proofs.Stages.{front-ends, front-goes_on}

@@ -13,7 +13,7 @@ use std::mem;
 
 /// A reader of a bitstream that comes in pieces.
 ///
-/// It keeps the front as far as a comment may be in it, the image so far, and the bytes of a command that isn't whole.
+/// It keeps a front only where a comment may be in it, the image so far, and the bytes of a command that isn't whole.
 #[derive(Drop)]
 pub struct Decoder {
     alloc: Global,
@@ -55,7 +55,6 @@ impl Decoder {
             layouts,
             fed: 0,
             stage: Stage::Front {
-                is_plain: false,
                 kept: Vec::new(alloc),
             },
         }
@@ -74,7 +73,10 @@ impl Decoder {
         ensures kept { IfErr result (λ fault. refusal_of self.new ≡ Some fault) }
         ensures again { (fault : Fault) → refusal_of self.old ≡ Some fault → result ≡ Err fault }
     {
-        let stage = mem::replace(&mut self.stage, Stage::Refused(fault_at(0, BinCause::Truncated)));
+        let stage = mem::replace(
+            &mut self.stage,
+            Stage::Refused(fault_at(0, BinCause::Truncated)),
+        );
         let stage = stage.after(self.alloc, self.layouts, self.fed, piece);
         let answer = stage.answer();
         self.fed += piece.len();
@@ -91,6 +93,7 @@ impl Decoder {
         let Decoder { fed, stage, .. } = self;
         match stage {
             Stage::Front { .. } => Err(fault_at(fed, BinCause::NoPreamble)),
+            Stage::Plain { .. } => Err(fault_at(fed, BinCause::NoPreamble)),
             Stage::Commands { .. } => Err(fault_at(fed, BinCause::Truncated)),
             Stage::Image(image) => Ok(image),
             Stage::Refused(fault) => Err(fault),

@@ -60,7 +60,11 @@ fn pieces_give_one_image(rt: HostRuntime) {
 
 #[test]
 fn comments_and_fronts_may_be_cut(rt: HostRuntime) {
-    for front in [b"\xFF\0AB\0C\0\0\xFF\x7E\xAA" as &[u8], b"\xFF", b"\x7E\xAA\x99ABC"] {
+    for front in [
+        b"\xFF\0AB\0C\0\0\xFF\x7E\xAA" as &[u8],
+        b"\xFF",
+        b"\x7E\xAA\x99ABC",
+    ] {
         for size in [1, 3, 5] {
             // Bytes follow the wake-up.
             let parts = [(front, 0, 0), (HX1K_HEAD, 0x55, 83), (END, 0x22, 9)];

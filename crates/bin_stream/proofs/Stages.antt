@@ -11,8 +11,10 @@ use Rattle.ice_image.specs.declared.any.AnyImage.{AnyImage}
 use Rattle.bin_stream.specs.Commands.{Command, spelling, spelled, is_wake_up}
 use Rattle.bin_stream.specs.Refusals.{Fault, fault_at, first_fault}
 use Rattle.bin_stream.specs.Front.{preamble, preamble_offset, comment_of}
-use Rattle.bin_stream.specs.Spelling.{Spells, FailsAt, IsRefused, IsFront, IsAllowed, NoWakeUp, first_command, commands_from, image_of, bin_read_of, Tells}
+use Rattle.bin_stream.specs.Spelling.{Spells, FailsAt, IsRefused, IsFront, IsAllowed, NoWakeUp, first_command, commands_from, image_of, bin_read_of, IsDecided, Tells}
 use Rattle.bin_stream.specs.Settled.{is_unfinished, Settles, IsOpen}
+use Rattle.bin_stream.specs.Decoding.{StandsFor}
+use Rattle.bin_stream.specs.declared.reading.pieces.Decoder.{Decoder}
 use Rattle.bin_stream.specs.inside.Registers.{Held, held_first}
 use Rattle.bin_stream.specs.inside.Step.{Refuses, IsEntered, HasRead, IsFinished, Stands}
 use Rattle.bin_stream.specs.inside.Stages.{is_cut, KeepsPlain, IsReading, IsCut, IsWoken, IsStage, fault_in}
@@ -298,6 +300,10 @@ stage_open layouts bytes (Commands comment registers image pending) is open_stag
     subst IsOpen (sym (cut-told layouts bytes comment registers image (length bytes - length pending.items) pending.items (length bytes) (At (length bytes) Truncated) is refl refl)) refl
 stage_open layouts bytes (Image image) is open_stage = subst IsOpen (sym is) tt
 stage_open layouts bytes (Refused fault) is open_stage = absurd cc
+
+-- bytes are decided under the layouts of a decoder
+pub decided_for : (layouts : Layouts) (bytes more : List ℕ) (decoder : Decoder) → StandsFor layouts bytes decoder → IsDecided layouts more
+decided_for layouts bytes more decoder stands = decided layouts (subst AreLayouts stands.layouts_are decoder.laid) more
 
 -- a fault that was told
 pub settles-tells : (read : Result Configuration Fault) (fault : BinFault) → Settles read fault → Tells read fault

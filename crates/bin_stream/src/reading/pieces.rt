@@ -29,7 +29,7 @@ impl Decoder {
     ghost use Rattle.std.specs.Prelude.{List, ℕ, [], Ok, Err, Some, None, ◌++◌, ◌+◌, ◌<◌, ◌^◌, IfOk, IfErr, length};
     ghost use Rattle.layout_file.specs.Layouts.{standard_layouts};
     ghost use Rattle.ice_image.specs.Either.{configuration_of};
-    ghost use Rattle.bin_stream.specs.Spelling.{bin_read_of, Tells};
+    ghost use Rattle.bin_stream.specs.Spelling.{IsDecided, bin_read_of, Tells};
     ghost use Rattle.bin_stream.specs.Settled.{Settles, IsOpen};
     ghost use Rattle.bin_stream.specs.Decoding.{fed_to, refusal_of, StandsFor};
     ghost use Rattle.bin_stream.specs.declared.fault.BinFault.{BinFault as Fault};
@@ -66,6 +66,7 @@ impl Decoder {
     pub fn feed(&mut self, piece: &[u8]) -> Result<(), BinFault>
         requires { fed_to self.old + length piece.now < 2 ^ 32 }
         ensures fed { fed_to self.new ≡ fed_to self.old + length piece.now }
+        ensures decided { (layouts : Layouts) (bytes : List ℕ) → StandsFor layouts bytes self.old → IsDecided layouts (bytes ++ piece.now) }
         ensures stands { (layouts : Layouts) (bytes : List ℕ) → StandsFor layouts bytes self.old → StandsFor layouts (bytes ++ piece.now) self.new }
         ensures goes_on { IfOk result (λ _. (layouts : Layouts) (bytes : List ℕ) → StandsFor layouts bytes self.old → IsOpen (bin_read_of layouts (bytes ++ piece.now))) }
         ensures refused { IfErr result (λ fault. (layouts : Layouts) (bytes : List ℕ) → StandsFor layouts bytes self.old → Settles (bin_read_of layouts (bytes ++ piece.now)) fault) }
@@ -86,6 +87,7 @@ impl Decoder {
 
     /// The image that what was fed spells, or its first fault.
     pub fn finish(self) -> Result<AnyImage, BinFault>
+        ensures decided { (layouts : Layouts) (bytes : List ℕ) → StandsFor layouts bytes self → IsDecided layouts bytes }
         ensures image { IfOk result (λ image. (layouts : Layouts) (bytes : List ℕ) → StandsFor layouts bytes self → bin_read_of layouts bytes ≡ Ok (configuration_of image)) }
         ensures refused { IfErr result (λ fault. (layouts : Layouts) (bytes : List ℕ) → StandsFor layouts bytes self → Tells (bin_read_of layouts bytes) fault) }
         ensures again { (fault : Fault) → refusal_of self ≡ Some fault → result ≡ Err fault }

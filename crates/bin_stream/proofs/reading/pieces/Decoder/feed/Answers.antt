@@ -5,7 +5,7 @@ use Rattle.layout_file.specs.declared.layouts.Layouts.{Layouts}
 use Rattle.bin_stream.specs.Spelling.{bin_read_of, Tells}
 use Rattle.bin_stream.specs.Decoding.{StandsFor}
 use Rattle.bin_stream.specs.inside.Stages.{IsStage, fault_in}
-use Rattle.bin_stream.proofs.Stages.{stage_stays}
+use Rattle.bin_stream.proofs.Stages.{decided_for, stage_stays}
 use Rattle.bin_stream.proofs.reading.pieces.Decoder.feed.Goals as goal
 
 pub returns-clause-stays : goal.returns-clause-stays
@@ -20,3 +20,6 @@ returns-clause-stays c =
     let before : IsStage own bytes c.args.self.now.stage = subst (λ (layouts : Layouts). IsStage layouts bytes c.args.self.now.stage) (sym stands.layouts_are) stands.stage in
     let here : IsStage own (bytes ++ piece) after = c.after-stage.ensures.stands bytes (sym stands.fed) (subst (IsStage own bytes) (sym c.replace-stage.ensures.value) before) in
     subst (λ (layouts : Layouts). Tells (bin_read_of layouts (bytes ++ piece ++ more)) fault) stands.layouts_are (stage_stays own c.args.self.now.laid (bytes ++ piece) more after fault here refused))
+
+pub returns-clause-decided : goal.returns-clause-decided
+returns-clause-decided c = λ layouts bytes stands. decided_for layouts bytes (bytes ++ c.args.piece.now) c.args.self.now stands

@@ -1,5 +1,6 @@
 -- What contracts within this crate cite, and no public one.
 pub mod Register
+pub mod Opcodes
 pub mod Registers
 pub mod Step
 pub mod Pieces

@@ -1,11 +1,9 @@
 // Taking the commands of a bitstream, one after the other.
 ghost use Rattle.std.specs.Prelude.{List, ◌≡◌, ◌+◌, ◌*◌, ◌/◌, ◌%◌, ◌<◌, ◌≤◌, ◌^◌, ◌==◌, ◌&&◌, None, Some, true, IfOk, IfErr, length, take, drop, get_or};
-ghost use Rattle.place_search.specs.Places.{or_else};
 ghost use Rattle.layout_file.specs.Layouts.{AreLayouts};
 ghost use Rattle.ice_image.specs.Either.{configuration_of};
 ghost use Rattle.bin_stream.specs.Commands.{Command, control_opcode, wake_up_number};
-ghost use Rattle.bin_stream.specs.State.{device_with};
-ghost use Rattle.bin_stream.specs.Refusals.{first_fault};
+ghost use Rattle.bin_stream.specs.Refusals.{first_fault, device_where};
 ghost use Rattle.bin_stream.specs.inside.Opcodes.{opcode_number};
 ghost use Rattle.bin_stream.specs.inside.Registers.{Fits, size_by, after_data};
 ghost use Rattle.bin_stream.specs.inside.Step.{Refuses, data_refusal, device_if, image_or_blank, IsDrawnOn, Stands, IsEntered};
@@ -136,7 +134,7 @@ impl Machine {
         kind: PlaneKind,
         body: &[u8],
     ) -> Result<(), AllocError>
-        requires device { or_else (device_if self.old.image) (device_with kind self.old.registers.width) ≡ Some device }
+        requires device { device_where (device_if self.old.image) kind self.old.registers.width ≡ Some device }
         requires fits { Fits device kind self.old.registers }
         requires size { length body.now ≡ size_by self.old.registers }
         requires layouts { AreLayouts self.old.layouts }

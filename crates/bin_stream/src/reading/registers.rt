@@ -1,8 +1,7 @@
 // What a decoder keeps of the commands so far.
 ghost use Rattle.std.specs.Prelude.{◌≡◌, ◌+◌, ◌*◌, ◌/◌, ◌%◌, ◌<◌, ◌≤◌, ◌^◌, ◌==◌, not, None, Some, IfOk, nat_lt};
-ghost use Rattle.place_search.specs.Places.{or_else};
 ghost use Rattle.plane_map.specs.declared.device.DeviceName.{DeviceName as Name};
-ghost use Rattle.bin_stream.specs.Refusals.{cause_if, is_mode, is_bad_height, control_cause, check_cause};
+ghost use Rattle.bin_stream.specs.Refusals.{cause_if, is_mode, device_where, is_bad_height, control_cause, check_cause};
 ghost use Rattle.bin_stream.specs.State.{device_with};
 ghost use Rattle.bin_stream.specs.Meaning.{range_of};
 ghost use Rattle.bin_stream.specs.inside.Opcodes.{opcode_number};
@@ -236,7 +235,7 @@ impl Registers {
         fixed: Option<DeviceName>,
     ) -> Result<DeviceName, BinCause>
         ensures allowed { refusal_of result ≡ data_cause_by self.now fixed kind }
-        ensures device { IfOk result (λ device. or_else fixed (device_with kind self.now.width) ≡ Some device) }
+        ensures device { IfOk result (λ device. device_where fixed kind self.now.width ≡ Some device) }
         ensures fits { IfOk result (λ device. Fits device kind self.now) }
     {
         match fixed.or(device_with(kind, self.width)) {

@@ -9,10 +9,10 @@ use Rattle.ice_image.specs.declared.any.AnyImage.{AnyImage}
 use Rattle.ice_image.specs.declared.planes.PlaneKind.{PlaneKind}
 use Rattle.bin_stream.specs.Commands.{Command, Short, Data, number_of, spelling, is_wake_up, control_opcode, wake_up_number}
 use Rattle.bin_stream.specs.State.{size_after}
-use Rattle.bin_stream.specs.Refusals.{Fault, cause_if, fault_at, first_fault, payload_fault, fault_where, body_fault, data_cause, data_fault, data_kind}
+use Rattle.bin_stream.specs.Refusals.{Fault, cause_if, fault_at, head_fault, first_fault, payload_fault, fault_where, body_fault, data_cause, data_fault, data_kind}
 use Rattle.bin_stream.specs.Spelling.{first_command, command_of}
 use Rattle.bin_stream.specs.inside.Registers.{Held, held_after, short_cause_by, checked, after_short, data_cause_by, after_data}
-use Rattle.bin_stream.specs.inside.Step.{payload_refusal, device_if, Refuses, IsDrawnOn, Stands, IsEntered}
+use Rattle.bin_stream.specs.inside.Step.{device_if, Refuses, IsDrawnOn, Stands, IsEntered}
 use Rattle.bin_stream.specs.declared.fault.BinCause.{BinCause}
 use Rattle.bin_stream.specs.declared.fault.BinFault.{BinFault}
 use Rattle.bin_stream.specs.declared.fault.BinCause.TheVariants.{NoDevice}
@@ -38,7 +38,7 @@ wake_up_reached held opcode n is allowed =
           absurd cc
     ]
 
-module _ (layouts : Layouts) (commands : List Command) (place n : ℕ) (bytes payload spelled : List ℕ) (held : Held) (image : Option AnyImage) (fine : payload_refusal place bytes ≡ None) (payload_is : payload ≡ payload_in bytes) (n_is : n ≡ number_of payload) (stands : Stands layouts commands held image) where
+module _ (layouts : Layouts) (commands : List Command) (place n : ℕ) (bytes payload spelled : List ℕ) (held : Held) (image : Option AnyImage) (fine : head_fault place bytes ≡ None) (payload_is : payload ≡ payload_in bytes) (n_is : n ≡ number_of payload) (stands : Stands layouts commands held image) where
   abbrev opcode : ℕ
   opcode = head_of bytes / 16
 

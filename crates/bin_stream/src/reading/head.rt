@@ -1,8 +1,8 @@
 // Cutting a command into its parts.
 ghost use Rattle.std.specs.Prelude.{◌≡◌, ◌+◌, ◌%◌, ◌<◌, ◌≤◌, ◌^◌, None, IfOk, IfErr, length, take, drop, get_or};
 ghost use Rattle.bin_stream.specs.Commands.{number_of};
-ghost use Rattle.bin_stream.specs.Refusals.{body_fault, end_fault};
-ghost use Rattle.bin_stream.specs.inside.Step.{fault_of, payload_refusal, Refuses};
+ghost use Rattle.bin_stream.specs.Refusals.{head_fault, body_fault, end_fault};
+ghost use Rattle.bin_stream.specs.inside.Step.{fault_of, Refuses};
 
 use crate::fault::{BinCause, BinFault};
 
@@ -25,8 +25,8 @@ pub(crate) fn payload_of(offset: usize, bytes: &[u8]) -> Result<&[u8], BinFault>
     ensures payload { IfOk result (λ payload. payload.now ≡ take (get_or bytes.now 0 0 % 16) (drop 1 bytes.now)) }
     ensures within { IfOk result (λ payload. length payload.now < length bytes.now) }
     ensures long { IfOk result (λ payload. length payload.now ≡ get_or bytes.now 0 0 % 16) }
-    ensures allowed { IfOk result (λ payload. payload_refusal offset bytes.now ≡ None) }
-    ensures refused { IfErr result (Refuses (payload_refusal offset bytes.now)) }
+    ensures allowed { IfOk result (λ payload. head_fault offset bytes.now ≡ None) }
+    ensures refused { IfErr result (Refuses (head_fault offset bytes.now)) }
 {
     if bytes.is_empty() {
         return Err(fault_at(offset, BinCause::Truncated));

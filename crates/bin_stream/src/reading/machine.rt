@@ -1,11 +1,10 @@
 // Taking the commands of a bitstream, one after the other.
 ghost use Rattle.std.specs.Prelude.{List, ◌≡◌, ◌+◌, ◌*◌, ◌/◌, ◌%◌, ◌<◌, ◌≤◌, ◌^◌, ◌==◌, ◌&&◌, None, Some, true, IfOk, IfErr, length, take, drop, get_or};
-ghost use Rattle.place_search.specs.Places.{or_else};
 ghost use Rattle.layout_file.specs.Layouts.{AreLayouts};
 ghost use Rattle.ice_image.specs.Either.{configuration_of};
 ghost use Rattle.bin_stream.specs.Commands.{Command, control_opcode, wake_up_number};
-ghost use Rattle.bin_stream.specs.State.{device_with};
-ghost use Rattle.bin_stream.specs.Refusals.{first_fault};
+ghost use Rattle.bin_stream.specs.Refusals.{first_fault, device_where};
+ghost use Rattle.bin_stream.specs.inside.Opcodes.{opcode_number};
 ghost use Rattle.bin_stream.specs.inside.Registers.{Fits, size_by, after_data};
 ghost use Rattle.bin_stream.specs.inside.Step.{Refuses, data_refusal, device_if, image_or_blank, IsDrawnOn, Stands, IsEntered};
 ghost use Rattle.bin_stream.specs.inside.Stages.{is_cut};
@@ -15,7 +14,7 @@ use super::head::{body_of, fault_at, number_of, payload_of};
 use super::registers::Registers;
 use crate::fault::{BinCause, BinFault};
 use crate::marks::DATA_END;
-use crate::opcode::{CONTROL, WAKE_UP};
+use crate::opcode::{Control, Opcode};
 use ice_image::{AnyImage, PlaneKind};
 use layout_file::Layouts;
 use plane_map::{DeviceName, Layout};
@@ -58,7 +57,9 @@ impl Machine {
     {
         let payload = payload_of(offset, bytes)?;
         let start = 1 + payload.len();
-        let opcode = bytes[0] / 16;
+        let Some(opcode) = Opcode::from_number(bytes[0] / 16) else {
+            return Err(fault_at(offset, BinCause::UnknownCommand));
+        };
         let number = number_of(payload);
         match data_kind(opcode, number) {
             Some(kind) => {
@@ -133,7 +134,7 @@ impl Machine {
         kind: PlaneKind,
         body: &[u8],
     ) -> Result<(), AllocError>
-        requires device { or_else (device_if self.old.image) (device_with kind self.old.registers.width) ≡ Some device }
+        requires device { device_where (device_if self.old.image) kind self.old.registers.width ≡ Some device }
         requires fits { Fits device kind self.old.registers }
         requires size { length body.now ≡ size_by self.old.registers }
         requires layouts { AreLayouts self.old.layouts }
@@ -166,8 +167,11 @@ fn image_or_blank(
 }
 
 /// Whether an opcode and a payload's number are those of the wake-up.
-fn is_wake_up(opcode: u8, number: u32) -> bool
-    ensures { result ≡ ((opcode == control_opcode) && (number == wake_up_number)) }
+fn is_wake_up(opcode: Opcode, number: u32) -> bool
+    ensures { result ≡ ((opcode_number opcode == control_opcode) && (number == wake_up_number)) }
 {
-    opcode == CONTROL && number == u32::from(WAKE_UP)
+    match opcode {
+        Opcode::Control => matches!(Control::from_number(number), Some(Control::WakeUp)),
+        _ => false,
+    }
 }

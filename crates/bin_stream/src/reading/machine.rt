@@ -126,7 +126,6 @@ impl Machine {
     }
 
     /// Writes the rows of data into the image, which is made where there is none.
-    #[tactic(auto, using(crate::proofs::Laid::device_kept))]
     fn draw(
         &mut self,
         alloc: Global,

@@ -62,7 +62,6 @@ impl Decoder {
 
     /// Takes the next bytes. It refuses where what was fed spells no image, however it goes on. Then each later call answers
     /// that fault again. So it does where there was no memory.
-    #[tactic(auto, using(crate::proofs::Stages::stage_open, crate::proofs::Stages::stage_settled))]
     pub fn feed(&mut self, piece: &[u8]) -> Result<(), BinFault>
         requires { fed_to self.old + length piece.now < 2 ^ 32 }
         ensures fed { fed_to self.new ≡ fed_to self.old + length piece.now }

@@ -10,7 +10,7 @@ ghost use Rattle.bin_stream.specs.inside.Step.{Refuses, data_refusal, device_if,
 ghost use Rattle.bin_stream.specs.inside.Stages.{is_cut};
 
 use super::data_kind::data_kind;
-use super::head::{body_of, fault_at, number_of, payload_of};
+use super::head::{Cursor, fault_at, number_of};
 use super::registers::Registers;
 use crate::fault::{BinCause, BinFault};
 use crate::marks::DATA_END;
@@ -55,7 +55,8 @@ impl Machine {
         ensures same_registers { IfErr result (λ fault. is_cut fault ≡ true → self.new.registers ≡ self.old.registers) }
         ensures same_image { IfErr result (λ fault. is_cut fault ≡ true → self.new.image ≡ self.old.image) }
     {
-        let payload = payload_of(offset, bytes)?;
+        let at = Cursor { offset, bytes };
+        let payload = at.payload()?;
         let start = 1 + payload.len();
         let Some(opcode) = Opcode::from_number(bytes[0] / 16) else {
             return Err(fault_at(offset, BinCause::UnknownCommand));
@@ -63,7 +64,7 @@ impl Machine {
         let number = number_of(payload);
         match data_kind(opcode, number) {
             Some(kind) => {
-                let size = self.enter_data(alloc, kind, offset, start, bytes)?;
+                let size = self.enter_data(alloc, kind, at, start)?;
                 Ok(Entered {
                     size,
                     is_last: false,
@@ -79,37 +80,36 @@ impl Machine {
         }
     }
 
-    /// Takes data at an offset of the input and tells how many bytes the command has. `start` is where the rows begin in
-    /// `bytes`, which begin with the command.
+    /// Takes the data that these bytes begin with, of which `start` come before the rows, and tells how many bytes the command
+    /// has.
     fn enter_data(
         &mut self,
         alloc: Global,
         kind: PlaneKind,
-        offset: usize,
+        at: Cursor,
         start: usize,
-        bytes: &[u8],
     ) -> Result<usize, BinFault>
-        requires within { start ≤ length bytes.now }
-        requires offset { offset + length bytes.now < 2 ^ 64 }
+        requires within { start ≤ length at.bytes.now }
+        requires offset { at.offset + length at.bytes.now < 2 ^ 64 }
         requires layouts { AreLayouts self.old.layouts }
         ensures layouts { self.new.layouts ≡ self.old.layouts }
         ensures size { IfOk result (λ size. size ≡ start + size_by self.old.registers + 2) }
-        ensures within { IfOk result (λ size. size ≤ length bytes.now) }
-        ensures registers { IfOk result (λ size. self.new.registers ≡ after_data self.old.registers kind (take size bytes.now)) }
-        ensures drawn { IfOk result (λ size. IsDrawnOn self.old.layouts kind self.old.registers (take (size_by self.old.registers) (drop start bytes.now)) self.old.image self.new.image) }
-        ensures allowed { IfOk result (λ size. data_refusal self.old.registers (device_if self.old.image) kind offset (offset + start) (drop start bytes.now) ≡ None) }
-        ensures refused { IfErr result (Refuses (data_refusal self.old.registers (device_if self.old.image) kind offset (offset + start) (drop start bytes.now))) }
+        ensures within { IfOk result (λ size. size ≤ length at.entry.bytes.now) }
+        ensures registers { IfOk result (λ size. self.new.registers ≡ after_data self.old.registers kind (take size at.entry.bytes.now)) }
+        ensures drawn { IfOk result (λ size. IsDrawnOn self.old.layouts kind self.old.registers (take (size_by self.old.registers) (drop start at.entry.bytes.now)) self.old.image self.new.image) }
+        ensures allowed { IfOk result (λ size. data_refusal self.old.registers (device_if self.old.image) kind at.entry.offset (at.entry.offset + start) (drop start at.entry.bytes.now) ≡ None) }
+        ensures refused { IfErr result (Refuses (data_refusal self.old.registers (device_if self.old.image) kind at.entry.offset (at.entry.offset + start) (drop start at.entry.bytes.now))) }
         ensures same_registers { IfErr result (λ fault. is_cut fault ≡ true → self.new.registers ≡ self.old.registers) }
         ensures same_image { IfErr result (λ fault. is_cut fault ≡ true → self.new.image ≡ self.old.image) }
     {
         match self.registers.device_for(kind, self.device()) {
-            Err(cause) => Err(fault_at(offset, cause)),
+            Err(cause) => Err(fault_at(at.offset, cause)),
             Ok(device) => {
                 let size = self.registers.data_size();
-                let body = body_of(size, offset + start, &bytes[start..])?;
+                let body = at.behind(start).body(size)?;
                 self.draw(alloc, device, kind, body)?;
                 let end = start + size + DATA_END.len();
-                self.registers.enter_data(kind, &bytes[..end]);
+                self.registers.enter_data(kind, &at.bytes[..end]);
                 Ok(end)
             }
         }

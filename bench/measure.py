@@ -153,7 +153,9 @@ def lines_of_last(text, work):
     """What is measured of the last text alone."""
     stream = stream_of(text, work)
     if os.path.exists(stream):
-        yield "icemulti", "4 times that", ["-o", "OUTPUT"] + 4 * [stream], os.devnull
+        # Under four names, since the stock tool writes one image for names that are equal.
+        copies = [shutil.copy(stream, stream + "." + str(k)) for k in range(4)]
+        yield "icemulti", "4 copies of that", ["-o", "OUTPUT"] + copies, os.devnull
     known = with_known_rams(text, work)
     if known:
         yield "icebram", "8 known RAMs", list(known[1:]), known[0]

@@ -1,21 +1,17 @@
 -- Bits that are set one after the other.
-use Rattle.std.proofs.Common.{◌≡◌, ◌≢◌, ℕ, ◌+◌, ◌*◌, ◌/◌, ◌%◌, ◌<◌, ◌≤◌, Bool, true, false, ◌&&◌, ◌||◌, ◌==◌, List, refl, sym, ap, ◌∙◌, subst, inl, inr, arith}
+use Rattle.std.proofs.Common.{◌≡◌, ◌≢◌, ℕ, ◌+◌, ◌*◌, ◌/◌, ◌%◌, ◌<◌, Bool, true, false, ◌&&◌, ◌||◌, ◌==◌, List, refl, sym, ap, ◌∙◌, subst, inl, inr, arith}
 use Rattle.std.proofs.lemmas.Bool.{cases_eq, cases_lt, cases_Bool, eq-eqb, ne_eqb, lt-ltb, both_ways}
 use Rattle.std.proofs.lemmas.Bool.Decides.{nat_tests}
 use Rattle.std.proofs.Math.Bool.{or-false, or-true, or_assoc}
 use Rattle.std.specs.Prelude.{nat_lt}
 use Rattle.plane_map.specs.Layout.{Layout}
 use Rattle.plane_map.specs.declared.tile.Place.{Place}
-use Rattle.ice_image.specs.Bits.{Bit, OfTile, OfWord, Extra, IsBit, bit_of, number_bit, row_ones, word_ones, IsSet, Gains}
+use Rattle.ice_image.specs.Bits.{Bit, OfTile, OfWord, Extra, IsBit, bit_of, number_bit, word_ones, IsSet, Gains}
 use Rattle.ice_image.specs.Configuration.{Configuration, IsWhole}
-use Rattle.ice_image.specs.declared.any.AnyImage.{AnyImage}
-use Rattle.ice_image.specs.Either.{configuration_of}
 use Rattle.ice_image.proofs.Owned.{is_same_place-same, is_same_place-self}
-use Rattle.asc_text.specs.Rows.{row_bit, memory_bytes}
-use Rattle.asc_text.specs.Meaning.{row_sets, line_sets, extra_sets}
+use Rattle.asc_text.specs.Rows.{memory_bytes}
+use Rattle.asc_text.specs.Meaning.{line_sets, extra_sets}
 use Rattle.asc_text.specs.inside.Gains.{word_in, bytes_set, bytes_set_below}
-use Rattle.asc_text.specs.inside.Reading.{ImageGains}
-use Rattle.std.specs.Prelude.{Option, Some, None}
 
 -- ---- one bit
 
@@ -160,18 +156,3 @@ pub bytes-line : (x y row : ℕ) (line : List ℕ) (bit : Bit) → bytes_set x y
 bytes-line x y row line (OfWord bit) = refl
 bytes-line x y row line (OfTile bit) = refl
 bytes-line x y row line (Extra at) = refl
-
--- a row's number has a 1 where the row has the character 1
-row_ones-line : (x y row ones : ℕ) (line : List ℕ) → ((col : ℕ) → number_bit ones col ≡ row_bit line col) → (bit : Bit) → row_ones x y row ones bit ≡ row_sets x y row line bit
-row_ones-line x y row ones line same (OfTile bit) = ap (λ t. (x == bit.x) && (y == bit.y) && (row == bit.row) && t) (same bit.col)
-row_ones-line x y row ones line same (OfWord bit) = refl
-row_ones-line x y row ones line same (Extra at) = refl
-
--- so an image that gains the one gains the other
-pub row-gained : (before after : Option AnyImage) (x y row ones : ℕ) (line : List ℕ) → ((col : ℕ) → number_bit ones col ≡ row_bit line col) → ImageGains before after (row_ones x y row ones) → ImageGains before after (row_sets x y row line)
-row-gained (Some before) (Some after) x y row ones line same gains = record {
-  device = gains.device;
-  gains = Gains-same (row_ones x y row ones) (row_sets x y row line) (configuration_of before) (configuration_of after) gains.gains (λ bit is. row_ones-line x y row ones line same bit);
-}
-row-gained (Some before) None x y row ones line same gains = absurd gains
-row-gained None after x y row ones line same gains = absurd gains

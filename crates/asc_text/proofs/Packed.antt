@@ -1,5 +1,5 @@
 -- Eight bytes as a number, and what is told from it.
-use Rattle.std.proofs.Common.{◌≡◌, ℕ, zero, suc, ◌+◌, ◌-◌, ◌*◌, ◌/◌, ◌%◌, ◌^◌, ◌<◌, ◌≤◌, Bool, true, false, ◌&&◌, ◌||◌, ◌==◌, List, [], ◌∷◌, length, get_or, take, drop, map, length-drop, ◌++◌, bit_and, refl, sym, ap, ◌∙◌, inl, inr, arith}
+use Rattle.std.proofs.Common.{◌≡◌, ℕ, zero, suc, ◌+◌, ◌-◌, ◌*◌, ◌/◌, ◌%◌, ◌^◌, ◌<◌, ◌≤◌, Bool, true, ◌&&◌, ◌||◌, ◌==◌, List, [], ◌∷◌, length, get_or, take, drop, map, length-drop, ◌++◌, bit_and, refl, sym, ap, ◌∙◌, arith}
 use Rattle.std.specs.List.{list_all, All}
 use Rattle.std.proofs.lemmas.List.Elements.{All-head, All-tail, All-take, All-drop}
 use Rattle.std.proofs.lemmas.List.{get_or_default, length-map, length-take-le, take-append-drop, drop-drop, take-map, drop-map, at_drop_all}
@@ -7,7 +7,6 @@ use Rattle.std.proofs.lemmas.List.Folds.{list_all-append}
 use Rattle.std.proofs.Math.Bool.{and_comm}
 use Rattle.std.proofs.lemmas.Nat.{and_mod, and_shr}
 use Rattle.std.proofs.lemmas.Nat.Bits.{and_high_mask, shr_and_one, bit_at_lowest}
-use Rattle.std.proofs.lemmas.Bool.{cases_eq}
 use Rattle.std.proofs.lemmas.Bool.Decides.{nat_tests}
 use Rattle.bit_plane.specs.BitList.{bit_value, word_of}
 use Rattle.bit_plane.proofs.Words.{bit_value-test, word_of-fits, word_of-drop_all}

@@ -1,7 +1,7 @@
 -- A command that was entered, or what is wrong with it.
-use Rattle.std.proofs.Common.{◌≡◌, ℕ, suc, ◌+◌, ◌*◌, ◌/◌, ◌%◌, ◌≤◌, Bool, true, false, not, ◌&&◌, List, [], ◌∷◌, ◌++◌, length, take, drop, refl, sym, ap, ap₂, subst, ◌∙◌, arith, inl, inr, append_assoc, length-append, length-take-le, take_at, take-append-drop, drop-drop}
-use Rattle.std.specs.Prelude.{Option, Some, None, nat_lt, ◌==◌}
-use Rattle.std.proofs.lemmas.Bool.{cases_Bool, ltb-false, eqb-true, and_parts}
+use Rattle.std.proofs.Common.{◌≡◌, ℕ, suc, ◌+◌, ◌*◌, ◌/◌, ◌%◌, ◌≤◌, Bool, true, false, not, ◌&&◌, List, [], ◌∷◌, ◌++◌, length, take, drop, sym, ap, ap₂, subst, ◌∙◌, arith, inl, inr, append_assoc, length-append, length-take-le, take_at, take-append-drop, drop-drop}
+use Rattle.std.specs.Prelude.{Option, Some, None, ◌==◌}
+use Rattle.std.proofs.lemmas.Bool.{cases_Bool, eqb-true, and_parts}
 use Rattle.place_search.specs.Places.{or_else}
 use Rattle.layout_file.specs.declared.layouts.Layouts.{Layouts}
 use Rattle.layout_file.specs.Layouts.{AreLayouts}
@@ -9,71 +9,20 @@ use Rattle.ice_image.specs.declared.any.AnyImage.{AnyImage}
 use Rattle.ice_image.specs.declared.planes.PlaneKind.{PlaneKind}
 use Rattle.bin_stream.specs.Commands.{Command, Short, Data, number_of, spelling, is_wake_up, control_opcode, wake_up_number}
 use Rattle.bin_stream.specs.State.{size_after}
-use Rattle.bin_stream.specs.Refusals.{Fault, cause_if, fault_at, first_fault, payload_fault, fault_where, body_fault, end_fault, data_cause, data_fault, data_kind}
+use Rattle.bin_stream.specs.Refusals.{Fault, cause_if, fault_at, head_fault, first_fault, payload_fault, fault_where, body_fault, data_cause, data_fault, data_kind}
 use Rattle.bin_stream.specs.Spelling.{first_command, command_of}
 use Rattle.bin_stream.specs.inside.Registers.{Held, held_after, short_cause_by, checked, after_short, data_cause_by, after_data}
-use Rattle.bin_stream.specs.inside.Step.{payload_refusal, device_if, Refuses, IsDrawnOn, Stands, IsEntered}
+use Rattle.bin_stream.specs.inside.Step.{device_if, Refuses, IsDrawnOn, Stands, IsEntered}
 use Rattle.bin_stream.specs.declared.fault.BinCause.{BinCause}
 use Rattle.bin_stream.specs.declared.fault.BinFault.{BinFault}
-use Rattle.bin_stream.specs.declared.fault.BinCause.TheVariants.{Truncated, DataEnd, NoDevice}
+use Rattle.bin_stream.specs.declared.fault.BinCause.TheVariants.{NoDevice}
+use Rattle.bin_stream.proofs.OneCommand.{neither, kind-from, body-ends}
 use Rattle.bin_stream.proofs.Steps.{head_of, payload_in, behind_payload, with_payload, read_fault, read_command, length-payload, spelled_short, short_cause-is, after_short-is, held_after-short, held_after-data}
 use Rattle.bin_stream.proofs.Drawn.{device_if-is, Holds-short, Holds-data}
 
 -- a fault that was told of an equal value
 pub Refuses-by : (found other : Option Fault) (fault : BinFault) → found ≡ other → Refuses other fault → Refuses found fault
 Refuses-by found other fault same told = subst (λ (found : Option Fault). Refuses found fault) (sym same) told
-
--- the parts of a value that is missing
-or_else-parts : {A : Type 0} (a b : Option A) → or_else a b ≡ None → (a ≡ None) × (b ≡ None)
-or_else-parts (Some a) b none = absurd cc
-or_else-parts None b none = (refl, none)
-
--- data have opcode 0
-data_opcode : (opcode n : ℕ) (kind : PlaneKind) → data_kind opcode n ≡ Some kind → opcode ≡ control_opcode
-data_opcode opcode n kind is =
-    elim (cases_Bool (opcode == control_opcode)) [
-      | inl here ↦ eqb-true opcode control_opcode here
-      | inr other ↦
-          let bad : None ≡ Some kind = rw other at is in
-          absurd cc
-    ]
-
--- two bytes 00 stand behind data that end well
-end_zeros : (place : ℕ) (bytes : List ℕ) → end_fault place bytes ≡ None → bytes ≡ 0 ∷ 0 ∷ drop 2 bytes
-end_zeros place [] is = absurd cc
-end_zeros place (byte ∷ []) is =
-    elim (cases_Bool (byte == 0)) [
-      | inl zero_byte ↦
-          let bad : Some (fault_at (place + 1) Truncated) ≡ None = rw zero_byte at is in
-          absurd cc
-      | inr other ↦
-          let bad : Some (fault_at place DataEnd) ≡ None = rw other at is in
-          absurd cc
-    ]
-end_zeros place (byte ∷ next ∷ rest) is =
-    elim (cases_Bool (byte == 0)) [
-      | inl first ↦ elim (cases_Bool (next == 0)) [
-        | inl second ↦ ap₂ (λ byte next. byte ∷ next ∷ rest) (eqb-true byte 0 first) (eqb-true next 0 second)
-        | inr other ↦
-            let bad : Some (fault_at (place + 1) DataEnd) ≡ None = rw (first, other) at is in
-            absurd cc
-      ]
-      | inr other ↦
-          let bad : Some (fault_at place DataEnd) ≡ None = rw other at is in
-          absurd cc
-    ]
-
--- data of so many bytes that end well
-body_zeros : (size place : ℕ) (bytes : List ℕ) → body_fault size place bytes ≡ None → (size ≤ length bytes) × (drop size bytes ≡ 0 ∷ 0 ∷ drop 2 (drop size bytes))
-body_zeros size place bytes is =
-    elim (cases_Bool (nat_lt (length bytes) size)) [
-      | inl short ↦
-          let bad : Some (fault_at (place + length bytes) Truncated) ≡ None = rw short at is in
-          absurd cc
-      | inr enough ↦
-          let ends : end_fault (place + size) (drop size bytes) ≡ None = rw enough at is in
-          (ltb-false (length bytes) size enough, end_zeros (place + size) (drop size bytes) ends)
-    ]
 
 -- a wake-up that may stand there has a configuration plane's last row before it
 wake_up_reached : (held : Held) (opcode n : ℕ) → ((opcode == control_opcode) && (n == wake_up_number)) ≡ true → None ≡ short_cause_by held opcode n → held.reached ≡ true
@@ -89,7 +38,7 @@ wake_up_reached held opcode n is allowed =
           absurd cc
     ]
 
-module _ (layouts : Layouts) (commands : List Command) (place n : ℕ) (bytes payload spelled : List ℕ) (held : Held) (image : Option AnyImage) (fine : payload_refusal place bytes ≡ None) (payload_is : payload ≡ payload_in bytes) (n_is : n ≡ number_of payload) (stands : Stands layouts commands held image) where
+module _ (layouts : Layouts) (commands : List Command) (place n : ℕ) (bytes payload spelled : List ℕ) (held : Held) (image : Option AnyImage) (fine : head_fault place bytes ≡ None) (payload_is : payload ≡ payload_in bytes) (n_is : n ≡ number_of payload) (stands : Stands layouts commands held image) where
   abbrev opcode : ℕ
   opcode = head_of bytes / 16
 
@@ -180,7 +129,7 @@ module _ (layouts : Layouts) (commands : List Command) (place n : ℕ) (bytes pa
       ended : (size_after commands ≤ length (behind_payload bytes)) × (drop (size_after commands) (behind_payload bytes) ≡ 0 ∷ 0 ∷ drop 2 (drop (size_after commands) (behind_payload bytes)))
       ended =
           let none : data_fault commands kind place (place + 1 + length (payload_in bytes)) (behind_payload bytes) ≡ None = ap (λ kind. payload_fault commands place opcode (payload_in bytes) kind (behind_payload bytes)) (sym with_kind) ∙ sym (read_fault commands place bytes fine) ∙ allowed in
-          body_zeros (size_after commands) (place + 1 + length (payload_in bytes)) (behind_payload bytes) (or_else-parts (fault_where place (data_cause commands kind)) (body_fault (size_after commands) (place + 1 + length (payload_in bytes)) (behind_payload bytes)) none).1
+          body-ends (size_after commands) (place + 1 + length (payload_in bytes)) (behind_payload bytes) (neither (fault_where place (data_cause commands kind)) (body_fault (size_after commands) (place + 1 + length (payload_in bytes)) (behind_payload bytes)) none).1
 
       length-spelling : length (spelling command) ≡ 1 + length payload + size_after commands + 2
       length-spelling =
@@ -191,7 +140,7 @@ module _ (layouts : Layouts) (commands : List Command) (place n : ℕ) (bytes pa
       whole =
           let p = payload_in bytes in
           let more = drop 2 (drop (size_after commands) (behind_payload bytes)) in
-          let no_opcode : head_of bytes / 16 ≡ 0 = data_opcode opcode n kind is_data in
+          let no_opcode : head_of bytes / 16 ≡ 0 = (kind-from opcode n kind is_data).0 in
           let head : head_of bytes ≡ length p = omega (arith, length-payload place bytes fine) in
           let back : behind_payload bytes ≡ body ++ (0 ∷ 0 ∷ more) = sym (take-append-drop (size_after commands) (behind_payload bytes)) ∙ ap (λ rest. body ++ rest) ended.1 in
           let rest : drop 1 bytes ≡ p ++ (body ++ (0 ∷ 0 ∷ more)) = sym (take-append-drop (head_of bytes % 16) (drop 1 bytes)) ∙ ap (λ rest. p ++ rest) back in

@@ -1,14 +1,14 @@
 -- The first preamble of bytes that others follow.
-use Rattle.std.proofs.Common.{◌≡◌, ℕ, zero, suc, ◌+◌, ◌-◌, ◌<◌, ◌≤◌, ◌⊎◌, Bool, true, false, ◌&&◌, List, [], ◌∷◌, ◌++◌, length, take, drop, Option, Some, None, length-append, length-drop, drop-drop, refl, sym, ap, ap₂, subst, ◌∙◌, inl, inr, arith}
-use Rattle.std.specs.Prelude.{bytes_eq, ◌==◌}
-use Rattle.std.proofs.lemmas.Bool.{cases_Bool, cases_lt, cases_eq, and_right, false_from_ne_true}
-use Rattle.std.proofs.lemmas.List.{take-append-le, drop-append-le, length-take}
+use Rattle.std.proofs.Common.{◌≡◌, ℕ, zero, suc, ◌+◌, ◌-◌, ◌<◌, ◌≤◌, ◌⊎◌, Bool, true, false, ◌&&◌, List, [], ◌∷◌, ◌++◌, length, take, drop, Option, Some, None, length-append, length-drop, drop-drop, append_assoc, take-append-drop, take_all, refl, sym, ap, ap₂, subst, ◌∙◌, inl, inr, arith}
+use Rattle.std.specs.Prelude.{bytes_eq, ◌==◌, IfSome}
+use Rattle.std.proofs.lemmas.Bool.{cases_lt, cases_eq, and_right, false_from_ne_true}
+use Rattle.std.proofs.lemmas.List.{take-append-le, drop-append-le, length-take, length-take-le, drop_at}
 use Rattle.std.proofs.lemmas.Slice.Eq.{bytes_eq-Decides}
 use Rattle.std.proofs.Math.Seq.{drop-nil}
 use Rattle.place_search.specs.Places.{least_below, or_here}
 use Rattle.place_search.proofs.Places.{least_below-first, least_below-none}
 use Rattle.bin_stream.specs.Front.{preamble, preamble_offset, is_preamble_at, comment_of}
-use Rattle.bin_stream.specs.inside.Stages.{begins_comment, KeepsFront}
+use Rattle.bin_stream.specs.inside.Stages.{begins_comment, IsPlain, KeepsFront, KeepsPlain}
 use Rattle.bin_stream.proofs.PreamblePlace.{least_below-place}
 
 -- ---- places before the least one
@@ -120,93 +120,98 @@ begins_comment-grown bytes more long = ap (λ (first : List ℕ). bytes_eq first
 -- ---- what is kept of a front
 
 -- nothing of nothing
-pub keeps-nothing : (kept : List ℕ) → kept ≡ [] → KeepsFront [] false kept
+pub keeps-nothing : (kept : List ℕ) → kept ≡ [] → KeepsFront [] kept
 unfolding preamble_offset least_below
-keeps-nothing kept is = record {
-  none = refl;
-  within = omega (arith, ap length is);
-  kept_is = is ∙ sym (drop-nil (0 - length kept));
-  whole = λ _. is;
-  plain = λ is_yes. absurd cc;
-}
+keeps-nothing kept is = record { none = refl; kept_is = is }
 
-module _ (bytes : List ℕ) (is_plain : Bool) (kept piece : List ℕ) (keeps : KeepsFront bytes is_plain kept) where
+plain-grown : (bytes more : List ℕ) → IsPlain bytes → IsPlain (bytes ++ more)
+plain-grown bytes more plain = (omega (arith, plain.0, length-append bytes more), begins_comment-grown bytes more (omega (arith, plain.0)) ∙ plain.1)
+
+-- of a plain front the last three bytes
+pub keeps-last : (bytes last : List ℕ) → preamble_offset bytes ≡ None → IsPlain bytes → last ≡ drop (length bytes - 3) bytes → KeepsPlain bytes last
+keeps-last bytes last none plain is = record { none = none; plain = plain; last_is = is }
+
+module _ (bytes piece : List ℕ) (none : preamble_offset bytes ≡ None) where
   abbrev all : List ℕ
   all = bytes ++ piece
 
-  abbrev joined : List ℕ
-  joined = kept ++ piece
+  -- before the last three bytes there is no preamble
+  early : (j : ℕ) → j < length bytes - 3 → is_preamble_at all j ≡ false
+  early j lt = at-grown bytes piece j (omega arith) ∙ none-within bytes j none (omega arith)
 
-  -- how many bytes aren't kept
+  -- the first one is found from there on
+  pub found-grown : (searched found : ℕ) → searched ≡ length bytes - 3 → preamble_offset (drop searched all) ≡ Some found → preamble_offset all ≡ Some (searched + found)
+  found-grown searched found is there = found-behind all searched found (λ j lt. early j (omega arith)) there
+
+  pub none-grown : (searched : ℕ) → searched ≡ length bytes - 3 → preamble_offset (drop searched all) ≡ None → preamble_offset all ≡ None
+  none-grown searched is there = none-behind all searched (λ j lt. early j (omega arith)) there
+
+module _ (bytes last piece : List ℕ) (keeps : KeepsPlain bytes last) where
+  abbrev whole : List ℕ
+  whole = bytes ++ piece
+
   abbrev dropped : ℕ
-  dropped = length bytes - length kept
+  dropped = length bytes - 3
 
-  pub joined-is : joined ≡ drop dropped all
-  joined-is = ap (λ kept. kept ++ piece) keeps.kept_is ∙ sym (drop-append-le dropped bytes piece (omega arith))
+  joined-is : drop dropped whole ≡ last ++ piece
+  joined-is = drop-append-le dropped bytes piece (omega arith) ∙ ap (λ last. last ++ piece) (sym keeps.last_is)
 
-  -- nothing isn't kept, or three bytes are
-  enough : (dropped ≡ 0) ⊎ (3 ≤ length kept)
-  enough =
-      elim (cases_Bool is_plain) [
-        | inl plain ↦ inr (keeps.plain plain).0
-        | inr whole ↦ inl (omega (arith, ap length (keeps.whole whole)))
-      ]
+  -- a preamble is found over the boundary or behind it
+  pub found-plain : (found : ℕ) → preamble_offset (last ++ piece) ≡ Some found → preamble_offset whole ≡ Some (dropped + found)
+  found-plain found is = found-grown bytes piece keeps.none dropped found refl (ap preamble_offset joined-is ∙ is)
 
-  early : (j : ℕ) → j < dropped + (length kept - 3) → is_preamble_at all j ≡ false
-  early j lt =
-      let within = keeps.within in
-      let room : j + 4 ≤ length bytes = elim enough [ inl none ↦ omega arith | inr three ↦ omega arith ] in
-      at-grown bytes piece j room ∙ none-within bytes j keeps.none (omega arith)
+  -- and there is no comment before it
+  pub plain-found : (place : ℕ) → comment_of (take place whole) ≡ None
+  plain-found place =
+      let plain = plain-grown bytes piece keeps.plain in
+      plain-front whole place (omega (arith, plain.0)) plain.1
 
-  searched-is : drop (length kept - 3) joined ≡ drop (dropped + (length kept - 3)) all
-  searched-is =
-      ap (drop (length kept - 3)) joined-is ∙ drop-drop (length kept - 3) dropped all
-
-  -- the preamble is found
-  pub found-joined : (found : ℕ) → Some found ≡ preamble_offset (drop (length kept - 3) joined) → preamble_offset all ≡ Some (dropped + (length kept - 3 + found))
-  found-joined found is =
-      let e : dropped + (length kept - 3) + found ≡ dropped + (length kept - 3 + found) = omega arith in
-      found-behind all (dropped + (length kept - 3)) found early (sym (is ∙ ap preamble_offset searched-is)) ∙ ap (λ n. Some n) e
-
-  -- or it isn't there
-  pub keeps-joined : None ≡ preamble_offset (drop (length kept - 3) joined) → KeepsFront all is_plain joined
-  keeps-joined is =
-      let within = keeps.within in
-      let left : dropped ≡ length all - length joined = omega (arith, length-append bytes piece, length-append kept piece) in
+  -- or there is none
+  pub plain-goes_on : (after : List ℕ) → preamble_offset (last ++ piece) ≡ None → after ≡ drop (length piece) (last ++ piece) → KeepsPlain whole after
+  plain-goes_on after is after_is =
+      let three = keeps.plain.0 in
+      let e : length piece + dropped ≡ length whole - 3 = omega (arith, length-append bytes piece) in
       record {
-        none = none-behind all (dropped + (length kept - 3)) early (sym (is ∙ ap preamble_offset searched-is));
-        within = omega (arith, length-append bytes piece, length-append kept piece);
-        kept_is = joined-is ∙ ap (λ n. drop n all) left;
-        whole = λ is_no. ap (λ kept. kept ++ piece) (keeps.whole is_no);
-        plain = λ is_yes. (omega (arith, (keeps.plain is_yes).0, length-append kept piece), begins_comment-grown bytes piece (omega (arith, (keeps.plain is_yes).0)) ∙ (keeps.plain is_yes).1);
+        none = none-grown bytes piece keeps.none dropped refl (ap preamble_offset joined-is ∙ is);
+        plain = plain-grown bytes piece keeps.plain;
+        last_is = after_is ∙ ap (drop (length piece)) (sym joined-is) ∙ drop-drop (length piece) dropped whole ∙ ap (λ n. drop n whole) (omega (arith, e));
       }
 
-  -- the comment in the front that is found
-  pub comment-joined : (place : ℕ) (comment : Option (List (List ℕ))) → (is_plain ≡ true → comment ≡ None) → (is_plain ≡ false → comment ≡ comment_of (take place joined)) → comment ≡ comment_of (take (dropped + place) all)
-  comment-joined place comment plain whole =
-      elim (cases_Bool is_plain) [
-        | inl is_yes ↦
-            let three = (keeps.plain is_yes).0 in
-            let within = keeps.within in
-            plain is_yes ∙ sym (plain-front all (dropped + place) (omega (arith, length-append bytes piece)) (begins_comment-grown bytes piece (omega arith) ∙ (keeps.plain is_yes).1))
-        | inr is_no ↦
-            let e : place ≡ dropped + place = omega (arith, ap length (keeps.whole is_no)) in
-            whole is_no ∙ ap₂ (λ place bytes. comment_of (take place (bytes ++ piece))) e (keeps.whole is_no)
+-- ---- the boundary
+
+module _ (last piece edge : List ℕ) (three : length last ≡ 3) (edge_is : edge ≡ last ++ take 3 piece) where
+  edge-joined : last ++ piece ≡ edge ++ drop 3 piece
+  edge-joined = ap (λ piece. last ++ piece) (sym (take-append-drop 3 piece)) ∙ sym (append_assoc last (take 3 piece) (drop 3 piece)) ∙ ap (λ edge. edge ++ drop 3 piece) (sym edge_is)
+
+  edge-length : length edge ≡ 3 + length (take 3 piece)
+  edge-length = omega (arith, ap length edge_is, length-append last (take 3 piece))
+
+  -- a preamble at the boundary is the first one
+  pub found-edge : (found : ℕ) → preamble_offset edge ≡ Some found → preamble_offset (last ++ piece) ≡ Some found
+  found-edge found is = ap preamble_offset edge-joined ∙ preamble_offset-grown edge (drop 3 piece) found is
+
+  none-edge : preamble_offset edge ≡ None → (j : ℕ) → j < 3 → is_preamble_at (last ++ piece) j ≡ false
+  none-edge none j lt =
+      elim (cases_lt (length piece) 3) [
+        | inl short ↦
+            let same : edge ≡ last ++ piece = edge_is ∙ ap (λ piece. last ++ piece) (take_all 3 piece (omega arith)) in
+            ap (λ bytes. is_preamble_at bytes j) (sym same) ∙ none-within edge j none (omega (arith, edge-length))
+        | inr long ↦
+            let room : j + 4 ≤ length edge = omega (arith, edge-length, length-take-le 3 piece long) in
+            ap (λ bytes. is_preamble_at bytes j) edge-joined ∙ at-grown edge (drop 3 piece) j room ∙ none-within edge j none (omega arith)
       ]
 
--- of a plain front the last three bytes are enough
-pub keeps-last : (bytes : List ℕ) (is_plain : Bool) (kept last : List ℕ) → KeepsFront bytes is_plain kept → 3 < length kept → (is_plain ≡ false → begins_comment kept ≡ false) → last ≡ drop (length kept - 3) kept → KeepsFront bytes true last
-keeps-last bytes is_plain kept last keeps long plain is =
-    let within = keeps.within in
-    let three : length last ≡ 3 = ap length is ∙ omega (arith, length-drop (length kept - 3) kept) in
-    let e : length bytes - length kept + (length kept - 3) ≡ length bytes - length last = omega arith in
-    record {
-      none = keeps.none;
-      within = omega arith;
-      kept_is = is ∙ ap (λ (all : List ℕ). drop (length kept - 3) all) keeps.kept_is ∙ drop-drop (length kept - 3) (length bytes - length kept) bytes ∙ ap (λ n. drop n bytes) e;
-      whole = λ is_no. absurd cc;
-      plain = λ is_yes. (omega arith, elim (cases_Bool is_plain) [
-        | inl was ↦ (keeps.plain was).1
-        | inr wasnt ↦ ap begins_comment (sym (keeps.whole wasnt)) ∙ plain wasnt
-      ]);
-    }
+  behind-last : drop 3 (last ++ piece) ≡ piece
+  behind-last = drop_at last piece 3 three
+
+  -- else the first one of the piece
+  pub found-behind_edge : (found : ℕ) → preamble_offset edge ≡ None → preamble_offset piece ≡ Some found → preamble_offset (last ++ piece) ≡ Some (3 + found)
+  found-behind_edge found none is = found-behind (last ++ piece) 3 found (none-edge none) (ap preamble_offset behind-last ∙ is)
+
+  pub none-behind_edge : preamble_offset edge ≡ None → preamble_offset piece ≡ None → preamble_offset (last ++ piece) ≡ None
+  none-behind_edge none is = none-behind (last ++ piece) 3 (none-edge none) (ap preamble_offset behind-last ∙ is)
+
+  -- which is told by where it ends
+  pub start-behind_edge : (start : Option ℕ) → preamble_offset edge ≡ None → IfSome start (λ start. (4 ≤ start) × (start ≤ length piece)) → IfSome start (λ start. preamble_offset piece ≡ Some (start - 4)) → IfSome start (λ start. preamble_offset (last ++ piece) ≡ Some (start - 1))
+  start-behind_edge None none within found = tt
+  start-behind_edge (Some start) none within found = found-behind_edge (start - 4) none found ∙ ap (λ n. Some n) (omega (arith, within.0))

@@ -82,7 +82,7 @@ no_cause place None is = refl
 no_cause place (Some cause) is = absurd cc
 
 -- neither of two values
-neither : {A : Type 0} (first second : Option A) → or_else first second ≡ None → (first ≡ None) × (second ≡ None)
+pub neither : {A : Type 0} (first second : Option A) → or_else first second ≡ None → (first ≡ None) × (second ≡ None)
 neither None second is = (refl, is)
 neither (Some value) second is = absurd cc
 
@@ -102,7 +102,7 @@ number-from n kind is =
     ]
 
 -- data begin with opcode 0 and the number of their kind
-kind-from : (opcode n : ℕ) (kind : PlaneKind) → data_kind opcode n ≡ Some kind → (opcode ≡ 0) × (n ≡ kind_number kind)
+pub kind-from : (opcode n : ℕ) (kind : PlaneKind) → data_kind opcode n ≡ Some kind → (opcode ≡ 0) × (n ≡ kind_number kind)
 kind-from opcode n kind is =
     elim (cases_eq opcode 0) [
       | inl control ↦ (control, number-from n kind (sym (ap (λ o. data_kind o n) control) ∙ is))
@@ -127,13 +127,13 @@ end-fits place (byte ∷ next ∷ rest) is =
     ]
 
 -- data without a fault
-body-from : (size place : ℕ) (bytes : List ℕ) → body_fault size place bytes ≡ None → (size ≤ length bytes) × (bytes ≡ take size bytes ++ 0 ∷ 0 ∷ drop 2 (drop size bytes))
-body-from size place bytes is =
+pub body-ends : (size place : ℕ) (bytes : List ℕ) → body_fault size place bytes ≡ None → (size ≤ length bytes) × (drop size bytes ≡ 0 ∷ 0 ∷ drop 2 (drop size bytes))
+body-ends size place bytes is =
     elim (cases_lt (length bytes) size) [
       | inl lacks ↦ let wrong : Some (fault_at (place + length bytes) Truncated) ≡ None = rw (lt-ltb (length bytes) size lacks) at is in absurd cc
       | inr within ↦
           let clear : end_fault (place + size) (drop size bytes) ≡ None = rw (le-ltb (length bytes) size within) at is in
-          (within, sym (take-append-drop size bytes) ∙ ap (λ tail. take size bytes ++ tail) (end-fits (place + size) (drop size bytes) clear))
+          (within, end-fits (place + size) (drop size bytes) clear)
     ]
 
 -- the command of a payload without a fault
@@ -149,14 +149,15 @@ payload-begins before place opcode payload behind (Some kind) begun short clear 
     let size = size_after before in
     let parts = neither (fault_where place (data_cause before kind)) (body_fault size start behind) clear in
     let begins = kind-from opcode (number_of payload) kind begun in
-    let body = body-from size start behind parts.1 in
+    let body = body-ends size start behind parts.1 in
+    let whole : behind ≡ take size behind ++ 0 ∷ 0 ∷ drop 2 (drop size behind) = sym (take-append-drop size behind) ∙ ap (λ tail. take size behind ++ tail) body.1 in
     let head : 16 * opcode + length payload ≡ length payload = omega (arith, begins.0) in
     let tail = drop 2 (drop size behind) in
     record {
       command = Data kind payload (take size behind);
       rest = tail;
       spelled_is =
-          ap₂ (λ first rest. first ∷ payload ++ rest) head body.1
+          ap₂ (λ first rest. first ∷ payload ++ rest) head whole
           ∙ ap (λ bytes. length payload ∷ bytes) (sym (data-joined payload (take size behind) tail));
       allowed = (short, begins.1, no_cause place (data_cause before kind) parts.0, length-take-le size behind body.0);
     }

@@ -1,5 +1,5 @@
 -- Commands that are read one after the other.
-use Rattle.std.proofs.Common.{◌≡◌, ℕ, suc, ◌+◌, ◌-◌, ◌<◌, ◌≤◌, Bool, true, false, List, [], ◌∷◌, ◌++◌, length, take, drop, refl, sym, ap, ap₂, subst, ◌∙◌, arith, drop-drop}
+use Rattle.std.proofs.Common.{◌≡◌, ℕ, suc, ◌+◌, ◌-◌, ◌≤◌, Bool, true, false, List, [], ◌∷◌, ◌++◌, length, take, drop, refl, sym, ap, subst, ◌∙◌, arith}
 use Rattle.std.specs.Prelude.{Option, Some, None, Result, Ok, Err}
 use Rattle.place_search.specs.Places.{any_below, last_below, first_below}
 use Rattle.bit_plane.specs.Rows.{Rows}
@@ -11,7 +11,7 @@ use Rattle.ice_image.specs.declared.settings.Settings.{Settings}
 use Rattle.ice_image.specs.Either.{configuration_of, device_of}
 use Rattle.ice_image.specs.declared.any.AnyImage.{AnyImage}
 use Rattle.ice_image.specs.declared.planes.PlaneKind.TheVariants.{Cram}
-use Rattle.bin_stream.specs.Commands.{Command, spelling, is_wake_up}
+use Rattle.bin_stream.specs.Commands.{Command, is_wake_up}
 use Rattle.bin_stream.specs.State.{device_after}
 use Rattle.bin_stream.specs.Refusals.{Fault, fault_at, first_fault, reached_in}
 use Rattle.bin_stream.specs.Front.{preamble_offset, comment_of}
@@ -32,21 +32,7 @@ Stands-first layouts held is = record {
   drawn = record { no_device = refl; not_reached = refl; no_bit = λ kind at. refl };
 }
 
--- nothing is read
-pub HasRead-first : (layouts : Layouts) (bytes : List ℕ) (start : ℕ) (held : Held) → held ≡ held_first → HasRead layouts bytes start start held None
-HasRead-first layouts bytes start held is = record {
-  commands = [];
-  most = length bytes + 1;
-  enough = omega arith;
-  goes_on = refl;
-  stands = Stands-first layouts held is;
-}
-
--- what there is where the first command is read
-step_from : (most : ℕ) (commands : List Command) (place : ℕ) (bytes : List ℕ) → first_fault commands place bytes ≡ None → is_wake_up (first_command commands bytes) ≡ false → commands_from (suc most) commands place bytes ≡ commands_from most (commands ++ first_command commands bytes ∷ []) (place + length (spelling (first_command commands bytes))) (drop (length (spelling (first_command commands bytes))) bytes)
-unfolding commands_from
-step_from most commands place bytes fine goes = rw (fine, goes) refl
-
+-- the wake-up is read
 last_from : (most : ℕ) (commands : List Command) (place : ℕ) (bytes : List ℕ) → first_fault commands place bytes ≡ None → is_wake_up (first_command commands bytes) ≡ true → commands_from (suc most) commands place bytes ≡ Ok (commands ++ first_command commands bytes ∷ [])
 unfolding commands_from
 last_from most commands place bytes fine last = rw (fine, last) refl
@@ -78,24 +64,6 @@ module _ (layouts : Layouts) (bytes : List ℕ) (start place : ℕ) (held : Held
 
   goes_on : (m : ℕ) → read.most ≡ suc m → commands_from (length bytes + 1) [] start (drop start bytes) ≡ commands_from (suc m) read.commands place (drop place bytes)
   goes_on m is = read.goes_on ∙ ap (λ most. commands_from most read.commands place (drop place bytes)) is
-
-  -- one command more
-  pub HasRead-more : (size next : ℕ) (is_last : Bool) (after : Held) (shown : Option AnyImage) → IsEntered layouts read.commands place (drop place bytes) size is_last after shown → is_last ≡ false → 0 < size → next ≡ place + size → HasRead layouts bytes start next after shown
-  HasRead-more size next is_last after shown entered goes some next_is =
-      let more = some_more in
-      let command = first_command read.commands (drop place bytes) in
-      let places : place + length (spelling command) ≡ next = omega (arith, entered.size_is) in
-      let rests : drop (length (spelling command)) (drop place bytes) ≡ drop next bytes = drop-drop (length (spelling command)) place bytes ∙ ap (λ n. drop n bytes) (omega (arith, entered.size_is)) in
-      record {
-        commands = read.commands ++ command ∷ [];
-        most = more.0;
-        enough = omega (arith, read.enough, more.1);
-        goes_on =
-            goes_on more.0 more.1
-            ∙ step_from more.0 read.commands place (drop place bytes) entered.fine (sym entered.last_is ∙ goes)
-            ∙ ap₂ (commands_from more.0 (read.commands ++ command ∷ [])) places rests;
-        stands = entered.stands;
-      }
 
   -- a fault
   pub read_refused : (fault : BinFault) → Refuses (first_fault read.commands place (drop place bytes)) fault → (front : List ℕ) → Tells (image_of layouts front (commands_from (length bytes + 1) [] start (drop start bytes))) fault

@@ -1,5 +1,5 @@
 -- What is wrong with a command stays wrong when bytes follow, unless it is that the input ends.
-use Rattle.std.proofs.Common.{◌≡◌, ℕ, suc, ◌+◌, ◌*◌, ◌/◌, ◌%◌, ◌<◌, ◌≤◌, Bool, true, false, not, ◌⊎◌, List, [], ◌∷◌, ◌++◌, length, take, drop, refl, sym, ap, ap₂, subst, ◌∙◌, arith, inl, inr, length-append, length-drop, length-take-le}
+use Rattle.std.proofs.Common.{◌≡◌, ℕ, suc, ◌+◌, ◌/◌, ◌%◌, ◌≤◌, Bool, true, false, not, ◌⊎◌, List, [], ◌∷◌, ◌++◌, length, take, drop, refl, sym, ap, subst, ◌∙◌, arith, inl, inr, length-append, length-drop, length-take-le}
 use Rattle.std.specs.Prelude.{Option, Some, None, nat_lt, ◌==◌, if◌then◌else◌}
 use Rattle.std.proofs.lemmas.Bool.{cases_Bool, cases_lt, lt-ltb, le-ltb}
 use Rattle.std.proofs.lemmas.List.{take-append-le, drop-append-le}
@@ -7,10 +7,10 @@ use Rattle.place_search.specs.Places.{or_else}
 use Rattle.ice_image.specs.declared.planes.PlaneKind.{PlaneKind}
 use Rattle.bin_stream.specs.Commands.{Command, Short, number_of, control_opcode, bank_opcode, check_opcode, boot_address_opcode, range_opcode, width_opcode, height_opcode, offset_opcode, mode_opcode, reset_number, wake_up_number}
 use Rattle.bin_stream.specs.State.{size_after, first_row_after, height_after, width_after}
-use Rattle.bin_stream.specs.Refusals.{Fault, fault_at, fault_where, cause_if, is_mode, is_bad_height, width_cause, height_cause, device_for, data_cause, control_cause, check_cause, check_found, reached_in, short_cause, short_cause_where, end_fault, body_fault, data_fault, data_kind, payload_fault, first_fault}
+use Rattle.bin_stream.specs.Refusals.{Fault, fault_at, fault_where, cause_if, is_mode, is_bad_height, width_cause, height_cause, device_for, data_cause, control_cause, check_found, reached_in, short_cause, short_cause_where, end_fault, body_fault, data_kind, payload_fault, first_fault}
 use Rattle.bin_stream.specs.Settled.{is_unfinished}
 use Rattle.bin_stream.specs.declared.fault.BinCause.{BinCause}
-use Rattle.bin_stream.specs.declared.fault.BinCause.TheVariants.{Truncated, LongPayload, DataEnd, BadWidth, BadHeight, BadBank, BadRange, BadMode, NoDevice, UnknownCommand, Check}
+use Rattle.bin_stream.specs.declared.fault.BinCause.TheVariants.{Truncated, BadWidth, BadHeight, BadBank, BadRange, BadMode, NoDevice, UnknownCommand, Check}
 use Rattle.plane_map.specs.declared.device.DeviceName.{DeviceName}
 use Rattle.bin_stream.proofs.OneCommand.{fault-head}
 

@@ -11,21 +11,23 @@ use Rattle.ice_image.specs.declared.any.AnyImage.{AnyImage}
 use Rattle.bin_stream.specs.Commands.{Command, spelling, spelled, is_wake_up}
 use Rattle.bin_stream.specs.Refusals.{Fault, fault_at, first_fault}
 use Rattle.bin_stream.specs.Front.{preamble, preamble_offset, comment_of}
-use Rattle.bin_stream.specs.Spelling.{Spells, FailsAt, IsRefused, IsFront, IsAllowed, NoWakeUp, first_command, commands_from, image_of, bin_read_of, Tells}
+use Rattle.bin_stream.specs.Spelling.{Spells, FailsAt, IsRefused, IsFront, IsAllowed, NoWakeUp, first_command, commands_from, image_of, bin_read_of, IsDecided, Tells}
 use Rattle.bin_stream.specs.Settled.{is_unfinished, Settles, IsOpen}
+use Rattle.bin_stream.specs.Decoding.{StandsFor}
+use Rattle.bin_stream.specs.declared.reading.pieces.Decoder.{Decoder}
 use Rattle.bin_stream.specs.inside.Registers.{Held, held_first}
 use Rattle.bin_stream.specs.inside.Step.{Refuses, IsEntered, HasRead, IsFinished, Stands}
-use Rattle.bin_stream.specs.inside.Stages.{is_cut, KeepsFront, IsReading, IsCut, IsWoken, IsStage, fault_in}
+use Rattle.bin_stream.specs.inside.Stages.{is_cut, KeepsPlain, IsReading, IsCut, IsWoken, IsStage, fault_in}
 use Rattle.bin_stream.specs.declared.fault.BinCause.TheVariants.{NoPreamble, Truncated}
 use Rattle.bin_stream.specs.declared.fault.BinFault.{BinFault}
 use Rattle.bin_stream.specs.declared.fault.BinFault.TheVariants.{At, Memory}
 use Rattle.bin_stream.specs.declared.reading.stage.Stage.{Stage}
-use Rattle.bin_stream.specs.declared.reading.stage.Stage.TheVariants.{Front, Commands, Image, Refused}
+use Rattle.bin_stream.specs.declared.reading.stage.Stage.TheVariants.{Front, Plain, Commands, Image, Refused}
 use Rattle.bin_stream.proofs.Allowed.{Follows-from_IsAllowed, IsAllowed-from_Follows, Follows-push}
 use Rattle.bin_stream.proofs.OneCommand.{first_fault-begins, first_command-is}
 use Rattle.bin_stream.proofs.ManyCommands.{length-spelled, spelled-push, commands_from-run}
 use Rattle.bin_stream.proofs.PreamblePlace.{preamble_offset-splits}
-use Rattle.bin_stream.proofs.FrontGrown.{preamble_offset-grown, joined-is, found-joined, keeps-joined, comment-joined}
+use Rattle.bin_stream.proofs.FrontGrown.{preamble_offset-grown, found-plain, plain-found}
 use Rattle.bin_stream.proofs.Settled.{first_fault-stays, first_fault-ends}
 use Rattle.bin_stream.proofs.ReadSoFar.{Stands-first, read_refused, read_image, not_missing, read_at, read_nowhere}
 use Rattle.bin_stream.proofs.Decided.{decided}
@@ -49,6 +51,12 @@ reading-first layouts bytes place comment held is comment_is held_is =
       stands = Stands-first layouts held held_is;
       offset_is = omega (arith, long);
     }
+
+-- the same of bytes that are all at hand
+pub reading-whole : (layouts : Layouts) (bytes : List ℕ) (place : ℕ) (comment : Option (List (List ℕ))) (held : Held) → Some place ≡ preamble_offset bytes → comment ≡ comment_of (take place bytes) → held ≡ held_first → IsReading layouts bytes comment held None (0 + (place + 4)) (drop (place + 4) bytes)
+reading-whole layouts bytes place comment held is comment_is held_is =
+    let e : place + 4 ≡ 0 + (place + 4) = omega arith in
+    subst (λ (offset : ℕ). IsReading layouts bytes comment held None offset (drop (place + 4) bytes)) e (reading-first layouts bytes place comment held (sym is) comment_is held_is)
 
 module _ (layouts : Layouts) (bytes : List ℕ) (comment : Option (List (List ℕ))) (held : Held) (image : Option AnyImage) (offset : ℕ) (rest : List ℕ) (reading : IsReading layouts bytes comment held image offset rest) where
   abbrev commands : List Command
@@ -263,9 +271,9 @@ settles-grown layouts are bytes more (Memory e) settles = tt
 -- ---- stages
 
 -- what the stages say of the bytes
-pub front-told : (layouts : Layouts) (bytes : List ℕ) (is_plain : Bool) (kept : List ℕ) (fed : ℕ) (fault : BinFault) → KeepsFront bytes is_plain kept → fed ≡ length bytes → fault ≡ At fed NoPreamble → Tells (bin_read_of layouts bytes) fault
-front-told layouts bytes is_plain kept fed fault keeps fed_is is =
-    subst (Tells (bin_read_of layouts bytes)) (ap (λ n. At n NoPreamble) (sym fed_is) ∙ sym is) (read_nowhere layouts bytes (sym keeps.none))
+pub front-told : (layouts : Layouts) (bytes : List ℕ) (fed : ℕ) (fault : BinFault) → preamble_offset bytes ≡ None → fed ≡ length bytes → fault ≡ At fed NoPreamble → Tells (bin_read_of layouts bytes) fault
+front-told layouts bytes fed fault none fed_is is =
+    subst (Tells (bin_read_of layouts bytes)) (ap (λ n. At n NoPreamble) (sym fed_is) ∙ sym is) (read_nowhere layouts bytes (sym none))
 
 pub cut-told : (layouts : Layouts) (bytes : List ℕ) (comment : Option (List (List ℕ))) (held : Held) (image : Option AnyImage) (offset : ℕ) (rest : List ℕ) (fed : ℕ) (fault : BinFault) → IsCut layouts bytes comment held image offset rest → fed ≡ length bytes → fault ≡ At fed Truncated → Tells (bin_read_of layouts bytes) fault
 cut-told layouts bytes comment held image offset rest fed fault cut fed_is is =
@@ -274,35 +282,43 @@ cut-told layouts bytes comment held image offset rest fed fault cut fed_is is =
 
 -- a fault is settled at a refusal
 pub stage_settled : (layouts : Layouts) (bytes : List ℕ) (stage : Stage) (fault : BinFault) → IsStage layouts bytes stage → fault_in stage ≡ Some fault → Settles (bin_read_of layouts bytes) fault
-stage_settled layouts bytes (Front is_plain kept) fault is refused = absurd cc
+stage_settled layouts bytes (Front kept) fault is refused = absurd cc
+stage_settled layouts bytes (Plain last) fault is refused = absurd cc
 stage_settled layouts bytes (Commands comment registers image pending) fault is refused = absurd cc
 stage_settled layouts bytes (Image image) fault is refused = absurd cc
 stage_settled layouts bytes (Refused other) fault is refused =
     let same : other ≡ fault = cc in
     subst (Settles (bin_read_of layouts bytes)) same is
 
--- and nothing is elsewhere
-pub stage_open : (layouts : Layouts) (bytes : List ℕ) (stage : Stage) → IsStage layouts bytes stage → fault_in stage ≡ None → IsOpen (bin_read_of layouts bytes)
-stage_open layouts bytes (Front is_plain kept) is open_stage =
-    subst IsOpen (sym (front-told layouts bytes is_plain kept.items (length bytes) (At (length bytes) NoPreamble) is refl refl)) refl
-stage_open layouts bytes (Commands comment registers image pending) is open_stage =
-    subst IsOpen (sym (cut-told layouts bytes comment registers image (length bytes - length pending.items) pending.items (length bytes) (At (length bytes) Truncated) is refl refl)) refl
-stage_open layouts bytes (Image image) is open_stage = subst IsOpen (sym is) tt
-stage_open layouts bytes (Refused fault) is open_stage = absurd cc
-
 -- a fault that was told
 pub settles-tells : (read : Result Configuration Fault) (fault : BinFault) → Settles read fault → Tells read fault
 settles-tells read (At place cause) settles = settles.0
 settles-tells read (Memory e) settles = tt
 
+-- whatever follows
+pub stage_stays : (layouts : Layouts) → AreLayouts layouts → (bytes more : List ℕ) (stage : Stage) (fault : BinFault) → IsStage layouts bytes stage → fault_in stage ≡ Some fault → Tells (bin_read_of layouts (bytes ++ more)) fault
+stage_stays layouts are bytes more stage fault is refused =
+    settles-tells (bin_read_of layouts (bytes ++ more)) fault (settles-grown layouts are bytes more fault (stage_settled layouts bytes stage fault is refused))
+
+-- and nothing is elsewhere
+pub stage_open : (layouts : Layouts) (bytes : List ℕ) (stage : Stage) → IsStage layouts bytes stage → fault_in stage ≡ None → IsOpen (bin_read_of layouts bytes)
+stage_open layouts bytes (Front kept) is open_stage =
+    subst IsOpen (sym (front-told layouts bytes (length bytes) (At (length bytes) NoPreamble) is.none refl refl)) refl
+stage_open layouts bytes (Plain last) is open_stage =
+    subst IsOpen (sym (front-told layouts bytes (length bytes) (At (length bytes) NoPreamble) is.none refl refl)) refl
+stage_open layouts bytes (Commands comment registers image pending) is open_stage =
+    subst IsOpen (sym (cut-told layouts bytes comment registers image (length bytes - length pending.items) pending.items (length bytes) (At (length bytes) Truncated) is refl refl)) refl
+stage_open layouts bytes (Image image) is open_stage = subst IsOpen (sym is) tt
+stage_open layouts bytes (Refused fault) is open_stage = absurd cc
+
+-- bytes are decided under the layouts of a decoder
+pub decided_for : (layouts : Layouts) (bytes more : List ℕ) (decoder : Decoder) → StandsFor layouts bytes decoder → IsDecided layouts more
+decided_for layouts bytes more decoder stands = decided layouts (subst AreLayouts stands.layouts_are decoder.laid) more
+
 -- a fault of the input's end
 pub refuses-cut : (commands : List Command) (place : ℕ) (bytes : List ℕ) (fault : BinFault) → Refuses (first_fault commands place bytes) fault → is_cut fault ≡ true → first_fault commands place bytes ≡ Some (fault_at (place + length bytes) Truncated)
 refuses-cut commands place bytes (At there cause) wrong cut = first_fault-ends commands place bytes (fault_at there cause) wrong cut
 refuses-cut commands place bytes (Memory e) wrong cut = absurd cc
-
--- the image at the wake-up has no fault
-pub woken-there : (layouts : Layouts) (bytes : List ℕ) (comment : Option (List (List ℕ))) (held : Held) (image : Option AnyImage) (fault : BinFault) → IsWoken layouts bytes comment held image → image ≡ None → Settles (bin_read_of layouts bytes) fault
-woken-there layouts bytes comment held image fault woken none = absurd (woken.is_there none)
 
 -- what is pending stands at the end
 pub cut-pending : (layouts : Layouts) (all : List ℕ) (comment : Option (List (List ℕ))) (held : Held) (image : Option AnyImage) (offset : ℕ) (rest pending : List ℕ) → IsCut layouts all comment held image offset rest → pending ≡ rest → IsCut layouts all comment held image (length all - length pending) pending
@@ -313,27 +329,38 @@ cut-pending layouts all comment held image offset rest pending cut is =
 
 -- ---- a front that ends
 
--- the preamble is found behind what was kept and a piece
-pub front-ends : (layouts : Layouts) (bytes : List ℕ) (is_plain : Bool) (kept piece : List ℕ) → KeepsFront bytes is_plain kept → (joined : List ℕ) (offset searched found : ℕ) (comment : Option (List (List ℕ))) (held : Held) → joined ≡ kept ++ piece → offset ≡ length bytes - length kept → searched ≡ length kept - 3 → Some found ≡ preamble_offset (drop searched joined) → (is_plain ≡ true → comment ≡ None) → (is_plain ≡ false → comment ≡ comment_of (take (searched + found) joined)) → held ≡ held_first → IsReading layouts (bytes ++ piece) comment held None (offset + (searched + found + 4)) (drop (searched + found + 4) joined)
-front-ends layouts bytes is_plain kept piece keeps joined offset searched found comment held joined_is offset_is searched_is found_is plain whole held_is =
-    let all = bytes ++ piece in
-    let place = searched + found in
-    let there : Some found ≡ preamble_offset (drop (length kept - 3) (kept ++ piece)) = found_is ∙ ap₂ (λ n joined. preamble_offset (drop n joined)) searched_is joined_is in
-    let sum : length bytes - length kept + (length kept - 3 + found) ≡ offset + place = omega arith in
-    let front_is : preamble_offset all ≡ Some (offset + place) = found-joined bytes is_plain kept piece keeps found there ∙ ap (λ n. Some n) sum in
-    let comment_is : comment ≡ comment_of (take (offset + place) all) =
-    comment-joined bytes is_plain kept piece keeps place comment plain (λ is_no. whole is_no ∙ ap (λ joined. comment_of (take place joined)) joined_is) ∙ ap (λ offset. comment_of (take (offset + place) all)) (sym offset_is) in
-    let reading = reading-first layouts all (offset + place) comment held front_is comment_is held_is in
-    let e : offset + place + 4 ≡ offset + (place + 4) = omega arith in
-    let rest : drop (offset + place + 4) all ≡ drop (place + 4) joined =
-    ap (λ n. drop n all) (e ∙ ap (λ offset. offset + (place + 4)) offset_is)
-    ∙ sym (drop-drop (place + 4) (length bytes - length kept) all)
-    ∙ ap (drop (place + 4)) (sym (joined_is ∙ joined-is bytes is_plain kept piece keeps)) in
-    subst (λ (offset : ℕ). IsReading layouts all comment held None offset (drop (place + 4) joined)) e
-    (subst (λ (rest : List ℕ). IsReading layouts all comment held None (offset + place + 4) rest) rest reading)
+-- the preamble is found behind all bytes so far
+pub front-ends : (layouts : Layouts) (bytes : List ℕ) (place : ℕ) (comment : Option (List (List ℕ))) (held : Held) → preamble_offset bytes ≡ Some place → comment ≡ comment_of (take place bytes) → held ≡ held_first → IsReading layouts bytes comment held None (0 + (place + 4)) (drop (place + 4) bytes)
+front-ends layouts bytes place comment held is = reading-whole layouts bytes place comment held (sym is)
 
--- or not
-pub front-goes_on : (bytes : List ℕ) (is_plain : Bool) (kept piece : List ℕ) → KeepsFront bytes is_plain kept → (joined : List ℕ) (searched : ℕ) → joined ≡ kept ++ piece → searched ≡ length kept - 3 → None ≡ preamble_offset (drop searched joined) → KeepsFront (bytes ++ piece) is_plain joined
-front-goes_on bytes is_plain kept piece keeps joined searched joined_is searched_is none =
-    subst (KeepsFront (bytes ++ piece) is_plain) (sym joined_is)
-    (keeps-joined bytes is_plain kept piece keeps (none ∙ ap₂ (λ n joined. preamble_offset (drop n joined)) searched_is joined_is))
+-- or behind the last three, at a place in a piece
+pub plain-ends : (layouts : Layouts) (bytes last piece : List ℕ) → KeepsPlain bytes last → (start : ℕ) (held : Held) → 0 < start → preamble_offset (last ++ piece) ≡ Some (start - 1) → held ≡ held_first → IsReading layouts (bytes ++ piece) None held None (length bytes + start) (drop start piece)
+plain-ends layouts bytes last piece keeps start held some is held_is =
+    let all = bytes ++ piece in
+    let three = keeps.plain.0 in
+    let place = length bytes - 3 + (start - 1) in
+    let reading = reading-first layouts all place None held (found-plain bytes last piece keeps (start - 1) is) (sym (plain-found bytes last piece keeps place)) held_is in
+    let e : place + 4 ≡ length bytes + start = omega arith in
+    let rest : drop (place + 4) all ≡ drop start piece = ap (λ n. drop n all) (e ∙ omega arith) ∙ sym (drop-drop start (length bytes) all) ∙ ap (drop start) (drop_at bytes piece (length bytes) refl) in
+    subst (λ (offset : ℕ). IsReading layouts all None held None offset (drop start piece)) e
+    (subst (λ (rest : List ℕ). IsReading layouts all None held None (place + 4) rest) rest reading)
+
+-- bytes that follow those that are pending
+pub pending-grown : (layouts : Layouts) (bytes piece : List ℕ) (comment : Option (List (List ℕ))) (held : Held) (image : Option AnyImage) (fed : ℕ) (pending : List ℕ) → IsReading layouts bytes comment held image (fed - length pending) pending → (offset : ℕ) (shown : List ℕ) → offset ≡ fed - length pending → shown ≡ pending ++ piece → IsReading layouts (bytes ++ piece) comment held image (offset + 0) (drop 0 shown)
+pending-grown layouts bytes piece comment held image fed pending reading offset shown offset_is shown_is =
+    let e : fed - length pending ≡ offset + 0 = omega (arith, offset_is) in
+    subst (λ (offset : ℕ). IsReading layouts (bytes ++ piece) comment held image offset shown) e
+    (subst (λ (rest : List ℕ). IsReading layouts (bytes ++ piece) comment held image (fed - length pending) rest) (sym shown_is)
+    (reading-grown layouts bytes comment held image (fed - length pending) pending reading piece))
+
+-- what follows where nothing was taken yet
+pub begins-stage : (layouts other : Layouts) (all : List ℕ) (comment : Option (List (List ℕ))) (held : Held) (image : Option AnyImage) (offset : ℕ) (rest : List ℕ) (stage : Stage) → other ≡ layouts → image ≡ None → IsReading layouts all comment held None offset rest → (IsReading other all comment held image offset rest → IsStage other all stage) → IsStage layouts all stage
+begins-stage layouts other all comment held image offset rest stage same none reading told =
+    subst (λ (l : Layouts). IsStage l all stage) same
+    (told (subst (λ (l : Layouts). IsReading l all comment held image offset rest) (sym same)
+    (subst (λ (image : Option AnyImage). IsReading layouts all comment held image offset rest) (sym none) reading)))
+
+-- nothing is pending
+pub nothing-before : (pending piece : List ℕ) → length pending ≡ 0 → piece ≡ pending ++ piece
+nothing-before [] piece is = refl
+nothing-before (byte ∷ pending) piece is = absurd (omega arith)

@@ -7,15 +7,13 @@ use Rattle.std.proofs.Math.Bool.{or-false}
 use Rattle.place_search.specs.Places.{any_below, last_below}
 use Rattle.bit_plane.specs.BitList.{byte_bits, bits_of}
 use Rattle.ice_image.specs.declared.planes.PlaneKind.{PlaneKind}
-use Rattle.ice_image.specs.declared.planes.PlaneKind.TheVariants.{Cram, Bram}
 use Rattle.bin_stream.specs.CheckValue.{check_value, powers_from, power, doubled, sum_of}
 use Rattle.bin_stream.specs.inside.Register.{entered_all}
 use Rattle.bin_stream.specs.Commands.{Command, Short, Data, number_of, spelling, spelled, is_reset, control_opcode, bank_opcode, range_opcode, width_opcode, height_opcode, offset_opcode, mode_opcode, reset_number}
 use Rattle.bin_stream.specs.State.{last_of, width_after, covered}
-use Rattle.bin_stream.specs.Refusals.{fault_at, first_fault, payload_fault, short_cause, short_cause_where, data_kind, gives_last_row, reached_in}
+use Rattle.bin_stream.specs.Refusals.{fault_at, head_fault, first_fault, payload_fault, short_cause, short_cause_where, data_kind, reached_in}
 use Rattle.bin_stream.specs.Spelling.{first_command, command_of}
 use Rattle.bin_stream.specs.inside.Registers.{Held, held_after, held_first, short_cause_by, checked, after_short, gives_last_by, after_data}
-use Rattle.bin_stream.specs.inside.Step.{payload_refusal}
 use Rattle.bin_stream.specs.declared.fault.BinCause.TheVariants.{Truncated, LongPayload}
 use Rattle.bin_stream.proofs.Powers.{check_value-nil, check_value-append}
 use Rattle.bin_stream.proofs.OneMore.{last_of-more, width_after-more, covered-more, reached_in-more}
@@ -34,7 +32,7 @@ abbrev pub behind_payload : List ℕ → List ℕ
 behind_payload bytes = drop (head_of bytes % 16) (drop 1 bytes)
 
 -- bytes with a payload have a first byte and so many more
-pub with_payload : (place : ℕ) (bytes : List ℕ) → payload_refusal place bytes ≡ None → (bytes ≡ head_of bytes ∷ drop 1 bytes) × (nat_lt 4 (head_of bytes % 16) ≡ false) × (nat_lt (length (drop 1 bytes)) (head_of bytes % 16) ≡ false)
+pub with_payload : (place : ℕ) (bytes : List ℕ) → head_fault place bytes ≡ None → (bytes ≡ head_of bytes ∷ drop 1 bytes) × (nat_lt 4 (head_of bytes % 16) ≡ false) × (nat_lt (length (drop 1 bytes)) (head_of bytes % 16) ≡ false)
 with_payload place [] none = absurd cc
 with_payload place (head ∷ rest) none =
     elim (cases_Bool (nat_lt 4 (head % 16))) [
@@ -50,23 +48,23 @@ with_payload place (head ∷ rest) none =
     ]
 
 -- what is wrong with its command is told behind the payload
-pub read_fault : (commands : List Command) (place : ℕ) (bytes : List ℕ) → payload_refusal place bytes ≡ None → first_fault commands place bytes ≡ payload_fault commands place (head_of bytes / 16) (payload_in bytes) (data_kind (head_of bytes / 16) (number_of (payload_in bytes))) (behind_payload bytes)
+pub read_fault : (commands : List Command) (place : ℕ) (bytes : List ℕ) → head_fault place bytes ≡ None → first_fault commands place bytes ≡ payload_fault commands place (head_of bytes / 16) (payload_in bytes) (data_kind (head_of bytes / 16) (number_of (payload_in bytes))) (behind_payload bytes)
 read_fault commands place [] none = absurd cc
 read_fault commands place (head ∷ rest) none =
     let parts = with_payload place (head ∷ rest) none in
     rw (parts.1, parts.2) refl
 
-pub read_command : (commands : List Command) (place : ℕ) (bytes : List ℕ) → payload_refusal place bytes ≡ None → first_command commands bytes ≡ command_of commands (head_of bytes / 16) (payload_in bytes) (data_kind (head_of bytes / 16) (number_of (payload_in bytes))) (behind_payload bytes)
+pub read_command : (commands : List Command) (place : ℕ) (bytes : List ℕ) → head_fault place bytes ≡ None → first_command commands bytes ≡ command_of commands (head_of bytes / 16) (payload_in bytes) (data_kind (head_of bytes / 16) (number_of (payload_in bytes))) (behind_payload bytes)
 read_command commands place [] none = absurd cc
 read_command commands place (head ∷ rest) none = refl
 
-pub length-payload : (place : ℕ) (bytes : List ℕ) → payload_refusal place bytes ≡ None → length (payload_in bytes) ≡ head_of bytes % 16
+pub length-payload : (place : ℕ) (bytes : List ℕ) → head_fault place bytes ≡ None → length (payload_in bytes) ≡ head_of bytes % 16
 length-payload place bytes none =
     let parts = with_payload place bytes none in
     length-take-le (head_of bytes % 16) (drop 1 bytes) (ltb-false (length (drop 1 bytes)) (head_of bytes % 16) parts.2)
 
 -- the bytes up to the end of the payload
-pub spelled_short : (place : ℕ) (bytes : List ℕ) → payload_refusal place bytes ≡ None → take (1 + length (payload_in bytes)) bytes ≡ spelling (Short (head_of bytes / 16) (payload_in bytes))
+pub spelled_short : (place : ℕ) (bytes : List ℕ) → head_fault place bytes ≡ None → take (1 + length (payload_in bytes)) bytes ≡ spelling (Short (head_of bytes / 16) (payload_in bytes))
 spelled_short place bytes none =
     let parts = with_payload place bytes none in
     let long = length-payload place bytes none in
@@ -155,14 +153,9 @@ held_first-is = refl
 
 -- ---- data
 
--- whether data give the last row of a configuration plane, told by the registers
-gives_last-is : (commands : List Command) (kind : PlaneKind) (payload body : List ℕ) → gives_last_row commands (Some (Data kind payload body)) ≡ gives_last_by (held_after commands) kind
-gives_last-is commands Cram payload body = refl
-gives_last-is commands Bram payload body = refl
-
 -- what is kept behind data
 pub held_after-data : (commands : List Command) (kind : PlaneKind) (payload body : List ℕ) → after_data (held_after commands) kind (spelling (Data kind payload body)) ≡ held_after (commands ++ Data kind payload body ∷ [])
 held_after-data commands kind payload body =
     let command = Data kind payload body in
-    let reached : reached_in (commands ++ command ∷ []) ≡ (reached_in commands || gives_last_by (held_after commands) kind) = reached_in-more commands command ∙ ap (λ b. reached_in commands || b) (gives_last-is commands kind payload body) in
+    let reached : reached_in (commands ++ command ∷ []) ≡ (reached_in commands || gives_last_by (held_after commands) kind) = reached_in-more commands command in
     sym (rw (last_of-more commands command bank_opcode 0, width_after-more commands command, last_of-more commands command height_opcode 0, last_of-more commands command offset_opcode 0, last_of-more commands command range_opcode 0, last_of-more commands command mode_opcode 32, check_after-more commands command, reached) refl)

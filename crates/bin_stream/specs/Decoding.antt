@@ -1,4 +1,5 @@
--- Which bytes a decoder stands for.
+-- Which bytes a decoder stands for. The clauses of its calls say all that matters of it: a new one stands for no bytes, `feed` adds
+-- a piece to them, and `finish` tells what they spell. How a decoder keeps its bytes stands in specs/inside.
 use Rattle.std.specs.Prelude.{◌≡◌, ℕ, List, length, Option}
 use Rattle.layout_file.specs.declared.layouts.Layouts.{Layouts}
 use Rattle.bin_stream.specs.inside.Stages.{IsStage, fault_in}

@@ -34,13 +34,20 @@ height_cause kind None first rows columns = None
 height_cause kind (Some device) first rows columns = cause_if (is_bad_height kind device first rows columns) BadHeight
 
 -- the device of data: the one that is fixed, else that of their width
+abbrev pub device_where : Option DeviceName → PlaneKind → ℕ → Option DeviceName
+device_where fixed kind columns = or_else fixed (device_with kind columns)
+
+-- what is wrong with data of a device, by their first row, their height and their width
+abbrev pub data_cause_where : Option DeviceName → PlaneKind → ℕ → ℕ → ℕ → Option BinCause
+data_cause_where device kind first rows columns =
+    or_else (width_cause kind device columns) (height_cause kind device first rows columns)
+
 abbrev pub device_for : List Command → PlaneKind → Option DeviceName
-device_for before kind = or_else (device_after before) (device_with kind (width_after before))
+device_for before kind = device_where (device_after before) kind (width_after before)
 
 abbrev pub data_cause : List Command → PlaneKind → Option BinCause
 data_cause before kind =
-    or_else (width_cause kind (device_for before kind) (width_after before))
-    (height_cause kind (device_for before kind) (first_row_after before) (height_after before) (width_after before))
+    data_cause_where (device_for before kind) kind (first_row_after before) (height_after before) (width_after before)
 
 -- ---- other commands
 
@@ -49,10 +56,15 @@ abbrev pub ends_plane : Option DeviceName → ℕ → Bool
 ends_plane None rows = false
 ends_plane (Some device) rows = rows == cram_height device
 
--- whether a command gives the last row of a configuration plane, where the commands before it are these; the device is
--- that of its width
+-- whether data give the last row of a configuration plane, by their first row, their height and their width; the device is
+-- that of the width
+abbrev pub gives_last_where : PlaneKind → ℕ → ℕ → ℕ → Bool
+gives_last_where Cram first rows columns = ends_plane (device_with Cram columns) (first + rows)
+gives_last_where Bram first rows columns = false
+
+-- whether a command gives the last row of a configuration plane, where the commands before it are these
 abbrev pub gives_last_row : List Command → Option Command → Bool
-gives_last_row before (Some (Data Cram payload body)) = ends_plane (device_with Cram (width_after before)) (first_row_after before + height_after before)
+gives_last_row before (Some (Data kind payload body)) = gives_last_where kind (first_row_after before) (height_after before) (width_after before)
 gives_last_row before command = false
 
 -- whether some command gives the last row of a configuration plane, in any bank
@@ -147,13 +159,22 @@ abbrev pub payload_fault : List Command → ℕ → ℕ → List ℕ → Option 
 payload_fault before offset opcode payload None bytes = fault_where offset (short_cause before opcode payload)
 payload_fault before offset opcode payload (Some kind) bytes = data_fault before kind offset (offset + 1 + length payload) bytes
 
--- What is wrong with the first command of the bytes at an offset of the input, where the commands before it are these. Where
--- the input ends, its length is the offset.
+-- What is wrong with the first byte and the payload of the first command of the bytes at an offset of the input. Where the
+-- input ends, its length is the offset.
+abbrev pub head_fault : ℕ → List ℕ → Option Fault
+head_fault offset [] = Some (fault_at offset Truncated)
+head_fault offset (head ∷ rest) =
+    if nat_lt 4 (head % 16) then Some (fault_at offset LongPayload)
+    else if nat_lt (length rest) (head % 16) then Some (fault_at (offset + 1 + length rest) Truncated)
+    else None
+
+-- what is wrong with the first command of bytes that have its payload, where the commands before it are these
+abbrev pub command_fault : List Command → ℕ → List ℕ → Option Fault
+command_fault before offset [] = None
+command_fault before offset (head ∷ rest) =
+    let payload = take (head % 16) rest in
+    payload_fault before offset (head / 16) payload (data_kind (head / 16) (number_of payload)) (drop (head % 16) rest)
+
+-- what is wrong with the first command of the bytes at an offset of the input
 abbrev pub first_fault : List Command → ℕ → List ℕ → Option Fault
-first_fault before offset [] = Some (fault_at offset Truncated)
-first_fault before offset (head ∷ rest) =
-    let count = head % 16 in
-    let payload = take count rest in
-    if nat_lt 4 count then Some (fault_at offset LongPayload)
-    else if nat_lt (length rest) count then Some (fault_at (offset + 1 + length rest) Truncated)
-    else payload_fault before offset (head / 16) payload (data_kind (head / 16) (number_of payload)) (drop count rest)
+first_fault before offset bytes = or_else (head_fault offset bytes) (command_fault before offset bytes)

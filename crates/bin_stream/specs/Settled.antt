@@ -1,5 +1,5 @@
 -- What the bytes so far already settle, where more may follow.
-use Rattle.std.specs.Prelude.{◌≡◌, Bool, true, false, List, ℕ, Result, Ok, Err}
+use Rattle.std.specs.Prelude.{◌≡◌, Bool, true, false, Result, Ok, Err}
 use Rattle.ice_image.specs.Configuration.{Configuration}
 use Rattle.bin_stream.specs.Refusals.{Fault, fault_at}
 use Rattle.bin_stream.specs.declared.fault.BinCause.{BinCause}

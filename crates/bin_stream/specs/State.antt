@@ -56,9 +56,13 @@ width_given commands (Some index) = number_in (slice_get commands index) + 1
 unfoldable pub width_after : List Command → ℕ
 width_after commands = width_given commands (last_index commands width_opcode)
 
+-- how many bytes data of a width and a height have
+abbrev pub size_where : ℕ → ℕ → ℕ
+size_where columns rows = columns * rows / 8
+
 -- how many bytes data have behind these commands
 abbrev pub size_after : List Command → ℕ
-size_after commands = width_after commands * height_after commands / 8
+size_after commands = size_where (width_after commands) (height_after commands)
 
 -- ---- the device
 

@@ -1,5 +1,7 @@
--- What contracts within this crate cite, and no public one.
+-- What contracts within this crate cite. Of the public ones only those of a decoder stand on it, by StandsFor: there each clause
+-- gives StandsFor or takes it, from no bytes on, so that none of what stands here need be believed.
 pub mod Register
+pub mod Opcodes
 pub mod Registers
 pub mod Step
 pub mod Pieces

@@ -1,40 +1,102 @@
-// The numbers of commands: the opcode is the high half of a command's first byte.
+// What commands are for: their opcodes, and the numbers that payloads of control commands are.
+ghost use Rattle.std.specs.Prelude.{◌≡◌, ◌<◌, MatchOption};
+ghost use Rattle.bin_stream.specs.Commands.{kind_number};
+ghost use Rattle.bin_stream.specs.inside.Opcodes.{opcode_number, IsNoOpcode, control_number, IsNoControl};
 
-/// Data, a reset of the CRC or the wake-up: the payload tells which.
-pub(crate) const CONTROL: u8 = 0;
+use ice_image::PlaneKind;
 
-/// The bank of the data that follow.
-pub(crate) const BANK: u8 = 1;
+/// What a command is for. Its number is the high half of the command's first byte.
+#[derive(Clone, Copy)]
+pub(crate) enum Opcode {
+    /// Data, a reset of the CRC or the wake-up: the payload tells which.
+    Control = 0,
+    /// The bank of the data that follow.
+    Bank = 1,
+    /// A check: behind its payload the CRC has to be 0.
+    Check = 2,
+    /// Where the device looks for the next image. It is passed over.
+    BootAddress = 4,
+    /// The range of the oscillator.
+    Range = 5,
+    /// The width of the data that follow in bits, less one.
+    Width = 6,
+    /// How many rows the data that follow have.
+    Height = 7,
+    /// The row at which the data that follow begin.
+    Offset = 8,
+    /// Warm boot and sleep.
+    Mode = 9,
+}
 
-/// A check: behind its payload the CRC has to be 0.
-pub(crate) const CHECK: u8 = 2;
+impl Opcode {
+    /// The opcode of a number, where there is one.
+    pub(crate) fn from_number(number: u8) -> Option<Opcode>
+        ensures { MatchOption result (IsNoOpcode number) (λ opcode. opcode_number opcode ≡ number) }
+    {
+        match number {
+            0 => Some(Opcode::Control),
+            1 => Some(Opcode::Bank),
+            2 => Some(Opcode::Check),
+            4 => Some(Opcode::BootAddress),
+            5 => Some(Opcode::Range),
+            6 => Some(Opcode::Width),
+            7 => Some(Opcode::Height),
+            8 => Some(Opcode::Offset),
+            9 => Some(Opcode::Mode),
+            _ => None,
+        }
+    }
 
-/// Where the device looks for the next image. It is passed over.
-pub(crate) const BOOT_ADDRESS: u8 = 4;
+    /// The opcode's number, which is at most 9.
+    pub(crate) fn number(self) -> u8
+        ensures value { result ≡ opcode_number self }
+        ensures half { result < 16 }
+    {
+        self as u8
+    }
+}
 
-/// The range of the oscillator.
-pub(crate) const RANGE: u8 = 5;
+/// What a control command is for, which the number of its payload tells.
+#[derive(Clone, Copy)]
+pub(crate) enum Control {
+    /// Rows of a configuration plane follow.
+    CramData = 1,
+    /// Rows of a RAM plane follow.
+    BramData = 3,
+    /// The CRC begins anew.
+    Reset = 5,
+    /// The configuration ends.
+    WakeUp = 6,
+}
 
-/// The width of the data that follow in bits, less one.
-pub(crate) const WIDTH: u8 = 6;
+impl Control {
+    /// What a control command with that number is for, where there is such a command.
+    pub(crate) fn from_number(number: u32) -> Option<Control>
+        ensures { MatchOption result (IsNoControl number) (λ control. control_number control ≡ number) }
+    {
+        match number {
+            1 => Some(Control::CramData),
+            3 => Some(Control::BramData),
+            5 => Some(Control::Reset),
+            6 => Some(Control::WakeUp),
+            _ => None,
+        }
+    }
 
-/// How many rows the data that follow have.
-pub(crate) const HEIGHT: u8 = 7;
+    /// The number of the payload.
+    pub(crate) fn number(self) -> u8
+        ensures { result ≡ control_number self }
+    {
+        self as u8
+    }
 
-/// The row at which the data that follow begin.
-pub(crate) const OFFSET: u8 = 8;
-
-/// Warm boot and sleep.
-pub(crate) const MODE: u8 = 9;
-
-/// The payload of `CONTROL` before rows of a configuration plane.
-pub(crate) const CRAM_DATA: u8 = 1;
-
-/// The payload of `CONTROL` before rows of a RAM plane.
-pub(crate) const BRAM_DATA: u8 = 3;
-
-/// The payload of `CONTROL` that resets the CRC.
-pub(crate) const RESET: u8 = 5;
-
-/// The payload of `CONTROL` that ends the configuration.
-pub(crate) const WAKE_UP: u8 = 6;
+    /// What comes before data of a kind.
+    pub(crate) fn of_data(kind: PlaneKind) -> Control
+        ensures { control_number result ≡ kind_number kind }
+    {
+        match kind {
+            PlaneKind::Cram => Control::CramData,
+            PlaneKind::Bram => Control::BramData,
+        }
+    }
+}

@@ -2,6 +2,7 @@
 
 mod data_kind;
 mod decoder;
+mod edge;
 mod front;
 mod head;
 mod machine;

@@ -1,2 +1,3 @@
 mod CommandLines
+pub mod InPieces
 pub mod UnderLayouts

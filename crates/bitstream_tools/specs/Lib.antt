@@ -4,3 +4,4 @@ pub mod Layouts
 pub mod Multi
 pub mod Pack
 pub mod Unpack
+pub mod Unpacking

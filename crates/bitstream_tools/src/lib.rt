@@ -10,6 +10,7 @@ mod layouts;
 mod multi;
 mod pack;
 mod unpack;
+mod unpacking;
 
 pub use bram::{ICEBRAM_HELP, ICEBRAM_USAGE, run_icebram};
 pub use faults::{asc_refusal, bin_refusal};

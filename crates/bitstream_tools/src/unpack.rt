@@ -8,15 +8,17 @@ ghost use Rattle.tool_run.specs.Stops.{StopsWith};
 ghost use Rattle.tool_run.specs.Tasks.{Done};
 ghost use Rattle.bitstream_tools.specs.Unpack.{iceunpack_command, iceunpack_task, iceunpack_outcome, iceunpack_task_for, unpack_answer, unpack_task, unpacked_under};
 
-use crate::faults::bin_refusal;
 use crate::layouts::{LAYOUT_LIMIT, behind_layout, layouts_for, with_layout};
-use bin_stream::BinFault;
+use crate::unpacking::{Unpacking, begin, feed, finish, stop_of};
 use clap::Command;
 use ice_io::{Files, Sink, Source};
 use ice_pack::unpack_with;
 use layout_file::Layouts;
 use std::alloc::{AllocError, Global};
-use tool_run::{AtOnce, Job, Load, Stop, Tool, answer_at_once, asks_for_help, give_up, perform};
+use tool_run::{
+    AtOnce, Job, Load, PieceTool, Stop, Tool, answer_at_once, asks_for_help, give_up,
+    perform_in_pieces,
+};
 use tool_words::{long_option, parse, positional, value, with};
 
 /// The command line of `iceunpack`.
@@ -68,6 +70,30 @@ impl Tool for Unpack {
     }
 }
 
+impl PieceTool for Unpack {
+    ghost use Rattle.bitstream_tools.specs.Unpacking.{fed_of, loads_before, IsUnpacking};
+
+    type Intake = Unpacking;
+
+    ghost before = { λ tool. loads_before tool.named };
+
+    ghost takes = { λ tool texts unpacking bytes. IsUnpacking tool.named texts bytes unpacking };
+
+    ghost fed = { fed_of };
+
+    fn begin(&self, alloc: Global, loaded: &Vec<Vec<u8>>) -> Unpacking {
+        begin(alloc, self.named, loaded)
+    }
+
+    fn feed(&self, unpacking: &mut Unpacking, piece: &[u8]) {
+        feed(self.named, unpacking, piece);
+    }
+
+    fn finish(&self, alloc: Global, unpacking: Unpacking) -> Result<Vec<u8>, Stop> {
+        finish(alloc, self.named, unpacking)
+    }
+}
+
 // The text of the bitstream that was loaded.
 #[tactic(auto, using(crate::proofs::UnderLayouts::stops_under))]
 fn unpacked_from(alloc: Global, tool: Unpack, loaded: &[Vec<u8>]) -> Result<Vec<u8>, Stop>
@@ -89,8 +115,7 @@ fn unpacked(alloc: Global, bytes: &[u8], layouts: Layouts) -> Result<Vec<u8>, St
 {
     match unpack_with(alloc, bytes, layouts) {
         Ok(text) => Ok(text),
-        Err(BinFault::At { offset, cause }) => Err(Stop::Refused(bin_refusal(offset, cause))),
-        Err(BinFault::Memory(_)) => Err(Stop::Memory),
+        Err(fault) => Err(stop_of(fault)),
     }
 }
 
@@ -160,7 +185,7 @@ pub(crate) fn unpack_between<F: Files, I: Source, O: Sink, E: Sink>(
         loads: with_layout(names.layout, &loads),
         target: names.output,
     };
-    perform(alloc, &tool, &job, files, input, output, errors)
+    perform_in_pieces(alloc, &tool, &job, files, input, output, errors)
 }
 
 /// Runs `iceunpack` with these words, of which the first is its name.

@@ -1,5 +1,5 @@
 // What a tool makes of its needs, loaded whole or with the last one piece by piece.
-ghost use Rattle.std.specs.Prelude.{◌≡◌, ◌∷◌, [], ◌++◌, ◌<◌, ◌≤◌, ◌^◌, ℕ, Bool, List, Option, None, length, map, vec_items, IfOk, IfErr};
+ghost use Rattle.std.specs.Prelude.{◌≡◌, ◌∷◌, [], ◌+◌, ◌++◌, ◌<◌, ◌≤◌, ◌^◌, ℕ, Bool, List, Option, None, length, map, vec_items, IfOk, IfErr};
 ghost use Rattle.ice_io.specs.Files.{FileMap};
 ghost use Rattle.ice_io.specs.Taken.{TakesAll};
 ghost use Rattle.tool_run.specs.Answering.{Answers, Gives};
@@ -42,6 +42,7 @@ fn answer_fed<'a, T: PieceTool, I: Source>(
 ) -> Result<Result<Vec<u8>, Stop>, LoadStop<'a>>
     requires limit { load.limit < 2 ^ 32 }
     requires stream { text_of load.name ≡ None }
+    requires count { length loaded.now.items ≡ T.before tool.now }
     ensures made { IfOk result (λ made. (bytes : List ℕ) × TakesAll (I.left input.old) (I.left input.new) bytes
         × (length bytes ≤ load.entry.limit) × Gives (T.answer_of tool.now (map vec_items loaded.now.items ++ bytes ∷ [])) made) }
     ensures stops { IfErr result (λ stop. (contents : Option FileMap) (steady : Bool) (load_faults : ℕ)
@@ -63,7 +64,8 @@ pub(crate) fn answer_in_pieces<'a, T: PieceTool, F: Files, I: Source>(
     files: &mut F,
     input: &mut I,
 ) -> Result<Result<Vec<u8>, Stop>, LoadStop<'a>>
-    requires { IsSound (map need_of loads.now) }
+    requires sound { IsSound (map need_of loads.now) }
+    requires count { length loads.now ≡ T.before tool.now + 1 }
     ensures { Answers F.contents F.steady F.load_faults F.store_faults I.left I.faults (map need_of loads.now) (T.answer_of tool.now) result
         files.old files.new input.old input.new }
 {

@@ -1,5 +1,5 @@
 // The bytes that a tool needs, loaded in order.
-ghost use Rattle.std.specs.Prelude.{◌≡◌, ◌∷◌, [], ◌++◌, ◌<◌, ◌≤◌, ◌^◌, true, false, Ok, map, vec_items, IfOk, IfErr, OnOk, IsOkAnd};
+ghost use Rattle.std.specs.Prelude.{◌≡◌, ◌∷◌, [], ◌+◌, ◌++◌, length, ◌<◌, ◌≤◌, ◌^◌, true, false, Ok, map, vec_items, IfOk, IfErr, OnOk, IsOkAnd};
 ghost use Rattle.std.specs.declared.alloc.AllocError.{AllocError};
 ghost use Rattle.std.specs.Io.KnownBytes.{IsAtEnd};
 ghost use Rattle.tool_run.specs.Needs.{IsSound, is_stream, need_of, reads_files, reads_input};
@@ -96,6 +96,7 @@ pub(crate) fn load_all<'a, F: Files, I: Source>(
     requires { IsSound (map need_of loads.now) }
     ensures bytes { OnOk result (WhereTold (F.contents files.old) (I.left input.old) (map need_of loads.now)
         (λ known text. IsOkAnd (loaded known text (map need_of loads.now)) (λ bytes. map vec_items texts.new.items ≡ map vec_items texts.old.items ++ bytes))) }
+    ensures count { OnOk result (length texts.new.items ≡ length texts.old.items + length loads.now) }
     ensures stops { IfErr result (StopsLoading (F.contents files.old) (F.steady files.old) (I.left input.old) (map need_of loads.now)
         (F.load_faults files.old) (F.load_faults files.new) (I.faults input.old) (I.faults input.new)) }
     ensures end { OnOk result (reads_input (map need_of loads.now) ≡ true → IsAtEnd (I.left input.new)) }

@@ -1,5 +1,5 @@
 // A task from its loads to its target.
-ghost use Rattle.std.specs.Prelude.{◌≡◌, map};
+ghost use Rattle.std.specs.Prelude.{◌≡◌, ◌+◌, length, map};
 ghost use Rattle.tool_run.specs.Needs.{IsSound, need_of, text_of};
 ghost use Rattle.tool_run.specs.Lines.{line_of, out_of_memory, source_name, target_name};
 ghost use Rattle.tool_run.specs.Tasks.{Task};
@@ -147,7 +147,8 @@ pub fn perform_in_pieces<T: PieceTool, F: Files, I: Source, O: Sink, E: Sink>(
     output: &mut O,
     errors: &mut E,
 ) -> u8
-    requires { IsSound (map need_of job.now.loads.now) }
+    requires sound { IsSound (map need_of job.now.loads.now) }
+    requires count { length job.now.loads.now ≡ T.before tool.now + 1 }
     ensures { Does (outside F.contents F.steady F.load_faults F.store_faults I.left I.faults O.held O.faults E.held E.faults)
         (task_of job.now (T.answer_of tool.now)) result
         (scene files.old input.old output.old errors.old) (scene files.new input.new output.new errors.new) }

@@ -12,6 +12,9 @@ pub trait PieceTool: Tool {
     /// What the tool keeps of the bytes that it has taken. A refusal is kept too.
     type Intake: Drop;
 
+    /// How many needs are loaded before the last one.
+    ghost before: { Self → ℕ };
+
     /// Behind the bytes of the needs before, an intake has taken these.
     ghost takes: { Self → List (List ℕ) → Self.Intake → List ℕ → Type 0 };
 
@@ -20,6 +23,7 @@ pub trait PieceTool: Tool {
 
     /// An intake that has taken nothing, behind what was loaded before.
     fn begin(&self, alloc: Global, loaded: &Vec<Vec<u8>>) -> Self::Intake
+        requires { length loaded.now.items ≡ before self.now }
         ensures taken { takes self.now (map vec_items loaded.now.items) result [] }
         ensures none { fed result ≡ 0 };
 

@@ -51,6 +51,8 @@ impl PieceTool for Counting {
 
     type Intake = Count;
 
+    ghost before = { λ tool. 0 };
+
     ghost takes = { λ tool texts count bytes. (count.bytes ≡ length bytes) × (count.has_zero ≡ list_any (λ byte. nat_eq byte 0) bytes) };
 
     ghost fed = { λ count. count.bytes };

@@ -1,18 +1,16 @@
 -- What a decoder keeps of the commands so far, and what a command does to it.
-use Rattle.std.specs.Prelude.{◌≡◌, ℕ, ◌+◌, ◌*◌, ◌/◌, ◌%◌, ◌≤◌, Bool, false, ◌||◌, List, ◌==◌, if◌then◌else◌, Option, Some, None, Result, Ok, Err}
-use Rattle.place_search.specs.Places.{or_else}
+use Rattle.std.specs.Prelude.{◌≡◌, ℕ, ◌+◌, ◌*◌, ◌%◌, ◌≤◌, Bool, false, ◌||◌, List, ◌==◌, if◌then◌else◌, Option, Some, None, Result, Ok, Err}
 use Rattle.bit_plane.specs.BitList.{bits_of}
 use Rattle.plane_map.specs.declared.device.DeviceName.{DeviceName}
 use Rattle.ice_image.specs.declared.planes.PlaneKind.{PlaneKind}
-use Rattle.ice_image.specs.declared.planes.PlaneKind.TheVariants.{Cram, Bram}
 use Rattle.bin_stream.specs.CheckValue.{check_value}
 use Rattle.bin_stream.specs.inside.Register.{entered_all}
 use Rattle.bin_stream.specs.Commands.{Command, control_opcode, bank_opcode, range_opcode, width_opcode, height_opcode, offset_opcode, mode_opcode, reset_number}
 use Rattle.ice_image.specs.Planes.{plane_width, plane_height}
-use Rattle.bin_stream.specs.State.{bank_after, range_after, height_after, first_row_after, mode_after, width_after, device_with, covered}
+use Rattle.bin_stream.specs.State.{bank_after, range_after, height_after, first_row_after, mode_after, width_after, size_where, covered}
 use Rattle.ice_image.specs.declared.settings.Settings.{Settings}
 use Rattle.bin_stream.specs.Meaning.{settings_from}
-use Rattle.bin_stream.specs.Refusals.{width_cause, height_cause, ends_plane, reached_in, short_cause_where}
+use Rattle.bin_stream.specs.Refusals.{device_where, data_cause_where, gives_last_where, reached_in, short_cause_where}
 use Rattle.bin_stream.specs.declared.fault.BinCause.{BinCause}
 
 -- numbers that commands give, the check value's register, and whether a configuration plane's last row was given
@@ -41,7 +39,7 @@ held_after commands = record {
 
 -- how many bytes data have
 abbrev pub size_by : Held → ℕ
-size_by held = held.width * held.height / 8
+size_by held = size_where held.width held.height
 
 -- what is kept before the first command
 abbrev pub held_first : Held
@@ -86,13 +84,11 @@ after_short held opcode n =
 -- what is wrong with data where a device is fixed, or none is
 abbrev pub data_cause_by : Held → Option DeviceName → PlaneKind → Option BinCause
 data_cause_by held fixed kind =
-    let device = or_else fixed (device_with kind held.width) in
-    or_else (width_cause kind device held.width) (height_cause kind device held.first_row held.height held.width)
+    data_cause_where (device_where fixed kind held.width) kind held.first_row held.height held.width
 
 -- whether data give the last row of a configuration plane
 abbrev pub gives_last_by : Held → PlaneKind → Bool
-gives_last_by held Cram = ends_plane (device_with Cram held.width) (held.first_row + held.height)
-gives_last_by held Bram = false
+gives_last_by held kind = gives_last_where kind held.first_row held.height held.width
 
 -- data that a device's plane has room for
 pub record Fits (device : DeviceName) (kind : PlaneKind) (held : Held) : Type 0 where

@@ -1,12 +1,10 @@
 -- What a decoder keeps of the bytes so far.
 use Rattle.std.specs.Prelude.{◌≡◌, ◌≢◌, ℕ, ◌+◌, ◌-◌, ◌≤◌, Bool, true, false, List, ◌∷◌, [], ◌++◌, length, take, drop, bytes_eq, Option, Some, None, Result, Ok, Err}
-use Rattle.std.specs.declared.vec.Vec.{Vec}
 use Rattle.layout_file.specs.declared.layouts.Layouts.{Layouts}
-use Rattle.ice_image.specs.Configuration.{Configuration}
 use Rattle.ice_image.specs.Either.{configuration_of}
 use Rattle.ice_image.specs.declared.any.AnyImage.{AnyImage}
 use Rattle.bin_stream.specs.Commands.{Command, spelled}
-use Rattle.bin_stream.specs.Refusals.{Fault, fault_at, first_fault}
+use Rattle.bin_stream.specs.Refusals.{fault_at, first_fault}
 use Rattle.bin_stream.specs.Front.{preamble, preamble_offset, comment_of}
 use Rattle.bin_stream.specs.Spelling.{IsAllowed, IsFront, NoWakeUp, bin_read_of}
 use Rattle.bin_stream.specs.Settled.{is_unfinished, Settles}
@@ -16,7 +14,7 @@ use Rattle.bin_stream.specs.declared.fault.BinCause.TheVariants.{Truncated}
 use Rattle.bin_stream.specs.declared.fault.BinFault.{BinFault}
 use Rattle.bin_stream.specs.declared.fault.BinFault.TheVariants.{At, Memory}
 use Rattle.bin_stream.specs.declared.reading.stage.Stage.{Stage}
-use Rattle.bin_stream.specs.declared.reading.stage.Stage.TheVariants.{Front, Commands, Image, Refused}
+use Rattle.bin_stream.specs.declared.reading.stage.Stage.TheVariants.{Front, Plain, Commands, Image, Refused}
 
 -- whether a fault is that the input ends too early
 abbrev pub is_cut : BinFault → Bool
@@ -28,13 +26,20 @@ is_cut (Memory e) = false
 abbrev pub begins_comment : List ℕ → Bool
 begins_comment bytes = bytes_eq (take 2 bytes) (0xFF ∷ 0 ∷ [])
 
--- Bytes without a preamble, of which the last ones are kept: all of them, or where there is no comment three at least.
-pub record KeepsFront (bytes : List ℕ) (is_plain : Bool) (kept : List ℕ) : Type 0 where
+-- Bytes are enough to tell that they begin no comment.
+abbrev pub IsPlain : List ℕ → Type 0
+IsPlain bytes = (3 ≤ length bytes) × (begins_comment bytes ≡ false)
+
+-- Bytes without a preamble, all of which are kept.
+pub record KeepsFront (bytes : List ℕ) (kept : List ℕ) : Type 0 where
   pub none : preamble_offset bytes ≡ None
-  pub within : length kept ≤ length bytes
-  pub kept_is : kept ≡ drop (length bytes - length kept) bytes
-  pub whole : is_plain ≡ false → kept ≡ bytes
-  pub plain : is_plain ≡ true → (3 ≤ length kept) × (begins_comment bytes ≡ false)
+  pub kept_is : kept ≡ bytes
+
+-- Bytes without a preamble and without a comment, of which the last three are kept.
+pub record KeepsPlain (bytes : List ℕ) (last : List ℕ) : Type 0 where
+  pub none : preamble_offset bytes ≡ None
+  pub plain : IsPlain bytes
+  pub last_is : last ≡ drop (length bytes - 3) bytes
 
 -- ---- commands
 
@@ -65,14 +70,16 @@ pub record IsWoken (layouts : Layouts) (bytes : List ℕ) (comment : Option (Lis
 
 -- how many bytes a stage keeps
 abbrev pub length_kept : Stage → ℕ
-length_kept (Front is_plain kept) = length kept.items
+length_kept (Front kept) = length kept.items
+length_kept (Plain last) = 0
 length_kept (Commands comment registers image pending) = length pending.items
 length_kept (Image image) = 0
 length_kept (Refused fault) = 0
 
 -- a stage is that of the bytes
 abbrev pub IsStage : Layouts → List ℕ → Stage → Type 0
-IsStage layouts bytes (Front is_plain kept) = KeepsFront bytes is_plain kept.items
+IsStage layouts bytes (Front kept) = KeepsFront bytes kept.items
+IsStage layouts bytes (Plain last) = KeepsPlain bytes last
 IsStage layouts bytes (Commands comment registers image pending) = IsCut layouts bytes comment registers image (length bytes - length pending.items) pending.items
 IsStage layouts bytes (Image image) = bin_read_of layouts bytes ≡ Ok (configuration_of image)
 IsStage layouts bytes (Refused fault) = Settles (bin_read_of layouts bytes) fault
@@ -84,7 +91,8 @@ stage_of (Err fault) = Refused fault
 
 -- the fault of a refusal
 abbrev pub fault_in : Stage → Option BinFault
-fault_in (Front is_plain kept) = None
+fault_in (Front kept) = None
+fault_in (Plain last) = None
 fault_in (Commands comment registers image pending) = None
 fault_in (Image image) = None
 fault_in (Refused fault) = Some fault

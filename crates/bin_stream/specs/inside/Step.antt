@@ -1,5 +1,5 @@
 -- What a step of a decoder does.
-use Rattle.std.specs.Prelude.{◌≡◌, ℕ, ◌+◌, ◌%◌, ◌<◌, Bool, true, false, List, [], ◌∷◌, ◌++◌, length, drop, nat_lt, if◌then◌else◌, Option, Some, None}
+use Rattle.std.specs.Prelude.{◌≡◌, ℕ, ◌+◌, ◌<◌, Bool, true, false, List, [], ◌∷◌, ◌++◌, length, drop, Option, Some, None}
 use Rattle.place_search.specs.Places.{or_else}
 use Rattle.bit_plane.specs.BitList.{bits_of}
 use Rattle.bit_plane.specs.Rows.{rows_of}
@@ -15,13 +15,12 @@ use Rattle.ice_image.specs.declared.any.AnyImage.{AnyImage}
 use Rattle.ice_image.specs.declared.planes.PlaneKind.{PlaneKind}
 use Rattle.ice_image.specs.declared.planes.PlaneKind.TheVariants.{Cram, Bram}
 use Rattle.bin_stream.specs.Commands.{Command, spelling, is_wake_up}
-use Rattle.bin_stream.specs.State.{device_with, device_after}
-use Rattle.bin_stream.specs.Refusals.{Fault, fault_at, fault_where, body_fault, first_fault, reached_in}
+use Rattle.bin_stream.specs.State.{device_after}
+use Rattle.bin_stream.specs.Refusals.{Fault, fault_at, fault_where, body_fault, first_fault, device_where, reached_in}
 use Rattle.bin_stream.specs.Meaning.{plane_bit, planes_of}
 use Rattle.bin_stream.specs.Spelling.{first_command, commands_from}
 use Rattle.bin_stream.specs.inside.Registers.{Held, Fits, held_after, settings_by, size_by, data_cause_by}
 use Rattle.bin_stream.specs.declared.fault.BinCause.{BinCause}
-use Rattle.bin_stream.specs.declared.fault.BinCause.TheVariants.{Truncated, LongPayload}
 use Rattle.bin_stream.specs.declared.fault.BinFault.{BinFault}
 use Rattle.bin_stream.specs.declared.fault.BinFault.TheVariants.{At, Memory}
 
@@ -34,14 +33,6 @@ fault_of offset cause = At offset cause
 abbrev pub Refuses : Option Fault → BinFault → Type 0
 Refuses found (At offset cause) = found ≡ Some (fault_at offset cause)
 Refuses found (Memory e) = Unit {0}
-
--- what is wrong with the first byte and the payload of the command at an offset
-abbrev pub payload_refusal : ℕ → List ℕ → Option Fault
-payload_refusal offset [] = Some (fault_at offset Truncated)
-payload_refusal offset (head ∷ rest) =
-    if nat_lt 4 (head % 16) then Some (fault_at offset LongPayload)
-    else if nat_lt (length rest) (head % 16) then Some (fault_at (offset + 1 + length rest) Truncated)
-    else None
 
 -- what is wrong with data at an offset, whose bytes begin at another
 abbrev pub data_refusal : Held → Option DeviceName → PlaneKind → ℕ → ℕ → List ℕ → Option Fault
@@ -64,7 +55,7 @@ image_or_blank layout (Some image) = configuration_of image
 pub record IsDrawnOn (layouts : Layouts) (kind : PlaneKind) (held : Held) (body : List ℕ) (before after : Option AnyImage) : Type 0 where
   pub device : DeviceName
   pub image : AnyImage
-  pub device_is : or_else (device_if before) (device_with kind held.width) ≡ Some device
+  pub device_is : device_where (device_if before) kind held.width ≡ Some device
   pub fits : Fits device kind held
   pub bank_in : held.bank < 4
   pub long : length body ≡ size_by held

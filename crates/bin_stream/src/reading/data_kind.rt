@@ -2,23 +2,23 @@
 ghost use Rattle.std.specs.Prelude.{◌≡◌};
 ghost use Rattle.bin_stream.specs.State.{device_with};
 ghost use Rattle.bin_stream.specs.Refusals.{data_kind};
+ghost use Rattle.bin_stream.specs.inside.Opcodes.{opcode_number};
 
-use crate::opcode::{BRAM_DATA, CONTROL, CRAM_DATA};
+use crate::opcode::{Control, Opcode};
 use ice_image::PlaneKind;
 use plane_map::DeviceName;
 
 /// The planes for which data are that an opcode and a payload's number announce, where they announce data.
-pub(crate) fn data_kind(opcode: u8, number: u32) -> Option<PlaneKind>
-    ensures { result ≡ data_kind opcode number }
+pub(crate) fn data_kind(opcode: Opcode, number: u32) -> Option<PlaneKind>
+    ensures { result ≡ data_kind (opcode_number opcode) number }
 {
-    if opcode != CONTROL {
-        None
-    } else if number == u32::from(CRAM_DATA) {
-        Some(PlaneKind::Cram)
-    } else if number == u32::from(BRAM_DATA) {
-        Some(PlaneKind::Bram)
-    } else {
-        None
+    match opcode {
+        Opcode::Control => match Control::from_number(number) {
+            Some(Control::CramData) => Some(PlaneKind::Cram),
+            Some(Control::BramData) => Some(PlaneKind::Bram),
+            _ => None,
+        },
+        _ => None,
     }
 }
 

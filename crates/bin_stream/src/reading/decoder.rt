@@ -1,15 +1,14 @@
 // Reading a bitstream.
-ghost use Rattle.std.specs.Prelude.{List, ℕ, ◌≡◌, ◌+◌, ◌<◌, ◌≤◌, ◌^◌, [], None, Ok, IfOk, IfErr, length, take, drop};
+ghost use Rattle.std.specs.Prelude.{◌≡◌, Ok, IfOk, IfErr};
 ghost use Rattle.layout_file.specs.Layouts.{standard_layouts, AreLayouts};
 ghost use Rattle.ice_image.specs.Either.{configuration_of};
-ghost use Rattle.bin_stream.specs.Spelling.{IsDecided, commands_from, image_of, bin_read_of, Tells};
-ghost use Rattle.bin_stream.specs.Front.{comment_of};
+ghost use Rattle.bin_stream.specs.Spelling.{IsDecided, bin_read_of, Tells};
 
 use super::front::{comment_of, preamble_offset};
 use super::head::fault_at;
 use super::machine::Machine;
 use super::registers::Registers;
-use super::taking::image_at_end;
+use super::taking::{image_at_end, take_commands};
 use crate::fault::{BinCause, BinFault};
 use crate::marks::PREAMBLE;
 use ice_image::AnyImage;
@@ -35,37 +34,19 @@ pub fn decode_with(alloc: Global, bytes: &[u8], layouts: Layouts) -> Result<AnyI
 {
     match preamble_offset(bytes) {
         Some(offset) => {
-            let mut image = read_commands(alloc, bytes, offset + PREAMBLE.len(), layouts)?;
-            image.set_comment(comment_of(alloc, &bytes[..offset])?);
-            Ok(image)
+            let comment = comment_of(alloc, &bytes[..offset])?;
+            let machine = Machine {
+                layouts,
+                registers: Registers::new(),
+                image: None,
+            };
+            let taken = take_commands(alloc, machine, 0, bytes, offset + PREAMBLE.len())?;
+            if taken.is_last {
+                image_at_end(taken.machine, comment, bytes.len())
+            } else {
+                Err(fault_at(bytes.len(), BinCause::Truncated))
+            }
         }
         None => Err(fault_at(bytes.len(), BinCause::NoPreamble)),
-    }
-}
-
-/// What the commands from offset `start` on configure, up to the wake-up, or their first fault. The comment isn't set.
-fn read_commands(
-    alloc: Global,
-    bytes: &[u8],
-    start: usize,
-    layouts: Layouts,
-) -> Result<AnyImage, BinFault>
-    requires start { start ≤ length bytes.now }
-    requires layouts { AreLayouts layouts }
-    ensures image { IfOk result (λ image. (front : List ℕ) → image_of layouts front (commands_from (length bytes.now + 1) [] start (drop start bytes.now)) ≡ Ok (record (configuration_of image) { comment = comment_of front })) }
-    ensures refused { IfErr result (λ fault. (front : List ℕ) → Tells (image_of layouts front (commands_from (length bytes.now + 1) [] start (drop start bytes.now))) fault) }
-{
-    let mut machine = Machine {
-        layouts,
-        registers: Registers::new(),
-        image: None,
-    };
-    let mut offset = start;
-    loop {
-        let entered = machine.enter_command(alloc, offset, &bytes[offset..])?;
-        if entered.is_last {
-            return image_at_end(machine, offset);
-        }
-        offset += entered.size;
     }
 }

@@ -21,13 +21,13 @@ pub(crate) fn preamble_offset(bytes: &[u8]) -> Option<usize>
     None
 }
 
-/// Whether the preamble is at an offset.
+/// Whether the preamble is at an offset. Most bytes aren't its first one, so that one is looked at before.
 fn is_preamble_at(bytes: &[u8], offset: usize) -> bool
-    requires { offset ≤ length bytes.now }
+    requires { offset < length bytes.now }
     ensures value { result ≡ is_preamble_at bytes.now offset }
     ensures within { IsTrue result → offset + 4 ≤ length bytes.now }
 {
-    bytes[offset..].starts_with(&PREAMBLE)
+    bytes[offset] == PREAMBLE[0] && bytes[offset..].starts_with(&PREAMBLE)
 }
 
 /// The comment in the bytes before the preamble.

@@ -1,8 +1,9 @@
 // Cutting a command into its parts.
 ghost use Rattle.std.specs.Prelude.{◌≡◌, ◌+◌, ◌%◌, ◌<◌, ◌≤◌, ◌^◌, None, IfOk, IfErr, length, take, drop, get_or};
 ghost use Rattle.bin_stream.specs.Commands.{number_of};
-ghost use Rattle.bin_stream.specs.Refusals.{body_fault, end_fault};
-ghost use Rattle.bin_stream.specs.inside.Step.{fault_of, payload_refusal, Refuses};
+ghost use Rattle.bin_stream.specs.Refusals.{head_fault, body_fault, end_fault};
+ghost use Rattle.bin_stream.specs.inside.Step.{fault_of, Refuses};
+ghost use Rattle.bin_stream.specs.declared.fault.BinCause.TheVariants.{Truncated};
 
 use crate::fault::{BinCause, BinFault};
 
@@ -19,25 +20,86 @@ pub(crate) fn fault_at(offset: usize, cause: BinCause) -> BinFault
     }
 }
 
-/// The payload of the command at the head of these bytes, which begin at an offset of the input.
-pub(crate) fn payload_of(offset: usize, bytes: &[u8]) -> Result<&[u8], BinFault>
-    requires { offset + length bytes.now < 2 ^ 64 }
-    ensures payload { IfOk result (λ payload. payload.now ≡ take (get_or bytes.now 0 0 % 16) (drop 1 bytes.now)) }
-    ensures within { IfOk result (λ payload. length payload.now < length bytes.now) }
-    ensures long { IfOk result (λ payload. length payload.now ≡ get_or bytes.now 0 0 % 16) }
-    ensures allowed { IfOk result (λ payload. payload_refusal offset bytes.now ≡ None) }
-    ensures refused { IfErr result (Refuses (payload_refusal offset bytes.now)) }
-{
-    if bytes.is_empty() {
-        return Err(fault_at(offset, BinCause::Truncated));
+/// Bytes of the input from an offset on.
+#[derive(Clone, Copy)]
+pub(crate) struct Cursor<'a> {
+    /// Where the bytes begin in the input.
+    pub(crate) offset: usize,
+    pub(crate) bytes: &'a [u8],
+}
+
+impl<'a> Cursor<'a> {
+    /// The bytes behind the first `count`.
+    pub(crate) fn behind(self, count: usize) -> Cursor<'a>
+        requires within { count ≤ length self.bytes.now }
+        requires offset { self.offset + length self.bytes.now < 2 ^ 64 }
+        ensures offset { result.offset ≡ self.entry.offset + count }
+        ensures bytes { result.bytes.now ≡ drop count self.entry.bytes.now }
+    {
+        Cursor {
+            offset: self.offset + count,
+            bytes: &self.bytes[count..],
+        }
     }
-    let count = usize::from(bytes[0] % 16);
-    if count > LONGEST_PAYLOAD {
-        Err(fault_at(offset, BinCause::LongPayload))
-    } else if bytes.len() - 1 < count {
-        Err(fault_at(offset + bytes.len(), BinCause::Truncated))
-    } else {
-        Ok(&bytes[1..1 + count])
+
+    /// That the input ends too early, which is a fault at its end.
+    fn cut(self) -> BinFault
+        requires { self.offset + length self.bytes.now < 2 ^ 64 }
+        ensures { result ≡ fault_of (self.entry.offset + length self.entry.bytes.now) Truncated }
+    {
+        fault_at(self.offset + self.bytes.len(), BinCause::Truncated)
+    }
+
+    /// The payload of the command at the head.
+    pub(crate) fn payload(self) -> Result<&'a [u8], BinFault>
+        requires { self.offset + length self.bytes.now < 2 ^ 64 }
+        ensures payload { IfOk result (λ payload. payload.now ≡ take (get_or self.entry.bytes.now 0 0 % 16) (drop 1 self.entry.bytes.now)) }
+        ensures within { IfOk result (λ payload. length payload.now < length self.entry.bytes.now) }
+        ensures long { IfOk result (λ payload. length payload.now ≡ get_or self.entry.bytes.now 0 0 % 16) }
+        ensures allowed { IfOk result (λ payload. head_fault self.entry.offset self.entry.bytes.now ≡ None) }
+        ensures refused { IfErr result (Refuses (head_fault self.entry.offset self.entry.bytes.now)) }
+    {
+        if self.bytes.is_empty() {
+            return Err(self.cut());
+        }
+        let count = usize::from(self.bytes[0] % 16);
+        if count > LONGEST_PAYLOAD {
+            Err(fault_at(self.offset, BinCause::LongPayload))
+        } else if self.bytes.len() - 1 < count {
+            Err(self.cut())
+        } else {
+            Ok(&self.bytes[1..1 + count])
+        }
+    }
+
+    /// The rows of data: the first `size` bytes. Two bytes 00 have to follow.
+    pub(crate) fn body(self, size: usize) -> Result<&'a [u8], BinFault>
+        requires { self.offset + length self.bytes.now < 2 ^ 64 }
+        ensures body { IfOk result (λ body. body.now ≡ take size self.entry.bytes.now) }
+        ensures within { IfOk result (λ body. size + 2 ≤ length self.entry.bytes.now) }
+        ensures allowed { IfOk result (λ body. body_fault size self.entry.offset self.entry.bytes.now ≡ None) }
+        ensures refused { IfErr result (Refuses (body_fault size self.entry.offset self.entry.bytes.now)) }
+    {
+        if self.bytes.len() < size {
+            return Err(self.cut());
+        }
+        self.behind(size).test_end()?;
+        Ok(&self.bytes[..size])
+    }
+
+    /// Tests that the bytes begin with two bytes 00.
+    fn test_end(self) -> Result<(), BinFault>
+        requires { self.offset + length self.bytes.now < 2 ^ 64 }
+        ensures within { IfOk result (λ _. 2 ≤ length self.entry.bytes.now) }
+        ensures allowed { IfOk result (λ _. end_fault self.entry.offset self.entry.bytes.now ≡ None) }
+        ensures refused { IfErr result (Refuses (end_fault self.entry.offset self.entry.bytes.now)) }
+    {
+        match self.bytes {
+            [] | [0] => Err(self.cut()),
+            [0, 0, ..] => Ok(()),
+            [0, _, ..] => Err(fault_at(self.offset + 1, BinCause::DataEnd)),
+            [_, ..] => Err(fault_at(self.offset, BinCause::DataEnd)),
+        }
     }
 }
 
@@ -51,35 +113,4 @@ pub(crate) fn number_of(payload: &[u8]) -> u32
         number = 256 * number + u32::from(*byte);
     }
     number
-}
-
-/// The rows of data: the first `size` of these bytes, which begin at an offset of the input. Two bytes 00 have to follow.
-pub(crate) fn body_of(size: usize, offset: usize, bytes: &[u8]) -> Result<&[u8], BinFault>
-    requires { offset + length bytes.now < 2 ^ 64 }
-    ensures body { IfOk result (λ body. body.now ≡ take size bytes.now) }
-    ensures within { IfOk result (λ body. size + 2 ≤ length bytes.now) }
-    ensures allowed { IfOk result (λ body. body_fault size offset bytes.now ≡ None) }
-    ensures refused { IfErr result (Refuses (body_fault size offset bytes.now)) }
-{
-    if bytes.len() < size {
-        return Err(fault_at(offset + bytes.len(), BinCause::Truncated));
-    }
-    test_end(offset + size, &bytes[size..])?;
-    Ok(&bytes[..size])
-}
-
-/// Tests that these bytes, which begin at an offset of the input, begin with two bytes 00.
-fn test_end(offset: usize, bytes: &[u8]) -> Result<(), BinFault>
-    requires { offset + length bytes.now < 2 ^ 64 }
-    ensures within { IfOk result (λ _. 2 ≤ length bytes.now) }
-    ensures allowed { IfOk result (λ _. end_fault offset bytes.now ≡ None) }
-    ensures refused { IfErr result (Refuses (end_fault offset bytes.now)) }
-{
-    match bytes {
-        [] => Err(fault_at(offset, BinCause::Truncated)),
-        [0] => Err(fault_at(offset + 1, BinCause::Truncated)),
-        [0, 0, ..] => Ok(()),
-        [0, _, ..] => Err(fault_at(offset + 1, BinCause::DataEnd)),
-        [_, ..] => Err(fault_at(offset, BinCause::DataEnd)),
-    }
 }

@@ -1,21 +1,20 @@
 // Taking the commands of a bitstream, one after the other.
 ghost use Rattle.std.specs.Prelude.{List, ◌≡◌, ◌+◌, ◌*◌, ◌/◌, ◌%◌, ◌<◌, ◌≤◌, ◌^◌, ◌==◌, ◌&&◌, None, Some, true, IfOk, IfErr, length, take, drop, get_or};
-ghost use Rattle.place_search.specs.Places.{or_else};
 ghost use Rattle.layout_file.specs.Layouts.{AreLayouts};
 ghost use Rattle.ice_image.specs.Either.{configuration_of};
 ghost use Rattle.bin_stream.specs.Commands.{Command, control_opcode, wake_up_number};
-ghost use Rattle.bin_stream.specs.State.{device_with};
-ghost use Rattle.bin_stream.specs.Refusals.{first_fault};
+ghost use Rattle.bin_stream.specs.Refusals.{first_fault, device_where};
+ghost use Rattle.bin_stream.specs.inside.Opcodes.{opcode_number};
 ghost use Rattle.bin_stream.specs.inside.Registers.{Fits, size_by, after_data};
 ghost use Rattle.bin_stream.specs.inside.Step.{Refuses, data_refusal, device_if, image_or_blank, IsDrawnOn, Stands, IsEntered};
 ghost use Rattle.bin_stream.specs.inside.Stages.{is_cut};
 
 use super::data_kind::data_kind;
-use super::head::{body_of, fault_at, number_of, payload_of};
+use super::head::{Cursor, fault_at, number_of};
 use super::registers::Registers;
 use crate::fault::{BinCause, BinFault};
 use crate::marks::DATA_END;
-use crate::opcode::{CONTROL, WAKE_UP};
+use crate::opcode::{Control, Opcode};
 use ice_image::{AnyImage, PlaneKind};
 use layout_file::Layouts;
 use plane_map::{DeviceName, Layout};
@@ -56,13 +55,16 @@ impl Machine {
         ensures same_registers { IfErr result (λ fault. is_cut fault ≡ true → self.new.registers ≡ self.old.registers) }
         ensures same_image { IfErr result (λ fault. is_cut fault ≡ true → self.new.image ≡ self.old.image) }
     {
-        let payload = payload_of(offset, bytes)?;
+        let at = Cursor { offset, bytes };
+        let payload = at.payload()?;
         let start = 1 + payload.len();
-        let opcode = bytes[0] / 16;
+        let Some(opcode) = Opcode::from_number(bytes[0] / 16) else {
+            return Err(fault_at(offset, BinCause::UnknownCommand));
+        };
         let number = number_of(payload);
         match data_kind(opcode, number) {
             Some(kind) => {
-                let size = self.enter_data(alloc, kind, offset, start, bytes)?;
+                let size = self.enter_data(alloc, kind, at, start)?;
                 Ok(Entered {
                     size,
                     is_last: false,
@@ -78,37 +80,36 @@ impl Machine {
         }
     }
 
-    /// Takes data at an offset of the input and tells how many bytes the command has. `start` is where the rows begin in
-    /// `bytes`, which begin with the command.
+    /// Takes the data that these bytes begin with, of which `start` come before the rows, and tells how many bytes the command
+    /// has.
     fn enter_data(
         &mut self,
         alloc: Global,
         kind: PlaneKind,
-        offset: usize,
+        at: Cursor,
         start: usize,
-        bytes: &[u8],
     ) -> Result<usize, BinFault>
-        requires within { start ≤ length bytes.now }
-        requires offset { offset + length bytes.now < 2 ^ 64 }
+        requires within { start ≤ length at.bytes.now }
+        requires offset { at.offset + length at.bytes.now < 2 ^ 64 }
         requires layouts { AreLayouts self.old.layouts }
         ensures layouts { self.new.layouts ≡ self.old.layouts }
         ensures size { IfOk result (λ size. size ≡ start + size_by self.old.registers + 2) }
-        ensures within { IfOk result (λ size. size ≤ length bytes.now) }
-        ensures registers { IfOk result (λ size. self.new.registers ≡ after_data self.old.registers kind (take size bytes.now)) }
-        ensures drawn { IfOk result (λ size. IsDrawnOn self.old.layouts kind self.old.registers (take (size_by self.old.registers) (drop start bytes.now)) self.old.image self.new.image) }
-        ensures allowed { IfOk result (λ size. data_refusal self.old.registers (device_if self.old.image) kind offset (offset + start) (drop start bytes.now) ≡ None) }
-        ensures refused { IfErr result (Refuses (data_refusal self.old.registers (device_if self.old.image) kind offset (offset + start) (drop start bytes.now))) }
+        ensures within { IfOk result (λ size. size ≤ length at.entry.bytes.now) }
+        ensures registers { IfOk result (λ size. self.new.registers ≡ after_data self.old.registers kind (take size at.entry.bytes.now)) }
+        ensures drawn { IfOk result (λ size. IsDrawnOn self.old.layouts kind self.old.registers (take (size_by self.old.registers) (drop start at.entry.bytes.now)) self.old.image self.new.image) }
+        ensures allowed { IfOk result (λ size. data_refusal self.old.registers (device_if self.old.image) kind at.entry.offset (at.entry.offset + start) (drop start at.entry.bytes.now) ≡ None) }
+        ensures refused { IfErr result (Refuses (data_refusal self.old.registers (device_if self.old.image) kind at.entry.offset (at.entry.offset + start) (drop start at.entry.bytes.now))) }
         ensures same_registers { IfErr result (λ fault. is_cut fault ≡ true → self.new.registers ≡ self.old.registers) }
         ensures same_image { IfErr result (λ fault. is_cut fault ≡ true → self.new.image ≡ self.old.image) }
     {
         match self.registers.device_for(kind, self.device()) {
-            Err(cause) => Err(fault_at(offset, cause)),
+            Err(cause) => Err(fault_at(at.offset, cause)),
             Ok(device) => {
                 let size = self.registers.data_size();
-                let body = body_of(size, offset + start, &bytes[start..])?;
+                let body = at.behind(start).body(size)?;
                 self.draw(alloc, device, kind, body)?;
                 let end = start + size + DATA_END.len();
-                self.registers.enter_data(kind, &bytes[..end]);
+                self.registers.enter_data(kind, &at.bytes[..end]);
                 Ok(end)
             }
         }
@@ -125,7 +126,6 @@ impl Machine {
     }
 
     /// Writes the rows of data into the image, which is made where there is none.
-    #[tactic(auto, using(crate::proofs::Laid::device_kept))]
     fn draw(
         &mut self,
         alloc: Global,
@@ -133,7 +133,7 @@ impl Machine {
         kind: PlaneKind,
         body: &[u8],
     ) -> Result<(), AllocError>
-        requires device { or_else (device_if self.old.image) (device_with kind self.old.registers.width) ≡ Some device }
+        requires device { device_where (device_if self.old.image) kind self.old.registers.width ≡ Some device }
         requires fits { Fits device kind self.old.registers }
         requires size { length body.now ≡ size_by self.old.registers }
         requires layouts { AreLayouts self.old.layouts }
@@ -166,8 +166,11 @@ fn image_or_blank(
 }
 
 /// Whether an opcode and a payload's number are those of the wake-up.
-fn is_wake_up(opcode: u8, number: u32) -> bool
-    ensures { result ≡ ((opcode == control_opcode) && (number == wake_up_number)) }
+fn is_wake_up(opcode: Opcode, number: u32) -> bool
+    ensures { result ≡ ((opcode_number opcode == control_opcode) && (number == wake_up_number)) }
 {
-    opcode == CONTROL && number == u32::from(WAKE_UP)
+    match opcode {
+        Opcode::Control => matches!(Control::from_number(number), Some(Control::WakeUp)),
+        _ => false,
+    }
 }

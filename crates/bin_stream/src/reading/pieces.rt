@@ -13,7 +13,7 @@ use std::mem;
 
 /// A reader of a bitstream that comes in pieces.
 ///
-/// It keeps the front as far as a comment may be in it, the image so far, and the bytes of a command that isn't whole.
+/// It keeps a front only where a comment may be in it, the image so far, and the bytes of a command that isn't whole.
 #[derive(Drop)]
 pub struct Decoder {
     alloc: Global,
@@ -29,7 +29,7 @@ impl Decoder {
     ghost use Rattle.std.specs.Prelude.{List, ℕ, [], Ok, Err, Some, None, ◌++◌, ◌+◌, ◌<◌, ◌^◌, IfOk, IfErr, length};
     ghost use Rattle.layout_file.specs.Layouts.{standard_layouts};
     ghost use Rattle.ice_image.specs.Either.{configuration_of};
-    ghost use Rattle.bin_stream.specs.Spelling.{bin_read_of, Tells};
+    ghost use Rattle.bin_stream.specs.Spelling.{IsDecided, bin_read_of, Tells};
     ghost use Rattle.bin_stream.specs.Settled.{Settles, IsOpen};
     ghost use Rattle.bin_stream.specs.Decoding.{fed_to, refusal_of, StandsFor};
     ghost use Rattle.bin_stream.specs.declared.fault.BinFault.{BinFault as Fault};
@@ -55,7 +55,6 @@ impl Decoder {
             layouts,
             fed: 0,
             stage: Stage::Front {
-                is_plain: false,
                 kept: Vec::new(alloc),
             },
         }
@@ -63,18 +62,22 @@ impl Decoder {
 
     /// Takes the next bytes. It refuses where what was fed spells no image, however it goes on. Then each later call answers
     /// that fault again. So it does where there was no memory.
-    #[tactic(auto, using(crate::proofs::Stages::stage_open, crate::proofs::Stages::stage_settled))]
     pub fn feed(&mut self, piece: &[u8]) -> Result<(), BinFault>
         requires { fed_to self.old + length piece.now < 2 ^ 32 }
         ensures fed { fed_to self.new ≡ fed_to self.old + length piece.now }
+        ensures decided { (layouts : Layouts) (bytes : List ℕ) → StandsFor layouts bytes self.old → IsDecided layouts (bytes ++ piece.now) }
         ensures stands { (layouts : Layouts) (bytes : List ℕ) → StandsFor layouts bytes self.old → StandsFor layouts (bytes ++ piece.now) self.new }
         ensures goes_on { IfOk result (λ _. (layouts : Layouts) (bytes : List ℕ) → StandsFor layouts bytes self.old → IsOpen (bin_read_of layouts (bytes ++ piece.now))) }
         ensures refused { IfErr result (λ fault. (layouts : Layouts) (bytes : List ℕ) → StandsFor layouts bytes self.old → Settles (bin_read_of layouts (bytes ++ piece.now)) fault) }
+        ensures stays { IfErr result (λ fault. (layouts : Layouts) (bytes more : List ℕ) → StandsFor layouts bytes self.old → Tells (bin_read_of layouts (bytes ++ piece.now ++ more)) fault) }
         ensures clear { IfOk result (λ _. refusal_of self.new ≡ None) }
         ensures kept { IfErr result (λ fault. refusal_of self.new ≡ Some fault) }
         ensures again { (fault : Fault) → refusal_of self.old ≡ Some fault → result ≡ Err fault }
     {
-        let stage = mem::replace(&mut self.stage, Stage::Refused(fault_at(0, BinCause::Truncated)));
+        let stage = mem::replace(
+            &mut self.stage,
+            Stage::Refused(fault_at(0, BinCause::Truncated)),
+        );
         let stage = stage.after(self.alloc, self.layouts, self.fed, piece);
         let answer = stage.answer();
         self.fed += piece.len();
@@ -84,6 +87,7 @@ impl Decoder {
 
     /// The image that what was fed spells, or its first fault.
     pub fn finish(self) -> Result<AnyImage, BinFault>
+        ensures decided { (layouts : Layouts) (bytes : List ℕ) → StandsFor layouts bytes self → IsDecided layouts bytes }
         ensures image { IfOk result (λ image. (layouts : Layouts) (bytes : List ℕ) → StandsFor layouts bytes self → bin_read_of layouts bytes ≡ Ok (configuration_of image)) }
         ensures refused { IfErr result (λ fault. (layouts : Layouts) (bytes : List ℕ) → StandsFor layouts bytes self → Tells (bin_read_of layouts bytes) fault) }
         ensures again { (fault : Fault) → refusal_of self ≡ Some fault → result ≡ Err fault }
@@ -91,6 +95,7 @@ impl Decoder {
         let Decoder { fed, stage, .. } = self;
         match stage {
             Stage::Front { .. } => Err(fault_at(fed, BinCause::NoPreamble)),
+            Stage::Plain { .. } => Err(fault_at(fed, BinCause::NoPreamble)),
             Stage::Commands { .. } => Err(fault_at(fed, BinCause::Truncated)),
             Stage::Image(image) => Ok(image),
             Stage::Refused(fault) => Err(fault),

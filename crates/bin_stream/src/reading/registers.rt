@@ -1,19 +1,17 @@
 // What a decoder keeps of the commands so far.
 ghost use Rattle.std.specs.Prelude.{◌≡◌, ◌+◌, ◌*◌, ◌/◌, ◌%◌, ◌<◌, ◌≤◌, ◌^◌, ◌==◌, not, None, Some, IfOk, nat_lt};
-ghost use Rattle.place_search.specs.Places.{or_else};
 ghost use Rattle.plane_map.specs.declared.device.DeviceName.{DeviceName as Name};
-ghost use Rattle.bin_stream.specs.Refusals.{cause_if, is_mode, is_bad_height, control_cause, check_cause};
+ghost use Rattle.bin_stream.specs.Refusals.{cause_if, is_mode, device_where, is_bad_height, control_cause, check_cause};
 ghost use Rattle.bin_stream.specs.State.{device_with};
 ghost use Rattle.bin_stream.specs.Meaning.{range_of};
+ghost use Rattle.bin_stream.specs.inside.Opcodes.{opcode_number};
 ghost use Rattle.bin_stream.specs.inside.Registers.{held_first, refusal_of, short_cause_by, checked, after_control, after_short, data_cause_by, gives_last_by, Fits, after_data, settings_by, size_by};
 ghost use Rattle.bin_stream.specs.declared.fault.BinCause.TheVariants.{BadBank, BadRange, BadMode};
 
 use super::data_kind::device_with;
 use crate::check_value::{START, enter_bytes};
 use crate::fault::BinCause;
-use crate::opcode::{
-    BANK, BOOT_ADDRESS, CHECK, CONTROL, HEIGHT, MODE, OFFSET, RANGE, RESET, WAKE_UP, WIDTH,
-};
+use crate::opcode::{Control, Opcode};
 use ice_image::{PlaneKind, Range, Settings};
 use plane_map::DeviceName;
 use std::marker::Model;
@@ -112,25 +110,24 @@ impl Registers {
     /// Takes a command that isn't data: its opcode, its payload's number and its bytes.
     pub(crate) fn enter_short(
         &mut self,
-        opcode: u8,
+        opcode: Opcode,
         number: u32,
         command: &[u8],
     ) -> Result<(), BinCause>
-        ensures allowed { refusal_of result ≡ short_cause_by (checked self.old command.now) opcode number }
-        ensures entered { IfOk result (λ _. self.new ≡ after_short (checked self.old command.now) opcode number) }
+        ensures allowed { refusal_of result ≡ short_cause_by (checked self.old command.now) (opcode_number opcode) number }
+        ensures entered { IfOk result (λ _. self.new ≡ after_short (checked self.old command.now) (opcode_number opcode) number) }
     {
         self.check = enter_bytes(self.check, command);
         match opcode {
-            CONTROL => self.enter_control(number),
-            BANK => self.set_bank(number),
-            CHECK => self.test_check(),
-            BOOT_ADDRESS => Ok(()),
-            RANGE => self.set_range(number),
-            WIDTH => self.set_width(number),
-            HEIGHT => self.set_height(number),
-            OFFSET => self.set_first_row(number),
-            MODE => self.set_mode(number),
-            _ => Err(BinCause::UnknownCommand),
+            Opcode::Control => self.enter_control(number),
+            Opcode::Bank => self.set_bank(number),
+            Opcode::Check => self.test_check(),
+            Opcode::BootAddress => Ok(()),
+            Opcode::Range => self.set_range(number),
+            Opcode::Width => self.set_width(number),
+            Opcode::Height => self.set_height(number),
+            Opcode::Offset => self.set_first_row(number),
+            Opcode::Mode => self.set_mode(number),
         }
     }
 
@@ -139,15 +136,19 @@ impl Registers {
         ensures allowed { refusal_of result ≡ control_cause self.old.reached number }
         ensures entered { IfOk result (λ _. self.new ≡ after_control self.old number) }
     {
-        if number == u32::from(RESET) {
-            self.check = START;
-            Ok(())
-        } else if number != u32::from(WAKE_UP) {
-            Err(BinCause::UnknownCommand)
-        } else if self.reached {
-            Ok(())
-        } else {
-            Err(BinCause::NoDevice)
+        match Control::from_number(number) {
+            Some(Control::Reset) => {
+                self.check = START;
+                Ok(())
+            }
+            Some(Control::WakeUp) => {
+                if self.reached {
+                    Ok(())
+                } else {
+                    Err(BinCause::NoDevice)
+                }
+            }
+            _ => Err(BinCause::UnknownCommand),
         }
     }
 
@@ -234,7 +235,7 @@ impl Registers {
         fixed: Option<DeviceName>,
     ) -> Result<DeviceName, BinCause>
         ensures allowed { refusal_of result ≡ data_cause_by self.now fixed kind }
-        ensures device { IfOk result (λ device. or_else fixed (device_with kind self.now.width) ≡ Some device) }
+        ensures device { IfOk result (λ device. device_where fixed kind self.now.width ≡ Some device) }
         ensures fits { IfOk result (λ device. Fits device kind self.now) }
     {
         match fixed.or(device_with(kind, self.width)) {

@@ -1,11 +1,12 @@
 // What a decoder knows of a bitstream that comes in pieces.
-ghost use Rattle.std.specs.Prelude.{List, ℕ, ◌≡◌, ◌+◌, ◌-◌, ◌<◌, ◌≤◌, ◌^◌, ◌++◌, ◌∷◌, [], Option, None, Some, Err, true, false, IfOk, IfErr, length, drop};
+ghost use Rattle.std.specs.Prelude.{List, ℕ, ◌≡◌, ◌+◌, ◌-◌, ◌<◌, ◌≤◌, ◌^◌, ◌++◌, ◌∷◌, [], Option, None, Some, Err, true, false, ◌↔◌, IsTrue, IfOk, IfErr, length, drop};
 ghost use Rattle.layout_file.specs.Layouts.{AreLayouts};
-ghost use Rattle.bin_stream.specs.Settled.{is_unfinished};
-ghost use Rattle.bin_stream.specs.Front.{comment_of};
-ghost use Rattle.bin_stream.specs.inside.Stages.{is_cut, begins_comment, KeepsFront, IsReading, length_kept, IsStage, stage_of, fault_in};
+ghost use Rattle.bin_stream.specs.Front.{preamble_offset};
+ghost use Rattle.bin_stream.specs.inside.Registers.{held_first};
+ghost use Rattle.bin_stream.specs.inside.Stages.{begins_comment, IsPlain, KeepsFront, KeepsPlain, IsReading, IsCut, IsWoken, length_kept, IsStage, stage_of, fault_in};
 ghost use Rattle.bin_stream.specs.declared.fault.BinFault.{BinFault as Fault};
 
+use super::edge::{KEPT, last_behind, last_three, start_behind};
 use super::front::{comment_of, preamble_offset};
 use super::machine::Machine;
 use super::registers::Registers;
@@ -16,14 +17,17 @@ use ice_image::{AnyImage, Comment};
 use layout_file::Layouts;
 use std::alloc::{AllocError, Global};
 
-/// How many bytes of a front may belong to a preamble that isn't whole.
-const KEPT: usize = 3;
-
 /// What is known of the bytes so far.
 #[derive(Drop)]
 pub(crate) enum Stage {
-    /// There is no preamble yet. The bytes that are kept are all; where the front is plain, which has no comment, the last three.
-    Front { is_plain: bool, kept: Vec<u8> },
+    /// There is no preamble yet, and all bytes are kept.
+    Front {
+        kept: Vec<u8>,
+    },
+    /// There is no preamble yet, and no comment. The last three bytes are kept.
+    Plain {
+        last: [u8; 3],
+    },
     /// The commands so far, and the bytes of one that isn't whole.
     Commands {
         comment: Option<Comment>,
@@ -39,13 +43,7 @@ pub(crate) enum Stage {
 
 impl Stage {
     /// What is known with a piece more, where so many bytes came before it.
-    pub(crate) fn after(
-        self,
-        alloc: Global,
-        layouts: Layouts,
-        fed: usize,
-        piece: &[u8],
-    ) -> Stage
+    pub(crate) fn after(self, alloc: Global, layouts: Layouts, fed: usize, piece: &[u8]) -> Stage
         requires layouts { AreLayouts layouts }
         requires fed { fed + length piece.now < 2 ^ 64 }
         requires room { length_kept self ≤ fed }
@@ -54,9 +52,8 @@ impl Stage {
         ensures again { (fault : Fault) → fault_in self ≡ Some fault → fault_in result ≡ Some fault }
     {
         match self {
-            Stage::Front { is_plain, kept } => {
-                stage_of(front_after(alloc, layouts, is_plain, kept, fed, piece))
-            }
+            Stage::Front { kept } => stage_of(front_after(alloc, layouts, kept, piece)),
+            Stage::Plain { last } => stage_of(plain_after(alloc, layouts, last, fed, piece)),
             Stage::Commands {
                 comment,
                 registers,
@@ -98,70 +95,70 @@ fn stage_of(stage: Result<Stage, BinFault>) -> Stage
     }
 }
 
-/// The stage behind a piece where there was no preamble before it.
+/// The stage behind a piece where all bytes before it are kept.
 fn front_after(
     alloc: Global,
     layouts: Layouts,
-    is_plain: bool,
     kept: Vec<u8>,
-    fed: usize,
     piece: &[u8],
 ) -> Result<Stage, BinFault>
     requires layouts { AreLayouts layouts }
-    requires fed { fed + length piece.now < 2 ^ 64 }
-    requires room { length kept.items ≤ fed }
-    ensures room { length_kept (stage_of result) ≤ fed + length piece.now }
-    ensures stands { (bytes : List ℕ) → length bytes ≡ fed → KeepsFront bytes is_plain kept.items → IsStage layouts (bytes ++ piece.now) (stage_of result) }
+    ensures room { length_kept (stage_of result) ≤ length kept.items + length piece.now }
+    ensures stands { (bytes : List ℕ) → KeepsFront bytes kept.items → IsStage layouts (bytes ++ piece.now) (stage_of result) }
 {
-    let before = fed - kept.len();
+    if kept.is_empty() {
+        return first_stage(alloc, layouts, piece);
+    }
     let searched = kept.len().saturating_sub(KEPT);
     let mut joined = kept;
     joined.extend_from_slice(piece)?;
     match preamble_offset(&joined[searched..]) {
-        Some(found) => {
-            let place = searched + found;
-            let comment = comment_where(alloc, is_plain, &joined[..place])?;
-            let machine = Machine {
-                layouts,
-                registers: Registers::new(),
-                image: None,
-            };
-            commands_after(alloc, machine, comment, before, joined, place + PREAMBLE.len())
+        Some(found) => begun_stage(alloc, layouts, &joined, searched + found),
+        None => Ok(front_stage(joined)),
+    }
+}
+
+/// The stage of the first piece, which is copied only where it has no preamble and may begin a comment.
+fn first_stage(alloc: Global, layouts: Layouts, piece: &[u8]) -> Result<Stage, BinFault>
+    requires layouts { AreLayouts layouts }
+    ensures room { length_kept (stage_of result) ≤ length piece.now }
+    ensures stands { IsStage layouts piece.now (stage_of result) }
+{
+    match preamble_offset(piece) {
+        Some(place) => begun_stage(alloc, layouts, piece, place),
+        None => {
+            if is_plain(piece) {
+                Ok(Stage::Plain {
+                    last: last_three(piece),
+                })
+            } else {
+                Ok(Stage::Front {
+                    kept: Vec::from_slice(alloc, piece)?,
+                })
+            }
         }
-        None => Ok(front_kept(alloc, is_plain, joined)?),
     }
 }
 
-/// The comment in the bytes before the preamble, which a plain front hasn't.
-fn comment_where(
-    alloc: Global,
-    is_plain: bool,
-    front: &[u8],
-) -> Result<Option<Comment>, AllocError>
-    ensures plain { IfOk result (λ comment. is_plain ≡ true → comment ≡ None) }
-    ensures whole { IfOk result (λ comment. is_plain ≡ false → comment ≡ comment_of front.now) }
+/// The stage of all the bytes so far, where they have no preamble.
+fn front_stage(bytes: Vec<u8>) -> Stage
+    ensures room { length_kept result ≤ length bytes.items }
+    ensures stands { (layouts : Layouts) → preamble_offset bytes.items ≡ None → IsStage layouts bytes.items result }
 {
-    if is_plain {
-        Ok(None)
+    if is_plain(&bytes) {
+        Stage::Plain {
+            last: last_three(&bytes),
+        }
     } else {
-        comment_of(alloc, front)
+        Stage::Front { kept: bytes }
     }
 }
 
-/// The stage of bytes without a preamble: all of them, or the last three at least.
-fn front_kept(alloc: Global, is_plain: bool, kept: Vec<u8>) -> Result<Stage, AllocError>
-    ensures room { IfOk result (λ stage. length_kept stage ≤ length kept.items) }
-    ensures stands { IfOk result (λ stage. (layouts : Layouts) (bytes : List ℕ) → KeepsFront bytes is_plain kept.items → IsStage layouts bytes stage) }
+/// Whether bytes are enough to tell that they begin no comment.
+fn is_plain(bytes: &[u8]) -> bool
+    ensures { IsTrue result ↔ IsPlain bytes.now }
 {
-    if kept.len() > KEPT && (is_plain || !begins_comment(&kept)) {
-        let last = Vec::from_slice(alloc, &kept[kept.len() - KEPT..])?;
-        Ok(Stage::Front {
-            is_plain: true,
-            kept: last,
-        })
-    } else {
-        Ok(Stage::Front { is_plain, kept })
-    }
+    bytes.len() >= KEPT && !begins_comment(bytes)
 }
 
 /// Whether bytes begin as a front with a comment.
@@ -169,6 +166,63 @@ fn begins_comment(bytes: &[u8]) -> bool
     ensures { result ≡ begins_comment bytes.now }
 {
     bytes.starts_with(&COMMENT_START)
+}
+
+/// The stage of all the bytes so far, where their first preamble is at a place.
+fn begun_stage(
+    alloc: Global,
+    layouts: Layouts,
+    bytes: &[u8],
+    place: usize,
+) -> Result<Stage, BinFault>
+    requires layouts { AreLayouts layouts }
+    requires place { place + 4 ≤ length bytes.now }
+    ensures room { length_kept (stage_of result) ≤ length bytes.now }
+    ensures stands { preamble_offset bytes.now ≡ Some place → IsStage layouts bytes.now (stage_of result) }
+{
+    let comment = comment_of(alloc, &bytes[..place])?;
+    commands_after(
+        alloc,
+        first_machine(layouts),
+        comment,
+        0,
+        bytes,
+        place + PREAMBLE.len(),
+    )
+}
+
+/// The stage behind a piece where the bytes before it have no preamble and no comment, and end with three bytes.
+fn plain_after(
+    alloc: Global,
+    layouts: Layouts,
+    last: [u8; 3],
+    fed: usize,
+    piece: &[u8],
+) -> Result<Stage, BinFault>
+    requires layouts { AreLayouts layouts }
+    requires fed { fed + length piece.now < 2 ^ 64 }
+    ensures room { length_kept (stage_of result) ≤ length piece.now }
+    ensures stands { (bytes : List ℕ) → length bytes ≡ fed → KeepsPlain bytes last → IsStage layouts (bytes ++ piece.now) (stage_of result) }
+{
+    match start_behind(last, piece) {
+        Some(start) => commands_after(alloc, first_machine(layouts), None, fed, piece, start),
+        None => Ok(Stage::Plain {
+            last: last_behind(last, piece),
+        }),
+    }
+}
+
+/// What holds before the first command.
+fn first_machine(layouts: Layouts) -> Machine
+    ensures layouts { result.layouts ≡ layouts }
+    ensures registers { result.registers ≡ held_first }
+    ensures image { result.image ≡ None }
+{
+    Machine {
+        layouts,
+        registers: Registers::new(),
+        image: None,
+    }
 }
 
 /// The stage behind a piece where the commands have begun before it.
@@ -186,10 +240,15 @@ fn pending_after(
     ensures room { length_kept (stage_of result) ≤ fed + length piece.now }
     ensures stands { (bytes : List ℕ) → length bytes ≡ fed → IsReading machine.layouts bytes comment machine.registers machine.image (fed - length pending.items) pending.items → IsStage machine.layouts (bytes ++ piece.now) (stage_of result) }
 {
+    if pending.is_empty() {
+        return commands_after(alloc, machine, comment, fed, piece, 0);
+    }
     let offset = fed - pending.len();
     let mut joined = pending;
     joined.extend_from_slice(piece)?;
-    commands_after(alloc, machine, comment, offset, joined, 0)
+    let taken = take_commands(alloc, machine, offset, &joined, 0)?;
+    let left = left_of_vector(alloc, &taken, joined)?;
+    stage_behind(taken, comment, fed, left)
 }
 
 /// The stage behind the whole commands that stand in bytes from `start` on. The bytes begin at an offset of the input.
@@ -198,24 +257,37 @@ fn commands_after(
     machine: Machine,
     comment: Option<Comment>,
     offset: usize,
-    bytes: Vec<u8>,
+    bytes: &[u8],
     start: usize,
 ) -> Result<Stage, BinFault>
-    requires start { start ≤ length bytes.items }
-    requires offset { offset + length bytes.items < 2 ^ 64 }
+    requires start { start ≤ length bytes.now }
+    requires offset { offset + length bytes.now < 2 ^ 64 }
     requires layouts { AreLayouts machine.layouts }
-    ensures room { length_kept (stage_of result) ≤ length bytes.items }
-    ensures stands { (all : List ℕ) → IsReading machine.layouts all comment machine.registers machine.image (offset + start) (drop start bytes.items) → IsStage machine.layouts all (stage_of result) }
+    ensures room { length_kept (stage_of result) ≤ length bytes.now }
+    ensures stands { (all : List ℕ) → IsReading machine.layouts all comment machine.registers machine.image (offset + start) (drop start bytes.now) → IsStage machine.layouts all (stage_of result) }
 {
-    let taken = take_commands(alloc, machine, offset, &bytes, start)?;
+    let taken = take_commands(alloc, machine, offset, bytes, start)?;
+    let left = left_of(alloc, &taken, bytes)?;
+    stage_behind(taken, comment, offset, left)
+}
+
+/// The stage behind commands that were taken, where such bytes are left.
+fn stage_behind(
+    taken: Taken,
+    comment: Option<Comment>,
+    offset: usize,
+    left: Vec<u8>,
+) -> Result<Stage, BinFault>
+    ensures room { length_kept (stage_of result) ≤ length left.items }
+    ensures stands { (layouts : Layouts) (all : List ℕ) → (taken.is_last ≡ true → IsWoken layouts all comment taken.machine.registers taken.machine.image) → (taken.is_last ≡ false → IsCut layouts all comment taken.machine.registers taken.machine.image (length all - length left.items) left.items) → IsStage layouts all (stage_of result) }
+{
     let Taken {
         machine,
-        end,
         is_last,
+        ..
     } = taken;
     if is_last {
-        let mut image = image_at_end(machine, offset)?;
-        image.set_comment(comment);
+        let image = image_at_end(machine, comment, offset)?;
         Ok(Stage::Image(image))
     } else {
         let Machine {
@@ -227,19 +299,33 @@ fn commands_after(
             comment,
             registers,
             image,
-            pending: bytes_from(alloc, bytes, end)?,
+            pending: left,
         })
     }
 }
 
-/// The bytes from a place on.
-fn bytes_from(alloc: Global, bytes: Vec<u8>, start: usize) -> Result<Vec<u8>, AllocError>
-    requires { start ≤ length bytes.items }
-    ensures { IfOk result (λ rest. rest.items ≡ drop start bytes.items) }
+/// The bytes behind commands that were taken, as far as another may follow.
+fn left_of(alloc: Global, taken: &Taken, bytes: &[u8]) -> Result<Vec<u8>, AllocError>
+    requires { taken.now.end ≤ length bytes.now }
+    ensures within { IfOk result (λ left. length left.items ≤ length bytes.now) }
+    ensures left { IfOk result (λ left. taken.now.is_last ≡ false → left.items ≡ drop taken.now.end bytes.now) }
 {
-    if start == 0 {
+    if taken.is_last {
+        Ok(Vec::new(alloc))
+    } else {
+        Vec::from_slice(alloc, &bytes[taken.end..])
+    }
+}
+
+/// The same of a vector, which serves again where no command was taken.
+fn left_of_vector(alloc: Global, taken: &Taken, bytes: Vec<u8>) -> Result<Vec<u8>, AllocError>
+    requires { taken.now.end ≤ length bytes.items }
+    ensures within { IfOk result (λ left. length left.items ≤ length bytes.items) }
+    ensures left { IfOk result (λ left. taken.now.is_last ≡ false → left.items ≡ drop taken.now.end bytes.items) }
+{
+    if taken.end == 0 {
         Ok(bytes)
     } else {
-        Vec::from_slice(alloc, &bytes[start..])
+        left_of(alloc, taken, &bytes)
     }
 }

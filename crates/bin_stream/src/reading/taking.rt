@@ -1,19 +1,20 @@
 // Taking commands off bytes that may end within one.
 ghost use Rattle.std.specs.Prelude.{List, ℕ, ◌≡◌, ◌+◌, ◌<◌, ◌≤◌, ◌^◌, [], Option, None, Ok, true, false, IfOk, IfErr, length, drop};
 ghost use Rattle.layout_file.specs.Layouts.{AreLayouts};
-ghost use Rattle.ice_image.specs.declared.any.AnyImage.{AnyImage as Image};
+ghost use Rattle.layout_file.specs.declared.layouts.Layouts.{Layouts};
+ghost use Rattle.ice_image.specs.Either.{configuration_of};
 ghost use Rattle.bin_stream.specs.Commands.{Command};
 ghost use Rattle.bin_stream.specs.Refusals.{fault_at, first_fault};
 ghost use Rattle.bin_stream.specs.Settled.{Settles};
 ghost use Rattle.bin_stream.specs.Spelling.{bin_read_of};
-ghost use Rattle.bin_stream.specs.inside.Step.{Refuses, Stands, IsEntered, IsFinished};
+ghost use Rattle.bin_stream.specs.inside.Step.{Refuses, Stands, IsEntered};
 ghost use Rattle.bin_stream.specs.inside.Stages.{is_cut, IsReading, IsCut, IsWoken};
 ghost use Rattle.bin_stream.specs.declared.fault.BinCause.TheVariants.{Truncated};
 
 use super::head::fault_at;
 use super::machine::{Entered, Machine};
 use crate::fault::{BinCause, BinFault};
-use ice_image::AnyImage;
+use ice_image::{AnyImage, Comment};
 use std::alloc::Global;
 
 /// What commands that were taken leave, and where they end.
@@ -110,10 +111,14 @@ fn is_cut(fault: &BinFault) -> bool
     }
 }
 
-/// The image at the wake-up, which is at that offset, with the settings that the commands give.
-pub(crate) fn image_at_end(machine: Machine, offset: usize) -> Result<AnyImage, BinFault>
-    ensures image { IfOk result (λ image. IsFinished machine.registers machine.image image) }
-    ensures missing { IfErr result (λ fault. machine.image ≡ None) }
+/// The image at the wake-up with its comment and the settings that the commands give, or that there is no device at an offset.
+pub(crate) fn image_at_end(
+    machine: Machine,
+    comment: Option<Comment>,
+    offset: usize,
+) -> Result<AnyImage, BinFault>
+    ensures image { IfOk result (λ image. (layouts : Layouts) (all : List ℕ) → IsWoken layouts all comment machine.registers machine.image → bin_read_of layouts all ≡ Ok (configuration_of image)) }
+    ensures refused { IfErr result (λ fault. (layouts : Layouts) (all : List ℕ) → IsWoken layouts all comment machine.registers machine.image → Settles (bin_read_of layouts all) fault) }
 {
     let Machine {
         registers,
@@ -123,6 +128,7 @@ pub(crate) fn image_at_end(machine: Machine, offset: usize) -> Result<AnyImage, 
     match image {
         Some(mut image) => {
             image.set_settings(registers.settings());
+            image.set_comment(comment);
             Ok(image)
         }
         None => Err(fault_at(offset, BinCause::NoDevice)),

@@ -25,7 +25,8 @@ fn in_pieces(alloc: Global, stream: &[u8], size: usize) -> Result<AnyImage, BinF
     let mut place = 0;
     while place < stream.len() {
         let end = (place + size).min(stream.len());
-        decoder.feed(&stream[place..end])?;
+        // A refusal is told again at the end.
+        let _ = decoder.feed(&stream[place..end]);
         place = end;
     }
     decoder.finish()
@@ -60,7 +61,11 @@ fn pieces_give_one_image(rt: HostRuntime) {
 
 #[test]
 fn comments_and_fronts_may_be_cut(rt: HostRuntime) {
-    for front in [b"\xFF\0AB\0C\0\0\xFF\x7E\xAA" as &[u8], b"\xFF", b"\x7E\xAA\x99ABC"] {
+    for front in [
+        b"\xFF\0AB\0C\0\0\xFF\x7E\xAA" as &[u8],
+        b"\xFF",
+        b"\x7E\xAA\x99ABC",
+    ] {
         for size in [1, 3, 5] {
             // Bytes follow the wake-up.
             let parts = [(front, 0, 0), (HX1K_HEAD, 0x55, 83), (END, 0x22, 9)];
@@ -69,19 +74,20 @@ fn comments_and_fronts_may_be_cut(rt: HostRuntime) {
     }
 }
 
-/// What bytes, one after the other, leave: a decoder, and how many were fed up to the first refusal.
-fn fed_until_refused(alloc: Global, bytes: &[u8]) -> (Decoder, usize)
+/// What bytes, one after the other, leave up to the first refusal: a decoder, how many were fed, and the last answer.
+fn fed_until_refused(alloc: Global, bytes: &[u8]) -> (Decoder, usize, Result<(), BinFault>)
     requires { length bytes.now < 2 ^ 31 }
     ensures fed { fed_to result.0 ≡ result.1 }
     ensures within { result.1 < 2 ^ 31 }
 {
     let mut decoder = Decoder::new(alloc);
     for place in 0..bytes.len() {
-        if decoder.feed(&bytes[place..=place]).is_err() {
-            return (decoder, place + 1);
+        let answer = decoder.feed(&bytes[place..=place]);
+        if answer.is_err() {
+            return (decoder, place + 1, answer);
         }
     }
-    (decoder, bytes.len())
+    (decoder, bytes.len(), Ok(()))
 }
 
 /// Whether a decoder's last answer is that fault.
@@ -97,8 +103,11 @@ fn stays_refused(alloc: Global, bytes: &[u8], count: usize, fault: BinFault) -> 
     if bytes.len() >= MANY {
         return false;
     }
-    let (mut decoder, fed) = fed_until_refused(alloc, bytes);
-    fed == count && decoder.feed(b"\x01\x06") == Err(fault) && finishes_with(decoder, fault)
+    let (mut decoder, fed, answer) = fed_until_refused(alloc, bytes);
+    fed == count
+        && answer == Err(fault)
+        && decoder.feed(b"\x01\x06") == Err(fault)
+        && finishes_with(decoder, fault)
 }
 
 #[test]

@@ -2,12 +2,11 @@
 ghost use Rattle.std.specs.Prelude.{◌≡◌, ◌+◌, ◌*◌, ◌%◌, ◌<◌, ◌≤◌, ◌^◌, ◌++◌, ◌∷◌, [], take, drop, OnOk, flat_map};
 ghost use Rattle.ice_image.specs.Either.{configuration_of, device_of};
 ghost use Rattle.ice_image.specs.Planes.{plane_width, plane_height, rows_of_bank};
-ghost use Rattle.bin_stream.specs.Commands.{kind_number};
 ghost use Rattle.bin_stream.specs.CanonicalBytes.{row_bytes, data_command, cram_bytes, bram_bytes, cram_bank, bram_half, bram_bank, four_banks};
 
-use super::command::{append_command, append_word};
+use super::command::{append_command, append_control, append_word};
 use crate::marks::DATA_END;
-use crate::opcode::{BANK, BRAM_DATA, CONTROL, CRAM_DATA, HEIGHT, OFFSET, WIDTH};
+use crate::opcode::{Control, Opcode};
 use ice_image::{AnyImage, PlaneKind};
 use std::alloc::AllocError;
 
@@ -20,9 +19,13 @@ pub(crate) fn append_cram(out: &mut Vec<u8>, image: &AnyImage) -> Result<(), All
     ensures { OnOk result (out.new.items ≡ out.old.items ++ cram_bytes (configuration_of image.now).layout.device (configuration_of image.now).cram) }
 {
     let device = image.device();
-    append_word(out, WIDTH, (PlaneKind::Cram.columns(device) - 1) as u16)?;
-    append_word(out, HEIGHT, PlaneKind::Cram.rows(device) as u16)?;
-    append_word(out, OFFSET, 0)?;
+    append_word(
+        out,
+        Opcode::Width,
+        (PlaneKind::Cram.columns(device) - 1) as u16,
+    )?;
+    append_word(out, Opcode::Height, PlaneKind::Cram.rows(device) as u16)?;
+    append_word(out, Opcode::Offset, 0)?;
     append_cram_banks(out, image)
 }
 
@@ -41,7 +44,7 @@ fn append_cram_bank(out: &mut Vec<u8>, image: &AnyImage, bank: u8) -> Result<(),
     requires { bank < 4 }
     ensures { OnOk result (out.new.items ≡ out.old.items ++ cram_bank (configuration_of image.now).cram bank) }
 {
-    append_command(out, BANK, &[bank])?;
+    append_command(out, Opcode::Bank, &[bank])?;
     let rows = PlaneKind::Cram.rows(image.device());
     append_data(out, image, PlaneKind::Cram, bank, 0, rows)
 }
@@ -52,8 +55,12 @@ pub(crate) fn append_bram(out: &mut Vec<u8>, image: &AnyImage) -> Result<(), All
     ensures { OnOk result (out.new.items ≡ out.old.items ++ bram_bytes (configuration_of image.now).layout.device (configuration_of image.now).bram) }
 {
     let device = image.device();
-    append_word(out, WIDTH, (PlaneKind::Bram.columns(device) - 1) as u16)?;
-    append_word(out, HEIGHT, HALF as u16)?;
+    append_word(
+        out,
+        Opcode::Width,
+        (PlaneKind::Bram.columns(device) - 1) as u16,
+    )?;
+    append_word(out, Opcode::Height, HALF as u16)?;
     append_bram_banks(out, image)
 }
 
@@ -72,7 +79,7 @@ fn append_bram_bank(out: &mut Vec<u8>, image: &AnyImage, bank: u8) -> Result<(),
     requires { bank < 4 }
     ensures { OnOk result (out.new.items ≡ out.old.items ++ bram_bank (configuration_of image.now).bram bank) }
 {
-    append_command(out, BANK, &[bank])?;
+    append_command(out, Opcode::Bank, &[bank])?;
     append_bram_half(out, image, bank, 0)?;
     append_bram_half(out, image, bank, HALF)
 }
@@ -88,7 +95,7 @@ fn append_bram_half(
     requires rows { first ≤ 128 }
     ensures { OnOk result (out.new.items ≡ out.old.items ++ bram_half (configuration_of image.now).bram bank first) }
 {
-    append_word(out, OFFSET, first as u16)?;
+    append_word(out, Opcode::Offset, first as u16)?;
     append_data(out, image, PlaneKind::Bram, bank, first, HALF)
 }
 
@@ -106,19 +113,9 @@ fn append_data(
     requires whole { count * plane_width kind (device_of image.now) % 8 ≡ 0 }
     ensures { OnOk result (out.new.items ≡ out.old.items ++ data_command kind (take count (drop first (rows_of_bank kind bank (configuration_of image.now))))) }
 {
-    append_command(out, CONTROL, &[data_number(kind)])?;
+    append_control(out, Control::of_data(kind))?;
     append_rows(out, image, kind, bank, first, count)?;
     out.extend_from_slice(&DATA_END)
-}
-
-/// The payload's number that tells what data are for.
-fn data_number(kind: PlaneKind) -> u8
-    ensures { result ≡ kind_number kind }
-{
-    match kind {
-        PlaneKind::Cram => CRAM_DATA,
-        PlaneKind::Bram => BRAM_DATA,
-    }
 }
 
 /// Appends the bytes of `count` rows of a bank's plane, from row `first` on.

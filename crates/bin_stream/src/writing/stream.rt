@@ -8,12 +8,12 @@ ghost use Rattle.bin_stream.specs.CanonicalBytes.{canonical_bytes, checked_bytes
 ghost use Rattle.bin_stream.specs.CheckValue.{check_value};
 ghost use Rattle.bin_stream.specs.Spelling.{Spells, bin_read_of};
 
-use super::command::{append_command, two_bytes};
+use super::command::{append_command, append_control, two_bytes};
 use super::comment::append_comment;
 use super::planes::{append_bram, append_cram};
 use crate::check_value::check_value;
 use crate::marks::PREAMBLE;
-use crate::opcode::{CHECK, CONTROL, MODE, RANGE, RESET, WAKE_UP};
+use crate::opcode::{Control, Opcode};
 use ice_image::{AnyImage, Range, Settings};
 use plane_map::DeviceName;
 use std::alloc::{AllocError, Global};
@@ -31,12 +31,16 @@ pub fn encode(alloc: Global, image: &AnyImage) -> Result<Vec<u8>, AllocError>
     let mut out = Vec::with_capacity(alloc, usual_size(image.device()))?;
     append_comment(&mut out, image)?;
     out.extend_from_slice(&PREAMBLE)?;
-    append_command(&mut out, RANGE, &[range_number(image.settings().range)])?;
-    append_command(&mut out, CONTROL, &[RESET])?;
+    append_command(
+        &mut out,
+        Opcode::Range,
+        &[range_number(image.settings().range)],
+    )?;
+    append_control(&mut out, Control::Reset)?;
     let after_reset = out.len();
     append_checked(&mut out, image)?;
     append_check_value(&mut out, after_reset)?;
-    append_command(&mut out, CONTROL, &[WAKE_UP])?;
+    append_control(&mut out, Control::WakeUp)?;
     out.push(0)?;
     Ok(out)
 }
@@ -68,7 +72,7 @@ fn append_checked(out: &mut Vec<u8>, image: &AnyImage) -> Result<(), AllocError>
     append_mode(out, image.settings())?;
     append_cram(out, image)?;
     append_bram(out, image)?;
-    out.push(16 * CHECK + 2)?;
+    out.push(16 * Opcode::Check.number() + 2)?;
     Ok(())
 }
 
@@ -77,7 +81,7 @@ fn append_mode(out: &mut Vec<u8>, settings: Settings) -> Result<(), AllocError>
     ensures { OnOk result (out.new.items ≡ out.old.items ++ mode_command settings.warm_boot settings.no_sleep) }
 {
     let mode = WARM_BOOT * u8::from(settings.warm_boot) + u8::from(settings.no_sleep);
-    append_command(out, MODE, &[0, mode])
+    append_command(out, Opcode::Mode, &[0, mode])
 }
 
 /// Appends the CRC of the bytes from an offset on.

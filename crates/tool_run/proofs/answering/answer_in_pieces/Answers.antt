@@ -13,7 +13,7 @@ load_all-requires g c =
     let front = map need_of c.in-Some.before.now in
     let need = need_of c.in-Some.last.now in
     let needs_are : map need_of c.args.loads.now ≡ front ++ need ∷ [] = ap (map need_of) c.in-Some.ensures.cases.0 ∙ map-append need_of c.in-Some.before.now (c.in-Some.last.now ∷ []) in
-    sound_front front need (subst (λ (needs : List Need). IsSound needs) needs_are c.requires)
+    sound_front front need (subst (λ (needs : List Need). IsSound needs) needs_are c.requires.sound)
 
 pub returns-in-Ok : goal.returns-in-Ok
 returns-in-Ok g c =
@@ -27,7 +27,7 @@ returns-in-Ok g c =
     let l = c.in-Ok.ensures in
     subst (λ (needs : List Need). Answers F.contents F.steady F.load_faults F.store_faults I.left I.faults needs answer c.answer_fed.result c.args.files.now c.load_all.new.files c.args.input.now c.answer_fed.new.input) (sym needs_are)
     (answers_behind F.contents F.steady F.load_faults F.store_faults I.left I.faults front need answer c.answer_fed.result texts c.args.files.now c.load_all.new.files c.args.input.now c.load_all.new.input c.answer_fed.new.input
-    (search rules) (subst (λ (needs : List Need). IsSound needs) needs_are c.requires)
+    (search rules) (subst (λ (needs : List Need). IsSound needs) needs_are c.requires.sound)
     (λ known text told. loaded-is (loaded known text front) (map vec_items c.new-loaded.result.items) texts (ap (map vec_items) c.new-loaded.ensures.items) (l.bytes known text told))
     l.same_contents l.same_store_faults l.load_faults l.unread l.unasked c.answer_fed.ensures.made c.answer_fed.ensures.stops)
 
@@ -42,4 +42,4 @@ returns-in-Some g c =
     let l = c.in-Err.ensures in
     subst (λ (needs : List Need). Answers F.contents F.steady F.load_faults F.store_faults I.left I.faults needs answer (Err c.in-Err.stop) c.args.files.now c.load_all.new.files c.args.input.now c.load_all.new.input) (sym needs_are)
     (answers_stopped F.contents F.steady F.load_faults F.store_faults I.left I.faults front need answer c.in-Err.stop c.args.files.now c.load_all.new.files c.args.input.now c.load_all.new.input
-    (subst (λ (needs : List Need). IsSound needs) needs_are c.requires) l.stops l.same_contents l.same_store_faults l.unread l.unasked)
+    (subst (λ (needs : List Need). IsSound needs) needs_are c.requires.sound) l.stops l.same_contents l.same_store_faults l.unread l.unasked)

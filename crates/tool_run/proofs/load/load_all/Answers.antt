@@ -1,4 +1,4 @@
-use Rattle.std.proofs.Common.{◌≡◌, ◌+◌, ◌++◌, ◌∷◌, [], ◌||◌, ℕ, List, Bool, true, false, not, drop, get_or, refl, sym, ap, subst, ◌∙◌, arith}
+use Rattle.std.proofs.Common.{◌≡◌, ◌+◌, length, length-append, ◌++◌, ◌∷◌, [], ◌||◌, ℕ, List, Bool, true, false, not, drop, get_or, refl, sym, ap, subst, ◌∙◌, arith}
 use Rattle.std.specs.Prelude.{None, map, vec_items, IsOkAnd}
 use Rattle.std.specs.Io.KnownBytes.{IsAtEnd}
 use Rattle.std.proofs.lemmas.List.{map_push, append-nil}
@@ -120,8 +120,10 @@ loop-load-preserved g c =
       input_faults = e.input_faults;
     } in
     let pushed : map vec_items c.push.new.self.items ≡ map vec_items old.texts.items ++ bytes ∷ [] = rw c.in_ok-push-in-Ok.ensures.items (map_push vec_items old.texts.items c.in-Ok.bytes) in
+    let one_more : length c.push.new.self.items ≡ length old.texts.items + 1 = ap length c.in_ok-push-in-Ok.ensures.items ∙ length-append old.texts.items (c.in-Ok.bytes ∷ []) in
     record {
       sound = IsSound-rest need rest sound;
+      count = omega (arith, i.count, one_more);
       stops = λ new_loads new_inputs stop stopped.
           let stops : List Need → Type 0 = λ left. StopsLoading (F.contents old.files) (F.steady old.files) (I.left old.input) left (F.load_faults old.files) new_loads (I.faults old.input) new_inputs stop in
           i.stops new_loads new_inputs stop (subst stops (sym here)

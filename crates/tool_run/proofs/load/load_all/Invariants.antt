@@ -1,4 +1,4 @@
-use Rattle.std.proofs.Common.{◌≡◌, ◌≤◌, ◌++◌, ℕ, List, true, false, drop}
+use Rattle.std.proofs.Common.{◌≡◌, ◌+◌, ◌≤◌, ◌++◌, length, ℕ, List, true, false, drop}
 use Rattle.std.specs.Prelude.{map, vec_items, IsOkAnd}
 use Rattle.std.specs.Io.KnownBytes.{IsAtEnd}
 use Rattle.tool_run.specs.Needs.{IsSound, need_of, reads_input, reads_files}
@@ -16,6 +16,7 @@ invariant-loop-load g l =
     let left = drop l.load-index all in
     record {
       sound : IsSound left;
+      count : length l.texts.items ≡ length l.fn.texts.items + l.load-index;
       stops : (new_loads new_inputs : ℕ) (stop : LoadStop) → StopsLoading (F.contents l.files) (F.steady l.files) (I.left l.input) left (F.load_faults l.files) new_loads (I.faults l.input) new_inputs stop
           → StopsLoading (F.contents l.fn.files) (F.steady l.fn.files) (I.left l.fn.input) all (F.load_faults l.fn.files) new_loads (I.faults l.fn.input) new_inputs stop;
       bytes : (back : List (List ℕ)) → WhereTold (F.contents l.files) (I.left l.input) left (λ known text. IsOkAnd (loaded known text left) (λ more. back ≡ map vec_items l.texts.items ++ more))

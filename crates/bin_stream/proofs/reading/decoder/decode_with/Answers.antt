@@ -1,33 +1,56 @@
-use Rattle.std.proofs.Common.{ℕ, ◌+◌, ◌∙◌, List, [], length, take, drop, ap, sym, subst, rules}
-use Rattle.std.specs.Prelude.{Option, Ok}
-use Rattle.std.proofs.lemmas.Result.{err_from_is_err_and}
-use Rattle.ice_image.specs.Configuration.{Configuration}
+use Rattle.std.proofs.Common.{◌≡◌, ◌+◌, List, ℕ, drop, refl, sym, subst, rules}
+use Rattle.std.specs.Prelude.{Ok, ⊤}
+use Rattle.std.proofs.lemmas.Result.{err_from_is_err_and, IfOk-weaker, MatchResult-weaker}
+use Rattle.layout_file.specs.declared.layouts.Layouts.{Layouts}
 use Rattle.ice_image.specs.Either.{configuration_of}
-use Rattle.bin_stream.specs.Spelling.{bin_read_of, commands_from, image_of, Tells}
-use Rattle.bin_stream.proofs.ReadSoFar.{read_at, read_nowhere, Tells-by}
+use Rattle.bin_stream.specs.Settled.{Settles}
+use Rattle.bin_stream.specs.Spelling.{bin_read_of, Tells}
+use Rattle.bin_stream.specs.inside.Stages.{IsWoken}
+use Rattle.bin_stream.proofs.ReadSoFar.{read_nowhere}
+use Rattle.bin_stream.proofs.Stages.{reading-whole, cut-told, settles-tells}
 use Rattle.bin_stream.proofs.reading.decoder.decode_with.Goals as goal
 
-pub returns-in_err-image-in-Some-clause-refused : goal.returns-in_err-image-in-Some-clause-refused
-returns-in_err-image-in-Some-clause-refused c =
+pub returns-in_err-taken-in-Some-clause-refused : goal.returns-in_err-taken-in-Some-clause-refused
+returns-in_err-taken-in-Some-clause-refused c =
     let layouts = c.args.layouts in
     let bytes = c.args.bytes.now in
-    let offset = c.in-Some.offset in
-    let fault = c.in_err-image-in-Some.field-0.0 in
-    let p = err_from_is_err_and c.from_residual.result c.from_residual.ensures.1 in
-    rw (p.1, p.2) (Tells-by (bin_read_of layouts bytes) (image_of layouts (take offset bytes) (commands_from (length bytes + 1) [] (offset + 4) (drop (offset + 4) bytes))) fault (read_at layouts bytes offset c.in-Some.ensures.offset) (c.in_err-image-in-Some.ensures.refused (take offset bytes)))
+    let comment = c.in_ok-comment-in-Some.comment in
+    let reading = reading-whole layouts bytes c.in-Some.offset comment c.new.result c.in-Some.ensures.offset c.in_ok-comment-in-Some.ensures c.new.ensures in
+    let p = err_from_is_err_and c.from_residual-in_err-taken-in-Some.result c.from_residual-in_err-taken-in-Some.ensures.1 in
+    rw (p.1, p.2) (settles-tells (bin_read_of layouts bytes) c.in_err-taken-in-Some.field-0.0 (c.in_err-taken-in-Some.ensures.refused bytes comment reading))
 
-pub returns-in_ok-comment_of-in-Some-clause-image : goal.returns-in_ok-comment_of-in-Some-clause-image
-returns-in_ok-comment_of-in-Some-clause-image c =
+pub returns-then-taken-clause-image : goal.returns-then-taken-clause-image
+returns-then-taken-clause-image c =
     let layouts = c.args.layouts in
     let bytes = c.args.bytes.now in
-    let offset = c.in-Some.offset in
-    let image = configuration_of c.in_ok-image-in-Some.image in
-    let commented : Option (List (List ℕ)) → Configuration = λ comment. record image { comment = comment } in
-    read_at layouts bytes offset c.in-Some.ensures.offset
-    ∙ c.in_ok-image-in-Some.ensures.image (take offset bytes)
-    ∙ ap (λ comment. Ok (commented comment)) (sym c.in_ok-comment_of-in-Some.ensures)
-    ∙ ap (λ image. Ok image) (sym c.set_comment.ensures.changed)
+    let comment = c.in_ok-comment-in-Some.comment in
+    let reading = reading-whole layouts bytes c.in-Some.offset comment c.new.result c.in-Some.ensures.offset c.in_ok-comment-in-Some.ensures c.new.ensures in
+    let machine = c.in_ok-taken-in-Some.taken.machine in
+    IfOk-weaker c.image_at_end.result (λ image. (layouts : Layouts) (all : List ℕ) → IsWoken layouts all comment machine.registers machine.image → bin_read_of layouts all ≡ Ok (configuration_of image)) (λ image. bin_read_of layouts bytes ≡ Ok (configuration_of image))
+    (λ image told. told layouts bytes (c.in_ok-taken-in-Some.ensures.woken c.if-taken.true bytes comment reading))
+    c.image_at_end.ensures.image
+
+pub returns-then-taken-clause-refused : goal.returns-then-taken-clause-refused
+returns-then-taken-clause-refused c =
+    let layouts = c.args.layouts in
+    let bytes = c.args.bytes.now in
+    let comment = c.in_ok-comment-in-Some.comment in
+    let reading = reading-whole layouts bytes c.in-Some.offset comment c.new.result c.in-Some.ensures.offset c.in_ok-comment-in-Some.ensures c.new.ensures in
+    let machine = c.in_ok-taken-in-Some.taken.machine in
+    MatchResult-weaker c.image_at_end.result {P = λ _. ⊤} {P' = λ _. ⊤} {Q = λ fault. (layouts : Layouts) (all : List ℕ) → IsWoken layouts all comment machine.registers machine.image → Settles (bin_read_of layouts all) fault} {Q' = Tells (bin_read_of layouts bytes)}
+    c.image_at_end.ensures.refused
+    (λ _ holds. holds)
+    (λ fault told. settles-tells (bin_read_of layouts bytes) fault (told layouts bytes (c.in_ok-taken-in-Some.ensures.woken c.if-taken.true bytes comment reading)))
+
+pub returns-else-taken-clause-refused : goal.returns-else-taken-clause-refused
+returns-else-taken-clause-refused c =
+    let layouts = c.args.layouts in
+    let bytes = c.args.bytes.now in
+    let comment = c.in_ok-comment-in-Some.comment in
+    let reading = reading-whole layouts bytes c.in-Some.offset comment c.new.result c.in-Some.ensures.offset c.in_ok-comment-in-Some.ensures c.new.ensures in
+    let taken = c.in_ok-taken-in-Some.taken in
+    cut-told layouts bytes comment taken.machine.registers taken.machine.image (0 + taken.end) (drop taken.end bytes) _ c.fault_at.result (c.in_ok-taken-in-Some.ensures.cut c.if-taken.false bytes comment reading) refl c.fault_at.ensures
 
 pub returns-in-None-clause-refused : goal.returns-in-None-clause-refused
 returns-in-None-clause-refused c =
-    subst (Tells (bin_read_of c.args.layouts c.args.bytes.now)) (sym c.fault_at.ensures) (read_nowhere c.args.layouts c.args.bytes.now (search rules))
+    subst (Tells (bin_read_of c.args.layouts c.args.bytes.now)) (sym c.fault_at-in-None.ensures) (read_nowhere c.args.layouts c.args.bytes.now (search rules))

@@ -1,4 +1,4 @@
-use Rattle.std.proofs.Common.{◌≡◌, ◌+◌, ◌-◌, ◌≤◌, ◌∙◌, List, ℕ, length, take, drop, refl, subst, arith, length-drop, take_all}
+use Rattle.std.proofs.Common.{◌-◌, ◌≤◌, ◌∙◌, List, ℕ, length, take, drop, subst, arith, length-drop, take_all}
 use Rattle.std.proofs.lemmas.Result.{err_from_is_err_and}
 use Rattle.bin_stream.proofs.Stages.{taken-refused, taken-cut, taken-more, taken-woken}
 use Rattle.bin_stream.proofs.reading.taking.take_commands.Goals as goal

@@ -3,11 +3,11 @@ use Rattle.layout_file.specs.Layouts.{standard_layouts}
 use Rattle.bin_stream.specs.Decoding.{StandsFor}
 use Rattle.bin_stream.proofs.tests.pieces.in_pieces.Given as goal
 
-abbrev pub invariant-loop-decoder : goal.invariant-loop-decoder
-invariant-loop-decoder l = record {
+abbrev pub invariant-loop-place : goal.invariant-loop-place
+invariant-loop-place l = record {
   within : l.place ≤ length l.stream;
   stands : StandsFor standard_layouts (take l.place l.stream) l.decoder;
 }
 
-abbrev pub decreases-loop-decoder : goal.decreases-loop-decoder
-decreases-loop-decoder l = length l.stream - l.place
+abbrev pub decreases-loop-place : goal.decreases-loop-place
+decreases-loop-place l = length l.stream - l.place

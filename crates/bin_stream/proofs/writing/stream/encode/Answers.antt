@@ -11,17 +11,17 @@ use Rattle.bin_stream.proofs.writing.stream.encode.Goals as goal
 pub returns-clause-bytes : goal.returns-clause-bytes
 returns-clause-bytes c =
     let image = configuration_of c.args.image.now in
-    let start : c.len-after_reset.result ≡ length c.append_command-2.new.out.items = search rules in
+    let start : c.len-after_reset.result ≡ length c.append_control.new.out.items = search rules in
     let number : c.range_number.result ≡ range_number image.settings.range = c.range_number.ensures ∙ ap (λ settings. range_number settings.range) c.settings.ensures in
     assembled image c.push.new.self.items (record {
       at_first = c.in_ok-out.out.items;
       at_comment = c.append_comment.new.out.items;
       at_preamble = c.extend_from_slice.new.self.items;
       at_range = c.append_command.new.out.items;
-      at_reset = c.append_command-2.new.out.items;
+      at_reset = c.append_control.new.out.items;
       at_checked = c.append_checked.new.out.items;
       at_value = c.append_check_value.new.out.items;
-      at_wake_up = c.append_command-3.new.out.items;
+      at_wake_up = c.append_control-2.new.out.items;
       start = c.len-after_reset.result;
       number = c.range_number.result;
       first = c.in_ok-out.ensures.items;
@@ -29,11 +29,11 @@ returns-clause-bytes c =
       preamble_is = c.in_ok-extend_from_slice.ensures.items;
       number_is = number;
       range = c.in_ok-append_command.ensures;
-      reset = c.in_ok-append_command-2.ensures;
+      reset = c.in_ok-append_control.ensures;
       start_is = start;
       checked = c.in_ok-append_checked.ensures;
       value = c.in_ok-append_check_value.ensures;
-      wake_up = c.in_ok-append_command-3.ensures;
+      wake_up = c.in_ok-append_control-2.ensures;
       last = c.in_ok-push.ensures.items;
     })
 

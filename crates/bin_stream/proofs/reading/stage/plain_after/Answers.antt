@@ -1,0 +1,21 @@
+use Rattle.std.proofs.Common.{◌+◌, ◌++◌, ℕ, drop, refl, subst}
+use Rattle.std.specs.Prelude.{None}
+use Rattle.bin_stream.specs.inside.Stages.{IsReading, stage_of}
+use Rattle.bin_stream.proofs.FrontGrown.{plain-goes_on}
+use Rattle.bin_stream.proofs.Stages.{plain-ends, begins-stage}
+use Rattle.bin_stream.proofs.reading.stage.plain_after.Goals as goal
+
+pub returns-in-Some-clause-stands : goal.returns-in-Some-clause-stands
+returns-in-Some-clause-stands c = λ bytes fed_is keeps.
+    let piece = c.args.piece.now in
+    let all = bytes ++ piece in
+    let start = c.in-Some.start in
+    let m = c.first_machine in
+    begins-stage c.args.layouts m.result.layouts all None m.result.registers m.result.image (c.args.fed + start) (drop start piece) (stage_of c.commands_after.result) m.ensures.layouts m.ensures.image
+    (subst (λ (fed : ℕ). IsReading c.args.layouts all None m.result.registers None (fed + start) (drop start piece)) fed_is
+    (plain-ends c.args.layouts bytes c.args.last piece keeps start m.result.registers c.in-Some.ensures.some c.in-Some.ensures.found m.ensures.registers))
+    (c.commands_after.ensures.stands all)
+
+pub returns-in-None-clause-stands : goal.returns-in-None-clause-stands
+returns-in-None-clause-stands c = λ bytes fed_is keeps.
+    plain-goes_on bytes c.args.last c.args.piece.now keeps c.last_behind.result (c.in-None.ensures.none refl) c.last_behind.ensures

@@ -1,8 +1,13 @@
-use Rattle.std.proofs.Common.{arith, ◌+◌, ◌++◌, append_assoc, subst, take}
+use Rattle.std.proofs.Common.{◌≡◌, ◌∙◌, arith, ℕ, ◌+◌, List, Option, ◌++◌, append_assoc, length, length-append, subst, take}
 use Rattle.std.proofs.KnownBytes.{Consumes-trans}
 use Rattle.std.proofs.lemmas.Grind.{common_steps}
-use Rattle.ice_io.proofs.Parts.{TakesCount_more}
+use Rattle.std.specs.Io.KnownBytes.{Consumes}
+use Rattle.ice_io.specs.Taken.{TakesCount}
 use Rattle.tool_run.proofs.feeding.feed_all.Goals as goal
+
+-- bytes that were taken, and then more, as a count
+TakesCount_more : (a b c : Option (List ℕ)) (xs ys : List ℕ) (n : ℕ) → Consumes a b xs → Consumes b c ys → length xs + length ys ≡ n → TakesCount a c n
+TakesCount_more a b c xs ys n p q e = (xs ++ ys, Consumes-trans a b c xs ys p q, length-append xs ys ∙ e)
 
 pub returns-then-taken-count-clause-too_long : goal.returns-then-taken-count-clause-too_long
 returns-then-taken-count-clause-too_long g c =

@@ -1,25 +1,13 @@
-use Rattle.std.proofs.Common.{◌≡◌, ◌+◌, ◌-◌, ◌≤◌, ◌++◌, ◌∙◌, List, ℕ, length, take, drop, ap, sym, subst, arith, take_all, take-append-drop}
+use Rattle.std.proofs.Common.{◌≡◌, ◌+◌, ◌-◌, ◌≤◌, ◌++◌, ◌∙◌, List, ℕ, length, take, drop, ap, sym, subst, arith, take_all}
 use Rattle.std.specs.Prelude.{Ok, ⊤}
 use Rattle.std.proofs.Math.Seq.{take-add}
-use Rattle.std.proofs.lemmas.Result.{err_from_is_err_and, IfOk-weaker, MatchResult-weaker}
+use Rattle.std.proofs.lemmas.Result.{IfOk-weaker, MatchResult-weaker}
 use Rattle.layout_file.specs.declared.layouts.Layouts.{Layouts}
 use Rattle.layout_file.specs.Layouts.{standard_layouts}
 use Rattle.ice_image.specs.Either.{configuration_of}
 use Rattle.bin_stream.specs.Spelling.{bin_read_of, Tells}
 use Rattle.bin_stream.specs.Decoding.{StandsFor}
 use Rattle.bin_stream.proofs.tests.pieces.in_pieces.Goals as goal
-
-pub returns-in_err-feed-clause-refused : goal.returns-in_err-feed-clause-refused
-returns-in_err-feed-clause-refused c =
-    let stream = c.args.stream.now in
-    let place = c.loop-place.place in
-    let end = c.min-end.result in
-    let fault = c.in_err-feed.field-0.0 in
-    let e : end ≡ place + (end - place) = omega (arith, c.min-end.ensures, c.loop-place-test.true) in
-    let joined : take place stream ++ take (end - place) (drop place stream) ≡ take end stream = sym (take-add place (end - place) stream) ∙ ap (λ n. take n stream) (sym e) in
-    let whole : take place stream ++ take (end - place) (drop place stream) ++ drop end stream ≡ stream = ap (λ front. front ++ drop end stream) joined ∙ take-append-drop end stream in
-    let p = err_from_is_err_and c.from_residual.result c.from_residual.ensures.1 in
-    rw (p.1, p.2) (subst (λ (bytes : List ℕ). Tells (bin_read_of standard_layouts bytes) fault) whole (c.in_err-feed.ensures.stays standard_layouts (take place stream) (drop end stream) c.loop-place.invariant.stands))
 
 pub loop-place-preserved : goal.loop-place-preserved
 loop-place-preserved c =

@@ -145,10 +145,7 @@ fn put_net(
 }
 
 /// The first of some names in each tile.
-fn first_names(
-    alloc: Global,
-    names: &[NetName],
-) -> Result<BTreeMap<TileKey, NetName>, AllocError>
+fn first_names(alloc: Global, names: &[NetName]) -> Result<BTreeMap<TileKey, NetName>, AllocError>
     ensures { IfOk result (λ firsts. FindsNames firsts names.now) }
 {
     let mut firsts = BTreeMap::new(alloc);
@@ -173,12 +170,7 @@ fn put_first(firsts: &mut BTreeMap<TileKey, NetName>, name: NetName) -> Result<(
 }
 
 /// The first name of a net in a tile.
-pub(crate) fn name_at<'a>(
-    db: &'a ChipDb,
-    nets: &NetNames,
-    at: TileAt,
-    net: u32,
-) -> Option<&'a [u8]>
+pub(crate) fn name_at<'a>(db: &'a ChipDb, nets: &NetNames, at: TileAt, net: u32) -> Option<&'a [u8]>
     requires { FindsNets db.now nets.now.nets }
     ensures { option_map (λ name. name.now) result ≡ option_map (λ line. line.name) (find (is_at at.x at.y) (names_of_net net (database_in db.now).names)) }
 {

@@ -117,9 +117,7 @@ fn with_many_names(alloc: Global) -> Result<Vec<u8>, AllocError> {
     for x in [b'2', b'4', b'5', b'6'] {
         add_names(&mut text, x)?;
     }
-    text.extend_from_slice(
-        b"1 1 here\n1 1 there\n.net 1\n1 1 in\n.buffer 1 1 1 B0[0]\n1 0\n",
-    )?;
+    text.extend_from_slice(b"1 1 here\n1 1 there\n.net 1\n1 1 in\n.buffer 1 1 1 B0[0]\n1 0\n")?;
     Ok(text)
 }
 

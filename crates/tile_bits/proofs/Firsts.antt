@@ -1,6 +1,6 @@
 -- The first item of each key: items that are put into an index from the last to the first.
-use Rattle.std.proofs.Common.{◌≡◌, ℕ, ◌+◌, ◌-◌, ◌<◌, ◌≤◌, Bool, ◌&&◌, ◌==◌, true, false, cond, List, [], ◌∷◌, length, get_or, drop, refl, sym, ap, ◌∙◌, subst, arith}
-use Rattle.std.specs.Prelude.{find, Option, Some, None}
+use Rattle.std.proofs.Common.{◌≡◌, ℕ, ◌+◌, ◌-◌, ◌<◌, ◌≤◌, Bool, ◌&&◌, ◌==◌, true, false, cond, List, [], length, get_or, drop, refl, sym, ap, ◌∙◌, subst, arith}
+use Rattle.std.specs.Prelude.{find, option_map, Option, Some, None}
 use Rattle.std.specs.declared.cmp.Ordering.{Ordering}
 use Rattle.std.specs.declared.cmp.Ordering.TheVariants.{Less, Equal, Greater}
 use Rattle.std.specs.Ordering.{nat_cmp, is_eq, ordering_then}
@@ -11,8 +11,18 @@ use Rattle.ice_image.specs.Owned.{is_same_place}
 use Rattle.std.specs.BTreeMap.{BTreeMap, get, is_at}
 use Rattle.std.specs.Map.{lookup}
 use Rattle.chipdb_reader.specs.declared.items.Extra.{Extra}
+use Rattle.chipdb_lines.specs.Items.{NameLine}
+use Rattle.chipdb_reader.specs.declared.items.NetName.{NetName}
+use Rattle.chipdb_reader.specs.Kept.{Kept, database_in, name_line, name_lines}
+use Rattle.chipdb_reader.specs.Lookups.{names_of_net}
+use Rattle.chipdb_reader.specs.Nets.{names_with}
+use Rattle.chipdb_reader.specs.Texts.{text_at}
+use Rattle.std.proofs.lemmas.Bool.{eqb-true}
 use Rattle.tile_bits.specs.declared.keys.PlaceKey.{PlaceKey}
-use Rattle.tile_bits.specs.Keys.{FindsExtras, place_cmp, place_key}
+use Rattle.tile_bits.specs.declared.keys.TileKey.{TileKey}
+use Rattle.tile_bits.specs.Explained.{is_at as is_line_at}
+use Rattle.tile_bits.specs.Keys.{FindsExtras, FindsNames, FindsNet, FindsNets, is_name_in, place_cmp, place_key, tile_cmp, tile_key}
+use Rattle.tile_bits.proofs.Gathered.{find-map}
 
 is_eq-then : (a b : Ordering) → is_eq (ordering_then a b) ≡ (is_eq a && is_eq b)
 is_eq-then Less b = refl
@@ -61,3 +71,67 @@ pub extras-all : (extras : List Extra) (n : ℕ) (firsts : BTreeMap PlaceKey Ext
 extras-all extras n firsts none so_far at =
     let first : n ≡ 0 = omega arith in
     so_far at ∙ ap (λ n. find (λ extra. is_same_place extra.at at) (drop n extras)) first
+
+-- ---- names of nets
+
+-- tiles are the same key where both their parts are
+pub tile-ties : (name : NetName) (x y : ℕ) → is_eq (tile_cmp (tile_key name.x name.y) (tile_key x y)) ≡ is_name_in x y name
+tile-ties name x y =
+    is_eq-then (nat_cmp name.x x) (nat_cmp name.y y) ∙ (λ i. sym (unsigned_ties name.x x) i && sym (unsigned_ties name.y y) i)
+
+pub names-none : (names : List NetName) (n : ℕ) (firsts : BTreeMap TileKey NetName) → length names ≤ n → firsts.entries ≡ [] → (x y : ℕ) → get tile_cmp firsts (tile_key x y) ≡ find (is_name_in x y) (drop n names)
+names-none names n firsts past empty x y =
+    finds-none (is_name_in x y) names n (get tile_cmp firsts (tile_key x y)) past (ap (λ entries. lookup (is_at (tile_cmp (tile_key x y))) entries) empty)
+
+pub names-more : (names : List NetName) (n : ℕ) (first : NetName) (old new : BTreeMap TileKey NetName) → 0 < n → n ≤ length names → first ≡ get_or names (n - 1) first
+    → ((x y : ℕ) → get tile_cmp old (tile_key x y) ≡ find (is_name_in x y) (drop n names))
+    → ((key : TileKey) → get tile_cmp new key ≡ cond (is_at (tile_cmp (tile_key first.x first.y)) key) (Some first) (get tile_cmp old key))
+    → (x y : ℕ) → get tile_cmp new (tile_key x y) ≡ find (is_name_in x y) (drop (n - 1) names)
+names-more names n first old new some within here so_far put x y =
+    finds-more (is_name_in x y) names n first (get tile_cmp old (tile_key x y)) (get tile_cmp new (tile_key x y)) some within (so_far x y)
+    (put (tile_key x y) ∙ ap (λ here. cond here (Some first) (get tile_cmp old (tile_key x y))) (tile-ties first x y)
+    ∙ ap (λ (name : NetName). cond (is_name_in x y name) (Some name) (get tile_cmp old (tile_key x y))) here)
+
+pub names-all : (names : List NetName) (n : ℕ) (firsts : BTreeMap TileKey NetName) → n ≤ 0
+    → ((x y : ℕ) → get tile_cmp firsts (tile_key x y) ≡ find (is_name_in x y) (drop n names)) → FindsNames firsts names
+names-all names n firsts none so_far x y =
+    let first : n ≡ 0 = omega arith in
+    so_far x y ∙ ap (λ n. find (is_name_in x y) (drop n names)) first
+
+-- the bytes of a name that is found or isn't
+bytes-found : (texts : List (List ℕ)) (net : ℕ) (found : Option NetName) → option_map (λ (name : NetName). text_at texts name.name) found ≡ option_map (λ (line : NameLine). line.name) (option_map (name_line texts) (option_map (λ (name : NetName). (name, net)) found))
+bytes-found texts net None = refl
+bytes-found texts net (Some name) = refl
+
+-- an index of the names of a net finds the first one in each tile
+pub net-found : (kept : Kept) (net : ℕ) (names : List NetName) (firsts : BTreeMap TileKey NetName)
+    → name_lines kept.texts (names_with net names) ≡ names_of_net net (database_in kept).names → FindsNames firsts names → FindsNet kept net firsts
+net-found kept net names firsts all finds x y =
+    let line = name_line kept.texts in
+    ap (option_map (λ (name : NetName). text_at kept.texts name.name)) (finds x y)
+    ∙ bytes-found kept.texts net (find (is_name_in x y) names)
+    ∙ sym (ap (option_map (λ (line : NameLine). line.name)) (ap (find (is_line_at x y)) (sym all)
+    ∙ find-map line (is_line_at x y) (names_with net names) ∙ ap (option_map line) (find-map (λ (name : NetName). (name, net)) (λ named. is_line_at x y (line named)) names)))
+
+some-same : (a b : BTreeMap TileKey NetName) → Some a ≡ Some b → a ≡ b
+some-same a b same = cc
+
+-- a net is the one that was put, or it is as before
+net-chosen : (kept : Kept) (net other : ℕ) (put found : BTreeMap TileKey NetName) (before : Option (BTreeMap TileKey NetName)) (same : Bool) → (net == other) ≡ same → FindsNet kept net put
+    → (before ≡ Some found → FindsNet kept other found) → cond same (Some put) before ≡ Some found → FindsNet kept other found
+net-chosen kept net other put found before true is finds as_before there =
+    subst (λ net. FindsNet kept net found) (eqb-true net other is) (subst (FindsNet kept net) (some-same put found there) finds)
+net-chosen kept net other put found before false is finds as_before there = as_before there
+
+-- one net more
+pub nets-more : (kept : Kept) (net : ℕ) (put : BTreeMap TileKey NetName) (old new : BTreeMap ℕ (BTreeMap TileKey NetName)) → FindsNets kept old → FindsNet kept net put
+    → ((key : ℕ) → get nat_cmp new key ≡ cond (is_at (nat_cmp net) key) (Some put) (get nat_cmp old key)) → FindsNets kept new
+nets-more kept net put old new so_far finds more other found there =
+    net-chosen kept net other put found (get nat_cmp old other) (net == other) refl finds (so_far other found)
+    (ap (λ same. cond same (Some put) (get nat_cmp old other)) (unsigned_ties net other) ∙ sym (more other) ∙ there)
+
+-- no nets
+pub nets-none : (kept : Kept) (nets : BTreeMap ℕ (BTreeMap TileKey NetName)) → nets.entries ≡ [] → FindsNets kept nets
+nets-none kept nets empty net firsts there =
+    let none : get nat_cmp nets net ≡ None = ap (λ entries. lookup (is_at (nat_cmp net)) entries) empty in
+    absurd (cc (sym none ∙ there))

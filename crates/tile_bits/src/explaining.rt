@@ -10,12 +10,14 @@ ghost use Rattle.asc_text.specs.Canonical.{with_word};
 ghost use Rattle.chipdb_reader.specs.Kept.{database_in};
 ghost use Rattle.tile_bits.specs.Explained.{all_tile_lines, explain_fault_of, explained, is_same_device, lines_of_kind, set_tile_lines, tile_fault, tile_lines, Tells};
 ghost use Rattle.tile_bits.specs.Inside.{IsTileAt};
+ghost use Rattle.tile_bits.specs.Keys.{FindsNets};
 
 use crate::cells::Cells;
 use crate::extras::append_extras;
 use crate::fault::ExplainFault;
 use crate::lines::append_tile;
 use crate::links::LinksOn;
+use crate::names::{NetNames, add_items, add_lists, no_nets};
 use crate::tile::{TileAt, active, items_of_tile};
 use crate::unknown::is_set_tile;
 use asc_text::TileXy;
@@ -99,7 +101,9 @@ fn text_of_tile(
     let mut text = Vec::new(alloc);
     append_device(&mut text, image.device())?;
     let items = active(alloc, db, image, at.x, at.y)?;
-    append_tile(&mut text, db, at, &items)?;
+    let mut nets = no_nets(alloc);
+    add_items(&mut nets, alloc, db, &items)?;
+    append_tile(&mut text, db, &nets, at, &items)?;
     Ok(text)
 }
 
@@ -108,16 +112,35 @@ fn text_of_all(alloc: Global, db: &ChipDb, image: &AnyImage) -> Result<Vec<u8>, 
     requires device { db.now.chip.device ≡ (configuration_of image.now).layout.device }
     ensures { IfOk result (λ text. text.items ≡ explained (database_in db.now) (configuration_of image.now) None) }
 {
+    let buffers = LinksOn::of(alloc, db, image, db.buffers())?;
+    let routings = LinksOn::of(alloc, db, image, db.routings())?;
+    let nets = nets_of(alloc, db, &buffers, &routings)?;
     let known = Known {
         cells: Cells::of(db),
-        buffers: LinksOn::of(alloc, db, image, db.buffers())?,
-        routings: LinksOn::of(alloc, db, image, db.routings())?,
+        buffers,
+        routings,
+        nets,
     };
     let mut text = Vec::new(alloc);
     append_device(&mut text, image.device())?;
     append_tiles(&mut text, alloc, db, image, &known)?;
     append_extras(&mut text, alloc, db, image)?;
     Ok(text)
+}
+
+/// The names of the nets of links.
+fn nets_of(
+    alloc: Global,
+    db: &ChipDb,
+    buffers: &LinksOn,
+    routings: &LinksOn,
+) -> Result<NetNames, AllocError>
+    ensures { IfOk result (λ names. FindsNets db.now names.nets) }
+{
+    let mut nets = no_nets(alloc);
+    add_lists(&mut nets, alloc, db, db.buffers(), &buffers.lists)?;
+    add_lists(&mut nets, alloc, db, db.routings(), &routings.lists)?;
+    Ok(nets)
 }
 
 /// Appends the device.
@@ -132,12 +155,13 @@ fn append_device(text: &mut Vec<u8>, device: DeviceName) -> Result<(), AllocErro
     Ok(())
 }
 
-/// What is known of all tiles: the cells of the database, and the links that are on.
+/// What is known of all tiles: the cells of the database, the links that are on, and the names of their nets.
 #[derive(Drop)]
 pub(crate) struct Known {
     cells: Cells,
     buffers: LinksOn,
     routings: LinksOn,
+    nets: NetNames,
 }
 
 ghost use Rattle.tile_bits.specs.Known.{IsKnown};
@@ -153,6 +177,7 @@ fn append_tiles(
 ) -> Result<(), AllocError>
     requires device { db.now.chip.device ≡ (configuration_of image.now).layout.device }
     requires known { IsKnown (database_in db.now) (configuration_of image.now) known.now }
+    requires nets { FindsNets db.now known.now.nets.nets }
     ensures { OnOk result (text.new.items ≡ text.old.items ++ text_of (all_tile_lines (database_in db.now) (configuration_of image.now))) }
 {
     for y in 0..image.device().rows() {
@@ -173,6 +198,7 @@ fn append_grid_row(
 ) -> Result<(), AllocError>
     requires device { db.now.chip.device ≡ (configuration_of image.now).layout.device }
     requires known { IsKnown (database_in db.now) (configuration_of image.now) known.now }
+    requires nets { FindsNets db.now known.now.nets.nets }
     ensures { OnOk result (text.new.items ≡ text.old.items ++ text_of (gathered_below (grid_width (configuration_of image.now).layout.device) (λ x. set_tile_lines (database_in db.now) (configuration_of image.now) x y (kind_of (configuration_of image.now).layout.device x y)))) }
 {
     for x in 0..image.device().columns() {
@@ -193,6 +219,7 @@ fn append_place(
 ) -> Result<(), AllocError>
     requires device { db.now.chip.device ≡ (configuration_of image.now).layout.device }
     requires known { IsKnown (database_in db.now) (configuration_of image.now) known.now }
+    requires nets { FindsNets db.now known.now.nets.nets }
     ensures { OnOk result (text.new.items ≡ text.old.items ++ text_of (set_tile_lines (database_in db.now) (configuration_of image.now) x y (kind_of (configuration_of image.now).layout.device x y))) }
 {
     match kind_on(image.device(), u32::from(x), u32::from(y)) {
@@ -220,10 +247,11 @@ fn append_known(
     requires device { db.now.chip.device ≡ (configuration_of image.now).layout.device }
     requires tile { IsTileAt (configuration_of image.now).layout.device at }
     requires known { IsKnown (database_in db.now) (configuration_of image.now) known.now }
+    requires nets { FindsNets db.now known.now.nets.nets }
     ensures { OnOk result (text.new.items ≡ text.old.items ++ text_of (tile_lines (database_in db.now) (configuration_of image.now) at.x at.y at.kind)) }
 {
     let buffers = known.buffers.at(at.x, at.y);
     let routings = known.routings.at(at.x, at.y);
     let items = items_of_tile(alloc, db, image, at, known.cells, buffers, routings)?;
-    append_tile(text, db, at, &items)
+    append_tile(text, db, &known.nets, at, &items)
 }

@@ -13,6 +13,7 @@ mod keys;
 mod known;
 mod lines;
 mod links;
+mod names;
 mod on;
 mod tile;
 mod unknown;

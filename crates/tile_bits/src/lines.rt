@@ -1,19 +1,19 @@
 // The lines of a tile.
-ghost use Rattle.std.specs.Prelude.{◌≡◌, ◌==◌, ◌&&◌, ◌++◌, ◌∷◌, [], OnOk, codes, decimal, find, map, position, slice_get, Option, Some};
-ghost use Rattle.std.specs.Option.{option_map};
+ghost use Rattle.std.specs.Prelude.{◌≡◌, ◌++◌, ◌∷◌, [], OnOk, codes, decimal, map, slice_get};
 ghost use Rattle.text_lines.specs.Written.{text_of};
 ghost use Rattle.bit_plane.specs.BitList.{word_bits};
 ghost use Rattle.asc_text.specs.Statements.{tile_keyword as keyword_of};
 ghost use Rattle.asc_text.specs.Canonical.{bit_character, grid_line, row_line};
-ghost use Rattle.chipdb_reader.specs.Kept.{database_in, name_line};
-ghost use Rattle.chipdb_reader.specs.Lookups.{names_of_net};
-ghost use Rattle.tile_bits.specs.Explained.{cell_line, function_line, is_at, item_line, link_line, net_text, unknown_line};
+ghost use Rattle.chipdb_reader.specs.Kept.{database_in};
+ghost use Rattle.tile_bits.specs.Explained.{cell_line, function_line, item_line, link_line, net_text, unknown_line};
+ghost use Rattle.tile_bits.specs.Keys.{FindsNets};
 
 use crate::cells::cell_name;
 use crate::item::Active;
+use crate::names::{NetNames, name_at};
 use crate::on::link_at;
 use crate::tile::TileAt;
-use chipdb_reader::{ChipDb, NetName};
+use chipdb_reader::ChipDb;
 use itoa::Buffer;
 use plane_map::TileKind;
 use std::alloc::AllocError;
@@ -23,14 +23,16 @@ use std::alloc::AllocError;
 pub(crate) fn append_tile(
     text: &mut Vec<u8>,
     db: &ChipDb,
+    nets: &NetNames,
     at: TileAt,
     items: &[Active],
 ) -> Result<(), AllocError>
+    requires { FindsNets db.now nets.now.nets }
     ensures { OnOk result (text.new.items ≡ text.old.items ++ text_of (grid_line (keyword_of at.kind) at.x at.y ∷ map (item_line (database_in db.now) at.x at.y) items.now)) }
 {
     append_statement(text, at)?;
     for item in items {
-        append_item(text, db, at, *item)?;
+        append_item(text, db, nets, at, *item)?;
         end_line(text)?;
     }
     Ok(())
@@ -60,14 +62,21 @@ fn tile_keyword(kind: TileKind) -> &'static [u8]
 }
 
 /// Appends what an item says.
-fn append_item(text: &mut Vec<u8>, db: &ChipDb, at: TileAt, item: Active) -> Result<(), AllocError>
+fn append_item(
+    text: &mut Vec<u8>,
+    db: &ChipDb,
+    nets: &NetNames,
+    at: TileAt,
+    item: Active,
+) -> Result<(), AllocError>
+    requires { FindsNets db.now nets.now.nets }
     ensures { OnOk result (text.new.items ≡ text.old.items ++ item_line (database_in db.now) at.x at.y item) }
 {
     match item {
         Active::Lc { i, lut, flags } => append_cell(text, i, lut, flags),
         Active::Function { index } => append_function(text, db, index),
-        Active::Buffer { index } => append_buffer(text, db, at, index),
-        Active::Routing { index } => append_routing(text, db, at, index),
+        Active::Buffer { index } => append_buffer(text, db, nets, at, index),
+        Active::Routing { index } => append_routing(text, db, nets, at, index),
         Active::Unknown { row, col } => append_unknown(text, row, col),
     }
 }
@@ -127,15 +136,17 @@ fn append_function(text: &mut Vec<u8>, db: &ChipDb, place: usize) -> Result<(), 
 fn append_buffer(
     text: &mut Vec<u8>,
     db: &ChipDb,
+    nets: &NetNames,
     at: TileAt,
     place: usize,
 ) -> Result<(), AllocError>
+    requires { FindsNets db.now nets.now.nets }
     ensures { OnOk result (text.new.items ≡ text.old.items ++ link_line (database_in db.now).names (codes "buffer") at.x at.y (slice_get (database_in db.now).buffers place)) }
 {
     text.extend_from_slice(b"buffer")?;
     match link_at(db.buffers(), place) {
         None => Ok(()),
-        Some(link) => append_nets(text, db, at, link.src, link.dst),
+        Some(link) => append_nets(text, db, nets, at, link.src, link.dst),
     }
 }
 
@@ -143,15 +154,17 @@ fn append_buffer(
 fn append_routing(
     text: &mut Vec<u8>,
     db: &ChipDb,
+    nets: &NetNames,
     at: TileAt,
     place: usize,
 ) -> Result<(), AllocError>
+    requires { FindsNets db.now nets.now.nets }
     ensures { OnOk result (text.new.items ≡ text.old.items ++ link_line (database_in db.now).names (codes "routing") at.x at.y (slice_get (database_in db.now).routings place)) }
 {
     text.extend_from_slice(b"routing")?;
     match link_at(db.routings(), place) {
         None => Ok(()),
-        Some(link) => append_nets(text, db, at, link.src, link.dst),
+        Some(link) => append_nets(text, db, nets, at, link.src, link.dst),
     }
 }
 
@@ -159,24 +172,33 @@ fn append_routing(
 fn append_nets(
     text: &mut Vec<u8>,
     db: &ChipDb,
+    nets: &NetNames,
     at: TileAt,
     src: u32,
     dst: u32,
 ) -> Result<(), AllocError>
+    requires { FindsNets db.now nets.now.nets }
     ensures { OnOk result (text.new.items ≡ text.old.items ++ 32 ∷ net_text (database_in db.now).names at.x at.y src ++ 32 ∷ net_text (database_in db.now).names at.x at.y dst) }
 {
     text.push(b' ')?;
-    append_net(text, db, at, src)?;
+    append_net(text, db, nets, at, src)?;
     text.push(b' ')?;
-    append_net(text, db, at, dst)
+    append_net(text, db, nets, at, dst)
 }
 
 /// Appends a net by its first name in the tile, or by `#` and its number.
 #[tactic(auto, unfolding(crate::specs::Explained::net_text))]
-fn append_net(text: &mut Vec<u8>, db: &ChipDb, at: TileAt, net: u32) -> Result<(), AllocError>
+fn append_net(
+    text: &mut Vec<u8>,
+    db: &ChipDb,
+    nets: &NetNames,
+    at: TileAt,
+    net: u32,
+) -> Result<(), AllocError>
+    requires { FindsNets db.now nets.now.nets }
     ensures { OnOk result (text.new.items ≡ text.old.items ++ net_text (database_in db.now).names at.x at.y net) }
 {
-    match name_at(db, at, net) {
+    match name_at(db, nets, at, net) {
         Some(name) => {
             text.extend_from_slice(name)?;
             Ok(())
@@ -186,26 +208,6 @@ fn append_net(text: &mut Vec<u8>, db: &ChipDb, at: TileAt, net: u32) -> Result<(
             append_digits(text, net)
         }
     }
-}
-
-/// The first name of a net in a tile.
-fn name_at<'a>(db: &'a ChipDb, at: TileAt, net: u32) -> Option<&'a [u8]>
-    ensures { option_map (λ name. name.now) result ≡ option_map (λ line. line.name) (find (is_at at.x at.y) (names_of_net net (database_in db.now).names)) }
-{
-    let names = db.names_of(net);
-    match first_at(names, at) {
-        None => None,
-        Some(index) => Some(db.text(names[index].name)),
-    }
-}
-
-/// The place of the first of some names that is one in a tile.
-fn first_at(names: &[NetName], at: TileAt) -> Option<usize>
-    ensures { result ≡ position (λ name. (name.x == at.x) && (name.y == at.y)) names.now }
-{
-    names
-        .iter()
-        .position(|name| name.x == at.x && name.y == at.y)
 }
 
 /// Appends a bit by its row and column.

@@ -47,7 +47,7 @@ fn is_on_at(db: &ChipDb, image: &AnyImage, link: LinkLine, x: u8, y: u8) -> bool
 /// The places of the links that are on, in lists by their tiles.
 #[derive(Drop)]
 pub(crate) struct LinksOn {
-    lists: Vec<Vec<usize>>,
+    pub(crate) lists: Vec<Vec<usize>>,
 }
 
 impl LinksOn {

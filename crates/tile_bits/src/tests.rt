@@ -3,10 +3,11 @@ ghost use Rattle.std.specs.Prelude.{IsTrue};
 ghost use Rattle.plane_map.specs.Layout.{IsInCram};
 
 use super::*;
+use crate::lines::append_number;
 use chipdb_reader::{ChipDb, read};
 use ice_image::AnyImage;
 use plane_map::{DeviceName, Place};
-use std::alloc::Global;
+use std::alloc::{AllocError, Global};
 
 /// Extra bits of a 1k, with two names for one place.
 const EXTRAS: &[u8] = b".device 1k 14 18 6
@@ -43,6 +44,16 @@ const PLACES: [Place; 4] = [
 
 /// What an image with these bits says.
 const SAID: &[u8] = b".device 1k\n.extra_bits\nfirst\nthird\nsecond\n? 1 331 7\n";
+
+/// What an image says whose one bit is that of a link from a net with many names.
+const NAMED: &[u8] = b".device 1k\n.logic_tile 1 1\nbuffer here in\n";
+
+/// The bit of that link.
+const LINKED: [Place; 1] = [Place {
+    bank: 0,
+    px: 18,
+    py: 16,
+}];
 
 /// A database, where the text isn't too long.
 fn database(alloc: Global, text: &[u8]) -> Option<ChipDb> {
@@ -87,4 +98,38 @@ fn is_explained(alloc: Global, text: &[u8], places: &[Place], said: &[u8]) -> bo
 #[test]
 fn extra_bits_go_by_their_first_names(rt: HostRuntime) {
     assert!(rt; is_explained(rt.alloc(), EXTRAS, &PLACES, SAID));
+}
+
+/// Adds a name in each tile of a column, which is given by its digit.
+fn add_names(text: &mut Vec<u8>, x: u8) -> Result<(), AllocError> {
+    for y in 0..18 {
+        text.push(x)?;
+        append_number(text, y)?;
+        text.extend_from_slice(b" far\n")?;
+    }
+    Ok(())
+}
+
+/// A database with a net of 74 names, of which the last two are those in the tile of a link.
+fn with_many_names(alloc: Global) -> Result<Vec<u8>, AllocError> {
+    let mut text = Vec::new(alloc);
+    text.extend_from_slice(b".device 1k 14 18 2\n.net 0\n")?;
+    for x in [b'2', b'4', b'5', b'6'] {
+        add_names(&mut text, x)?;
+    }
+    text.extend_from_slice(b"1 1 here\n1 1 there\n.net 1\n1 1 in\n.buffer 1 1 1 B0[0]\n1 0\n")?;
+    Ok(text)
+}
+
+/// Whether a net with many names goes by the first one in the tile.
+fn is_named(alloc: Global) -> bool {
+    match with_many_names(alloc) {
+        Ok(text) => is_explained(alloc, &text, &LINKED, NAMED),
+        Err(_) => false,
+    }
+}
+
+#[test]
+fn nets_with_many_names_go_by_the_first_in_the_tile(rt: HostRuntime) {
+    assert!(rt; is_named(rt.alloc()));
 }

@@ -19,6 +19,6 @@ returns c =
     let y = c.args.at.y in
     let device = with_word device_keyword (device_word image.layout.device) in
     let one = c.in_ok-append_device.ensures ∙ ap (λ text. text ++ text_of (with_word device_keyword (device_word c.device.result) ∷ [])) c.new-text.ensures.items ∙ ap (λ d. [] ++ text_of (with_word device_keyword (device_word d) ∷ [])) c.device.ensures.device in
-    let items = c.deref.ensures.value ∙ c.in_ok-items.ensures ∙ items-there database image x y c.args.at.kind c.requires.tile in
+    let items = c.deref-2.ensures.value ∙ c.in_ok-items.ensures ∙ items-there database image x y c.args.at.kind c.requires.tile in
     lines-joined [] c.append_device.new.text.items c.append_tile.new.text.items (device ∷ []) _ one c.in_ok-append_tile.ensures
     ∙ ap (λ items. [] ++ text_of (device ∷ grid_line (tile_keyword c.args.at.kind) x y ∷ map (item_line database x y) items)) items

@@ -1,4 +1,3 @@
-use Rattle.std.proofs.Common.{◌∙◌, sym}
 use Rattle.ice_image.specs.Either.{configuration_of}
 use Rattle.tile_bits.specs.On.{is_link_on}
 use Rattle.tile_bits.proofs.Ons.{link-on}

@@ -7,7 +7,7 @@ use Rattle.chipdb_reader.specs.Nets.{names_with}
 use Rattle.chipdb_reader.specs.declared.items.NetName.{NetName}
 use Rattle.tile_bits.specs.Explained.{is_at}
 use Rattle.tile_bits.proofs.Gathered.{find-map, find-none, find-some, position-below}
-use Rattle.tile_bits.proofs.lines.name_at.Goals as goal
+use Rattle.tile_bits.proofs.names.searched_name.Goals as goal
 
 pub returns-in-None : goal.returns-in-None
 returns-in-None c =

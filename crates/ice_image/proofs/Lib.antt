@@ -1,5 +1,6 @@
 pub mod BankBits
 pub mod Bits
+pub mod Changed
 pub mod Gained
 pub mod InOrder
 pub mod Listed

@@ -1,5 +1,5 @@
 -- Runs of bits, read and written as words.
-use Rattle.std.proofs.Common.{◌≡◌, ◌≢◌, ℕ, ◌+◌, ◌-◌, ◌^◌, ◌<◌, ◌≤◌, Bool, true, false, if◌then◌else◌, List, [], length, get_or, take, drop, refl, sym, ap, ◌∙◌, subst, inl, inr, arith, length-drop, length-take-le, get_or-take, get_or-drop, get_or-set_same, get_or-set_other}
+use Rattle.std.proofs.Common.{◌≡◌, ◌≢◌, ℕ, ◌+◌, ◌-◌, ◌^◌, ◌<◌, ◌≤◌, Bool, true, false, ◌||◌, bit_or, if◌then◌else◌, List, [], length, get_or, take, drop, refl, sym, ap, ◌∙◌, subst, inl, inr, arith, length-drop, length-take-le, get_or-take, get_or-drop, get_or-set_same, get_or-set_other}
 use Rattle.std.proofs.lemmas.Bool.{cases_eq, cases_lt}
 use Rattle.bit_plane.proofs.Made.{length-row_from, get_or-row_from}
 use Rattle.bit_plane.proofs.Places.{get_or-placed, get_or-placed_before, get_or-placed_after}
@@ -11,9 +11,9 @@ use Rattle.plane_map.specs.declared.tile.Run.{Run}
 use Rattle.plane_map.specs.Runs.{IsRunIn, run_place}
 use Rattle.ice_image.specs.Bits.{number_bit}
 use Rattle.ice_image.specs.Configuration.{bank_rows, place_bit, with_bank, AreBanks}
-use Rattle.ice_image.specs.Written.{IsWritten, bit_of_word}
+use Rattle.ice_image.specs.Written.{IsWritten, bit_of_word, gained_bit}
 use Rattle.ice_image.proofs.BankBits.{same_place}
-use Rattle.ice_image.proofs.Gained.{number_bit-row}
+use Rattle.ice_image.proofs.Gained.{number_bit-or, number_bit-row}
 use Rattle.ice_image.proofs.Made.{row_from-is, row_word-is, row_word-below}
 
 -- ---- where bits of a run lie
@@ -117,27 +117,59 @@ module _ (width height : ℕ) (planes : List Rows) (banks : AreBanks width heigh
       let there : ℕ = in_run run.backwards count k in
       ap (place_bit planes) (run_place-is run count k within) ∙ sym (number_bit-row count bit there (in_run-below run.backwards count k within)) ∙ ap (λ n. number_bit n there) (sym read) ∙ sym (bits k within) ∙ sym (get_or-word_bits count turned k within)))
 
-  -- a run with the bits of a word
-  pub run-written : (word turned : ℕ) (after : List Rows) → ((k : ℕ) → k < count → number_bit turned k ≡ number_bit word (in_run run.backwards count k))
-      → after ≡ with_bank planes run.bank (with_row (bank_rows planes run.bank) run.py (placed run.px (word_bits count turned) (row_at (bank_rows planes run.bank) run.py)))
-      → IsWritten (run_place run count) (bit_of_word count word) count planes after
-  run-written word turned after bits after_is = subst (IsWritten (run_place run count) (bit_of_word count word) count planes) (sym after_is) (record {
+  -- a run with other bits, from the word of them as they stand in the row
+  run-changed : (word : ℕ) (bit : ℕ → Bool) (after : List Rows) → ((k : ℕ) → k < count → number_bit word (in_run run.backwards count k) ≡ bit k)
+      → after ≡ with_bank planes run.bank (with_row (bank_rows planes run.bank) run.py (placed run.px (word_bits count word) (row_at (bank_rows planes run.bank) run.py)))
+      → IsWritten (run_place run count) bit count planes after
+  run-changed word bit after bits after_is = subst (IsWritten (run_place run count) bit count planes) (sym after_is) (record {
     written = λ k within.
         let there : ℕ = in_run run.backwards count k in
-        let inside = in_run-below run.backwards count k within in
-        ap (place_bit (changed width height planes banks run.bank run.px run.py count is.bank_in is.columns_in is.row_in turned)) (run_place-is run count k within)
-        ∙ changed-at width height planes banks run.bank run.px run.py count is.bank_in is.columns_in is.row_in turned there inside
-        ∙ bits there inside ∙ ap (number_bit word) (in_run-twice run.backwards count k within) ∙ sym (get_or-word_bits count word k within);
-    others = λ at apart. changed-other width height planes banks run.bank run.px run.py count is.bank_in is.columns_in is.row_in turned at (λ k within e.
+        ap (place_bit (changed width height planes banks run.bank run.px run.py count is.bank_in is.columns_in is.row_in word)) (run_place-is run count k within)
+        ∙ changed-at width height planes banks run.bank run.px run.py count is.bank_in is.columns_in is.row_in word there (in_run-below run.backwards count k within)
+        ∙ bits k within;
+    others = λ at apart. changed-other width height planes banks run.bank run.px run.py count is.bank_in is.columns_in is.row_in word at (λ k within e.
         let there : ℕ = in_run run.backwards count k in
         let inside = in_run-below run.backwards count k within in
         apart (there, inside, run_place-is run count there inside ∙ ap (λ k. record { bank = run.bank; px = run.px + k; py = run.py }) (in_run-twice run.backwards count k within) ∙ e));
   })
 
+  -- the bits of a turned word
+  turned-at : (word turned : ℕ) → ((k : ℕ) → k < count → number_bit turned k ≡ number_bit word (in_run run.backwards count k))
+      → (k : ℕ) → k < count → number_bit turned (in_run run.backwards count k) ≡ number_bit word k
+  turned-at word turned bits k within =
+      bits (in_run run.backwards count k) (in_run-below run.backwards count k within) ∙ ap (number_bit word) (in_run-twice run.backwards count k within)
+
+  -- a run with the bits of a word
+  pub run-written : (word turned : ℕ) (after : List Rows) → ((k : ℕ) → k < count → number_bit turned k ≡ number_bit word (in_run run.backwards count k))
+      → after ≡ with_bank planes run.bank (with_row (bank_rows planes run.bank) run.py (placed run.px (word_bits count turned) (row_at (bank_rows planes run.bank) run.py)))
+      → IsWritten (run_place run count) (bit_of_word count word) count planes after
+  run-written word turned after bits after_is =
+      run-changed turned (bit_of_word count word) after (λ k within. turned-at word turned bits k within ∙ sym (get_or-word_bits count word k within)) after_is
+
+  -- a run that gains the bits of a word
+  pub run-gained : (word ones turned : ℕ) (after : List Rows) → word ≡ word_of (take count (drop run.px (row_at (bank_rows planes run.bank) run.py)))
+      → ((k : ℕ) → k < count → number_bit turned k ≡ number_bit ones (in_run run.backwards count k))
+      → after ≡ with_bank planes run.bank (with_row (bank_rows planes run.bank) run.py (placed run.px (word_bits count (bit_or word turned)) (row_at (bank_rows planes run.bank) run.py)))
+      → IsWritten (run_place run count) (gained_bit (run_place run count) planes ones) count planes after
+  run-gained word ones turned after word_is bits after_is =
+      run-changed (bit_or word turned) (gained_bit (run_place run count) planes ones) after (λ k within.
+      let there : ℕ = in_run run.backwards count k in
+      let inside = in_run-below run.backwards count k within in
+      let read : number_bit word there ≡ place_bit planes (run_place run count k) =
+      row_bit-is width height planes banks run.bank run.px run.py count is.bank_in is.columns_in is.row_in word there inside word_is ∙ sym (ap (place_bit planes) (run_place-is run count k within)) in
+      number_bit-or word turned there ∙ ap (λ b. b || number_bit turned there) read ∙ ap (λ b. place_bit planes (run_place run count k) || b) (turned-at ones turned bits k within)) after_is
+
 -- the same bits at places that are given otherwise
 pub written-at : (places others : ℕ → Place) (bits : ℕ → Bool) (count : ℕ) (before after : List Rows) → ((k : ℕ) → k < count → others k ≡ places k) → IsWritten places bits count before after → IsWritten others bits count before after
 written-at places others bits count before after same all = record {
   written = λ k within. ap (place_bit after) (same k within) ∙ all.written k within;
+  others = λ at apart. all.others at (λ h. apart (h.0, h.1, same h.0 h.1 ∙ h.2));
+}
+
+pub gained-at : (places others : ℕ → Place) (ones count : ℕ) (before after : List Rows) → ((k : ℕ) → k < count → others k ≡ places k)
+    → IsWritten places (gained_bit places before ones) count before after → IsWritten others (gained_bit others before ones) count before after
+gained-at places others ones count before after same all = record {
+  written = λ k within. ap (place_bit after) (same k within) ∙ all.written k within ∙ ap (λ at. place_bit before at || number_bit ones k) (sym (same k within));
   others = λ at apart. all.others at (λ h. apart (h.0, h.1, same h.0 h.1 ∙ h.2));
 }
 

@@ -37,3 +37,10 @@ tile_place-apart layout x y row col at inside column only k before same =
     let e = only other (record { row_in = inside; col_in = (let small : k < columns_at layout.device x y = omega arith in small) }) same in
     let columns : k ≡ col = ap (λ (bit : TileBit). bit.col) e in
     absurd (omega (arith, columns))
+
+-- so do the columns before one
+pub tile_place-before : (layout : Layout) → IsLayout layout → (x y row col : ℕ) → row < 16 → col < columns_at layout.device x y → (k : ℕ) → k < col → tile_place layout x y row k ≢ tile_place layout x y row col
+tile_place-before layout sound x y row col inside column k before same =
+    let small : k < columns_at layout.device x y = omega arith in
+    let apart = tile_place-same layout sound x y row k row col inside small inside column same in
+    absurd (omega (arith, apart.1))

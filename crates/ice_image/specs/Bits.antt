@@ -82,6 +82,26 @@ pub record IsSet (bit : Bit) (value : Bool) (before after : Configuration) : Typ
   pub set : bit_of after bit ≡ value
   pub others : OnlyBits (λ other. other ≡ bit) before after
 
+-- a bit of that word of a RAM
+abbrev pub IsOfWord : ℕ → ℕ → ℕ → Bit → Type 0
+IsOfWord x y word (OfWord bit) = (bit.x ≡ x) × (bit.y ≡ y) × (bit.word ≡ word)
+IsOfWord x y word bit = ⊥
+
+-- a word has that value, and all bits that aren't its own, the layout, the comment and the settings are as before
+pub record IsWordSet (x y word value : ℕ) (before after : Configuration) : Type 0 where
+  pub set : ram_word_of after x y word ≡ value
+  pub others : OnlyBits (IsOfWord x y word) before after
+
+-- a bit of that tile
+abbrev pub IsOfTile : ℕ → ℕ → Bit → Type 0
+IsOfTile x y (OfTile bit) = (bit.x ≡ x) × (bit.y ≡ y)
+IsOfTile x y bit = ⊥
+
+-- a tile has those rows, and all bits that aren't its own, the layout, the comment and the settings are as before
+pub record IsTileSet (x y : ℕ) (tile : Rows) (before after : Configuration) : Type 0 where
+  pub set : tile_of after x y ≡ tile
+  pub others : OnlyBits (IsOfTile x y) before after
+
 -- the layout, the comment and the settings are as before, and the bits are 1 that were 1 before and those that the test tells
 pub record Gains (is_set : Bit → Bool) (before after : Configuration) : Type 0 where
   pub layout : after.layout ≡ before.layout

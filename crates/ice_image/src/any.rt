@@ -2,12 +2,12 @@
 ghost use Rattle.std.specs.Prelude.{◌≡◌, ◌+◌, ◌*◌, ◌<◌, ◌≤◌, ◌↔◌, Some, IfOk, IsTrue, All, true, false, length, take, drop, option_copied, MatchOption};
 ghost use Rattle.bit_plane.specs.BitList.{word_bits, word_of, bits_of, bytes_of};
 ghost use Rattle.bit_plane.specs.Rows.{flat, rows_of};
-ghost use Rattle.plane_map.specs.Layout.{kind_of, columns_at, standard_layout, place_of, word_place_of, IsTileBit, IsWordBit, IsInCram};
-ghost use Rattle.ice_image.specs.Configuration.{place_bit, with_place_bit, SameBut, blank_image, IsWhole};
-ghost use Rattle.ice_image.specs.Contents.{tile_rows, IsPlaceOfTile, word_value, IsPlaceOfWord, IsBitOfTile};
+ghost use Rattle.plane_map.specs.Layout.{kind_of, columns_at, standard_layout, IsTileBit, IsWordBit, IsInCram};
+ghost use Rattle.ice_image.specs.Configuration.{place_bit, with_place_bit, blank_image, IsWhole};
+ghost use Rattle.ice_image.specs.Contents.{IsBitOfTile};
 ghost use Rattle.ice_image.specs.Either.{configuration_of, device_of};
 ghost use Rattle.ice_image.specs.Extras.{AreSetExtras};
-ghost use Rattle.ice_image.specs.Bits.{OfTile, OfWord, Extra, bit_of, listed_bits, row_of, ram_word_of, set_extras, row_ones, word_ones, IsSet, Gains};
+ghost use Rattle.ice_image.specs.Bits.{OfTile, OfWord, Extra, bit_of, listed_bits, row_of, tile_of, ram_word_of, set_extras, row_ones, word_ones, IsSet, IsTileSet, IsWordSet, Gains};
 ghost use Rattle.ice_image.specs.Owned.{is_extra};
 ghost use Rattle.ice_image.specs.Planes.{plane_width, plane_height, rows_of_bank, with_rows};
 
@@ -111,8 +111,7 @@ impl AnyImage {
     /// A bit of a tile.
     pub fn tile_bit(&self, at: TileBit) -> bool
         requires { IsTileBit (device_of self.now) at }
-        ensures place { result ≡ place_bit (configuration_of self.now).cram (place_of (configuration_of self.now).layout at) }
-        ensures bit { result ≡ bit_of (configuration_of self.now) (OfTile at) }
+        ensures { result ≡ bit_of (configuration_of self.now) (OfTile at) }
     {
         match self {
             AnyImage::K1(image) => image.tile_bit(at),
@@ -124,7 +123,6 @@ impl AnyImage {
     pub fn set_tile_bit(&mut self, at: TileBit, bit: bool)
         requires { IsTileBit (device_of self.old) at }
         ensures device { device_of self.new ≡ device_of self.old }
-        ensures changed { configuration_of self.new ≡ record (configuration_of self.old) { cram = with_place_bit (configuration_of self.old).cram (place_of (configuration_of self.old).layout at) bit } }
         ensures bits { IsSet (OfTile at) bit (configuration_of self.old) (configuration_of self.new) }
     {
         match self {
@@ -195,7 +193,7 @@ impl AnyImage {
     /// The tile at (x, y), which has C columns.
     pub fn tile<const C: usize>(&self, x: u8, y: u8) -> Tile<C>
         requires { columns_at (device_of self.now) x y ≡ C }
-        ensures { result ≡ tile_rows (configuration_of self.now).layout (configuration_of self.now).cram x y }
+        ensures { result ≡ tile_of (configuration_of self.now) x y }
     {
         match self {
             AnyImage::K1(image) => image.tile(x, y),
@@ -207,10 +205,7 @@ impl AnyImage {
     pub fn put_tile<const C: usize>(&mut self, x: u8, y: u8, tile: &Tile<C>)
         requires { columns_at (device_of self.old) x y ≡ C }
         ensures device { device_of self.new ≡ device_of self.old }
-        ensures tile { tile_rows (configuration_of self.old).layout (configuration_of self.new).cram x y ≡ tile.now }
-        ensures others { SameBut (IsPlaceOfTile (configuration_of self.old).layout x y) (configuration_of self.old).cram (configuration_of self.new).cram }
-        ensures rest { configuration_of self.new ≡ record (configuration_of self.old) { cram = (configuration_of self.new).cram } }
-        ensures whole { IsWhole (configuration_of self.new) }
+        ensures bits { IsTileSet x y tile.now (configuration_of self.old) (configuration_of self.new) }
     {
         match self {
             AnyImage::K1(image) => image.put_tile(x, y, tile),
@@ -233,8 +228,7 @@ impl AnyImage {
     /// A word of the RAM whose lower tile is at (x, y), bit b having the value 2^b.
     pub fn ram_word(&self, x: u8, y: u8, word: u8) -> u16
         requires { kind_of (device_of self.now) x y ≡ Some TileKind.RamB }
-        ensures place { result ≡ word_value (configuration_of self.now).layout (configuration_of self.now).bram x y word }
-        ensures bits { result ≡ ram_word_of (configuration_of self.now) x y word }
+        ensures { result ≡ ram_word_of (configuration_of self.now) x y word }
     {
         match self {
             AnyImage::K1(image) => image.ram_word(x, y, word),
@@ -246,10 +240,7 @@ impl AnyImage {
     pub fn set_ram_word(&mut self, x: u8, y: u8, word: u8, value: u16)
         requires { kind_of (device_of self.old) x y ≡ Some TileKind.RamB }
         ensures device { device_of self.new ≡ device_of self.old }
-        ensures word { word_value (configuration_of self.old).layout (configuration_of self.new).bram x y word ≡ value }
-        ensures others { SameBut (IsPlaceOfWord (configuration_of self.old).layout x y word) (configuration_of self.old).bram (configuration_of self.new).bram }
-        ensures rest { configuration_of self.new ≡ record (configuration_of self.old) { bram = (configuration_of self.new).bram } }
-        ensures whole { IsWhole (configuration_of self.new) }
+        ensures bits { IsWordSet x y word value (configuration_of self.old) (configuration_of self.new) }
     {
         match self {
             AnyImage::K1(image) => image.set_ram_word(x, y, word, value),
@@ -273,7 +264,6 @@ impl AnyImage {
     pub fn set_word_bit(&mut self, at: WordBit, bit: bool)
         requires { IsWordBit (device_of self.old) at }
         ensures device { device_of self.new ≡ device_of self.old }
-        ensures changed { configuration_of self.new ≡ record (configuration_of self.old) { bram = with_place_bit (configuration_of self.old).bram (word_place_of (configuration_of self.old).layout at) bit } }
         ensures bits { IsSet (OfWord at) bit (configuration_of self.old) (configuration_of self.new) }
     {
         match self {

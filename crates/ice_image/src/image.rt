@@ -7,7 +7,7 @@ ghost use Rattle.plane_map.specs.Layout.{kind_of, columns_at, standard_layout, p
 ghost use Rattle.ice_image.specs.Configuration.{bank_rows, place_bit, with_bank, with_place_bit, SameBut, blank_image, IsWhole};
 ghost use Rattle.ice_image.specs.Contents.{tile_rows, IsPlaceOfTile, word_value, IsPlaceOfWord, IsBitOfTile};
 ghost use Rattle.ice_image.specs.Extras.{AreSetExtras};
-ghost use Rattle.ice_image.specs.Bits.{OfTile, OfWord, Extra, bit_of, listed_bits, row_of, ram_word_of, set_extras, row_ones, word_ones, IsSet, Gains};
+ghost use Rattle.ice_image.specs.Bits.{OfTile, OfWord, Extra, bit_of, listed_bits, row_of, ram_word_of, set_extras, row_ones, word_ones, IsSet, IsTileSet, IsWordSet, Gains};
 ghost use Rattle.ice_image.specs.Owned.{is_extra};
 ghost use Rattle.ice_image.specs.Planes.{plane_width, plane_height, rows_of_bank, with_rows};
 ghost use Rattle.ice_image.specs.declared.planes.PlaneKind.TheVariants.{Cram, Bram};
@@ -235,6 +235,7 @@ impl<D: Device> Image<D> {
         ensures others { SameBut (IsPlaceOfTile self.old.layout x y) self.old.cram self.new.cram }
         ensures rest { self.new ≡ record self.old { cram = self.new.cram } }
         ensures whole { IsWhole self.new }
+        ensures bits { IsTileSet x y tile.now self.old self.new }
     {
         write_tile(&self.layout, &mut self.cram, x, y, tile);
     }
@@ -275,6 +276,7 @@ impl<D: Device> Image<D> {
         ensures others { SameBut (IsPlaceOfWord self.old.layout x y word) self.old.bram self.new.bram }
         ensures rest { self.new ≡ record self.old { bram = self.new.bram } }
         ensures whole { IsWhole self.new }
+        ensures bits { IsWordSet x y word value self.old self.new }
     {
         write_word(&self.layout, &mut self.bram, x, y, word, value);
     }

@@ -5,7 +5,7 @@ ghost use Rattle.bit_plane.specs.Rows.{row_from};
 ghost use Rattle.plane_map.specs.Runs.{IsRunIn, run_place};
 ghost use Rattle.ice_image.specs.Bits.{number_bit};
 ghost use Rattle.ice_image.specs.Configuration.{place_bit, AreBanks};
-ghost use Rattle.ice_image.specs.Written.{IsWritten, bit_of_word, ArePairs, partner};
+ghost use Rattle.ice_image.specs.Written.{IsWritten, bit_of_word, gained_bit, ArePairs, partner};
 
 use crate::banks::Banks;
 use bit_plane::Bits;
@@ -33,6 +33,19 @@ pub(crate) fn write_run<P: Bits>(planes: &mut Banks<P>, run: Run, count: usize, 
         count,
         turned(run.backwards, word, count),
     );
+}
+
+/// Sets the bits of a run at which `ones` has a 1. Bit k of the run is the bit of value 2^k.
+pub(crate) fn set_run_ones<P: Bits>(planes: &mut Banks<P>, run: Run, count: usize, ones: u64)
+    requires { IsRunIn P.WIDTH P.HEIGHT count run }
+    ensures written { IsWritten (run_place run count) (gained_bit (run_place run count) planes.old ones) count planes.old planes.new }
+    ensures whole { AreBanks P.WIDTH P.HEIGHT planes.new }
+{
+    let bank = run.bank as usize;
+    let x = run.px as usize;
+    let y = run.py as usize;
+    let bits = planes.row_bits(bank, x, y, count);
+    planes.set_row_bits(bank, x, y, count, bits | turned(run.backwards, ones, count));
 }
 
 /// The low `count` bits of a word, the last first where that is asked.

@@ -8,7 +8,7 @@ ghost use Rattle.ice_image.specs.Contents.{tile_place, tile_rows, IsPlaceOfTile}
 ghost use Rattle.ice_image.specs.Written.{IsWritten, bit_of_word, gained_bit};
 
 use crate::banks::Banks;
-use crate::runs::{run_word, write_run};
+use crate::runs::{run_word, set_run_ones, write_run};
 use bit_plane::{Bits, Tile};
 use plane_map::{DeviceName, Layout, kind_on, tile_width};
 
@@ -117,9 +117,39 @@ pub(crate) fn set_row_ones<P: Bits>(
     ensures written { IsWritten (tile_place layout.now x y row) (gained_bit (tile_place layout.now x y row) cram.old ones) (columns_at layout.now.device x y) cram.old cram.new }
     ensures whole { AreBanks P.WIDTH P.HEIGHT cram.new }
 {
+    if ones == 0 {
+        return;
+    }
     let width = columns_on(layout.device(), x, y);
-    let word = row_word(layout, cram, x, y, row, width);
-    write_row(layout, cram, x, y, row, width, word | ones);
+    match layout.row_run(x, y, row) {
+        Some(run) => set_run_ones(cram, run, width, ones),
+        None => set_scattered_ones(layout, cram, x, y, row, width, ones),
+    }
+}
+
+/// The same, bit by bit.
+fn set_scattered_ones<P: Bits>(
+    layout: &Layout,
+    cram: &mut Banks<P>,
+    x: u8,
+    y: u8,
+    row: u8,
+    width: usize,
+    ones: u64,
+)
+    requires layout { IsLayout layout.now }
+    requires row { row < 16 }
+    requires width { columns_at layout.now.device x y ≡ width }
+    requires size { IsCramSize layout.now.device P.WIDTH P.HEIGHT }
+    requires whole { AreBanks P.WIDTH P.HEIGHT cram.old }
+    ensures written { IsWritten (tile_place layout.now x y row) (gained_bit (tile_place layout.now x y row) cram.old ones) width cram.old cram.new }
+    ensures whole { AreBanks P.WIDTH P.HEIGHT cram.new }
+{
+    for col in 0..width {
+        if ones >> col & 1 == 1 {
+            cram.set(layout.cram_place(x, y, row, col as u8), true);
+        }
+    }
 }
 
 /// Sets a row of the tile at (x, y) to the bits of a word. Column c gets the bit of value 2^c.

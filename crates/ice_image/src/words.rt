@@ -6,7 +6,7 @@ ghost use Rattle.ice_image.specs.Contents.{word_value, word_bit_place, IsPlaceOf
 ghost use Rattle.ice_image.specs.Written.{IsWritten, bit_of_word, gained_bit};
 
 use crate::banks::Banks;
-use crate::runs::{run_word, write_run};
+use crate::runs::{run_word, set_run_ones, write_run};
 use bit_plane::Bits;
 use plane_map::{Layout, TileKind};
 
@@ -54,6 +54,5 @@ pub(crate) fn set_ones_of_word<P: Bits>(
     ensures written { IsWritten (word_bit_place layout.now x y word) (gained_bit (word_bit_place layout.now x y word) bram.old ones) 16 bram.old bram.new }
     ensures whole { AreBanks P.WIDTH P.HEIGHT bram.new }
 {
-    let value = read_word(layout, bram, x, y, word);
-    write_word(layout, bram, x, y, word, value | ones);
+    set_run_ones(bram, layout.word_run(x, y, word), 16, ones as u64);
 }

@@ -1,16 +1,16 @@
 -- What the tests of a layout say, and what the grids of both devices have.
-use Rattle.std.proofs.Common.{◌≡◌, ℕ, zero, suc, ◌+◌, ◌<◌, ◌≤◌, true, List, slice_index, refl, arith, lit≤}
+use Rattle.std.proofs.Common.{◌≡◌, ℕ, zero, suc, ◌+◌, ◌<◌, ◌≤◌, true, List, slice_index, arith, lit≤}
 use Rattle.std.proofs.lemmas.Bool.Decides.{nat_tests}
 use Rattle.plane_map.specs.declared.device.DeviceName.{DeviceName}
 use Rattle.plane_map.specs.declared.device.DeviceName.TheVariants.{K1, K8}
-use Rattle.plane_map.specs.Layout.{kind_of, columns_at, half_width, least_width, start_in, are_wide, Layout, IsLayout, width_of, start_of, is_side, is_end, is_right, is_top, from_side, from_end, last_x, last_y, grid_width, grid_height, cram_width}
+use Rattle.plane_map.specs.Layout.{kind_of, columns_at, half_width, least_width, are_wide, Layout, IsLayout, width_of, start_of, is_side, is_end, is_right, is_top, from_side, from_end, last_x, last_y, grid_width, grid_height, cram_width}
+use Rattle.plane_map.proofs.Starts.{starts-in}
 use Rattle.plane_map.proofs.Widths.{AreStarts, start-later}
 use Rattle.plane_map.proofs.Offsets.{ArePlaces, AreColumns, places-from, FitsColumn, mirror-same}
 
 -- each column of tiles starts where the one before it ends
 pub are_starts : (layout : Layout) → AreStarts (start_of layout) (width_of layout)
-unfolding start_in
-are_starts layout = record { first = refl; next = λ u. refl }
+are_starts layout = starts-in layout.widths
 
 -- each of the columns of tiles that the test looks at is as wide as it needs to be
 are_wide-at : (device : DeviceName) (widths : List ℕ) (n : ℕ) → are_wide device widths n ≡ true → (u : ℕ) → u < n → least_width device u ≤ slice_index widths u
@@ -31,6 +31,11 @@ start_of-half layout s = grind (arith, nat_tests, s.widths)
 pub width_of-fits : (layout : Layout) → IsLayout layout → (u : ℕ) → u < half_width layout.device → start_of layout u + width_of layout u ≤ cram_width layout.device
 width_of-fits layout s u h =
     omega (arith, start-later (start_of layout) (width_of layout) (are_starts layout) u (half_width layout.device) h, start_of-half layout s)
+
+-- no half has more columns of tiles than there is room for
+pub half_width-le : (device : DeviceName) → half_width device ≤ 17
+half_width-le K1 = lit≤ tt
+half_width-le K8 = lit≤ tt
 
 -- a plane is small
 pub cram_width-below : (device : DeviceName) → cram_width device ≤ 872

@@ -5,6 +5,7 @@ pub mod Owners
 pub mod Places
 pub mod RowRuns
 pub mod Standard
+pub mod Starts
 pub mod Widths
 pub mod Words
 mod Worked

@@ -7,19 +7,6 @@ use crate::layout::Layout;
 use crate::place::tile_width;
 use crate::tile::{TileBit, TileKind};
 
-/// How many columns of bits the columns of tiles nearer to the edge take.
-#[tactic(auto, unfolding(crate::specs::Layout::start_in))]
-pub(crate) fn column_start(layout: &Layout, distance: u32) -> u32
-    requires { distance < half_width layout.now.device }
-    ensures { result ≡ start_of layout.now distance }
-{
-    let mut start = 0;
-    for inner in 0..distance {
-        start += layout.width(inner);
-    }
-    start
-}
-
 /// The column of bits that a bit of a tile takes.
 pub(crate) fn px_of(layout: &Layout, bit: TileBit) -> u32
     requires { IsTileBit layout.now.device bit }
@@ -28,7 +15,7 @@ pub(crate) fn px_of(layout: &Layout, bit: TileBit) -> u32
 {
     let x = bit.x as u32;
     let distance = side_distance(layout.device(), x);
-    let start = column_start(layout, distance);
+    let start = layout.start(distance);
     let mirrored = is_mirrored(layout, x, bit.y as u32);
     start + turned(mirrored, layout.width(distance), column_of(layout, bit))
 }

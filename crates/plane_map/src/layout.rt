@@ -8,8 +8,10 @@ use crate::place::{owner_on, place_of_word, place_on};
 use crate::runs::{run_of_word, run_on, tile_row_on};
 use crate::tile::{Place, Run, TileBit, TileKind, TileRow, WordBit};
 use std::marker::Model;
+use widths::{standard_widths, starts_of};
 
 mod setters;
+mod widths;
 
 /// The standard columns of bits of an io tile of the left or the right edge, counted from the side edge.
 const SIDE_COLUMNS: [u8; 18] = [17, 16, 15, 14, 13, 12, 11, 10, 9, 8, 7, 6, 5, 4, 3, 2, 1, 0];
@@ -30,6 +32,8 @@ pub struct Layout {
     device: DeviceName,
     /// How many columns of bits each column of tiles takes, from the side edge inwards; 0 past the last one of a half.
     widths: [u16; 17],
+    /// How many columns of bits the columns of tiles before each one take.
+    starts: [u16; 17],
     side_columns: [u8; 18],
     pad_columns: [u8; 18],
     pad_rows: [u8; 16],
@@ -59,33 +63,19 @@ impl Layout {
     pub fn standard(device: DeviceName) -> Layout
         ensures { result ≡ standard_layout device }
     {
-        match device {
-            DeviceName::K1 => Layout {
-                device,
-                widths: [18, 54, 54, 42, 54, 54, 54, 0, 0, 0, 0, 0, 0, 0, 0, 0, 0],
-                side_columns: SIDE_COLUMNS,
-                pad_columns: PAD_COLUMNS,
-                pad_rows: PAD_ROWS,
-                banks: [0, 1, 2, 3],
-                mirror: true,
-                flip: true,
-                pad_mirror: false,
-                ram_flip: true,
-            },
-            DeviceName::K8 => Layout {
-                device,
-                widths: [
-                    18, 54, 54, 54, 54, 54, 54, 54, 42, 54, 54, 54, 54, 54, 54, 54, 54,
-                ],
-                side_columns: SIDE_COLUMNS,
-                pad_columns: PAD_COLUMNS,
-                pad_rows: PAD_ROWS,
-                banks: [0, 1, 2, 3],
-                mirror: true,
-                flip: true,
-                pad_mirror: false,
-                ram_flip: true,
-            },
+        let widths = standard_widths(device);
+        Layout {
+            device,
+            widths,
+            starts: starts_of(&widths),
+            side_columns: SIDE_COLUMNS,
+            pad_columns: PAD_COLUMNS,
+            pad_rows: PAD_ROWS,
+            banks: [0, 1, 2, 3],
+            mirror: true,
+            flip: true,
+            pad_mirror: false,
+            ram_flip: true,
         }
     }
 
@@ -175,6 +165,14 @@ impl Layout {
         ensures fits { start_of self.now distance + result ≤ cram_width self.now.device }
     {
         self.widths[distance as usize] as u32
+    }
+
+    /// How many columns of bits the columns of tiles nearer to the edge take.
+    pub(crate) fn start(&self, distance: u32) -> u32
+        requires { distance < half_width self.now.device }
+        ensures { result ≡ start_of self.now distance }
+    {
+        self.starts[distance as usize] as u32
     }
 
     /// The column of bits of a column of an io tile of the left or the right edge.

@@ -3,6 +3,7 @@ ghost use Rattle.std.specs.Prelude.{◌≡◌, true};
 ghost use Rattle.plane_map.specs.Layout.{are_places, are_widths};
 
 use crate::layout::Layout;
+use crate::layout::widths::{padded, starts_of};
 
 impl Layout {
     /// Sets how many columns of bits each column of tiles takes, from the side edge inwards.
@@ -10,7 +11,9 @@ impl Layout {
         requires { are_widths self.old.device widths.now ≡ true }
         ensures { self.new ≡ record self.old { widths = widths.now } }
     {
-        self.widths = padded(widths);
+        let all = padded(widths);
+        self.widths = all;
+        self.starts = starts_of(&all);
     }
 
     /// Sets the columns of bits of the io tiles of the left and the right edge.
@@ -72,16 +75,4 @@ impl Layout {
     {
         self.ram_flip = ram_flip;
     }
-}
-
-ghost use Rattle.std.specs.Prelude.{◌≤◌, ◌-◌, ◌++◌, length, replicate};
-
-/// The widths with 0 past the last one.
-fn padded(widths: &[u16]) -> [u16; 17]
-    requires { length widths.now ≤ 17 }
-    ensures { result ≡ widths.now ++ replicate (17 - length widths.now) 0 }
-{
-    let mut all = [0; 17];
-    all[..widths.len()].copy_from_slice(widths);
-    all
 }

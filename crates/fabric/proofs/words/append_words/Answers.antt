@@ -12,7 +12,7 @@ pub loop-word-preserved : goal.loop-word-preserved
 loop-word-preserved c =
     let value = ram_word_of (configuration_of c.args.image.now) c.args.x c.args.y in
     let pushed = c.in_ok-push.ensures.items in
-    let read = c.ram_word.ensures.bits in
+    let read = c.ram_word.ensures in
     grown-more _ _ _ _ _ c.loop-word.invariant (pushed ∙ ap (λ word. c.loop-word.words.items ++ word ∷ []) read)
 
 pub returns : goal.returns

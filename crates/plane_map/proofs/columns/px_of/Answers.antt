@@ -12,5 +12,5 @@ turned-requires c =
 pub returns-clause-value : goal.returns-clause-value
 returns-clause-value c =
     let distance = rw c.device.ensures.device at c.side_distance-distance.ensures in
-    px_of-parts c.args.layout.now c.device.ensures.layout c.args.bit c.requires _ _ _ _ _ _ distance c.column_start-start.ensures c.width.ensures.value c.column_of.ensures
+    px_of-parts c.args.layout.now c.device.ensures.layout c.args.bit c.requires _ _ _ _ _ _ distance c.start-start.ensures c.width.ensures.value c.column_of.ensures
     c.is_mirrored-mirrored.ensures c.turned.ensures.value

@@ -12,7 +12,7 @@ loop-index-init c = digits-none _ _
 
 pub loop-index-preserved : goal.loop-index-preserved
 loop-index-preserved c =
-    digits-more c.args.text.now.items c.loop-index.text.items c.append_digits.new.text.items c.loop-index.index (λ index. two_bytes (ram_word_of (configuration_of c.args.image.now) c.args.x c.args.y (16 * c.args.row + 15 - index))) c.loop-index.invariant (c.in_ok-append_digits.ensures ∙ ap (λ word. c.loop-index.text.items ++ encode_lower (two_bytes word)) c.ram_word.ensures.bits)
+    digits-more c.args.text.now.items c.loop-index.text.items c.append_digits.new.text.items c.loop-index.index (λ index. two_bytes (ram_word_of (configuration_of c.args.image.now) c.args.x c.args.y (16 * c.args.row + 15 - index))) c.loop-index.invariant (c.in_ok-append_digits.ensures ∙ ap (λ word. c.loop-index.text.items ++ encode_lower (two_bytes word)) c.ram_word.ensures)
 
 pub returns : goal.returns
 returns c =

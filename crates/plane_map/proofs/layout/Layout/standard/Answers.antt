@@ -1,21 +1,28 @@
-use Rattle.std.proofs.Common.{refl}
-use Rattle.plane_map.specs.Layout.{start_in, standard_widths, standard_side_columns, standard_pad_columns, standard_pad_rows, standard_banks}
+use Rattle.std.proofs.Common.{refl, sym}
+use Rattle.plane_map.specs.Layout.{standard_side_columns, standard_pad_columns, standard_pad_rows, standard_banks}
+use Rattle.plane_map.proofs.Standard.{standard_is_layout, standard-room, standard-cut}
 use Rattle.plane_map.proofs.layout.Layout.standard.Goals as goal
 
-pub invariant_of-t-2 : goal.invariant_of-t-2
-unfolding start_in
-invariant_of-t-2 c =
-    rw c.in-K1.is (record { layout = record { widths = refl; side_columns = refl; pad_columns = refl; pad_rows = refl; banks = refl }; padded = refl })
+pub starts_of-requires : goal.starts_of-requires
+starts_of-requires c = standard-room c.args.device c.standard_widths-widths.result c.standard_widths-widths.ensures
 
 pub invariant_of-result : goal.invariant_of-result
-unfolding start_in
+unfolding standard_side_columns standard_pad_columns standard_pad_rows standard_banks
 invariant_of-result c =
-    rw c.in-K8.is (record { layout = record { widths = refl; side_columns = refl; pad_columns = refl; pad_rows = refl; banks = refl }; padded = refl })
+    let cut = standard-cut c.args.device c.standard_widths-widths.result c.standard_widths-widths.ensures in
+    let standard = standard_is_layout c.args.device in
+    record {
+      layout = record {
+        widths = rw cut standard.widths;
+        side_columns = standard.side_columns;
+        pad_columns = standard.pad_columns;
+        pad_rows = standard.pad_rows;
+        banks = standard.banks;
+      };
+      padded = rw cut (sym c.standard_widths-widths.ensures);
+      starts = sym c.starts_of.ensures;
+    }
 
-pub returns-in-K1 : goal.returns-in-K1
-unfolding standard_widths standard_side_columns standard_pad_columns standard_pad_rows standard_banks
-returns-in-K1 c = rw c.in-K1.is refl
-
-pub returns-in-K8 : goal.returns-in-K8
-unfolding standard_widths standard_side_columns standard_pad_columns standard_pad_rows standard_banks
-returns-in-K8 c = rw c.in-K8.is refl
+pub returns : goal.returns
+unfolding standard_side_columns standard_pad_columns standard_pad_rows standard_banks
+returns c = rw (standard-cut c.args.device c.standard_widths-widths.result c.standard_widths-widths.ensures) refl

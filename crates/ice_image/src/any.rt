@@ -3,7 +3,7 @@ ghost use Rattle.std.specs.Prelude.{◌≡◌, ◌+◌, ◌*◌, ◌<◌, ◌≤
 ghost use Rattle.bit_plane.specs.BitList.{word_bits, word_of, bits_of, bytes_of};
 ghost use Rattle.bit_plane.specs.Rows.{flat, rows_of};
 ghost use Rattle.plane_map.specs.Layout.{kind_of, columns_at, standard_layout, IsTileBit, IsWordBit, IsInCram};
-ghost use Rattle.ice_image.specs.Configuration.{place_bit, with_place_bit, blank_image, IsWhole};
+ghost use Rattle.ice_image.specs.Configuration.{place_bit, blank_image, IsWhole};
 ghost use Rattle.ice_image.specs.Contents.{IsBitOfTile};
 ghost use Rattle.ice_image.specs.Either.{configuration_of, device_of};
 ghost use Rattle.ice_image.specs.Extras.{AreSetExtras};
@@ -175,18 +175,6 @@ impl AnyImage {
         match self {
             AnyImage::K1(image) => image.cram_bit(at),
             AnyImage::K8(image) => image.cram_bit(at),
-        }
-    }
-
-    /// Sets the bit at a place of the configuration planes.
-    pub fn set_cram_bit(&mut self, at: Place, bit: bool)
-        requires { IsInCram (device_of self.old) at }
-        ensures device { device_of self.new ≡ device_of self.old }
-        ensures changed { configuration_of self.new ≡ record (configuration_of self.old) { cram = with_place_bit (configuration_of self.old).cram at bit } }
-    {
-        match self {
-            AnyImage::K1(image) => image.set_cram_bit(at, bit),
-            AnyImage::K8(image) => image.set_cram_bit(at, bit),
         }
     }
 

@@ -2,6 +2,7 @@
 ghost use Rattle.std.specs.Prelude.{◌≡◌, Some, IsTrue, All};
 ghost use Rattle.plane_map.specs.Layout.{kind_of, columns_at, IsTileBit, IsInCram};
 ghost use Rattle.ice_image.specs.Contents.{IsBitOfTile};
+ghost use Rattle.ice_image.specs.Either.{device_of};
 
 use crate::{AnyImage, Comment, Image, Range, Settings, is_comment_line};
 use bit_plane::{Bits, Tile};
@@ -99,6 +100,17 @@ fn a_new_image_has_the_usual_settings(rt: HostRuntime) {
     assert!(rt; is_new(rt.alloc(), DeviceName::K8, usual) == Ok(true));
 }
 
+/// Sets the bit at a place of the configuration planes.
+fn set_place(image: &mut AnyImage, place: Place, bit: bool)
+    requires { IsInCram (device_of image.old) place }
+    ensures { device_of image.new ≡ device_of image.old }
+{
+    match image {
+        AnyImage::K1(image) => image.set_cram_bit(place, bit),
+        AnyImage::K8(image) => image.set_cram_bit(place, bit),
+    }
+}
+
 /// Whether the bit of a tile is the bit at the place, one way and the other.
 fn is_at(image: &mut AnyImage, bit: TileBit, place: Place) -> bool {
     let device = image.device();
@@ -107,7 +119,7 @@ fn is_at(image: &mut AnyImage, bit: TileBit, place: Place) -> bool {
     }
     image.set_tile_bit(bit, true);
     let reaches = image.cram_bit(place);
-    image.set_cram_bit(place, false);
+    set_place(image, place, false);
     reaches && !image.tile_bit(bit)
 }
 
@@ -305,7 +317,7 @@ fn set_all(image: &mut AnyImage, places: &[Place]) -> bool {
         if !is_in_cram(image.device(), *place) {
             return false;
         }
-        image.set_cram_bit(*place, true);
+        set_place(image, *place, true);
     }
     true
 }

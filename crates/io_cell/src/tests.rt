@@ -7,7 +7,7 @@ use chipdb_reader::{ChipDb, read};
 use fabric_rules::{GlobalFrom, GlobalNet, Pin};
 use ice_image::AnyImage;
 use net_extract::links;
-use plane_map::{DeviceName, Hx1k, Place, TileBit, kind_at, tile_width};
+use plane_map::{DeviceName, Hx1k, TileBit, kind_at, tile_width};
 use std::alloc::Global;
 
 /// Two pins, a PLL, and a global with a pad and a tile.
@@ -105,15 +105,8 @@ fn database(alloc: Global, text: &[u8]) -> Option<ChipDb> {
 
 /// Lets the pad of global 2 of a 1k drive it.
 fn set_pad(image: &mut AnyImage, pad: bool) {
-    if image.device() == DeviceName::K1 {
-        image.set_cram_bit(
-            Place {
-                bank: 0,
-                px: 330,
-                py: 143,
-            },
-            pad,
-        );
+    if let Some(at) = image.extra_place(0, 330, 143) {
+        image.set_extra_bit(at, pad);
     }
 }
 

@@ -88,6 +88,7 @@ impl Layout {
     }
 
     /// Where a bit of a tile lies in the configuration planes.
+    #[inline(always)]
     pub fn cram_place(&self, x: u8, y: u8, row: u8, col: u8) -> Place
         requires row { row < 16 }
         requires col { col < columns_at self.now.device x y }

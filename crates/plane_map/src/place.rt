@@ -30,6 +30,7 @@ pub fn tile_width(kind: TileKind) -> usize
 
 /// Where a bit of a tile lies in the configuration planes of a layout.
 #[tactic(auto, using(crate::proofs::Places::place_is_only), unfolding(crate::specs::Layout::place_of))]
+#[inline(always)]
 pub(crate) fn place_on(layout: &Layout, bit: TileBit) -> Place
     requires { IsTileBit layout.now.device bit }
     ensures place { result ≡ place_of layout.now bit }

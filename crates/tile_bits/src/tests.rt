@@ -1,12 +1,12 @@
 // Small images explained, with texts worked out by hand.
 ghost use Rattle.std.specs.Prelude.{IsTrue};
-ghost use Rattle.plane_map.specs.Layout.{IsInCram};
+ghost use Rattle.plane_map.specs.Layout.{IsTileBit};
 
 use super::*;
 use crate::lines::append_number;
 use chipdb_reader::{ChipDb, read};
 use ice_image::AnyImage;
-use plane_map::{DeviceName, Place};
+use plane_map::{DeviceName, Hx1k, TileBit, kind_at, tile_width};
 use std::alloc::{AllocError, Global};
 
 /// Extra bits of a 1k, with two names for one place.
@@ -49,10 +49,11 @@ const SAID: &[u8] = b".device 1k\n.extra_bits\nfirst\nthird\nsecond\n? 1 331 7\n
 const NAMED: &[u8] = b".device 1k\n.logic_tile 1 1\nbuffer here in\n";
 
 /// The bit of that link.
-const LINKED: [Place; 1] = [Place {
-    bank: 0,
-    px: 18,
-    py: 16,
+const LINKED: [TileBit; 1] = [TileBit {
+    x: 1,
+    y: 1,
+    row: 0,
+    col: 0,
 }];
 
 /// A database, where the text isn't too long.
@@ -63,29 +64,32 @@ fn database(alloc: Global, text: &[u8]) -> Option<ChipDb> {
     read(alloc, text).ok()
 }
 
-fn is_in_small_cram(at: Place) -> bool
-    ensures { IsTrue result → IsInCram DeviceName.K1 at }
+fn is_tile_bit(bit: TileBit) -> bool
+    ensures { IsTrue result → IsTileBit DeviceName.K1 bit }
 {
-    at.bank < 4 && at.px < 332 && at.py < 144
+    match kind_at::<Hx1k>(u32::from(bit.x), u32::from(bit.y)) {
+        Some(kind) => bit.row < 16 && usize::from(bit.col) < tile_width(kind),
+        None => false,
+    }
 }
 
 /// Sets bits of a 1k.
-fn set_places(image: &mut AnyImage, places: &[Place]) {
-    for place in places {
-        if image.device() == DeviceName::K1 && is_in_small_cram(*place) {
-            image.set_cram_bit(*place, true);
+fn set_bits(image: &mut AnyImage, bits: &[TileBit]) {
+    for bit in bits {
+        if image.device() == DeviceName::K1 && is_tile_bit(*bit) {
+            image.set_tile_bit(*bit, true);
         }
     }
 }
 
 /// Whether an image of a 1k with these bits is explained so.
-fn is_explained(alloc: Global, text: &[u8], places: &[Place], said: &[u8]) -> bool {
+fn is_explained(alloc: Global, text: &[u8], bits: &[TileBit], said: &[u8]) -> bool {
     match (
         database(alloc, text),
         AnyImage::zeroed(alloc, DeviceName::K1),
     ) {
         (Some(db), Ok(mut image)) => {
-            set_places(&mut image, places);
+            set_bits(&mut image, bits);
             match explain(alloc, &db, &image, None) {
                 Ok(told) => told.as_slice() == said,
                 Err(_) => false,

@@ -1,6 +1,6 @@
 // Texts of images that are made by hand.
 
-use super::{BIT, EXTRA, is_in_cram, is_lower_ram, is_tile_bit};
+use super::{BIT, is_lower_ram, is_tile_bit};
 use crate::write;
 use ice_image::{AnyImage, Comment, Range, Settings, is_comment_line};
 use plane_map::DeviceName;
@@ -10,12 +10,14 @@ use std::test::Fail;
 /// Sets a bit of a tile, an extra bit and a word, where the device has them.
 fn set_bits(image: &mut AnyImage) {
     let device = image.device();
-    if !is_tile_bit(device, BIT) || !is_in_cram(device, EXTRA) || !is_lower_ram(device, 3, 1) {
+    if !is_tile_bit(device, BIT) || !is_lower_ram(device, 3, 1) {
         return;
     }
     image.set_tile_bit(BIT, true);
-    image.set_cram_bit(EXTRA, true);
     image.set_ram_word(3, 1, 0, 0x12af);
+    if let Some(at) = image.extra_place(0, 330, 143) {
+        image.set_extra_bit(at, true);
+    }
 }
 
 /// A comment of these lines, as far as a comment can have them.

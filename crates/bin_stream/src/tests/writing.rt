@@ -2,6 +2,7 @@
 ghost use Rattle.std.specs.Prelude.{IsTrue, ◌≡◌, Some};
 ghost use Rattle.plane_map.specs.Layout.{IsInCram, kind_of};
 ghost use Rattle.plane_map.specs.declared.tile.TileKind.TheVariants.{RamB};
+ghost use Rattle.ice_image.specs.Either.{device_of};
 
 use super::reading::is_in_cram;
 use crate::check_value::check_value;
@@ -148,13 +149,23 @@ fn is_ram(device: DeviceName, x: u8, y: u8) -> bool
     device == DeviceName::K1 && x == 3 && y == 1
 }
 
+/// Sets the bit at a place of the configuration planes.
+fn set_place(image: &mut AnyImage, at: Place)
+    requires { IsInCram (device_of image.old) at }
+{
+    match image {
+        AnyImage::K1(image) => image.set_cram_bit(at, true),
+        AnyImage::K8(image) => image.set_cram_bit(at, true),
+    }
+}
+
 /// Makes a change, where the image has room for it.
 fn make(image: &mut AnyImage, change: Change) {
     let device = image.device();
     match change {
         Change::Bit(at) => {
             if is_in_cram(device, at) {
-                image.set_cram_bit(at, true);
+                set_place(image, at);
             }
         }
         Change::Word(word, value) => {

@@ -21,8 +21,12 @@ use Rattle.bin_stream.specs.Meaning.{plane_bit, planes_of}
 use Rattle.bin_stream.specs.Spelling.{first_command, commands_from}
 use Rattle.bin_stream.specs.inside.Registers.{Held, Fits, held_after, settings_by, size_by, data_cause_by}
 use Rattle.bin_stream.specs.declared.fault.BinCause.{BinCause}
+use Rattle.bin_stream.specs.declared.fault.BinCause.TheVariants.{Truncated}
 use Rattle.bin_stream.specs.declared.fault.BinFault.{BinFault}
 use Rattle.bin_stream.specs.declared.fault.BinFault.TheVariants.{At, Memory}
+use Rattle.bin_stream.specs.declared.reading.head.Cursor.{Cursor}
+use Rattle.bin_stream.specs.declared.reading.machine.Entered.{Entered}
+use Rattle.bin_stream.specs.declared.reading.machine.Machine.{Machine}
 
 -- ---- faults
 
@@ -94,6 +98,22 @@ pub record IsEntered (layouts : Layouts) (commands : List Command) (offset : ℕ
   pub last_is : is_last ≡ is_wake_up (first_command commands bytes)
   pub reached : is_last ≡ true → held.reached ≡ true
   pub stands : Stands layouts (commands ++ first_command commands bytes ∷ []) held image
+
+-- the fault is that of the first command at a cursor, whatever came before it
+abbrev pub FailsAnyhow : Cursor → BinFault → Type 0
+FailsAnyhow at fault = (commands : List Command) → Refuses (first_fault commands at.offset at.bytes.now) fault
+
+-- the fault is that of the first command at a cursor behind commands that leave the machine
+abbrev pub FailsFirst : Machine → Cursor → BinFault → Type 0
+FailsFirst machine at fault = (commands : List Command) → Stands machine.layouts commands machine.registers machine.image → Refuses (first_fault commands at.offset at.bytes.now) fault
+
+-- the bytes at a cursor end within the first command
+abbrev pub EndsFirst : Machine → Cursor → Type 0
+EndsFirst machine at = (commands : List Command) → Stands machine.layouts commands machine.registers machine.image → first_fault commands at.offset at.bytes.now ≡ Some (fault_at (at.offset + length at.bytes.now) Truncated)
+
+-- the first command at a cursor was read, and leaves another machine
+abbrev pub EntersFirst : Machine → Cursor → Entered → Machine → Type 0
+EntersFirst machine at entered after = (commands : List Command) → Stands machine.layouts commands machine.registers machine.image → IsEntered machine.layouts commands at.offset at.bytes.now entered.size entered.is_last after.registers after.image
 
 -- Commands were read up to an offset, and registers and an image are what they leave.
 pub record HasRead (layouts : Layouts) (bytes : List ℕ) (start offset : ℕ) (held : Held) (image : Option AnyImage) : Type 0 where

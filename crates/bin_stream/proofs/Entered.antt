@@ -11,7 +11,9 @@ use Rattle.bin_stream.specs.Commands.{Command, Short, Data, number_of, spelling,
 use Rattle.bin_stream.specs.State.{size_after}
 use Rattle.bin_stream.specs.Refusals.{Fault, cause_if, fault_at, head_fault, first_fault, payload_fault, fault_where, body_fault, data_cause, data_fault, data_kind}
 use Rattle.bin_stream.specs.Spelling.{first_command, command_of}
-use Rattle.bin_stream.specs.inside.Heads.{head_of, payload_in, head_size, opcode_in, number_in}
+use Rattle.bin_stream.specs.inside.Heads.{head_of, payload_in, head_size, opcode_in, number_in, IsOf, Shows}
+use Rattle.bin_stream.specs.declared.reading.command.Command.{Command as Parsed}
+use Rattle.bin_stream.specs.declared.reading.command.Command.TheVariants.{Data as ParsedData, Short as ParsedShort}
 use Rattle.bin_stream.specs.declared.reading.command.ShortCommand.{ShortCommand}
 use Rattle.bin_stream.specs.declared.reading.command.ShortCommand.TheVariants.{Reset, WakeUp, Bank, Check, BootAddress, Range, Width, Height, Offset, Mode}
 use Rattle.bin_stream.specs.inside.Registers.{Held, held_after, short_cause_by, checked, after_short, data_cause_by, after_data}
@@ -53,6 +55,16 @@ short-no_data (Width number) = refl
 short-no_data (Height number) = refl
 short-no_data (Offset number) = refl
 short-no_data (Mode number) = refl
+
+-- what was read by an opcode and a number is the first command
+pub shows-first : (commands : List Command) (place : ℕ) (bytes : List ℕ) (parsed : Parsed) → head_fault place bytes ≡ None → IsOf (head_of bytes / 16) (number_of (payload_in bytes)) parsed → Shows (first_command commands bytes) parsed
+shows-first commands place bytes (ParsedData kind) fine is =
+    let command_is = read_command commands place bytes fine ∙ ap (λ kind. command_of commands (head_of bytes / 16) (payload_in bytes) kind (behind_payload bytes)) is in
+    subst (λ (command : Command). Shows command (ParsedData kind)) (sym command_is) refl
+shows-first commands place bytes (ParsedShort short) fine is =
+    let no_data : data_kind (head_of bytes / 16) (number_of (payload_in bytes)) ≡ None = ap₂ data_kind is.0 is.1 ∙ short-no_data short in
+    let command_is = read_command commands place bytes fine ∙ ap (λ kind. command_of commands (head_of bytes / 16) (payload_in bytes) kind (behind_payload bytes)) no_data in
+    subst (λ (command : Command). Shows command (ParsedShort short)) (sym command_is) is
 
 module _ (layouts : Layouts) (commands : List Command) (place size : ℕ) (bytes : List ℕ) (held : Held) (image : Option AnyImage) (fine : head_fault place bytes ≡ None) (size_is : size ≡ head_size bytes) (stands : Stands layouts commands held image) where
   abbrev opcode : ℕ

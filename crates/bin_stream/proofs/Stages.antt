@@ -116,7 +116,7 @@ module _ (layouts : Layouts) (bytes : List ℕ) (comment : Option (List (List �
       let here : Refuses (first_fault commands offset (drop offset bytes)) fault = subst (λ (rest : List ℕ). Refuses (first_fault commands offset rest) fault) (sym rest-is) wrong in
       subst (λ (read : Result Configuration Fault). Tells read fault) (sym read-is) (read_refused layouts bytes (length front + 4) offset held image has-read within fault here front)
 
-  -- and it is settled where more bytes can't mend it
+  -- and it is settled where it isn't that the input ended early
   pub reading-settled : (fault : BinFault) → Refuses (first_fault commands offset rest) fault → is_cut fault ≡ false → Settles (bin_read_of layouts bytes) fault
   reading-settled (At place cause) wrong firm = (reading-refused (At place cause) wrong, firm)
   reading-settled (Memory e) wrong firm = tt
@@ -241,7 +241,7 @@ pub read-image_stays : (layouts : Layouts) → AreLayouts layouts → (bytes mor
 read-image_stays layouts are bytes more image read =
     ((decided layouts are (bytes ++ more)).spelled image).0 (spells-grown layouts bytes more image (((decided layouts are bytes).spelled image).1 read))
 
--- a fault that no more bytes can mend stays
+-- a fault stays, unless it is that the input ended early
 fails-grown : (bytes more : List ℕ) (fault : Fault) → is_unfinished fault.cause ≡ false → FailsAt bytes fault → FailsAt (bytes ++ more) fault
 fails-grown bytes more fault firm fails = record {
   front = fails.front;

@@ -19,11 +19,13 @@ use Rattle.bin_stream.specs.State.{device_after}
 use Rattle.bin_stream.specs.Refusals.{Fault, fault_at, fault_where, body_fault, first_fault, device_where, reached_in}
 use Rattle.bin_stream.specs.Meaning.{plane_bit, planes_of}
 use Rattle.bin_stream.specs.Spelling.{first_command, commands_from}
+use Rattle.bin_stream.specs.inside.Heads.{Shows}
 use Rattle.bin_stream.specs.inside.Registers.{Held, Fits, held_after, settings_by, size_by, data_cause_by}
 use Rattle.bin_stream.specs.declared.fault.BinCause.{BinCause}
 use Rattle.bin_stream.specs.declared.fault.BinCause.TheVariants.{Truncated}
 use Rattle.bin_stream.specs.declared.fault.BinFault.{BinFault}
 use Rattle.bin_stream.specs.declared.fault.BinFault.TheVariants.{At, Memory}
+use Rattle.bin_stream.specs.declared.reading.command.Command.{Command as Parsed}
 use Rattle.bin_stream.specs.declared.reading.head.Cursor.{Cursor}
 use Rattle.bin_stream.specs.declared.reading.machine.Entered.{Entered}
 use Rattle.bin_stream.specs.declared.reading.machine.Machine.{Machine}
@@ -43,12 +45,17 @@ abbrev pub data_refusal : Held → Option DeviceName → PlaneKind → ℕ → �
 data_refusal held fixed kind offset start bytes =
     or_else (fault_where offset (data_cause_by held fixed kind)) (body_fault (size_by held) start bytes)
 
--- ---- the image
-
 -- the device of the image, where there is one
 abbrev pub device_if : Option AnyImage → Option DeviceName
 device_if None = None
 device_if (Some image) = Some (device_of image)
+
+-- what is wrong with data at a cursor, whose head has so many bytes
+abbrev pub data_fault_at : Machine → PlaneKind → Cursor → ℕ → Option Fault
+data_fault_at machine kind at start =
+    data_refusal machine.registers (device_if machine.image) kind at.offset (at.offset + start) (drop start at.bytes.now)
+
+-- ---- the image
 
 -- the image so far, or one of a layout without a bit
 abbrev pub image_or_blank : Layout → Option AnyImage → Configuration
@@ -98,6 +105,10 @@ pub record IsEntered (layouts : Layouts) (commands : List Command) (offset : ℕ
   pub last_is : is_last ≡ is_wake_up (first_command commands bytes)
   pub reached : is_last ≡ true → held.reached ≡ true
   pub stands : Stands layouts (commands ++ first_command commands bytes ∷ []) held image
+
+-- what was read is the first command at a cursor, whatever came before it
+abbrev pub ShowsFirst : Cursor → Parsed → Type 0
+ShowsFirst at parsed = (commands : List Command) → Shows (first_command commands at.bytes.now) parsed
 
 -- the fault is that of the first command at a cursor, whatever came before it
 abbrev pub FailsAnyhow : Cursor → BinFault → Type 0

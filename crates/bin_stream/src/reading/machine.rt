@@ -4,7 +4,7 @@ ghost use Rattle.layout_file.specs.Layouts.{AreLayouts};
 ghost use Rattle.ice_image.specs.Either.{configuration_of};
 ghost use Rattle.bin_stream.specs.Refusals.{device_where};
 ghost use Rattle.bin_stream.specs.inside.Registers.{Fits, size_by, after_data};
-ghost use Rattle.bin_stream.specs.inside.Step.{Refuses, data_refusal, device_if, image_or_blank, IsDrawnOn, FailsFirst, EntersFirst};
+ghost use Rattle.bin_stream.specs.inside.Step.{Refuses, data_fault_at, device_if, image_or_blank, IsDrawnOn, FailsFirst, EntersFirst};
 ghost use Rattle.bin_stream.specs.inside.Stages.{is_cut};
 
 use super::command::Command;
@@ -85,8 +85,8 @@ impl Machine {
         ensures within { IfOk result (λ size. size ≤ length at.entry.bytes.now) }
         ensures registers { IfOk result (λ size. self.new.registers ≡ after_data self.old.registers kind (take size at.entry.bytes.now)) }
         ensures drawn { IfOk result (λ size. IsDrawnOn self.old.layouts kind self.old.registers (take (size_by self.old.registers) (drop start at.entry.bytes.now)) self.old.image self.new.image) }
-        ensures allowed { IfOk result (λ size. data_refusal self.old.registers (device_if self.old.image) kind at.entry.offset (at.entry.offset + start) (drop start at.entry.bytes.now) ≡ None) }
-        ensures refused { IfErr result (Refuses (data_refusal self.old.registers (device_if self.old.image) kind at.entry.offset (at.entry.offset + start) (drop start at.entry.bytes.now))) }
+        ensures allowed { IfOk result (λ size. data_fault_at self.old kind at.entry start ≡ None) }
+        ensures refused { IfErr result (Refuses (data_fault_at self.old kind at.entry start)) }
         ensures same_registers { IfErr result (λ fault. is_cut fault ≡ true → self.new.registers ≡ self.old.registers) }
         ensures same_image { IfErr result (λ fault. is_cut fault ≡ true → self.new.image ≡ self.old.image) }
     {

@@ -1,10 +1,9 @@
 -- The first preamble of bytes that others follow.
-use Rattle.std.proofs.Common.{◌≡◌, ℕ, zero, suc, ◌+◌, ◌-◌, ◌<◌, ◌≤◌, ◌⊎◌, Bool, true, false, ◌&&◌, List, [], ◌∷◌, ◌++◌, length, take, drop, Option, Some, None, length-append, length-drop, drop-drop, append_assoc, take-append-drop, take_all, refl, sym, ap, ap₂, subst, ◌∙◌, inl, inr, arith}
+use Rattle.std.proofs.Common.{◌≡◌, ℕ, zero, suc, ◌+◌, ◌-◌, ◌<◌, ◌≤◌, Bool, true, false, ◌&&◌, List, [], ◌∷◌, ◌++◌, length, take, drop, Option, Some, None, length-append, length-drop, drop-drop, append_assoc, take-append-drop, take_all, refl, sym, ap, subst, ◌∙◌, inl, inr, arith}
 use Rattle.std.specs.Prelude.{bytes_eq, ◌==◌, IfSome}
-use Rattle.std.proofs.lemmas.Bool.{cases_lt, cases_eq, and_right, false_from_ne_true}
+use Rattle.std.proofs.lemmas.Bool.{cases_lt, cases_eq, and_right}
 use Rattle.std.proofs.lemmas.List.{take-append-le, drop-append-le, length-take, length-take-le, drop_at}
 use Rattle.std.proofs.lemmas.Slice.Eq.{bytes_eq-Decides}
-use Rattle.std.proofs.Math.Seq.{drop-nil}
 use Rattle.place_search.specs.Places.{least_below, or_here}
 use Rattle.place_search.proofs.Places.{least_below-first, least_below-none}
 use Rattle.bin_stream.specs.Front.{preamble, preamble_offset, is_preamble_at, comment_of}

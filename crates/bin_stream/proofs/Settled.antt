@@ -14,7 +14,7 @@ use Rattle.bin_stream.specs.declared.fault.BinCause.TheVariants.{Truncated, BadW
 use Rattle.plane_map.specs.declared.device.DeviceName.{DeviceName}
 use Rattle.bin_stream.proofs.OneCommand.{fault-head}
 
--- ---- causes that no more bytes can mend
+-- ---- causes other than that the input ended early
 
 abbrev pub IsFirmCause : Option BinCause → Type 0
 IsFirmCause None = Unit {0}
@@ -168,7 +168,7 @@ first-stays before place (head ∷ rest) more =
       ]
     ]
 
--- a fault that no more bytes can mend stays
+-- a fault stays, unless it is that the input ended early
 pub first_fault-stays : (before : List Command) (place : ℕ) (bytes more : List ℕ) (fault : Fault) → first_fault before place bytes ≡ Some fault → is_unfinished fault.cause ≡ false → first_fault before place (bytes ++ more) ≡ Some fault
 first_fault-stays before place bytes more fault wrong firm =
     elim (first-stays before place bytes more) [

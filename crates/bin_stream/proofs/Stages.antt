@@ -1,6 +1,5 @@
 -- What a decoder keeps, as commands are taken and bytes follow.
-use Rattle.std.proofs.Common.{◌≡◌, ℕ, suc, ◌+◌, ◌-◌, ◌<◌, ◌≤◌, ◌⊎◌, Bool, true, false, List, [], ◌∷◌, ◌++◌, length, take, drop, Option, Some, None, Result, Ok, Err, length-append, append_assoc, append-nil, drop-drop, refl, sym, ap, ap₂, subst, ◌∙◌, inl, inr, arith}
-use Rattle.std.proofs.lemmas.Bool.{cases_Bool}
+use Rattle.std.proofs.Common.{◌≡◌, ℕ, ◌+◌, ◌-◌, ◌<◌, ◌≤◌, Bool, true, false, List, [], ◌∷◌, ◌++◌, length, take, drop, Option, Some, None, Result, Ok, Err, length-append, append_assoc, drop-drop, refl, sym, ap, ap₂, subst, ◌∙◌, arith}
 use Rattle.std.proofs.lemmas.List.{take_at, drop_at, length-take-le}
 use Rattle.std.proofs.lemmas.List.Elements.{All-nil, All-cons, All-append}
 use Rattle.layout_file.specs.declared.layouts.Layouts.{Layouts}
@@ -11,12 +10,12 @@ use Rattle.ice_image.specs.declared.any.AnyImage.{AnyImage}
 use Rattle.bin_stream.specs.Commands.{Command, spelling, spelled, is_wake_up}
 use Rattle.bin_stream.specs.Refusals.{Fault, fault_at, first_fault}
 use Rattle.bin_stream.specs.Front.{preamble, preamble_offset, comment_of}
-use Rattle.bin_stream.specs.Spelling.{Spells, FailsAt, IsRefused, IsFront, IsAllowed, NoWakeUp, first_command, commands_from, image_of, bin_read_of, IsDecided, Tells}
+use Rattle.bin_stream.specs.Spelling.{Spells, FailsAt, IsRefused, first_command, commands_from, image_of, bin_read_of, IsDecided, Tells}
 use Rattle.bin_stream.specs.Settled.{is_unfinished, Settles, IsOpen}
 use Rattle.bin_stream.specs.Decoding.{StandsFor}
 use Rattle.bin_stream.specs.declared.reading.pieces.Decoder.{Decoder}
 use Rattle.bin_stream.specs.inside.Registers.{Held, held_first}
-use Rattle.bin_stream.specs.inside.Step.{Refuses, IsEntered, HasRead, IsFinished, Stands}
+use Rattle.bin_stream.specs.inside.Step.{Refuses, IsEntered, HasRead, Stands}
 use Rattle.bin_stream.specs.inside.Stages.{is_cut, KeepsPlain, IsReading, IsCut, IsWoken, IsStage, fault_in}
 use Rattle.bin_stream.specs.declared.fault.BinCause.TheVariants.{NoPreamble, Truncated}
 use Rattle.bin_stream.specs.declared.fault.BinFault.{BinFault}
@@ -35,7 +34,7 @@ use Rattle.bin_stream.proofs.Decided.{decided}
 -- ---- the first command
 
 -- nothing is read behind the preamble
-pub reading-first : (layouts : Layouts) (bytes : List ℕ) (place : ℕ) (comment : Option (List (List ℕ))) (held : Held) → preamble_offset bytes ≡ Some place → comment ≡ comment_of (take place bytes) → held ≡ held_first → IsReading layouts bytes comment held None (place + 4) (drop (place + 4) bytes)
+reading-first : (layouts : Layouts) (bytes : List ℕ) (place : ℕ) (comment : Option (List (List ℕ))) (held : Held) → preamble_offset bytes ≡ Some place → comment ≡ comment_of (take place bytes) → held ≡ held_first → IsReading layouts bytes comment held None (place + 4) (drop (place + 4) bytes)
 unfolding spelled
 reading-first layouts bytes place comment held is comment_is held_is =
     let splits = preamble_offset-splits bytes place is in
@@ -52,11 +51,16 @@ reading-first layouts bytes place comment held is comment_is held_is =
       offset_is = omega (arith, long);
     }
 
--- the same of bytes that are all at hand
-pub reading-whole : (layouts : Layouts) (bytes : List ℕ) (place : ℕ) (comment : Option (List (List ℕ))) (held : Held) → Some place ≡ preamble_offset bytes → comment ≡ comment_of (take place bytes) → held ≡ held_first → IsReading layouts bytes comment held None (0 + (place + 4)) (drop (place + 4) bytes)
-reading-whole layouts bytes place comment held is comment_is held_is =
-    let e : place + 4 ≡ 0 + (place + 4) = omega arith in
-    subst (λ (offset : ℕ). IsReading layouts bytes comment held None offset (drop (place + 4) bytes)) e (reading-first layouts bytes place comment held (sym is) comment_is held_is)
+-- the same rest at the same offset
+pub reading-at : (layouts : Layouts) (all : List ℕ) (comment : Option (List (List ℕ))) (held : Held) (image : Option AnyImage) (offset there : ℕ) (bytes rest : List ℕ) → there ≡ offset → rest ≡ bytes → IsReading layouts all comment held image offset bytes → IsReading layouts all comment held image there rest
+reading-at layouts all comment held image offset there bytes rest there_is rest_is reading =
+    subst (λ (offset : ℕ). IsReading layouts all comment held image offset rest) (sym there_is)
+    (subst (λ (bytes : List ℕ). IsReading layouts all comment held image offset bytes) (sym rest_is) reading)
+
+-- nothing is read at a cursor behind the preamble
+pub reading-begins : (layouts : Layouts) (bytes : List ℕ) (place : ℕ) (comment : Option (List (List ℕ))) (held : Held) → preamble_offset bytes ≡ Some place → comment ≡ comment_of (take place bytes) → held ≡ held_first → (there : ℕ) (rest : List ℕ) → there ≡ place + 4 → rest ≡ drop (place + 4) bytes → IsReading layouts bytes comment held None there rest
+reading-begins layouts bytes place comment held is comment_is held_is there rest there_is rest_is =
+    reading-at layouts bytes comment held None (place + 4) there (drop (place + 4) bytes) rest there_is rest_is (reading-first layouts bytes place comment held is comment_is held_is)
 
 module _ (layouts : Layouts) (bytes : List ℕ) (comment : Option (List (List ℕ))) (held : Held) (image : Option AnyImage) (offset : ℕ) (rest : List ℕ) (reading : IsReading layouts bytes comment held image offset rest) where
   abbrev commands : List Command
@@ -112,7 +116,7 @@ module _ (layouts : Layouts) (bytes : List ℕ) (comment : Option (List (List �
       let here : Refuses (first_fault commands offset (drop offset bytes)) fault = subst (λ (rest : List ℕ). Refuses (first_fault commands offset rest) fault) (sym rest-is) wrong in
       subst (λ (read : Result Configuration Fault). Tells read fault) (sym read-is) (read_refused layouts bytes (length front + 4) offset held image has-read within fault here front)
 
-  -- and it is settled where more bytes can't mend it
+  -- and it is settled where it isn't that the input ended early
   pub reading-settled : (fault : BinFault) → Refuses (first_fault commands offset rest) fault → is_cut fault ≡ false → Settles (bin_read_of layouts bytes) fault
   reading-settled (At place cause) wrong firm = (reading-refused (At place cause) wrong, firm)
   reading-settled (Memory e) wrong firm = tt
@@ -179,41 +183,40 @@ module _ (layouts : Layouts) (bytes : List ℕ) (comment : Option (List (List �
               ∙ ap (λ comment. Ok (record (configuration_of finished) { comment = comment })) (sym reading.comment_is);
         }
 
--- ---- commands that are taken off bytes from a place on
+-- ---- commands that are taken off bytes one after the other
 
-module _ (layouts taken_layouts : Layouts) (same : taken_layouts ≡ layouts) (all : List ℕ) (comment : Option (List (List ℕ))) (held : Held) (image : Option AnyImage) (offset place : ℕ) (bytes rest : List ℕ) (rest_is : rest ≡ drop place bytes) (reading : IsReading layouts all comment held image (offset + place) (drop place bytes)) where
+-- The commands are taken under layouts that are those of the start. What is left begins at a cursor.
+module _ (layouts taken_layouts : Layouts) (same : taken_layouts ≡ layouts) (all : List ℕ) (comment : Option (List (List ℕ))) (held : Held) (image : Option AnyImage) (offset there : ℕ) (bytes rest : List ℕ) (there_is : there ≡ offset) (rest_is : rest ≡ bytes) (read : IsReading layouts all comment held image offset bytes) where
+  abbrev reading : IsReading layouts all comment held image there rest
+  reading = reading-at layouts all comment held image offset there bytes rest there_is rest_is read
+
   stands-here : Stands taken_layouts reading.commands held image
   stands-here = subst (λ (layouts : Layouts). Stands layouts reading.commands held image) (sym same) reading.stands
 
-  pub taken-refused : (fault : BinFault) → ((commands : List Command) → Stands taken_layouts commands held image → Refuses (first_fault commands (offset + place) rest) fault) → is_cut fault ≡ false → Settles (bin_read_of layouts all) fault
-  taken-refused fault wrong firm =
-      reading-settled layouts all comment held image (offset + place) (drop place bytes) reading fault
-      (subst (λ (rest : List ℕ). Refuses (first_fault reading.commands (offset + place) rest) fault) rest_is (wrong reading.commands stands-here)) firm
+  pub taken-refused : (fault : BinFault) → ((commands : List Command) → Stands taken_layouts commands held image → Refuses (first_fault commands there rest) fault) → is_cut fault ≡ false → Settles (bin_read_of layouts all) fault
+  taken-refused fault wrong firm = reading-settled layouts all comment held image there rest reading fault (wrong reading.commands stands-here) firm
 
-  pub taken-cut : (after : Held) (shown : Option AnyImage) → after ≡ held → shown ≡ image → ((commands : List Command) → Stands taken_layouts commands held image → first_fault commands (offset + place) rest ≡ Some (fault_at (offset + place + length rest) Truncated)) → IsCut layouts all comment after shown (offset + place) (drop place bytes)
+  pub taken-cut : (after : Held) (shown : Option AnyImage) → after ≡ held → shown ≡ image → ((commands : List Command) → Stands taken_layouts commands held image → first_fault commands there rest ≡ Some (fault_at (there + length rest) Truncated)) → IsCut layouts all comment after shown offset bytes
   taken-cut after shown after_is shown_is wrong =
-      let here : IsCut layouts all comment held image (offset + place) (drop place bytes) = record {
-        reading = reading;
-        cut = subst (λ (rest : List ℕ). first_fault reading.commands (offset + place) rest ≡ Some (fault_at (offset + place + length rest) Truncated)) rest_is (wrong reading.commands stands-here);
-      } in
-      subst (λ (held : Held). IsCut layouts all comment held shown (offset + place) (drop place bytes)) (sym after_is)
-      (subst (λ (image : Option AnyImage). IsCut layouts all comment held image (offset + place) (drop place bytes)) (sym shown_is) here)
+      let here : IsCut layouts all comment held image there rest = record { reading = reading; cut = wrong reading.commands stands-here } in
+      let at : IsCut layouts all comment held image offset bytes =
+      subst (λ (offset : ℕ). IsCut layouts all comment held image offset bytes) there_is
+      (subst (λ (bytes : List ℕ). IsCut layouts all comment held image there bytes) rest_is here) in
+      subst (λ (held : Held). IsCut layouts all comment held shown offset bytes) (sym after_is)
+      (subst (λ (image : Option AnyImage). IsCut layouts all comment held image offset bytes) (sym shown_is) at)
 
-  module _ (size : ℕ) (is_last : Bool) (after : Held) (shown : Option AnyImage) (entered : (commands : List Command) → Stands taken_layouts commands held image → IsEntered taken_layouts commands (offset + place) rest size is_last after shown) where
-    entered-here : IsEntered layouts reading.commands (offset + place) (drop place bytes) size is_last after shown
+  module _ (size : ℕ) (is_last : Bool) (after : Held) (shown : Option AnyImage) (entered : (commands : List Command) → Stands taken_layouts commands held image → IsEntered taken_layouts commands there rest size is_last after shown) where
+    entered-here : IsEntered layouts reading.commands there rest size is_last after shown
     entered-here =
-        subst (λ (layouts : Layouts). IsEntered layouts reading.commands (offset + place) (drop place bytes) size is_last after shown) same
-        (subst (λ (rest : List ℕ). IsEntered taken_layouts reading.commands (offset + place) rest size is_last after shown) rest_is (entered reading.commands stands-here))
+        subst (λ (layouts : Layouts). IsEntered layouts reading.commands there rest size is_last after shown) same (entered reading.commands stands-here)
 
-    pub taken-more : is_last ≡ false → IsReading layouts all comment after shown (offset + (place + size)) (drop (place + size) bytes)
+    pub taken-more : is_last ≡ false → IsReading layouts all comment after shown (offset + size) (drop size bytes)
     taken-more goes =
-        let there : offset + place + size ≡ offset + (place + size) = omega arith in
-        subst (λ (rest : List ℕ). IsReading layouts all comment after shown (offset + (place + size)) rest) (drop-drop size place bytes)
-        (subst (λ (offset : ℕ). IsReading layouts all comment after shown offset (drop size (drop place bytes))) there
-        (reading-more layouts all comment held image (offset + place) (drop place bytes) reading size is_last after shown entered-here goes))
+        reading-at layouts all comment after shown (there + size) (offset + size) (drop size rest) (drop size bytes) (ap (λ offset. offset + size) (sym there_is)) (ap (drop size) (sym rest_is))
+        (reading-more layouts all comment held image there rest reading size is_last after shown entered-here goes)
 
     pub taken-woken : is_last ≡ true → IsWoken layouts all comment after shown
-    taken-woken last = reading-woken layouts all comment held image (offset + place) (drop place bytes) reading size is_last after shown entered-here last
+    taken-woken last = reading-woken layouts all comment held image there rest reading size is_last after shown entered-here last
 
 -- ---- bytes that are settled
 
@@ -238,7 +241,7 @@ pub read-image_stays : (layouts : Layouts) → AreLayouts layouts → (bytes mor
 read-image_stays layouts are bytes more image read =
     ((decided layouts are (bytes ++ more)).spelled image).0 (spells-grown layouts bytes more image (((decided layouts are bytes).spelled image).1 read))
 
--- a fault that no more bytes can mend stays
+-- a fault stays, unless it is that the input ended early
 fails-grown : (bytes more : List ℕ) (fault : Fault) → is_unfinished fault.cause ≡ false → FailsAt bytes fault → FailsAt (bytes ++ more) fault
 fails-grown bytes more fault firm fails = record {
   front = fails.front;
@@ -329,11 +332,7 @@ cut-pending layouts all comment held image offset rest pending cut is =
 
 -- ---- a front that ends
 
--- the preamble is found behind all bytes so far
-pub front-ends : (layouts : Layouts) (bytes : List ℕ) (place : ℕ) (comment : Option (List (List ℕ))) (held : Held) → preamble_offset bytes ≡ Some place → comment ≡ comment_of (take place bytes) → held ≡ held_first → IsReading layouts bytes comment held None (0 + (place + 4)) (drop (place + 4) bytes)
-front-ends layouts bytes place comment held is = reading-whole layouts bytes place comment held (sym is)
-
--- or behind the last three, at a place in a piece
+-- the preamble is found behind the last three bytes, at a place in a piece
 pub plain-ends : (layouts : Layouts) (bytes last piece : List ℕ) → KeepsPlain bytes last → (start : ℕ) (held : Held) → 0 < start → preamble_offset (last ++ piece) ≡ Some (start - 1) → held ≡ held_first → IsReading layouts (bytes ++ piece) None held None (length bytes + start) (drop start piece)
 plain-ends layouts bytes last piece keeps start held some is held_is =
     let all = bytes ++ piece in
@@ -346,12 +345,10 @@ plain-ends layouts bytes last piece keeps start held some is held_is =
     (subst (λ (rest : List ℕ). IsReading layouts all None held None (place + 4) rest) rest reading)
 
 -- bytes that follow those that are pending
-pub pending-grown : (layouts : Layouts) (bytes piece : List ℕ) (comment : Option (List (List ℕ))) (held : Held) (image : Option AnyImage) (fed : ℕ) (pending : List ℕ) → IsReading layouts bytes comment held image (fed - length pending) pending → (offset : ℕ) (shown : List ℕ) → offset ≡ fed - length pending → shown ≡ pending ++ piece → IsReading layouts (bytes ++ piece) comment held image (offset + 0) (drop 0 shown)
+pub pending-grown : (layouts : Layouts) (bytes piece : List ℕ) (comment : Option (List (List ℕ))) (held : Held) (image : Option AnyImage) (fed : ℕ) (pending : List ℕ) → IsReading layouts bytes comment held image (fed - length pending) pending → (offset : ℕ) (shown : List ℕ) → offset ≡ fed - length pending → shown ≡ pending ++ piece → IsReading layouts (bytes ++ piece) comment held image offset shown
 pending-grown layouts bytes piece comment held image fed pending reading offset shown offset_is shown_is =
-    let e : fed - length pending ≡ offset + 0 = omega (arith, offset_is) in
-    subst (λ (offset : ℕ). IsReading layouts (bytes ++ piece) comment held image offset shown) e
-    (subst (λ (rest : List ℕ). IsReading layouts (bytes ++ piece) comment held image (fed - length pending) rest) (sym shown_is)
-    (reading-grown layouts bytes comment held image (fed - length pending) pending reading piece))
+    reading-at layouts (bytes ++ piece) comment held image (fed - length pending) offset (pending ++ piece) shown offset_is shown_is
+    (reading-grown layouts bytes comment held image (fed - length pending) pending reading piece)
 
 -- what follows where nothing was taken yet
 pub begins-stage : (layouts other : Layouts) (all : List ℕ) (comment : Option (List (List ℕ))) (held : Held) (image : Option AnyImage) (offset : ℕ) (rest : List ℕ) (stage : Stage) → other ≡ layouts → image ≡ None → IsReading layouts all comment held None offset rest → (IsReading other all comment held image offset rest → IsStage other all stage) → IsStage layouts all stage

@@ -1,5 +1,5 @@
 -- A command in bytes, and what registers hold behind it.
-use Rattle.std.proofs.Common.{◌≡◌, ℕ, suc, ◌+◌, ◌*◌, ◌/◌, ◌%◌, Bool, true, false, ◌&&◌, ◌||◌, cond, List, [], ◌∷◌, ◌++◌, length, take, drop, get_or, refl, sym, ap, subst, ◌∙◌, arith, inl, inr, length-take-le}
+use Rattle.std.proofs.Common.{◌≡◌, ℕ, suc, ◌+◌, ◌*◌, ◌/◌, ◌%◌, Bool, true, false, ◌&&◌, ◌||◌, cond, List, [], ◌∷◌, ◌++◌, length, take, drop, refl, sym, ap, subst, ◌∙◌, arith, inl, inr, length-take-le}
 use Rattle.std.specs.Prelude.{Some, None, nat_lt, ◌==◌}
 use Rattle.std.proofs.lemmas.Bool.{cases_Bool, ltb-false, eqb-true}
 use Rattle.std.proofs.lemmas.List.Concat.{flat_map-append}
@@ -13,6 +13,7 @@ use Rattle.bin_stream.specs.Commands.{Command, Short, Data, number_of, spelling,
 use Rattle.bin_stream.specs.State.{last_of, width_after, covered}
 use Rattle.bin_stream.specs.Refusals.{fault_at, head_fault, first_fault, payload_fault, short_cause, short_cause_where, data_kind, reached_in}
 use Rattle.bin_stream.specs.Spelling.{first_command, command_of}
+use Rattle.bin_stream.specs.inside.Heads.{head_of, payload_in}
 use Rattle.bin_stream.specs.inside.Registers.{Held, held_after, held_first, short_cause_by, checked, after_short, gives_last_by, after_data}
 use Rattle.bin_stream.specs.declared.fault.BinCause.TheVariants.{Truncated, LongPayload}
 use Rattle.bin_stream.proofs.Powers.{check_value-nil, check_value-append}
@@ -20,14 +21,7 @@ use Rattle.bin_stream.proofs.OneMore.{last_of-more, width_after-more, covered-mo
 
 -- ---- the parts of a command in bytes
 
--- the first byte
-abbrev pub head_of : List ℕ → ℕ
-head_of bytes = get_or bytes 0 0
-
--- the payload, and the bytes behind it
-abbrev pub payload_in : List ℕ → List ℕ
-payload_in bytes = take (head_of bytes % 16) (drop 1 bytes)
-
+-- the bytes behind the payload
 abbrev pub behind_payload : List ℕ → List ℕ
 behind_payload bytes = drop (head_of bytes % 16) (drop 1 bytes)
 

@@ -2,6 +2,7 @@
 -- gives StandsFor or takes it, from no bytes on, so that none of what stands here need be believed.
 pub mod Register
 pub mod Opcodes
+pub mod Heads
 pub mod Registers
 pub mod Step
 pub mod Pieces

@@ -1,6 +1,6 @@
 // Reading a bitstream.
 
-mod data_kind;
+mod command;
 mod decoder;
 mod edge;
 mod front;

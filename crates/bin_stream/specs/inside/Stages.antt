@@ -1,5 +1,5 @@
 -- What a decoder keeps of the bytes so far.
-use Rattle.std.specs.Prelude.{◌≡◌, ◌≢◌, ℕ, ◌+◌, ◌-◌, ◌≤◌, Bool, true, false, List, ◌∷◌, [], ◌++◌, length, take, drop, bytes_eq, Option, Some, None, Result, Ok, Err}
+use Rattle.std.specs.Prelude.{◌≡◌, ◌≢◌, ℕ, ◌+◌, ◌-◌, ◌≤◌, Bool, false, List, ◌∷◌, [], ◌++◌, length, take, drop, bytes_eq, Option, Some, None, Result, Ok, Err}
 use Rattle.layout_file.specs.declared.layouts.Layouts.{Layouts}
 use Rattle.ice_image.specs.Either.{configuration_of}
 use Rattle.ice_image.specs.declared.any.AnyImage.{AnyImage}
@@ -13,8 +13,11 @@ use Rattle.bin_stream.specs.inside.Step.{Stands, IsFinished}
 use Rattle.bin_stream.specs.declared.fault.BinCause.TheVariants.{Truncated}
 use Rattle.bin_stream.specs.declared.fault.BinFault.{BinFault}
 use Rattle.bin_stream.specs.declared.fault.BinFault.TheVariants.{At, Memory}
+use Rattle.bin_stream.specs.declared.reading.head.Cursor.{Cursor}
+use Rattle.bin_stream.specs.declared.reading.machine.Machine.{Machine}
 use Rattle.bin_stream.specs.declared.reading.stage.Stage.{Stage}
 use Rattle.bin_stream.specs.declared.reading.stage.Stage.TheVariants.{Front, Plain, Commands, Image, Refused}
+use Rattle.bin_stream.specs.declared.reading.taking.Taken.{Taken}
 
 -- whether a fault is that the input ends too early
 abbrev pub is_cut : BinFault → Bool
@@ -65,6 +68,24 @@ pub record IsCut (layouts : Layouts) (bytes : List ℕ) (comment : Option (List 
 pub record IsWoken (layouts : Layouts) (bytes : List ℕ) (comment : Option (List (List ℕ))) (held : Held) (image : Option AnyImage) : Type 0 where
   pub is_there : image ≢ None
   pub read : (finished : AnyImage) → IsFinished held image finished → bin_read_of layouts bytes ≡ Ok (record (configuration_of finished) { comment = comment })
+
+-- ---- commands that are taken
+
+-- the machine is what commands leave up to a cursor
+abbrev pub ReadsAt : Machine → Cursor → List ℕ → Option (List (List ℕ)) → Type 0
+ReadsAt machine at bytes comment = IsReading machine.layouts bytes comment machine.registers machine.image at.offset at.bytes.now
+
+-- what was taken at a cursor leaves less than a command
+abbrev pub LeavesCut : Machine → Cursor → Taken → Type 0
+LeavesCut machine at taken = (bytes : List ℕ) (comment : Option (List (List ℕ))) → ReadsAt machine at bytes comment → IsCut machine.layouts bytes comment taken.machine.registers taken.machine.image (at.offset + taken.end) (drop taken.end at.bytes.now)
+
+-- what was taken at a cursor ends with the wake-up
+abbrev pub LeavesWoken : Machine → Cursor → Taken → Type 0
+LeavesWoken machine at taken = (bytes : List ℕ) (comment : Option (List (List ℕ))) → ReadsAt machine at bytes comment → IsWoken machine.layouts bytes comment taken.machine.registers taken.machine.image
+
+-- a fault at a cursor or behind it settles the bytes
+abbrev pub FailsBehind : Machine → Cursor → BinFault → Type 0
+FailsBehind machine at fault = (bytes : List ℕ) (comment : Option (List (List ℕ))) → ReadsAt machine at bytes comment → Settles (bin_read_of machine.layouts bytes) fault
 
 -- ---- stages
 

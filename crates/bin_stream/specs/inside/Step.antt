@@ -19,10 +19,16 @@ use Rattle.bin_stream.specs.State.{device_after}
 use Rattle.bin_stream.specs.Refusals.{Fault, fault_at, fault_where, body_fault, first_fault, device_where, reached_in}
 use Rattle.bin_stream.specs.Meaning.{plane_bit, planes_of}
 use Rattle.bin_stream.specs.Spelling.{first_command, commands_from}
+use Rattle.bin_stream.specs.inside.Heads.{Shows}
 use Rattle.bin_stream.specs.inside.Registers.{Held, Fits, held_after, settings_by, size_by, data_cause_by}
 use Rattle.bin_stream.specs.declared.fault.BinCause.{BinCause}
+use Rattle.bin_stream.specs.declared.fault.BinCause.TheVariants.{Truncated}
 use Rattle.bin_stream.specs.declared.fault.BinFault.{BinFault}
 use Rattle.bin_stream.specs.declared.fault.BinFault.TheVariants.{At, Memory}
+use Rattle.bin_stream.specs.declared.reading.command.Command.{Command as Parsed}
+use Rattle.bin_stream.specs.declared.reading.head.Cursor.{Cursor}
+use Rattle.bin_stream.specs.declared.reading.machine.Entered.{Entered}
+use Rattle.bin_stream.specs.declared.reading.machine.Machine.{Machine}
 
 -- ---- faults
 
@@ -39,12 +45,17 @@ abbrev pub data_refusal : Held → Option DeviceName → PlaneKind → ℕ → �
 data_refusal held fixed kind offset start bytes =
     or_else (fault_where offset (data_cause_by held fixed kind)) (body_fault (size_by held) start bytes)
 
--- ---- the image
-
 -- the device of the image, where there is one
 abbrev pub device_if : Option AnyImage → Option DeviceName
 device_if None = None
 device_if (Some image) = Some (device_of image)
+
+-- what is wrong with data at a cursor, whose head has so many bytes
+abbrev pub data_fault_at : Machine → PlaneKind → Cursor → ℕ → Option Fault
+data_fault_at machine kind at start =
+    data_refusal machine.registers (device_if machine.image) kind at.offset (at.offset + start) (drop start at.bytes.now)
+
+-- ---- the image
 
 -- the image so far, or one of a layout without a bit
 abbrev pub image_or_blank : Layout → Option AnyImage → Configuration
@@ -94,6 +105,26 @@ pub record IsEntered (layouts : Layouts) (commands : List Command) (offset : ℕ
   pub last_is : is_last ≡ is_wake_up (first_command commands bytes)
   pub reached : is_last ≡ true → held.reached ≡ true
   pub stands : Stands layouts (commands ++ first_command commands bytes ∷ []) held image
+
+-- what was read is the first command at a cursor, whatever came before it
+abbrev pub ShowsFirst : Cursor → Parsed → Type 0
+ShowsFirst at parsed = (commands : List Command) → Shows (first_command commands at.bytes.now) parsed
+
+-- the fault is that of the first command at a cursor, whatever came before it
+abbrev pub FailsAnyhow : Cursor → BinFault → Type 0
+FailsAnyhow at fault = (commands : List Command) → Refuses (first_fault commands at.offset at.bytes.now) fault
+
+-- the fault is that of the first command at a cursor behind commands that leave the machine
+abbrev pub FailsFirst : Machine → Cursor → BinFault → Type 0
+FailsFirst machine at fault = (commands : List Command) → Stands machine.layouts commands machine.registers machine.image → Refuses (first_fault commands at.offset at.bytes.now) fault
+
+-- the bytes at a cursor end within the first command
+abbrev pub EndsFirst : Machine → Cursor → Type 0
+EndsFirst machine at = (commands : List Command) → Stands machine.layouts commands machine.registers machine.image → first_fault commands at.offset at.bytes.now ≡ Some (fault_at (at.offset + length at.bytes.now) Truncated)
+
+-- the first command at a cursor was read, and leaves another machine
+abbrev pub EntersFirst : Machine → Cursor → Entered → Machine → Type 0
+EntersFirst machine at entered after = (commands : List Command) → Stands machine.layouts commands machine.registers machine.image → IsEntered machine.layouts commands at.offset at.bytes.now entered.size entered.is_last after.registers after.image
 
 -- Commands were read up to an offset, and registers and an image are what they leave.
 pub record HasRead (layouts : Layouts) (bytes : List ℕ) (start offset : ℕ) (held : Held) (image : Option AnyImage) : Type 0 where

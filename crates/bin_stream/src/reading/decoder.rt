@@ -5,7 +5,7 @@ ghost use Rattle.ice_image.specs.Either.{configuration_of};
 ghost use Rattle.bin_stream.specs.Spelling.{IsDecided, bin_read_of, Tells};
 
 use super::front::{comment_of, preamble_offset};
-use super::head::fault_at;
+use super::head::{Cursor, fault_at};
 use super::machine::Machine;
 use super::registers::Registers;
 use super::taking::{image_at_end, take_commands};
@@ -40,7 +40,8 @@ pub fn decode_with(alloc: Global, bytes: &[u8], layouts: Layouts) -> Result<AnyI
                 registers: Registers::new(),
                 image: None,
             };
-            let taken = take_commands(alloc, machine, 0, bytes, offset + PREAMBLE.len())?;
+            let at = Cursor::new(bytes).behind(offset + PREAMBLE.len());
+            let taken = take_commands(alloc, machine, at)?;
             if taken.is_last {
                 image_at_end(taken.machine, comment, bytes.len())
             } else {

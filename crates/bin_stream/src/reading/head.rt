@@ -1,10 +1,12 @@
 // Cutting a command into its parts.
-ghost use Rattle.std.specs.Prelude.{◌≡◌, ◌+◌, ◌%◌, ◌<◌, ◌≤◌, ◌^◌, None, IfOk, IfErr, length, take, drop, get_or};
+ghost use Rattle.std.specs.Prelude.{◌≡◌, ◌+◌, ◌/◌, ◌%◌, ◌<◌, ◌≤◌, ◌^◌, None, IfOk, IfErr, length, take, drop};
 ghost use Rattle.bin_stream.specs.Commands.{number_of};
 ghost use Rattle.bin_stream.specs.Refusals.{head_fault, body_fault, end_fault};
-ghost use Rattle.bin_stream.specs.inside.Step.{fault_of, Refuses};
+ghost use Rattle.bin_stream.specs.inside.Heads.{head_of, payload_in, head_size, IsOf};
+ghost use Rattle.bin_stream.specs.inside.Step.{fault_of, Refuses, ShowsFirst, FailsAnyhow};
 ghost use Rattle.bin_stream.specs.declared.fault.BinCause.TheVariants.{Truncated};
 
+use super::command::Command;
 use crate::fault::{BinCause, BinFault};
 
 /// How many bytes a payload may have.
@@ -20,6 +22,14 @@ pub(crate) fn fault_at(offset: usize, cause: BinCause) -> BinFault
     }
 }
 
+/// The head of a command: its first byte and its payload.
+#[derive(Clone, Copy)]
+pub(crate) struct Head {
+    pub(crate) command: Command,
+    /// How many bytes the head has.
+    pub(crate) size: usize,
+}
+
 /// Bytes of the input from an offset on.
 #[derive(Clone, Copy)]
 pub(crate) struct Cursor<'a> {
@@ -29,6 +39,14 @@ pub(crate) struct Cursor<'a> {
 }
 
 impl<'a> Cursor<'a> {
+    /// The bytes of the whole input.
+    pub(crate) fn new(bytes: &'a [u8]) -> Cursor<'a>
+        ensures offset { result.offset ≡ 0 }
+        ensures bytes { result.bytes.now ≡ bytes.entry.now }
+    {
+        Cursor { offset: 0, bytes }
+    }
+
     /// The bytes behind the first `count`.
     pub(crate) fn behind(self, count: usize) -> Cursor<'a>
         requires within { count ≤ length self.bytes.now }
@@ -50,12 +68,32 @@ impl<'a> Cursor<'a> {
         fault_at(self.offset + self.bytes.len(), BinCause::Truncated)
     }
 
-    /// The payload of the command at the head.
-    pub(crate) fn payload(self) -> Result<&'a [u8], BinFault>
+    /// The head of the first command.
+    pub(crate) fn head(self) -> Result<Head, BinFault>
         requires { self.offset + length self.bytes.now < 2 ^ 64 }
-        ensures payload { IfOk result (λ payload. payload.now ≡ take (get_or self.entry.bytes.now 0 0 % 16) (drop 1 self.entry.bytes.now)) }
+        ensures size { IfOk result (λ head. head.size ≡ head_size self.entry.bytes.now) }
+        ensures within { IfOk result (λ head. head.size ≤ length self.entry.bytes.now) }
+        ensures first { IfOk result (λ head. ShowsFirst self.entry head.command) }
+        ensures says { IfOk result (λ head. IsOf (head_of self.entry.bytes.now / 16) (number_of (payload_in self.entry.bytes.now)) head.command) }
+        ensures allowed { IfOk result (λ head. head_fault self.entry.offset self.entry.bytes.now ≡ None) }
+        ensures refused { IfErr result (FailsAnyhow self.entry) }
+    {
+        let payload = self.payload()?;
+        match Command::from_numbers(self.bytes[0] / 16, number_of(payload)) {
+            Some(command) => Ok(Head {
+                command,
+                size: 1 + payload.len(),
+            }),
+            None => Err(fault_at(self.offset, BinCause::UnknownCommand)),
+        }
+    }
+
+    /// The payload of the first command.
+    fn payload(self) -> Result<&'a [u8], BinFault>
+        requires { self.offset + length self.bytes.now < 2 ^ 64 }
+        ensures payload { IfOk result (λ payload. payload.now ≡ payload_in self.entry.bytes.now) }
         ensures within { IfOk result (λ payload. length payload.now < length self.entry.bytes.now) }
-        ensures long { IfOk result (λ payload. length payload.now ≡ get_or self.entry.bytes.now 0 0 % 16) }
+        ensures long { IfOk result (λ payload. length payload.now ≡ head_of self.entry.bytes.now % 16) }
         ensures allowed { IfOk result (λ payload. head_fault self.entry.offset self.entry.bytes.now ≡ None) }
         ensures refused { IfErr result (Refuses (head_fault self.entry.offset self.entry.bytes.now)) }
     {
@@ -104,7 +142,7 @@ impl<'a> Cursor<'a> {
 }
 
 /// The number that a payload is, the high byte first.
-pub(crate) fn number_of(payload: &[u8]) -> u32
+fn number_of(payload: &[u8]) -> u32
     requires { length payload.now < 5 }
     ensures { result ≡ number_of payload.now }
 {

@@ -1,20 +1,17 @@
 // Taking the commands of a bitstream, one after the other.
-ghost use Rattle.std.specs.Prelude.{List, ◌≡◌, ◌+◌, ◌*◌, ◌/◌, ◌%◌, ◌<◌, ◌≤◌, ◌^◌, ◌==◌, ◌&&◌, None, Some, true, IfOk, IfErr, length, take, drop, get_or};
+ghost use Rattle.std.specs.Prelude.{◌≡◌, ◌+◌, ◌*◌, ◌/◌, ◌<◌, ◌≤◌, ◌^◌, None, Some, true, IfOk, IfErr, length, take, drop};
 ghost use Rattle.layout_file.specs.Layouts.{AreLayouts};
 ghost use Rattle.ice_image.specs.Either.{configuration_of};
-ghost use Rattle.bin_stream.specs.Commands.{Command, control_opcode, wake_up_number};
-ghost use Rattle.bin_stream.specs.Refusals.{first_fault, device_where};
-ghost use Rattle.bin_stream.specs.inside.Opcodes.{opcode_number};
+ghost use Rattle.bin_stream.specs.Refusals.{device_where};
 ghost use Rattle.bin_stream.specs.inside.Registers.{Fits, size_by, after_data};
-ghost use Rattle.bin_stream.specs.inside.Step.{Refuses, data_refusal, device_if, image_or_blank, IsDrawnOn, Stands, IsEntered};
+ghost use Rattle.bin_stream.specs.inside.Step.{Refuses, data_fault_at, device_if, image_or_blank, IsDrawnOn, FailsFirst, EntersFirst};
 ghost use Rattle.bin_stream.specs.inside.Stages.{is_cut};
 
-use super::data_kind::data_kind;
-use super::head::{Cursor, fault_at, number_of};
+use super::command::Command;
+use super::head::{Cursor, Head, fault_at};
 use super::registers::Registers;
-use crate::fault::{BinCause, BinFault};
+use crate::fault::BinFault;
 use crate::marks::DATA_END;
-use crate::opcode::{Control, Opcode};
 use ice_image::{AnyImage, PlaneKind};
 use layout_file::Layouts;
 use plane_map::{DeviceName, Layout};
@@ -38,45 +35,36 @@ pub(crate) struct Machine {
 }
 
 impl Machine {
-    /// Takes the first command of these bytes, which begin at an offset of the input.
-    pub(crate) fn enter_command(
-        &mut self,
-        alloc: Global,
-        offset: usize,
-        bytes: &[u8],
-    ) -> Result<Entered, BinFault>
-        requires offset { offset + length bytes.now < 2 ^ 64 }
+    /// Takes the first command of these bytes.
+    pub(crate) fn enter_command(&mut self, alloc: Global, at: Cursor) -> Result<Entered, BinFault>
+        requires offset { at.offset + length at.bytes.now < 2 ^ 64 }
         requires layouts { AreLayouts self.old.layouts }
         ensures layouts { self.new.layouts ≡ self.old.layouts }
-        ensures within { IfOk result (λ entered. entered.size ≤ length bytes.now) }
+        ensures within { IfOk result (λ entered. entered.size ≤ length at.entry.bytes.now) }
         ensures some { IfOk result (λ entered. 0 < entered.size) }
-        ensures entered { IfOk result (λ entered. (commands : List Command) → Stands self.old.layouts commands self.old.registers self.old.image → IsEntered self.old.layouts commands offset bytes.now entered.size entered.is_last self.new.registers self.new.image) }
-        ensures refused { IfErr result (λ fault. (commands : List Command) → Stands self.old.layouts commands self.old.registers self.old.image → Refuses (first_fault commands offset bytes.now) fault) }
+        ensures entered { IfOk result (λ entered. EntersFirst self.old at.entry entered self.new) }
+        ensures refused { IfErr result (FailsFirst self.old at.entry) }
         ensures same_registers { IfErr result (λ fault. is_cut fault ≡ true → self.new.registers ≡ self.old.registers) }
         ensures same_image { IfErr result (λ fault. is_cut fault ≡ true → self.new.image ≡ self.old.image) }
     {
-        let at = Cursor { offset, bytes };
-        let payload = at.payload()?;
-        let start = 1 + payload.len();
-        let Some(opcode) = Opcode::from_number(bytes[0] / 16) else {
-            return Err(fault_at(offset, BinCause::UnknownCommand));
-        };
-        let number = number_of(payload);
-        match data_kind(opcode, number) {
-            Some(kind) => {
-                let size = self.enter_data(alloc, kind, at, start)?;
+        let Head { command, size } = at.head()?;
+        match command {
+            Command::Data(kind) => {
+                let size = self.enter_data(alloc, kind, at, size)?;
                 Ok(Entered {
                     size,
                     is_last: false,
                 })
             }
-            None => match self.registers.enter_short(opcode, number, &bytes[..start]) {
-                Ok(()) => Ok(Entered {
-                    size: start,
-                    is_last: is_wake_up(opcode, number),
-                }),
-                Err(cause) => Err(fault_at(offset, cause)),
-            },
+            Command::Short(command) => {
+                match self.registers.enter_short(command, &at.bytes[..size]) {
+                    Ok(()) => Ok(Entered {
+                        size,
+                        is_last: command.is_wake_up(),
+                    }),
+                    Err(cause) => Err(fault_at(at.offset, cause)),
+                }
+            }
         }
     }
 
@@ -97,8 +85,8 @@ impl Machine {
         ensures within { IfOk result (λ size. size ≤ length at.entry.bytes.now) }
         ensures registers { IfOk result (λ size. self.new.registers ≡ after_data self.old.registers kind (take size at.entry.bytes.now)) }
         ensures drawn { IfOk result (λ size. IsDrawnOn self.old.layouts kind self.old.registers (take (size_by self.old.registers) (drop start at.entry.bytes.now)) self.old.image self.new.image) }
-        ensures allowed { IfOk result (λ size. data_refusal self.old.registers (device_if self.old.image) kind at.entry.offset (at.entry.offset + start) (drop start at.entry.bytes.now) ≡ None) }
-        ensures refused { IfErr result (Refuses (data_refusal self.old.registers (device_if self.old.image) kind at.entry.offset (at.entry.offset + start) (drop start at.entry.bytes.now))) }
+        ensures allowed { IfOk result (λ size. data_fault_at self.old kind at.entry start ≡ None) }
+        ensures refused { IfErr result (Refuses (data_fault_at self.old kind at.entry start)) }
         ensures same_registers { IfErr result (λ fault. is_cut fault ≡ true → self.new.registers ≡ self.old.registers) }
         ensures same_image { IfErr result (λ fault. is_cut fault ≡ true → self.new.image ≡ self.old.image) }
     {
@@ -162,15 +150,5 @@ fn image_or_blank(
     match image {
         Some(image) => Ok(image),
         None => AnyImage::zeroed_with(alloc, layout),
-    }
-}
-
-/// Whether an opcode and a payload's number are those of the wake-up.
-fn is_wake_up(opcode: Opcode, number: u32) -> bool
-    ensures { result ≡ ((opcode_number opcode == control_opcode) && (number == wake_up_number)) }
-{
-    match opcode {
-        Opcode::Control => matches!(Control::from_number(number), Some(Control::WakeUp)),
-        _ => false,
     }
 }

@@ -1,17 +1,16 @@
 // What a decoder keeps of the commands so far.
 ghost use Rattle.std.specs.Prelude.{◌≡◌, ◌+◌, ◌*◌, ◌/◌, ◌%◌, ◌<◌, ◌≤◌, ◌^◌, ◌==◌, not, None, Some, IfOk, nat_lt};
 ghost use Rattle.plane_map.specs.declared.device.DeviceName.{DeviceName as Name};
-ghost use Rattle.bin_stream.specs.Refusals.{cause_if, is_mode, device_where, is_bad_height, control_cause, check_cause};
+ghost use Rattle.bin_stream.specs.Refusals.{cause_if, is_mode, device_where, is_bad_height, check_cause};
 ghost use Rattle.bin_stream.specs.State.{device_with};
 ghost use Rattle.bin_stream.specs.Meaning.{range_of};
-ghost use Rattle.bin_stream.specs.inside.Opcodes.{opcode_number};
-ghost use Rattle.bin_stream.specs.inside.Registers.{held_first, refusal_of, short_cause_by, checked, after_control, after_short, data_cause_by, gives_last_by, Fits, after_data, settings_by, size_by};
-ghost use Rattle.bin_stream.specs.declared.fault.BinCause.TheVariants.{BadBank, BadRange, BadMode};
+ghost use Rattle.bin_stream.specs.inside.Heads.{opcode_in, number_in};
+ghost use Rattle.bin_stream.specs.inside.Registers.{held_first, refusal_of, short_cause_by, checked, after_short, data_cause_by, gives_last_by, Fits, after_data, settings_by, size_by};
+ghost use Rattle.bin_stream.specs.declared.fault.BinCause.TheVariants.{BadBank, BadRange, BadMode, NoDevice};
 
-use super::data_kind::device_with;
+use super::command::ShortCommand;
 use crate::check_value::{START, enter_bytes};
 use crate::fault::BinCause;
-use crate::opcode::{Control, Opcode};
 use ice_image::{PlaneKind, Range, Settings};
 use plane_map::DeviceName;
 use std::marker::Model;
@@ -107,48 +106,41 @@ impl Registers {
         }
     }
 
-    /// Takes a command that isn't data: its opcode, its payload's number and its bytes.
+    /// Takes a command that isn't data, with all its bytes.
     pub(crate) fn enter_short(
         &mut self,
-        opcode: Opcode,
-        number: u32,
-        command: &[u8],
+        command: ShortCommand,
+        bytes: &[u8],
     ) -> Result<(), BinCause>
-        ensures allowed { refusal_of result ≡ short_cause_by (checked self.old command.now) (opcode_number opcode) number }
-        ensures entered { IfOk result (λ _. self.new ≡ after_short (checked self.old command.now) (opcode_number opcode) number) }
+        ensures allowed { refusal_of result ≡ short_cause_by (checked self.old bytes.now) (opcode_in command) (number_in command) }
+        ensures entered { IfOk result (λ _. self.new ≡ after_short (checked self.old bytes.now) (opcode_in command) (number_in command)) }
     {
-        self.check = enter_bytes(self.check, command);
-        match opcode {
-            Opcode::Control => self.enter_control(number),
-            Opcode::Bank => self.set_bank(number),
-            Opcode::Check => self.test_check(),
-            Opcode::BootAddress => Ok(()),
-            Opcode::Range => self.set_range(number),
-            Opcode::Width => self.set_width(number),
-            Opcode::Height => self.set_height(number),
-            Opcode::Offset => self.set_first_row(number),
-            Opcode::Mode => self.set_mode(number),
-        }
-    }
-
-    /// Resets the check value, or tests whether there is a device at the wake-up.
-    fn enter_control(&mut self, number: u32) -> Result<(), BinCause>
-        ensures allowed { refusal_of result ≡ control_cause self.old.reached number }
-        ensures entered { IfOk result (λ _. self.new ≡ after_control self.old number) }
-    {
-        match Control::from_number(number) {
-            Some(Control::Reset) => {
+        self.check = enter_bytes(self.check, bytes);
+        match command {
+            ShortCommand::Reset => {
                 self.check = START;
                 Ok(())
             }
-            Some(Control::WakeUp) => {
-                if self.reached {
-                    Ok(())
-                } else {
-                    Err(BinCause::NoDevice)
-                }
-            }
-            _ => Err(BinCause::UnknownCommand),
+            ShortCommand::WakeUp => self.test_device(),
+            ShortCommand::Bank(number) => self.set_bank(number),
+            ShortCommand::Check(_) => self.test_check(),
+            ShortCommand::BootAddress(_) => Ok(()),
+            ShortCommand::Range(number) => self.set_range(number),
+            ShortCommand::Width(number) => self.set_width(number),
+            ShortCommand::Height(number) => self.set_height(number),
+            ShortCommand::Offset(number) => self.set_first_row(number),
+            ShortCommand::Mode(number) => self.set_mode(number),
+        }
+    }
+
+    /// Tests that there is a device: some data reached the last row of a configuration plane.
+    fn test_device(&self) -> Result<(), BinCause>
+        ensures { refusal_of result ≡ cause_if (not self.now.reached) NoDevice }
+    {
+        if self.reached {
+            Ok(())
+        } else {
+            Err(BinCause::NoDevice)
         }
     }
 
@@ -291,5 +283,18 @@ fn range_of(number: u32) -> Range
         0 => Range::Low,
         1 => Range::Medium,
         _ => Range::High,
+    }
+}
+
+/// The device whose planes have that many columns.
+fn device_with(kind: PlaneKind, columns: usize) -> Option<DeviceName>
+    ensures { result ≡ device_with kind columns }
+{
+    if columns == kind.columns(DeviceName::K1) {
+        Some(DeviceName::K1)
+    } else if columns == kind.columns(DeviceName::K8) {
+        Some(DeviceName::K8)
+    } else {
+        None
     }
 }

@@ -3,11 +3,12 @@ ghost use Rattle.std.specs.Prelude.{List, ℕ, ◌≡◌, ◌+◌, ◌-◌, ◌<
 ghost use Rattle.layout_file.specs.Layouts.{AreLayouts};
 ghost use Rattle.bin_stream.specs.Front.{preamble_offset};
 ghost use Rattle.bin_stream.specs.inside.Registers.{held_first};
-ghost use Rattle.bin_stream.specs.inside.Stages.{begins_comment, IsPlain, KeepsFront, KeepsPlain, IsReading, IsCut, IsWoken, length_kept, IsStage, stage_of, fault_in};
+ghost use Rattle.bin_stream.specs.inside.Stages.{begins_comment, IsPlain, KeepsFront, KeepsPlain, IsReading, ReadsAt, IsCut, IsWoken, length_kept, IsStage, stage_of, fault_in};
 ghost use Rattle.bin_stream.specs.declared.fault.BinFault.{BinFault as Fault};
 
 use super::edge::{KEPT, last_behind, last_three, start_behind};
 use super::front::{comment_of, preamble_offset};
+use super::head::Cursor;
 use super::machine::Machine;
 use super::registers::Registers;
 use super::taking::{Taken, image_at_end, take_commands};
@@ -181,14 +182,8 @@ fn begun_stage(
     ensures stands { preamble_offset bytes.now ≡ Some place → IsStage layouts bytes.now (stage_of result) }
 {
     let comment = comment_of(alloc, &bytes[..place])?;
-    commands_after(
-        alloc,
-        first_machine(layouts),
-        comment,
-        0,
-        bytes,
-        place + PREAMBLE.len(),
-    )
+    let at = Cursor::new(bytes).behind(place + PREAMBLE.len());
+    commands_after(alloc, first_machine(layouts), comment, at)
 }
 
 /// The stage behind a piece where the bytes before it have no preamble and no comment, and end with three bytes.
@@ -205,7 +200,13 @@ fn plain_after(
     ensures stands { (bytes : List ℕ) → length bytes ≡ fed → KeepsPlain bytes last → IsStage layouts (bytes ++ piece.now) (stage_of result) }
 {
     match start_behind(last, piece) {
-        Some(start) => commands_after(alloc, first_machine(layouts), None, fed, piece, start),
+        Some(start) => {
+            let at = Cursor {
+                offset: fed,
+                bytes: piece,
+            };
+            commands_after(alloc, first_machine(layouts), None, at.behind(start))
+        }
         None => Ok(Stage::Plain {
             last: last_behind(last, piece),
         }),
@@ -241,34 +242,39 @@ fn pending_after(
     ensures stands { (bytes : List ℕ) → length bytes ≡ fed → IsReading machine.layouts bytes comment machine.registers machine.image (fed - length pending.items) pending.items → IsStage machine.layouts (bytes ++ piece.now) (stage_of result) }
 {
     if pending.is_empty() {
-        return commands_after(alloc, machine, comment, fed, piece, 0);
+        let at = Cursor {
+            offset: fed,
+            bytes: piece,
+        };
+        return commands_after(alloc, machine, comment, at);
     }
     let offset = fed - pending.len();
     let mut joined = pending;
     joined.extend_from_slice(piece)?;
-    let taken = take_commands(alloc, machine, offset, &joined, 0)?;
+    let at = Cursor {
+        offset,
+        bytes: &joined,
+    };
+    let taken = take_commands(alloc, machine, at)?;
     let left = left_of_vector(alloc, &taken, joined)?;
     stage_behind(taken, comment, fed, left)
 }
 
-/// The stage behind the whole commands that stand in bytes from `start` on. The bytes begin at an offset of the input.
+/// The stage behind the whole commands that bytes begin with.
 fn commands_after(
     alloc: Global,
     machine: Machine,
     comment: Option<Comment>,
-    offset: usize,
-    bytes: &[u8],
-    start: usize,
+    at: Cursor,
 ) -> Result<Stage, BinFault>
-    requires start { start ≤ length bytes.now }
-    requires offset { offset + length bytes.now < 2 ^ 64 }
+    requires offset { at.offset + length at.bytes.now < 2 ^ 64 }
     requires layouts { AreLayouts machine.layouts }
-    ensures room { length_kept (stage_of result) ≤ length bytes.now }
-    ensures stands { (all : List ℕ) → IsReading machine.layouts all comment machine.registers machine.image (offset + start) (drop start bytes.now) → IsStage machine.layouts all (stage_of result) }
+    ensures room { length_kept (stage_of result) ≤ length at.entry.bytes.now }
+    ensures stands { (bytes : List ℕ) → ReadsAt machine at.entry bytes comment → IsStage machine.layouts bytes (stage_of result) }
 {
-    let taken = take_commands(alloc, machine, offset, bytes, start)?;
-    let left = left_of(alloc, &taken, bytes)?;
-    stage_behind(taken, comment, offset, left)
+    let taken = take_commands(alloc, machine, at)?;
+    let left = left_of(alloc, &taken, at.bytes)?;
+    stage_behind(taken, comment, at.offset, left)
 }
 
 /// The stage behind commands that were taken, where such bytes are left.

@@ -1,23 +1,20 @@
 // Taking commands off bytes that may end within one.
-ghost use Rattle.std.specs.Prelude.{List, ℕ, ◌≡◌, ◌+◌, ◌<◌, ◌≤◌, ◌^◌, [], Option, None, Ok, true, false, IfOk, IfErr, length, drop};
+ghost use Rattle.std.specs.Prelude.{List, ℕ, ◌≡◌, ◌+◌, ◌<◌, ◌≤◌, ◌^◌, Ok, true, false, IfOk, IfErr, length};
 ghost use Rattle.layout_file.specs.Layouts.{AreLayouts};
 ghost use Rattle.layout_file.specs.declared.layouts.Layouts.{Layouts};
 ghost use Rattle.ice_image.specs.Either.{configuration_of};
-ghost use Rattle.bin_stream.specs.Commands.{Command};
-ghost use Rattle.bin_stream.specs.Refusals.{fault_at, first_fault};
 ghost use Rattle.bin_stream.specs.Settled.{Settles};
 ghost use Rattle.bin_stream.specs.Spelling.{bin_read_of};
-ghost use Rattle.bin_stream.specs.inside.Step.{Refuses, Stands, IsEntered};
-ghost use Rattle.bin_stream.specs.inside.Stages.{is_cut, IsReading, IsCut, IsWoken};
-ghost use Rattle.bin_stream.specs.declared.fault.BinCause.TheVariants.{Truncated};
+ghost use Rattle.bin_stream.specs.inside.Step.{FailsFirst, EndsFirst, EntersFirst};
+ghost use Rattle.bin_stream.specs.inside.Stages.{is_cut, LeavesCut, LeavesWoken, FailsBehind, IsWoken};
 
-use super::head::fault_at;
+use super::head::{Cursor, fault_at};
 use super::machine::{Entered, Machine};
 use crate::fault::{BinCause, BinFault};
 use ice_image::{AnyImage, Comment};
 use std::alloc::Global;
 
-/// What commands that were taken leave, and where they end.
+/// What commands that were taken leave, and how many bytes they have.
 #[derive(Drop)]
 pub(crate) struct Taken {
     pub(crate) machine: Machine,
@@ -26,39 +23,31 @@ pub(crate) struct Taken {
     pub(crate) is_last: bool,
 }
 
-/// Takes the commands that stand in bytes from `start` on, up to the wake-up or the last whole one. The bytes begin at an
-/// offset of the input.
-pub(crate) fn take_commands(
-    alloc: Global,
-    machine: Machine,
-    offset: usize,
-    bytes: &[u8],
-    start: usize,
-) -> Result<Taken, BinFault>
-    requires start { start ≤ length bytes.now }
-    requires offset { offset + length bytes.now < 2 ^ 64 }
+/// Takes the commands that bytes begin with, up to the wake-up or the last whole one.
+pub(crate) fn take_commands(alloc: Global, machine: Machine, at: Cursor) -> Result<Taken, BinFault>
+    requires offset { at.offset + length at.bytes.now < 2 ^ 64 }
     requires layouts { AreLayouts machine.layouts }
-    ensures within { IfOk result (λ taken. taken.end ≤ length bytes.now) }
-    ensures cut { IfOk result (λ taken. taken.is_last ≡ false → (all : List ℕ) (comment : Option (List (List ℕ))) → IsReading machine.layouts all comment machine.registers machine.image (offset + start) (drop start bytes.now) → IsCut machine.layouts all comment taken.machine.registers taken.machine.image (offset + taken.end) (drop taken.end bytes.now)) }
-    ensures woken { IfOk result (λ taken. taken.is_last ≡ true → (all : List ℕ) (comment : Option (List (List ℕ))) → IsReading machine.layouts all comment machine.registers machine.image (offset + start) (drop start bytes.now) → IsWoken machine.layouts all comment taken.machine.registers taken.machine.image) }
-    ensures refused { IfErr result (λ fault. (all : List ℕ) (comment : Option (List (List ℕ))) → IsReading machine.layouts all comment machine.registers machine.image (offset + start) (drop start bytes.now) → Settles (bin_read_of machine.layouts all) fault) }
+    ensures within { IfOk result (λ taken. taken.end ≤ length at.entry.bytes.now) }
+    ensures cut { IfOk result (λ taken. taken.is_last ≡ false → LeavesCut machine at.entry taken) }
+    ensures woken { IfOk result (λ taken. taken.is_last ≡ true → LeavesWoken machine at.entry taken) }
+    ensures refused { IfErr result (FailsBehind machine at.entry) }
 {
     let mut machine = machine;
-    let mut place = start;
+    let mut end = 0;
     loop {
-        let entered = enter_whole(&mut machine, alloc, offset + place, &bytes[place..])?;
+        let entered = enter_whole(&mut machine, alloc, at.behind(end))?;
         if entered.size == 0 {
             return Ok(Taken {
                 machine,
-                end: place,
+                end,
                 is_last: false,
             });
         }
-        place += entered.size;
+        end += entered.size;
         if entered.is_last {
             return Ok(Taken {
                 machine,
-                end: place,
+                end,
                 is_last: true,
             });
         }
@@ -66,24 +55,19 @@ pub(crate) fn take_commands(
 }
 
 /// Takes the first command of bytes, where it is whole; else its size is 0, and nothing changes.
-fn enter_whole(
-    machine: &mut Machine,
-    alloc: Global,
-    offset: usize,
-    bytes: &[u8],
-) -> Result<Entered, BinFault>
-    requires offset { offset + length bytes.now < 2 ^ 64 }
+fn enter_whole(machine: &mut Machine, alloc: Global, at: Cursor) -> Result<Entered, BinFault>
+    requires offset { at.offset + length at.bytes.now < 2 ^ 64 }
     requires layouts { AreLayouts machine.old.layouts }
     ensures layouts { machine.new.layouts ≡ machine.old.layouts }
-    ensures within { IfOk result (λ entered. entered.size ≤ length bytes.now) }
-    ensures entered { IfOk result (λ entered. 0 < entered.size → (commands : List Command) → Stands machine.old.layouts commands machine.old.registers machine.old.image → IsEntered machine.old.layouts commands offset bytes.now entered.size entered.is_last machine.new.registers machine.new.image) }
+    ensures within { IfOk result (λ entered. entered.size ≤ length at.entry.bytes.now) }
+    ensures entered { IfOk result (λ entered. 0 < entered.size → EntersFirst machine.old at.entry entered machine.new) }
     ensures registers { IfOk result (λ entered. entered.size ≡ 0 → machine.new.registers ≡ machine.old.registers) }
     ensures image { IfOk result (λ entered. entered.size ≡ 0 → machine.new.image ≡ machine.old.image) }
-    ensures cut { IfOk result (λ entered. entered.size ≡ 0 → (commands : List Command) → Stands machine.old.layouts commands machine.old.registers machine.old.image → first_fault commands offset bytes.now ≡ Some (fault_at (offset + length bytes.now) Truncated)) }
-    ensures refused { IfErr result (λ fault. (commands : List Command) → Stands machine.old.layouts commands machine.old.registers machine.old.image → Refuses (first_fault commands offset bytes.now) fault) }
+    ensures cut { IfOk result (λ entered. entered.size ≡ 0 → EndsFirst machine.old at.entry) }
+    ensures refused { IfErr result (FailsFirst machine.old at.entry) }
     ensures settled { IfErr result (λ fault. is_cut fault ≡ false) }
 {
-    match machine.enter_command(alloc, offset, bytes) {
+    match machine.enter_command(alloc, at) {
         Ok(entered) => Ok(entered),
         Err(fault) => {
             if is_cut(&fault) {

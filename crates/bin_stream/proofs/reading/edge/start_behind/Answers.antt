@@ -1,4 +1,4 @@
-use Rattle.std.proofs.Common.{◌≡◌, ℕ, List, Some, length, sym, ap, ◌∙◌, take, rules, arith}
+use Rattle.std.proofs.Common.{◌≡◌, Some, length, sym, ap, ◌∙◌, take, rules, arith}
 use Rattle.bin_stream.proofs.FrontGrown.{found-edge, start-behind_edge, none-behind_edge}
 use Rattle.bin_stream.proofs.reading.edge.start_behind.Goals as goal
 

@@ -1,4 +1,4 @@
-use Rattle.std.proofs.Common.{◌≡◌, ◌+◌, ◌-◌, ◌++◌, ◌∙◌, List, ℕ, length, drop, ap, sym, subst, arith, length-drop, take_all}
+use Rattle.std.proofs.Common.{◌≡◌, ◌-◌, ◌++◌, ◌∙◌, List, ℕ, length, drop, ap, sym, subst, arith, length-drop, take_all}
 use Rattle.std.specs.Prelude.{Some, None}
 use Rattle.bin_stream.specs.Front.{preamble_offset}
 use Rattle.bin_stream.specs.inside.Stages.{IsStage, stage_of}

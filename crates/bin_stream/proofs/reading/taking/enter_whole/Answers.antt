@@ -4,4 +4,4 @@ use Rattle.bin_stream.proofs.reading.taking.enter_whole.Goals as goal
 
 pub returns-then-is_cut-clause-cut : goal.returns-then-is_cut-clause-cut
 returns-then-is_cut-clause-cut c = λ _ commands stands.
-    refuses-cut commands c.args.offset c.args.bytes.now c.in-Err.fault (c.in-Err.ensures.refused commands stands) (search rules)
+    refuses-cut commands c.args.at.offset c.args.at.bytes.now c.in-Err.fault (c.in-Err.ensures.refused commands stands) (search rules)

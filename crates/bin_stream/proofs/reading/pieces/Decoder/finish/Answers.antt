@@ -1,6 +1,5 @@
-use Rattle.std.proofs.Common.{◌≡◌, subst}
+use Rattle.std.proofs.Common.{subst}
 use Rattle.bin_stream.specs.inside.Stages.{IsStage}
-use Rattle.bin_stream.specs.declared.reading.stage.Stage.{Stage}
 use Rattle.bin_stream.specs.declared.reading.stage.Stage.TheVariants.{Front, Plain, Commands}
 use Rattle.bin_stream.proofs.Stages.{front-told, cut-told, decided_for}
 use Rattle.bin_stream.proofs.reading.pieces.Decoder.finish.Goals as goal

@@ -1,0 +1,67 @@
+-- The head of a command, which is its first byte and its payload, and what it says.
+use Rattle.std.specs.Prelude.{◌≡◌, ℕ, ◌+◌, ◌%◌, Bool, List, length, take, drop, get_or, Some, None}
+use Rattle.bin_stream.specs.Commands.{Command, Short, Data, number_of, control_opcode, bank_opcode, check_opcode, boot_address_opcode, range_opcode, width_opcode, height_opcode, offset_opcode, mode_opcode, reset_number, wake_up_number}
+use Rattle.bin_stream.specs.Refusals.{data_kind, short_cause_where}
+use Rattle.bin_stream.specs.declared.fault.BinCause.TheVariants.{UnknownCommand}
+use Rattle.bin_stream.specs.declared.reading.command.Command.{Command as Parsed}
+use Rattle.bin_stream.specs.declared.reading.command.Command.TheVariants.{Data as ParsedData, Short as ParsedShort}
+use Rattle.bin_stream.specs.declared.reading.command.ShortCommand.{ShortCommand}
+use Rattle.bin_stream.specs.declared.reading.command.ShortCommand.TheVariants.{Reset, WakeUp, Bank, Check, BootAddress, Range, Width, Height, Offset, Mode}
+
+-- ---- in bytes
+
+-- the first byte
+abbrev pub head_of : List ℕ → ℕ
+head_of bytes = get_or bytes 0 0
+
+-- the payload
+abbrev pub payload_in : List ℕ → List ℕ
+payload_in bytes = take (head_of bytes % 16) (drop 1 bytes)
+
+-- how many bytes the head has
+abbrev pub head_size : List ℕ → ℕ
+head_size bytes = 1 + length (payload_in bytes)
+
+-- ---- as a command
+
+-- the opcode of a command that isn't data
+abbrev pub opcode_in : ShortCommand → ℕ
+opcode_in Reset = control_opcode
+opcode_in WakeUp = control_opcode
+opcode_in (Bank number) = bank_opcode
+opcode_in (Check number) = check_opcode
+opcode_in (BootAddress number) = boot_address_opcode
+opcode_in (Range number) = range_opcode
+opcode_in (Width number) = width_opcode
+opcode_in (Height number) = height_opcode
+opcode_in (Offset number) = offset_opcode
+opcode_in (Mode number) = mode_opcode
+
+-- the number of its payload
+abbrev pub number_in : ShortCommand → ℕ
+number_in Reset = reset_number
+number_in WakeUp = wake_up_number
+number_in (Bank number) = number
+number_in (Check number) = number
+number_in (BootAddress number) = number
+number_in (Range number) = number
+number_in (Width number) = number
+number_in (Height number) = number
+number_in (Offset number) = number
+number_in (Mode number) = number
+
+-- A command that was read is that of an opcode and of a payload with a number.
+abbrev pub IsOf : ℕ → ℕ → Parsed → Type 0
+IsOf opcode n (ParsedData kind) = data_kind opcode n ≡ Some kind
+IsOf opcode n (ParsedShort command) = (opcode ≡ opcode_in command) × (n ≡ number_in command)
+
+-- no command has that opcode and a payload with that number
+pub record IsUnknown (opcode n : ℕ) : Type 0 where
+  pub no_data : data_kind opcode n ≡ None
+  pub unknown : (reached : Bool) (found : ℕ) → short_cause_where reached found opcode n ≡ Some UnknownCommand
+
+-- A command that was read is that one. Of data its rows weren't read.
+abbrev pub Shows : Command → Parsed → Type 0
+Shows (Data kind payload body) (ParsedData other) = other ≡ kind
+Shows (Short opcode payload) (ParsedShort command) = (opcode ≡ opcode_in command) × (number_of payload ≡ number_in command)
+Shows command parsed = ⊥

@@ -1,0 +1,94 @@
+// What a command says, as far as its payload tells.
+ghost use Rattle.std.specs.Prelude.{◌≡◌, ◌==◌, ◌&&◌, MatchOption};
+ghost use Rattle.bin_stream.specs.Commands.{control_opcode, wake_up_number};
+ghost use Rattle.bin_stream.specs.inside.Opcodes.{opcode_number};
+ghost use Rattle.bin_stream.specs.inside.Heads.{opcode_in, number_in, IsOf, IsUnknown};
+
+use crate::opcode::{Control, Opcode};
+use ice_image::PlaneKind;
+
+/// A command. Of data this is what comes before their rows.
+#[derive(Clone, Copy)]
+pub(crate) enum Command {
+    /// Rows of a plane of that kind follow.
+    Data(PlaneKind),
+    /// A command without rows.
+    Short(ShortCommand),
+}
+
+/// A command without rows, with the number that its payload is.
+#[derive(Clone, Copy)]
+pub(crate) enum ShortCommand {
+    /// The CRC begins anew.
+    Reset,
+    /// The configuration ends.
+    WakeUp,
+    /// The bank of the data that follow.
+    Bank(u32),
+    /// Behind it the CRC has to be 0. The number is what makes it so.
+    Check(u32),
+    /// Where the device looks for the next image. It is passed over.
+    BootAddress(u32),
+    /// The range of the oscillator.
+    Range(u32),
+    /// The width of the data that follow in bits, less one.
+    Width(u32),
+    /// How many rows the data that follow have.
+    Height(u32),
+    /// The row at which the data that follow begin.
+    Offset(u32),
+    /// Warm boot and sleep.
+    Mode(u32),
+}
+
+impl Command {
+    /// The command that the number of an opcode and that of a payload make, where there is one.
+    pub(crate) fn from_numbers(opcode: u8, number: u32) -> Option<Command>
+        ensures { MatchOption result (IsUnknown opcode number) (IsOf opcode number) }
+    {
+        match Opcode::from_number(opcode) {
+            Some(opcode) => Command::of(opcode, number),
+            None => None,
+        }
+    }
+
+    /// The command of an opcode with the number of its payload, where there is one.
+    fn of(opcode: Opcode, number: u32) -> Option<Command>
+        ensures { MatchOption result (IsUnknown (opcode_number opcode) number) (IsOf (opcode_number opcode) number) }
+    {
+        let command = match opcode {
+            Opcode::Control => return Command::of_control(number),
+            Opcode::Bank => ShortCommand::Bank(number),
+            Opcode::Check => ShortCommand::Check(number),
+            Opcode::BootAddress => ShortCommand::BootAddress(number),
+            Opcode::Range => ShortCommand::Range(number),
+            Opcode::Width => ShortCommand::Width(number),
+            Opcode::Height => ShortCommand::Height(number),
+            Opcode::Offset => ShortCommand::Offset(number),
+            Opcode::Mode => ShortCommand::Mode(number),
+        };
+        Some(Command::Short(command))
+    }
+
+    /// The control command with the number of its payload, where there is one.
+    fn of_control(number: u32) -> Option<Command>
+        ensures { MatchOption result (IsUnknown control_opcode number) (IsOf control_opcode number) }
+    {
+        match Control::from_number(number) {
+            Some(Control::CramData) => Some(Command::Data(PlaneKind::Cram)),
+            Some(Control::BramData) => Some(Command::Data(PlaneKind::Bram)),
+            Some(Control::Reset) => Some(Command::Short(ShortCommand::Reset)),
+            Some(Control::WakeUp) => Some(Command::Short(ShortCommand::WakeUp)),
+            None => None,
+        }
+    }
+}
+
+impl ShortCommand {
+    /// Whether it is the wake-up.
+    pub(crate) fn is_wake_up(self) -> bool
+        ensures { result ≡ ((opcode_in self == control_opcode) && (number_in self == wake_up_number)) }
+    {
+        matches!(self, ShortCommand::WakeUp)
+    }
+}

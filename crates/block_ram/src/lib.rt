@@ -10,6 +10,3 @@ mod used;
 
 pub use fault::RamFault;
 pub use gather::rams;
-
-#[cfg(test)]
-mod tests;

@@ -17,6 +17,3 @@ pub use cycle::Cycle;
 pub use fault::FabricFault;
 pub use find::design;
 pub use kept::{Design, LinkEnds};
-
-#[cfg(test)]
-mod tests;

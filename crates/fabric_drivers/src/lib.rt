@@ -21,6 +21,3 @@ pub use fault::DriverFault;
 pub use gather::drivers;
 pub use kept::Drivers;
 pub use parts::{Buffer, Parts};
-
-#[cfg(test)]
-mod tests;

@@ -11,6 +11,3 @@ mod refused;
 pub use fault::PinFault;
 pub use gather::pins;
 pub use pin::PinSet;
-
-#[cfg(test)]
-mod tests;

@@ -11,6 +11,3 @@ mod ports;
 pub use cell::Cells;
 pub use fault::LcFault;
 pub use gather::cells;
-
-#[cfg(test)]
-mod tests;

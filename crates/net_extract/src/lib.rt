@@ -14,6 +14,3 @@ mod reads;
 pub use extract::links;
 pub use fault::LinkFault;
 pub use kept::Links;
-
-#[cfg(test)]
-mod tests;

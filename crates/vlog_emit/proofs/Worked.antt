@@ -123,3 +123,25 @@ read : read_items inverting ram ≡
     Read false (codes "io_0_1_0") (Bit true) (Whole (codes "n_2")) (codes "rd_3_1") (codes "mem_3_1") (Whole (codes "n_2") ∷ replicate 7 (Bit false)) ∷ []
 unfolding digits any_below least_below gathered_below word_of numbered_from is_joined class_of drives_of drivers_of is_driven turn_at end_within clock_end two_numbers three_numbers port_name flip_name register_name memory_name wire_name input_atom right_of class_right clock_name items_of module_of
 read = refl
+
+-- ---- names with numbers of several digits
+
+long_port : port_name (record input_pin { x = 33; y = 255; n = 10 }) ≡ codes "io_33_255_10"
+unfolding digits three_numbers port_name
+long_port = refl
+
+long_flip : flip_name (record toggle { x = 7; y = 16 }) ≡ codes "ff_7_16_0"
+unfolding digits three_numbers flip_name
+long_flip = refl
+
+long_register : register_name (record ram { x = 8; y = 17 }) ≡ codes "rd_8_17"
+unfolding digits two_numbers register_name
+long_register = refl
+
+long_memory : memory_name (record ram { x = 8; y = 17 }) ≡ codes "mem_8_17"
+unfolding digits two_numbers memory_name
+long_memory = refl
+
+long_wire : wire_name 4294967295 ≡ codes "n_4294967295"
+unfolding digits wire_name
+long_wire = refl

@@ -13,5 +13,3 @@ pub use whole::emit;
 
 #[cfg(test)]
 mod runs;
-#[cfg(test)]
-mod tests;

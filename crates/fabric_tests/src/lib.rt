@@ -1,0 +1,8 @@
+//! Tests of the crates from `net_extract` to `fabric`: what small databases and images give, with values worked out by hand. There is
+//! no other code.
+//!
+//! They stand in a crate of their own, since a crate is proved a second time together with its tests.
+#![tactic(auto)]
+
+#[cfg(test)]
+mod tests;

@@ -1,0 +1,279 @@
+// What a database and an image of a 1k give. A test is a table of cases; the functions below make the calls, one kind of call each.
+ghost use Rattle.std.specs.Prelude.{IsTrue};
+ghost use Rattle.plane_map.specs.Layout.{IsTileBit};
+
+mod cells;
+mod designs;
+mod drives;
+mod nets;
+mod pins;
+mod rams;
+
+use chipdb_reader::{ChipDb, read};
+use fabric::{Design, FabricFault, design};
+use fabric_drivers::Drive;
+use fabric_rules::{CarrySet, ClockUser, Driver, GlobalNet, Lc, Pin, RamCell};
+use ice_image::AnyImage;
+use net_extract::{Links, links};
+use plane_map::{DeviceName, Hx1k, Place, TileBit, kind_at, tile_width};
+use std::alloc::Global;
+
+/// A bit of a tile: x, y, row and column.
+type Bit = (u8, u8, u8, u8);
+
+/// The class of a net, and whether the net is read.
+type Net = (u32, bool);
+
+/// A database, the bits of an image of a 1k, and what they give.
+#[derive(Clone, Copy)]
+struct Case<'a> {
+    text: &'a [u8],
+    bits: &'a [Bit],
+    /// More bits.
+    more: &'a [Bit],
+    /// Whether the pad of global 2 drives it.
+    pad: bool,
+    gives: Gives<'a>,
+}
+
+impl<'a> Case<'a> {
+    /// A case without more bits, in which no pad drives global 2.
+    fn of(text: &'a [u8], bits: &'a [Bit], gives: Gives<'a>) -> Case<'a> {
+        Case {
+            text,
+            bits,
+            more: &[],
+            pad: false,
+            gives,
+        }
+    }
+}
+
+/// What a database and an image give.
+#[derive(Clone, Copy)]
+enum Gives<'a> {
+    /// The places of the links that are on, and all nets.
+    Links {
+        buffers: &'a [u32],
+        routings: &'a [u32],
+        nets: &'a [Net],
+    },
+    /// So many routings that are on, and one class of all nets, which are all read.
+    OneClass(usize),
+    /// A design with these parts.
+    Pins(&'a [Pin], &'a [GlobalNet]),
+    Cells(&'a [Lc], &'a [CarrySet]),
+    /// A design with one RAM, whose words are written at falling edges and read at falling edges.
+    Ram(bool, bool),
+    NoRam,
+    /// A design in which these drive the nets.
+    Drives(&'a [Option<Drive>]),
+    /// A design with two pins whose classes are written in this order.
+    Order(&'a [u32]),
+    /// No design, for this cause.
+    Refused(Cause<'a>),
+}
+
+/// Why there is no design.
+#[derive(Clone, Copy, PartialEq, Eq)]
+enum Cause<'a> {
+    Pll(u8, u8),
+    PinMode(u8, u8, u8, u8),
+    Mode(u8, u8, u8, u8),
+    Cascade(u8, u8),
+    Async(u8, u8, u8),
+    TwoDrivers(u32, Driver, Driver),
+    Loop(u32, &'a [u32]),
+    Clock(u8, u8, ClockUser, u32),
+    Other,
+}
+
+fn is_tile_bit(bit: TileBit) -> bool
+    ensures { IsTrue result → IsTileBit DeviceName.K1 bit }
+{
+    match kind_at::<Hx1k>(u32::from(bit.x), u32::from(bit.y)) {
+        Some(kind) => bit.row < 16 && usize::from(bit.col) < tile_width(kind),
+        None => false,
+    }
+}
+
+/// Sets a bit of a 1k.
+fn set_bit(image: &mut AnyImage, bit: TileBit) {
+    if image.device() == DeviceName::K1 && is_tile_bit(bit) {
+        image.set_tile_bit(bit, true);
+    }
+}
+
+/// Sets bits of a 1k.
+fn set_bits(image: &mut AnyImage, bits: &[Bit]) {
+    for (x, y, row, col) in bits {
+        set_bit(
+            image,
+            TileBit {
+                x: *x,
+                y: *y,
+                row: *row,
+                col: *col,
+            },
+        );
+    }
+}
+
+/// Lets the pad of global 2 of a 1k drive it.
+fn set_pad(image: &mut AnyImage, pad: bool) {
+    if let Some(at) = image.extra_place(0, 330, 143) {
+        image.set_extra_bit(at, pad);
+    }
+}
+
+/// The class of a net, and whether the net is read; none where there is no such net.
+fn net_at(links: &Links, net: u32) -> Option<Net> {
+    if (net as usize) < links.net_count() {
+        Some((links.class_of(net), links.is_read(net)))
+    } else {
+        None
+    }
+}
+
+/// Whether the nets from 0 on are these.
+fn are_nets(links: &Links, nets: &[Net]) -> bool {
+    let mut net = 0;
+    for expected in nets {
+        if net_at(links, net) != Some(*expected) {
+            return false;
+        }
+        net = net.saturating_add(1);
+    }
+    links.net_count() == nets.len()
+}
+
+/// Whether all nets are one class and all are read.
+fn are_one(links: &Links, count: u32) -> bool {
+    for net in 0..count {
+        if net_at(links, net) != Some((0, true)) {
+            return false;
+        }
+    }
+    links.net_count() == count as usize
+}
+
+fn has_links(links: &Links, count: u32, gives: Gives) -> bool {
+    match gives {
+        Gives::Links {
+            buffers,
+            routings,
+            nets,
+        } => { links.buffers() == buffers && links.routings() == routings && are_nets(links, nets) }
+        Gives::OneClass(on) => links.routings().len() == on && are_one(links, count),
+        _ => true,
+    }
+}
+
+/// Whether the links are those, where links are asked for.
+fn gives_links(alloc: Global, db: &ChipDb, image: &AnyImage, gives: Gives) -> bool {
+    match links(alloc, db, image) {
+        Ok(links) => has_links(&links, db.net_count(), gives),
+        Err(_) => false,
+    }
+}
+
+/// Whether these drive the nets from 0 on.
+fn are_drives(design: &Design, drives: &[Option<Drive>]) -> bool {
+    let mut net = 0;
+    for expected in drives {
+        if design.drive(net) != *expected {
+            return false;
+        }
+        net = net.saturating_add(1);
+    }
+    design.net_count() == drives.len()
+}
+
+/// Whether a RAM is that at (3, 1), with these edges and nets.
+fn is_ram(ram: &RamCell, wneg: bool, rneg: bool) -> bool {
+    (ram.x, ram.y, ram.wneg, ram.rneg) == (3, 1, wneg, rneg)
+        && ram.rdata[3] == Some(0)
+        && ram.wdata[15] == Some(2)
+        && ram.raddr[7] == Some(4)
+        && ram.rclk == Some(1)
+        && ram.wclk == Some(5)
+}
+
+fn are_rams(rams: &[RamCell], wneg: bool, rneg: bool) -> bool {
+    match rams {
+        [ram] => is_ram(ram, wneg, rneg),
+        _ => false,
+    }
+}
+
+fn has_parts(design: &Design, gives: Gives) -> bool {
+    match gives {
+        Gives::Pins(pins, globals) => design.pins() == pins && design.globals() == globals,
+        Gives::Cells(lcs, sets) => design.lcs() == lcs && design.sets() == sets,
+        Gives::Ram(wneg, rneg) => are_rams(design.rams(), wneg, rneg),
+        Gives::NoRam => design.rams().is_empty(),
+        Gives::Drives(drives) => are_drives(design, drives),
+        Gives::Order(order) => design.order() == order && design.pins().len() == 2,
+        _ => false,
+    }
+}
+
+fn cause_of(fault: &FabricFault) -> Cause {
+    match fault {
+        FabricFault::Pll { x, y } => Cause::Pll(*x, *y),
+        FabricFault::PinMode { x, y, pio, pintype } => Cause::PinMode(*x, *y, *pio, *pintype),
+        FabricFault::Mode { x, y, read, write } => Cause::Mode(*x, *y, *read, *write),
+        FabricFault::Cascade { x, y } => Cause::Cascade(*x, *y),
+        FabricFault::Async { x, y, i } => Cause::Async(*x, *y, *i),
+        FabricFault::TwoDrivers { net, first, second } => Cause::TwoDrivers(*net, *first, *second),
+        FabricFault::Loop { net, cycle } => Cause::Loop(*net, cycle.nets()),
+        FabricFault::Clock { x, y, user, net } => Cause::Clock(*x, *y, *user, *net),
+        FabricFault::Device | FabricFault::Memory(_) => Cause::Other,
+    }
+}
+
+fn is_refused(fault: &FabricFault, gives: Gives) -> bool {
+    match gives {
+        Gives::Refused(cause) => cause_of(fault) == cause,
+        _ => false,
+    }
+}
+
+/// Whether the design or the cause why there is none are those.
+fn gives_design(alloc: Global, db: &ChipDb, image: &AnyImage, gives: Gives) -> bool {
+    match design(alloc, db, image) {
+        Ok(design) => has_parts(&design, gives),
+        Err(fault) => is_refused(&fault, gives),
+    }
+}
+
+fn holds(alloc: Global, db: &ChipDb, image: &AnyImage, gives: Gives) -> bool {
+    match gives {
+        Gives::Links { .. } | Gives::OneClass(_) => gives_links(alloc, db, image, gives),
+        _ => gives_design(alloc, db, image, gives),
+    }
+}
+
+/// Whether a database and an image with the bits of a case give what it says.
+fn is_so_in(alloc: Global, db: &ChipDb, case: Case) -> bool {
+    match AnyImage::zeroed(alloc, DeviceName::K1) {
+        Ok(mut image) => {
+            set_bits(&mut image, case.bits);
+            set_bits(&mut image, case.more);
+            set_pad(&mut image, case.pad);
+            holds(alloc, db, &image, case.gives)
+        }
+        Err(_) => false,
+    }
+}
+
+/// Whether a case is as it says.
+fn is_so(alloc: Global, case: Case) -> bool {
+    if case.text.len() > 268_435_456 {
+        return false;
+    }
+    match read(alloc, case.text) {
+        Ok(db) => is_so_in(alloc, &db, case),
+        Err(_) => false,
+    }
+}

@@ -1,0 +1,100 @@
+// Orders of classes, loops and clocks.
+
+use super::{Bit, Case, Cause, Gives, is_so};
+use fabric_rules::{ClockUser, Driver};
+use std::alloc::Global;
+
+/// An inverter between two pins, in a loop of buffers that an image may close, with a clock.
+const INVERTER: &[u8] = b".device 1k 14 18 6
+.logic_tile_bits 54 16
+LC_0 B0[36] B0[37] B0[38] B0[39] B0[40] B0[41] B0[42] B0[43] B0[44] B0[45] B1[36] B1[37] B1[38] B1[39] B1[40] B1[41] B1[42] B1[43] B1[44] B1[45]
+NegClk B6[0]
+.io_tile_bits 18 16
+IOB_0.PINTYPE_0 B0[0]
+IOB_0.PINTYPE_1 B1[0]
+IOB_0.PINTYPE_2 B2[0]
+IOB_0.PINTYPE_3 B3[0]
+IOB_0.PINTYPE_4 B4[0]
+IOB_0.PINTYPE_5 B5[0]
+.net 0
+0 1 io_0/D_IN_0
+.net 1
+1 1 lutff_0/in_0
+.net 2
+1 1 lutff_0/out
+.net 3
+0 2 io_0/D_OUT_0
+.net 4
+1 1 lutff_global/clk
+.buffer 1 1 1 B2[0]
+1 0
+.buffer 0 2 3 B6[0]
+1 2
+.buffer 1 1 1 B3[0]
+1 2
+.buffer 1 1 4 B4[0] B5[0]
+10 2
+01 0
+";
+
+/// An input pin, an output pin, an inverter from in_0 to out, and the buffer from the inverter to the output pin.
+const PARTS: [Bit; 13] = [
+    (0, 1, 0, 0),
+    (0, 2, 0, 0),
+    (0, 2, 3, 0),
+    (0, 2, 4, 0),
+    (0, 2, 6, 0),
+    (1, 1, 0, 37),
+    (1, 1, 0, 39),
+    (1, 1, 0, 40),
+    (1, 1, 0, 42),
+    (1, 1, 1, 36),
+    (1, 1, 1, 38),
+    (1, 1, 1, 41),
+    (1, 1, 1, 43),
+];
+
+/// The buffer from the pin to in_0, the one from out to in_0, the flip-flop, the two that a clock may have, and falling edges.
+const FROM_PIN: Bit = (1, 1, 2, 0);
+
+const BACK: Bit = (1, 1, 3, 0);
+
+const FLIP: Bit = (1, 1, 0, 45);
+
+const CLOCK_OUT: Bit = (1, 1, 4, 0);
+
+const CLOCK_PIN: Bit = (1, 1, 5, 0);
+
+const FALLING: Bit = (1, 1, 6, 0);
+
+/// Whether the parts with some more bits give that.
+fn is_design(alloc: Global, more: &[Bit], gives: Gives) -> bool {
+    is_so(
+        alloc,
+        Case {
+            more,
+            ..Case::of(INVERTER, &PARTS, gives)
+        },
+    )
+}
+
+#[test]
+fn writes_classes_after_those_they_read(rt: HostRuntime) {
+    let clocked = [BACK, FLIP, CLOCK_PIN, FALLING];
+    assert!(rt; is_design(rt.alloc(), &[FROM_PIN], Gives::Order(&[0, 1, 2, 3])));
+    assert!(rt; is_design(rt.alloc(), &clocked, Gives::Order(&[0, 2, 1, 3, 4])));
+}
+
+#[test]
+fn refuses_with_the_least_cause(rt: HostRuntime) {
+    let cycle = Gives::Refused(Cause::Loop(1, &[1, 2]));
+    let clock = Gives::Refused(Cause::Clock(1, 1, ClockUser::Cell { i: 0 }, 4));
+    let twice = Gives::Refused(Cause::TwoDrivers(
+        1,
+        Driver::Link { line: 0 },
+        Driver::Link { line: 2 },
+    ));
+    assert!(rt; is_design(rt.alloc(), &[FROM_PIN, BACK], twice));
+    assert!(rt; is_design(rt.alloc(), &[BACK], cycle));
+    assert!(rt; is_design(rt.alloc(), &[FROM_PIN, FLIP, CLOCK_OUT], clock));
+}

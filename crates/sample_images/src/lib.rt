@@ -1,0 +1,10 @@
+//! Images and chip databases of a 1k for the tests of the crates above: no part of the program.
+//!
+//! A test names the bits of an image by numbers, and a database by its text.
+#![tactic(auto)]
+
+mod databases;
+mod images;
+
+pub use databases::{CELL, INVERTER, database};
+pub use images::{SampleBit, image_with, set_bits, set_extras};

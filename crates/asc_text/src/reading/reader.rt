@@ -163,9 +163,21 @@ impl Reader {
         ensures refused { IfErr result (Tells (fault_with (line_refusal (state_of self.old) self.old.expected (first_line text.now))
             number (tile_named (statement_of self.old.expected (first_line text.now))))) }
     {
-        if let Some(rest) = self.accept_plain(text) {
-            return Ok(rest);
+        match self.accept_plain(text) {
+            Some(rest) => Ok(rest),
+            None => self.accept_any(number, text),
         }
+    }
+
+    /// The same, whatever the line is.
+    #[inline(never)]
+    fn accept_any<'a>(&mut self, number: u64, text: &'a [u8]) -> Result<&'a [u8], AscFault>
+        requires ready { IsReady self.old.image self.old.expected }
+        requires some { 0 < length text.now }
+        ensures taken { IfOk result (λ rest. TakesFirst (state_of self.old) text.now rest.now (state_of self.new)) }
+        ensures refused { IfErr result (Tells (fault_with (line_refusal (state_of self.old) self.old.expected (first_line text.now))
+            number (tile_named (statement_of self.old.expected (first_line text.now))))) }
+    {
         match first_line(text) {
             Some(line) => {
                 self.accept(number, line.content)?;
@@ -177,6 +189,7 @@ impl Reader {
 
     /// The same where the first line is, as it mostly is, the row or the digits that are expected, with LF alone behind
     /// them. Nothing changes where it is something else.
+    #[inline(always)]
     fn accept_plain<'a>(&mut self, text: &'a [u8]) -> Option<&'a [u8]>
         requires ready { IsReady self.old.image self.old.expected }
         ensures { MatchOption result (state_of self.new ≡ state_of self.old)

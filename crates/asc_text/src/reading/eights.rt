@@ -14,6 +14,7 @@ pub(crate) struct LineNumber {
 }
 
 /// A line as a number, column c being worth 2^c, and whether it is one of the characters 0 and 1.
+#[inline(always)]
 pub(crate) fn line_number(line: &[u8]) -> LineNumber
     requires long { 8 ≤ length line.now }
     requires short { length line.now ≤ 64 }
@@ -31,6 +32,7 @@ pub(crate) fn line_number(line: &[u8]) -> LineNumber
 }
 
 /// The bytes of a line from a place on, which are eight or a multiple of it.
+#[inline(always)]
 fn in_eights(line: &[u8], start: usize) -> LineNumber
     requires within { start ≤ length line.now }
     requires whole { (length line.now - start) % 8 ≡ 0 }

@@ -151,46 +151,10 @@ impl Reader {
         })
     }
 
-    /// Takes the first line of a text, which has that number, and gives the text behind it.
-    pub(crate) fn accept_first<'a>(
-        &mut self,
-        number: u64,
-        text: &'a [u8],
-    ) -> Result<&'a [u8], AscFault>
-        requires ready { IsReady self.old.image self.old.expected }
-        requires some { 0 < length text.now }
-        ensures taken { IfOk result (λ rest. TakesFirst (state_of self.old) text.now rest.now (state_of self.new)) }
-        ensures refused { IfErr result (Tells (fault_with (line_refusal (state_of self.old) self.old.expected (first_line text.now))
-            number (tile_named (statement_of self.old.expected (first_line text.now))))) }
-    {
-        match self.accept_plain(text) {
-            Some(rest) => Ok(rest),
-            None => self.accept_any(number, text),
-        }
-    }
-
-    /// The same, whatever the line is.
-    #[inline(never)]
-    fn accept_any<'a>(&mut self, number: u64, text: &'a [u8]) -> Result<&'a [u8], AscFault>
-        requires ready { IsReady self.old.image self.old.expected }
-        requires some { 0 < length text.now }
-        ensures taken { IfOk result (λ rest. TakesFirst (state_of self.old) text.now rest.now (state_of self.new)) }
-        ensures refused { IfErr result (Tells (fault_with (line_refusal (state_of self.old) self.old.expected (first_line text.now))
-            number (tile_named (statement_of self.old.expected (first_line text.now))))) }
-    {
-        match first_line(text) {
-            Some(line) => {
-                self.accept(number, line.content)?;
-                Ok(line.rest)
-            }
-            None => Ok(text),
-        }
-    }
-
-    /// The same where the first line is, as it mostly is, the row or the digits that are expected, with LF alone behind
-    /// them. Nothing changes where it is something else.
+    /// Takes the first line of a text, and gives the text behind it, where the line is, as it mostly is, the row or the
+    /// digits that are expected, with LF alone behind them. Nothing changes where it is something else.
     #[inline(always)]
-    fn accept_plain<'a>(&mut self, text: &'a [u8]) -> Option<&'a [u8]>
+    pub(crate) fn accept_plain<'a>(&mut self, text: &'a [u8]) -> Option<&'a [u8]>
         requires ready { IsReady self.old.image self.old.expected }
         ensures { MatchOption result (state_of self.new ≡ state_of self.old)
             (λ rest. TakesFirst (state_of self.old) text.now rest.now (state_of self.new)) }
@@ -212,6 +176,28 @@ impl Reader {
                 Ok(()) => Some(rest),
                 Err(_) => None,
             },
+        }
+    }
+
+    /// The same, whatever the line is, which has that number.
+    #[inline(never)]
+    pub(crate) fn accept_any<'a>(
+        &mut self,
+        number: u64,
+        text: &'a [u8],
+    ) -> Result<&'a [u8], AscFault>
+        requires ready { IsReady self.old.image self.old.expected }
+        requires some { 0 < length text.now }
+        ensures taken { IfOk result (λ rest. TakesFirst (state_of self.old) text.now rest.now (state_of self.new)) }
+        ensures refused { IfErr result (Tells (fault_with (line_refusal (state_of self.old) self.old.expected (first_line text.now))
+            number (tile_named (statement_of self.old.expected (first_line text.now))))) }
+    {
+        match first_line(text) {
+            Some(line) => {
+                self.accept(number, line.content)?;
+                Ok(line.rest)
+            }
+            None => Ok(text),
         }
     }
 

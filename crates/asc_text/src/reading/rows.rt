@@ -1,5 +1,5 @@
 // The lines that follow the statement of a tile, of the contents of a RAM, or of a comment.
-ghost use Rattle.std.specs.Prelude.{◌≡◌, ℕ, true, false, MatchOption};
+ghost use Rattle.std.specs.Prelude.{◌≡◌, ℕ, ◌≤◌, true, false, MatchOption};
 ghost use Rattle.std.specs.List.{list_all};
 ghost use Rattle.asc_text.specs.Faults.{is_printable};
 ghost use Rattle.plane_map.specs.Layout.{columns_of};
@@ -7,14 +7,30 @@ ghost use Rattle.ice_image.specs.Bits.{number_bit};
 ghost use Rattle.asc_text.specs.Rows.{is_memory_line, is_row, memory_bytes, row_bit};
 
 use crate::reading::eights::line_number;
-use plane_map::{TileKind, tile_width};
+use plane_map::TileKind;
 
 /// A row of a tile of that kind as a number, column c being worth 2^c. None where the line is not such a row.
 pub(crate) fn row_ones(line: &[u8], kind: TileKind) -> Option<u64>
     ensures { MatchOption result (is_row (columns_of kind) line.now ≡ false)
         (λ ones. (is_row (columns_of kind) line.now ≡ true) × ((col : ℕ) → number_bit ones col ≡ row_bit line.now col)) }
 {
-    if line.len() != tile_width(kind) {
+    // Each width is written out, so that each has code of its own.
+    match kind {
+        TileKind::Io => ones_of(line, 18),
+        TileKind::Logic => ones_of(line, 54),
+        TileKind::RamB | TileKind::RamT => ones_of(line, 42),
+    }
+}
+
+/// The same of a tile with that many columns.
+#[inline(always)]
+fn ones_of(line: &[u8], width: usize) -> Option<u64>
+    requires long { 8 ≤ width }
+    requires short { width ≤ 64 }
+    ensures { MatchOption result (is_row width line.now ≡ false)
+        (λ ones. (is_row width line.now ≡ true) × ((col : ℕ) → number_bit ones col ≡ row_bit line.now col)) }
+{
+    if line.len() != width {
         return None;
     }
     let row = line_number(line);

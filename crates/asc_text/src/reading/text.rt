@@ -36,7 +36,10 @@ pub fn read_with(alloc: Global, bytes: &[u8], layouts: Layouts) -> Result<AscFil
     let mut left = bytes;
     let mut count = 0;
     while !left.is_empty() {
-        left = reader.accept_first(count + 1, left)?;
+        left = match reader.accept_plain(left) {
+            Some(rest) => rest,
+            None => reader.accept_any(count + 1, left)?,
+        };
         count += 1;
     }
     reader.finish(count + 1)

@@ -1,5 +1,5 @@
 // What the reader keeps between the lines of a text, and what a line changes.
-ghost use Rattle.std.specs.Prelude.{◌≡◌, ◌<◌, ◌==◌, ◌&&◌, [], Some, None, false, length, get_or, nat_lt, IfOk, IfErr, OnOk, MatchOption};
+ghost use Rattle.std.specs.Prelude.{◌≡◌, ◌<◌, ◌≤◌, ◌==◌, ◌&&◌, [], Some, None, false, length, get_or, nat_lt, IfOk, IfErr, OnOk, MatchOption};
 ghost use Rattle.ice_image.specs.Either.{configuration_of};
 ghost use Rattle.asc_text.specs.Statements.{begins_with_dot};
 
@@ -17,7 +17,7 @@ use ice_image::{AnyImage, Comment, Range, Settings};
 use layout_file::Layouts;
 use plane_map::{TileKind, tile_width};
 use std::alloc::{AllocError, Global};
-use text_lines::{first_line, trimmed};
+use text_lines::{first_line_near, trimmed};
 
 /// What the next line has to be.
 #[derive(Clone, Copy, Debug, PartialEq, Eq)]
@@ -45,7 +45,8 @@ impl Expected {
 
     /// How many bytes a row or digits have that are this.
     fn plain_len(self) -> usize
-        ensures { result ≡ plain_length self }
+        ensures is { result ≡ plain_length self }
+        ensures small { result ≤ 64 }
     {
         match self {
             Expected::Statement => 0,
@@ -192,7 +193,9 @@ impl Reader {
         ensures refused { IfErr result (Tells (fault_with (line_refusal (state_of self.old) self.old.expected (first_line text.now))
             number (tile_named (statement_of self.old.expected (first_line text.now))))) }
     {
-        match first_line(text) {
+        // In a text whose lines end with CR LF, a row or digits have one byte more before LF.
+        let len = self.expected.plain_len() + 1;
+        match first_line_near(text, len) {
             Some(line) => {
                 self.accept(number, line.content)?;
                 Ok(line.rest)

@@ -10,12 +10,12 @@ use crate::reading::eights::line_number;
 use plane_map::TileKind;
 
 /// A row of a tile of that kind as a number, column c being worth 2^c. None where the line is not such a row.
-#[inline(always)]
+#[inline(never)]
 pub(crate) fn row_ones(line: &[u8], kind: TileKind) -> Option<u64>
     ensures { MatchOption result (is_row (columns_of kind) line.now ≡ false)
         (λ ones. (is_row (columns_of kind) line.now ≡ true) × ((col : ℕ) → number_bit ones col ≡ row_bit line.now col)) }
 {
-    // Each width is written out, so that each has code of its own.
+    // Each width is written out, so that each has code of its own, without a loop.
     match kind {
         TileKind::Io => ones_of(line, 18),
         TileKind::Logic => ones_of(line, 54),

@@ -5,7 +5,7 @@ ghost use Rattle.bit_plane.specs.BitList.{word_of};
 ghost use Rattle.asc_text.specs.inside.RowNumbers.{is_bit, is_odd, bytes_number, AreEight};
 
 /// What bytes of a line give.
-#[derive(Clone, Copy, Debug, PartialEq, Eq)]
+#[derive(Drop)]
 pub(crate) struct LineNumber {
     /// Their lowest bits as a number, that of the first byte worth 1.
     pub(crate) ones: u64,
@@ -21,7 +21,7 @@ pub(crate) fn line_number(line: &[u8]) -> LineNumber
     ensures ones { result.ones ≡ word_of (map is_odd line.now) }
     ensures bits { result.are_bits ≡ list_all is_bit line.now }
 {
-    // The first eight bytes, some of which are among those behind them.
+    // The first eight bytes, of which those from `start` on are read a second time with the tail.
     let head = eight_at(line, 0);
     let start = line.len() % 8;
     let tail = in_eights(line, start);

@@ -180,7 +180,7 @@ impl Reader {
         }
     }
 
-    /// The same, whatever the line is, which has that number.
+    /// Takes the first line of a text, which has that number, whatever it is, and gives the text behind it.
     #[inline(never)]
     pub(crate) fn accept_any<'a>(
         &mut self,
@@ -200,6 +200,7 @@ impl Reader {
                 self.accept(number, line.content)?;
                 Ok(line.rest)
             }
+            // A text that is not empty has a line.
             None => Ok(text),
         }
     }

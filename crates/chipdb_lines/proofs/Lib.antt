@@ -1,3 +1,4 @@
 pub mod TableBits
 pub mod Values
 pub mod Heads
+pub mod Choices

@@ -2,3 +2,4 @@ pub mod TableBits
 pub mod Values
 pub mod Heads
 pub mod Choices
+pub mod Leading

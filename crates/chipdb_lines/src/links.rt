@@ -5,7 +5,7 @@ ghost use Rattle.plane_map.specs.Layout.{kind_of};
 ghost use Rattle.chipdb_lines.specs.Words.{has_none, is_values, words_in};
 ghost use Rattle.chipdb_lines.specs.Statements.{link_at, link_of_words};
 ghost use Rattle.chipdb_lines.specs.Items.{choice_by, choice_of};
-ghost use Rattle.chipdb_lines.specs.Kept.{choice_named, head_named, low_bits, Extends, IsListOf, Reads, Tells};
+ghost use Rattle.chipdb_lines.specs.Kept.{choice_named, head_named, low_bits, EndsLine, Extends, IsChoiceLine, IsListOf, Leads, Reads, Tells};
 
 use crate::bits::{BitList, push_bits};
 use crate::cause::{DbCause, Refusal};
@@ -145,6 +145,80 @@ fn parted_choice(nets: u32, values: &[u8], src: &[u8]) -> Option<Choice>
         }),
         _ => None,
     }
+}
+
+/// A line of a statement of links at the front of a text, and what stands behind it.
+#[derive(Clone, Copy, Debug)]
+pub struct ChoiceLine<'a> {
+    pub choice: Choice,
+    /// The text behind the line and its LF.
+    pub rest: &'a [u8],
+}
+
+/// The choice that the first line of a text says, where one space stands between the line's two words and LF right behind
+/// them: none of other lines, and none of a line with which something is wrong. It looks no further than the line.
+pub fn choice_line(nets: u32, count: usize, text: &[u8]) -> Option<ChoiceLine<'_>>
+    requires { count ≤ 64 }
+    ensures { IfSome result (IsChoiceLine nets count text.now) }
+{
+    match text.get(count) {
+        Some(b' ') if 0 < count => behind_values(nets, &text[..count], &text[count + 1..]),
+        _ => None,
+    }
+}
+
+/// The same, where these values and a space stand before the text.
+fn behind_values<'a>(nets: u32, values: &[u8], text: &'a [u8]) -> Option<ChoiceLine<'a>>
+    requires some { 0 < length values.now }
+    requires few { length values.now ≤ 64 }
+    ensures { IfSome result (IsChoiceLine nets (length values.now) (values.now ++ (32 ∷ text.now))) }
+{
+    let found = number_line(text)?;
+    if found.number < nets && are_values(values) {
+        Some(ChoiceLine {
+            choice: Choice {
+                src: found.number,
+                values: values_in(values),
+            },
+            rest: &text[found.digits + 1..],
+        })
+    } else {
+        None
+    }
+}
+
+/// A number at the front of a text, and how many digits write it.
+#[derive(Clone, Copy)]
+struct Leading {
+    number: u32,
+    digits: usize,
+}
+
+/// The number at the front of a text where LF stands right behind its one to nine digits.
+#[tactic(auto, using(crate::proofs::Leading::ends_line))]
+fn number_line(text: &[u8]) -> Option<Leading>
+    ensures { IfSome result (λ found. EndsLine text.now found.digits found.number) }
+{
+    let found = leading_number(text);
+    let end = found.digits;
+    if 0 < end && end < text.len() && text[end] == b'\n' {
+        Some(found)
+    } else {
+        None
+    }
+}
+
+/// The number that the digits at the front of a text write, at most nine of them.
+fn leading_number(text: &[u8]) -> Leading
+    ensures { Leads text.now result.digits result.number }
+{
+    let mut number = 0;
+    let mut digits = 0;
+    while digits < text.len() && digits < 9 && text[digits].is_ascii_digit() {
+        number = 10 * number + u32::from(text[digits] - b'0');
+        digits += 1;
+    }
+    Leading { number, digits }
 }
 
 /// What the words `VALUES SRC` say, whatever parts them.

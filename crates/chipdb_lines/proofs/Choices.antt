@@ -17,7 +17,7 @@ use Rattle.chipdb_lines.specs.declared.links.Choice.{Choice}
 use Rattle.chipdb_lines.specs.declared.links.ChoiceLine.{ChoiceLine}
 use Rattle.chipdb_lines.specs.Words.{has_none, own_words, words_in}
 use Rattle.chipdb_lines.specs.Items.{choice_of}
-use Rattle.chipdb_lines.specs.Kept.{choice_named, low_bits, AreParted, EndsLine, IsChoiceLine}
+use Rattle.chipdb_lines.specs.Kept.{choice_named, low_bits, AreParted, EndsLine, IsChoiceLine, WritesValues}
 use Rattle.chipdb_lines.proofs.Values.{and-left, and-right, list_all-at, value-byte}
 
 -- bytes all of which pass a test that no byte up to the space passes
@@ -90,10 +90,13 @@ parted-words (first ∷ values) src number some all is =
     }
 
 -- the first line of a text that begins with values, a space, and a number before LF
-pub choice-line : (nets : ℕ) (values text : List ℕ) (digits : ℕ) (found : ChoiceLine) → 0 < length values → list_all (λ byte. (byte == 48) || (byte == 49)) values ≡ true → EndsLine text digits found.choice.src
-    → found.choice.src < nets → low_bits (length values) found.choice.values ≡ map (λ byte. byte == 49) values → found.choice.values < 2 ^ length values
+pub choice-line : (nets : ℕ) (values text : List ℕ) (digits : ℕ) (found : ChoiceLine) → 0 < length values → WritesValues values 0 found.choice.values → EndsLine text digits found.choice.src → found.choice.src < nets
     → found.rest.now ≡ take (length text - (digits + 1)) (drop (digits + 1) text) → IsChoiceLine nets (length values) (values ++ (32 ∷ text)) found
-choice-line nets values text digits found some all ends lt bits small rest =
+choice-line nets values text digits found some checked ends lt rest =
+    let whole : length values - 0 ≡ length values = omega arith in
+    let all : list_all (λ byte. (byte == 48) || (byte == 49)) values ≡ true = checked.all in
+    let bits : low_bits (length values) found.choice.values ≡ map (λ byte. byte == 49) values = rw whole at checked.bits in
+    let small : found.choice.values < 2 ^ length values = rw whole at checked.small in
     let parted = parted-words values (take digits text) found.choice.src some all ends.number_is in
     let says = choice_of-parted nets values (take digits text) found.choice some all ends.number_is lt bits in
     let next : suc digits ≡ digits + 1 = omega arith in

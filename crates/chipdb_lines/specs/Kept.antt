@@ -1,5 +1,5 @@
 -- What is kept of lines: bits in one table, and lists of them by their places in it.
-use Rattle.std.specs.Prelude.{◌≡◌, ℕ, zero, suc, ◌+◌, ◌%◌, ◌/◌, ◌^◌, ◌<◌, ◌≤◌, Bool, true, false, List, [], ◌∷◌, ◌++◌, length, get_or, take, drop, ◌==◌, Option, Some, Result, Ok, Err}
+use Rattle.std.specs.Prelude.{◌≡◌, ℕ, zero, suc, ◌+◌, ◌-◌, ◌%◌, ◌/◌, ◌^◌, ◌<◌, ◌≤◌, Bool, true, false, ◌||◌, List, [], ◌∷◌, ◌++◌, length, get_or, take, drop, map, ◌==◌, Option, Some, Result, Ok, Err}
 use Rattle.std.specs.Result.{result_err, MatchResult}
 use Rattle.plane_map.specs.declared.tile.RowCol.{RowCol}
 use Rattle.chipdb_lines.specs.declared.cause.DbCause.{DbCause}
@@ -121,3 +121,10 @@ pub record Leads (text : List ℕ) (digits number : ℕ) : Type 0 where
   pub all : list_all is_ascii_digit (take digits text) ≡ true
   pub number_is : number ≡ digits_value (take digits text)
   pub small : number < 10 ^ digits
+
+-- a number that the bytes of a word write from a place on, each of them `0` or `1` and the first one the lowest bit
+pub record WritesValues (word : List ℕ) (left values : ℕ) : Type 0 where
+  pub within : left ≤ length word
+  pub all : list_all (λ byte. (byte == 48) || (byte == 49)) (drop left word) ≡ true
+  pub bits : low_bits (length word - left) values ≡ map (λ byte. byte == 49) (drop left word)
+  pub small : values < 2 ^ (length word - left)

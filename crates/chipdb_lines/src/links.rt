@@ -5,7 +5,7 @@ ghost use Rattle.plane_map.specs.Layout.{kind_of};
 ghost use Rattle.chipdb_lines.specs.Words.{has_none, is_values, words_in};
 ghost use Rattle.chipdb_lines.specs.Statements.{link_at, link_of_words};
 ghost use Rattle.chipdb_lines.specs.Items.{choice_by, choice_of};
-ghost use Rattle.chipdb_lines.specs.Kept.{choice_named, head_named, low_bits, EndsLine, Extends, IsChoiceLine, IsListOf, Leads, Reads, Tells};
+ghost use Rattle.chipdb_lines.specs.Kept.{choice_named, head_named, low_bits, EndsLine, Extends, IsChoiceLine, IsListOf, Leads, Reads, Tells, WritesValues};
 
 use crate::bits::{BitList, push_bits};
 use crate::cause::{DbCause, Refusal};
@@ -174,11 +174,12 @@ fn behind_values<'a>(nets: u32, values: &[u8], text: &'a [u8]) -> Option<ChoiceL
     ensures { IfSome result (IsChoiceLine nets (length values.now) (values.now ++ (32 ∷ text.now))) }
 {
     let found = number_line(text)?;
-    if found.number < nets && are_values(values) {
+    let values = checked_values(values)?;
+    if found.number < nets {
         Some(ChoiceLine {
             choice: Choice {
                 src: found.number,
-                values: values_in(values),
+                values,
             },
             rest: &text[found.digits + 1..],
         })
@@ -301,4 +302,22 @@ fn values_in(word: &[u8]) -> u64
         values = 2 * values + u64::from(word[left] - b'0');
     }
     values
+}
+
+/// The number whose lowest bits a word has, the lowest first: none where a byte is neither `0` nor `1`.
+fn checked_values(word: &[u8]) -> Option<u64>
+    requires { length word.now ≤ 64 }
+    ensures { IfSome result (λ values. WritesValues word.now 0 values) }
+{
+    let mut values = 0;
+    let mut left = word.len();
+    while 0 < left {
+        left -= 1;
+        let byte = word[left];
+        if !is_value(byte) {
+            return None;
+        }
+        values = 2 * values + u64::from(byte - b'0');
+    }
+    Some(values)
 }

@@ -1,3 +1,5 @@
 pub mod TableBits
 pub mod Values
 pub mod Heads
+pub mod Choices
+pub mod Leading

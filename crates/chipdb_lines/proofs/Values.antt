@@ -6,7 +6,7 @@ use Rattle.std.proofs.Math.Seq.{drop-cons, drop-length}
 use Rattle.std.specs.Prelude.{◌==◌, ◌≢◌}
 use Rattle.std.specs.List.{list_all}
 use Rattle.std.proofs.lemmas.Bool.Decides.{nat_tests}
-use Rattle.chipdb_lines.specs.Kept.{low_bits}
+use Rattle.chipdb_lines.specs.Kept.{low_bits, WritesValues}
 
 -- one bit more, as the lowest
 pub low_bits-more : (count number bit : ℕ) → bit < 2 → low_bits (suc count) (2 * number + bit) ≡ eqb bit 1 ∷ low_bits count number
@@ -62,15 +62,15 @@ Written-nothing word =
       small = rw none (lit< tt);
     }
 
--- one byte more is written
-pub Written-more : (word : List ℕ) (left values : ℕ) → Written word left values → 0 < left → list_all (λ byte. (byte == 48) || (byte == 49)) word ≡ true
+-- one byte more is written, which is a value
+pub Written-byte : (word : List ℕ) (left values : ℕ) → Written word left values → 0 < left → ((get_or word (left - 1) 0 == 48) || (get_or word (left - 1) 0 == 49)) ≡ true
     → Written word (left - 1) (2 * values + (get_or word (left - 1) 0 - 48))
-Written-more word left values written some digits =
+Written-byte word left values written some is =
     let byte = get_or word (left - 1) 0 in
     let count = length word - left in
     let within : left ≤ length word = written.within in
     let lt : left - 1 < length word = omega arith in
-    let digit = value-byte byte (list_all-at (λ b. (b == 48) || (b == 49)) word (left - 1) 0 digits lt) in
+    let digit = value-byte byte is in
     let next : suc (left - 1) ≡ left = omega arith in
     let longer : length word - (left - 1) ≡ suc count = omega arith in
     let split : drop (left - 1) word ≡ byte ∷ drop left word = rw next at (drop-cons word (left - 1) 0 lt) in
@@ -84,6 +84,13 @@ Written-more word left values written some digits =
       small = rw (longer, pow-succ' 2 count) (omega arith);
     }
 
+-- the same, where each byte is one
+pub Written-more : (word : List ℕ) (left values : ℕ) → Written word left values → 0 < left → list_all (λ byte. (byte == 48) || (byte == 49)) word ≡ true
+    → Written word (left - 1) (2 * values + (get_or word (left - 1) 0 - 48))
+Written-more word left values written some digits =
+    let within : left ≤ length word = written.within in
+    Written-byte word left values written some (list_all-at (λ b. (b == 48) || (b == 49)) word (left - 1) 0 digits (omega arith))
+
 -- there is room for one byte more
 pub Written-room : (word : List ℕ) (left values : ℕ) → Written word left values → 0 < left → length word ≤ 64 → 2 * values + 1 < 2 ^ 64
 Written-room word left values written some few =
@@ -93,3 +100,28 @@ Written-room word left values written some few =
     let more : count ≤ 63 = omega arith in
     let grown : 2 ^ count ≤ 2 ^ 63 = pow-le-pow_right (lit< tt) more in
     omega arith
+
+-- ---- values that are checked as they are read
+
+pub Checked-nothing : (word : List ℕ) → WritesValues word (length word) 0
+Checked-nothing word =
+    let nothing = Written-nothing word in
+    record { within = nothing.within; all = rw (drop-length word) refl; bits = nothing.bits; small = nothing.small }
+
+pub Checked-written : (word : List ℕ) (left values : ℕ) → WritesValues word left values → Written word left values
+Checked-written word left values checked = record { within = checked.within; bits = checked.bits; small = checked.small }
+
+pub Checked-more : (word : List ℕ) (left values byte : ℕ) → WritesValues word left values → 0 < left → byte ≡ get_or word (left - 1) 0 → ((byte == 48) || (byte == 49)) ≡ true
+    → WritesValues word (left - 1) (2 * values + (byte - 48))
+Checked-more word left values byte checked some here is =
+    let more = Written-byte word left values (Checked-written word left values checked) some (ap (λ b. (b == 48) || (b == 49)) (sym here) ∙ is) in
+    let within : left ≤ length word = checked.within in
+    let next : suc (left - 1) ≡ left = omega arith in
+    let split : drop (left - 1) word ≡ byte ∷ drop left word = rw next at (drop-cons word (left - 1) 0 (omega arith)) ∙ ap (λ b. b ∷ drop left word) (sym here) in
+    let number : 2 * values + (get_or word (left - 1) 0 - 48) ≡ 2 * values + (byte - 48) = ap (λ b. 2 * values + (b - 48)) (sym here) in
+    record {
+      within = more.within;
+      all = rw (split, is) checked.all;
+      bits = ap (low_bits (length word - (left - 1))) (sym number) ∙ more.bits;
+      small = rw number at more.small;
+    }

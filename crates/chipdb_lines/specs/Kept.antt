@@ -1,5 +1,5 @@
 -- What is kept of lines: bits in one table, and lists of them by their places in it.
-use Rattle.std.specs.Prelude.{◌≡◌, ℕ, zero, suc, ◌+◌, ◌%◌, ◌/◌, ◌≤◌, Bool, List, [], ◌∷◌, ◌++◌, take, drop, ◌==◌, Option, Some, Result, Ok, Err}
+use Rattle.std.specs.Prelude.{◌≡◌, ℕ, zero, suc, ◌+◌, ◌-◌, ◌%◌, ◌/◌, ◌^◌, ◌<◌, ◌≤◌, Bool, true, false, ◌||◌, List, [], ◌∷◌, ◌++◌, length, get_or, take, drop, map, ◌==◌, Option, Some, Result, Ok, Err}
 use Rattle.std.specs.Result.{result_err, MatchResult}
 use Rattle.plane_map.specs.declared.tile.RowCol.{RowCol}
 use Rattle.chipdb_lines.specs.declared.cause.DbCause.{DbCause}
@@ -8,6 +8,7 @@ use Rattle.chipdb_lines.specs.declared.cause.Refusal.TheVariants.{Cause, Memory}
 use Rattle.chipdb_lines.specs.declared.bits.BitList.{BitList}
 use Rattle.chipdb_lines.specs.declared.links.LinkHead.{LinkHead as KeptHead}
 use Rattle.chipdb_lines.specs.declared.links.Choice.{Choice}
+use Rattle.chipdb_lines.specs.declared.links.ChoiceLine.{ChoiceLine}
 use Rattle.chipdb_lines.specs.declared.functions.FunctionItem.{FunctionItem}
 use Rattle.chipdb_lines.specs.declared.functions.ExtraItem.{ExtraItem}
 use Rattle.chipdb_lines.specs.declared.names.NameItem.{NameItem}
@@ -15,7 +16,13 @@ use Rattle.plane_map.specs.declared.tile.TileKind.{TileKind}
 use Rattle.chipdb_lines.specs.declared.statements.Below.{Below}
 use Rattle.chipdb_lines.specs.declared.statements.Below.TheVariants.{Passed, Device, GlobalInputs, GlobalPins, Functions, ExtraBits, Names, Buffers, Routings}
 use Rattle.chipdb_lines.specs.Statements.{Block, passed, of_device, global_inputs, global_pins, functions, extra_bits, names, buffers, routings, LinkHead}
-use Rattle.chipdb_lines.specs.Items.{LinkChoice, FunctionLine, ExtraLine, NameLine}
+use Rattle.text_lines.specs.Lines.{lines_of}
+use Rattle.std.specs.Char.{is_ascii_digit}
+use Rattle.std.specs.List.{list_all}
+use Rattle.text_lines.specs.Words.{digits_value, number_of}
+use Rattle.text_lines.specs.Written.{IsPlain}
+use Rattle.chipdb_lines.specs.Words.{is_statement, own_words, words_in}
+use Rattle.chipdb_lines.specs.Items.{LinkChoice, choice_of, FunctionLine, ExtraLine, NameLine}
 
 -- the bits of a list
 abbrev pub bits_named : List RowCol → BitList → List RowCol
@@ -83,3 +90,41 @@ Tells said meaning told = MatchResult told (λ item. said ≡ Ok (meaning item))
 -- the same where no memory is taken
 abbrev pub Reads : {A B : Type 0} → Result A DbCause → (B → A) → Result B DbCause → Type 0
 Reads said meaning told = MatchResult told (λ item. said ≡ Ok (meaning item)) (λ cause. said ≡ Err cause)
+
+-- two words with one space between them are a line's words, and the line is plain
+pub record AreParted (first second : List ℕ) : Type 0 where
+  pub plain : IsPlain (first ++ (32 ∷ second))
+  pub words : words_in (first ++ (32 ∷ second)) ≡ first ∷ second ∷ []
+  pub own : own_words (first ++ (32 ∷ second)) ≡ first ∷ second ∷ []
+  pub item : is_statement (first ++ (32 ∷ second)) ≡ false
+
+-- the first line of a text, and what stands behind it, and the choice that the line says
+pub record IsChoiceLine (nets count : ℕ) (text : List ℕ) (found : ChoiceLine) : Type 0 where
+  pub values : List ℕ
+  pub src : List ℕ
+  pub parted : AreParted values src
+  pub lines : lines_of text ≡ (values ++ (32 ∷ src)) ∷ lines_of found.rest.now
+  pub shorter : length found.rest.now < length text
+  pub says : choice_of nets count (values ∷ src ∷ []) ≡ Ok (choice_named count found.choice)
+  pub small : found.choice.values < 2 ^ count
+
+-- a number at the front of a text, behind whose digits LF stands
+pub record EndsLine (text : List ℕ) (digits number : ℕ) : Type 0 where
+  pub number_is : number_of (take digits text) ≡ Some number
+  pub within : digits < length text
+  pub lf : get_or text digits 0 ≡ 10
+
+-- the number that the first digits write
+pub record Leads (text : List ℕ) (digits number : ℕ) : Type 0 where
+  pub within : digits ≤ length text
+  pub few : digits ≤ 9
+  pub all : list_all is_ascii_digit (take digits text) ≡ true
+  pub number_is : number ≡ digits_value (take digits text)
+  pub small : number < 10 ^ digits
+
+-- a number that the bytes of a word write from a place on, each of them `0` or `1` and the first one the lowest bit
+pub record WritesValues (word : List ℕ) (left values : ℕ) : Type 0 where
+  pub within : left ≤ length word
+  pub all : list_all (λ byte. (byte == 48) || (byte == 49)) (drop left word) ≡ true
+  pub bits : low_bits (length word - left) values ≡ map (λ byte. byte == 49) (drop left word)
+  pub small : values < 2 ^ (length word - left)

@@ -21,7 +21,7 @@ pub use cause::{DbCause, Refusal};
 pub use chip::Chip;
 pub use functions::{ExtraItem, FunctionItem, extra_item, function_item};
 pub use globals::{GlobalInput, GlobalPin, global_input, global_pin};
-pub use links::{Choice, LinkHead, choice_item};
+pub use links::{Choice, ChoiceLine, LinkHead, choice_item, choice_line};
 pub use names::{NameItem, name_item};
 pub use statements::{Below, statement};
 pub use words::{is_statement, own_words};

@@ -1,11 +1,11 @@
 // The statements `.buffer` and `.routing`, and their lines.
-ghost use Rattle.std.specs.Prelude.{◌≡◌, ◌≤◌, ◌<◌, ◌^◌, ◌∷◌, [], ℕ, map, ◌==◌, ◌||◌, length, IfOk, MatchOption, true, false};
+ghost use Rattle.std.specs.Prelude.{◌≡◌, ◌≤◌, ◌<◌, ◌^◌, ◌∷◌, ◌++◌, [], ℕ, map, ◌==◌, ◌||◌, length, IfOk, IfSome, MatchOption, true, false};
 ghost use Rattle.std.specs.List.{list_all};
 ghost use Rattle.plane_map.specs.Layout.{kind_of};
 ghost use Rattle.chipdb_lines.specs.Words.{has_none, is_values, words_in};
 ghost use Rattle.chipdb_lines.specs.Statements.{link_at, link_of_words};
 ghost use Rattle.chipdb_lines.specs.Items.{choice_by, choice_of};
-ghost use Rattle.chipdb_lines.specs.Kept.{choice_named, head_named, low_bits, Extends, IsListOf, Reads, Tells};
+ghost use Rattle.chipdb_lines.specs.Kept.{choice_named, head_named, low_bits, EndsLine, Extends, IsChoiceLine, IsListOf, Leads, Reads, Tells, WritesValues};
 
 use crate::bits::{BitList, push_bits};
 use crate::cause::{DbCause, Refusal};
@@ -107,8 +107,124 @@ fn link_into(
 }
 
 /// What the words `VALUES SRC` say below a statement with so many bits.
-#[tactic(auto, unfolding(crate::specs::Items::choice_of))]
 pub fn choice_item(nets: u32, count: usize, words: &[u8]) -> Result<Choice, DbCause>
+    requires { count ≤ 64 }
+    ensures says { Reads (choice_of nets count (words_in words.now)) (choice_named count) result }
+    ensures small { IfOk result (λ choice. choice.values < 2 ^ count) }
+{
+    match usual_choice(nets, count, words) {
+        Some(choice) => Ok(choice),
+        None => spaced_choice(nets, count, words),
+    }
+}
+
+/// The same, where one space stands between the two words and none else: none of other words, and none of words with which
+/// something is wrong.
+fn usual_choice(nets: u32, count: usize, words: &[u8]) -> Option<Choice>
+    requires { count ≤ 64 }
+    ensures says { IfSome result (λ choice. choice_of nets count (words_in words.now) ≡ Ok (choice_named count choice)) }
+    ensures small { IfSome result (λ choice. choice.values < 2 ^ count) }
+{
+    match words.get(count) {
+        Some(b' ') if 0 < count => parted_choice(nets, &words[..count], &words[count + 1..]),
+        _ => None,
+    }
+}
+
+/// The choice that two words say with a space between them.
+fn parted_choice(nets: u32, values: &[u8], src: &[u8]) -> Option<Choice>
+    requires some { 0 < length values.now }
+    requires few { length values.now ≤ 64 }
+    ensures says { IfSome result (λ choice. choice_of nets (length values.now) (words_in (values.now ++ (32 ∷ src.now))) ≡ Ok (choice_named (length values.now) choice)) }
+    ensures small { IfSome result (λ choice. choice.values < 2 ^ length values.now) }
+{
+    match number(src) {
+        Some(src) if src < nets && are_values(values) => Some(Choice {
+            src,
+            values: values_in(values),
+        }),
+        _ => None,
+    }
+}
+
+/// A line of a statement of links at the front of a text, and what stands behind it.
+#[derive(Clone, Copy, Debug)]
+pub struct ChoiceLine<'a> {
+    pub choice: Choice,
+    /// The text behind the line and its LF.
+    pub rest: &'a [u8],
+}
+
+/// The choice that the first line of a text says, where one space stands between the line's two words and LF right behind
+/// them: none of other lines, and none of a line with which something is wrong. It looks no further than the line.
+pub fn choice_line(nets: u32, count: usize, text: &[u8]) -> Option<ChoiceLine<'_>>
+    requires { count ≤ 64 }
+    ensures { IfSome result (IsChoiceLine nets count text.now) }
+{
+    match text.get(count) {
+        Some(b' ') if 0 < count => behind_values(nets, &text[..count], &text[count + 1..]),
+        _ => None,
+    }
+}
+
+/// The same, where these values and a space stand before the text.
+fn behind_values<'a>(nets: u32, values: &[u8], text: &'a [u8]) -> Option<ChoiceLine<'a>>
+    requires some { 0 < length values.now }
+    requires few { length values.now ≤ 64 }
+    ensures { IfSome result (IsChoiceLine nets (length values.now) (values.now ++ (32 ∷ text.now))) }
+{
+    let found = number_line(text)?;
+    let values = checked_values(values)?;
+    if found.number < nets {
+        Some(ChoiceLine {
+            choice: Choice {
+                src: found.number,
+                values,
+            },
+            rest: &text[found.digits + 1..],
+        })
+    } else {
+        None
+    }
+}
+
+/// A number at the front of a text, and how many digits write it.
+#[derive(Clone, Copy)]
+struct Leading {
+    number: u32,
+    digits: usize,
+}
+
+/// The number at the front of a text where LF stands right behind its one to nine digits.
+#[tactic(auto, using(crate::proofs::Leading::ends_line))]
+fn number_line(text: &[u8]) -> Option<Leading>
+    ensures { IfSome result (λ found. EndsLine text.now found.digits found.number) }
+{
+    let found = leading_number(text);
+    let end = found.digits;
+    if 0 < end && end < text.len() && text[end] == b'\n' {
+        Some(found)
+    } else {
+        None
+    }
+}
+
+/// The number that the digits at the front of a text write, at most nine of them.
+fn leading_number(text: &[u8]) -> Leading
+    ensures { Leads text.now result.digits result.number }
+{
+    let mut number = 0;
+    let mut digits = 0;
+    while digits < text.len() && digits < 9 && text[digits].is_ascii_digit() {
+        number = 10 * number + u32::from(text[digits] - b'0');
+        digits += 1;
+    }
+    Leading { number, digits }
+}
+
+/// What the words `VALUES SRC` say, whatever parts them.
+#[tactic(auto, unfolding(crate::specs::Items::choice_of))]
+fn spaced_choice(nets: u32, count: usize, words: &[u8]) -> Result<Choice, DbCause>
     requires { count ≤ 64 }
     ensures says { Reads (choice_of nets count (words_in words.now)) (choice_named count) result }
     ensures small { IfOk result (λ choice. choice.values < 2 ^ count) }
@@ -186,4 +302,22 @@ fn values_in(word: &[u8]) -> u64
         values = 2 * values + u64::from(word[left] - b'0');
     }
     values
+}
+
+/// The number whose lowest bits a word has, the lowest first: none where a byte is neither `0` nor `1`.
+fn checked_values(word: &[u8]) -> Option<u64>
+    requires { length word.now ≤ 64 }
+    ensures { IfSome result (λ values. WritesValues word.now 0 values) }
+{
+    let mut values = 0;
+    let mut left = word.len();
+    while 0 < left {
+        left -= 1;
+        let byte = word[left];
+        if !is_value(byte) {
+            return None;
+        }
+        values = 2 * values + u64::from(byte - b'0');
+    }
+    Some(values)
 }

@@ -1,8 +1,8 @@
 // Lines by their first byte, and their words.
 ghost use Rattle.std.specs.Prelude.{◌≡◌, [], MatchOption, false};
+ghost use Rattle.std.specs.List.{list_all};
+ghost use Rattle.text_lines.specs.Lines.{is_blank};
 ghost use Rattle.chipdb_lines.specs.Words.{has_none, is_remark, is_statement, own_words, words_in};
-
-use text_lines::{Separators, split_word};
 
 /// Whether the line is a statement.
 pub fn is_statement(line: &[u8]) -> bool
@@ -36,8 +36,19 @@ fn is_remark(line: &[u8]) -> bool
 pub(crate) fn has_no_word(words: &[u8]) -> bool
     ensures { result ≡ has_none (words_in words.now) }
 {
-    match split_word(Separators::SpacesAndTabs, words) {
-        None => true,
-        Some(_) => false,
-    }
+    are_blanks(words)
+}
+
+/// Whether each byte is a space or a tab. It looks no further than the first one that isn't.
+fn are_blanks(words: &[u8]) -> bool
+    ensures { result ≡ list_all is_blank words.now }
+{
+    words.iter().all(|byte| is_blank(*byte))
+}
+
+/// Whether the byte is a space or a tab.
+fn is_blank(byte: u8) -> bool
+    ensures { result ≡ is_blank byte }
+{
+    byte == b' ' || byte == b'\t'
 }

@@ -18,7 +18,7 @@ use Rattle.chipdb_reader.specs.Blocks.{chip_before, statement_over, block_over}
 use Rattle.chipdb_reader.specs.Database.{database_of}
 use Rattle.chipdb_reader.specs.Faults.{Fault, DbMeans, Tells, cause_at, db_fault_of, end_cause, fault_of_lines, fault_with, is_net_before}
 use Rattle.chipdb_reader.specs.Kept.{Kept, database_in, name_lines, link_lines, function_lines, extra_lines}
-use Rattle.chipdb_reader.specs.Reading.{EndsReading, FaultOf, FitsReader, IsOutOfMemory, IsUnread, RefusesLine, TakesLine}
+use Rattle.chipdb_reader.specs.Reading.{EndsReading, FaultOf, FitsReader, IsOutOfMemory, IsUnread, RefusesFirst, RefusesLine, TakesFirst, TakesLine}
 use Rattle.chipdb_reader.specs.Fit.{IsFit}
 use Rattle.chipdb_reader.proofs.FitPlaces.{means-fit}
 use Rattle.chipdb_reader.proofs.Holds.{Holds}
@@ -135,6 +135,15 @@ told-line bytes left line rest count reader (At number cause) before split told 
     let here = line-refused reader lines count cause next.inside before.holds (subst (λ l. RefusesLine reader l cause) (sym next.here) told.1) in
     fault-at lines count cause before.within before.sound here ∙ ap (λ n. Some (record { line = n; cause = cause })) (sym told.0)
 told-line bytes left line rest count reader (Memory e) before split told = tt
+
+-- the first line of the bytes that are left was taken, or it wasn't
+pub SoFar-first : (bytes left rest : List ℕ) (count : ℕ) (old new : Reader) → SoFar bytes left count old → TakesFirst old left rest new → SoFar bytes rest (count + 1) new
+SoFar-first bytes left rest count old new before first = SoFar-more bytes left first.line rest count old new before first.lines first.shorter first.taken
+
+pub told-first : (bytes left : List ℕ) (count : ℕ) (reader : Reader) (fault : DbFault) → SoFar bytes left count reader → FaultOf (count + 1) (RefusesFirst reader left) fault → Tells (db_fault_of bytes) fault
+told-first bytes left count reader (At number cause) before told =
+    told-line bytes left told.1.line told.1.rest count reader (At number cause) before told.1.lines (told.0, told.1.refused)
+told-first bytes left count reader (Memory e) before told = tt
 
 -- ---- the end
 

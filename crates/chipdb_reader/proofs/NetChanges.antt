@@ -1,7 +1,7 @@
 -- Nets after a change.
 use Rattle.std.proofs.Common.{◌≡◌, ℕ, Bool, true, false, ◌||◌, cond, eqb, List, [], ◌∷◌, ◌++◌, append-nil, refl, sym, ap, ◌∙◌}
 use Rattle.std.specs.Prelude.{Option, Some, None, flat_map, is_some, nat_eq}
-use Rattle.std.specs.BTreeMap.{Updates as TreeUpdates, get}
+use Rattle.std.specs.BTreeMap.{is_at}
 use Rattle.std.specs.Map.{lookup}
 use Rattle.std.specs.declared.vec.Vec.{Vec}
 use Rattle.std.specs.declared.alloc.Global.{Global}
@@ -11,7 +11,8 @@ use Rattle.indexmap.specs.IndexMap.{get as index_get, insert_entry, IsUnique, Up
 use Rattle.indexmap.proofs.CallerLemmas.{insert_entry-new}
 use Rattle.chipdb_reader.specs.declared.items.NetName.{NetName}
 use Rattle.chipdb_reader.specs.declared.nets.Nets.{Nets}
-use Rattle.chipdb_reader.specs.Nets.{AddsName, BeginsNet, ClosesNet, IsNetIndex, has_net, is_name, is_net, last_names, name_cmp, named_net, names_with, net_names}
+use Rattle.chipdb_reader.specs.NameIndex.{name_cmp, net_in}
+use Rattle.chipdb_reader.specs.Nets.{AddsName, BeginsNet, ClosesNet, IsNetIndex, has_net, is_name, is_net, last_names, named_net, names_with, net_names}
 use Rattle.chipdb_reader.proofs.NetSteps.{named-push, last_names-push}
 
 abbrev entry_names : ℕ × Vec NetName Global → List (NetName × ℕ)
@@ -40,7 +41,7 @@ begins-net old closed new net closes absent is =
     let names = begun-names closed new net closes.indexed closes.last earlier last kept in
     record {
       indexed = record {
-        found = λ name. ap (λ ix. get name_cmp ix name) index ∙ closes.indexed.found name ∙ ap (lookup (is_name name)) (sym names);
+        found = λ name. ap (λ ix. net_in ix name) index ∙ closes.indexed.found name ∙ ap (lookup (is_name name)) (sym names);
         apart = λ other here.
             let both : Some other ≡ Some net = sym here ∙ last in
             let same : other ≡ net = cc in
@@ -87,7 +88,7 @@ closes-net old new net names indexed last taken entries updates unique none empt
     let same : net_names new ≡ net_names old = left ∙ sym right in
     record {
       indexed = record {
-        found = λ name. ap (λ ix. get name_cmp ix name) index ∙ indexed.found name ∙ ap (lookup (is_name name)) (sym same);
+        found = λ name. ap (λ ix. net_in ix name) index ∙ indexed.found name ∙ ap (lookup (is_name name)) (sym same);
         apart = λ other here. let both : Some other ≡ None = sym here ∙ none in absurd cc;
         idle = λ is. empty;
         unique = unique;
@@ -104,7 +105,7 @@ closes-net old new net names indexed last taken entries updates unique none empt
 -- ---- a name is added
 
 pub adds-name : (old new : Nets) (net : ℕ) (name : NetName) → IsNetIndex old → old.last ≡ Some net → named_net old name ≡ None
-    → TreeUpdates name_cmp old.index new.index name (Some net) → new.names.items ≡ old.names.items ++ name ∷ [] → new.earlier ≡ old.earlier → new.last ≡ old.last → AddsName old new net name
+    → ((q : NetName) → named_net new q ≡ cond (is_at (name_cmp name) q) (Some net) (named_net old q)) → new.names.items ≡ old.names.items ++ name ∷ [] → new.earlier ≡ old.earlier → new.last ≡ old.last → AddsName old new net name
 adds-name old new net name indexed last absent updates pushed earlier kept =
     let last_is : new.last ≡ Some net = kept ∙ last in
     let before : net_names old ≡ earlier_of old ++ last_names (Some net) old.names.items = ap (λ o. earlier_of old ++ last_names o old.names.items) last in
@@ -114,7 +115,7 @@ adds-name old new net name indexed last absent updates pushed earlier kept =
     after ∙ last_names-push (earlier_of old) net old.names.items name ∙ ap (λ ns. ns ++ (name, net) ∷ []) (sym before) in
     record {
       indexed = record {
-        found = λ other. named-push (named_net old) (named_net new) (net_names old) name net updates.0 indexed.found absent other ∙ ap (lookup (is_name other)) (sym names);
+        found = λ other. named-push (named_net old) (named_net new) (net_names old) name net updates indexed.found absent other ∙ ap (lookup (is_name other)) (sym names);
         apart = λ other here. ap (λ m. index_get nat_eq m other) earlier ∙ indexed.apart other (sym kept ∙ here);
         idle = λ none. let both : Some net ≡ None = sym last_is ∙ none in absurd cc;
         unique = rw earlier indexed.unique;

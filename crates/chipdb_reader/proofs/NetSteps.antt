@@ -9,7 +9,8 @@ use Rattle.std.specs.Map.{lookup}
 use Rattle.std.proofs.lemmas.Bool.{and_parts, eqb-true}
 use Rattle.std.proofs.lemmas.List.{map-append}
 use Rattle.chipdb_reader.specs.declared.items.NetName.{NetName}
-use Rattle.chipdb_reader.specs.Nets.{name_cmp, is_name, names_with, last_names}
+use Rattle.chipdb_reader.specs.NameIndex.{name_cmp}
+use Rattle.chipdb_reader.specs.Nets.{is_name, names_with, last_names}
 use Rattle.chipdb_reader.proofs.Searches.{index-push}
 
 -- two comparisons, one after the other

@@ -10,3 +10,4 @@ pub mod Lookups
 pub mod Sound
 pub mod Fit
 pub mod Inside
+pub mod NameIndex

@@ -1,21 +1,15 @@
 -- Nets with their names in the order of the text, and the index from a name at a place to its net.
 use Rattle.std.specs.Prelude.{◌≡◌, ℕ, Bool, false, ◌&&◌, ◌||◌, List, [], ◌∷◌, ◌++◌, map, flat_map, nat_eq, is_some, ◌==◌, Option, Some, None}
-use Rattle.std.specs.declared.cmp.Ordering.{Ordering}
-use Rattle.std.specs.BTreeMap.{get}
 use Rattle.std.specs.Map.{lookup}
 use Rattle.indexmap.specs.IndexMap.{get as index_get, IsUnique}
 use Rattle.std.specs.declared.vec.Vec.{Vec}
 use Rattle.chipdb_reader.specs.declared.items.NetName.{NetName}
 use Rattle.chipdb_reader.specs.declared.nets.Nets.{Nets}
-use Rattle.chipdb_reader.specs.contracts.items.NetNameOrd.TheImpl as net_name_ord
-
--- the order of names
-abbrev pub name_cmp : NetName → NetName → Ordering
-name_cmp = (net_name_ord.ghosts).cmp
+use Rattle.chipdb_reader.specs.NameIndex.{net_in}
 
 -- the net that the index has for a name
 abbrev pub named_net : Nets → NetName → Option ℕ
-named_net nets name = get name_cmp nets.index name
+named_net nets name = net_in nets.index name
 
 -- names of one net
 abbrev pub names_with : ℕ → List NetName → List (NetName × ℕ)

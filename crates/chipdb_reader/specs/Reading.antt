@@ -19,7 +19,8 @@ use Rattle.chipdb_lines.specs.declared.links.Choice.{Choice}
 use Rattle.chipdb_lines.specs.declared.statements.Below.{Below}
 use Rattle.chipdb_lines.specs.declared.statements.Below.TheVariants.{Passed, Device, GlobalInputs, GlobalPins, Functions, ExtraBits, Names, Buffers, Routings}
 use Rattle.chipdb_lines.specs.Items.{name_of, function_of, extra_of, global_input_of, global_pin_of, choice_of}
-use Rattle.chipdb_lines.specs.Kept.{bits_named, block_named, choice_named, Extends, IsBelowIn, IsListOf}
+use Rattle.text_lines.specs.Lines.{lines_of}
+use Rattle.chipdb_lines.specs.Kept.{bits_named, block_named, choice_named, AreParted, Extends, IsBelowIn, IsListOf}
 use Rattle.chipdb_lines.specs.Statements.{statement_of}
 use Rattle.chipdb_lines.specs.Words.{is_statement, own_words, words_in}
 use Rattle.chipdb_reader.specs.declared.items.LinkLine.{LinkLine}
@@ -220,6 +221,46 @@ TakesLine old line new = MatchBool (is_statement line) (TakesStatement old line 
 -- why a line isn't taken
 abbrev pub RefusesLine : Reader → List ℕ → DbCause → Type 0
 RefusesLine old line cause = MatchBool (is_statement line) (StatementRefusal old line cause) (RefusesWords old old.chip (own_words line) cause)
+
+-- a line of links, which is the first of a text, and what stands behind it
+pub record IsFirst (text rest values src : List ℕ) : Type 0 where
+  pub parted : AreParted values src
+  pub lines : lines_of text ≡ (values ++ (32 ∷ src)) ∷ lines_of rest
+  pub shorter : length rest < length text
+
+pub record TakesFirstBuffer (nets : ℕ) (head : LinkHead) (text rest : List ℕ) (old new : Reader) : Type 0 where
+  pub values : List ℕ
+  pub src : List ℕ
+  pub first : IsFirst text rest values src
+  pub pushed : PushesBuffer nets head (values ∷ src ∷ []) old new
+
+pub record TakesFirstRouting (nets : ℕ) (head : LinkHead) (text rest : List ℕ) (old new : Reader) : Type 0 where
+  pub values : List ℕ
+  pub src : List ℕ
+  pub first : IsFirst text rest values src
+  pub pushed : PushesRouting nets head (values ∷ src ∷ []) old.routings.items new.routings.items
+  pub rest_is : new ≡ record old { routings = new.routings }
+
+pub record RefusesFirstBuffer (nets : ℕ) (head : LinkHead) (text : List ℕ) (old : Reader) (cause : DbCause) : Type 0 where
+  pub values : List ℕ
+  pub src : List ℕ
+  pub rest : List ℕ
+  pub first : IsFirst text rest values src
+  pub refused : BufferRefusal nets head (values ∷ src ∷ []) old cause
+
+-- what the first line of a text changes
+pub record TakesFirst (old : Reader) (text rest : List ℕ) (new : Reader) : Type 0 where
+  pub line : List ℕ
+  pub lines : lines_of text ≡ line ∷ lines_of rest
+  pub shorter : length rest < length text
+  pub taken : TakesLine old line new
+
+-- why it isn't taken
+pub record RefusesFirst (old : Reader) (text : List ℕ) (cause : DbCause) : Type 0 where
+  pub line : List ℕ
+  pub rest : List ℕ
+  pub lines : lines_of text ≡ line ∷ lines_of rest
+  pub refused : RefusesLine old line cause
 
 -- nothing was read
 pub record IsUnread (reader : Reader) : Type 0 where

@@ -9,6 +9,7 @@ mod chip_db;
 mod fault;
 mod items;
 mod lookups;
+mod name_index;
 mod nets;
 mod reader;
 mod reading;

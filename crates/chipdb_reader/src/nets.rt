@@ -1,14 +1,12 @@
 // The nets of a database and their names.
 ghost use Rattle.std.specs.Prelude.{◌≡◌, ℕ, [], false, None, Some, is_some, if◌then◌else◌, IfOk, IfErr, OnOk};
-ghost use Rattle.std.specs.BTreeMap.{get, Updates};
 ghost use Rattle.chipdb_lines.specs.Kept.{Reports};
-ghost use Rattle.chipdb_reader.specs.Nets.{name_cmp};
 
 use crate::items::NetName;
+use crate::name_index::NameIndex;
 use chipdb_lines::{DbCause, Refusal};
 use indexmap::IndexMap;
 use std::alloc::{AllocError, Global};
-use std::collections::BTreeMap;
 use std::mem;
 
 /// Nets with their names, and an index from a place and a name to the net.
@@ -21,7 +19,7 @@ pub(crate) struct Nets {
     /// The names of that net.
     names: Vec<NetName>,
     /// The net of each name.
-    index: BTreeMap<NetName, u32>,
+    index: NameIndex,
     alloc: Global,
 }
 
@@ -39,7 +37,7 @@ impl Nets {
             earlier: IndexMap::new(alloc),
             last: None,
             names: Vec::new(alloc),
-            index: BTreeMap::new(alloc),
+            index: NameIndex::new(alloc),
             alloc,
         }
     }
@@ -89,10 +87,10 @@ impl Nets {
         ensures added { IfOk result (λ _. AddsName self.old self.new net name) }
         ensures refused { IfErr result (Reports (if is_some (named_net self.old name) then Some DbCause.NameTwice else None)) }
     {
-        let earlier = put(&mut self.index, &name, net)?;
-        if earlier.is_some() {
+        if self.index.get(&name).is_some() {
             return Err(Refusal::Cause(DbCause::NameTwice));
         }
+        self.index.put(&name, net)?;
         self.names.push(name).map_err(AllocError::from)?;
         Ok(())
     }
@@ -101,7 +99,7 @@ impl Nets {
     pub(crate) fn net_of(&self, name: NetName) -> Option<u32>
         ensures { result ≡ named_net self.now name }
     {
-        self.index.get(&name).copied()
+        self.index.get(&name)
     }
 
     /// The names of a net that isn't the last.
@@ -112,20 +110,5 @@ impl Nets {
             None => &[],
             Some(names) => names,
         }
-    }
-}
-
-/// Gives a name its net, and tells which net it had before.
-fn put(
-    index: &mut BTreeMap<NetName, u32>,
-    name: &NetName,
-    net: u32,
-) -> Result<Option<u32>, AllocError>
-    ensures updates { OnOk result (Updates name_cmp index.old index.new name.now (Some net)) }
-    ensures earlier { IfOk result (λ earlier. earlier ≡ get name_cmp index.old name.now) }
-{
-    match index.insert(*name, net) {
-        Ok(earlier) => Ok(earlier),
-        Err(e) => Err(AllocError::from(e)),
     }
 }

@@ -19,15 +19,46 @@ pub fn read(alloc: Global, bytes: &[u8]) -> Result<ChipDb, DbFault>
     let mut reader = Reader::new(alloc);
     let mut left = bytes;
     let mut count = 0;
-    while let Some(line) = first_line(left) {
-        take_line(&mut reader, count + 1, line.content)?;
+    while !left.is_empty() {
+        left = take_first(&mut reader, count + 1, left)?;
         count += 1;
-        left = line.rest;
     }
     finish(reader, count + 1)
 }
 
-ghost use Rattle.chipdb_reader.specs.Reading.{EndsReading, FaultOf, IsReady, RefusesLine, TakesLine, located};
+ghost use Rattle.chipdb_reader.specs.Reading.{EndsReading, FaultOf, IsReady, RefusesFirst, RefusesLine, TakesFirst, TakesLine, located};
+
+/// Takes the first line of a text, which has that number, and gives what stands behind it.
+fn take_first<'a>(reader: &mut Reader, number: u64, text: &'a [u8]) -> Result<&'a [u8], DbFault>
+    requires ready { IsReady reader.old }
+    requires room { length reader.old.texts.arena < 2 ^ 32 - 1 }
+    requires some { 0 < length text.now }
+    ensures taken { IfOk result (λ rest. TakesFirst reader.old text.now rest.now reader.new) }
+    ensures refused { IfErr result (FaultOf number (RefusesFirst reader.old text.now)) }
+{
+    match reader.accept_choice(text) {
+        Err(refusal) => Err(fault_at(number, refusal)),
+        Ok(Some(rest)) => Ok(rest),
+        Ok(None) => take_any(reader, number, text),
+    }
+}
+
+/// The same, whatever form the line has.
+fn take_any<'a>(reader: &mut Reader, number: u64, text: &'a [u8]) -> Result<&'a [u8], DbFault>
+    requires ready { IsReady reader.old }
+    requires room { length reader.old.texts.arena < 2 ^ 32 - 1 }
+    requires some { 0 < length text.now }
+    ensures taken { IfOk result (λ rest. TakesFirst reader.old text.now rest.now reader.new) }
+    ensures refused { IfErr result (FaultOf number (RefusesFirst reader.old text.now)) }
+{
+    match first_line(text) {
+        None => Ok(text),
+        Some(line) => match take_line(reader, number, line.content) {
+            Err(fault) => Err(fault),
+            Ok(()) => Ok(line.rest),
+        },
+    }
+}
 
 /// Takes the next line, which has that number.
 fn take_line(reader: &mut Reader, number: u64, line: &[u8]) -> Result<(), DbFault>

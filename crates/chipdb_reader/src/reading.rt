@@ -1,5 +1,5 @@
 // What is kept between the lines of a database, and how a line is taken.
-ghost use Rattle.std.specs.Prelude.{◌≡◌, ◌-◌, ◌^◌, ◌<◌, ◌≤◌, ℕ, length, IfOk, IfErr, OnOk, MatchResult, false};
+ghost use Rattle.std.specs.Prelude.{◌≡◌, ◌-◌, ◌^◌, ◌<◌, ◌≤◌, ℕ, length, IfOk, IfErr, OnOk, MatchOption, MatchResult, None, false};
 ghost use Rattle.std.specs.Result.{result_err};
 ghost use Rattle.chipdb_lines.specs.Words.{has_none, own_words, words_in};
 ghost use Rattle.chipdb_lines.specs.Items.{choice_of, global_input_of, global_pin_of};
@@ -10,8 +10,9 @@ use crate::items::{Extra, Function, LinkLine, NetName};
 use crate::nets::Nets;
 use crate::texts::Texts;
 use chipdb_lines::{
-    Below, Chip, Choice, GlobalInput, GlobalPin, LinkHead, Refusal, choice_item, extra_item,
-    function_item, global_input, global_pin, is_statement, name_item, own_words, statement,
+    Below, Chip, Choice, GlobalInput, GlobalPin, LinkHead, Refusal, choice_item, choice_line,
+    extra_item, function_item, global_input, global_pin, is_statement, name_item, own_words,
+    statement,
 };
 use plane_map::{DeviceName, RowCol, TileKind};
 use std::alloc::{AllocError, Global};
@@ -36,7 +37,7 @@ impl Reader {
     ghost use Rattle.chipdb_reader.specs.Nets.{IsNetIndex};
     ghost use Rattle.chipdb_reader.specs.Texts.{IsIndexed};
     ghost use Rattle.chipdb_reader.specs.Buffers.{IsChosen};
-    ghost use Rattle.chipdb_reader.specs.Reading.{BeginsBlock, BufferRefusal, ForCause, IsReady, IsUnread, NameRefusal, PushesBuffer, PushesExtra, PushesFunction, PushesName, RefusesItem, RefusesLine, RefusesWords, StatementRefusal, TakesItem, TakesLine, TakesStatement, TakesWords, begin_cause};
+    ghost use Rattle.chipdb_reader.specs.Reading.{BeginsBlock, BufferRefusal, ForCause, IsReady, IsUnread, NameRefusal, PushesBuffer, PushesExtra, PushesFunction, PushesName, RefusesFirst, RefusesFirstBuffer, RefusesItem, RefusesLine, RefusesWords, StatementRefusal, TakesFirst, TakesFirstBuffer, TakesFirstRouting, TakesItem, TakesLine, TakesStatement, TakesWords, begin_cause};
 
     /// No line was read. It takes no memory yet.
     pub(crate) fn new(alloc: Global) -> Reader
@@ -71,6 +72,60 @@ impl Reader {
                 None => Ok(()),
                 Some(words) => self.accept_words(words),
             }
+        }
+    }
+
+    /// Takes the first line of a text where it is one of links in their usual form, and tells what stands behind it.
+    pub(crate) fn accept_choice<'a>(&mut self, text: &'a [u8]) -> Result<Option<&'a [u8]>, Refusal>
+        requires { IsReady self.old }
+        ensures taken { IfOk result (λ rest. MatchOption rest (self.new ≡ self.old) (λ rest. TakesFirst self.old text.now rest.now self.new)) }
+        ensures refused { IfErr result (ForCause (RefusesFirst self.old text.now)) }
+    {
+        match (self.chip, self.below) {
+            (Some(chip), Below::Buffers(head)) => self.first_buffer(chip.nets, head, text),
+            (Some(chip), Below::Routings(head)) => self.first_routing(chip.nets, head, text),
+            _ => Ok(None),
+        }
+    }
+
+    /// The same below a `.buffer`.
+    fn first_buffer<'a>(
+        &mut self,
+        nets: u32,
+        head: LinkHead,
+        text: &'a [u8],
+    ) -> Result<Option<&'a [u8]>, Refusal>
+        requires chosen { IsChosen self.old.buffers }
+        requires few { head.bits.count ≤ 64 }
+        ensures taken { IfOk result (λ rest. MatchOption rest (self.new ≡ self.old) (λ rest. TakesFirstBuffer nets head text.now rest.now self.old self.new)) }
+        ensures refused { IfErr result (ForCause (RefusesFirstBuffer nets head text.now self.old)) }
+    {
+        match choice_line(nets, head.bits.len(), text) {
+            None => Ok(None),
+            Some(line) => match self.buffers.add(link(head, line.choice)) {
+                Err(refusal) => Err(refusal),
+                Ok(()) => Ok(Some(line.rest)),
+            },
+        }
+    }
+
+    /// The same below a `.routing`.
+    fn first_routing<'a>(
+        &mut self,
+        nets: u32,
+        head: LinkHead,
+        text: &'a [u8],
+    ) -> Result<Option<&'a [u8]>, Refusal>
+        requires { head.bits.count ≤ 64 }
+        ensures taken { IfOk result (λ rest. MatchOption rest (self.new ≡ self.old) (λ rest. TakesFirstRouting nets head text.now rest.now self.old self.new)) }
+        ensures refused { IfErr result (Reports None) }
+    {
+        match choice_line(nets, head.bits.len(), text) {
+            None => Ok(None),
+            Some(line) => match self.routings.push(link(head, line.choice)) {
+                Err(e) => Err(Refusal::Memory(AllocError::from(e))),
+                Ok(()) => Ok(Some(line.rest)),
+            },
         }
     }
 

@@ -20,6 +20,15 @@ impl Model for NameId {
     ghost inverse = { λ place. record { place = place } };
 }
 
+impl NameId {
+    /// The place that it names.
+    pub fn place(self) -> usize
+        ensures { result ≡ self }
+    {
+        self.place as usize
+    }
+}
+
 /// Where the bytes of a name stand.
 #[derive(Clone, Copy, Debug)]
 struct Span {

@@ -1,4 +1,4 @@
-use Rattle.std.proofs.Common.{◌≡◌, ◌+◌, length, arith, length-append}
+use Rattle.std.proofs.Common.{arith}
 use Rattle.std.proofs.lemmas.Result.{err_from_is_err_and}
 use Rattle.name_arena.proofs.Pushed.{names-append, names-push}
 use Rattle.name_arena.proofs.arena.NameArena.push.Goals as goal

@@ -1,0 +1,130 @@
+-- Values and a net with one space between them, and lines without a word.
+use Rattle.std.proofs.Common.{◌≡◌, ℕ, suc, ◌+◌, ◌-◌, ◌^◌, ◌<◌, ◌≤◌, Bool, true, false, ◌&&◌, ◌||◌, List, [], ◌∷◌, ◌++◌, append_assoc, length, length-append, length-drop, take, drop, map, get_or, refl, sym, ap, ◌∙◌, inl, inr, arith}
+use Rattle.std.specs.Prelude.{All, Some, Ok, ◌==◌, nat_lt, nat_le}
+use Rattle.std.specs.List.{list_all}
+use Rattle.std.specs.Char.{is_ascii_digit}
+use Rattle.std.proofs.lemmas.Bool.{cases_Bool, ltb-true, lt-ltb, eq-eqb, ne_eqb}
+use Rattle.std.proofs.lemmas.Bool.Decides.{nat_tests}
+use Rattle.std.proofs.Math.Seq.{split_at}
+use Rattle.std.proofs.lemmas.List.{take_rest}
+use Rattle.std.proofs.lemmas.List.Elements.{All-append, All-cons, All-weaker}
+use Rattle.text_lines.specs.declared.words.Separators.TheVariants.{SpacesAndTabs}
+use Rattle.text_lines.specs.Lines.{is_blank, lines_of}
+use Rattle.text_lines.specs.Words.{is_number, number_of, words_of, pieces_of, from_word}
+use Rattle.text_lines.proofs.Spaced.{IsWord, IsWord-high, words_of-two, words_of-separator, words_of-cut, from_word-inner}
+use Rattle.text_lines.proofs.Written.{lines_of-plain}
+use Rattle.chipdb_lines.specs.declared.links.Choice.{Choice}
+use Rattle.chipdb_lines.specs.declared.links.ChoiceLine.{ChoiceLine}
+use Rattle.chipdb_lines.specs.Words.{has_none, own_words, words_in}
+use Rattle.chipdb_lines.specs.Items.{choice_of}
+use Rattle.chipdb_lines.specs.Kept.{choice_named, low_bits, AreParted, EndsLine, IsChoiceLine, WritesValues}
+use Rattle.chipdb_lines.proofs.Values.{and-left, and-right, list_all-at, value-byte}
+
+-- bytes all of which pass a test that no byte up to the space passes
+all-high : (test : ℕ → Bool) (word : List ℕ) → ((byte : ℕ) → test byte ≡ true → 32 < byte) → list_all test word ≡ true → All (λ byte. 32 < byte) word
+all-high test word high all = λ k d lt. high (get_or word k d) (list_all-at test word k d all lt)
+
+value-high : (byte : ℕ) → ((byte == 48) || (byte == 49)) ≡ true → 32 < byte
+value-high byte is = let parts = value-byte byte is in omega (arith, parts.1)
+
+digit-high : (byte : ℕ) → is_ascii_digit byte ≡ true → 32 < byte
+digit-high byte is = grind (arith, nat_tests)
+
+-- values are a word
+values-word : (values : List ℕ) → 0 < length values → list_all (λ byte. (byte == 48) || (byte == 49)) values ≡ true → IsWord SpacesAndTabs values
+values-word values some all = IsWord-high SpacesAndTabs values some (all-high (λ byte. (byte == 48) || (byte == 49)) values value-high all)
+
+-- a number is a word
+number-is : (word : List ℕ) (number : ℕ) → number_of word ≡ Some number → is_number word ≡ true
+unfolding number_of
+number-is word number is =
+    elim (cases_Bool (is_number word)) [
+      | inl whole ↦ whole
+      | inr none ↦ absurd (cc (rw none at is))
+    ]
+
+number-high : (word : List ℕ) (number : ℕ) → number_of word ≡ Some number → All (λ byte. 32 < byte) word
+number-high word number is = all-high is_ascii_digit word digit-high (and-right (nat_lt 0 (length word) && nat_le (length word) 9) (list_all is_ascii_digit word) (number-is word number is))
+
+weaker : (word : List ℕ) → All (λ byte. 32 < byte) word → All (λ byte. 32 ≤ byte) word
+weaker word high = All-weaker (λ byte. 32 < byte) (λ byte. 32 ≤ byte) (λ byte lt. omega arith) word high
+
+number-word : (word : List ℕ) (number : ℕ) → number_of word ≡ Some number → IsWord SpacesAndTabs word
+number-word word number is =
+    let whole = number-is word number is in
+    let sizes : (nat_lt 0 (length word) && nat_le (length word) 9) ≡ true = and-left (nat_lt 0 (length word) && nat_le (length word) 9) (list_all is_ascii_digit word) whole in
+    let some : 0 < length word = ltb-true 0 (length word) (and-left (nat_lt 0 (length word)) (nat_le (length word) 9) sizes) in
+    IsWord-high SpacesAndTabs word some (all-high is_ascii_digit word digit-high (and-right (nat_lt 0 (length word) && nat_le (length word) 9) (list_all is_ascii_digit word) whole))
+
+-- a choice of values and a net with one space between them
+pub choice_of-parted : (nets : ℕ) (values src : List ℕ) (choice : Choice) → 0 < length values → list_all (λ byte. (byte == 48) || (byte == 49)) values ≡ true → number_of src ≡ Some choice.src → choice.src < nets
+    → low_bits (length values) choice.values ≡ map (λ byte. byte == 49) values → choice_of nets (length values) (words_in (values ++ (32 ∷ src))) ≡ Ok (choice_named (length values) choice)
+unfolding choice_of
+choice_of-parted nets values src choice some all number lt bits =
+    let parted = words_of-two SpacesAndTabs values src (values-word values some all) (number-word src choice.src number) in
+    rw (parted, number, lt-ltb choice.src nets lt, eq-eqb (length values) (length values) refl, all, bits) refl
+
+-- a byte above the space begins no statement and no remark where it is a value
+value-begins : (byte : ℕ) → ((byte == 48) || (byte == 49)) ≡ true → ((byte == 46) ≡ false) × ((byte == 35) ≡ false)
+value-begins byte is =
+    let parts = value-byte byte is in
+    let low : 48 ≤ byte = parts.1 in
+    (ne_eqb byte 46 (λ same. omega arith), ne_eqb byte 35 (λ same. omega arith))
+
+-- values and a number with one space between them
+pub parted-words : (values src : List ℕ) (number : ℕ) → 0 < length values → list_all (λ byte. (byte == 48) || (byte == 49)) values ≡ true → number_of src ≡ Some number → AreParted values src
+unfolding own_words
+parted-words [] src number some all is = absurd (omega arith)
+parted-words (first ∷ values) src number some all is =
+    let begins = value-begins first (and-left ((first == 48) || (first == 49)) (list_all (λ byte. (byte == 48) || (byte == 49)) values) all) in
+    let one = values-word (first ∷ values) some all in
+    let two = number-word src number is in
+    let words = words_of-two SpacesAndTabs (first ∷ values) src one two in
+    let high : All (λ byte. 32 < byte) (first ∷ values) = all-high (λ byte. (byte == 48) || (byte == 49)) (first ∷ values) value-high all in
+    let more : All (λ byte. 32 < byte) src = number-high src number is in
+    record {
+      plain = All-append (λ byte. 32 ≤ byte) (first ∷ values) (32 ∷ src) (weaker (first ∷ values) high) (All-cons (λ byte. 32 ≤ byte) 32 src (omega arith) (weaker src more));
+      words = words;
+      own = rw (begins.0, begins.1) words;
+      item = begins.0;
+    }
+
+-- the first line of a text that begins with values, a space, and a number before LF
+pub choice-line : (nets : ℕ) (values text : List ℕ) (digits : ℕ) (found : ChoiceLine) → 0 < length values → WritesValues values 0 found.choice.values → EndsLine text digits found.choice.src → found.choice.src < nets
+    → found.rest.now ≡ take (length text - (digits + 1)) (drop (digits + 1) text) → IsChoiceLine nets (length values) (values ++ (32 ∷ text)) found
+choice-line nets values text digits found some checked ends lt rest =
+    let whole : length values - 0 ≡ length values = omega arith in
+    let all : list_all (λ byte. (byte == 48) || (byte == 49)) values ≡ true = checked.all in
+    let bits : low_bits (length values) found.choice.values ≡ map (λ byte. byte == 49) values = rw whole at checked.bits in
+    let small : found.choice.values < 2 ^ length values = rw whole at checked.small in
+    let parted = parted-words values (take digits text) found.choice.src some all ends.number_is in
+    let says = choice_of-parted nets values (take digits text) found.choice some all ends.number_is lt bits in
+    let next : suc digits ≡ digits + 1 = omega arith in
+    let more : List ℕ = drop (digits + 1) text in
+    let lf = ends.lf in
+    let cut : text ≡ take digits text ++ (10 ∷ more) = split_at text digits 0 ends.within ∙ (λ i. take digits text ++ (lf i ∷ drop (next i) text)) in
+    let behind : found.rest.now ≡ more = rest ∙ take_rest text (digits + 1) in
+    record {
+      values = values;
+      src = take digits text;
+      parted = parted;
+      lines = ap (λ t. lines_of (values ++ (32 ∷ t))) cut ∙ ap lines_of (sym (append_assoc values (32 ∷ take digits text) (10 ∷ more)))
+          ∙ lines_of-plain (values ++ (32 ∷ take digits text)) more parted.plain ∙ ap (λ r. (values ++ (32 ∷ take digits text)) ∷ lines_of r) (sym behind);
+      shorter = omega (arith, ap length behind, length-drop (digits + 1) text, length-append values (32 ∷ text));
+      says = ap (choice_of nets (length values)) (sym parted.words) ∙ says;
+      small = small;
+    }
+
+-- a line without a word has blanks alone
+pub no_word-blanks : (line : List ℕ) → list_all is_blank line ≡ has_none (words_in line)
+unfolding words_of pieces_of
+no_word-blanks [] = refl
+no_word-blanks (byte ∷ bytes) =
+    elim (cases_Bool (is_blank byte)) [
+      | inl blank ↦
+          let same : words_in (byte ∷ bytes) ≡ words_in bytes = words_of-separator SpacesAndTabs byte bytes blank in
+          rw (same, blank) (no_word-blanks bytes)
+      | inr inner ↦
+          let begins : byte ∷ bytes ≡ from_word SpacesAndTabs (byte ∷ bytes) = sym (from_word-inner SpacesAndTabs byte bytes inner) in
+          rw (words_of-cut SpacesAndTabs (byte ∷ bytes) (byte ∷ bytes) begins (omega arith), inner) refl
+    ]

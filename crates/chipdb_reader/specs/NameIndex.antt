@@ -1,0 +1,31 @@
+-- The index from a name at a place to its net: cells of a table for the first names, and a map for all others.
+use Rattle.std.specs.Prelude.{ℕ, ◌+◌, ◌*◌, ◌&&◌, List, get_or, nat_lt, ◌==◌, if◌then◌else◌, Option, Some, None}
+use Rattle.std.specs.declared.cmp.Ordering.{Ordering}
+use Rattle.std.specs.BTreeMap.{get}
+use Rattle.place_search.specs.Places.{or_else}
+use Rattle.chipdb_reader.specs.declared.items.NetName.{NetName}
+use Rattle.chipdb_reader.specs.declared.name_index.NameIndex.{NameIndex}
+use Rattle.chipdb_reader.specs.contracts.items.NetNameOrd.TheImpl as net_name_ord
+
+-- the order of names
+abbrev pub name_cmp : NetName → NetName → Ordering
+name_cmp = (net_name_ord.ghosts).cmp
+
+-- the cell of a name
+abbrev pub cell_of : NetName → Option ℕ
+cell_of name =
+    if nat_lt name.x 34 && (nat_lt name.y 34 && nat_lt name.name 4096)
+    then Some ((name.name * 34 + name.y) * 34 + name.x)
+    else None
+
+-- the net of a cell; the greatest number stands for none
+abbrev pub net_held : ℕ → Option ℕ
+net_held net = if net == 4294967295 then None else Some net
+
+abbrev pub held_at : List ℕ → Option ℕ → Option ℕ
+held_at table None = None
+held_at table (Some cell) = net_held (get_or table cell 4294967295)
+
+-- the net that the index has for a name
+abbrev pub net_in : NameIndex → NetName → Option ℕ
+net_in index name = or_else (held_at index.table.items (cell_of name)) (get name_cmp index.others name)

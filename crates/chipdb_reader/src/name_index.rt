@@ -1,0 +1,130 @@
+// The index from a name at a place to its net.
+ghost use Rattle.std.specs.Prelude.{◌≡◌, ◌≢◌, ◌<◌, ℕ, None, Some, cond, get_or, vec_len, IfSome, OnOk};
+ghost use Rattle.std.specs.BTreeMap.{get, is_at};
+ghost use Rattle.chipdb_reader.specs.NameIndex.{cell_of, held_at, name_cmp, net_held, net_in};
+
+use crate::items::NetName;
+use std::alloc::{AllocError, Global};
+use std::collections::BTreeMap;
+
+/// How many tiles a side of a grid has in the table. No device has more.
+const SIDE: usize = 34;
+
+/// How many names have a grid in the table.
+const GRIDS: usize = 4096;
+
+/// What a cell has where no net has its name.
+const NO_NET: u32 = u32::MAX;
+
+/// The net of each name at a place: of the first names in a table, of all others in a map.
+#[derive(Drop)]
+pub(crate) struct NameIndex {
+    /// The nets that have the first name, tile by tile, then those that have the second one, and so on.
+    table: Vec<u32>,
+    /// The nets of names that have no cell in the table.
+    others: BTreeMap<NetName, u32>,
+}
+
+impl NameIndex {
+    /// No names. It takes no memory yet.
+    pub(crate) fn new(alloc: Global) -> NameIndex
+        ensures { (name : NetName) → net_in result name ≡ None }
+    {
+        NameIndex {
+            table: Vec::new(alloc),
+            others: BTreeMap::new(alloc),
+        }
+    }
+
+    /// The net of a name.
+    pub(crate) fn get(&self, name: &NetName) -> Option<u32>
+        ensures { result ≡ net_in self.now name.now }
+    {
+        match held_at(&self.table, cell_of(name)) {
+            Some(net) => Some(net),
+            None => self.others.get(name).copied(),
+        }
+    }
+
+    /// Gives a name its net, where it has none.
+    pub(crate) fn put(&mut self, name: &NetName, net: u32) -> Result<(), AllocError>
+        requires { net_in self.old name.now ≡ None }
+        ensures { OnOk result ((q : NetName) → net_in self.new q ≡ cond (is_at (name_cmp name.now) q) (Some net) (net_in self.old q)) }
+    {
+        match cell_of(name) {
+            Some(cell) if net != NO_NET => put_cell(&mut self.table, cell, net),
+            _ => put_other(&mut self.others, name, net),
+        }
+    }
+}
+
+/// The place of a name's cell in the table, where it has one.
+fn cell_of(name: &NetName) -> Option<usize>
+    ensures cell { result ≡ cell_of name.now }
+    ensures small { IfSome result (λ cell. cell < 4734976) }
+{
+    let (x, y, grid) = (name.x as usize, name.y as usize, name.name.place());
+    if x < SIDE && y < SIDE && grid < GRIDS {
+        Some((grid * SIDE + y) * SIDE + x)
+    } else {
+        None
+    }
+}
+
+/// The net in a cell.
+fn held_at(table: &[u32], cell: Option<usize>) -> Option<u32>
+    ensures { result ≡ held_at table.now cell }
+{
+    match cell {
+        None => None,
+        Some(cell) => match table.get(cell) {
+            None => None,
+            Some(net) => net_held(*net),
+        },
+    }
+}
+
+/// The net of a cell that has this.
+fn net_held(net: u32) -> Option<u32>
+    ensures { result ≡ net_held net }
+{
+    if net == NO_NET { None } else { Some(net) }
+}
+
+/// Puts a net into a cell.
+fn put_cell(table: &mut Vec<u32>, cell: usize, net: u32) -> Result<(), AllocError>
+    requires { cell < 4734976 }
+    ensures here { OnOk result (get_or table.new.items cell 4294967295 ≡ net) }
+    ensures others { OnOk result ((c : ℕ) → c ≢ cell → get_or table.new.items c 4294967295 ≡ get_or table.old.items c 4294967295) }
+{
+    grow(table, cell)?;
+    table[cell] = net;
+    Ok(())
+}
+
+/// Makes the table long enough to have a cell.
+fn grow(table: &mut Vec<u32>, cell: usize) -> Result<(), AllocError>
+    requires { cell < 4734976 }
+    ensures within { OnOk result (cell < vec_len table.new) }
+    ensures same { OnOk result ((c : ℕ) → get_or table.new.items c 4294967295 ≡ get_or table.old.items c 4294967295) }
+{
+    if cell < table.len() {
+        Ok(())
+    } else {
+        table.resize(cell + SIDE * SIDE, NO_NET)
+    }
+}
+
+/// Gives a name its net in the map.
+fn put_other(
+    others: &mut BTreeMap<NetName, u32>,
+    name: &NetName,
+    net: u32,
+) -> Result<(), AllocError>
+    ensures { OnOk result ((q : NetName) → get name_cmp others.new q ≡ cond (is_at (name_cmp name.now) q) (Some net) (get name_cmp others.old q)) }
+{
+    match others.insert(*name, net) {
+        Ok(_) => Ok(()),
+        Err(e) => Err(AllocError::from(e)),
+    }
+}

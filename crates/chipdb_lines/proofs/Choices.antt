@@ -49,7 +49,7 @@ number-high word number is = all-high is_ascii_digit word digit-high (and-right 
 weaker : (word : List ℕ) → All (λ byte. 32 < byte) word → All (λ byte. 32 ≤ byte) word
 weaker word high = All-weaker (λ byte. 32 < byte) (λ byte. 32 ≤ byte) (λ byte lt. omega arith) word high
 
-number-word : (word : List ℕ) (number : ℕ) → number_of word ≡ Some number → IsWord SpacesAndTabs word
+pub number-word : (word : List ℕ) (number : ℕ) → number_of word ≡ Some number → IsWord SpacesAndTabs word
 number-word word number is =
     let whole = number-is word number is in
     let sizes : (nat_lt 0 (length word) && nat_le (length word) 9) ≡ true = and-left (nat_lt 0 (length word) && nat_le (length word) 9) (list_all is_ascii_digit word) whole in

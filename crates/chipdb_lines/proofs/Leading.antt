@@ -1,5 +1,5 @@
 -- A number at the front of a text, digit by digit.
-use Rattle.std.proofs.Common.{◌≡◌, ℕ, suc, ◌+◌, ◌-◌, ◌*◌, ◌^◌, ◌<◌, ◌≤◌, true, List, [], ◌∷◌, ◌++◌, length, take, get_or, refl, sym, ap, ◌∙◌, arith, lit<}
+use Rattle.std.proofs.Common.{◌≡◌, ℕ, suc, ◌+◌, ◌-◌, ◌*◌, ◌^◌, ◌<◌, ◌≤◌, true, List, [], ◌∷◌, ◌++◌, length, take, drop, get_or, refl, sym, ap, ◌∙◌, arith, lit<}
 use Rattle.std.specs.Prelude.{Some}
 use Rattle.std.specs.List.{list_all}
 use Rattle.std.specs.Char.{is_ascii_digit}
@@ -11,7 +11,9 @@ use Rattle.std.proofs.lemmas.List.Folds.{list_all-append}
 use Rattle.std.proofs.lemmas.List.Sums.{fold_push}
 use Rattle.text_lines.specs.Words.{digits_value, number_of}
 use Rattle.text_lines.proofs.Numbers.{below_nine}
-use Rattle.chipdb_lines.specs.Kept.{EndsLine, Leads}
+use Rattle.std.proofs.Math.Seq.{split_at}
+use Rattle.std.proofs.lemmas.List.{take_rest}
+use Rattle.chipdb_lines.specs.Kept.{EndsLine, Leads, StartsWords}
 
 pub Leads-nothing : (text : List ℕ) → Leads text 0 0
 Leads-nothing text = record { within = omega arith; few = omega arith; all = refl; number_is = refl; small = lit< tt }
@@ -50,3 +52,15 @@ Leads-number text digits number leads some =
 -- and LF stands behind them
 pub ends_line : (text : List ℕ) (digits number : ℕ) → Leads text digits number → 0 < digits → digits < length text → get_or text digits 0 ≡ 10 → EndsLine text digits number
 ends_line text digits number leads some lt lf = record { number_is = Leads-number text digits number leads some; within = lt; lf = lf }
+
+-- and a space
+pub starts-words : (words : List ℕ) (digits number : ℕ) (rest : List ℕ) → Leads words digits number → 0 < digits → digits < length words → get_or words digits 0 ≡ 32
+    → rest ≡ take (length words - (digits + 1)) (drop (digits + 1) words) → StartsWords words number rest
+starts-words words digits number rest leads some lt space is =
+    let next : suc digits ≡ digits + 1 = omega arith in
+    let behind : rest ≡ drop (digits + 1) words = is ∙ take_rest words (digits + 1) in
+    record {
+      first = take digits words;
+      number_is = Leads-number words digits number leads some;
+      words_are = split_at words digits 0 lt ∙ (λ i. take digits words ++ (space i ∷ drop (next i) words)) ∙ ap (λ more. take digits words ++ (32 ∷ more)) (sym behind);
+    }

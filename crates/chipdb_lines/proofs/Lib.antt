@@ -3,3 +3,4 @@ pub mod Values
 pub mod Heads
 pub mod Choices
 pub mod Leading
+pub mod Named

@@ -128,3 +128,9 @@ pub record WritesValues (word : List ℕ) (left values : ℕ) : Type 0 where
   pub all : list_all (λ byte. (byte == 48) || (byte == 49)) (drop left word) ≡ true
   pub bits : low_bits (length word - left) values ≡ map (λ byte. byte == 49) (drop left word)
   pub small : values < 2 ^ (length word - left)
+
+-- a number at the front of words, behind which a space stands
+pub record StartsWords (words : List ℕ) (number : ℕ) (rest : List ℕ) : Type 0 where
+  pub first : List ℕ
+  pub number_is : number_of first ≡ Some number
+  pub words_are : words ≡ first ++ (32 ∷ rest)

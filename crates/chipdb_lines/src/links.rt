@@ -5,7 +5,7 @@ ghost use Rattle.plane_map.specs.Layout.{kind_of};
 ghost use Rattle.chipdb_lines.specs.Words.{has_none, is_values, words_in};
 ghost use Rattle.chipdb_lines.specs.Statements.{link_at, link_of_words};
 ghost use Rattle.chipdb_lines.specs.Items.{choice_by, choice_of};
-ghost use Rattle.chipdb_lines.specs.Kept.{choice_named, head_named, low_bits, EndsLine, Extends, IsChoiceLine, IsListOf, Leads, Reads, Tells, WritesValues};
+ghost use Rattle.chipdb_lines.specs.Kept.{choice_named, head_named, low_bits, EndsLine, Extends, IsChoiceLine, IsListOf, Leads, Reads, StartsWords, Tells, WritesValues};
 
 use crate::bits::{BitList, push_bits};
 use crate::cause::{DbCause, Refusal};
@@ -204,6 +204,19 @@ fn number_line(text: &[u8]) -> Option<Leading>
     let end = found.digits;
     if 0 < end && end < text.len() && text[end] == b'\n' {
         Some(found)
+    } else {
+        None
+    }
+}
+
+/// The number at the front of words where a space stands right behind its one to nine digits, and what stands behind that.
+pub(crate) fn number_and_space(words: &[u8]) -> Option<(u32, &[u8])>
+    ensures { IfSome result (λ found. StartsWords words.now found.0 found.1.now) }
+{
+    let found = leading_number(words);
+    let end = found.digits;
+    if 0 < end && end < words.len() && words[end] == b' ' {
+        Some((found.number, &words[end + 1..]))
     } else {
         None
     }

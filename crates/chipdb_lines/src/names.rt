@@ -1,11 +1,15 @@
 // Lines of the statement `.net`.
-ghost use Rattle.std.specs.Prelude.{◌≡◌, ◌∷◌, ℕ};
+ghost use Rattle.std.specs.Prelude.{◌≡◌, ◌∷◌, ℕ, ◌&&◌, not, nat_lt, length, IfSome, Ok};
+ghost use Rattle.std.specs.List.{list_all};
+ghost use Rattle.text_lines.specs.Lines.{is_blank};
 ghost use Rattle.chipdb_lines.specs.Words.{words_in};
 ghost use Rattle.chipdb_lines.specs.Items.{name_of};
 ghost use Rattle.chipdb_lines.specs.Kept.{name_named, Reads};
 
 use crate::cause::DbCause;
 use crate::kinds::is_in_grid;
+use crate::links::number_and_space;
+use crate::words::is_blank;
 use plane_map::DeviceName;
 use text_lines::{Separators, number, one_word, split_word};
 
@@ -18,8 +22,50 @@ pub struct NameItem<'a> {
 }
 
 /// What the words `X Y NAME` say.
-#[tactic(auto, unfolding(crate::specs::Items::name_of))]
 pub fn name_item(device: DeviceName, words: &[u8]) -> Result<NameItem<'_>, DbCause>
+    ensures { (net : ℕ) → Reads (name_of device net (words_in words.now)) (name_named net) result }
+{
+    match usual_name(device, words) {
+        Some(item) => Ok(item),
+        None => spaced_name(device, words),
+    }
+}
+
+/// The same, where one space stands between two words and none else: none of other words, and none of words with which
+/// something is wrong.
+fn usual_name(device: DeviceName, words: &[u8]) -> Option<NameItem<'_>>
+    ensures { IfSome result (λ item. (net : ℕ) → name_of device net (words_in words.now) ≡ Ok (name_named net item)) }
+{
+    let (x, behind) = number_and_space(words)?;
+    let (y, name) = number_and_space(behind)?;
+    if is_in_grid(device, x, y) && is_one_word(name) {
+        Some(NameItem {
+            x: x as u8,
+            y: y as u8,
+            name,
+        })
+    } else {
+        None
+    }
+}
+
+/// Whether there are bytes, and none of them is a space or a tab.
+fn is_one_word(name: &[u8]) -> bool
+    ensures { result ≡ (nat_lt 0 (length name.now) && list_all (λ byte. not (is_blank byte)) name.now) }
+{
+    0 < name.len() && has_no_blank(name)
+}
+
+/// Whether no byte is a space or a tab.
+fn has_no_blank(name: &[u8]) -> bool
+    ensures { result ≡ list_all (λ byte. not (is_blank byte)) name.now }
+{
+    name.iter().all(|byte| !is_blank(*byte))
+}
+
+/// What the words `X Y NAME` say, whatever parts them.
+#[tactic(auto, unfolding(crate::specs::Items::name_of))]
+fn spaced_name(device: DeviceName, words: &[u8]) -> Result<NameItem<'_>, DbCause>
     ensures { (net : ℕ) → Reads (name_of device net (words_in words.now)) (name_named net) result }
 {
     match split_word(Separators::SpacesAndTabs, words) {

@@ -47,7 +47,7 @@ fn are_blanks(words: &[u8]) -> bool
 }
 
 /// Whether the byte is a space or a tab.
-fn is_blank(byte: u8) -> bool
+pub(crate) fn is_blank(byte: u8) -> bool
     ensures { result ≡ is_blank byte }
 {
     byte == b' ' || byte == b'\t'

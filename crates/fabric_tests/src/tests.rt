@@ -1,6 +1,4 @@
 // What a database and an image of a 1k give. A test is a table of cases; the functions below make the calls, one kind of call each.
-ghost use Rattle.std.specs.Prelude.{IsTrue};
-ghost use Rattle.plane_map.specs.Layout.{IsTileBit};
 
 mod cells;
 mod designs;
@@ -9,17 +7,15 @@ mod nets;
 mod pins;
 mod rams;
 
-use chipdb_reader::{ChipDb, read};
+use chipdb_reader::ChipDb;
 use fabric::{Design, FabricFault, design};
 use fabric_drivers::Drive;
 use fabric_rules::{CarrySet, ClockUser, Driver, GlobalNet, Lc, Pin, RamCell};
 use ice_image::AnyImage;
 use net_extract::{Links, links};
-use plane_map::{DeviceName, Hx1k, Place, TileBit, kind_at, tile_width};
+use plane_map::Place;
+use sample_images::{SampleBit, database, image_with, set_bits, set_extras};
 use std::alloc::Global;
-
-/// A bit of a tile: x, y, row and column.
-type Bit = (u8, u8, u8, u8);
 
 /// The class of a net, and whether the net is read.
 type Net = (u32, bool);
@@ -28,9 +24,9 @@ type Net = (u32, bool);
 #[derive(Clone, Copy)]
 struct Case<'a> {
     text: &'a [u8],
-    bits: &'a [Bit],
+    bits: &'a [SampleBit],
     /// More bits.
-    more: &'a [Bit],
+    more: &'a [SampleBit],
     /// Whether the pad of global 2 drives it.
     pad: bool,
     gives: Gives<'a>,
@@ -38,7 +34,7 @@ struct Case<'a> {
 
 impl<'a> Case<'a> {
     /// A case without more bits, in which no pad drives global 2.
-    fn of(text: &'a [u8], bits: &'a [Bit], gives: Gives<'a>) -> Case<'a> {
+    fn of(text: &'a [u8], bits: &'a [SampleBit], gives: Gives<'a>) -> Case<'a> {
         Case {
             text,
             bits,
@@ -88,41 +84,17 @@ enum Cause<'a> {
     Other,
 }
 
-fn is_tile_bit(bit: TileBit) -> bool
-    ensures { IsTrue result → IsTileBit DeviceName.K1 bit }
-{
-    match kind_at::<Hx1k>(u32::from(bit.x), u32::from(bit.y)) {
-        Some(kind) => bit.row < 16 && usize::from(bit.col) < tile_width(kind),
-        None => false,
-    }
-}
+/// The place of the extra bit that lets the pad of global 2 drive it.
+const PAD: Place = Place {
+    bank: 0,
+    px: 330,
+    py: 143,
+};
 
-/// Sets a bit of a 1k.
-fn set_bit(image: &mut AnyImage, bit: TileBit) {
-    if image.device() == DeviceName::K1 && is_tile_bit(bit) {
-        image.set_tile_bit(bit, true);
-    }
-}
-
-/// Sets bits of a 1k.
-fn set_bits(image: &mut AnyImage, bits: &[Bit]) {
-    for (x, y, row, col) in bits {
-        set_bit(
-            image,
-            TileBit {
-                x: *x,
-                y: *y,
-                row: *row,
-                col: *col,
-            },
-        );
-    }
-}
-
-/// Lets the pad of global 2 of a 1k drive it.
+/// Lets the pad of global 2 drive it, or leaves the image as it is.
 fn set_pad(image: &mut AnyImage, pad: bool) {
-    if let Some(at) = image.extra_place(0, 330, 143) {
-        image.set_extra_bit(at, pad);
+    if pad {
+        set_extras(image, &[PAD]);
     }
 }
 
@@ -256,9 +228,8 @@ fn holds(alloc: Global, db: &ChipDb, image: &AnyImage, gives: Gives) -> bool {
 
 /// Whether a database and an image with the bits of a case give what it says.
 fn is_so_in(alloc: Global, db: &ChipDb, case: Case) -> bool {
-    match AnyImage::zeroed(alloc, DeviceName::K1) {
+    match image_with(alloc, case.bits) {
         Ok(mut image) => {
-            set_bits(&mut image, case.bits);
             set_bits(&mut image, case.more);
             set_pad(&mut image, case.pad);
             holds(alloc, db, &image, case.gives)
@@ -269,11 +240,8 @@ fn is_so_in(alloc: Global, db: &ChipDb, case: Case) -> bool {
 
 /// Whether a case is as it says.
 fn is_so(alloc: Global, case: Case) -> bool {
-    if case.text.len() > 268_435_456 {
-        return false;
-    }
-    match read(alloc, case.text) {
-        Ok(db) => is_so_in(alloc, &db, case),
-        Err(_) => false,
+    match database(alloc, case.text) {
+        Some(db) => is_so_in(alloc, &db, case),
+        None => false,
     }
 }

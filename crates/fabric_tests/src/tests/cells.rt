@@ -1,7 +1,8 @@
 // Logic cells.
 
-use super::{Bit, Case, Cause, Gives, is_so};
+use super::{Case, Cause, Gives, is_so};
 use fabric_rules::{CarrySet, Lc};
+use sample_images::SampleBit;
 use std::alloc::Global;
 
 /// Two cells, the nets of an inverter, of a carry chain and of a clock.
@@ -28,7 +29,7 @@ CarryInSet B1[49]
 ";
 
 /// The bits of a LUT that inverts its lowest input, of a flip-flop at falling edges that a reset sets.
-const INVERTER: [Bit; 11] = [
+const INVERTER: [SampleBit; 11] = [
     (1, 1, 0, 37),
     (1, 1, 0, 39),
     (1, 1, 0, 40),
@@ -63,7 +64,7 @@ const INVERTED: [Lc; 1] = [Lc {
 }];
 
 /// The bits of two cells that carry, and of a carry into the first that is set.
-const CARRIES: [Bit; 3] = [(1, 1, 1, 49), (1, 1, 0, 44), (1, 1, 2, 44)];
+const CARRIES: [SampleBit; 3] = [(1, 1, 1, 49), (1, 1, 0, 44), (1, 1, 2, 44)];
 
 /// What these bits give.
 const CARRIED: [Lc; 2] = [
@@ -106,7 +107,7 @@ const CARRIED: [Lc; 2] = [
 ];
 
 /// Whether an image with these bits gives that.
-fn are_cells(alloc: Global, bits: &[Bit], gives: Gives) -> bool {
+fn are_cells(alloc: Global, bits: &[SampleBit], gives: Gives) -> bool {
     is_so(alloc, Case::of(CELLS, bits, gives))
 }
 

@@ -1,11 +1,12 @@
 // Orders of classes, loops and clocks.
 
-use super::{Bit, Case, Cause, Gives, is_so};
+use super::{Case, Cause, Gives, is_so};
 use fabric_rules::{ClockUser, Driver};
+use sample_images::{INVERTER, SampleBit};
 use std::alloc::Global;
 
 /// An inverter between two pins, in a loop of buffers that an image may close, with a clock.
-const INVERTER: &[u8] = b".device 1k 14 18 6
+const CLOCKED: &[u8] = b".device 1k 14 18 6
 .logic_tile_bits 54 16
 LC_0 B0[36] B0[37] B0[38] B0[39] B0[40] B0[41] B0[42] B0[43] B0[44] B0[45] B1[36] B1[37] B1[38] B1[39] B1[40] B1[41] B1[42] B1[43] B1[44] B1[45]
 NegClk B6[0]
@@ -37,43 +38,26 @@ IOB_0.PINTYPE_5 B5[0]
 01 0
 ";
 
-/// An input pin, an output pin, an inverter from in_0 to out, and the buffer from the inverter to the output pin.
-const PARTS: [Bit; 13] = [
-    (0, 1, 0, 0),
-    (0, 2, 0, 0),
-    (0, 2, 3, 0),
-    (0, 2, 4, 0),
-    (0, 2, 6, 0),
-    (1, 1, 0, 37),
-    (1, 1, 0, 39),
-    (1, 1, 0, 40),
-    (1, 1, 0, 42),
-    (1, 1, 1, 36),
-    (1, 1, 1, 38),
-    (1, 1, 1, 41),
-    (1, 1, 1, 43),
-];
-
 /// The buffer from the pin to in_0, the one from out to in_0, the flip-flop, the two that a clock may have, and falling edges.
-const FROM_PIN: Bit = (1, 1, 2, 0);
+const FROM_PIN: SampleBit = (1, 1, 2, 0);
 
-const BACK: Bit = (1, 1, 3, 0);
+const BACK: SampleBit = (1, 1, 3, 0);
 
-const FLIP: Bit = (1, 1, 0, 45);
+const FLIP: SampleBit = (1, 1, 0, 45);
 
-const CLOCK_OUT: Bit = (1, 1, 4, 0);
+const CLOCK_OUT: SampleBit = (1, 1, 4, 0);
 
-const CLOCK_PIN: Bit = (1, 1, 5, 0);
+const CLOCK_PIN: SampleBit = (1, 1, 5, 0);
 
-const FALLING: Bit = (1, 1, 6, 0);
+const FALLING: SampleBit = (1, 1, 6, 0);
 
-/// Whether the parts with some more bits give that.
-fn is_design(alloc: Global, more: &[Bit], gives: Gives) -> bool {
+/// Whether the inverter with some more bits gives that.
+fn is_design(alloc: Global, more: &[SampleBit], gives: Gives) -> bool {
     is_so(
         alloc,
         Case {
             more,
-            ..Case::of(INVERTER, &PARTS, gives)
+            ..Case::of(CLOCKED, &INVERTER, gives)
         },
     )
 }

@@ -1,8 +1,9 @@
 // What drives nets, and classes with two drivers.
 
-use super::{Bit, Case, Cause, Gives, is_so};
+use super::{Case, Cause, Gives, is_so};
 use fabric_drivers::{Drive, Rule};
 use fabric_rules::{Driver, Lc};
+use sample_images::SampleBit;
 use std::alloc::Global;
 
 /// Two output pins, two input pins, a global with a pad and one with a net `fabout`.
@@ -40,7 +41,7 @@ padin_glb_netwk.2 0 330 143
 ";
 
 /// The bits of an output pin that can be read, of one that can't, and of the input pins.
-const PIN_BITS: [Bit; 7] = [
+const PIN_BITS: [SampleBit; 7] = [
     (0, 1, 0, 0),
     (0, 1, 3, 0),
     (0, 1, 4, 0),
@@ -105,7 +106,7 @@ CarryInSet B1[49]
 ";
 
 /// The bits of the first entries of both LUTs, of the carry, of the flip-flop, and of a carry into the first cell that is set.
-const CELL_BITS: [Bit; 5] = [
+const CELL_BITS: [SampleBit; 5] = [
     (1, 1, 0, 40),
     (1, 1, 2, 40),
     (1, 1, 2, 44),
@@ -217,26 +218,26 @@ const BUFFERS: &[u8] = b".device 1k 14 18 7
 ";
 
 /// The bits of the buffers: the source and the destination of each, and `AGAIN` where there is another with the same two.
-const FROM_0_TO_2: Bit = (1, 1, 0, 1);
+const FROM_0_TO_2: SampleBit = (1, 1, 0, 1);
 
-const FROM_0_TO_3: Bit = (1, 1, 0, 2);
+const FROM_0_TO_3: SampleBit = (1, 1, 0, 2);
 
-const FROM_3_TO_2: Bit = (1, 1, 0, 3);
+const FROM_3_TO_2: SampleBit = (1, 1, 0, 3);
 
-const FROM_5_TO_2: Bit = (1, 1, 0, 4);
+const FROM_5_TO_2: SampleBit = (1, 1, 0, 4);
 
-const FROM_0_TO_5: Bit = (1, 1, 0, 5);
+const FROM_0_TO_5: SampleBit = (1, 1, 0, 5);
 
-const FROM_0_TO_5_AGAIN: Bit = (1, 2, 0, 5);
+const FROM_0_TO_5_AGAIN: SampleBit = (1, 2, 0, 5);
 
-const FROM_0_TO_2_AGAIN: Bit = (1, 2, 0, 6);
+const FROM_0_TO_2_AGAIN: SampleBit = (1, 2, 0, 6);
 
-const FROM_0_TO_4: Bit = (1, 1, 0, 7);
+const FROM_0_TO_4: SampleBit = (1, 1, 0, 7);
 
-const FROM_0_TO_1: Bit = (1, 1, 0, 8);
+const FROM_0_TO_1: SampleBit = (1, 1, 0, 8);
 
 /// Whether an image with these bits gives that.
-fn are_buffers(alloc: Global, bits: &[Bit], gives: Gives) -> bool {
+fn are_buffers(alloc: Global, bits: &[SampleBit], gives: Gives) -> bool {
     is_so(alloc, Case::of(BUFFERS, bits, gives))
 }
 
@@ -270,7 +271,7 @@ fn tells_the_least_class_with_two_drivers(rt: HostRuntime) {
         None,
         None,
     ];
-    let cases: [(&[Bit], Gives); 6] = [
+    let cases: [(&[SampleBit], Gives); 6] = [
         (&[], Gives::Drives(&none)),
         (&[FROM_0_TO_2, FROM_0_TO_3], Gives::Drives(&two_buffers)),
         (&[FROM_0_TO_2, FROM_0_TO_3, FROM_3_TO_2], two(2, 0, 2)),

@@ -1,50 +1,11 @@
 // Links, classes and nets that are read.
 
-use super::{Bit, Case, Gives, is_so};
+use super::{Case, Gives, is_so};
+use sample_images::{CELL, INVERTER, SampleBit};
 use std::alloc::{AllocError, Global};
 
-/// A cell between two pins.
-const CELL: &[u8] = b".device 1k 14 18 6
-.logic_tile_bits 54 16
-LC_0 B0[36] B0[37] B0[38] B0[39] B0[40] B0[41] B0[42] B0[43] B0[44] B0[45] B1[36] B1[37] B1[38] B1[39] B1[40] B1[41] B1[42] B1[43] B1[44] B1[45]
-.io_tile_bits 18 16
-IOB_0.PINTYPE_0 B0[0]
-IOB_0.PINTYPE_1 B1[0]
-IOB_0.PINTYPE_2 B2[0]
-IOB_0.PINTYPE_3 B3[0]
-IOB_0.PINTYPE_4 B4[0]
-IOB_0.PINTYPE_5 B5[0]
-.net 0
-0 1 io_0/D_IN_0
-.net 1
-1 1 lutff_0/in_0
-.net 2
-1 1 lutff_0/out
-.net 3
-0 2 io_0/D_OUT_0
-.buffer 1 1 1 B2[0]
-1 0
-.buffer 0 2 3 B6[0]
-1 2
-";
-
-/// The bits of an image in which the cell inverts one pin to the other: x, y, row and column of each.
-const INVERTER: [Bit; 14] = [
-    (0, 1, 0, 0),
-    (0, 2, 0, 0),
-    (0, 2, 3, 0),
-    (0, 2, 4, 0),
-    (0, 2, 6, 0),
-    (1, 1, 0, 37),
-    (1, 1, 0, 39),
-    (1, 1, 0, 40),
-    (1, 1, 0, 42),
-    (1, 1, 1, 36),
-    (1, 1, 1, 38),
-    (1, 1, 1, 41),
-    (1, 1, 1, 43),
-    (1, 1, 2, 0),
-];
+/// The bit of the buffer from the input pin to the cell.
+const FROM_PIN: SampleBit = (1, 1, 2, 0);
 
 /// Links of which those that want zeros are on in a blank image.
 const JOINED: &[u8] = b".device 1k 14 18 12
@@ -94,15 +55,26 @@ const BLANK: Gives = Gives::Links {
     ],
 };
 
-/// Whether a text and an image with these bits give that.
-fn are_nets(alloc: Global, text: &[u8], bits: &[Bit], gives: Gives) -> bool {
-    is_so(alloc, Case::of(text, bits, gives))
+/// Whether the cell between two pins, each buffer on, gives what is expected.
+fn is_inverted(alloc: Global) -> bool {
+    is_so(
+        alloc,
+        Case {
+            more: &[FROM_PIN],
+            ..Case::of(CELL, &INVERTER, INVERTED)
+        },
+    )
+}
+
+/// Whether a text and a blank image give that.
+fn are_nets(alloc: Global, text: &[u8], gives: Gives) -> bool {
+    is_so(alloc, Case::of(text, &[], gives))
 }
 
 #[test]
 fn finds_links_nets_and_classes(rt: HostRuntime) {
-    assert!(rt; are_nets(rt.alloc(), CELL, &INVERTER, INVERTED));
-    assert!(rt; are_nets(rt.alloc(), JOINED, &[], BLANK));
+    assert!(rt; is_inverted(rt.alloc()));
+    assert!(rt; are_nets(rt.alloc(), JOINED, BLANK));
 }
 
 /// How many nets the chain has.
@@ -124,7 +96,7 @@ fn chain(alloc: Global) -> Result<Vec<u8>, AllocError> {
 
 fn is_chain_one_class(alloc: Global) -> Result<bool, AllocError> {
     let text = chain(alloc)?;
-    Ok(are_nets(alloc, &text, &[], Gives::OneClass(CHAIN as usize)))
+    Ok(are_nets(alloc, &text, Gives::OneClass(CHAIN as usize)))
 }
 
 #[test]

@@ -1,7 +1,8 @@
 // Pins and globals.
 
-use super::{Bit, Case, Cause, Gives, is_so};
+use super::{Case, Cause, Gives, is_so};
 use fabric_rules::{GlobalFrom, GlobalNet, Pin};
+use sample_images::SampleBit;
 use std::alloc::Global;
 
 /// Two pins, a PLL, and a global with a pad and a tile.
@@ -33,7 +34,7 @@ padin_glb_netwk.2 0 330 143
 ";
 
 /// The bits of an input pin and of an output pin that can be read.
-const TWO_PINS: [Bit; 4] = [(0, 1, 0, 0), (0, 2, 0, 0), (0, 2, 3, 0), (0, 2, 4, 0)];
+const TWO_PINS: [SampleBit; 4] = [(0, 1, 0, 0), (0, 2, 0, 0), (0, 2, 3, 0), (0, 2, 4, 0)];
 
 /// What these bits give.
 const FOUND: [Pin; 2] = [
@@ -66,7 +67,7 @@ fn global_nets(from: GlobalFrom) -> [GlobalNet; 2] {
 }
 
 /// Whether an image with these bits, and with the pad of global 2 or without it, gives that.
-fn are_pins(alloc: Global, bits: &[Bit], pad: bool, gives: Gives) -> bool {
+fn are_pins(alloc: Global, bits: &[SampleBit], pad: bool, gives: Gives) -> bool {
     is_so(
         alloc,
         Case {

@@ -1,6 +1,7 @@
 // RAMs.
 
-use super::{Bit, Case, Cause, Gives, is_so};
+use super::{Case, Cause, Gives, is_so};
+use sample_images::SampleBit;
 use std::alloc::Global;
 
 /// A RAM with some of its nets at its lower tile and some at its upper one, and a buffer that reads a bit of it.
@@ -28,7 +29,7 @@ RamConfig.CBIT_0 B1[0]
 ";
 
 /// Whether an image with these bits gives that.
-fn are_rams(alloc: Global, bits: &[Bit], gives: Gives) -> bool {
+fn are_rams(alloc: Global, bits: &[SampleBit], gives: Gives) -> bool {
     is_so(alloc, Case::of(RAM, bits, gives))
 }
 

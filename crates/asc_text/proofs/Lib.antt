@@ -8,6 +8,8 @@ pub mod PiecesWritten
 pub mod RoundTrip
 pub mod Packed
 pub mod RowNumbers
+pub mod Overlaps
+pub mod FirstLines
 pub mod RowsRead
 pub mod Spelled
 pub mod WordsRead

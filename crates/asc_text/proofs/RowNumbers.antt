@@ -1,17 +1,14 @@
 -- Rows of tiles as numbers, column c being worth 2 ^ c.
-use Rattle.std.proofs.Common.{◌≡◌, ℕ, zero, suc, ◌+◌, ◌-◌, ◌*◌, ◌/◌, ◌%◌, ◌^◌, ◌<◌, ◌≤◌, Bool, true, false, ◌&&◌, ◌==◌, List, [], ◌∷◌, length, get_or, drop, map, bit_and, refl, sym, ap, ◌∙◌, arith}
+use Rattle.std.proofs.Common.{◌≡◌, ℕ, zero, suc, ◌+◌, ◌*◌, ◌/◌, ◌%◌, Bool, true, false, ◌==◌, List, [], ◌∷◌, length, get_or, map, refl, sym, ap, ◌∙◌, arith}
 use Rattle.std.specs.List.{list_all}
 use Rattle.std.proofs.lemmas.Bool.{eq-eqb, and_parts}
 use Rattle.std.proofs.lemmas.Bool.Decides.{nat_tests}
-use Rattle.std.proofs.lemmas.List.{length-map, get_or-map, at_drop_more}
 use Rattle.std.proofs.lemmas.Nat.Bits.{bit_at_lowest, bit_at-suc, bit_at-zero}
-use Rattle.std.proofs.Math.Bool.{and_comm}
 use Rattle.bit_plane.specs.BitList.{bit_value, word_of}
-use Rattle.bit_plane.proofs.Words.{bit_value-le, test-bit_value, word_step}
+use Rattle.bit_plane.proofs.Words.{bit_value-le, test-bit_value}
 use Rattle.ice_image.specs.Bits.{number_bit}
 use Rattle.asc_text.specs.Rows.{is_row, row_bit}
 use Rattle.asc_text.specs.inside.RowNumbers.{is_bit, is_odd}
-use Rattle.asc_text.proofs.Packed.{and-one, odd_value, odds-fits}
 
 -- ---- the bits of a number
 
@@ -38,27 +35,6 @@ odds-row_bit (byte ∷ line) are (suc col) = odds-row_bit line (and_parts (is_bi
 -- the number of the lowest bits of a line of characters 0 and 1 has its ones as its bits
 pub row_number-bit : (line : List ℕ) (ones : ℕ) → list_all is_bit line ≡ true → ones ≡ word_of (map is_odd line) → (col : ℕ) → number_bit ones col ≡ row_bit line col
 row_number-bit line ones are is col = ap (λ n. number_bit n col) is ∙ number_bit-word_of (map is_odd line) col ∙ odds-row_bit line are col
-
--- ---- one character more of a line that is read from its end on
-
--- the character before
-pub row_number-more : (line : List ℕ) (i ones here : ℕ) → 0 < i → i ≤ length line → ones ≡ word_of (drop i (map is_odd line)) → here ≡ bit_and (get_or line (i - 1) 0) 1 → 2 * ones + here ≡ word_of (drop (i - 1) (map is_odd line))
-row_number-more line i ones here some within ones_is here_is =
-    word_step (map is_odd line) i ones here some (omega (arith, length-map line is_odd)) ones_is
-    (here_is ∙ and-one (get_or line (i - 1) 0) ∙ sym (odd_value (get_or line (i - 1) 0)) ∙ ap bit_value (sym (get_or-map is_odd line (i - 1) 0 false (omega arith))))
-
--- there is room for the number so far, shifted
-pub row_number-double : (line : List ℕ) (i ones : ℕ) → 0 < i → i ≤ length line → length line ≤ 64 → ones ≡ word_of (drop i (map is_odd line)) → 2 * ones < 2 ^ 64
-row_number-double line i ones some within short ones_is =
-    let next = row_number-more line i ones (bit_and (get_or line (i - 1) 0) 1) some within ones_is refl in
-    omega (arith, next, odds-fits line (i - 1) short)
-
--- whether the character before is one of them
-pub are_bits-more : (line : List ℕ) (i : ℕ) (so_far here : Bool) → 0 < i → i ≤ length line → so_far ≡ list_all is_bit (drop i line) → here ≡ is_bit (get_or line (i - 1) 0) → (so_far && here) ≡ list_all is_bit (drop (i - 1) line)
-are_bits-more line i so_far here some within so_far_is here_is =
-    let e : i - 1 + 1 ≡ i = omega arith in
-    let next : list_all is_bit (drop (i - 1) line) ≡ (is_bit (get_or line (i - 1) 0) && list_all is_bit (drop (i - 1 + 1) line)) = at_drop_more (list_all is_bit) line (i - 1) 0 (omega arith) in
-    and_comm so_far here ∙ ap (λ b. b && so_far) here_is ∙ ap (λ b. is_bit (get_or line (i - 1) 0) && b) (so_far_is ∙ ap (λ n. list_all is_bit (drop n line)) (sym e)) ∙ sym next
 
 -- ---- a whole line
 

@@ -2,7 +2,7 @@
 -- `Meaning` and `Faults`.
 use Rattle.std.specs.Prelude.{◌≡◌, ℕ, ◌+◌, ◌<◌, Bool, true, false, not, ◌&&◌, ◌||◌, List, [], ◌∷◌, ◌++◌, length, nat_lt, ◌==◌, if◌then◌else◌, Option, Some, None, is_some, unwrap_or, replicate}
 use Rattle.std.specs.Bool.{MatchBool}
-use Rattle.text_lines.specs.Lines.{trimmed}
+use Rattle.text_lines.specs.Lines.{lines_of, line_at, trimmed}
 use Rattle.place_search.specs.Places.{or_else}
 use Rattle.plane_map.specs.Layout.{kind_of, columns_of}
 use Rattle.plane_map.specs.declared.device.DeviceName.{DeviceName}
@@ -95,11 +95,15 @@ IsReady image AnyStatement = Unit {0}
 IsReady image (Row kind x y row) = HasKind image x y kind × (row < 16)
 IsReady image (Memory x y row) = HasKind image x y RamB × (row < 16)
 
--- how many bytes a line has that is what is expected, and has no blanks at its end; statements have no such number
-abbrev pub likely_length : Expected → ℕ
-likely_length AnyStatement = 0
-likely_length (Row kind x y row) = columns_of kind
-likely_length (Memory x y row) = 64
+-- how many bytes a row or digits have that are what is expected; a statement has no such number
+abbrev pub plain_length : Expected → ℕ
+plain_length AnyStatement = 0
+plain_length (Row kind x y row) = columns_of kind
+plain_length (Memory x y row) = 64
+
+-- the first line of a text
+abbrev pub first_line : List ℕ → List ℕ
+first_line text = line_at (lines_of text) 0
 
 -- ---- what is wrong
 
@@ -246,6 +250,13 @@ abbrev pub Takes : ReaderState → Expected → List ℕ → ReaderState → Typ
 Takes s AnyStatement line new = MatchBool (begins_with_dot line) (TakesDotted s (statement_in line) line new) (new ≡ after_text s line)
 Takes s (Row kind x y row) line new = TakesRow s kind x y row (trimmed line) new
 Takes s (Memory x y row) line new = TakesMemory s x y row (trimmed line) new
+
+-- the first line of a text was taken, and that is what stands behind it
+pub record TakesFirst (s : ReaderState) (text rest : List ℕ) (new : ReaderState) : Type 0 where
+  pub lines : lines_of text ≡ first_line text ∷ lines_of rest
+  pub shorter : length rest < length text
+  pub fits : line_refusal s s.expected (first_line text) ≡ None
+  pub takes : Takes s s.expected (first_line text) new
 
 -- ---- the end
 

@@ -1,41 +1,55 @@
 // Lines of the characters 0 and 1 as numbers, eight characters at a time.
-ghost use Rattle.std.specs.Prelude.{◌≡◌, ◌+◌, ◌≤◌, List, ℕ, take, drop, map, length};
+ghost use Rattle.std.specs.Prelude.{◌≡◌, ◌+◌, ◌-◌, ◌%◌, ◌≤◌, List, ℕ, take, drop, map, length};
 ghost use Rattle.std.specs.List.{list_all};
 ghost use Rattle.bit_plane.specs.BitList.{word_of};
 ghost use Rattle.asc_text.specs.inside.RowNumbers.{is_bit, is_odd, bytes_number, AreEight};
 
-/// What the bytes of a line from a place on give.
+/// What bytes of a line give.
 #[derive(Drop)]
-pub(crate) struct Tail {
-    /// The place.
-    pub(crate) start: usize,
+pub(crate) struct LineNumber {
     /// Their lowest bits as a number, that of the first byte worth 1.
     pub(crate) ones: u64,
     /// Whether each is the character 0 or 1.
     pub(crate) are_bits: bool,
 }
 
-/// The end of a line, as much of it as can be read eight bytes at a time.
-pub(crate) fn in_eights(line: &[u8]) -> Tail
-    requires { length line.now ≤ 64 }
-    ensures start { result.start ≤ length line.now }
-    ensures ones { result.ones ≡ word_of (drop result.start (map is_odd line.now)) }
-    ensures bits { result.are_bits ≡ list_all is_bit (drop result.start line.now) }
+/// A line as a number, column c being worth 2^c, and whether it is one of the characters 0 and 1.
+#[inline(always)]
+pub(crate) fn line_number(line: &[u8]) -> LineNumber
+    requires long { 8 ≤ length line.now }
+    requires short { length line.now ≤ 64 }
+    ensures ones { result.ones ≡ word_of (map is_odd line.now) }
+    ensures bits { result.are_bits ≡ list_all is_bit line.now }
 {
-    let mut start = line.len();
+    // The first eight bytes, of which those from `start` on are read a second time with the tail.
+    let head = eight_at(line, 0);
+    let start = line.len() % 8;
+    let tail = in_eights(line, start);
+    LineNumber {
+        ones: u64::from(head.0) % (1 << start) | tail.ones << start,
+        are_bits: head.1 & tail.are_bits,
+    }
+}
+
+/// The bytes of a line from a place on, which are eight or a multiple of it.
+#[inline(always)]
+fn in_eights(line: &[u8], start: usize) -> LineNumber
+    requires within { start ≤ length line.now }
+    requires whole { (length line.now - start) % 8 ≡ 0 }
+    requires short { length line.now ≤ 64 }
+    ensures ones { result.ones ≡ word_of (drop start (map is_odd line.now)) }
+    ensures bits { result.are_bits ≡ list_all is_bit (drop start line.now) }
+{
+    let mut place = line.len();
     let mut ones = 0;
     let mut are_bits = true;
-    while 8 <= start {
-        start -= 8;
-        let eight = eight_at(line, start);
+    while start < place {
+        place -= 8;
+        let eight = eight_at(line, place);
         ones = 256 * ones + u64::from(eight.0);
         are_bits &= eight.1;
     }
-    Tail {
-        start,
-        ones,
-        are_bits,
-    }
+    LineNumber { ones, are_bits }
 }
 
 /// The lowest bits of eight bytes of a line as a number, that of the first byte worth 1, and whether each is the character 0

@@ -1,5 +1,5 @@
 // What the reader keeps between the lines of a text, and what a line changes.
-ghost use Rattle.std.specs.Prelude.{◌≡◌, [], Some, None, false, IfOk, IfErr, OnOk};
+ghost use Rattle.std.specs.Prelude.{◌≡◌, ◌<◌, ◌≤◌, ◌==◌, ◌&&◌, [], Some, None, false, length, get_or, nat_lt, IfOk, IfErr, OnOk, MatchOption};
 ghost use Rattle.ice_image.specs.Either.{configuration_of};
 ghost use Rattle.asc_text.specs.Statements.{begins_with_dot};
 
@@ -17,7 +17,7 @@ use ice_image::{AnyImage, Comment, Range, Settings};
 use layout_file::Layouts;
 use plane_map::{TileKind, tile_width};
 use std::alloc::{AllocError, Global};
-use text_lines::trimmed;
+use text_lines::{first_line_near, trimmed};
 
 /// What the next line has to be.
 #[derive(Clone, Copy, Debug, PartialEq, Eq)]
@@ -41,7 +41,19 @@ pub(crate) enum Expected {
 
 impl Expected {
     ghost use Rattle.asc_text.specs.Faults.{tile_named};
-    ghost use Rattle.asc_text.specs.inside.Reading.{statement_of};
+    ghost use Rattle.asc_text.specs.inside.Reading.{plain_length, statement_of};
+
+    /// How many bytes a row or digits have that are this.
+    fn plain_len(self) -> usize
+        ensures is { result ≡ plain_length self }
+        ensures small { result ≤ 64 }
+    {
+        match self {
+            Expected::Statement => 0,
+            Expected::Row { kind, .. } => tile_width(kind),
+            Expected::Memory { .. } => 64,
+        }
+    }
 
     /// The tile or RAM that a line belongs to, which is to be this.
     fn tile(self, line: &[u8]) -> Option<TileXy>
@@ -117,7 +129,7 @@ pub(crate) struct Reader {
 
 impl Reader {
     ghost use Rattle.asc_text.specs.Faults.{Tells, fault_with, tile_named};
-    ghost use Rattle.asc_text.specs.inside.Reading.{state_of, begun, likely_length, IsReady, Takes, TakesDotted, dotted_refusal, line_refusal, statement_of, text_refusal, after_text, Reports, end_refusal, Finishes, settings_in};
+    ghost use Rattle.asc_text.specs.inside.Reading.{state_of, begun, IsReady, Takes, TakesDotted, TakesFirst, first_line, dotted_refusal, line_refusal, statement_of, text_refusal, after_text, Reports, end_refusal, Finishes, settings_in};
     ghost use Rattle.asc_text.specs.Statements.{statement_in};
 
     /// Nothing was read.
@@ -140,19 +152,61 @@ impl Reader {
         })
     }
 
-    /// How many bytes the next line has, most likely: as many as its row or its digits take.
-    pub(crate) fn likely_len(&self) -> usize
-        ensures { result ≡ likely_length self.now.expected }
+    /// Takes the first line of a text, and gives the text behind it, where the line is, as it mostly is, the row or the
+    /// digits that are expected, with LF alone behind them. Nothing changes where it is something else.
+    #[inline(always)]
+    pub(crate) fn accept_plain<'a>(&mut self, text: &'a [u8]) -> Option<&'a [u8]>
+        requires ready { IsReady self.old.image self.old.expected }
+        ensures { MatchOption result (state_of self.new ≡ state_of self.old)
+            (λ rest. TakesFirst (state_of self.old) text.now rest.now (state_of self.new)) }
     {
-        match self.expected {
-            Expected::Statement => 0,
-            Expected::Row { kind, .. } => tile_width(kind),
-            Expected::Memory { .. } => 64,
+        let expected = self.expected;
+        let len = expected.plain_len();
+        if !is_lf_at(text, len) {
+            return None;
+        }
+        let line = &text[..len];
+        let rest = &text[len + 1..];
+        match expected {
+            Expected::Statement => None,
+            Expected::Row { kind, x, y, row } => match self.accept_row(kind, x, y, row, line) {
+                Ok(()) => Some(rest),
+                Err(_) => None,
+            },
+            Expected::Memory { x, y, row } => match self.accept_memory(x, y, row, line) {
+                Ok(()) => Some(rest),
+                Err(_) => None,
+            },
+        }
+    }
+
+    /// Takes the first line of a text, which has that number, whatever it is, and gives the text behind it.
+    #[inline(never)]
+    pub(crate) fn accept_any<'a>(
+        &mut self,
+        number: u64,
+        text: &'a [u8],
+    ) -> Result<&'a [u8], AscFault>
+        requires ready { IsReady self.old.image self.old.expected }
+        requires some { 0 < length text.now }
+        ensures taken { IfOk result (λ rest. TakesFirst (state_of self.old) text.now rest.now (state_of self.new)) }
+        ensures refused { IfErr result (Tells (fault_with (line_refusal (state_of self.old) self.old.expected (first_line text.now))
+            number (tile_named (statement_of self.old.expected (first_line text.now))))) }
+    {
+        // In a text whose lines end with CR LF, a row or digits have one byte more before LF.
+        let len = self.expected.plain_len() + 1;
+        match first_line_near(text, len) {
+            Some(line) => {
+                self.accept(number, line.content)?;
+                Ok(line.rest)
+            }
+            // A text that is not empty has a line.
+            None => Ok(text),
         }
     }
 
     /// Takes the next line, which has that number.
-    pub(crate) fn accept(&mut self, number: u64, line: &[u8]) -> Result<(), AscFault>
+    fn accept(&mut self, number: u64, line: &[u8]) -> Result<(), AscFault>
         requires { IsReady self.old.image self.old.expected }
         ensures taken { IfOk result (λ _. Takes (state_of self.old) self.old.expected line.now (state_of self.new)) }
         ensures accepted { OnOk result (line_refusal (state_of self.old) self.old.expected line.now ≡ None) }
@@ -269,6 +323,13 @@ impl Reader {
             no_sleep: self.no_sleep.unwrap_or(false),
         }
     }
+}
+
+/// Whether LF stands at that offset.
+fn is_lf_at(text: &[u8], offset: usize) -> bool
+    ensures { result ≡ (nat_lt offset (length text.now) && (get_or text.now offset 0 == 10)) }
+{
+    offset < text.len() && text[offset] == b'\n'
 }
 
 /// A line that is missing below the statement of the tile or RAM at (x, y).

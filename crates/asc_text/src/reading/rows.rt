@@ -2,36 +2,40 @@
 ghost use Rattle.std.specs.Prelude.{◌≡◌, ℕ, ◌≤◌, true, false, MatchOption};
 ghost use Rattle.std.specs.List.{list_all};
 ghost use Rattle.asc_text.specs.Faults.{is_printable};
+ghost use Rattle.plane_map.specs.Layout.{columns_of};
 ghost use Rattle.ice_image.specs.Bits.{number_bit};
 ghost use Rattle.asc_text.specs.Rows.{is_memory_line, is_row, memory_bytes, row_bit};
-ghost use Rattle.asc_text.specs.inside.RowNumbers.{is_bit};
 
-use crate::reading::eights::in_eights;
+use crate::reading::eights::line_number;
+use plane_map::TileKind;
 
-/// A row of a tile with that many columns as a number, column c being worth 2^c. None where the line is not such a row.
-pub(crate) fn row_ones(line: &[u8], width: usize) -> Option<u64>
-    requires { width ≤ 64 }
+/// A row of a tile of that kind as a number, column c being worth 2^c. None where the line is not such a row.
+#[inline(never)]
+pub(crate) fn row_ones(line: &[u8], kind: TileKind) -> Option<u64>
+    ensures { MatchOption result (is_row (columns_of kind) line.now ≡ false)
+        (λ ones. (is_row (columns_of kind) line.now ≡ true) × ((col : ℕ) → number_bit ones col ≡ row_bit line.now col)) }
+{
+    // Each width is written out, so that each has code of its own, without a loop.
+    match kind {
+        TileKind::Io => ones_of(line, 18),
+        TileKind::Logic => ones_of(line, 54),
+        TileKind::RamB | TileKind::RamT => ones_of(line, 42),
+    }
+}
+
+/// The same of a tile with that many columns.
+#[inline(always)]
+fn ones_of(line: &[u8], width: usize) -> Option<u64>
+    requires long { 8 ≤ width }
+    requires short { width ≤ 64 }
     ensures { MatchOption result (is_row width line.now ≡ false)
         (λ ones. (is_row width line.now ≡ true) × ((col : ℕ) → number_bit ones col ≡ row_bit line.now col)) }
 {
     if line.len() != width {
         return None;
     }
-    let tail = in_eights(line);
-    let mut ones = tail.ones;
-    let mut are_bits = tail.are_bits;
-    for col in (0..tail.start).rev() {
-        ones = 2 * ones + u64::from(line[col] & 1);
-        are_bits &= is_bit(line[col]);
-    }
-    if are_bits { Some(ones) } else { None }
-}
-
-/// Whether the byte is the character `0` or `1`.
-fn is_bit(byte: u8) -> bool
-    ensures { result ≡ is_bit byte }
-{
-    byte == b'0' || byte == b'1'
+    let row = line_number(line);
+    if row.are_bits { Some(row.ones) } else { None }
 }
 
 /// The bytes that 64 hexadecimal digits write, the high digit of each byte first.

@@ -11,7 +11,6 @@ use crate::file::AscFile;
 use crate::reading::reader::Reader;
 use layout_file::Layouts;
 use std::alloc::Global;
-use text_lines::first_line_near;
 
 /// The configuration and the names that a text gives under the standard layouts, or its first faulty line.
 pub fn read(alloc: Global, bytes: &[u8]) -> Result<AscFile, AscFault>
@@ -36,10 +35,12 @@ pub fn read_with(alloc: Global, bytes: &[u8], layouts: Layouts) -> Result<AscFil
     let mut reader = Reader::new(alloc, layouts)?;
     let mut left = bytes;
     let mut count = 0;
-    while let Some(line) = first_line_near(left, reader.likely_len()) {
-        reader.accept(count + 1, line.content)?;
+    while !left.is_empty() {
+        left = match reader.accept_plain(left) {
+            Some(rest) => rest,
+            None => reader.accept_any(count + 1, left)?,
+        };
         count += 1;
-        left = line.rest;
     }
     reader.finish(count + 1)
 }

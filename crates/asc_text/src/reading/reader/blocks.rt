@@ -1,5 +1,5 @@
 // What the sixteen lines below a statement change: rows of a tile, and lines of a RAM's contents.
-ghost use Rattle.std.specs.Prelude.{◌≡◌, ◌<◌, Some, None, IfOk, IfErr, OnOk};
+ghost use Rattle.std.specs.Prelude.{◌≡◌, ◌<◌, Some, None, IfOk, IfErr, OnOk, OnErr};
 ghost use Rattle.ice_image.specs.Bits.{row_ones};
 ghost use Rattle.asc_text.specs.inside.Gains.{bytes_set};
 ghost use Rattle.asc_text.specs.inside.Reading.{state_of, HasKind, row_refusal, memory_refusal, TakesRow, TakesMemory, ImageGains, after_row, after_memory};
@@ -9,10 +9,11 @@ use crate::reading::bits;
 use crate::reading::reader::{Expected, Reader};
 use crate::reading::rows::{memory_bytes, row_ones};
 use ice_image::AnyImage;
-use plane_map::{TileKind, tile_width};
+use plane_map::TileKind;
 
 impl Reader {
     /// Takes a row of a tile, without the blanks at its end.
+    #[inline(always)]
     pub(super) fn accept_row(
         &mut self,
         kind: TileKind,
@@ -26,8 +27,9 @@ impl Reader {
         ensures taken { IfOk result (λ _. TakesRow (state_of self.old) kind x y row line.now (state_of self.new)) }
         ensures accepted { OnOk result (row_refusal kind line.now ≡ None) }
         ensures refused { IfErr result (λ cause. row_refusal kind line.now ≡ Some cause) }
+        ensures kept { OnErr result (state_of self.new ≡ state_of self.old) }
     {
-        match row_ones(line, tile_width(kind)) {
+        match row_ones(line, kind) {
             Some(ones) => {
                 set_row(&mut self.image, x, y, row, ones);
                 self.expected = after_row(kind, x, y, row);
@@ -50,6 +52,7 @@ impl Reader {
         ensures taken { IfOk result (λ _. TakesMemory (state_of self.old) x y row line.now (state_of self.new)) }
         ensures accepted { OnOk result (memory_refusal line.now ≡ None) }
         ensures refused { IfErr result (λ cause. memory_refusal line.now ≡ Some cause) }
+        ensures kept { OnErr result (state_of self.new ≡ state_of self.old) }
     {
         match memory_bytes(line) {
             Some(bytes) => {

@@ -1,21 +1,48 @@
-use Rattle.std.proofs.Common.{◌∙◌, ◌-◌, arith}
+use Rattle.std.proofs.Common.{◌≡◌, ℕ, ◌∙◌, ◌-◌, drop, map, subst, arith}
+use Rattle.std.specs.List.{list_all}
+use Rattle.bit_plane.specs.BitList.{word_of}
+use Rattle.asc_text.specs.inside.RowNumbers.{is_bit, is_odd}
 use Rattle.asc_text.proofs.Packed.{odds-none, bits-none, odds-eight, odds-eight_fits, bits-eight, odds-fits}
 use Rattle.asc_text.proofs.reading.eights.in_eights.Goals as goal
 
-pub loop-start-init : goal.loop-start-init
-loop-start-init c = record { within = omega arith; ones = odds-none c.args.line.now; bits = bits-none c.args.line.now }
+pub loop-place-init : goal.loop-place-init
+loop-place-init c = record {
+  behind = c.requires.within;
+  within = omega arith;
+  whole = c.requires.whole;
+  ones = odds-none c.args.line.now;
+  bits = bits-none c.args.line.now;
+}
+
+pub overflow_sub-place : goal.overflow_sub-place
+overflow_sub-place c = omega (arith, c.loop-place.invariant.whole)
+
+pub eight_at-eight-requires : goal.eight_at-eight-requires
+eight_at-eight-requires c = omega (arith, c.loop-place.invariant.whole, c.loop-place.invariant.within)
 
 pub overflow_mul-ones : goal.overflow_mul-ones
-overflow_mul-ones c = omega (arith, odds-eight_fits c.args.line.now c.loop-start.start c.loop-start.ones (omega arith) c.loop-start.invariant.within c.requires c.loop-start.invariant.ones)
+overflow_mul-ones c = omega (arith, odds-eight_fits c.args.line.now c.loop-place.place c.loop-place.ones (omega (arith, c.loop-place.invariant.whole)) c.loop-place.invariant.within c.requires.short c.loop-place.invariant.ones)
 
 pub overflow_add-ones : goal.overflow_add-ones
 overflow_add-ones c =
     let here = c.from.ensures ∙ c.eight_at-eight.ensures.ones in
-    omega (arith, odds-eight c.args.line.now c.loop-start.start c.loop-start.ones c.from.result (omega arith) c.loop-start.invariant.within c.loop-start.invariant.ones here, odds-fits c.args.line.now (c.loop-start.start - 8) c.requires)
+    omega (arith, odds-eight c.args.line.now c.loop-place.place c.loop-place.ones c.from.result (omega (arith, c.loop-place.invariant.whole)) c.loop-place.invariant.within c.loop-place.invariant.ones here, odds-fits c.args.line.now (c.loop-place.place - 8) c.requires.short)
 
-pub loop-start-preserved : goal.loop-start-preserved
-loop-start-preserved c = record {
-  within = omega (arith, c.loop-start.invariant.within);
-  ones = odds-eight c.args.line.now c.loop-start.start c.loop-start.ones c.from.result (omega arith) c.loop-start.invariant.within c.loop-start.invariant.ones (c.from.ensures ∙ c.eight_at-eight.ensures.ones);
-  bits = bits-eight c.args.line.now c.loop-start.start c.loop-start.are_bits c.eight_at-eight.result.1 (omega arith) c.loop-start.invariant.within c.loop-start.invariant.bits c.eight_at-eight.ensures.bits;
+pub loop-place-preserved : goal.loop-place-preserved
+loop-place-preserved c = record {
+  behind = omega (arith, c.loop-place.invariant.whole);
+  within = omega (arith, c.loop-place.invariant.within);
+  whole = omega (arith, c.loop-place.invariant.whole);
+  ones = odds-eight c.args.line.now c.loop-place.place c.loop-place.ones c.from.result (omega (arith, c.loop-place.invariant.whole)) c.loop-place.invariant.within c.loop-place.invariant.ones (c.from.ensures ∙ c.eight_at-eight.ensures.ones);
+  bits = bits-eight c.args.line.now c.loop-place.place c.loop-place.are_bits c.eight_at-eight.result.1 (omega (arith, c.loop-place.invariant.whole)) c.loop-place.invariant.within c.loop-place.invariant.bits c.eight_at-eight.ensures.bits;
 }
+
+pub returns-clause-ones : goal.returns-clause-ones
+returns-clause-ones c =
+    let first : c.loop-place.place ≡ c.args.start = omega (arith, c.loop-place.invariant.behind) in
+    subst (λ (n : ℕ). c.loop-place.ones ≡ word_of (drop n (map is_odd c.args.line.now))) first c.loop-place.invariant.ones
+
+pub returns-clause-bits : goal.returns-clause-bits
+returns-clause-bits c =
+    let first : c.loop-place.place ≡ c.args.start = omega (arith, c.loop-place.invariant.behind) in
+    subst (λ (n : ℕ). c.loop-place.are_bits ≡ list_all is_bit (drop n c.args.line.now)) first c.loop-place.invariant.bits

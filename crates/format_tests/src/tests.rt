@@ -5,8 +5,10 @@ ghost use Rattle.ice_image.specs.Either.{device_of};
 
 mod images;
 mod layouts;
+mod packing;
 mod places;
 mod streams;
+mod words;
 
 use ice_image::{AnyImage, Comment, is_comment_line};
 use plane_map::{DeviceName, Place, TileBit, TileKind, kind_on, tile_width};

@@ -8,6 +8,7 @@ mod layouts;
 mod packing;
 mod places;
 mod streams;
+mod texts;
 mod words;
 
 use ice_image::{AnyImage, Comment, is_comment_line};

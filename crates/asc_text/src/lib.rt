@@ -11,6 +11,3 @@ pub use fault::{AscCause, AscFault, TileXy};
 pub use file::{AscFile, ByteText, Symbol};
 pub use reading::{read, read_with};
 pub use writing::write;
-
-#[cfg(test)]
-mod tests;

@@ -11,6 +11,3 @@ mod writing;
 pub use fault::{BinCause, BinFault};
 pub use reading::{Decoder, decode, decode_with};
 pub use writing::encode;
-
-#[cfg(test)]
-mod tests;

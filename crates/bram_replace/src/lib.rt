@@ -15,6 +15,3 @@ mod replacing;
 pub use fault::{BramFault, HexFault};
 pub use hex_file::HexFile;
 pub use replacing::{Replaced, replace};
-
-#[cfg(test)]
-mod tests;

@@ -17,6 +17,3 @@ pub use comment::{Comment, is_comment_line};
 pub use image::Image;
 pub use planes::PlaneKind;
 pub use settings::{Range, Settings};
-
-#[cfg(test)]
-mod tests;

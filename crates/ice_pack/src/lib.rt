@@ -6,6 +6,3 @@ mod unpacking;
 
 pub use packing::{pack, pack_with};
 pub use unpacking::{unpack, unpack_with};
-
-#[cfg(test)]
-mod tests;

@@ -14,6 +14,3 @@ mod section;
 pub use fault::{LayoutCause, LayoutFault};
 pub use field::{Flag, Numbers};
 pub use layouts::Layouts;
-
-#[cfg(test)]
-mod tests;

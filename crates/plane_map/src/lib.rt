@@ -16,6 +16,3 @@ pub use grid::kind_on;
 pub use layout::Layout;
 pub use place::{kind_at, tile_width};
 pub use tile::{Place, RowCol, Run, TileBit, TileKind, TileRow, WordBit};
-
-#[cfg(test)]
-mod tests;

@@ -1,4 +1,6 @@
-use super::*;
+// Layout files: faults, numbers at their ends, and where bits lie.
+
+use layout_file::{LayoutCause, Layouts};
 use plane_map::Place;
 
 /// The fault of a text: line 0 where it is accepted.

@@ -1,18 +1,9 @@
-// Kinds and places that are known from outside, at each public function.
-use crate::{
-    Device, DeviceName, Hx1k, Hx8k, Layout, Place, Run, TileBit, TileKind, TileRow, kind_at,
-    kind_on, tile_width,
+// Kinds and places of tiles that are known from outside, at each public function.
+use super::{at, bit};
+use plane_map::{
+    DeviceName, Hx1k, Hx8k, Layout, Place, Run, TileBit, TileKind, TileRow, kind_at, kind_on,
+    tile_width,
 };
-
-/// A place by its bank, column and row.
-fn at(bank: u8, px: u16, py: u16) -> Place {
-    Place { bank, px, py }
-}
-
-/// A bit of the tile at (x, y) by its row and column.
-fn bit(x: u8, y: u8, row: u8, col: u8) -> TileBit {
-    TileBit { x, y, row, col }
-}
 
 #[test]
 fn names_the_tiles_of_both_devices(rt: HostRuntime) {

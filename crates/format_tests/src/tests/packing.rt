@@ -1,9 +1,9 @@
-// Texts and bitstreams that are known from outside.
+// Texts made into bitstreams and back, which are known from outside.
 ghost use Rattle.layout_file.specs.Layouts.{AreLayouts};
 
-use crate::{pack, pack_with, unpack, unpack_with};
 use asc_text::{AscCause, AscFault, TileXy};
 use bin_stream::{BinCause, BinFault};
+use ice_pack::{pack, pack_with, unpack, unpack_with};
 use layout_file::Layouts;
 use std::alloc::{AllocError, Global};
 

@@ -1,8 +1,9 @@
 // Texts of images that are made by hand.
 
-use super::{BIT, is_lower_ram, is_tile_bit};
-use crate::write;
-use ice_image::{AnyImage, Comment, Range, Settings, is_comment_line};
+use super::BIT;
+use crate::tests::{comment_of, is_lower_ram, is_tile_bit};
+use asc_text::write;
+use ice_image::{AnyImage, Range, Settings};
 use plane_map::DeviceName;
 use std::alloc::{AllocError, Global};
 use std::test::Fail;
@@ -18,17 +19,6 @@ fn set_bits(image: &mut AnyImage) {
     if let Some(at) = image.extra_place(0, 330, 143) {
         image.set_extra_bit(at, true);
     }
-}
-
-/// A comment of these lines, as far as a comment can have them.
-fn comment_of(alloc: Global, lines: &[&[u8]]) -> Result<Comment, AllocError> {
-    let mut comment = Comment::new(alloc);
-    for line in lines {
-        if is_comment_line(line) {
-            comment.push(line)?;
-        }
-    }
-    Ok(comment)
 }
 
 static LINES: [&[u8]; 2] = [b"made by hand", b"for a test"];

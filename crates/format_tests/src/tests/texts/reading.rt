@@ -1,7 +1,8 @@
 // A text that is read, and the first faulty line of others.
 
-use super::{BIT, EXTRA, is_in_cram, is_lower_ram, is_tile_bit};
-use crate::*;
+use super::{BIT, EXTRA};
+use crate::tests::{is_in_cram, is_lower_ram, is_tile_bit};
+use asc_text::{AscCause, AscFault, Symbol, TileXy, read, read_with};
 use ice_image::{AnyImage, Range, Settings};
 use layout_file::{LayoutFault, Layouts};
 use plane_map::{DeviceName, TileKind};

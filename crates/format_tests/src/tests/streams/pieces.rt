@@ -6,7 +6,7 @@ ghost use Rattle.bin_stream.specs.Spelling.{bin_read_of, Tells};
 ghost use Rattle.bin_stream.specs.Decoding.{fed_to};
 
 use super::reading::{END, HX1K_HEAD, Part, blank_stream, stream_of};
-use crate::{BinCause, BinFault, Decoder, decode, encode};
+use bin_stream::{BinCause, BinFault, Decoder, decode, encode};
 use ice_image::AnyImage;
 use std::alloc::Global;
 

@@ -7,7 +7,7 @@ use Rattle.layout_file.specs.Layouts.{standard_layouts}
 use Rattle.ice_image.specs.Either.{configuration_of}
 use Rattle.bin_stream.specs.Spelling.{bin_read_of, Tells}
 use Rattle.bin_stream.specs.Decoding.{StandsFor}
-use Rattle.bin_stream.proofs.tests.pieces.in_pieces.Goals as goal
+use Rattle.format_tests.proofs.tests.streams.pieces.in_pieces.Goals as goal
 
 pub loop-place-preserved : goal.loop-place-preserved
 loop-place-preserved c =

@@ -1,13 +1,8 @@
 // Streams as they are written.
-ghost use Rattle.std.specs.Prelude.{IsTrue, ◌≡◌, Some};
-ghost use Rattle.plane_map.specs.Layout.{IsInCram, kind_of};
-ghost use Rattle.plane_map.specs.declared.tile.TileKind.TheVariants.{RamB};
-ghost use Rattle.ice_image.specs.Either.{device_of};
 
-use super::reading::is_in_cram;
-use crate::check_value::check_value;
-use crate::encode;
-use ice_image::{AnyImage, Comment, Range, Settings, is_comment_line};
+use crate::tests::{at, comment_of, is_in_cram, is_lower_ram, set_place};
+use bin_stream::encode;
+use ice_image::{AnyImage, Range, Settings};
 use plane_map::{DeviceName, Place};
 use std::alloc::{AllocError, Global};
 
@@ -24,17 +19,6 @@ const TURNED: Settings = Settings {
     warm_boot: false,
     no_sleep: true,
 };
-
-/// The comment of these lines.
-fn comment_of(alloc: Global, lines: &[&[u8]]) -> Result<Comment, AllocError> {
-    let mut comment = Comment::new(alloc);
-    for line in lines {
-        if is_comment_line(line) {
-            comment.push(line)?;
-        }
-    }
-    Ok(comment)
-}
 
 /// The stream of an image without a bit, with those settings and the comment of these lines.
 fn stream_of(
@@ -141,35 +125,17 @@ enum Change {
     NoSleep,
 }
 
-/// Whether a RAM's lower tile is at (x, y).
-#[tactic(auto, unfolding(plane_map::specs::Layout::kind_of))]
-fn is_ram(device: DeviceName, x: u8, y: u8) -> bool
-    ensures { IsTrue result → kind_of device x y ≡ Some RamB }
-{
-    device == DeviceName::K1 && x == 3 && y == 1
-}
-
-/// Sets the bit at a place of the configuration planes.
-fn set_place(image: &mut AnyImage, at: Place)
-    requires { IsInCram (device_of image.old) at }
-{
-    match image {
-        AnyImage::K1(image) => image.set_cram_bit(at, true),
-        AnyImage::K8(image) => image.set_cram_bit(at, true),
-    }
-}
-
 /// Makes a change, where the image has room for it.
 fn make(image: &mut AnyImage, change: Change) {
     let device = image.device();
     match change {
         Change::Bit(at) => {
             if is_in_cram(device, at) {
-                set_place(image, at);
+                set_place(image, at, true);
             }
         }
         Change::Word(word, value) => {
-            if is_ram(device, 3, 1) {
+            if is_lower_ram(device, 3, 1) {
                 image.set_ram_word(3, 1, word, value);
             }
         }
@@ -210,7 +176,7 @@ fn changes_bytes(
 }
 
 fn bit(bank: u8, px: u16, py: u16) -> Change {
-    Change::Bit(Place { bank, px, py })
+    Change::Bit(at(bank, px, py))
 }
 
 #[test]
@@ -261,17 +227,5 @@ fn each_change_has_its_bytes(rt: HostRuntime) {
     ] {
         let answer = changes_bytes(rt.alloc(), device, changes, bytes);
         assert!(rt; answer == Ok(true), "{bytes:?}");
-    }
-}
-
-#[test]
-fn gives_the_known_check_values(rt: HostRuntime) {
-    for (bytes, value) in [
-        (b"" as &[u8], 0xFFFF),
-        (b"123456789", 0x29B1),
-        (b"\x22", 0xE5D0),
-        (b"\x01\x05", 0x7E9B),
-    ] {
-        assert!(rt; check_value(bytes) == value, "{bytes:?}");
     }
 }

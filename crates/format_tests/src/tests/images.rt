@@ -1,45 +1,15 @@
-// Each call at both devices, with places that are known from outside.
-ghost use Rattle.std.specs.Prelude.{◌≡◌, Some, IsTrue, All};
-ghost use Rattle.plane_map.specs.Layout.{kind_of, columns_at, IsTileBit, IsInCram};
+// Images: each call at both devices, with places that are known from outside.
+ghost use Rattle.std.specs.Prelude.{◌≡◌, IsTrue, All};
+ghost use Rattle.plane_map.specs.Layout.{columns_at};
 ghost use Rattle.ice_image.specs.Contents.{IsBitOfTile};
-ghost use Rattle.ice_image.specs.Either.{device_of};
 
-use crate::{AnyImage, Comment, Image, Range, Settings, is_comment_line};
+use super::{at, bit, comment_of, is_in_cram, is_lower_ram, is_tile_bit, set_place};
 use bit_plane::{Bits, Tile};
+use ice_image::{AnyImage, Comment, Image, Range, Settings, is_comment_line};
 use plane_map::{
-    Device, DeviceName, Hx1k, Hx8k, Layout, Place, RowCol, TileBit, TileKind, kind_at, tile_width,
+    Device, DeviceName, Hx1k, Hx8k, Layout, Place, RowCol, TileBit, TileKind, kind_on,
 };
 use std::alloc::{AllocError, Global};
-
-/// A place by its bank, column and row.
-fn at(bank: u8, px: u16, py: u16) -> Place {
-    Place { bank, px, py }
-}
-
-/// A bit of the tile at (x, y) by its row and column.
-fn bit(x: u8, y: u8, row: u8, col: u8) -> TileBit {
-    TileBit { x, y, row, col }
-}
-
-// ---- what the calls require, tested at run time
-
-fn kind_on(device: DeviceName, x: u8, y: u8) -> Option<TileKind>
-    ensures { result ≡ kind_of device x y }
-{
-    match device {
-        DeviceName::K1 => kind_at::<Hx1k>(u32::from(x), u32::from(y)),
-        DeviceName::K8 => kind_at::<Hx8k>(u32::from(x), u32::from(y)),
-    }
-}
-
-fn is_tile_bit(device: DeviceName, bit: TileBit) -> bool
-    ensures { IsTrue result → IsTileBit device bit }
-{
-    match kind_on(device, bit.x, bit.y) {
-        Some(kind) => bit.row < 16 && usize::from(bit.col) < tile_width(kind),
-        None => false,
-    }
-}
 
 fn are_in_tile(layout: &Layout, x: u8, y: u8, bits: &[RowCol]) -> bool
     ensures { IsTrue result → All (IsBitOfTile layout.now x y) bits.now }
@@ -61,23 +31,7 @@ fn are_in_tile(layout: &Layout, x: u8, y: u8, bits: &[RowCol]) -> bool
 fn is_logic(device: DeviceName, x: u8, y: u8) -> bool
     ensures { IsTrue result → columns_at device x y ≡ 54 }
 {
-    kind_on(device, x, y) == Some(TileKind::Logic)
-}
-
-fn is_lower_ram(device: DeviceName, x: u8, y: u8) -> bool
-    ensures { IsTrue result → kind_of device x y ≡ Some TileKind.RamB }
-{
-    kind_on(device, x, y) == Some(TileKind::RamB)
-}
-
-fn is_in_cram(device: DeviceName, at: Place) -> bool
-    ensures { IsTrue result → IsInCram device at }
-{
-    let (width, height) = match device {
-        DeviceName::K1 => (332, 144),
-        DeviceName::K8 => (872, 272),
-    };
-    at.bank < 4 && at.px < width && at.py < height
+    kind_on(device, u32::from(x), u32::from(y)) == Some(TileKind::Logic)
 }
 
 // ---- bits of tiles
@@ -98,17 +52,6 @@ fn a_new_image_has_the_usual_settings(rt: HostRuntime) {
     };
     assert!(rt; is_new(rt.alloc(), DeviceName::K1, usual) == Ok(true));
     assert!(rt; is_new(rt.alloc(), DeviceName::K8, usual) == Ok(true));
-}
-
-/// Sets the bit at a place of the configuration planes.
-fn set_place(image: &mut AnyImage, place: Place, bit: bool)
-    requires { IsInCram (device_of image.old) place }
-    ensures { device_of image.new ≡ device_of image.old }
-{
-    match image {
-        AnyImage::K1(image) => image.set_cram_bit(place, bit),
-        AnyImage::K8(image) => image.set_cram_bit(place, bit),
-    }
 }
 
 /// Whether the bit of a tile is the bit at the place, one way and the other.
@@ -367,17 +310,6 @@ fn tells_the_lines_that_a_comment_may_hold(rt: HostRuntime) {
     ] {
         assert_eq!(rt; is_comment_line(line), fits, "at {line:?}");
     }
-}
-
-/// A comment of those lines that a comment may hold.
-fn comment_of(alloc: Global, lines: &[&[u8]]) -> Result<Comment, AllocError> {
-    let mut comment = Comment::new(alloc);
-    for line in lines {
-        if is_comment_line(line) {
-            comment.push(line)?;
-        }
-    }
-    Ok(comment)
 }
 
 /// Whether an image keeps the settings and a comment.

@@ -1,7 +1,7 @@
 use Rattle.std.proofs.Common.{ℕ, ◌-◌, ◌≤◌, length, take}
 use Rattle.layout_file.specs.Layouts.{standard_layouts}
 use Rattle.bin_stream.specs.Decoding.{StandsFor}
-use Rattle.bin_stream.proofs.tests.pieces.in_pieces.Given as goal
+use Rattle.format_tests.proofs.tests.streams.pieces.in_pieces.Given as goal
 
 abbrev pub invariant-loop-place : goal.invariant-loop-place
 invariant-loop-place l = record {

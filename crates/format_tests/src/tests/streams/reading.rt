@@ -1,8 +1,7 @@
 // Streams as they are read.
-ghost use Rattle.std.specs.Prelude.{IsTrue};
-ghost use Rattle.plane_map.specs.Layout.{IsInCram};
 
-use crate::{BinCause, BinFault, decode, encode};
+use crate::tests::{at, is_in_cram};
+use bin_stream::{BinCause, BinFault, decode, encode};
 use ice_image::{AnyImage, Comment};
 use plane_map::{DeviceName, Place};
 use std::alloc::{AllocError, Global};
@@ -121,17 +120,6 @@ fn a_stream_that_is_cut_is_refused(rt: HostRuntime) {
     assert!(rt; no_part_is_read(rt.alloc()) == Ok(true));
 }
 
-/// Whether a place is one of a device's configuration planes.
-pub(super) fn is_in_cram(device: DeviceName, at: Place) -> bool
-    ensures { IsTrue result → IsInCram device at }
-{
-    let (width, height) = match device {
-        DeviceName::K1 => (332, 144),
-        DeviceName::K8 => (872, 272),
-    };
-    at.bank < 4 && at.px < width && at.py < height
-}
-
 /// Whether an image has that bit at a place.
 fn has_bit(image: &AnyImage, at: Place, bit: bool) -> bool {
     is_in_cram(image.device(), at) && image.cram_bit(at) == bit
@@ -149,31 +137,27 @@ fn spells(
     Ok(image.device() == device && has_bit(&image, one, true) && has_bit(&image, zero, false))
 }
 
-fn place(bank: u8, px: u16, py: u16) -> Place {
-    Place { bank, px, py }
-}
-
 #[test]
 fn data_are_rows_of_a_plane(rt: HostRuntime) {
     for (parts, device, one, zero) in [
         (
             [(HX1K_HEAD, 0xFF, 83), (END, 0, 0)].as_slice(),
             DeviceName::K1,
-            place(0, 331, 143),
-            place(0, 0, 141),
+            at(0, 331, 143),
+            at(0, 0, 141),
         ),
         // Later data take the place of earlier ones.
         (
             [(HX1K_HEAD, 0xFF, 83), (AGAIN, 0, 82), (END, 0, 0)].as_slice(),
             DeviceName::K1,
-            place(0, 0, 142),
-            place(0, 331, 143),
+            at(0, 0, 142),
+            at(0, 331, 143),
         ),
         (
             [(HX8K_HEAD, 0xFF, 109), (END, 0, 0)].as_slice(),
             DeviceName::K8,
-            place(3, 871, 271),
-            place(2, 871, 271),
+            at(3, 871, 271),
+            at(2, 871, 271),
         ),
     ] {
         let answer = spells(rt.alloc(), parts, device, one, zero);

@@ -1,0 +1,73 @@
+// What several tests need: places and bits, what calls on images require, tested at run time, and comments.
+ghost use Rattle.std.specs.Prelude.{◌≡◌, Some, IsTrue};
+ghost use Rattle.plane_map.specs.Layout.{kind_of, IsTileBit, IsInCram};
+ghost use Rattle.ice_image.specs.Either.{device_of};
+
+mod images;
+mod layouts;
+mod packing;
+mod places;
+mod streams;
+mod texts;
+mod words;
+
+use ice_image::{AnyImage, Comment, is_comment_line};
+use plane_map::{DeviceName, Place, TileBit, TileKind, kind_on, tile_width};
+use std::alloc::{AllocError, Global};
+
+/// A place by its bank, column and row.
+fn at(bank: u8, px: u16, py: u16) -> Place {
+    Place { bank, px, py }
+}
+
+/// A bit of the tile at (x, y) by its row and column.
+fn bit(x: u8, y: u8, row: u8, col: u8) -> TileBit {
+    TileBit { x, y, row, col }
+}
+
+fn is_tile_bit(device: DeviceName, bit: TileBit) -> bool
+    ensures { IsTrue result → IsTileBit device bit }
+{
+    match kind_on(device, u32::from(bit.x), u32::from(bit.y)) {
+        Some(kind) => bit.row < 16 && usize::from(bit.col) < tile_width(kind),
+        None => false,
+    }
+}
+
+fn is_lower_ram(device: DeviceName, x: u8, y: u8) -> bool
+    ensures { IsTrue result → kind_of device x y ≡ Some TileKind.RamB }
+{
+    kind_on(device, u32::from(x), u32::from(y)) == Some(TileKind::RamB)
+}
+
+fn is_in_cram(device: DeviceName, at: Place) -> bool
+    ensures { IsTrue result → IsInCram device at }
+{
+    let (width, height) = match device {
+        DeviceName::K1 => (332, 144),
+        DeviceName::K8 => (872, 272),
+    };
+    at.bank < 4 && at.px < width && at.py < height
+}
+
+/// Sets the bit at a place of the configuration planes.
+fn set_place(image: &mut AnyImage, place: Place, bit: bool)
+    requires { IsInCram (device_of image.old) place }
+    ensures { device_of image.new ≡ device_of image.old }
+{
+    match image {
+        AnyImage::K1(image) => image.set_cram_bit(place, bit),
+        AnyImage::K8(image) => image.set_cram_bit(place, bit),
+    }
+}
+
+/// A comment of those lines that a comment may hold.
+fn comment_of(alloc: Global, lines: &[&[u8]]) -> Result<Comment, AllocError> {
+    let mut comment = Comment::new(alloc);
+    for line in lines {
+        if is_comment_line(line) {
+            comment.push(line)?;
+        }
+    }
+    Ok(comment)
+}

@@ -18,3 +18,8 @@ check_value_of_digits = refl
 check_value_of_check : check_value (bits_of (0x22 ∷ [])) ≡ 0xE5D0
 unfolding check_value sum_of powers_from power doubled
 check_value_of_check = refl
+
+-- the payload of the reset
+check_value_of_reset : check_value (bits_of (0x01 ∷ 0x05 ∷ [])) ≡ 0x7E9B
+unfolding check_value sum_of powers_from power doubled
+check_value_of_reset = refl

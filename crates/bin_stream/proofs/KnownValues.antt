@@ -19,7 +19,7 @@ check_value_of_check : check_value (bits_of (0x22 ∷ [])) ≡ 0xE5D0
 unfolding check_value sum_of powers_from power doubled
 check_value_of_check = refl
 
--- the payload of the reset
-check_value_of_reset : check_value (bits_of (0x01 ∷ 0x05 ∷ [])) ≡ 0x7E9B
+-- the command that resets the CRC
+check_value_of_reset_command : check_value (bits_of (0x01 ∷ 0x05 ∷ [])) ≡ 0x7E9B
 unfolding check_value sum_of powers_from power doubled
-check_value_of_reset = refl
+check_value_of_reset_command = refl

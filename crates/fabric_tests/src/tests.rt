@@ -5,6 +5,7 @@ mod cells;
 mod databases;
 mod designs;
 mod drives;
+mod explained;
 mod nets;
 mod orders;
 mod pins;

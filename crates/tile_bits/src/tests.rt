@@ -1,12 +1,10 @@
 // Small images explained, with texts worked out by hand.
-ghost use Rattle.std.specs.Prelude.{IsTrue};
-ghost use Rattle.plane_map.specs.Layout.{IsTileBit};
 
 use super::*;
 use crate::lines::append_number;
-use chipdb_reader::{ChipDb, read};
 use ice_image::AnyImage;
-use plane_map::{DeviceName, Hx1k, TileBit, kind_at, tile_width};
+use plane_map::Place;
+use sample_images::{SampleBit, database, image_with, set_extras};
 use std::alloc::{AllocError, Global};
 
 /// Extra bits of a 1k, with two names for one place.
@@ -49,59 +47,29 @@ const SAID: &[u8] = b".device 1k\n.extra_bits\nfirst\nthird\nsecond\n? 1 331 7\n
 const NAMED: &[u8] = b".device 1k\n.logic_tile 1 1\nbuffer here in\n";
 
 /// The bit of that link.
-const LINKED: [TileBit; 1] = [TileBit {
-    x: 1,
-    y: 1,
-    row: 0,
-    col: 0,
-}];
+const LINKED: SampleBit = (1, 1, 0, 0);
 
-/// A database, where the text isn't too long.
-fn database(alloc: Global, text: &[u8]) -> Option<ChipDb> {
-    if text.len() > 268_435_456 {
-        return None;
-    }
-    read(alloc, text).ok()
-}
-
-fn is_tile_bit(bit: TileBit) -> bool
-    ensures { IsTrue result → IsTileBit DeviceName.K1 bit }
-{
-    match kind_at::<Hx1k>(u32::from(bit.x), u32::from(bit.y)) {
-        Some(kind) => bit.row < 16 && usize::from(bit.col) < tile_width(kind),
+/// Whether an image is explained so by the database of a text.
+fn says(alloc: Global, text: &[u8], image: &AnyImage, said: &[u8]) -> bool {
+    match database(alloc, text) {
+        Some(db) => match explain(alloc, &db, image, None) {
+            Ok(told) => told.as_slice() == said,
+            Err(_) => false,
+        },
         None => false,
     }
 }
 
-/// Sets bits of a 1k.
-fn set_bits(image: &mut AnyImage, bits: &[TileBit]) {
-    for bit in bits {
-        if image.device() == DeviceName::K1 && is_tile_bit(*bit) {
-            image.set_tile_bit(*bit, true);
-        }
-    }
-}
-
-/// Whether an image of a 1k with these bits is explained so.
-fn is_explained(alloc: Global, text: &[u8], bits: &[TileBit], said: &[u8]) -> bool {
-    match (
-        database(alloc, text),
-        AnyImage::zeroed(alloc, DeviceName::K1),
-    ) {
-        (Some(db), Ok(mut image)) => {
-            set_bits(&mut image, bits);
-            match explain(alloc, &db, &image, None) {
-                Ok(told) => told.as_slice() == said,
-                Err(_) => false,
-            }
-        }
-        _ => false,
-    }
+/// Whether the extra bits of an image go by their first names.
+fn tells_extras(alloc: Global) -> Result<bool, AllocError> {
+    let mut image = image_with(alloc, &[])?;
+    set_extras(&mut image, &PLACES);
+    Ok(says(alloc, EXTRAS, &image, SAID))
 }
 
 #[test]
 fn extra_bits_go_by_their_first_names(rt: HostRuntime) {
-    assert!(rt; is_explained(rt.alloc(), EXTRAS, &PLACES, SAID));
+    assert!(rt; tells_extras(rt.alloc()) == Ok(true));
 }
 
 /// Adds a name in each tile of a column, which is given by its digit.
@@ -126,14 +94,13 @@ fn with_many_names(alloc: Global) -> Result<Vec<u8>, AllocError> {
 }
 
 /// Whether a net with many names goes by the first one in the tile.
-fn is_named(alloc: Global) -> bool {
-    match with_many_names(alloc) {
-        Ok(text) => is_explained(alloc, &text, &LINKED, NAMED),
-        Err(_) => false,
-    }
+fn is_named(alloc: Global) -> Result<bool, AllocError> {
+    let text = with_many_names(alloc)?;
+    let image = image_with(alloc, &[LINKED])?;
+    Ok(says(alloc, &text, &image, NAMED))
 }
 
 #[test]
 fn nets_with_many_names_go_by_the_first_in_the_tile(rt: HostRuntime) {
-    assert!(rt; is_named(rt.alloc()));
+    assert!(rt; is_named(rt.alloc()) == Ok(true));
 }

@@ -20,6 +20,3 @@ pub use chipdb_lines::{BitList, DbCause};
 pub use fault::DbFault;
 pub use items::{Extra, Function, LinkLine, NetName, PinXy, TileXy8};
 pub use reader::read;
-
-#[cfg(test)]
-mod tests;

@@ -13,6 +13,3 @@ mod search;
 
 pub use cycle::least_cycle;
 pub use order::write_order;
-
-#[cfg(test)]
-mod tests;

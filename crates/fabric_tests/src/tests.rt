@@ -1,9 +1,13 @@
-// What a database and an image of a 1k give. A test is a table of cases; the functions below make the calls, one kind of call each.
+// What a database and an image of a 1k give. A test of links, parts and designs is a table of cases; the functions below make the
+// calls, one kind of call each.
 
 mod cells;
+mod databases;
 mod designs;
 mod drives;
+mod explained;
 mod nets;
+mod orders;
 mod pins;
 mod rams;
 

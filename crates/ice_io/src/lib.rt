@@ -23,6 +23,3 @@ pub use named_file::NamedFile;
 pub use real::{StdSink, StdSource};
 pub use sink::{PutFault, Sink, write_whole};
 pub use source::{Failed, Source, TakeFault, read_all};
-
-#[cfg(test)]
-mod tests;

@@ -23,6 +23,3 @@ pub use explaining::explain;
 pub use fault::ExplainFault;
 pub use item::Active;
 pub use tile::active;
-
-#[cfg(test)]
-mod tests;

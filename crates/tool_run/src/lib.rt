@@ -26,6 +26,3 @@ pub use loaded::loaded_at;
 pub use performing::{Job, give_up, perform, perform_in_pieces};
 pub use piece_tool::PieceTool;
 pub use tool::{Stop, Tool};
-
-#[cfg(test)]
-mod tests;

@@ -19,6 +19,3 @@ pub use event::{Event, EventFault};
 pub use event_lines::read_events;
 pub use runner::Runner;
 pub use text::run_text;
-
-#[cfg(test)]
-mod tests;

@@ -16,6 +16,3 @@ pub use item::{Item, Lut, Right};
 pub use modules::{Module, Port};
 pub use name::{Name, is_name, is_word};
 pub use sort::Sort;
-
-#[cfg(test)]
-mod tests;

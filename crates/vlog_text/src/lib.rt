@@ -12,6 +12,3 @@ pub use vlog_forms::VlogCause;
 pub use vlog_module::{Atom, Atoms, Item, Lut, Module, Name, Port, Right, is_name};
 pub use vlog_parse::{VlogFault, parse};
 pub use vlog_print::print;
-
-#[cfg(test)]
-mod tests;

@@ -11,6 +11,3 @@ mod token;
 
 pub use fixed::{Fixed, fixed_word};
 pub use token::{Spot, Token, next_token};
-
-#[cfg(test)]
-mod tests;

@@ -1,6 +1,6 @@
 use Rattle.std.proofs.Common.{◌<◌, subst, arith}
 use Rattle.fabric_order.proofs.Lists.{has-place}
-use Rattle.fabric_order.proofs.tests.is_row.Goals as goal
+use Rattle.fabric_tests.proofs.tests.orders.is_row.Goals as goal
 
 pub returns : goal.returns
 returns c = λ yes class found.

@@ -1,7 +1,7 @@
 use Rattle.std.proofs.Common.{◌≡◌, ℕ, ◌<◌, true, length}
 use Rattle.fabric_rules.specs.Wiring.{has}
 use Rattle.fabric_order.specs.Rows.{row_at}
-use Rattle.fabric_order.proofs.tests.are_rows.Given as goal
+use Rattle.fabric_tests.proofs.tests.orders.are_rows.Given as goal
 
 abbrev pub invariant-loop-class : goal.invariant-loop-class
 invariant-loop-class l = (class other : ℕ) → class < l.class → has (row_at l.reads class) other ≡ true → other < length l.driven

@@ -1,10 +1,15 @@
-use super::*;
+// Files and streams, of the system and in memory.
+
+use ice_io::{
+    DirFiles, Failed, Files, MemFiles, MemSink, MemSource, NamedFile, PutFault, Source, StdSink,
+    StdSource, StoreFault, TakeFault, read_all, write_whole,
+};
 use std::alloc::{AllocError, Global};
 use std::fs;
 use std::io::{Error, ErrorKind, Read, Write};
 use std::test::Fail;
 
-// A reader and a writer of one byte a call. It is interrupted three times before the second byte, and fails after that byte.
+/// A reader and a writer of one byte a call. It is interrupted three times before the second byte, and fails after that byte.
 #[derive(Drop)]
 struct Unsteady {
     calls: u8,
@@ -61,7 +66,7 @@ fn an_interrupted_write_is_tried_again(rt: HostRuntime) {
     }
 }
 
-// Stores the bytes and loads them again, and answers whether they are the same.
+/// Stores the bytes and loads them again, and answers whether they are the same.
 fn is_kept<F: Files>(
     alloc: Global,
     files: &mut F,
@@ -76,7 +81,7 @@ fn is_kept<F: Files>(
     Ok(loaded.as_slice() == bytes)
 }
 
-// 100,000 bytes, with a period that divides no power of two.
+/// 100,000 bytes, with a period that divides no power of two.
 fn many_bytes(alloc: Global) -> Result<Vec<u8>, AllocError> {
     (0..100_000u32).map(|i| (i % 251) as u8).collect(alloc)
 }

@@ -1,31 +1,9 @@
-use super::*;
-use plane_map::{DeviceName, Place, RowCol, TileKind};
-use std::alloc::{AllocError, Global};
+// Databases read: their faults, and what is looked up in them.
 
-/// A small database of a 1k.
-const SMALL: &[u8] = b".device 1k 14 18 6
-.logic_tile_bits 54 16
-LC_0 B0[36] B0[37] B0[38] B0[39] B0[40] B0[41] B0[42] B0[43] B0[44] B0[45] B1[36] B1[37] B1[38] B1[39] B1[40] B1[41] B1[42] B1[43] B1[44] B1[45]
-.io_tile_bits 18 16
-IOB_0.PINTYPE_0 B0[0]
-IOB_0.PINTYPE_1 B1[0]
-IOB_0.PINTYPE_2 B2[0]
-IOB_0.PINTYPE_3 B3[0]
-IOB_0.PINTYPE_4 B4[0]
-IOB_0.PINTYPE_5 B5[0]
-.net 0
-0 1 io_0/D_IN_0
-.net 1
-1 1 lutff_0/in_0
-.net 2
-1 1 lutff_0/out
-.net 3
-0 2 io_0/D_OUT_0
-.buffer 1 1 1 B2[0]
-1 0
-.buffer 0 2 3 B6[0]
-1 2
-";
+use chipdb_reader::{ChipDb, DbCause, DbFault, PinXy, TileXy8, read};
+use plane_map::{DeviceName, Place, RowCol, TileKind};
+use sample_images::CELL;
+use std::alloc::{AllocError, Global};
 
 /// A small database of an 8k.
 const OTHER: &[u8] = b".device 8k 34 34 4
@@ -79,7 +57,7 @@ fn fault_with(alloc: Global, more: &[u8]) -> (u64, DbCause) {
 }
 
 fn joined(alloc: Global, more: &[u8]) -> Result<Vec<u8>, AllocError> {
-    let mut text = Vec::from_slice(alloc, SMALL)?;
+    let mut text = Vec::from_slice(alloc, CELL)?;
     text.extend_from_slice(more)?;
     Ok(text)
 }
@@ -111,7 +89,7 @@ fn tells_each_cause(rt: HostRuntime) {
         assert!(rt; found == (line, cause), "of {more:?}");
     }
     assert!(rt; fault_of(rt.alloc(), b"") == (1, DbCause::NoDevice));
-    assert!(rt; fault_of(rt.alloc(), SMALL) == (0, DbCause::NoDevice));
+    assert!(rt; fault_of(rt.alloc(), CELL) == (0, DbCause::NoDevice));
 }
 
 /// Whether the nets of the first database are found.
@@ -175,7 +153,7 @@ fn looks_up_what_it_read(rt: HostRuntime) {
 }
 
 fn small_is_read(alloc: Global) -> Result<bool, DbFault> {
-    let db = read_short(alloc, SMALL)?;
+    let db = read_short(alloc, CELL)?;
     Ok(has_nets(&db) && has_link(&db) && has_functions(&db))
 }
 

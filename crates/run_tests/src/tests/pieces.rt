@@ -1,13 +1,14 @@
+// A tool that takes standard input in pieces.
 ghost use Rattle.std.specs.Prelude.{◌≡◌, ◌∷◌, [], ◌%◌, codes, if◌then◌else◌, IfOk, IfErr};
 ghost use Rattle.tool_run.specs.Tasks.{Done, Refused};
 ghost use Rattle.tool_run.specs.Stops.{StopsWith};
 
-use super::*;
 use ice_io::{MemFiles, MemSink, MemSource};
 use std::alloc::{AllocError, Global};
 use std::test::Fail;
+use tool_run::{Job, Load, PieceTool, Refusal, Stop, Tool, loaded_at, perform_in_pieces, text};
 
-// Counts the bytes of its last need, and refuses a byte 0 among them.
+/// Counts the bytes of its last need, and refuses a byte 0 among them.
 struct Counting;
 
 #[derive(Drop)]
@@ -16,7 +17,7 @@ struct Count {
     has_zero: bool,
 }
 
-// The answer to a count.
+/// The answer to a count.
 fn answer_to(alloc: Global, bytes: u64, has_zero: bool) -> Result<Vec<u8>, Stop>
     ensures bytes { IfOk result (λ made. (if has_zero then Refused (codes "zero") else Done (bytes % 256 ∷ [])) ≡ Done made.items) }
     ensures stops { IfErr result (StopsWith (if has_zero then Refused (codes "zero") else Done (bytes % 256 ∷ []))) }
@@ -74,7 +75,7 @@ impl PieceTool for Counting {
     }
 }
 
-// The status, the bytes written and the line said where standard input has these bytes, at most eight, and is read by three.
+/// The status, the bytes written and the line said where standard input has these bytes, at most eight, and is read by three.
 fn is_counted(
     alloc: Global,
     bytes: &[u8],

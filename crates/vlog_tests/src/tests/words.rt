@@ -1,4 +1,33 @@
-use super::*;
+// Names, words and tokens.
+
+use vlog_module::{is_name, is_word};
+use vlog_tokens::{Token, next_token};
+
+#[test]
+fn tells_names_from_other_bytes(rt: HostRuntime) {
+    for (text, is) in [
+        ("a", true),
+        ("_9", true),
+        ("io_0_1_0", true),
+        ("modules", true),
+        ("If", true),
+        ("module", false),
+        ("initial", false),
+        ("", false),
+        ("9a", false),
+        ("a b", false),
+        ("a$", false),
+    ] {
+        assert!(rt; is_name(text.as_bytes()) == is, "of {text:?}");
+    }
+}
+
+#[test]
+fn tells_words(rt: HostRuntime) {
+    for (text, is) in [("wire", true), ("n_0", true), ("", false), ("0n", false)] {
+        assert!(rt; is_word(text.as_bytes()) == is, "of {text:?}");
+    }
+}
 
 /// A letter for the sort of a token.
 fn sort_of(token: Token<'_>) -> char {

@@ -4,7 +4,7 @@ use Rattle.fabric_rules.specs.Wiring.{has}
 use Rattle.fabric_order.specs.Rows.{row_at}
 use Rattle.fabric_order.proofs.Lists.{row-items}
 use Rattle.fabric_order.proofs.Whole.{row-within}
-use Rattle.fabric_order.proofs.tests.are_rows.Goals as goal
+use Rattle.fabric_tests.proofs.tests.orders.are_rows.Goals as goal
 
 pub loop-class-preserved : goal.loop-class-preserved
 loop-class-preserved c = λ class other less found.

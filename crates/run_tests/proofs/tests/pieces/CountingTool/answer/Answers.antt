@@ -4,7 +4,7 @@ use Rattle.std.proofs.lemmas.Grind.{common_steps}
 use Rattle.std.specs.List.{list_any}
 use Rattle.tool_run.specs.Tasks.{Done, Refused}
 use Rattle.tool_run.specs.Stops.{StopsWith}
-use Rattle.tool_run.proofs.tests.CountingTool.answer.Goals as goal
+use Rattle.run_tests.proofs.tests.pieces.CountingTool.answer.Goals as goal
 
 pub returns-clause-stops : goal.returns-clause-stops
 returns-clause-stops c =

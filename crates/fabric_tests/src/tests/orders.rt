@@ -3,7 +3,7 @@ ghost use Rattle.std.specs.Prelude.{◌≡◌, ℕ, ◌<◌, true, length, IsTru
 ghost use Rattle.fabric_rules.specs.Wiring.{has};
 ghost use Rattle.fabric_order.specs.Rows.{wiring_of, ReadsWithin};
 
-use super::*;
+use fabric_order::{least_cycle, write_order};
 use std::alloc::{AllocError, Global};
 
 /// Whether all classes of a row are below the count.

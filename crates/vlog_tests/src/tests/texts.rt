@@ -1,17 +1,7 @@
-use super::*;
-use std::alloc::{AllocError, Global};
+// Texts of modules: what is printed for them, and their faults.
 
-/// Whether a text is a module, and the module that its printed text is read as is printed as the same.
-fn is_read_again(alloc: Global, text: &str) -> Result<bool, AllocError> {
-    match parse(alloc, text.as_bytes()) {
-        Ok(parsed) => {
-            let again = from_own_text(alloc, &parsed)?;
-            Ok(print(alloc, &again)?.as_slice() == print(alloc, &parsed)?.as_slice())
-        }
-        Err(VlogFault::At { .. }) => Ok(false),
-        Err(VlogFault::Memory(refused)) => Err(refused),
-    }
-}
+use std::alloc::{AllocError, Global};
+use vlog_text::{VlogCause, VlogFault, parse, print};
 
 /// The fault of a text; none where it is a module.
 fn fault_of(alloc: Global, text: &str) -> Result<Option<(u64, VlogCause)>, AllocError> {
@@ -61,13 +51,6 @@ const ALL: &str = "module all (c, d, q);
   initial m[255] = 16'h0000;
 endmodule
 ";
-
-#[test]
-fn reads_what_it_prints(rt: HostRuntime) {
-    assert!(rt;
-        is_read_again(rt.alloc(), "module m(a)\t;\r\ninput a;wire x=a;endmodule") == Ok(true)
-    );
-}
 
 #[test]
 fn prints_what_it_parses(rt: HostRuntime) {

@@ -87,7 +87,7 @@ unfoldable pub hex_fault_of : List ℕ → Option HexFault
 hex_fault_of text =
     or_else (first_below (length (lines_of text)) (line_cause (lines_of text))) (depth_cause (length (all_words text)))
 
--- a refusal other than want of memory is that one
+-- a refusal is that one, except where memory ran out
 abbrev pub TellsHex : Option HexFault → HexFault → Type 0
 TellsHex fault (Memory e) = Unit {0}
 TellsHex fault told = fault ≡ Some told

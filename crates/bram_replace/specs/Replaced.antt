@@ -110,7 +110,7 @@ text_fault (Some fault) = Some (Asc (At fault.line fault.tile fault.cause))
 abbrev pub bram_fault : List ℕ → Contents → Contents → Option BramFault
 bram_fault text from to = or_else (shape_fault from to) (or_else (same_fault from) (text_fault (asc_fault_of standard_layouts text)))
 
--- a refusal other than want of memory is that one
+-- a refusal is that one, except where memory ran out
 abbrev pub TellsBram : Option BramFault → BramFault → Type 0
 TellsBram fault (Memory e) = Unit {0}
 TellsBram fault told = fault ≡ Some told

@@ -34,7 +34,7 @@ pub enum BramFault {
     Shape,
     /// The least column of the first file that equals a later one, and the least such one.
     SameColumns { first: u32, second: u32 },
-    /// What is wrong with the text; never want of memory.
+    /// What is wrong with the text; never that memory ran out.
     Asc(AscFault),
     /// Out of memory. It may come in place of any other answer.
     Memory(AllocError),

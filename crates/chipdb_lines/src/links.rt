@@ -107,43 +107,18 @@ fn link_into(
 }
 
 /// What the words `VALUES SRC` say below a statement with so many bits.
+#[tactic(auto, unfolding(crate::specs::Items::choice_of))]
 pub fn choice_item(nets: u32, count: usize, words: &[u8]) -> Result<Choice, DbCause>
     requires { count ≤ 64 }
     ensures says { Reads (choice_of nets count (words_in words.now)) (choice_named count) result }
     ensures small { IfOk result (λ choice. choice.values < 2 ^ count) }
 {
-    match usual_choice(nets, count, words) {
-        Some(choice) => Ok(choice),
-        None => spaced_choice(nets, count, words),
-    }
-}
-
-/// The same, where one space stands between the two words and none else: none of other words, and none of words with which
-/// something is wrong.
-fn usual_choice(nets: u32, count: usize, words: &[u8]) -> Option<Choice>
-    requires { count ≤ 64 }
-    ensures says { IfSome result (λ choice. choice_of nets count (words_in words.now) ≡ Ok (choice_named count choice)) }
-    ensures small { IfSome result (λ choice. choice.values < 2 ^ count) }
-{
-    match words.get(count) {
-        Some(b' ') if 0 < count => parted_choice(nets, &words[..count], &words[count + 1..]),
-        _ => None,
-    }
-}
-
-/// The choice that two words say with a space between them.
-fn parted_choice(nets: u32, values: &[u8], src: &[u8]) -> Option<Choice>
-    requires some { 0 < length values.now }
-    requires few { length values.now ≤ 64 }
-    ensures says { IfSome result (λ choice. choice_of nets (length values.now) (words_in (values.now ++ (32 ∷ src.now))) ≡ Ok (choice_named (length values.now) choice)) }
-    ensures small { IfSome result (λ choice. choice.values < 2 ^ length values.now) }
-{
-    match number(src) {
-        Some(src) if src < nets && are_values(values) => Some(Choice {
-            src,
-            values: values_in(values),
-        }),
-        _ => None,
+    match split_word(Separators::SpacesAndTabs, words) {
+        None => Err(DbCause::Number),
+        Some((values, behind)) => match one_word(Separators::SpacesAndTabs, behind) {
+            None => Err(DbCause::Number),
+            Some(src) => choice_by(nets, count, values, number(src)),
+        },
     }
 }
 
@@ -233,22 +208,6 @@ fn leading_number(text: &[u8]) -> Leading
         digits += 1;
     }
     Leading { number, digits }
-}
-
-/// What the words `VALUES SRC` say, whatever parts them.
-#[tactic(auto, unfolding(crate::specs::Items::choice_of))]
-fn spaced_choice(nets: u32, count: usize, words: &[u8]) -> Result<Choice, DbCause>
-    requires { count ≤ 64 }
-    ensures says { Reads (choice_of nets count (words_in words.now)) (choice_named count) result }
-    ensures small { IfOk result (λ choice. choice.values < 2 ^ count) }
-{
-    match split_word(Separators::SpacesAndTabs, words) {
-        None => Err(DbCause::Number),
-        Some((values, behind)) => match one_word(Separators::SpacesAndTabs, behind) {
-            None => Err(DbCause::Number),
-            Some(src) => choice_by(nets, count, values, number(src)),
-        },
-    }
 }
 
 /// What the word `VALUES` and the number SRC say.

@@ -7,13 +7,13 @@ use crate::items::NetName;
 use std::alloc::{AllocError, Global};
 use std::collections::BTreeMap;
 
-/// How many tiles a side of a grid has in the table. No device has more.
+/// The width and the height of the grid for which the table has cells. No device's is greater.
 const SIDE: usize = 34;
 
-/// How many names have a grid in the table.
-const GRIDS: usize = 4096;
+/// How many names have cells in the table.
+const NAMES: usize = 4096;
 
-/// What a cell has where no net has its name.
+/// What stands in a cell whose name no net has.
 const NO_NET: u32 = u32::MAX;
 
 /// The net of each name at a place: of the first names in a table, of all others in a map.
@@ -64,7 +64,7 @@ fn cell_of(name: &NetName) -> Option<usize>
     ensures small { IfSome result (λ cell. cell < 4734976) }
 {
     let (x, y, grid) = (name.x as usize, name.y as usize, name.name.place());
-    if x < SIDE && y < SIDE && grid < GRIDS {
+    if x < SIDE && y < SIDE && grid < NAMES {
         Some((grid * SIDE + y) * SIDE + x)
     } else {
         None
@@ -84,7 +84,7 @@ fn held_at(table: &[u32], cell: Option<usize>) -> Option<u32>
     }
 }
 
-/// The net of a cell that has this.
+/// The net that a cell holds, where it holds one.
 fn net_held(net: u32) -> Option<u32>
     ensures { result ≡ net_held net }
 {

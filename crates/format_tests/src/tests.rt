@@ -1,7 +1,6 @@
 // What several tests need: places and bits, what calls on images require, tested at run time, and comments.
 ghost use Rattle.std.specs.Prelude.{◌≡◌, Some, IsTrue};
 ghost use Rattle.plane_map.specs.Layout.{kind_of, IsTileBit, IsInCram};
-ghost use Rattle.ice_image.specs.Either.{device_of};
 
 mod images;
 mod layouts;
@@ -11,7 +10,7 @@ mod streams;
 mod texts;
 mod words;
 
-use ice_image::{AnyImage, Comment, is_comment_line};
+use ice_image::{Comment, is_comment_line};
 use plane_map::{DeviceName, Place, TileBit, TileKind, kind_on, tile_width};
 use std::alloc::{AllocError, Global};
 
@@ -48,17 +47,6 @@ fn is_in_cram(device: DeviceName, at: Place) -> bool
         DeviceName::K8 => (872, 272),
     };
     at.bank < 4 && at.px < width && at.py < height
-}
-
-/// Sets the bit at a place of the configuration planes.
-fn set_place(image: &mut AnyImage, place: Place, bit: bool)
-    requires { IsInCram (device_of image.old) place }
-    ensures { device_of image.new ≡ device_of image.old }
-{
-    match image {
-        AnyImage::K1(image) => image.set_cram_bit(place, bit),
-        AnyImage::K8(image) => image.set_cram_bit(place, bit),
-    }
 }
 
 /// A comment of those lines that a comment may hold.

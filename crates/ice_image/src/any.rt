@@ -178,6 +178,18 @@ impl AnyImage {
         }
     }
 
+    /// Sets the bit at a place of the configuration planes.
+    pub fn set_cram_bit(&mut self, at: Place, bit: bool)
+        requires { IsInCram (device_of self.old) at }
+        ensures device { device_of self.new ≡ device_of self.old }
+        ensures changed { configuration_of self.new ≡ record (configuration_of self.old) { cram = with_place_bit (configuration_of self.old).cram at bit } }
+    {
+        match self {
+            AnyImage::K1(image) => image.set_cram_bit(at, bit),
+            AnyImage::K8(image) => image.set_cram_bit(at, bit),
+        }
+    }
+
     /// The tile at (x, y), which has C columns.
     pub fn tile<const C: usize>(&self, x: u8, y: u8) -> Tile<C>
         requires { columns_at (device_of self.now) x y ≡ C }

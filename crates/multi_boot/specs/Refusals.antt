@@ -29,7 +29,7 @@ address_fault images options =
 abbrev pub join_fault : List (List ℕ) → Options → Option MultiFault
 join_fault images options = option_or (check_fault (length images) options) (address_fault images options)
 
--- a refusal other than want of memory is that one
+-- a refusal is that one, except where memory ran out
 abbrev pub Tells : Option MultiFault → MultiFault → Type 0
 Tells fault (Memory e) = Unit {0}
 Tells fault told = fault ≡ Some told

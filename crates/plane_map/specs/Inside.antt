@@ -8,6 +8,7 @@ unfoldable pub starts_below : List ℕ → ℕ → List ℕ
 starts_below widths zero = []
 starts_below widths (suc n) = starts_below widths n ++ start_in widths n ∷ []
 
+-- the layout that fields keep
 abbrev pub laid_out : Inside → Layout
 laid_out a = record {
   device = a.device;
@@ -22,11 +23,13 @@ laid_out a = record {
   ram_flip = a.ram_flip;
 }
 
+-- the fields keep a layout: the widths end with zeros, and the starts are those of the widths
 pub record IsInside (a : Inside) : Type 0 where
   pub layout : IsLayout (laid_out a)
   pub padded : take (half_width a.device) a.widths ++ replicate (17 - half_width a.device) 0 ≡ a.widths
   pub starts : starts_below a.widths 17 ≡ a.starts
 
+-- the fields that keep a layout
 abbrev pub inside_of : Layout → Inside
 inside_of layout = record {
   device = layout.device;

@@ -28,7 +28,7 @@ pub fn set_bits(image: &mut AnyImage, bits: &[SampleBit])
     ensures device { device_of image.new ≡ device_of image.old }
     ensures bits { Gains (is_of_one is_sample bits.now) (configuration_of image.old) (configuration_of image.new) }
 {
-    // The image is whole.
+    // Called for its clause `whole` alone.
     let _device = image.device();
     for bit in bits {
         set_bit(image, *bit);
@@ -39,6 +39,7 @@ fn set_bit(image: &mut AnyImage, bit: SampleBit)
     ensures device { device_of image.new ≡ device_of image.old }
     ensures bits { Gains (is_sample bit) (configuration_of image.old) (configuration_of image.new) }
 {
+    // Called for its clause `whole` alone.
     let _device = image.device();
     let (x, y, row, col) = bit;
     if row < 16 && col < 64 {
@@ -51,6 +52,7 @@ pub fn set_extras(image: &mut AnyImage, places: &[Place])
     ensures device { device_of image.new ≡ device_of image.old }
     ensures bits { Gains (is_of_one is_extra_at places.now) (configuration_of image.old) (configuration_of image.new) }
 {
+    // Called for its clause `whole` alone.
     let _device = image.device();
     for at in places {
         set_extra(image, *at);
@@ -61,6 +63,7 @@ fn set_extra(image: &mut AnyImage, at: Place)
     ensures device { device_of image.new ≡ device_of image.old }
     ensures bits { Gains (is_extra_at at) (configuration_of image.old) (configuration_of image.new) }
 {
+    // Called for its clause `whole` alone.
     let _device = image.device();
     if let Some(extra) = image.extra_place(u32::from(at.bank), u32::from(at.px), u32::from(at.py)) {
         image.set_extra_bit(extra, true);

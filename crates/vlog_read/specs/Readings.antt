@@ -7,7 +7,7 @@ use Rattle.vlog_read.specs.declared.forms.Whole.{Whole}
 use Rattle.vlog_read.specs.declared.stop.Stop.{Stop}
 use Rattle.vlog_read.specs.declared.stop.Stop.TheVariants.{Stuck, Memory}
 
--- where a reading stops for want of memory, nothing is said
+-- where a reading stops since memory ran out, nothing is said
 abbrev pub StopsAt : {A : Type 0} → Result A ℕ → Stop → Type 0
 StopsAt reading (Stuck at) = reading ≡ Err at
 StopsAt reading (Memory refused) = Unit {0}

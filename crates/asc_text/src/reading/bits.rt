@@ -27,7 +27,7 @@ pub(crate) fn set_memory_line(image: &mut AnyImage, x: u8, y: u8, row: u8, bytes
     ensures device { device_of image.new ≡ device_of image.old }
     ensures bits { Gains (bytes_set x y row bytes.now) (configuration_of image.old) (configuration_of image.new) }
 {
-    // The image is whole.
+    // Called for its clause `whole` alone.
     let _device = image.device();
     for index in 0..16 {
         image.set_word_ones(x, y, 16 * row + index, word_in(bytes, index));

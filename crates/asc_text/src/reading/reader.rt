@@ -43,7 +43,7 @@ impl Expected {
     ghost use Rattle.asc_text.specs.Faults.{tile_named};
     ghost use Rattle.asc_text.specs.inside.Reading.{plain_length, statement_of};
 
-    /// How many bytes a row or digits have that are this.
+    /// How many bytes the expected row or digits have; 0 where a statement is expected.
     fn plain_len(self) -> usize
         ensures is { result ≡ plain_length self }
         ensures small { result ≤ 64 }
@@ -152,8 +152,8 @@ impl Reader {
         })
     }
 
-    /// Takes the first line of a text, and gives the text behind it, where the line is, as it mostly is, the row or the
-    /// digits that are expected, with LF alone behind them. Nothing changes where it is something else.
+    /// Takes the first line of a text where it is the expected row or digits with LF right behind, as most lines are, and
+    /// gives the text behind it. Else nothing changes.
     #[inline(always)]
     pub(crate) fn accept_plain<'a>(&mut self, text: &'a [u8]) -> Option<&'a [u8]>
         requires ready { IsReady self.old.image self.old.expected }

@@ -60,7 +60,7 @@ pub record IsUnknown (opcode n : ℕ) : Type 0 where
   pub no_data : data_kind opcode n ≡ None
   pub unknown : (reached : Bool) (found : ℕ) → short_cause_where reached found opcode n ≡ Some UnknownCommand
 
--- A command that was read is that one. Of data its rows weren't read.
+-- What was read of a command is that command; of data only what comes before the rows.
 abbrev pub Shows : Command → Parsed → Type 0
 Shows (Data kind payload body) (ParsedData other) = other ≡ kind
 Shows (Short opcode payload) (ParsedShort command) = (opcode ≡ opcode_in command) × (number_of payload ≡ number_in command)

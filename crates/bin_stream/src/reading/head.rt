@@ -22,7 +22,7 @@ pub(crate) fn fault_at(offset: usize, cause: BinCause) -> BinFault
     }
 }
 
-/// The head of a command: its first byte and its payload.
+/// What the first byte and the payload of a command say.
 #[derive(Clone, Copy)]
 pub(crate) struct Head {
     pub(crate) command: Command,

@@ -61,8 +61,8 @@ impl Decoder {
     }
 
     /// Takes the next bytes. It refuses where what was fed has a fault other than that it ended early (`NoPreamble` or
-    /// `Truncated`). That fault stays, whatever follows, and each later call answers it again. So it does where there was no
-    /// memory.
+    /// `Truncated`). That fault stays, whatever follows, and each later call answers it again. The same holds after it
+    /// ran out of memory.
     pub fn feed(&mut self, piece: &[u8]) -> Result<(), BinFault>
         requires { fed_to self.old + length piece.now < 2 ^ 32 }
         ensures fed { fed_to self.new ≡ fed_to self.old + length piece.now }

@@ -3,7 +3,7 @@ ghost use Rattle.std.specs.Prelude.{◌≡◌, IsTrue, All};
 ghost use Rattle.plane_map.specs.Layout.{columns_at};
 ghost use Rattle.ice_image.specs.Contents.{IsBitOfTile};
 
-use super::{at, bit, comment_of, is_in_cram, is_lower_ram, is_tile_bit, set_place};
+use super::{at, bit, comment_of, is_in_cram, is_lower_ram, is_tile_bit};
 use bit_plane::{Bits, Tile};
 use ice_image::{AnyImage, Comment, Image, Range, Settings, is_comment_line};
 use plane_map::{
@@ -62,7 +62,7 @@ fn is_at(image: &mut AnyImage, bit: TileBit, place: Place) -> bool {
     }
     image.set_tile_bit(bit, true);
     let reaches = image.cram_bit(place);
-    set_place(image, place, false);
+    image.set_cram_bit(place, false);
     reaches && !image.tile_bit(bit)
 }
 
@@ -260,7 +260,7 @@ fn set_all(image: &mut AnyImage, places: &[Place]) -> bool {
         if !is_in_cram(image.device(), *place) {
             return false;
         }
-        set_place(image, *place, true);
+        image.set_cram_bit(*place, true);
     }
     true
 }

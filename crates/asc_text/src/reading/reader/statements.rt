@@ -123,7 +123,7 @@ fn blank_image(alloc: Global, layout: Layout) -> Result<AnyImage, AllocError>
     ensures whole { IfOk result (λ image. IsWhole (configuration_of image)) }
 {
     let image = AnyImage::zeroed_with(alloc, layout)?;
-    // The image is whole.
+    // Called for its clause `whole` alone.
     let _device = image.device();
     Ok(image)
 }

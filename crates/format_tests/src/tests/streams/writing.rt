@@ -1,6 +1,6 @@
 // Streams as they are written.
 
-use crate::tests::{at, comment_of, is_in_cram, is_lower_ram, set_place};
+use crate::tests::{at, comment_of, is_in_cram, is_lower_ram};
 use bin_stream::encode;
 use ice_image::{AnyImage, Range, Settings};
 use plane_map::{DeviceName, Place};
@@ -131,7 +131,7 @@ fn make(image: &mut AnyImage, change: Change) {
     match change {
         Change::Bit(at) => {
             if is_in_cram(device, at) {
-                set_place(image, at, true);
+                image.set_cram_bit(at, true);
             }
         }
         Change::Word(word, value) => {

@@ -3,7 +3,7 @@ ghost use Rattle.std.specs.Prelude.{◌≡◌, ◌+◌, ◌*◌, ◌<◌, ◌≤
 ghost use Rattle.bit_plane.specs.BitList.{word_bits, word_of, bits_of, bytes_of};
 ghost use Rattle.bit_plane.specs.Rows.{flat, rows_of};
 ghost use Rattle.plane_map.specs.Layout.{kind_of, columns_at, standard_layout, IsTileBit, IsWordBit, IsInCram};
-ghost use Rattle.ice_image.specs.Configuration.{place_bit, blank_image, IsWhole};
+ghost use Rattle.ice_image.specs.Configuration.{place_bit, with_place_bit, blank_image, IsWhole};
 ghost use Rattle.ice_image.specs.Contents.{IsBitOfTile};
 ghost use Rattle.ice_image.specs.Either.{configuration_of, device_of};
 ghost use Rattle.ice_image.specs.Extras.{AreSetExtras};

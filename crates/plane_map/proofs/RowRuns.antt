@@ -26,7 +26,7 @@ runs-columns (Some RamB) is = (omega arith, omega arith)
 runs-columns (Some RamT) is = (omega arith, omega arith)
 
 -- it is at no edge
-runs-inner : (device : DeviceName) (x y : ℕ) → has_runs (kind_of device x y) ≡ true → (is_side device x ≡ false) × (is_end device y ≡ false)
+pub runs-inner : (device : DeviceName) (x y : ℕ) → has_runs (kind_of device x y) ≡ true → (is_side device x ≡ false) × (is_end device y ≡ false)
 unfolding kind_of
 runs-inner device x y is = grind (arith, nat_tests)
 

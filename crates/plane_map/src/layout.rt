@@ -1,12 +1,14 @@
 // Layouts.
 ghost use Rattle.std.specs.Prelude.{◌≡◌, ◌≢◌, ℕ, ◌+◌, ◌<◌, ◌≤◌, Some, IfSome, MatchOption, length, slice_index, if◌then◌else◌};
-ghost use Rattle.plane_map.specs.Layout.{kind_of, columns_at, half_width, width_of, start_of, cram_width, cram_height, bram_width, bram_height, standard_layout, place_of, word_place_of, IsLayout, IsTileBit, IsWordBit, IsInCram, IsInBram, IsExtraBit};
-ghost use Rattle.plane_map.specs.Runs.{IsRunIn, row_run, word_run, run_place};
+ghost use Rattle.plane_map.specs.Layout.{kind_of, columns_at, column_of, half_width, width_of, start_of, cram_width, cram_height, bram_width, bram_height, standard_layout, place_of, word_place_of, IsLayout, IsTileBit, IsWordBit, IsInCram, IsInBram, IsExtraBit};
+ghost use Rattle.plane_map.specs.Runs.{AreRunsOf, IsRunIn, row_run, run_in, run_place, word_run};
 
 use crate::device::DeviceName;
+use crate::grid::{on_end, on_side};
 use crate::place::{owner_on, place_of_word, place_on};
 use crate::runs::{run_of_word, run_on, tile_row_on};
-use crate::tile::{Place, Run, TileBit, TileKind, TileRow, WordBit};
+use crate::tile::{Place, Run, TileBit, TileKind, TileRow, TileRuns, WordBit};
+use crate::tile_runs::{run_of_row, tile_runs_on};
 use std::marker::Model;
 use widths::{standard_widths, starts_of};
 
@@ -126,6 +128,44 @@ impl Layout {
             → place_of self.now (record { x = x; y = y; row = row; col = col }) ≡ run_place run (columns_at self.now.device x y) col) }
     {
         run_on(self, x, y, row)
+    }
+
+    /// Where the rows of the tile at (x, y) lie in the configuration planes: none where there is no tile.
+    pub fn tile_runs(&self, x: u8, y: u8) -> Option<TileRuns>
+        ensures { MatchOption result (columns_at self.now.device x y ≡ 0) (AreRunsOf self.now x y) }
+    {
+        tile_runs_on(self, x, y)
+    }
+
+    /// The run in which a row of a tile lies, by where its rows lie.
+    pub fn run_of_row(&self, runs: TileRuns, row: u8) -> Run
+        requires row { row < 16 }
+        requires runs { AreRunsOf self.now runs.x runs.y runs }
+        ensures run { result ≡ run_in self.now runs row }
+        ensures in_planes { IsRunIn (cram_width self.now.device) (cram_height self.now.device) runs.count result }
+        ensures columns { (col : ℕ) → col < columns_at self.now.device runs.x runs.y
+            → column_of self.now (record { x = runs.x; y = runs.y; row = row; col = col }) < runs.count }
+        // Column c of the row is the bit of the run that `column_of` says.
+        ensures places { (col : ℕ) → col < columns_at self.now.device runs.x runs.y
+            → place_of self.now (record { x = runs.x; y = runs.y; row = row; col = col })
+                ≡ run_place result runs.count (column_of self.now (record { x = runs.x; y = runs.y; row = row; col = col })) }
+    {
+        run_of_row(self, runs, row)
+    }
+
+    /// Which bits of their runs the 18 columns of the tile at (x, y) are, where it is an io tile; of other tiles column c is
+    /// bit c.
+    pub fn io_columns(&self, x: u8, y: u8) -> Option<&[u8; 18]>
+        ensures { MatchOption result ((row col : ℕ) → column_of self.now (record { x = x; y = y; row = row; col = col }) ≡ col)
+            (λ columns. (row col : ℕ) → column_of self.now (record { x = x; y = y; row = row; col = col }) ≡ slice_index columns.now col) }
+    {
+        if on_side(self.device, x as u32) {
+            Some(&self.side_columns)
+        } else if on_end(self.device, y as u32) {
+            Some(&self.pad_columns)
+        } else {
+            None
+        }
     }
 
     /// Where the 16 bits of a word lie in the RAM planes; (x, y) is the RAM's lower tile.

@@ -10,9 +10,10 @@ mod place;
 mod rows;
 mod runs;
 mod tile;
+mod tile_runs;
 
 pub use device::{Device, DeviceName, Hx1k, Hx8k};
 pub use grid::kind_on;
 pub use layout::Layout;
 pub use place::{kind_at, tile_width};
-pub use tile::{Place, RowCol, Run, TileBit, TileKind, TileRow, WordBit};
+pub use tile::{Place, RowCol, Run, TileBit, TileKind, TileRow, TileRuns, WordBit};

@@ -1,6 +1,6 @@
 // The rows of bits that the rows of tiles take, from an end edge inwards.
 ghost use Rattle.std.specs.Prelude.{◌≡◌, ◌+◌, ◌-◌, ◌<◌, ◌&&◌, slice_index, if◌then◌else◌};
-ghost use Rattle.plane_map.specs.Layout.{is_end, is_top, py_of, cram_height, IsTileBit};
+ghost use Rattle.plane_map.specs.Layout.{is_end, is_top, py_of, cram_height, IsLayout, IsTileBit};
 
 use crate::grid::{end_distance, in_top, on_end};
 use crate::layout::Layout;
@@ -11,6 +11,7 @@ pub(crate) fn py_of(layout: &Layout, bit: TileBit) -> u32
     requires { IsTileBit layout.now.device bit }
     ensures value { result ≡ py_of layout.now bit }
     ensures in_plane { result < cram_height layout.now.device }
+    ensures layout { IsLayout layout.now }
 {
     let y = bit.y as u32;
     16 * end_distance(layout.device(), y) + inner_py(layout, y, bit.row)

@@ -57,6 +57,20 @@ pub struct Run {
     pub backwards: bool,
 }
 
+/// Where the rows of the tile at (x, y) lie in the configuration planes: each in a run of its own, and all runs in the same
+/// columns. Bit 0 of a run lies in its first column, or in its last one where it runs backwards.
+#[derive(Clone, Copy, Debug, PartialEq, Eq)]
+pub struct TileRuns {
+    pub x: u8,
+    pub y: u8,
+    pub bank: u8,
+    /// The first column of each run.
+    pub px: u16,
+    /// How many bits each run has. An io tile of an end row has fewer columns, which lie somewhere among them.
+    pub count: u8,
+    pub backwards: bool,
+}
+
 /// A row of each tile of a row of tiles.
 #[derive(Clone, Copy, Debug, PartialEq, Eq)]
 pub struct TileRow {

@@ -12,6 +12,7 @@ pub mod PlanesFrom
 pub mod RunBits
 pub mod SetExtras
 pub mod Sizes
+pub mod Spread
 pub mod TileColumns
 pub mod Turned
 pub mod Written

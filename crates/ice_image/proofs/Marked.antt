@@ -22,19 +22,10 @@ use Rattle.ice_image.specs.Contents.{tile_place}
 use Rattle.ice_image.specs.Owned.{is_same_place, is_owned}
 use Rattle.ice_image.specs.Written.{IsAmong, IsWritten, bit_of_word, AreMarks, AreKept, IsMarked, AreMarked, is_set_extra, free_places}
 use Rattle.ice_image.proofs.InOrder.{place}
-use Rattle.ice_image.proofs.Owned.{is_same_place-same, is_same_place-self, is_owned-bit, is_owned-bit_at, is_owned-tile_place}
+use Rattle.ice_image.proofs.Owned.{is_same_place-same, is_same_place-self, among, is_owned-bit, is_owned-bit_at, is_owned-tile_place}
 use Rattle.ice_image.proofs.TileColumns.{columns_at-le}
 
 -- ---- a row of a tile is marked
-
--- a place is among some, or it isn't
-among : (places : ℕ → Place) (count : ℕ) (at : Place) → IsAmong places count at ⊎ ¬ IsAmong places count at
-among places count at =
-    let here : ℕ → Bool = λ k. is_same_place (places k) at in
-    elim (cases_Bool (any_below count here)) [
-      | inl some ↦ let found = any_below-place count here some in inl (found.0, found.1, is_same_place-same (places found.0) at found.2)
-      | inr none ↦ inr (λ h. both_ways (any_below count here) none (any_below-at count h.0 here h.1 (ap (λ (p : Place). is_same_place p at) h.2 ∙ is_same_place-self at)))
-    ]
 
 -- each bit of the greatest word is set
 all_set : (width k : ℕ) → width ≤ 54 → k < width → bit_of_word width (2 ^ 64 - 1) k ≡ true

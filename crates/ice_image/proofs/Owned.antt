@@ -1,8 +1,9 @@
 -- The places of the bits of tiles, by tests and by facts.
-use Rattle.std.proofs.Common.{◌≡◌, ℕ, ◌<◌, ◌==◌, true, false, ◌&&◌, Option, Some, None, refl, sym, ap, ◌∙◌, inl, inr, eq-eqb}
+use Rattle.std.proofs.Common.{◌≡◌, ℕ, ◌<◌, ◌⊎◌, ◌==◌, Bool, true, false, ◌&&◌, Option, Some, None, refl, sym, ap, ◌∙◌, inl, inr, eq-eqb}
 use Rattle.std.specs.Prelude.{MatchOption, is_some}
 use Rattle.std.specs.Bool.{Decides}
-use Rattle.std.proofs.lemmas.Bool.{and_parts, cases_Bool, eqb-true}
+use Rattle.std.proofs.lemmas.Bool.{and_parts, both_ways, cases_Bool, eqb-true}
+use Rattle.place_search.specs.Places.{any_below}
 use Rattle.place_search.proofs.Places.{any_below-at, any_below-place}
 use Rattle.plane_map.specs.declared.tile.Place.{Place}
 use Rattle.plane_map.specs.declared.tile.TileBit.{TileBit}
@@ -10,6 +11,7 @@ use Rattle.plane_map.specs.Layout.{Layout, grid_width, grid_height, columns_at, 
 use Rattle.plane_map.proofs.Layouts.{columns_at-in}
 use Rattle.ice_image.specs.Contents.{tile_place}
 use Rattle.ice_image.specs.Owned.{is_same_place, is_owned}
+use Rattle.ice_image.specs.Written.{IsAmong}
 
 -- ---- one place
 
@@ -26,6 +28,15 @@ is_same_place-same a b is =
 -- a place passes it with itself
 pub is_same_place-self : (a : Place) → is_same_place a a ≡ true
 is_same_place-self a = rw (eq-eqb a.bank a.bank refl, eq-eqb a.px a.px refl, eq-eqb a.py a.py refl) refl
+
+-- a place is among some, or it isn't
+pub among : (places : ℕ → Place) (count : ℕ) (at : Place) → IsAmong places count at ⊎ ¬ IsAmong places count at
+among places count at =
+    let here : ℕ → Bool = λ k. is_same_place (places k) at in
+    elim (cases_Bool (any_below count here)) [
+      | inl some ↦ let found = any_below-place count here some in inl (found.0, found.1, is_same_place-same (places found.0) at found.2)
+      | inr none ↦ inr (λ h. both_ways (any_below count here) none (any_below-at count h.0 here h.1 (ap (λ (p : Place). is_same_place p at) h.2 ∙ is_same_place-self at)))
+    ]
 
 -- so it is passed exactly where the places are one
 pub is_same_place-Decides : (a b : Place) → Decides (is_same_place a b) (a ≡ b)

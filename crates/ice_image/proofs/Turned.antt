@@ -18,17 +18,17 @@ pub bit_at-shr : (n s k : ℕ) → bit_at (n / 2 ^ s) k ≡ bit_at n (s + k)
 bit_at-shr n s k = ap (λ m. m % 2) (shr-shr n s k)
 
 -- the low bits of a number that is cut
-bit_at-cut : (n w k : ℕ) → k < w → bit_at (n % 2 ^ w) k ≡ bit_at n k
+pub bit_at-cut : (n w k : ℕ) → k < w → bit_at (n % 2 ^ w) k ≡ bit_at n k
 bit_at-cut n w k within = sym (bit_at_cat_low (n / 2 ^ w) w (n % 2 ^ w) k within) ∙ ap (λ m. bit_at m k) (shr_split n w)
 
 -- bits below a shift to the left
-bit_at-below : (n s k : ℕ) → k < s → bit_at (n * 2 ^ s) k ≡ 0
+pub bit_at-below : (n s k : ℕ) → k < s → bit_at (n * 2 ^ s) k ≡ 0
 bit_at-below n s k below =
     let e : n * 2 ^ s ≡ n * 2 ^ s + 0 = omega arith in
     ap (λ m. bit_at m k) e ∙ bit_at_cat_low n s 0 k below ∙ bit_at-zero k
 
 -- and from it on
-bit_at-from : (n s k : ℕ) → s ≤ k → bit_at (n * 2 ^ s) k ≡ bit_at n (k - s)
+pub bit_at-from : (n s k : ℕ) → s ≤ k → bit_at (n * 2 ^ s) k ≡ bit_at n (k - s)
 bit_at-from n s k from =
     let e : n * 2 ^ s ≡ n * 2 ^ s + 0 = omega arith in
     ap (λ m. bit_at m k) e ∙ bit_at_cat_high n s 0 k (pow_mono {i = 0} {j = s} (omega arith)) from

@@ -29,6 +29,11 @@ pub record IsWritten (places : ℕ → Place) (bits : ℕ → Bool) (count : ℕ
   pub written : (k : ℕ) → k < count → place_bit after (places k) ≡ bits k
   pub others : SameBut (IsAmong places count) before after
 
+-- a number has the bits of another at other places: it is 1 at the place of each that is 1 there, and at no other place below a bound
+pub record IsSpread (places : ℕ → ℕ) (count bound ones spread : ℕ) : Type 0 where
+  pub set : (k : ℕ) → k < count → number_bit ones k ≡ true → number_bit spread (places k) ≡ true
+  pub only : (place : ℕ) → place < bound → number_bit spread place ≡ true → (k : ℕ) × (k < count) × (places k ≡ place) × (number_bit ones k ≡ true)
+
 -- a place of a bit in one of a tile's first rows
 abbrev pub IsInRows : Layout → ℕ → ℕ → ℕ → ℕ → Place → Type 0
 IsInRows layout x y width count at =

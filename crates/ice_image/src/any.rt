@@ -3,6 +3,7 @@ ghost use Rattle.std.specs.Prelude.{◌≡◌, ◌+◌, ◌*◌, ◌<◌, ◌≤
 ghost use Rattle.bit_plane.specs.BitList.{word_bits, word_of, bits_of, bytes_of};
 ghost use Rattle.bit_plane.specs.Rows.{flat, rows_of};
 ghost use Rattle.plane_map.specs.Layout.{kind_of, columns_at, standard_layout, IsTileBit, IsWordBit, IsInCram};
+ghost use Rattle.plane_map.specs.Runs.{AreRunsOf};
 ghost use Rattle.ice_image.specs.Configuration.{place_bit, with_place_bit, blank_image, IsWhole};
 ghost use Rattle.ice_image.specs.Contents.{IsBitOfTile};
 ghost use Rattle.ice_image.specs.Either.{configuration_of, device_of};
@@ -16,7 +17,9 @@ use crate::image::Image;
 use crate::planes::PlaneKind;
 use crate::settings::Settings;
 use bit_plane::Tile;
-use plane_map::{DeviceName, Hx1k, Hx8k, Layout, Place, RowCol, TileBit, TileKind, WordBit};
+use plane_map::{
+    DeviceName, Hx1k, Hx8k, Layout, Place, RowCol, TileBit, TileKind, TileRuns, WordBit,
+};
 use std::alloc::{AllocError, Global};
 
 /// An image of one of the devices.
@@ -152,6 +155,30 @@ impl AnyImage {
         match self {
             AnyImage::K1(image) => image.set_ones(x, y, row, ones),
             AnyImage::K8(image) => image.set_ones(x, y, row, ones),
+        }
+    }
+
+    /// Where the rows of the tile at (x, y) lie; none where there is no tile.
+    pub fn tile_runs(&self, x: u8, y: u8) -> Option<TileRuns>
+        ensures { MatchOption result (columns_at (device_of self.now) x y ≡ 0) (AreRunsOf (configuration_of self.now).layout x y) }
+    {
+        match self {
+            AnyImage::K1(image) => image.tile_runs(x, y),
+            AnyImage::K8(image) => image.tile_runs(x, y),
+        }
+    }
+
+    /// Sets the bits of a row of a tile at which `ones` has a 1, by where its rows lie. Column c is the bit of value 2^c; bits
+    /// past the tile's columns are passed over.
+    pub fn set_row_ones(&mut self, runs: TileRuns, row: u8, ones: u64)
+        requires row { row < 16 }
+        requires runs { AreRunsOf (configuration_of self.old).layout runs.x runs.y runs }
+        ensures device { device_of self.new ≡ device_of self.old }
+        ensures bits { Gains (row_ones runs.x runs.y row ones) (configuration_of self.old) (configuration_of self.new) }
+    {
+        match self {
+            AnyImage::K1(image) => image.set_row_ones(runs, row, ones),
+            AnyImage::K8(image) => image.set_row_ones(runs, row, ones),
         }
     }
 

@@ -4,6 +4,7 @@ ghost use Rattle.std.specs.Borrow.{Lends, sem};
 ghost use Rattle.bit_plane.specs.BitList.{word_bits, word_of, bits_of, bytes_of};
 ghost use Rattle.bit_plane.specs.Rows.{IsGrid, flat, rows_of};
 ghost use Rattle.plane_map.specs.Layout.{kind_of, columns_at, standard_layout, place_of, word_place_of, cram_width, cram_height, bram_width, bram_height, IsTileBit, IsWordBit, IsInCram};
+ghost use Rattle.plane_map.specs.Runs.{AreRunsOf};
 ghost use Rattle.ice_image.specs.Configuration.{bank_rows, place_bit, with_bank, with_place_bit, SameBut, blank_image, IsWhole};
 ghost use Rattle.ice_image.specs.Contents.{tile_rows, IsPlaceOfTile, word_value, IsPlaceOfWord, IsBitOfTile};
 ghost use Rattle.ice_image.specs.Extras.{AreSetExtras};
@@ -18,10 +19,10 @@ use crate::comment::Comment;
 use crate::extras::{extra_place, extras_of};
 use crate::planes::PlaneKind;
 use crate::settings::{Range, Settings};
-use crate::tiles::{columns_on, read_tile, row_word, set_row_ones, write_tile};
+use crate::tiles::{columns_on, read_tile, row_word, set_ones_in, set_row_ones, write_tile};
 use crate::words::{read_word, set_ones_of_word, write_word};
 use bit_plane::{Bits, Tile};
-use plane_map::{Device, DeviceName, Layout, Place, RowCol, TileBit, TileKind, WordBit};
+use plane_map::{Device, DeviceName, Layout, Place, RowCol, TileBit, TileKind, TileRuns, WordBit};
 use std::alloc::{AllocError, Global};
 use std::marker::Model;
 
@@ -160,6 +161,23 @@ impl<D: Device> Image<D> {
         ensures { Gains (row_ones x y row ones) self.old self.new }
     {
         set_row_ones(&self.layout, &mut self.cram, x, y, row, ones);
+    }
+
+    /// Where the rows of the tile at (x, y) lie; none where there is no tile.
+    pub fn tile_runs(&self, x: u8, y: u8) -> Option<TileRuns>
+        ensures { MatchOption result (columns_at self.now.layout.device x y ≡ 0) (AreRunsOf self.now.layout x y) }
+    {
+        self.layout.tile_runs(x, y)
+    }
+
+    /// Sets the bits of a row of a tile at which `ones` has a 1, by where its rows lie. Column c is the bit of value 2^c; bits
+    /// past the tile's columns are passed over.
+    pub fn set_row_ones(&mut self, runs: TileRuns, row: u8, ones: u64)
+        requires row { row < 16 }
+        requires runs { AreRunsOf self.old.layout runs.x runs.y runs }
+        ensures { Gains (row_ones runs.x runs.y row ones) self.old self.new }
+    {
+        set_ones_in(&self.layout, &mut self.cram, runs, row, ones);
     }
 
     /// Sets an extra bit.

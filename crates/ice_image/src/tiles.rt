@@ -1,16 +1,17 @@
 // The tiles in the configuration planes.
-ghost use Rattle.std.specs.Prelude.{◌≡◌, ◌<◌};
+ghost use Rattle.std.specs.Prelude.{◌≡◌, ℕ, ◌<◌, slice_index};
 ghost use Rattle.bit_plane.specs.BitList.{word_of};
 ghost use Rattle.bit_plane.specs.Rows.{row_from};
-ghost use Rattle.plane_map.specs.Layout.{IsLayout, columns_at};
+ghost use Rattle.plane_map.specs.Layout.{IsLayout, column_of, columns_at};
 ghost use Rattle.ice_image.specs.Configuration.{place_bit, AreBanks, IsCramSize, SameBut};
 ghost use Rattle.ice_image.specs.Contents.{tile_place, tile_rows, IsPlaceOfTile};
-ghost use Rattle.ice_image.specs.Written.{IsWritten, bit_of_word, gained_bit};
+ghost use Rattle.plane_map.specs.Runs.{AreRunsOf};
+ghost use Rattle.ice_image.specs.Written.{IsSpread, IsWritten, bit_of_word, gained_bit};
 
 use crate::banks::Banks;
 use crate::runs::{run_word, set_run_ones, write_run};
 use bit_plane::{Bits, Tile};
-use plane_map::{DeviceName, Layout, kind_on, tile_width};
+use plane_map::{DeviceName, Layout, TileRuns, kind_on, tile_width};
 
 /// The tile at (x, y).
 pub(crate) fn read_tile<P: Bits, const C: usize>(
@@ -111,45 +112,65 @@ pub(crate) fn set_row_ones<P: Bits>(
     row: u8,
     ones: u64,
 )
+    requires layout { IsLayout layout.now }
     requires row { row < 16 }
     requires size { IsCramSize layout.now.device P.WIDTH P.HEIGHT }
     requires whole { AreBanks P.WIDTH P.HEIGHT cram.old }
     ensures written { IsWritten (tile_place layout.now x y row) (gained_bit (tile_place layout.now x y row) cram.old ones) (columns_at layout.now.device x y) cram.old cram.new }
     ensures whole { AreBanks P.WIDTH P.HEIGHT cram.new }
 {
-    if ones == 0 {
-        return;
-    }
-    let width = columns_on(layout.device(), x, y);
-    match layout.row_run(x, y, row) {
-        Some(run) => set_run_ones(cram, run, width, ones),
-        None => set_scattered_ones(layout, cram, x, y, row, width, ones),
+    match layout.tile_runs(x, y) {
+        Some(runs) => set_ones_in(layout, cram, runs, row, ones),
+        None => {}
     }
 }
 
-/// The same, bit by bit.
-fn set_scattered_ones<P: Bits>(
+/// Sets the bits of a row of a tile at which `ones` has a 1, by where its rows lie. Column c is the bit of value 2^c.
+pub(crate) fn set_ones_in<P: Bits>(
     layout: &Layout,
     cram: &mut Banks<P>,
-    x: u8,
-    y: u8,
+    runs: TileRuns,
     row: u8,
-    width: usize,
     ones: u64,
 )
     requires layout { IsLayout layout.now }
     requires row { row < 16 }
-    requires width { columns_at layout.now.device x y ≡ width }
+    requires runs { AreRunsOf layout.now runs.x runs.y runs }
     requires size { IsCramSize layout.now.device P.WIDTH P.HEIGHT }
     requires whole { AreBanks P.WIDTH P.HEIGHT cram.old }
-    ensures written { IsWritten (tile_place layout.now x y row) (gained_bit (tile_place layout.now x y row) cram.old ones) width cram.old cram.new }
+    ensures written { IsWritten (tile_place layout.now runs.x runs.y row) (gained_bit (tile_place layout.now runs.x runs.y row) cram.old ones) (columns_at layout.now.device runs.x runs.y) cram.old cram.new }
     ensures whole { AreBanks P.WIDTH P.HEIGHT cram.new }
 {
-    for col in 0..width {
-        if ones >> col & 1 == 1 {
-            cram.set(layout.cram_place(x, y, row, col as u8), true);
-        }
+    if ones == 0 {
+        return;
     }
+    let run = layout.run_of_row(runs, row);
+    let spread = spread(layout, runs, ones);
+    set_run_ones(cram, run, usize::from(runs.count), spread);
+}
+
+/// The bits of a row of a tile as they stand in their run. Column c is the bit of value 2^c in `ones`.
+fn spread(layout: &Layout, runs: TileRuns, ones: u64) -> u64
+    requires { AreRunsOf layout.now runs.x runs.y runs }
+    ensures { (row : ℕ) → IsSpread (λ col. column_of layout.now (record { x = runs.x; y = runs.y; row = row; col = col })) (columns_at layout.now.device runs.x runs.y) runs.count ones result }
+{
+    match layout.io_columns(runs.x, runs.y) {
+        Some(columns) => spread_over(columns, ones),
+        None => ones,
+    }
+}
+
+/// The number that has bit c of another at the place that the list gives for c, for each of the eighteen columns of an io
+/// tile.
+fn spread_over(columns: &[u8; 18], ones: u64) -> u64
+    requires { (col : ℕ) → col < 18 → slice_index columns.now col < 64 }
+    ensures { IsSpread (slice_index columns.now) 18 64 ones result }
+{
+    let mut spread = 0;
+    for col in 0..18 {
+        spread |= (ones >> col & 1) << columns[col];
+    }
+    spread
 }
 
 /// Sets a row of the tile at (x, y) to the bits of a word. Column c gets the bit of value 2^c.

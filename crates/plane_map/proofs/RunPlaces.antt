@@ -51,6 +51,15 @@ pub io-length : (device : DeviceName) (x y : ℕ) → kind_of device x y ≡ Som
 unfolding kind_of
 io-length device x y there side = grind (arith, nat_tests)
 
+-- the edges have tiles of eighteen columns
+pub side-columns : (device : DeviceName) (x y : ℕ) → is_side device x ≡ true → 0 < columns_at device x y → columns_at device x y ≡ 18
+unfolding kind_of
+side-columns device x y side some = grind (arith, nat_tests)
+
+pub end-columns : (device : DeviceName) (x y : ℕ) → is_end device y ≡ true → 0 < columns_at device x y → columns_at device x y ≡ 18
+unfolding kind_of
+end-columns device x y end some = grind (arith, nat_tests)
+
 -- a column of a tile is a bit of its run, and the column of tiles has room for the run
 within_run : (layout : Layout) → IsLayout layout → (side end : Bool) (width columns col : ℕ) → FitsColumn side end width col → col < columns → (side ≡ false → end ≡ false → columns ≤ width)
     → (column layout.side_columns layout.pad_columns side end col < (if side then 18 else if end then 42 else columns)) × ((if side then 18 else if end then 42 else columns) ≤ width)
@@ -70,6 +79,9 @@ length-few : (side end : Bool) (columns : ℕ) → columns ≤ 54 → (if side t
 length-few true end columns few = omega arith
 length-few false true columns few = omega arith
 length-few false false columns few = omega arith
+
+pub run_length-few : (device : DeviceName) (x y : ℕ) → run_length device x y ≤ 64
+run_length-few device x y = length-few (is_side device x) (is_end device y) (columns_at device x y) (columns-few (kind_of device x y))
 
 -- ---- where they lie
 
@@ -141,7 +153,7 @@ module _ (layout : Layout) (sound : IsLayout layout) (x y row : ℕ) (row_in : r
       record {
         bank_in = subst (λ (bank : ℕ). bank < 4) (sym are.bank) (bank_of-below layout sound x y);
         some = omega (arith, parts.0, are.count);
-        few = omega (arith, are.count, length-few (is_side layout.device x) (is_end layout.device y) columns (columns-few (kind_of layout.device x y)));
+        few = omega (arith, are.count, run_length-few layout.device x y);
         columns_in = omega (arith, are.px, are.count, inside);
         row_in = row_below;
       }

@@ -1,7 +1,7 @@
 // Layouts.
-ghost use Rattle.std.specs.Prelude.{◌≡◌, ◌≢◌, ℕ, ◌+◌, ◌<◌, ◌≤◌, Some, IfSome, MatchOption, length, slice_index, if◌then◌else◌};
+ghost use Rattle.std.specs.Prelude.{◌≡◌, ◌≢◌, ℕ, ◌+◌, ◌<◌, ◌≤◌, Some, IfNone, IfSome, MatchOption, length, slice_index, if◌then◌else◌};
 ghost use Rattle.plane_map.specs.Layout.{kind_of, columns_at, column_of, half_width, width_of, start_of, cram_width, cram_height, bram_width, bram_height, standard_layout, place_of, word_place_of, IsLayout, IsTileBit, IsWordBit, IsInCram, IsInBram, IsExtraBit};
-ghost use Rattle.plane_map.specs.Runs.{AreRunsOf, IsRunIn, row_run, run_in, run_place, word_run};
+ghost use Rattle.plane_map.specs.Runs.{AreRunsOf, IsRunIn, row_run, run_in, run_length, run_place, word_run};
 
 use crate::device::DeviceName;
 use crate::grid::{on_end, on_side};
@@ -156,8 +156,11 @@ impl Layout {
     /// Which bits of their runs the 18 columns of the tile at (x, y) are, where it is an io tile; of other tiles column c is
     /// bit c.
     pub fn io_columns(&self, x: u8, y: u8) -> Option<&[u8; 18]>
-        ensures { MatchOption result ((row col : ℕ) → column_of self.now (record { x = x; y = y; row = row; col = col }) ≡ col)
+        ensures order { MatchOption result ((row col : ℕ) → column_of self.now (record { x = x; y = y; row = row; col = col }) ≡ col)
             (λ columns. (row col : ℕ) → column_of self.now (record { x = x; y = y; row = row; col = col }) ≡ slice_index columns.now col) }
+        ensures length { IfNone result (run_length self.now.device x y ≡ columns_at self.now.device x y) }
+        ensures count { IfSome result (λ _. 0 < columns_at self.now.device x y → columns_at self.now.device x y ≡ 18) }
+        ensures few { IfSome result (λ columns. (col : ℕ) → col < 18 → slice_index columns.now col < 64) }
     {
         if on_side(self.device, x as u32) {
             Some(&self.side_columns)

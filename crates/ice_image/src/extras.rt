@@ -9,7 +9,7 @@ ghost use Rattle.ice_image.specs.Owned.{is_extra, is_owned};
 ghost use Rattle.ice_image.specs.Written.{HasExtras, AreMarks, AreKept, IsMarked, AreMarked, IsWritten, bit_of_word, is_set_extra, free_places};
 
 use crate::banks::Banks;
-use crate::tiles::{columns_on, write_row};
+use crate::tiles::write_row;
 use bit_plane::Bits;
 use plane_map::{Layout, Place, TileRow};
 use std::alloc::{AllocError, Global};
@@ -204,14 +204,14 @@ fn mark_row<P: Bits>(layout: &Layout, owned: &mut Banks<P>, bank: u8, py: u16)
 
 /// Sets all places of a row of a tile.
 fn mark_tile<P: Bits>(layout: &Layout, owned: &mut Banks<P>, x: u8, at: TileRow)
+    requires layout { IsLayout layout.now }
     requires row { at.row < 16 }
     requires size { IsCramSize layout.now.device P.WIDTH P.HEIGHT }
     requires whole { AreBanks P.WIDTH P.HEIGHT owned.old }
     ensures whole { AreBanks P.WIDTH P.HEIGHT owned.new }
     ensures written { IsWritten (tile_place layout.now x at.y at.row) (bit_of_word (columns_at layout.now.device x at.y) (2 ^ 64 - 1)) (columns_at layout.now.device x at.y) owned.old owned.new }
 {
-    let width = columns_on(layout.device(), x, at.y);
-    write_row(layout, owned, x, at.y, at.row, width, u64::MAX);
+    write_row(layout, owned, x, at.y, at.row, u64::MAX);
 }
 
 /// The place of the configuration planes with these numbers, where it belongs to no tile.

@@ -19,7 +19,7 @@ use crate::comment::Comment;
 use crate::extras::{extra_place, extras_of};
 use crate::planes::PlaneKind;
 use crate::settings::{Range, Settings};
-use crate::tiles::{columns_on, read_tile, row_word, set_ones_in, set_row_ones, write_tile};
+use crate::tiles::{read_tile, row_word, set_ones_in, set_row_ones, write_tile};
 use crate::words::{read_word, set_ones_of_word, write_word};
 use bit_plane::{Bits, Tile};
 use plane_map::{Device, DeviceName, Layout, Place, RowCol, TileBit, TileKind, TileRuns, WordBit};
@@ -144,14 +144,7 @@ impl<D: Device> Image<D> {
         requires { row < 16 }
         ensures { result ≡ word_of (row_of self.now x y row) }
     {
-        row_word(
-            &self.layout,
-            &self.cram,
-            x,
-            y,
-            row,
-            columns_on(self.layout.device(), x, y),
-        )
+        row_word(&self.layout, &self.cram, x, y, row)
     }
 
     /// Sets the bits of a row of a tile at which `ones` has a 1. Column c is the bit of value 2^c; bits past the tile's

@@ -3,6 +3,7 @@
 
 mod any;
 mod banks;
+mod columns;
 mod comment;
 mod extras;
 mod image;

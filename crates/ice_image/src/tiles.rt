@@ -1,17 +1,18 @@
 // The tiles in the configuration planes.
-ghost use Rattle.std.specs.Prelude.{◌≡◌, ℕ, ◌<◌, slice_index};
+ghost use Rattle.std.specs.Prelude.{◌≡◌, ◌<◌};
 ghost use Rattle.bit_plane.specs.BitList.{word_of};
 ghost use Rattle.bit_plane.specs.Rows.{row_from};
-ghost use Rattle.plane_map.specs.Layout.{IsLayout, column_of, columns_at};
+ghost use Rattle.plane_map.specs.Layout.{IsLayout, columns_at};
+ghost use Rattle.plane_map.specs.Runs.{AreRunsOf};
 ghost use Rattle.ice_image.specs.Configuration.{place_bit, AreBanks, IsCramSize, SameBut};
 ghost use Rattle.ice_image.specs.Contents.{tile_place, tile_rows, IsPlaceOfTile};
-ghost use Rattle.plane_map.specs.Runs.{AreRunsOf};
-ghost use Rattle.ice_image.specs.Written.{IsSpread, IsWritten, bit_of_word, gained_bit};
+ghost use Rattle.ice_image.specs.Written.{IsWritten, bit_of_word, gained_bit};
 
 use crate::banks::Banks;
+use crate::columns::{gathered, spread};
 use crate::runs::{run_word, set_run_ones, write_run};
 use bit_plane::{Bits, Tile};
-use plane_map::{DeviceName, Layout, TileRuns, kind_on, tile_width};
+use plane_map::{Layout, TileRuns};
 
 /// The tile at (x, y).
 pub(crate) fn read_tile<P: Bits, const C: usize>(
@@ -26,60 +27,32 @@ pub(crate) fn read_tile<P: Bits, const C: usize>(
 {
     let mut tile = Tile::new();
     for row in 0..16 {
-        tile.set_row(usize::from(row), row_word(layout, cram, x, y, row, C));
+        tile.set_row(usize::from(row), row_word(layout, cram, x, y, row));
     }
     tile
 }
 
-/// How many columns of bits the tile at (x, y) has, and 0 where there is none.
-pub(crate) fn columns_on(device: DeviceName, x: u8, y: u8) -> usize
-    ensures { result ≡ columns_at device x y }
+/// A row of the tile at (x, y) as a word. Column c is the bit of value 2^c.
+pub(crate) fn row_word<P: Bits>(layout: &Layout, cram: &Banks<P>, x: u8, y: u8, row: u8) -> u64
+    requires row { row < 16 }
+    requires size { IsCramSize layout.now.device P.WIDTH P.HEIGHT }
+    ensures { result ≡ word_of (row_from (columns_at layout.now.device x y) (λ col. place_bit cram.now (tile_place layout.now x y row col))) }
 {
-    match kind_on(device, u32::from(x), u32::from(y)) {
-        Some(kind) => tile_width(kind),
+    match layout.tile_runs(x, y) {
+        Some(runs) => row_in(layout, cram, runs, row),
         None => 0,
     }
 }
 
-/// A row of the tile at (x, y) as a word. Column c is the bit of value 2^c.
-pub(crate) fn row_word<P: Bits>(
-    layout: &Layout,
-    cram: &Banks<P>,
-    x: u8,
-    y: u8,
-    row: u8,
-    width: usize,
-) -> u64
+/// A row of a tile as a word, by where its rows lie. Column c is the bit of value 2^c.
+fn row_in<P: Bits>(layout: &Layout, cram: &Banks<P>, runs: TileRuns, row: u8) -> u64
     requires row { row < 16 }
-    requires width { columns_at layout.now.device x y ≡ width }
+    requires runs { AreRunsOf layout.now runs.x runs.y runs }
     requires size { IsCramSize layout.now.device P.WIDTH P.HEIGHT }
-    ensures { result ≡ word_of (row_from width (λ col. place_bit cram.now (tile_place layout.now x y row col))) }
+    ensures { result ≡ word_of (row_from (columns_at layout.now.device runs.x runs.y) (λ col. place_bit cram.now (tile_place layout.now runs.x runs.y row col))) }
 {
-    match layout.row_run(x, y, row) {
-        Some(run) => run_word(cram, run, width),
-        None => scattered_word(layout, cram, x, y, row, width),
-    }
-}
-
-/// The same, bit by bit.
-fn scattered_word<P: Bits>(
-    layout: &Layout,
-    cram: &Banks<P>,
-    x: u8,
-    y: u8,
-    row: u8,
-    width: usize,
-) -> u64
-    requires row { row < 16 }
-    requires width { columns_at layout.now.device x y ≡ width }
-    requires size { IsCramSize layout.now.device P.WIDTH P.HEIGHT }
-    ensures { result ≡ word_of (row_from width (λ col. place_bit cram.now (tile_place layout.now x y row col))) }
-{
-    let mut word = 0;
-    for col in (0..width).rev() {
-        word = 2 * word + u64::from(cram.get(layout.cram_place(x, y, row, col as u8)));
-    }
-    word
+    let run = layout.run_of_row(runs, row);
+    gathered(layout, runs, run_word(cram, run, usize::from(runs.count)))
 }
 
 /// Sets all bits of the tile at (x, y) to those of another tile.
@@ -99,7 +72,7 @@ pub(crate) fn write_tile<P: Bits, const C: usize>(
     ensures whole { AreBanks P.WIDTH P.HEIGHT cram.new }
 {
     for row in 0..16 {
-        write_row(layout, cram, x, y, row, C, tile.row(usize::from(row)));
+        write_row(layout, cram, x, y, row, tile.row(usize::from(row)));
     }
 }
 
@@ -149,30 +122,6 @@ pub(crate) fn set_ones_in<P: Bits>(
     set_run_ones(cram, run, usize::from(runs.count), spread);
 }
 
-/// The bits of a row of a tile as they stand in their run. Column c is the bit of value 2^c in `ones`.
-fn spread(layout: &Layout, runs: TileRuns, ones: u64) -> u64
-    requires { AreRunsOf layout.now runs.x runs.y runs }
-    ensures { (row : ℕ) → IsSpread (λ col. column_of layout.now (record { x = runs.x; y = runs.y; row = row; col = col })) (columns_at layout.now.device runs.x runs.y) runs.count ones result }
-{
-    match layout.io_columns(runs.x, runs.y) {
-        Some(columns) => spread_over(columns, ones),
-        None => ones,
-    }
-}
-
-/// The number that has bit c of another at the place that the list gives for c, for each of the eighteen columns of an io
-/// tile.
-fn spread_over(columns: &[u8; 18], ones: u64) -> u64
-    requires { (col : ℕ) → col < 18 → slice_index columns.now col < 64 }
-    ensures { IsSpread (slice_index columns.now) 18 64 ones result }
-{
-    let mut spread = 0;
-    for col in 0..18 {
-        spread |= (ones >> col & 1) << columns[col];
-    }
-    spread
-}
-
 /// Sets a row of the tile at (x, y) to the bits of a word. Column c gets the bit of value 2^c.
 pub(crate) fn write_row<P: Bits>(
     layout: &Layout,
@@ -180,43 +129,40 @@ pub(crate) fn write_row<P: Bits>(
     x: u8,
     y: u8,
     row: u8,
-    width: usize,
     word: u64,
 )
+    requires layout { IsLayout layout.now }
     requires row { row < 16 }
-    requires width { columns_at layout.now.device x y ≡ width }
     requires size { IsCramSize layout.now.device P.WIDTH P.HEIGHT }
     requires whole { AreBanks P.WIDTH P.HEIGHT cram.old }
-    ensures written { IsWritten (tile_place layout.now x y row) (bit_of_word width word) width cram.old cram.new }
+    ensures written { IsWritten (tile_place layout.now x y row) (bit_of_word (columns_at layout.now.device x y) word) (columns_at layout.now.device x y) cram.old cram.new }
     ensures whole { AreBanks P.WIDTH P.HEIGHT cram.new }
 {
-    match layout.row_run(x, y, row) {
-        Some(run) => write_run(cram, run, width, word),
-        None => write_scattered(layout, cram, x, y, row, width, word),
+    match layout.tile_runs(x, y) {
+        Some(runs) => write_row_in(layout, cram, runs, row, word),
+        None => {}
     }
 }
 
-/// The same, bit by bit.
-fn write_scattered<P: Bits>(
+/// Sets a row of a tile to the bits of a word, by where its rows lie. Column c gets the bit of value 2^c.
+fn write_row_in<P: Bits>(
     layout: &Layout,
     cram: &mut Banks<P>,
-    x: u8,
-    y: u8,
+    runs: TileRuns,
     row: u8,
-    width: usize,
     word: u64,
 )
+    requires layout { IsLayout layout.now }
     requires row { row < 16 }
-    requires width { columns_at layout.now.device x y ≡ width }
+    requires runs { AreRunsOf layout.now runs.x runs.y runs }
     requires size { IsCramSize layout.now.device P.WIDTH P.HEIGHT }
     requires whole { AreBanks P.WIDTH P.HEIGHT cram.old }
-    ensures written { IsWritten (tile_place layout.now x y row) (bit_of_word width word) width cram.old cram.new }
+    ensures written { IsWritten (tile_place layout.now runs.x runs.y row) (bit_of_word (columns_at layout.now.device runs.x runs.y) word) (columns_at layout.now.device runs.x runs.y) cram.old cram.new }
     ensures whole { AreBanks P.WIDTH P.HEIGHT cram.new }
 {
-    for col in 0..width {
-        cram.set(
-            layout.cram_place(x, y, row, col as u8),
-            word >> col & 1 == 1,
-        );
-    }
+    let run = layout.run_of_row(runs, row);
+    let count = usize::from(runs.count);
+    // Bits of the run that are no column's stay as they are.
+    let others = run_word(cram, run, count) & !spread(layout, runs, u64::MAX);
+    write_run(cram, run, count, others | spread(layout, runs, word));
 }

@@ -1,0 +1,59 @@
+// The columns of a tile's rows among the bits of their runs.
+ghost use Rattle.std.specs.Prelude.{◌≡◌, ℕ, ◌^◌, ◌<◌, slice_index};
+ghost use Rattle.bit_plane.specs.BitList.{word_of};
+ghost use Rattle.bit_plane.specs.Rows.{row_from};
+ghost use Rattle.plane_map.specs.Layout.{column_of, columns_at};
+ghost use Rattle.plane_map.specs.Runs.{AreRunsOf};
+ghost use Rattle.ice_image.specs.Bits.{number_bit};
+ghost use Rattle.ice_image.specs.Written.{IsSpread};
+
+use plane_map::{Layout, TileRuns};
+
+/// The bits of a row of a tile as they stand in their run. Column c is the bit of value 2^c in `row_bits`.
+pub(crate) fn spread(layout: &Layout, runs: TileRuns, row_bits: u64) -> u64
+    requires { AreRunsOf layout.now runs.x runs.y runs }
+    ensures { (row : ℕ) → IsSpread (λ col. column_of layout.now (record { x = runs.x; y = runs.y; row = row; col = col })) (columns_at layout.now.device runs.x runs.y) runs.count row_bits result }
+{
+    match layout.io_columns(runs.x, runs.y) {
+        Some(columns) => spread_over(columns, row_bits),
+        None => row_bits,
+    }
+}
+
+/// The number that has bit c of another at the place that the list gives for c, for each of the eighteen columns of an io
+/// tile.
+fn spread_over(columns: &[u8; 18], row_bits: u64) -> u64
+    requires { (col : ℕ) → col < 18 → slice_index columns.now col < 64 }
+    ensures { IsSpread (slice_index columns.now) 18 64 row_bits result }
+{
+    let mut spread = 0;
+    for col in 0..18 {
+        spread |= (row_bits >> col & 1) << columns[col];
+    }
+    spread
+}
+
+/// The bits of a row of a tile, from the bits of its run. Column c is the bit of value 2^c.
+pub(crate) fn gathered(layout: &Layout, runs: TileRuns, run_bits: u64) -> u64
+    requires runs { AreRunsOf layout.now runs.x runs.y runs }
+    requires small { run_bits < 2 ^ runs.count }
+    ensures { (row : ℕ) → result ≡ word_of (row_from (columns_at layout.now.device runs.x runs.y) (λ col. number_bit run_bits (column_of layout.now (record { x = runs.x; y = runs.y; row = row; col = col })))) }
+{
+    match layout.io_columns(runs.x, runs.y) {
+        Some(columns) => gathered_from(columns, run_bits),
+        None => run_bits,
+    }
+}
+
+/// The number whose bit c is the bit of another at the place that the list gives for c, for each of the eighteen columns of
+/// an io tile.
+fn gathered_from(columns: &[u8; 18], run_bits: u64) -> u64
+    requires { (col : ℕ) → col < 18 → slice_index columns.now col < 64 }
+    ensures { result ≡ word_of (row_from 18 (λ col. number_bit run_bits (slice_index columns.now col))) }
+{
+    let mut gathered = 0;
+    for col in (0..18).rev() {
+        gathered = 2 * gathered + (run_bits >> columns[col] & 1);
+    }
+    gathered
+}

@@ -7,10 +7,6 @@ use Rattle.bit_plane.specs.Rows.{Rows, IsGrid, bit_at, with_bit, blank}
 use Rattle.plane_map.specs.declared.tile.Place.{Place}
 use Rattle.ice_image.specs.Configuration.{bank_rows, place_bit, with_bank, with_place_bit, AreBanks}
 
--- a bit that was read at an equal place
-pub read_at : (planes : List Rows) (at place : Place) (bit : Bool) → bit ≡ place_bit planes at → at ≡ place → bit ≡ place_bit planes place
-read_at planes at place bit read same = read ∙ ap (place_bit planes) same
-
 -- the bit that a place was given
 pub place_bit-same : (width height : ℕ) (planes : List Rows) (at : Place) (bit : Bool) → AreBanks width height planes → at.bank < 4 → at.px < width → at.py < height → place_bit (with_place_bit planes at bit) at ≡ bit
 place_bit-same width height planes at bit banks bank column row =

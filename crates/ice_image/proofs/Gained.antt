@@ -1,8 +1,8 @@
 -- Images that gain the bits of a number.
-use Rattle.std.proofs.Common.{◌≡◌, ◌≢◌, ℕ, zero, suc, ◌+◌, ◌/◌, ◌%◌, ◌^◌, ◌<◌, Bool, true, false, bit_and, ◌&&◌, ◌||◌, ◌==◌, List, get_or, bit_or, max, refl, sym, ap, ◌∙◌, subst, inl, inr, arith}
-use Rattle.std.proofs.lemmas.Bool.{cases_Bool, cases_lt, eq-eqb, ne_eqb, eqb-true, and_parts, and_from, both_ways}
-use Rattle.std.proofs.lemmas.Nat.Bits.{bit_at_or, bit_at-lt, shr_and_one}
-use Rattle.std.proofs.Math.Bool.{or-false, or-true}
+use Rattle.std.proofs.Common.{◌≡◌, ℕ, zero, suc, ◌/◌, ◌%◌, ◌^◌, ◌<◌, Bool, false, ◌&&◌, ◌||◌, ◌==◌, List, get_or, bit_or, max, refl, sym, ap, ◌∙◌, subst, inl, inr, arith}
+use Rattle.std.proofs.lemmas.Bool.{cases_Bool, eq-eqb, eqb-true, and_parts, and_from, both_ways}
+use Rattle.std.proofs.lemmas.Nat.Bits.{bit_at_or, bit_at-lt}
+use Rattle.std.proofs.Math.Bool.{or-false}
 use Rattle.bit_plane.proofs.Made.{get_or-row_from}
 use Rattle.bit_plane.proofs.Words.{get_or-word_bits}
 use Rattle.bit_plane.specs.BitList.{word_of}
@@ -10,21 +10,18 @@ use Rattle.bit_plane.specs.Rows.{Rows, row_from}
 use Rattle.plane_map.proofs.Places.{place_is_only}
 use Rattle.plane_map.proofs.Words.{word_place_is_only}
 use Rattle.plane_map.specs.Layout.{Layout, kind_of, columns_at, place_of, word_place_of, cram_width, cram_height, bram_width, bram_height}
-use Rattle.plane_map.specs.declared.tile.Place.{Place}
 use Rattle.plane_map.specs.declared.tile.TileBit.{TileBit}
 use Rattle.plane_map.specs.declared.tile.TileKind.TheVariants.{RamB}
 use Rattle.plane_map.specs.declared.tile.WordBit.{WordBit}
 use Rattle.std.specs.Prelude.{Some}
 use Rattle.ice_image.specs.Bits.{Bit, OfTile, OfWord, Extra, IsBit, bit_of, Gains, number_bit, row_ones, word_ones}
-use Rattle.ice_image.specs.Configuration.{Configuration, AreBanks, IsWhole, IsCramSize, IsBramSize, place_bit, with_place_bit}
+use Rattle.ice_image.specs.Configuration.{Configuration, AreBanks, IsWhole, IsCramSize, IsBramSize, place_bit}
 use Rattle.ice_image.specs.Contents.{tile_place, word_bit_place}
 use Rattle.ice_image.specs.Owned.{is_owned}
 use Rattle.ice_image.specs.Written.{IsWritten, gained_bit}
-use Rattle.ice_image.proofs.BankBits.{AreBanks-with_place_bit}
 use Rattle.ice_image.proofs.Bits.{extra_in}
 use Rattle.ice_image.proofs.Made.{row_word-bits}
 use Rattle.ice_image.proofs.Owned.{is_owned-bit}
-use Rattle.ice_image.proofs.Written.{IsWritten-more}
 
 -- ---- bits of two numbers together
 
@@ -45,37 +42,9 @@ pub number_bit-row : (width : ℕ) (bit : ℕ → Bool) (k : ℕ) → k < width 
 number_bit-row width bit k within =
     sym (get_or-word_bits width (word_of (row_from width bit)) k within) ∙ ap (λ bits. get_or bits k false) (row_word-bits width bit) ∙ get_or-row_from width bit k within
 
--- a bit of no place that was written
+-- a bit that isn't gained
 stays : (a b : Bool) → a ≡ b → (test : Bool) → test ≡ false → a ≡ (b || test)
 stays a b same test off = same ∙ sym (or-false b) ∙ ap (λ t. b || t) (sym off)
-
--- one place more, at which the number is 1
-pub gained-more : (width height : ℕ) (places : ℕ → Place) (ones n : ℕ) (before now after : List Rows) (at : Place)
-    → IsWritten places (gained_bit places before ones) n before now × AreBanks width height now → at.bank < 4 → at.px < width → at.py < height
-    → at ≡ places n → ((k : ℕ) → k < n → places k ≢ at) → bit_and (ones / 2 ^ n) 1 ≡ 1 → after ≡ with_place_bit now at true
-    → IsWritten places (gained_bit places before ones) (n + 1) before after × AreBanks width height after
-gained-more width height places ones n before now after at so_far bank column row place_is apart one after_is =
-    let bit : gained_bit places before ones n ≡ true =
-    ap (λ b. place_bit before (places n) || b) (eq-eqb (ones / 2 ^ n % 2) 1 (sym (shr_and_one ones n) ∙ one)) ∙ or-true (place_bit before (places n)) in
-    rw after_is (
-      IsWritten-more width height places (gained_bit places before ones) n before now at true so_far.0 so_far.1 bank column row (sym place_is) bit apart,
-      AreBanks-with_place_bit width height now at true so_far.1 bank row,
-    )
-
--- one place more, at which it is 0
-pub gained-same : (places : ℕ → Place) (ones n : ℕ) (before now : List Rows) → IsWritten places (gained_bit places before ones) n before now
-    → ((k : ℕ) → k < n → places k ≢ places n) → bit_and (ones / 2 ^ n) 1 ≢ 1 → IsWritten places (gained_bit places before ones) (n + 1) before now
-gained-same places ones n before now so_far apart none = record {
-  written = λ k within. elim (cases_lt k n) [
-    | inl earlier ↦ so_far.written k earlier
-    | inr last ↦
-        let e : n ≡ k = omega arith in
-        let off : number_bit ones n ≡ false = ne_eqb (ones / 2 ^ n % 2) 1 (λ is. none (shr_and_one ones n ∙ is)) in
-        subst (λ (k : ℕ). place_bit now (places k) ≡ gained_bit places before ones k) e
-        (stays (place_bit now (places n)) (place_bit before (places n)) (so_far.others (places n) (λ h. apart h.0 h.1 h.2)) (number_bit ones n) off)
-  ];
-  others = λ at untouched. so_far.others at (λ h. untouched (h.0, (let w : h.0 < n + 1 = omega (arith, h.1) in w), h.2));
-}
 
 -- ---- images
 

@@ -1,12 +1,11 @@
 -- Planes in which the places of tiles are marked.
-use Rattle.std.proofs.Common.{◌≡◌, ℕ, zero, suc, ◌+◌, ◌-◌, ◌/◌, ◌%◌, ◌^◌, ◌<◌, ◌≤◌, ◌⊎◌, ◌==◌, Bool, true, false, not, ◌&&◌, if◌then◌else◌, List, [], ◌∷◌, ◌++◌, append_assoc, bit_and, min, refl, sym, ap, ap₂, ◌∙◌, subst, inl, inr, arith, w64}
+use Rattle.std.proofs.Common.{◌≡◌, ℕ, zero, suc, ◌+◌, ◌-◌, ◌/◌, ◌%◌, ◌^◌, ◌<◌, ◌≤◌, ◌==◌, Bool, true, false, not, ◌&&◌, if◌then◌else◌, List, [], ◌∷◌, ◌++◌, append_assoc, bit_and, min, refl, sym, ap, ap₂, ◌∙◌, subst, inl, inr, arith, w64}
 use Rattle.std.specs.Prelude.{nat_lt}
 use Rattle.std.specs.Int.{bit_not}
-use Rattle.std.proofs.lemmas.Bool.{cases_Bool, cases_lt, both_ways}
+use Rattle.std.proofs.lemmas.Bool.{cases_lt, both_ways}
 use Rattle.std.proofs.lemmas.Bool.Decides.{nat_tests}
 use Rattle.std.proofs.lemmas.Nat.Bits.{bit_at_and, bit_at_not, bit_at_ones, bit_at-lt, bit_at-zero}
-use Rattle.place_search.specs.Places.{any_below, gathered_below}
-use Rattle.place_search.proofs.Places.{any_below-at, any_below-place}
+use Rattle.place_search.specs.Places.{gathered_below}
 use Rattle.bit_plane.proofs.Words.{get_or-word_bits}
 use Rattle.bit_plane.specs.Rows.{Rows}
 use Rattle.plane_map.proofs.Layouts.{columns_at-in}
@@ -19,10 +18,10 @@ use Rattle.plane_map.specs.declared.tile.TileBit.{TileBit}
 use Rattle.ice_image.specs.Bits.{number_bit}
 use Rattle.ice_image.specs.Configuration.{place_bit}
 use Rattle.ice_image.specs.Contents.{tile_place}
-use Rattle.ice_image.specs.Owned.{is_same_place, is_owned}
-use Rattle.ice_image.specs.Written.{IsAmong, IsWritten, bit_of_word, AreMarks, AreKept, IsMarked, AreMarked, is_set_extra, free_places}
+use Rattle.ice_image.specs.Owned.{is_owned}
+use Rattle.ice_image.specs.Written.{IsWritten, bit_of_word, AreMarks, AreKept, IsMarked, AreMarked, is_set_extra, free_places}
 use Rattle.ice_image.proofs.InOrder.{place}
-use Rattle.ice_image.proofs.Owned.{is_same_place-same, is_same_place-self, among, is_owned-bit, is_owned-bit_at, is_owned-tile_place}
+use Rattle.ice_image.proofs.Owned.{among, is_owned-bit, is_owned-bit_at, is_owned-tile_place}
 use Rattle.ice_image.proofs.TileColumns.{columns_at-le}
 
 -- ---- a row of a tile is marked

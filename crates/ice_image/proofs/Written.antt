@@ -1,49 +1,20 @@
 -- Bits that are written one after the other.
-use Rattle.std.proofs.Common.{◌≡◌, ◌≢◌, ℕ, ◌+◌, ◌/◌, ◌^◌, ◌<◌, ◌==◌, Bool, false, List, get_or, bit_and, refl, sym, ap, ◌∙◌, subst, inl, inr, arith}
+use Rattle.std.proofs.Common.{◌≡◌, ℕ, ◌+◌, ◌/◌, ◌^◌, ◌<◌, ◌==◌, Bool, false, List, get_or, bit_and, refl, sym, ap, ◌∙◌, subst, inl, inr, arith}
 use Rattle.std.proofs.lemmas.Bool.{cases_lt}
 use Rattle.std.proofs.lemmas.Nat.Bits.{shr_and_one}
 use Rattle.bit_plane.proofs.Words.{get_or-word_bits, word_bits-word_of}
 use Rattle.bit_plane.specs.BitList.{word_bits, word_of}
 use Rattle.bit_plane.specs.Rows.{Rows, IsGrid, row_at, bit_at, rows_from}
 use Rattle.plane_map.specs.Layout.{Layout, IsLayout, columns_at}
-use Rattle.plane_map.specs.declared.tile.Place.{Place}
-use Rattle.ice_image.specs.Configuration.{place_bit, with_place_bit, SameBut, AreBanks}
+use Rattle.ice_image.specs.Configuration.{place_bit, SameBut}
 use Rattle.ice_image.specs.Contents.{tile_place, tile_rows, IsPlaceOfTile, word_bit_place, word_value, IsPlaceOfWord}
 use Rattle.ice_image.specs.Written.{IsWritten, AreRowsWritten, bit_of_word}
-use Rattle.ice_image.proofs.BankBits.{place_bit-same, place_bit-other, AreBanks-with_place_bit}
 use Rattle.ice_image.proofs.Made.{rows_from-is, row_word-is}
 use Rattle.ice_image.proofs.TileColumns.{tile_place-same}
-
--- nothing is written yet
-pub IsWritten-none : (places : ℕ → Place) (bits : ℕ → Bool) (planes : List Rows) → IsWritten places bits 0 planes planes
-IsWritten-none places bits planes = record {
-  written = λ k before. absurd (omega arith);
-  others = λ at apart. refl;
-}
-
--- one bit more is written
-pub IsWritten-more : (width height : ℕ) (places : ℕ → Place) (bits : ℕ → Bool) (n : ℕ) (before now : List Rows) (at : Place) (bit : Bool) → IsWritten places bits n before now → AreBanks width height now → at.bank < 4 → at.px < width → at.py < height → places n ≡ at → bits n ≡ bit → ((k : ℕ) → k < n → places k ≢ at) → IsWritten places bits (n + 1) before (with_place_bit now at bit)
-IsWritten-more width height places bits n before now at bit so_far banks bank column row place_is bit_is apart = record {
-  written = λ k within. elim (cases_lt k n) [
-    | inl earlier ↦ place_bit-other now at (places k) bit (apart k earlier) ∙ so_far.written k earlier
-    | inr last ↦
-        let e : n ≡ k = omega arith in
-        subst (λ (k : ℕ). place_bit (with_place_bit now at bit) (places k) ≡ bits k) e (ap (place_bit (with_place_bit now at bit)) place_is ∙ place_bit-same width height now at bit banks bank column row ∙ sym bit_is)
-  ];
-  others = λ other untouched.
-      place_bit-other now at other bit (λ e. untouched (n, (let h : n < n + 1 = omega arith in h), place_is ∙ sym e)) ∙ so_far.others other (λ h. untouched (h.0, (let w : h.0 < n + 1 = omega (arith, h.1) in w), h.2));
-}
 
 -- a bit of a word, as code tests it
 pub tested_bit : (count word k : ℕ) → k < count → bit_of_word count word k ≡ (bit_and (word / 2 ^ k) 1 == 1)
 tested_bit count word k within = get_or-word_bits count word k within ∙ ap (λ n. n == 1) (sym (shr_and_one word k))
-
--- one bit more of a word is written
-pub word-more : (width height : ℕ) (places : ℕ → Place) (count word n : ℕ) (before now after : List Rows) (at : Place) → IsWritten places (bit_of_word count word) n before now × AreBanks width height now → at.bank < 4 → at.px < width → at.py < height → at ≡ places n → n < count → ((k : ℕ) → k < n → places k ≢ at) → after ≡ with_place_bit now at (bit_and (word / 2 ^ n) 1 == 1) → IsWritten places (bit_of_word count word) (n + 1) before after × AreBanks width height after
-word-more width height places count word n before now after at so_far bank column row place_is within apart after_is =
-    let bit : Bool = bit_and (word / 2 ^ n) 1 == 1 in
-    let P : List Rows → Type 0 = λ planes. IsWritten places (bit_of_word count word) (n + 1) before planes × AreBanks width height planes in
-    subst P (sym after_is) (IsWritten-more width height places (bit_of_word count word) n before now at bit so_far.0 so_far.1 bank column row (sym place_is) (tested_bit count word n within) apart, AreBanks-with_place_bit width height now at bit so_far.1 bank row)
 
 -- ---- rows of a tile
 

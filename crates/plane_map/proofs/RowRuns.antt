@@ -1,115 +1,20 @@
 -- Rows of tiles and words of RAMs as runs of bits, and which row of tiles lies in a row of bits.
-use Rattle.std.proofs.Common.{◌≡◌, ℕ, ◌+◌, ◌-◌, ◌*◌, ◌/◌, ◌%◌, ◌<◌, ◌≤◌, ◌==◌, Bool, true, false, not, ◌&&◌, if◌then◌else◌, List, slice_index, Option, Some, None, refl, sym, ◌∙◌, ap, subst, arith}
+use Rattle.std.proofs.Common.{◌≡◌, ℕ, ◌+◌, ◌-◌, ◌*◌, ◌/◌, ◌%◌, ◌<◌, ◌==◌, Bool, true, false, not, ◌&&◌, if◌then◌else◌, List, slice_index, Some, refl, sym, ◌∙◌, ap, subst, arith}
 use Rattle.std.proofs.lemmas.Bool.Decides.{nat_tests}
 use Rattle.std.specs.Prelude.{nat_lt}
 use Rattle.plane_map.specs.declared.device.DeviceName.{DeviceName}
 use Rattle.plane_map.specs.declared.device.DeviceName.TheVariants.{K1, K8}
 use Rattle.plane_map.specs.declared.tile.TileBit.{TileBit}
-use Rattle.plane_map.specs.declared.tile.TileKind.{TileKind}
-use Rattle.plane_map.specs.declared.tile.TileKind.TheVariants.{Io, Logic, RamB, RamT}
+use Rattle.plane_map.specs.declared.tile.TileKind.TheVariants.{RamB}
 use Rattle.plane_map.specs.declared.tile.Place.{Place}
-use Rattle.plane_map.specs.Layout.{Layout, IsLayout, kind_of, columns_in, columns_at, width_of, start_of, is_side, is_end, is_right, is_top, is_mirrored, from_side, from_end, quarter_of, bank_of, ram_of, px_of, py_of, last_y, place_of, word_place_of, grid_height, cram_width, cram_height, bram_width, bram_height, IsTileBit}
-use Rattle.plane_map.specs.Runs.{IsRunIn, has_runs, run_of, run_place, word_run}
-use Rattle.plane_map.proofs.Offsets.{ArePlaces, entry-onto, entry-same, turned, height, height-same, quarter, quarter-below}
-use Rattle.plane_map.proofs.Layouts.{width_of-fits, from_side-below, from_end-same, are_banks, are_pad_rows}
-use Rattle.plane_map.proofs.Places.{tile_bit_is_placed, px_of-is, py_of-is, height_of, height_of-below, bank_of-below, place_is_in}
+use Rattle.plane_map.specs.Layout.{Layout, IsLayout, kind_of, columns_at, width_of, start_of, is_side, is_end, is_right, is_top, from_side, from_end, quarter_of, bank_of, ram_of, px_of, py_of, last_y, place_of, word_place_of, grid_height, cram_height, bram_width, bram_height, IsTileBit}
+use Rattle.plane_map.specs.Runs.{IsRunIn, run_place, word_run}
+use Rattle.plane_map.proofs.Offsets.{ArePlaces, entry-onto, entry-same, height, height-same, quarter, quarter-below}
+use Rattle.plane_map.proofs.Layouts.{from_end-same, are_banks, are_pad_rows}
+use Rattle.plane_map.proofs.Places.{tile_bit_is_placed, py_of-is, height_of, height_of-below, bank_of-below}
 use Rattle.plane_map.proofs.Words.{ram_of_below}
 
--- ---- runs
-
--- how many columns a tile has whose rows are runs
-pub runs-columns : (kind : Option TileKind) → has_runs kind ≡ true → (0 < columns_in kind) × (columns_in kind ≤ 54)
-runs-columns None is = absurd cc
-runs-columns (Some Io) is = absurd cc
-runs-columns (Some Logic) is = (omega arith, omega arith)
-runs-columns (Some RamB) is = (omega arith, omega arith)
-runs-columns (Some RamT) is = (omega arith, omega arith)
-
--- it is at no edge
-pub runs-inner : (device : DeviceName) (x y : ℕ) → has_runs (kind_of device x y) ≡ true → (is_side device x ≡ false) × (is_end device y ≡ false)
-unfolding kind_of
-runs-inner device x y is = grind (arith, nat_tests)
-
-module _ (layout : Layout) (sound : IsLayout layout) (x y row : ℕ) (row_in : row < 16) (is : has_runs (kind_of layout.device x y) ≡ true) where
-  abbrev width : ℕ
-  width = columns_at layout.device x y
-
-  abbrev bit_at : ℕ → TileBit
-  bit_at col = record { x = x; y = y; row = row; col = col }
-
-  abbrev start : ℕ
-  start = start_of layout (from_side layout.device x)
-
-  abbrev room : ℕ
-  room = width_of layout (from_side layout.device x)
-
-  -- a column of bits
-  px-is : (col : ℕ) → col < width → px_of layout (bit_at col) ≡ start + turned (is_mirrored layout x y) room col
-  px-is col within =
-      let edges = runs-inner layout.device x y is in
-      px_of-is layout sound (bit_at col) (tile_bit_is_placed layout sound (bit_at col) (record { row_in = row_in; col_in = within })) ∙ rw (edges.0, edges.1) refl
-
-  -- the column of tiles has room for all
-  width-fits : width ≤ room
-  width-fits =
-      let some = (runs-columns (kind_of layout.device x y) is).0 in
-      let edges = runs-inner layout.device x y is in
-      let placed = tile_bit_is_placed layout sound (bit_at (width - 1)) (record { row_in = row_in; col_in = omega (arith, some) }) in
-      let last : width - 1 < room = rw (edges.0, edges.1) at placed.fits in
-      omega (arith, some, last)
-
-  -- the columns of the run
-  columns-is : (mirrored : Bool) (col : ℕ) → col < width → start + turned mirrored room col
-      ≡ (if mirrored then (if mirrored then start + turned mirrored room 0 + 1 - width else start + turned mirrored room 0) + width - 1 - col else (if mirrored then start + turned mirrored room 0 + 1 - width else start + turned mirrored room 0) + col)
-  columns-is true col within = omega (arith, width-fits)
-  columns-is false col within = omega arith
-
-  -- each bit of the row lies at its place in the run
-  pub run-place : (col : ℕ) → col < width → place_of layout (bit_at col) ≡ run_place (run_of layout x y row) width col
-  unfolding place_of
-  run-place col within =
-      let some = (runs-columns (kind_of layout.device x y) is).0 in
-      let mirrored = is_mirrored layout x y in
-      let column : px_of layout (bit_at col) ≡ (run_place (run_of layout x y row) width col).px =
-      px-is col within ∙ columns-is mirrored col within
-      ∙ ap (λ px. if mirrored then (if mirrored then px + 1 - width else px) + width - 1 - col else (if mirrored then px + 1 - width else px) + col) (sym (px-is 0 some))
-      in
-      λ i. record { bank = bank_of layout x y; px = column i; py = py_of layout (bit_at 0) }
-
-  -- the columns of a run lie in its column of tiles
-  in_room : (mirrored : Bool) (px n : ℕ) → px ≡ start + turned mirrored room 0 → start + room ≤ n → (if mirrored then px + 1 - width else px) + width ≤ n
-  in_room true px n e fits = omega (arith, width-fits, (runs-columns (kind_of layout.device x y) is).0)
-  in_room false px n e fits = omega (arith, width-fits)
-
-  -- it lies in the planes
-  pub run-in : IsRunIn (cram_width layout.device) (cram_height layout.device) width (run_of layout x y row)
-  unfolding place_of
-  run-in =
-      let few = runs-columns (kind_of layout.device x y) is in
-      let is_bit : IsTileBit layout.device (bit_at 0) = record { row_in = row_in; col_in = few.0 } in
-      let placed = tile_bit_is_placed layout sound (bit_at 0) is_bit in
-      let fits = width_of-fits layout sound (from_side layout.device x) (from_side-below layout.device x placed.x_in) in
-      record {
-        bank_in = bank_of-below layout sound x y;
-        some = few.0;
-        few = omega (arith, few.1);
-        columns_in = in_room (is_mirrored layout x y) (px_of layout (bit_at 0)) (cram_width layout.device) (px-is 0 few.0) fits;
-        row_in = (place_is_in layout sound (bit_at 0) is_bit).py_in;
-      }
-
-  -- where it runs backwards, column 0 is its last one
-  pub run-room : is_mirrored layout x y ≡ true → width ≤ (place_of layout (bit_at 0)).px + 1
-  unfolding place_of
-  run-room mirrored =
-      let e : px_of layout (bit_at 0) ≡ start + (room - 1 - 0) = px-is 0 (runs-columns (kind_of layout.device x y) is).0 ∙ ap (λ m. start + turned m room 0) mirrored in
-      omega (arith, e, width-fits)
-
--- the run that the code makes
-pub run_of-parts : (layout : Layout) (x y row : ℕ) (first : Place) (px columns : ℕ) (backwards : Bool) → first ≡ place_of layout (record { x = x; y = y; row = row; col = 0 }) → backwards ≡ is_mirrored layout x y
-    → columns ≡ columns_at layout.device x y → px ≡ (if backwards then first.px + 1 - columns else first.px) → record { bank = first.bank; px = px; py = first.py; backwards = backwards } ≡ run_of layout x y row
-run_of-parts layout x y row first px columns backwards first_is backwards_is columns_is px_is =
-    let column : px ≡ (run_of layout x y row).px = px_is ∙ (λ i. if backwards_is i then (first_is i).px + 1 - columns_is i else (first_is i).px) in
-    λ i. record { bank = (first_is i).bank; px = column i; py = (first_is i).py; backwards = backwards_is i }
+-- ---- runs of words
 
 -- a run of a word
 module _ (layout : Layout) (sound : IsLayout layout) (x y word : ℕ) (lower : kind_of layout.device x y ≡ Some RamB) (word_in : word < 256) where

@@ -1,17 +1,16 @@
 -- The runs in which the rows of a tile lie.
-use Rattle.std.proofs.Common.{◌≡◌, ℕ, ◌+◌, ◌-◌, ◌<◌, ◌≤◌, Bool, true, false, ◌&&◌, if◌then◌else◌, Option, Some, None, ◌⊎◌, inl, inr, refl, sym, ◌∙◌, ap, subst, arith}
+use Rattle.std.proofs.Common.{◌≡◌, ℕ, ◌+◌, ◌-◌, ◌<◌, ◌≤◌, Bool, true, false, if◌then◌else◌, Option, Some, None, ◌⊎◌, inl, inr, refl, sym, ◌∙◌, ap, subst, arith}
 use Rattle.std.proofs.lemmas.Bool.Decides.{nat_tests}
 use Rattle.plane_map.specs.declared.device.DeviceName.{DeviceName}
 use Rattle.plane_map.specs.declared.tile.TileBit.{TileBit}
 use Rattle.plane_map.specs.declared.tile.TileKind.{TileKind}
 use Rattle.plane_map.specs.declared.tile.TileKind.TheVariants.{Io, Logic, RamB, RamT}
 use Rattle.plane_map.specs.declared.tile.TileRuns.{TileRuns}
-use Rattle.plane_map.specs.Layout.{Layout, IsLayout, kind_of, columns_of, columns_in, columns_at, width_of, start_of, is_side, is_end, is_mirrored, from_side, bank_of, px_of, py_of, column_of, place_of, grid_width, half_width, cram_width, cram_height, IsTileBit}
-use Rattle.plane_map.specs.Runs.{AreRunsOf, IsRunIn, has_runs, run_in, run_length, run_place, run_start}
+use Rattle.plane_map.specs.Layout.{Layout, IsLayout, kind_of, columns_of, columns_in, columns_at, width_of, start_of, is_side, is_end, is_mirrored, from_side, px_of, py_of, column_of, place_of, cram_width, cram_height, IsTileBit}
+use Rattle.plane_map.specs.Runs.{AreRunsOf, IsRunIn, run_in, run_length, run_place}
 use Rattle.plane_map.proofs.Offsets.{FitsColumn, column, entry-below, turned}
-use Rattle.plane_map.proofs.Layouts.{are_columns, columns_at-in, from_side-below, width_of-fits}
+use Rattle.plane_map.proofs.Layouts.{are_columns, from_side-below, width_of-fits}
 use Rattle.plane_map.proofs.Places.{IsPlaced, tile_bit_is_placed, px_of-is, bank_of-below, place_is_in}
-use Rattle.plane_map.proofs.RowRuns.{runs-inner}
 
 -- ---- how long the runs are
 
@@ -26,25 +25,26 @@ pub there-some : (device : DeviceName) (x y : ℕ) (kind : TileKind) → kind_of
 there-some device x y kind there = subst (λ (k : Option TileKind). 0 < columns_in k) (sym there) (some-columns kind)
 
 -- those of a tile that is no io tile have its columns alone
-inner-length : (device : DeviceName) (x y : ℕ) (kind : TileKind) → kind_of device x y ≡ Some kind → has_runs (Some kind) ≡ true → columns_of kind ≡ run_length device x y
-inner-length device x y kind there runs =
-    let edges = runs-inner device x y (ap has_runs there ∙ runs) in
-    ap columns_in (sym there) ∙ rw (edges.0, edges.1) refl
+logic-length : (device : DeviceName) (x y : ℕ) → kind_of device x y ≡ Some Logic → 54 ≡ run_length device x y
+unfolding kind_of
+logic-length device x y there = grind (arith, nat_tests)
 
-inner-runs : (kind : TileKind) → (kind ≡ Logic) ⊎ ((kind ≡ RamB) ⊎ (kind ≡ RamT)) → has_runs (Some kind) ≡ true
-inner-runs Io other = elim other [
-  | inl is ↦ absurd cc
-  | inr ram ↦ elim ram [
-    | inl is ↦ absurd cc
-    | inr is ↦ absurd cc
-  ]
-]
-inner-runs Logic other = refl
-inner-runs RamB other = refl
-inner-runs RamT other = refl
+lower-length : (device : DeviceName) (x y : ℕ) → kind_of device x y ≡ Some RamB → 42 ≡ run_length device x y
+unfolding kind_of
+lower-length device x y there = grind (arith, nat_tests)
+
+upper-length : (device : DeviceName) (x y : ℕ) → kind_of device x y ≡ Some RamT → 42 ≡ run_length device x y
+unfolding kind_of
+upper-length device x y there = grind (arith, nat_tests)
 
 pub other-length : (device : DeviceName) (x y : ℕ) (kind : TileKind) → kind_of device x y ≡ Some kind → (kind ≡ Logic) ⊎ ((kind ≡ RamB) ⊎ (kind ≡ RamT)) → columns_of kind ≡ run_length device x y
-other-length device x y kind there other = inner-length device x y kind there (inner-runs kind other)
+other-length device x y kind there other = elim other [
+  | inl is ↦ ap columns_of is ∙ logic-length device x y (there ∙ ap (λ k. Some k) is)
+  | inr ram ↦ elim ram [
+    | inl is ↦ ap columns_of is ∙ lower-length device x y (there ∙ ap (λ k. Some k) is)
+    | inr is ↦ ap columns_of is ∙ upper-length device x y (there ∙ ap (λ k. Some k) is)
+  ]
+]
 
 -- an io tile is at a side or in an end row
 pub io-length : (device : DeviceName) (x y : ℕ) → kind_of device x y ≡ Some Io → is_side device x ≡ false → 42 ≡ run_length device x y

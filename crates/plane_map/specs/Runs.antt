@@ -1,12 +1,10 @@
--- Bits that lie side by side in one row of a plane: those of a row of a tile that is no io tile, and those of a word of a RAM.
-use Rattle.std.specs.Prelude.{◌≡◌, ℕ, ◌+◌, ◌-◌, ◌*◌, ◌<◌, ◌≤◌, Bool, true, false, if◌then◌else◌, Option, Some, None}
+-- Bits that lie side by side in one row of a plane: those in which a row of a tile lies, and those of a word of a RAM.
+use Rattle.std.specs.Prelude.{◌≡◌, ℕ, ◌+◌, ◌-◌, ◌*◌, ◌<◌, ◌≤◌, true, if◌then◌else◌}
 use Rattle.plane_map.specs.declared.tile.Place.{Place}
 use Rattle.plane_map.specs.declared.device.DeviceName.{DeviceName}
 use Rattle.plane_map.specs.declared.tile.Run.{Run}
-use Rattle.plane_map.specs.declared.tile.TileKind.{TileKind}
-use Rattle.plane_map.specs.declared.tile.TileKind.TheVariants.{Io, Logic, RamB, RamT}
 use Rattle.plane_map.specs.declared.tile.TileRuns.{TileRuns}
-use Rattle.plane_map.specs.Layout.{Layout, kind_of, columns_at, from_side, is_end, is_mirrored, is_side, start_of, width_of, bank_of, ram_of, place_of, py_of}
+use Rattle.plane_map.specs.Layout.{Layout, columns_at, from_side, is_end, is_mirrored, is_side, start_of, width_of, bank_of, ram_of, py_of}
 
 -- where bit k of a run of so many bits lies
 abbrev pub run_place : Run → ℕ → ℕ → Place
@@ -19,29 +17,6 @@ pub record IsRunIn (width height count : ℕ) (run : Run) : Type 0 where
   pub few : count ≤ 64
   pub columns_in : run.px + count ≤ width
   pub row_in : run.py < height
-
--- whether the rows of a tile are runs: those of an io tile are not
-abbrev pub has_runs : Option TileKind → Bool
-has_runs None = false
-has_runs (Some Io) = false
-has_runs (Some Logic) = true
-has_runs (Some RamB) = true
-has_runs (Some RamT) = true
-
--- a row of a tile from the place of its column 0, which is the run's last column where it runs backwards
-abbrev pub run_of : Layout → ℕ → ℕ → ℕ → Run
-run_of layout x y row =
-    let first = place_of layout (record { x = x; y = y; row = row; col = 0 }) in
-    let backwards = is_mirrored layout x y in
-    record { bank = first.bank; px = if backwards then first.px + 1 - columns_at layout.device x y else first.px; py = first.py; backwards = backwards }
-
--- the run of a row of a tile, where it is one
-abbrev pub row_run : Layout → ℕ → ℕ → ℕ → Option Run
-row_run layout x y row = if has_runs (kind_of layout.device x y) then Some (run_of layout x y row) else None
-
--- the run of a word of a RAM, its highest bit first
-abbrev pub word_run : Layout → ℕ → ℕ → ℕ → Run
-word_run layout x y word = record { bank = bank_of layout x y; px = 16 * ram_of layout y; py = word; backwards = true }
 
 -- How many bits the runs have in which the rows of a tile lie. In an end row the columns of an io tile lie somewhere among 42.
 abbrev pub run_length : DeviceName → ℕ → ℕ → ℕ
@@ -67,3 +42,7 @@ pub record AreRunsOf (layout : Layout) (x y : ℕ) (runs : TileRuns) : Type 0 wh
 abbrev pub run_in : Layout → TileRuns → ℕ → Run
 run_in layout runs row =
     record { bank = runs.bank; px = runs.px; py = py_of layout (record { x = runs.x; y = runs.y; row = row; col = 0 }); backwards = runs.backwards }
+
+-- the run of a word of a RAM, its highest bit first
+abbrev pub word_run : Layout → ℕ → ℕ → ℕ → Run
+word_run layout x y word = record { bank = bank_of layout x y; px = 16 * ram_of layout y; py = word; backwards = true }

@@ -1,12 +1,12 @@
 // Layouts.
 ghost use Rattle.std.specs.Prelude.{◌≡◌, ◌≢◌, ℕ, ◌+◌, ◌<◌, ◌≤◌, Some, IfNone, IfSome, MatchOption, length, slice_index, if◌then◌else◌};
 ghost use Rattle.plane_map.specs.Layout.{kind_of, columns_at, column_of, half_width, width_of, start_of, cram_width, cram_height, bram_width, bram_height, standard_layout, place_of, word_place_of, IsLayout, IsTileBit, IsWordBit, IsInCram, IsInBram, IsExtraBit};
-ghost use Rattle.plane_map.specs.Runs.{AreRunsOf, IsRunIn, row_run, run_in, run_length, run_place, word_run};
+ghost use Rattle.plane_map.specs.Runs.{AreRunsOf, IsRunIn, run_in, run_length, run_place, word_run};
 
 use crate::device::DeviceName;
 use crate::grid::{on_end, on_side};
 use crate::place::{owner_on, place_of_word, place_on};
-use crate::runs::{run_of_word, run_on, tile_row_on};
+use crate::runs::{run_of_word, tile_row_on};
 use crate::tile::{Place, Run, TileBit, TileKind, TileRow, TileRuns, WordBit};
 use crate::tile_runs::{run_of_row, tile_runs_on};
 use std::marker::Model;
@@ -116,18 +116,6 @@ impl Layout {
         ensures onto { (at : Place) → IsInBram self.now.device at → (word_bit : WordBit) × IsWordBit self.now.device word_bit × (word_place_of self.now word_bit ≡ at) }
     {
         place_of_word(self, WordBit { x, y, word, bit })
-    }
-
-    /// Where the bits of a row of a tile lie in the configuration planes, where they lie side by side: none at io tiles and
-    /// where there is no tile. Bit 0 of the run is column 0 of the tile.
-    pub fn row_run(&self, x: u8, y: u8, row: u8) -> Option<Run>
-        requires { row < 16 }
-        ensures run { result ≡ row_run self.now x y row }
-        ensures in_planes { IfSome result (IsRunIn (cram_width self.now.device) (cram_height self.now.device) (columns_at self.now.device x y)) }
-        ensures places { IfSome result (λ run. (col : ℕ) → col < columns_at self.now.device x y
-            → place_of self.now (record { x = x; y = y; row = row; col = col }) ≡ run_place run (columns_at self.now.device x y) col) }
-    {
-        run_on(self, x, y, row)
     }
 
     /// Where the rows of the tile at (x, y) lie in the configuration planes: none where there is no tile.

@@ -1,56 +1,12 @@
-// Bits that lie side by side, and what lies in one row of bits.
+// The runs of words of RAMs, and what lies in one row of bits.
 ghost use Rattle.std.specs.Prelude.{◌≡◌, ℕ, ◌+◌, ◌-◌, ◌<◌, ◌≤◌, true, IfSome, Some, if◌then◌else◌};
 ghost use Rattle.plane_map.specs.Layout.{kind_of, columns_at, cram_width, cram_height, bram_width, bram_height, place_of, word_place_of, IsLayout, IsTileBit};
-ghost use Rattle.plane_map.specs.Runs.{IsRunIn, has_runs, row_run, run_of, run_place, word_run};
+ghost use Rattle.plane_map.specs.Runs.{IsRunIn, run_place, word_run};
 
-use crate::grid::{is_mirrored, kind_on, quarter_at, ram_at, y_at};
+use crate::grid::{quarter_at, ram_at, y_at};
 use crate::layout::Layout;
-use crate::place::{place_on, tile_width};
 use crate::rows::row_at;
 use crate::tile::{Run, TileBit, TileKind, TileRow};
-
-/// The run of a row of the tile at (x, y), where it is one.
-pub(crate) fn run_on(layout: &Layout, x: u8, y: u8, row: u8) -> Option<Run>
-    requires { row < 16 }
-    ensures run { result ≡ row_run layout.now x y row }
-    ensures in_planes { IfSome result (IsRunIn (cram_width layout.now.device) (cram_height layout.now.device) (columns_at layout.now.device x y)) }
-    ensures places { IfSome result (λ run. (col : ℕ) → col < columns_at layout.now.device x y → place_of layout.now (record { x = x; y = y; row = row; col = col }) ≡ run_place run (columns_at layout.now.device x y) col) }
-{
-    match kind_on(layout.device(), x as u32, y as u32) {
-        None | Some(TileKind::Io) => None,
-        Some(kind) => Some(inner_run(layout, kind, x, y, row)),
-    }
-}
-
-/// The run of a row of the tile at (x, y), which is of that kind and no io tile.
-fn inner_run(layout: &Layout, kind: TileKind, x: u8, y: u8, row: u8) -> Run
-    requires layout { IsLayout layout.now }
-    requires row { row < 16 }
-    requires there { kind_of layout.now.device x y ≡ Some kind }
-    requires inner { has_runs (Some kind) ≡ true }
-    ensures run { result ≡ run_of layout.now x y row }
-    ensures in_planes { IsRunIn (cram_width layout.now.device) (cram_height layout.now.device) (columns_at layout.now.device x y) result }
-    ensures places { (col : ℕ) → col < columns_at layout.now.device x y → place_of layout.now (record { x = x; y = y; row = row; col = col }) ≡ run_place result (columns_at layout.now.device x y) col }
-{
-    let first = place_on(layout, TileBit { x, y, row, col: 0 });
-    let backwards = is_mirrored(layout, x as u32, y as u32);
-    let width = tile_width(kind) as u16;
-    Run {
-        bank: first.bank,
-        px: first_column(backwards, first.px, width),
-        py: first.py,
-        backwards,
-    }
-}
-
-/// The first column of a run, by the column of its bit 0.
-fn first_column(backwards: bool, px: u16, width: u16) -> u16
-    requires some { 0 < width }
-    requires room { backwards ≡ true → width ≤ px + 1 }
-    ensures { result ≡ (if backwards then px + 1 - width else px) }
-{
-    if backwards { px - (width - 1) } else { px }
-}
 
 /// The run of a word of the RAM whose lower tile is at (x, y).
 pub(crate) fn run_of_word(layout: &Layout, x: u8, y: u8, word: u8) -> Run

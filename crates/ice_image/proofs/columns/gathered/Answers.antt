@@ -1,4 +1,4 @@
-use Rattle.std.proofs.Common.{◌≡◌, ℕ, slice_index, ◌∙◌}
+use Rattle.std.proofs.Common.{slice_index, ◌∙◌}
 use Rattle.plane_map.specs.Layout.{columns_at, column_of}
 use Rattle.ice_image.proofs.Spread.{gathered-as, gathered-same}
 use Rattle.ice_image.proofs.columns.gathered.Goals as goal

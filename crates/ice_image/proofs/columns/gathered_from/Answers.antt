@@ -1,6 +1,4 @@
-use Rattle.std.proofs.Common.{◌≡◌, ℕ, ◌+◌, ◌-◌, ◌*◌, ◌/◌, ◌^◌, Bool, arith, bit_and, drop, refl, slice_index}
-use Rattle.bit_plane.specs.BitList.{word_of}
-use Rattle.bit_plane.specs.Rows.{row_from}
+use Rattle.std.proofs.Common.{ℕ, ◌-◌, Bool, arith, refl, slice_index}
 use Rattle.ice_image.specs.Bits.{number_bit}
 use Rattle.ice_image.proofs.Made.{row_word-none, row_word-more, row_word-double, row_word-lt}
 use Rattle.ice_image.proofs.Spread.{bit-number}

@@ -1,4 +1,4 @@
-use Rattle.std.proofs.Common.{◌≡◌, ℕ, ◌≤◌, slice_index, sym, ◌∙◌, subst, arith}
+use Rattle.std.proofs.Common.{slice_index, ◌∙◌, arith}
 use Rattle.plane_map.specs.Layout.{columns_at, column_of}
 use Rattle.plane_map.proofs.RunPlaces.{run_length-few}
 use Rattle.ice_image.proofs.Spread.{spread-as, spread-same}

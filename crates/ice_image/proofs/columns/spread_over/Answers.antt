@@ -1,4 +1,4 @@
-use Rattle.std.proofs.Common.{ℕ, slice_index, arith}
+use Rattle.std.proofs.Common.{slice_index, arith}
 use Rattle.ice_image.proofs.Spread.{spread-more, spread-none}
 use Rattle.ice_image.proofs.columns.spread_over.Goals as goal
 

@@ -1,4 +1,4 @@
-use Rattle.std.proofs.Common.{◌≡◌, ℕ, ◌<◌, ◌^◌, Bool, ◌∙◌, ap, subst}
+use Rattle.std.proofs.Common.{◌∙◌, ap}
 use Rattle.plane_map.specs.Layout.{columns_at, column_of}
 use Rattle.plane_map.specs.Runs.{run_place}
 use Rattle.bit_plane.specs.BitList.{word_of}

@@ -1,4 +1,4 @@
-use Rattle.std.proofs.Common.{◌≡◌, ℕ, subst}
+use Rattle.std.proofs.Common.{ℕ, subst}
 use Rattle.plane_map.specs.Layout.{columns_at, column_of}
 use Rattle.plane_map.specs.Runs.{run_place}
 use Rattle.ice_image.specs.Contents.{tile_place}

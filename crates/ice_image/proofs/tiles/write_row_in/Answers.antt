@@ -1,4 +1,4 @@
-use Rattle.std.proofs.Common.{◌≡◌, ℕ, ◌∙◌, ap, subst, arith, bit_and, bit_or, w64}
+use Rattle.std.proofs.Common.{ℕ, ◌∙◌, ap, subst, arith, bit_and, bit_or, w64}
 use Rattle.std.specs.Int.{bit_not}
 use Rattle.bit_plane.specs.BitList.{word_of}
 use Rattle.bit_plane.specs.Rows.{row_from}

@@ -1,4 +1,4 @@
-use Rattle.std.proofs.Common.{◌≡◌, ℕ, refl, sym, ap, ◌∙◌, Some}
+use Rattle.std.proofs.Common.{sym, ap, ◌∙◌, Some}
 use Rattle.plane_map.proofs.RunPlaces.{other-length, io-length}
 use Rattle.plane_map.proofs.tile_runs.run_length.Goals as goal
 

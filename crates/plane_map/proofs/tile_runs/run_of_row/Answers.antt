@@ -1,7 +1,5 @@
-use Rattle.std.proofs.Common.{ℕ, ◌<◌, ◌≡◌, subst, sym}
-use Rattle.plane_map.specs.declared.tile.Run.{Run}
-use Rattle.plane_map.specs.Layout.{cram_width, cram_height, columns_at, column_of, place_of}
-use Rattle.plane_map.specs.Runs.{IsRunIn, run_place}
+use Rattle.std.proofs.Common.{ℕ, ◌<◌, subst, sym}
+use Rattle.plane_map.specs.Layout.{column_of}
 use Rattle.plane_map.proofs.RunPlaces.{run-in, run-parts, run-place}
 use Rattle.plane_map.proofs.tile_runs.run_of_row.Goals as goal
 

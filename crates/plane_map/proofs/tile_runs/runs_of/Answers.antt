@@ -1,5 +1,4 @@
-use Rattle.std.proofs.Common.{◌≡◌, ℕ, ◌<◌, ◌≤◌, sym, ap, ◌∙◌, subst, arith}
-use Rattle.plane_map.specs.Layout.{grid_width, width_of}
+use Rattle.std.proofs.Common.{arith}
 use Rattle.plane_map.proofs.Layouts.{columns_at-in}
 use Rattle.plane_map.proofs.RunPlaces.{run-parts, there-some}
 use Rattle.plane_map.proofs.tile_runs.runs_of.Goals as goal

@@ -1,4 +1,4 @@
-use Rattle.std.proofs.Common.{◌≡◌, ℕ, ◌<◌, sym, ◌∙◌, subst, arith}
+use Rattle.std.proofs.Common.{◌≡◌, ◌<◌, sym, ◌∙◌, subst, arith}
 use Rattle.plane_map.specs.Layout.{columns_at}
 use Rattle.plane_map.proofs.Offsets.{entry-below, places-from}
 use Rattle.plane_map.proofs.RunPlaces.{end-columns, side-columns}

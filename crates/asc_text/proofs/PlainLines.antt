@@ -36,13 +36,6 @@ row_at-row kind x y row small = ap (λ (b : Bool). if b then AnyStatement else R
 row_at-more : (kind : TileKind) (x y row : ℕ) → row_at kind x y (row + 1) ≡ after_row kind x y row
 row_at-more kind x y row = ap (λ (b : Bool). if b then AnyStatement else Row kind x y (row + 1)) (next_is-last row)
 
--- none
-pub no-rows : (kind : TileKind) (x y row : ℕ) (before : Option AnyImage) (text : List ℕ) → row < 16 → TakesRows kind x y row before text 0 text before
-no-rows kind x y row before text small s is expected =
-    let first : row + 0 ≡ row = omega arith in
-    let stands : row_at kind x y (row + 0) ≡ s.expected = ap (row_at kind x y) first ∙ row_at-row kind x y row small ∙ sym expected in
-    (refl, ap (λ image. with_lines s image (row_at kind x y (row + 0))) (sym is) ∙ ap (with_lines s s.image) stands)
-
 -- one more
 row-first : (s : ReaderState) (kind : TileKind) (x y row width : ℕ) (before after : AnyImage) (text : List ℕ) → row < 16 → columns_of kind ≡ width → is_lf_at text width ≡ true → is_row width (take width text) ≡ true
     → GainsBits before after (row_sets x y row (take width text))
@@ -75,13 +68,6 @@ memory_at-memory x y row small = ap (λ (b : Bool). if b then AnyStatement else 
 
 memory_at-more : (x y row : ℕ) → memory_at x y (row + 1) ≡ after_memory x y row
 memory_at-more x y row = ap (λ (b : Bool). if b then AnyStatement else Memory x y (row + 1)) (next_is-last row)
-
--- none
-pub no-memory_lines : (x y row : ℕ) (before : Option AnyImage) (text : List ℕ) → row < 16 → TakesMemoryLines x y row before text 0 text before
-no-memory_lines x y row before text small s is expected =
-    let first : row + 0 ≡ row = omega arith in
-    let stands : memory_at x y (row + 0) ≡ s.expected = ap (memory_at x y) first ∙ memory_at-memory x y row small ∙ sym expected in
-    (refl, ap (λ image. with_lines s image (memory_at x y (row + 0))) (sym is) ∙ ap (with_lines s s.image) stands)
 
 -- one more
 memory-first : (s : ReaderState) (x y row : ℕ) (before after : AnyImage) (text : List ℕ) → row < 16 → is_lf_at text 64 ≡ true → is_memory_line (take 64 text) ≡ true → GainsBits before after (bytes_set x y row (memory_bytes (take 64 text)))

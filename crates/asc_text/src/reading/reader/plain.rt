@@ -2,8 +2,9 @@
 ghost use Rattle.std.specs.Prelude.{◌≡◌, ℕ, ◌+◌, ◌<◌, ◌≤◌, true, Some, take, IfSome};
 ghost use Rattle.std.specs.Bool.{MatchBool};
 ghost use Rattle.plane_map.specs.Layout.{columns_of, kind_of};
+ghost use Rattle.plane_map.specs.Runs.{AreRunsOf};
 ghost use Rattle.ice_image.specs.Bits.{number_bit};
-ghost use Rattle.ice_image.specs.Either.{device_of};
+ghost use Rattle.ice_image.specs.Either.{configuration_of, device_of};
 ghost use Rattle.asc_text.specs.Rows.{is_row, is_memory_line, row_bit, memory_bytes};
 ghost use Rattle.asc_text.specs.Meaning.{row_sets};
 ghost use Rattle.asc_text.specs.declared.reading.reader.Expected.TheVariants.{Row, Memory};
@@ -14,7 +15,7 @@ use crate::reading::bits::set_memory_line;
 use crate::reading::reader::{Expected, Reader};
 use crate::reading::rows::{memory_bytes, ones_of};
 use ice_image::AnyImage;
-use plane_map::TileKind;
+use plane_map::{TileKind, TileRuns};
 
 /// Lines that were taken from the front of a text.
 #[derive(Clone, Copy, Debug, PartialEq, Eq)]
@@ -74,7 +75,6 @@ impl Reader {
 }
 
 /// Sets the bits of the rows of a tile that stand at the front of a text, from that row on, where there is an image.
-#[inline(never)]
 fn set_rows<'a>(
     image: &mut Option<AnyImage>,
     kind: TileKind,
@@ -88,11 +88,34 @@ fn set_rows<'a>(
     ensures taken { TakesRows kind x y row image.old text.now result.count result.rest.now image.new }
 {
     match image {
+        Some(image) => set_rows_of_tile(image, kind, x, y, row, text),
+        None => TakenLines {
+            count: 0,
+            rest: text,
+        },
+    }
+}
+
+/// The same of an image. No row is taken where there is no tile.
+#[inline(never)]
+fn set_rows_of_tile<'a>(
+    image: &mut AnyImage,
+    kind: TileKind,
+    x: u8,
+    y: u8,
+    row: u8,
+    text: &'a [u8],
+) -> TakenLines<'a>
+    requires row { row < 16 }
+    ensures within { row + result.count ≤ 16 }
+    ensures taken { TakesRows kind x y row (Some image.old) text.now result.count result.rest.now (Some image.new) }
+{
+    match image.tile_runs(x, y) {
         // Each width is written out, so that each has code of its own.
-        Some(image) => match kind {
-            TileKind::Io => set_rows_of_width(image, x, y, row, text, 18),
-            TileKind::Logic => set_rows_of_width(image, x, y, row, text, 54),
-            TileKind::RamB | TileKind::RamT => set_rows_of_width(image, x, y, row, text, 42),
+        Some(runs) => match kind {
+            TileKind::Io => set_rows_of_width(image, runs, row, text, 18),
+            TileKind::Logic => set_rows_of_width(image, runs, row, text, 54),
+            TileKind::RamB | TileKind::RamT => set_rows_of_width(image, runs, row, text, 42),
         },
         None => TakenLines {
             count: 0,
@@ -101,27 +124,27 @@ fn set_rows<'a>(
     }
 }
 
-/// The same of a tile with that many columns.
+/// The same of a tile with that many columns, by where its rows lie.
 #[inline(always)]
 fn set_rows_of_width<'a>(
     image: &mut AnyImage,
-    x: u8,
-    y: u8,
+    runs: TileRuns,
     first: u8,
     text: &'a [u8],
     width: usize,
 ) -> TakenLines<'a>
     requires row { first < 16 }
+    requires runs { AreRunsOf (configuration_of image.old).layout runs.x runs.y runs }
     requires long { 8 ≤ width }
     requires short { width ≤ 64 }
     ensures within { first + result.count ≤ 16 }
     ensures taken { (kind : TileKind) → columns_of kind ≡ width
-        → TakesRows kind x y first (Some image.old) text.now result.count result.rest.now (Some image.new) }
+        → TakesRows kind runs.x runs.y first (Some image.old) text.now result.count result.rest.now (Some image.new) }
 {
     let mut row = first;
     let mut left = text;
     while row < 16 {
-        if !set_plain_row(image, x, y, row, left, width) {
+        if !set_plain_row(image, runs, row, left, width) {
             return TakenLines {
                 count: row - first,
                 rest: left,
@@ -138,17 +161,18 @@ fn set_rows_of_width<'a>(
 
 /// Sets the bits of a row of a tile where it stands at the front of a text with LF right behind, and tells whether it does.
 #[inline(always)]
-fn set_plain_row(image: &mut AnyImage, x: u8, y: u8, row: u8, text: &[u8], width: usize) -> bool
+fn set_plain_row(image: &mut AnyImage, runs: TileRuns, row: u8, text: &[u8], width: usize) -> bool
     requires row { row < 16 }
+    requires runs { AreRunsOf (configuration_of image.old).layout runs.x runs.y runs }
     requires long { 8 ≤ width }
     requires short { width ≤ 64 }
     ensures { MatchBool result
-        ((is_lf_at text.now width ≡ true) × (is_row width (take width text.now) ≡ true) × GainsBits image.old image.new (row_sets x y row (take width text.now)))
+        ((is_lf_at text.now width ≡ true) × (is_row width (take width text.now) ≡ true) × GainsBits image.old image.new (row_sets runs.x runs.y row (take width text.now)))
         (image.new ≡ image.old) }
 {
     match plain_row(text, width) {
         Some(ones) => {
-            image.set_ones(x, y, row, ones);
+            image.set_row_ones(runs, row, ones);
             true
         }
         None => false,

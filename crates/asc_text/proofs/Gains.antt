@@ -6,11 +6,11 @@ use Rattle.std.proofs.Math.Bool.{or-false, or-true, or_assoc}
 use Rattle.std.specs.Prelude.{nat_lt}
 use Rattle.plane_map.specs.Layout.{Layout}
 use Rattle.plane_map.specs.declared.tile.Place.{Place}
-use Rattle.ice_image.specs.Bits.{Bit, OfTile, OfWord, Extra, IsBit, bit_of, number_bit, word_ones, IsSet, Gains}
+use Rattle.ice_image.specs.Bits.{Bit, OfTile, OfWord, Extra, IsBit, bit_of, number_bit, row_ones, word_ones, IsSet, Gains}
 use Rattle.ice_image.specs.Configuration.{Configuration, IsWhole}
 use Rattle.ice_image.proofs.Owned.{is_same_place-same, is_same_place-self}
-use Rattle.asc_text.specs.Rows.{memory_bytes}
-use Rattle.asc_text.specs.Meaning.{line_sets, extra_sets}
+use Rattle.asc_text.specs.Rows.{memory_bytes, row_bit}
+use Rattle.asc_text.specs.Meaning.{row_sets, line_sets, extra_sets}
 use Rattle.asc_text.specs.inside.Gains.{word_in, bytes_set, bytes_set_below}
 
 -- ---- one bit
@@ -69,6 +69,14 @@ Gains-same one other before after gains same = record {
   whole = gains.whole;
   bits = λ bit is. gains.bits bit is ∙ ap (λ t. bit_of before bit || t) (same bit is);
 }
+
+-- ---- the ones of a row
+
+-- the bits of a row's number are its characters 1
+pub ones-characters : (x y row ones : ℕ) (line : List ℕ) → ((col : ℕ) → number_bit ones col ≡ row_bit line col) → (bit : Bit) → row_ones x y row ones bit ≡ row_sets x y row line bit
+ones-characters x y row ones line same (OfTile bit) = ap (λ b. (x == bit.x) && (y == bit.y) && (row == bit.row) && b) (same bit.col)
+ones-characters x y row ones line same (OfWord bit) = refl
+ones-characters x y row ones line same (Extra at) = refl
 
 -- ---- the first of some
 

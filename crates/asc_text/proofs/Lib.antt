@@ -24,9 +24,11 @@ pub mod Given
 pub mod HasRead
 pub mod ImageSteps
 pub mod LineSteps
+pub mod LinesRead
 pub mod Refusals
 pub mod StatementSteps
 mod Worked
 pub mod Pieces
+pub mod PlainLines
 pub mod RamLines
 pub mod RamPlaces

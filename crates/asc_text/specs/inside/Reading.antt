@@ -1,6 +1,6 @@
 -- What the reader keeps between the lines of a text, and what a line makes of it. What a text means stands in
 -- `Meaning` and `Faults`.
-use Rattle.std.specs.Prelude.{◌≡◌, ℕ, ◌+◌, ◌<◌, Bool, true, false, not, ◌&&◌, ◌||◌, List, [], ◌∷◌, ◌++◌, length, nat_lt, ◌==◌, if◌then◌else◌, Option, Some, None, is_some, unwrap_or, replicate}
+use Rattle.std.specs.Prelude.{◌≡◌, ℕ, zero, suc, ◌+◌, ◌<◌, Bool, true, false, not, ◌&&◌, ◌||◌, List, [], ◌∷◌, ◌++◌, length, get_or, nat_lt, ◌==◌, if◌then◌else◌, Option, Some, None, is_some, unwrap_or, replicate}
 use Rattle.std.specs.Bool.{MatchBool}
 use Rattle.text_lines.specs.Lines.{lines_of, line_at, trimmed}
 use Rattle.place_search.specs.Places.{or_else}
@@ -257,6 +257,33 @@ pub record TakesFirst (s : ReaderState) (text rest : List ℕ) (new : ReaderStat
   pub shorter : length rest < length text
   pub fits : line_refusal s s.expected (first_line text) ≡ None
   pub takes : Takes s s.expected (first_line text) new
+
+-- whether LF stands at that place of a text
+abbrev pub is_lf_at : List ℕ → ℕ → Bool
+is_lf_at text offset = nat_lt offset (length text) && (get_or text offset 0 == 10)
+
+-- that many lines at the front of a text were taken, and that is what stands behind them
+abbrev pub TakesLines : ReaderState → List ℕ → ℕ → List ℕ → ReaderState → Type 0
+TakesLines s text zero rest new = (rest ≡ text) × (new ≡ s)
+TakesLines s text (suc count) rest new = (middle : List ℕ) × (between : ReaderState) × TakesLines s text count middle between × TakesFirst between middle rest new
+
+-- what is expected before that row, of the rows 0 to 16
+abbrev pub row_at : TileKind → ℕ → ℕ → ℕ → Expected
+row_at kind x y row = if row == 16 then AnyStatement else Row kind x y row
+
+-- that many rows of a tile were taken into an image, from that row on
+abbrev pub TakesRows : TileKind → ℕ → ℕ → ℕ → Option AnyImage → List ℕ → ℕ → List ℕ → Option AnyImage → Type 0
+TakesRows kind x y row before text count rest after = (s : ReaderState) → s.image ≡ before → s.expected ≡ Row kind x y row
+    → TakesLines s text count rest (record s { image = after; expected = row_at kind x y (row + count) })
+
+-- what is expected before that line of a RAM's contents, of the lines 0 to 16
+abbrev pub memory_at : ℕ → ℕ → ℕ → Expected
+memory_at x y row = if row == 16 then AnyStatement else Memory x y row
+
+-- that many lines of a RAM's contents were taken into an image, from that line on
+abbrev pub TakesMemoryLines : ℕ → ℕ → ℕ → Option AnyImage → List ℕ → ℕ → List ℕ → Option AnyImage → Type 0
+TakesMemoryLines x y row before text count rest after = (s : ReaderState) → s.image ≡ before → s.expected ≡ Memory x y row
+    → TakesLines s text count rest (record s { image = after; expected = memory_at x y (row + count) })
 
 -- ---- the end
 

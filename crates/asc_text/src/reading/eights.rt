@@ -4,18 +4,25 @@ ghost use Rattle.std.specs.List.{list_all};
 ghost use Rattle.bit_plane.specs.BitList.{word_of};
 ghost use Rattle.asc_text.specs.inside.RowNumbers.{is_bit, is_odd, bytes_number, AreEight};
 
-/// What bytes of a line give.
+/// What bytes of a line say as a row of bits.
 #[derive(Drop)]
-pub(crate) struct LineNumber {
+pub(crate) struct RowBits {
     /// Their lowest bits as a number, that of the first byte worth 1.
     pub(crate) ones: u64,
     /// Whether each is the character 0 or 1.
     pub(crate) are_bits: bool,
 }
 
+/// The same of eight bytes.
+#[derive(Drop)]
+struct EightBits {
+    ones: u8,
+    are_bits: bool,
+}
+
 /// A line as a number, column c being worth 2^c, and whether it is one of the characters 0 and 1.
 #[inline(always)]
-pub(crate) fn line_number(line: &[u8]) -> LineNumber
+pub(crate) fn row_bits_of(line: &[u8]) -> RowBits
     requires long { 8 ≤ length line.now }
     requires short { length line.now ≤ 64 }
     ensures ones { result.ones ≡ word_of (map is_odd line.now) }
@@ -25,15 +32,15 @@ pub(crate) fn line_number(line: &[u8]) -> LineNumber
     let head = eight_at(line, 0);
     let start = line.len() % 8;
     let tail = in_eights(line, start);
-    LineNumber {
-        ones: u64::from(head.0) % (1 << start) | tail.ones << start,
-        are_bits: head.1 & tail.are_bits,
+    RowBits {
+        ones: u64::from(head.ones) % (1 << start) | tail.ones << start,
+        are_bits: head.are_bits & tail.are_bits,
     }
 }
 
 /// The bytes of a line from a place on, which are eight or a multiple of it.
 #[inline(always)]
-fn in_eights(line: &[u8], start: usize) -> LineNumber
+fn in_eights(line: &[u8], start: usize) -> RowBits
     requires within { start ≤ length line.now }
     requires whole { (length line.now - start) % 8 ≡ 0 }
     requires short { length line.now ≤ 64 }
@@ -46,21 +53,24 @@ fn in_eights(line: &[u8], start: usize) -> LineNumber
     while start < place {
         place -= 8;
         let eight = eight_at(line, place);
-        ones = 256 * ones + u64::from(eight.0);
-        are_bits &= eight.1;
+        ones = 256 * ones + u64::from(eight.ones);
+        are_bits &= eight.are_bits;
     }
-    LineNumber { ones, are_bits }
+    RowBits { ones, are_bits }
 }
 
 /// The lowest bits of eight bytes of a line as a number, that of the first byte worth 1, and whether each is the character 0
 /// or 1.
-fn eight_at(line: &[u8], start: usize) -> (u8, bool)
+fn eight_at(line: &[u8], start: usize) -> EightBits
     requires { start + 8 ≤ length line.now }
-    ensures ones { result.0 ≡ word_of (map is_odd (take 8 (drop start line.now))) }
-    ensures bits { result.1 ≡ list_all is_bit (take 8 (drop start line.now)) }
+    ensures ones { result.ones ≡ word_of (map is_odd (take 8 (drop start line.now))) }
+    ensures bits { result.are_bits ≡ list_all is_bit (take 8 (drop start line.now)) }
 {
     let word = word_at(line, start);
-    (packed(word), are_bits(word))
+    EightBits {
+        ones: packed(word),
+        are_bits: are_bits(word),
+    }
 }
 
 /// Eight bytes of a line as a number, the first worth 1.

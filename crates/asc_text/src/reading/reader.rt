@@ -1,9 +1,10 @@
 // What the reader keeps between the lines of a text, and what a line changes.
-ghost use Rattle.std.specs.Prelude.{◌≡◌, ◌<◌, ◌≤◌, ◌==◌, ◌&&◌, [], Some, None, false, length, get_or, nat_lt, IfOk, IfErr, OnOk, MatchOption};
+ghost use Rattle.std.specs.Prelude.{◌≡◌, ◌<◌, ◌≤◌, [], Some, None, false, length, IfOk, IfErr, OnOk};
 ghost use Rattle.ice_image.specs.Either.{configuration_of};
 ghost use Rattle.asc_text.specs.Statements.{begins_with_dot};
 
 mod blocks;
+mod plain;
 mod statements;
 
 use crate::fault::{AscCause, AscFault, TileXy};
@@ -152,34 +153,6 @@ impl Reader {
         })
     }
 
-    /// Takes the first line of a text where it is the expected row or digits with LF right behind, as most lines are, and
-    /// gives the text behind it. Else nothing changes.
-    #[inline(always)]
-    pub(crate) fn accept_plain<'a>(&mut self, text: &'a [u8]) -> Option<&'a [u8]>
-        requires ready { IsReady self.old.image self.old.expected }
-        ensures { MatchOption result (state_of self.new ≡ state_of self.old)
-            (λ rest. TakesFirst (state_of self.old) text.now rest.now (state_of self.new)) }
-    {
-        let expected = self.expected;
-        let len = expected.plain_len();
-        if !is_lf_at(text, len) {
-            return None;
-        }
-        let line = &text[..len];
-        let rest = &text[len + 1..];
-        match expected {
-            Expected::Statement => None,
-            Expected::Row { kind, x, y, row } => match self.accept_row(kind, x, y, row, line) {
-                Ok(()) => Some(rest),
-                Err(_) => None,
-            },
-            Expected::Memory { x, y, row } => match self.accept_memory(x, y, row, line) {
-                Ok(()) => Some(rest),
-                Err(_) => None,
-            },
-        }
-    }
-
     /// Takes the first line of a text, which has that number, whatever it is, and gives the text behind it.
     #[inline(never)]
     pub(crate) fn accept_any<'a>(
@@ -323,13 +296,6 @@ impl Reader {
             no_sleep: self.no_sleep.unwrap_or(false),
         }
     }
-}
-
-/// Whether LF stands at that offset.
-fn is_lf_at(text: &[u8], offset: usize) -> bool
-    ensures { result ≡ (nat_lt offset (length text.now) && (get_or text.now offset 0 == 10)) }
-{
-    offset < text.len() && text[offset] == b'\n'
 }
 
 /// A line that is missing below the statement of the tile or RAM at (x, y).

@@ -6,7 +6,7 @@ ghost use Rattle.plane_map.specs.Layout.{columns_of};
 ghost use Rattle.ice_image.specs.Bits.{number_bit};
 ghost use Rattle.asc_text.specs.Rows.{is_memory_line, is_row, memory_bytes, row_bit};
 
-use crate::reading::eights::line_number;
+use crate::reading::eights::row_bits_of;
 use plane_map::TileKind;
 
 /// A row of a tile of that kind as a number, column c being worth 2^c. None where the line is not such a row.
@@ -25,7 +25,7 @@ pub(crate) fn row_ones(line: &[u8], kind: TileKind) -> Option<u64>
 
 /// The same of a tile with that many columns.
 #[inline(always)]
-fn ones_of(line: &[u8], width: usize) -> Option<u64>
+pub(crate) fn ones_of(line: &[u8], width: usize) -> Option<u64>
     requires long { 8 ≤ width }
     requires short { width ≤ 64 }
     ensures { MatchOption result (is_row width line.now ≡ false)
@@ -34,7 +34,7 @@ fn ones_of(line: &[u8], width: usize) -> Option<u64>
     if line.len() != width {
         return None;
     }
-    let row = line_number(line);
+    let row = row_bits_of(line);
     if row.are_bits { Some(row.ones) } else { None }
 }
 

@@ -36,11 +36,10 @@ pub fn read_with(alloc: Global, bytes: &[u8], layouts: Layouts) -> Result<AscFil
     let mut left = bytes;
     let mut count = 0;
     while !left.is_empty() {
-        left = match reader.accept_plain(left) {
-            Some(rest) => rest,
-            None => reader.accept_any(count + 1, left)?,
-        };
-        count += 1;
+        let behind = reader.accept_any(count + 1, left)?;
+        let plain = reader.accept_plain(behind);
+        left = plain.rest;
+        count += 1 + u64::from(plain.count);
     }
     reader.finish(count + 1)
 }

@@ -13,7 +13,6 @@ use plane_map::TileKind;
 
 impl Reader {
     /// Takes a row of a tile, without the blanks at its end.
-    #[inline(always)]
     pub(super) fn accept_row(
         &mut self,
         kind: TileKind,

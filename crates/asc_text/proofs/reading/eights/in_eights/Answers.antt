@@ -34,7 +34,7 @@ loop-place-preserved c = record {
   within = omega (arith, c.loop-place.invariant.within);
   whole = omega (arith, c.loop-place.invariant.whole);
   ones = odds-eight c.args.line.now c.loop-place.place c.loop-place.ones c.from.result (omega (arith, c.loop-place.invariant.whole)) c.loop-place.invariant.within c.loop-place.invariant.ones (c.from.ensures ∙ c.eight_at-eight.ensures.ones);
-  bits = bits-eight c.args.line.now c.loop-place.place c.loop-place.are_bits c.eight_at-eight.result.1 (omega (arith, c.loop-place.invariant.whole)) c.loop-place.invariant.within c.loop-place.invariant.bits c.eight_at-eight.ensures.bits;
+  bits = bits-eight c.args.line.now c.loop-place.place c.loop-place.are_bits c.eight_at-eight.result.are_bits (omega (arith, c.loop-place.invariant.whole)) c.loop-place.invariant.within c.loop-place.invariant.bits c.eight_at-eight.ensures.bits;
 }
 
 pub returns-clause-ones : goal.returns-clause-ones

@@ -11,11 +11,11 @@ returns-then-line-width c =
 pub returns-then-row : goal.returns-then-row
 returns-then-row c =
     let wide : length c.args.line.now ≡ c.args.width = grind (arith, nat_tests) in (
-      is_row-bits c.args.width c.args.line.now c.line_number-row.result.are_bits wide c.line_number-row.ensures.bits ∙ c.if-row.true,
-      row_number-bit c.args.line.now c.line_number-row.result.ones (sym c.line_number-row.ensures.bits ∙ c.if-row.true) c.line_number-row.ensures.ones,
+      is_row-bits c.args.width c.args.line.now c.row_bits_of-row.result.are_bits wide c.row_bits_of-row.ensures.bits ∙ c.if-row.true,
+      row_number-bit c.args.line.now c.row_bits_of-row.result.ones (sym c.row_bits_of-row.ensures.bits ∙ c.if-row.true) c.row_bits_of-row.ensures.ones,
     )
 
 pub returns-else-row : goal.returns-else-row
 returns-else-row c =
     let wide : length c.args.line.now ≡ c.args.width = grind (arith, nat_tests) in
-    is_row-bits c.args.width c.args.line.now c.line_number-row.result.are_bits wide c.line_number-row.ensures.bits ∙ c.if-row.false
+    is_row-bits c.args.width c.args.line.now c.row_bits_of-row.result.are_bits wide c.row_bits_of-row.ensures.bits ∙ c.if-row.false

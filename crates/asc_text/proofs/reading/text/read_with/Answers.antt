@@ -1,13 +1,12 @@
-use Rattle.std.proofs.Common.{◌≡◌, ◌+◌, ◌<◌, ◌∷◌, length, drop, sym, refl, subst, ◌∙◌, arith}
+use Rattle.std.proofs.Common.{◌≡◌, ℕ, ◌+◌, ◌<◌, ◌∷◌, length, drop, sym, refl, subst, ◌∙◌, arith}
 use Rattle.text_lines.specs.Lines.{lines_of}
-use Rattle.asc_text.specs.Faults.{Tells, fault_with, tile_named}
-use Rattle.asc_text.specs.inside.Reading.{ReaderState, TakesFirst, state_of, first_line, line_refusal, statement_of}
+use Rattle.asc_text.specs.inside.Reading.{state_of, first_line}
 use Rattle.asc_text.proofs.FirstLines.{has_first, is-empty, not-empty}
-use Rattle.asc_text.proofs.Ends.{HasRead-none, HasRead-more, cut, refused, ended, answered, accepted, told, whole}
+use Rattle.asc_text.proofs.Ends.{HasRead-none, refused, ended, answered, accepted, told, whole}
 use Rattle.asc_text.proofs.Characters.{answered_bits}
 use Rattle.std.proofs.lemmas.Result.{err_from_is_err_and}
+use Rattle.asc_text.proofs.LinesRead.{HasTaken, HasTaken-first, HasTaken-lines, HasTaken-ready, TakesLines-shorter}
 use Rattle.asc_text.proofs.reading.text.read_with.Goals as goal
-use Rattle.asc_text.proofs.reading.text.read_with.Goals.{in-Some, in-None+in_ok-left-in-None}
 
 pub loop-left-init : goal.loop-left-init
 loop-left-init c = record {
@@ -17,36 +16,41 @@ loop-left-init c = record {
   read = HasRead-none c.args.layouts (lines_of c.args.bytes.now) (state_of c.in_ok-reader.reader) c.requires c.in_ok-reader.ensures;
 }
 
-pub returns-in_err-left-in-None-clause-refused : goal.returns-in_err-left-in-None-clause-refused
-returns-in_err-left-in-None-clause-refused c =
+pub returns-in_err-behind-clause-refused : goal.returns-in_err-behind-clause-refused
+returns-in_err-behind-clause-refused c =
     let text = c.loop-left.left.now in
-    let fault = c.in_err-left-in-None.field-0.0 in
+    let fault = c.in_err-behind.field-0.0 in
     let some : 0 < length text = not-empty text (sym c.is_empty.ensures ∙ c.loop-left-test.true) in
     let left : drop c.loop-left.count (lines_of c.args.bytes.now) ≡ first_line text ∷ drop 1 (lines_of text) = sym c.loop-left.invariant.rest ∙ has_first text some in
-    let told = subst (λ (s : ReaderState). Tells (fault_with (line_refusal s s.expected (first_line text)) (c.loop-left.count + 1) (tile_named (statement_of s.expected (first_line text)))) fault) c.in-None.ensures c.in_err-left-in-None.ensures.refused in
-    let p = err_from_is_err_and c.from_residual-in_err-left-in-None.result c.from_residual-in_err-left-in-None.ensures.1 in
-    rw (p.1, p.2) (refused c.args.layouts c.args.bytes.now (first_line text) c.loop-left.count (drop 1 (lines_of text)) (state_of c.loop-left.reader) fault c.loop-left.invariant.read left told)
+    let p = err_from_is_err_and c.from_residual-in_err-behind.result c.from_residual-in_err-behind.ensures.1 in
+    rw (p.1, p.2) (refused c.args.layouts c.args.bytes.now (first_line text) c.loop-left.count (drop 1 (lines_of text)) (state_of c.loop-left.reader) fault c.loop-left.invariant.read left c.in_err-behind.ensures.refused)
+
+pub accept_plain-plain-requires : goal.accept_plain-plain-requires
+accept_plain-plain-requires c =
+    let args = c.args in
+    let old = state_of c.loop-left.reader in
+    let new = state_of c.accept_any.new.self in
+    let behind = c.in_ok-behind.behind.now in
+    let taken = HasTaken-first args.layouts args.bytes.now c.loop-left.count c.loop-left.left.now behind old new c.loop-left.invariant c.in_ok-behind.ensures.taken in
+    record { ready = HasTaken-ready args.layouts args.bytes.now (c.loop-left.count + 1) behind new taken }
 
 pub loop-left-preserved : goal.loop-left-preserved
 loop-left-preserved c =
-    let text = c.loop-left.left.now in
-    let reader = c.match-accept_plain.reader in
-    let rest = c.match-accept_plain.left.now in
-    let took : TakesFirst (state_of c.loop-left.reader) text rest (state_of reader) = elim c.match-accept_plain.branch [
-      | in-Some w ↦ rw (w.reader-is, w.left-is) w.in-Some.ensures
-      | in-None+in_ok-left-in-None w ↦
-          subst (λ (s : ReaderState). TakesFirst s text rest (state_of reader)) w.in-None.ensures (rw (w.reader-is, w.left-is) w.in_ok-left-in-None.ensures.taken)
-    ] in
-    let line = first_line text in
-    let more = lines_of rest in
-    let left : drop c.loop-left.count (lines_of c.args.bytes.now) ≡ line ∷ more = sym c.loop-left.invariant.rest ∙ took.lines in
-    let found = cut (lines_of c.args.bytes.now) c.loop-left.count line more left in
-    record {
-      rest = found.2;
-      within = omega (arith, found.0);
-      short = omega (arith, c.loop-left.invariant.short, took.shorter);
-      read = HasRead-more c.args.layouts (lines_of c.args.bytes.now) c.loop-left.count line more (state_of c.loop-left.reader) (state_of reader) c.loop-left.invariant.read left took.fits took.takes;
-    }
+    let args = c.args in
+    let plain = c.accept_plain-plain.result in
+    let old = state_of c.loop-left.reader in
+    let between = state_of c.accept_any.new.self in
+    let new = state_of c.accept_plain-plain.new.self in
+    let behind = c.in_ok-behind.behind.now in
+    let first = HasTaken-first args.layouts args.bytes.now c.loop-left.count c.loop-left.left.now behind old between c.loop-left.invariant c.in_ok-behind.ensures.taken in
+    let all = HasTaken-lines args.layouts args.bytes.now (c.loop-left.count + 1) plain.count behind plain.rest.now between new first c.accept_plain-plain.ensures in
+    rw c.from.ensures (subst (λ (n : ℕ). HasTaken args.layouts args.bytes.now n plain.rest.now new) (omega arith) all)
+
+pub loop-left-smaller : goal.loop-left-smaller
+loop-left-smaller c =
+    let plain = c.accept_plain-plain.result in
+    let shorter = TakesLines-shorter c.in_ok-behind.behind.now plain.rest.now plain.count (state_of c.accept_any.new.self) (state_of c.accept_plain-plain.new.self) c.accept_plain-plain.ensures in
+    omega (arith, c.in_ok-behind.ensures.taken.shorter, shorter)
 
 pub returns-clause-means : goal.returns-clause-means
 returns-clause-means c =

@@ -7,7 +7,7 @@ use Rattle.std.specs.List.{range_with_len}
 use Rattle.std.specs.Prelude.{bit_xor}
 use Rattle.bit_plane.specs.BitList.{byte_bits, bits_of}
 use Rattle.bin_stream.specs.CheckValue.{doubled}
-use Rattle.bin_stream.specs.declared.check_value.tables.TheConstants.{LAST, BEFORE_ONE, BEFORE_TWO, BEFORE_THREE, BEFORE_FOUR, BEFORE_FIVE, BEFORE_SIX, BEFORE_SEVEN}
+use Rattle.bin_stream.specs.declared.check_value.tables.TheConstants.{REMAINDERS}
 use Rattle.bin_stream.specs.inside.Register.{entered, entered_all}
 use Rattle.bin_stream.proofs.Powers.{doubled_low, doubled-xor, doubled-below, last_power, last_power-below, entered-is, entered_all-append}
 use Rattle.bin_stream.proofs.CheckLaw.{entered_byte}
@@ -58,68 +58,20 @@ doubled_by-below (suc count) n in_range = doubled_by-below count (doubled n) (do
 
 -- ---- the tables
 
--- what each byte gives, doubled that many times
+-- what each byte leaves where so many bytes follow
 abbrev remainders : ℕ → List ℕ
-remainders count = map (doubled_by count) (range_with_len 0 256)
+remainders following = map (doubled_by (16 + 8 * following)) (range_with_len 0 256)
 
-remainder_at : (count byte : ℕ) (table : List ℕ) → table ≡ remainders count → byte < 256 → get_or table byte 0 ≡ doubled_by count byte
-remainder_at count byte table all in_range = ap (λ xs. get_or xs byte 0) all ∙ get_or-map-range_with_len (doubled_by count) 0 256 byte byte 0 in_range (omega arith)
-
-last_all : LAST ≡ remainders 16
+remainders_all : REMAINDERS ≡ map remainders (range_with_len 0 8)
 unfolding doubled_by doubled
-last_all = refl
+remainders_all = refl
 
-pub last_at : (byte : ℕ) → byte < 256 → get_or LAST byte 0 ≡ doubled_by 16 byte
-last_at byte = remainder_at 16 byte LAST last_all
-
-before_one_all : BEFORE_ONE ≡ remainders 24
-unfolding doubled_by doubled
-before_one_all = refl
-
-pub before_one_at : (byte : ℕ) → byte < 256 → get_or BEFORE_ONE byte 0 ≡ doubled_by 24 byte
-before_one_at byte = remainder_at 24 byte BEFORE_ONE before_one_all
-
-before_two_all : BEFORE_TWO ≡ remainders 32
-unfolding doubled_by doubled
-before_two_all = refl
-
-pub before_two_at : (byte : ℕ) → byte < 256 → get_or BEFORE_TWO byte 0 ≡ doubled_by 32 byte
-before_two_at byte = remainder_at 32 byte BEFORE_TWO before_two_all
-
-before_three_all : BEFORE_THREE ≡ remainders 40
-unfolding doubled_by doubled
-before_three_all = refl
-
-pub before_three_at : (byte : ℕ) → byte < 256 → get_or BEFORE_THREE byte 0 ≡ doubled_by 40 byte
-before_three_at byte = remainder_at 40 byte BEFORE_THREE before_three_all
-
-before_four_all : BEFORE_FOUR ≡ remainders 48
-unfolding doubled_by doubled
-before_four_all = refl
-
-pub before_four_at : (byte : ℕ) → byte < 256 → get_or BEFORE_FOUR byte 0 ≡ doubled_by 48 byte
-before_four_at byte = remainder_at 48 byte BEFORE_FOUR before_four_all
-
-before_five_all : BEFORE_FIVE ≡ remainders 56
-unfolding doubled_by doubled
-before_five_all = refl
-
-pub before_five_at : (byte : ℕ) → byte < 256 → get_or BEFORE_FIVE byte 0 ≡ doubled_by 56 byte
-before_five_at byte = remainder_at 56 byte BEFORE_FIVE before_five_all
-
-before_six_all : BEFORE_SIX ≡ remainders 64
-unfolding doubled_by doubled
-before_six_all = refl
-
-pub before_six_at : (byte : ℕ) → byte < 256 → get_or BEFORE_SIX byte 0 ≡ doubled_by 64 byte
-before_six_at byte = remainder_at 64 byte BEFORE_SIX before_six_all
-
-before_seven_all : BEFORE_SEVEN ≡ remainders 72
-unfolding doubled_by doubled
-before_seven_all = refl
-
-pub before_seven_at : (byte : ℕ) → byte < 256 → get_or BEFORE_SEVEN byte 0 ≡ doubled_by 72 byte
-before_seven_at byte = remainder_at 72 byte BEFORE_SEVEN before_seven_all
+-- what a table has at a byte
+pub remainder_at : (following byte : ℕ) → following < 8 → byte < 256 → get_or (get_or REMAINDERS following []) byte 0 ≡ doubled_by (16 + 8 * following) byte
+remainder_at following byte table_in byte_in =
+    ap (λ tables. get_or (get_or tables following []) byte 0) remainders_all
+    ∙ ap (λ table. get_or table byte 0) (get_or-map-range_with_len remainders 0 8 following following [] table_in (omega arith))
+    ∙ get_or-map-range_with_len (doubled_by (16 + 8 * following)) 0 256 byte byte 0 byte_in (omega arith)
 
 -- ---- bits that enter
 

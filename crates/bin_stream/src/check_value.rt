@@ -6,9 +6,7 @@ ghost use Rattle.bin_stream.specs.inside.Register.{entered_all};
 
 mod tables;
 
-use tables::{
-    BEFORE_FIVE, BEFORE_FOUR, BEFORE_ONE, BEFORE_SEVEN, BEFORE_SIX, BEFORE_THREE, BEFORE_TWO, LAST,
-};
+use tables::REMAINDERS;
 
 /// What the register holds before the first bit.
 pub(crate) const START: u16 = 0xFFFF;
@@ -46,14 +44,14 @@ fn enter_eight(value: u16, bytes: &[u8]) -> u16
     ensures { result ≡ entered_all value (bits_of bytes.now) }
 {
     let [high, low] = value.to_be_bytes();
-    entry_of(&LAST, bytes[7])
-        ^ entry_of(&BEFORE_ONE, bytes[6])
-        ^ entry_of(&BEFORE_TWO, bytes[5])
-        ^ entry_of(&BEFORE_THREE, bytes[4])
-        ^ entry_of(&BEFORE_FOUR, bytes[3])
-        ^ entry_of(&BEFORE_FIVE, bytes[2])
-        ^ entry_of(&BEFORE_SIX, low ^ bytes[1])
-        ^ entry_of(&BEFORE_SEVEN, high ^ bytes[0])
+    entry_of(&REMAINDERS[0], bytes[7])
+        ^ entry_of(&REMAINDERS[1], bytes[6])
+        ^ entry_of(&REMAINDERS[2], bytes[5])
+        ^ entry_of(&REMAINDERS[3], bytes[4])
+        ^ entry_of(&REMAINDERS[4], bytes[3])
+        ^ entry_of(&REMAINDERS[5], bytes[2])
+        ^ entry_of(&REMAINDERS[6], low ^ bytes[1])
+        ^ entry_of(&REMAINDERS[7], high ^ bytes[0])
 }
 
 /// The register after bytes have entered, two at a time.
@@ -76,7 +74,7 @@ fn enter_pair(value: u16, first: u8, second: u8) -> u16
     ensures { result ≡ entered_all (entered_all value (byte_bits first)) (byte_bits second) }
 {
     let [high, low] = value.to_be_bytes();
-    entry_of(&BEFORE_ONE, high ^ first) ^ entry_of(&LAST, low ^ second)
+    entry_of(&REMAINDERS[1], high ^ first) ^ entry_of(&REMAINDERS[0], low ^ second)
 }
 
 /// The register after a byte has entered.
@@ -84,7 +82,7 @@ fn enter_byte(value: u16, byte: u8) -> u16
     ensures { result ≡ entered_all value (byte_bits byte) }
 {
     let [high, _] = value.to_be_bytes();
-    value << 8 ^ entry_of(&LAST, high ^ byte)
+    value << 8 ^ entry_of(&REMAINDERS[0], high ^ byte)
 }
 
 /// The entry of a byte.

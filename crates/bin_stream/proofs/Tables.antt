@@ -5,9 +5,9 @@ use Rattle.std.proofs.lemmas.List.FromFn.{get_or-map-range_with_len}
 use Rattle.std.specs.Int.Bits.{xor_assoc, xor_self, xor_zero_r}
 use Rattle.std.specs.List.{range_with_len}
 use Rattle.std.specs.Prelude.{bit_xor}
-use Rattle.bit_plane.specs.BitList.{byte_bits}
+use Rattle.bit_plane.specs.BitList.{byte_bits, bits_of}
 use Rattle.bin_stream.specs.CheckValue.{doubled}
-use Rattle.bin_stream.specs.declared.check_value.TheConstants.{FIRST, SECOND}
+use Rattle.bin_stream.specs.declared.check_value.tables.TheConstants.{REMAINDERS}
 use Rattle.bin_stream.specs.inside.Register.{entered, entered_all}
 use Rattle.bin_stream.proofs.Powers.{doubled_low, doubled-xor, doubled-below, last_power, last_power-below, entered-is, entered_all-append}
 use Rattle.bin_stream.proofs.CheckLaw.{entered_byte}
@@ -39,30 +39,39 @@ doubled_by-low n low =
     rw (s0, s1, s2, s3, s4, s5, s6, s7) refl
 
 -- two bytes that are sixteen times doubled are the sum of each alone
-pub summed : (high low : ℕ) → high < 256 → low < 256 → doubled_by 16 (256 * high + low) ≡ bit_xor (doubled_by 16 (256 * high)) (doubled_by 16 low)
+pub summed : (high low : ℕ) → high < 256 → low < 256 → doubled_by 16 (256 * high + low) ≡ bit_xor (doubled_by 24 high) (doubled_by 16 low)
+unfolding doubled_by
 summed high low high_in low_in =
     let left : 256 * high ≡ high * 2 ^ 8 + 0 = omega arith in
     let right : low ≡ 0 * 2 ^ 8 + low = omega arith in
     let joined : 256 * high + low ≡ bit_xor (256 * high) low =
     sym (ap₂ bit_xor left right ∙ xor_block 8 high 0 0 low (omega arith) low_in ∙ ap (λ n. n * 2 ^ 8 + low) (xor_zero_r high) ∙ omega arith) in
-    ap (doubled_by 16) joined ∙ doubled_by-xor 16 (256 * high) low (omega arith) (omega arith)
+    let moved : doubled_by 16 (256 * high) ≡ doubled_by 24 high = ap (doubled_by 16) (sym (doubled_by-low high high_in)) in
+    ap (doubled_by 16) joined
+    ∙ doubled_by-xor 16 (256 * high) low (omega arith) (omega arith)
+    ∙ ap (λ n. bit_xor n (doubled_by 16 low)) moved
+
+doubled_by-below : (count n : ℕ) → n < 65536 → doubled_by count n < 65536
+unfolding doubled_by
+doubled_by-below zero n in_range = in_range
+doubled_by-below (suc count) n in_range = doubled_by-below count (doubled n) (doubled-below n in_range)
 
 -- ---- the tables
 
-first_all : FIRST ≡ map (λ byte. doubled_by 16 (256 * byte)) (range_with_len 0 256)
+-- what each byte leaves where so many bytes follow
+abbrev remainders : ℕ → List ℕ
+remainders following = map (doubled_by (16 + 8 * following)) (range_with_len 0 256)
+
+remainders_all : REMAINDERS ≡ map remainders (range_with_len 0 8)
 unfolding doubled_by doubled
-first_all = refl
+remainders_all = refl
 
-second_all : SECOND ≡ map (doubled_by 16) (range_with_len 0 256)
-unfolding doubled_by doubled
-second_all = refl
-
--- what each has at a byte
-pub first_at : (byte : ℕ) → byte < 256 → get_or FIRST byte 0 ≡ doubled_by 16 (256 * byte)
-first_at byte in_range = ap (λ xs. get_or xs byte 0) first_all ∙ get_or-map-range_with_len (λ byte. doubled_by 16 (256 * byte)) 0 256 byte byte 0 in_range (omega arith)
-
-pub second_at : (byte : ℕ) → byte < 256 → get_or SECOND byte 0 ≡ doubled_by 16 byte
-second_at byte in_range = ap (λ xs. get_or xs byte 0) second_all ∙ get_or-map-range_with_len (doubled_by 16) 0 256 byte byte 0 in_range (omega arith)
+-- what a table has at a byte
+pub remainder_at : (following byte : ℕ) → following < 8 → byte < 256 → get_or (get_or REMAINDERS following []) byte 0 ≡ doubled_by (16 + 8 * following) byte
+remainder_at following byte table_in byte_in =
+    ap (λ tables. get_or (get_or tables following []) byte 0) remainders_all
+    ∙ ap (λ table. get_or table byte 0) (get_or-map-range_with_len remainders 0 8 following following [] table_in (omega arith))
+    ∙ get_or-map-range_with_len (doubled_by (16 + 8 * following)) 0 256 byte byte 0 byte_in (omega arith)
 
 -- ---- bits that enter
 
@@ -139,3 +148,49 @@ entered_one value byte in_range byte_in =
     ∙ doubled_by-xor 8 (256 * sum) low (omega arith) (omega arith)
     ∙ xor_comm (doubled_by 8 (256 * sum)) (doubled_by 8 low)
     ∙ ap₂ bit_xor (doubled_by-low low (omega arith) ∙ shifted) (ap (doubled_by 8) (sym (doubled_by-low sum sum_in)))
+
+-- bits that enter what is left of two bytes leave that many times doubled, and what they leave alone
+after_pair : (high low : ℕ) (bits : List Bool) → high < 256 → low < 256 → length bits ≡ 48 → entered_all (doubled_by 16 (256 * high + low)) bits ≡ bit_xor (bit_xor (entered_all 0 bits) (doubled_by 64 low)) (doubled_by 72 high)
+unfolding doubled_by
+after_pair high low bits high_in low_in long =
+    let a : ℕ = doubled_by 24 high in
+    let b : ℕ = doubled_by 16 low in
+    let a_in : a < 65536 = doubled_by-below 24 high (omega arith) in
+    let b_in : b < 65536 = doubled_by-below 16 low (omega arith) in
+    ap (λ n. entered_all n bits) (summed high low high_in low_in)
+    ∙ entered_all-xor 0 (bit_xor a b) bits (omega arith) (xor_lt 16 a b a_in b_in)
+    ∙ ap (λ count. bit_xor (entered_all 0 bits) (doubled_by count (bit_xor a b))) long
+    ∙ ap (bit_xor (entered_all 0 bits)) (doubled_by-xor 48 a b a_in b_in ∙ xor_comm (doubled_by 48 a) (doubled_by 48 b))
+    ∙ sym (xor_assoc (entered_all 0 bits) (doubled_by 48 b) (doubled_by 48 a))
+
+-- a byte that enters nothing, and those behind it
+entered_first : (byte : ℕ) (bits : List Bool) → byte < 256 → entered_all 0 (byte_bits byte ++ bits) ≡ bit_xor (entered_all 0 bits) (doubled_by (length bits) (doubled_by 16 byte))
+entered_first byte bits byte_in =
+    let alone : entered_all 0 (byte_bits byte) ≡ doubled_by 16 byte = entered_one 0 byte (omega arith) byte_in in
+    entered_all-append 0 (byte_bits byte) bits
+    ∙ ap (λ n. entered_all n bits) alone
+    ∙ entered_all-xor 0 (doubled_by 16 byte) bits (omega arith) (doubled_by-below 16 byte (omega arith))
+
+-- six bytes that enter nothing
+entered_six : (c d e f g h : ℕ) → c < 256 → d < 256 → e < 256 → f < 256 → g < 256 → h < 256 → entered_all 0 (bits_of (c ∷ d ∷ e ∷ f ∷ g ∷ h ∷ [])) ≡ bit_xor (bit_xor (bit_xor (bit_xor (bit_xor (doubled_by 16 h) (doubled_by 24 g)) (doubled_by 32 f)) (doubled_by 40 e)) (doubled_by 48 d)) (doubled_by 56 c)
+unfolding doubled_by
+entered_six c d e f g h c_in d_in e_in f_in g_in h_in =
+    entered_first c (bits_of (d ∷ e ∷ f ∷ g ∷ h ∷ [])) c_in
+    ∙ ap (λ n. bit_xor n (doubled_by 56 c)) (entered_first d (bits_of (e ∷ f ∷ g ∷ h ∷ [])) d_in
+    ∙ ap (λ n. bit_xor n (doubled_by 48 d)) (entered_first e (bits_of (f ∷ g ∷ h ∷ [])) e_in
+    ∙ ap (λ n. bit_xor n (doubled_by 40 e)) (entered_first f (bits_of (g ∷ h ∷ [])) f_in
+    ∙ ap (λ n. bit_xor n (doubled_by 32 f)) (entered_first g (bits_of (h ∷ [])) g_in
+    ∙ ap (λ n. bit_xor n (doubled_by 24 g)) (entered_first h [] h_in)))))
+
+-- eight bytes that enter
+pub entered_eight : (value : ℕ) (bytes : List ℕ) → length bytes ≡ 8 → value < 65536 → ((i : ℕ) → get_or bytes i 0 < 256) → bit_xor (bit_xor (bit_xor (bit_xor (bit_xor (bit_xor (bit_xor (doubled_by 16 (get_or bytes 7 0)) (doubled_by 24 (get_or bytes 6 0))) (doubled_by 32 (get_or bytes 5 0))) (doubled_by 40 (get_or bytes 4 0))) (doubled_by 48 (get_or bytes 3 0))) (doubled_by 56 (get_or bytes 2 0))) (doubled_by 64 (bit_xor (value % 256) (get_or bytes 1 0)))) (doubled_by 72 (bit_xor (value / 256) (get_or bytes 0 0))) ≡ entered_all value (bits_of bytes)
+entered_eight value (a ∷ b ∷ c ∷ d ∷ e ∷ f ∷ g ∷ h ∷ []) eight in_range small =
+    let high : ℕ = bit_xor (value / 256) a in
+    let low : ℕ = bit_xor (value % 256) b in
+    let rest : List Bool = bits_of (c ∷ d ∷ e ∷ f ∷ g ∷ h ∷ []) in
+    sym (entered_all-append value (byte_bits a) (byte_bits b ++ rest)
+    ∙ entered_all-append (entered_all value (byte_bits a)) (byte_bits b) rest
+    ∙ ap (λ n. entered_all n rest) (entered_pair value a b in_range (small 0) (small 1))
+    ∙ after_pair high low rest (xor_lt 8 (value / 256) a (omega arith) (small 0)) (xor_lt 8 (value % 256) b (omega arith) (small 1)) refl
+    ∙ ap (λ n. bit_xor (bit_xor n (doubled_by 64 low)) (doubled_by 72 high)) (entered_six c d e f g h (small 2) (small 3) (small 4) (small 5) (small 6) (small 7)))
+entered_eight value _ eight in_range small = absurd (omega (arith, eight))

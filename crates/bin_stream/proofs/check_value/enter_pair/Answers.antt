@@ -1,8 +1,8 @@
-use Rattle.std.proofs.Common.{◌≡◌, ◌/◌, ◌%◌, ◌<◌, get_or, sym, ap, ap₂, ◌∙◌, arith}
+use Rattle.std.proofs.Common.{◌≡◌, ◌/◌, ◌%◌, ◌<◌, [], get_or, sym, ap, ap₂, ◌∙◌, arith}
 use Rattle.std.proofs.lemmas.Nat.{xor_lt}
 use Rattle.std.specs.Prelude.{bit_xor}
-use Rattle.bin_stream.specs.declared.check_value.TheConstants.{FIRST, SECOND}
-use Rattle.bin_stream.proofs.Tables.{first_at, second_at, summed, entered_pair}
+use Rattle.bin_stream.specs.declared.check_value.tables.TheConstants.{REMAINDERS}
+use Rattle.bin_stream.proofs.Tables.{remainder_at, summed, entered_pair}
 use Rattle.bin_stream.proofs.check_value.enter_pair.Goals as goal
 
 pub returns : goal.returns
@@ -14,10 +14,10 @@ returns c =
     let low = bit_xor (value % 256) c.args.second in
     let high_in : high < 256 = xor_lt 8 (value / 256) c.args.first (omega arith) (omega arith) in
     let low_in : low < 256 = xor_lt 8 (value % 256) c.args.second (omega arith) (omega arith) in
-    let first : c.entry_of.result ≡ get_or FIRST (bit_xor (get_or c.to_be_bytes.result 0 0) c.args.first) 0 = c.entry_of.ensures in
-    let second : c.entry_of-2.result ≡ get_or SECOND (bit_xor (get_or c.to_be_bytes.result 1 0) c.args.second) 0 = c.entry_of-2.ensures in
+    let first : c.entry_of.result ≡ get_or (get_or REMAINDERS 1 []) (bit_xor (get_or c.to_be_bytes.result 0 0) c.args.first) 0 = c.entry_of.ensures in
+    let second : c.entry_of-2.result ≡ get_or (get_or REMAINDERS 0 []) (bit_xor (get_or c.to_be_bytes.result 1 0) c.args.second) 0 = c.entry_of-2.ensures in
     ap₂ bit_xor
-    (first ∙ ap (λ n. get_or FIRST (bit_xor n c.args.first) 0) high_is ∙ first_at high high_in)
-    (second ∙ ap (λ n. get_or SECOND (bit_xor n c.args.second) 0) low_is ∙ second_at low low_in)
+    (first ∙ ap (λ n. get_or (get_or REMAINDERS 1 []) (bit_xor n c.args.first) 0) high_is ∙ remainder_at 1 high (omega arith) high_in)
+    (second ∙ ap (λ n. get_or (get_or REMAINDERS 0 []) (bit_xor n c.args.second) 0) low_is ∙ remainder_at 0 low (omega arith) low_in)
     ∙ sym (summed high low high_in low_in)
     ∙ sym (entered_pair value c.args.first c.args.second (omega arith) (omega arith) (omega arith))

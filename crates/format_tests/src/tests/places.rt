@@ -114,21 +114,45 @@ fn run(bank: u8, px: u16, py: u16, backwards: bool) -> Run {
     }
 }
 
+/// The run in which a row of the tile at (x, y) lies, and how many bits it has, if there is a tile.
+fn run_of_row(layout: &Layout, x: u8, y: u8, row: u8) -> Option<(Run, u8)> {
+    match layout.tile_runs(x, y) {
+        Some(runs) if row < 16 => Some((layout.run_of_row(runs, row), runs.count)),
+        _ => None,
+    }
+}
+
 #[test]
 fn finds_the_runs_of_rows(rt: HostRuntime) {
     let k1 = Layout::standard(DeviceName::K1);
     for (x, y, found, what) in [
-        (1, 1, Some(run(0, 18, 16, false)), "logic"),
-        (12, 16, Some(run(3, 18, 31, true)), "mirrored logic"),
-        (3, 1, Some(run(0, 126, 16, false)), "RAM"),
-        (0, 1, None, "side"),
-        (1, 17, None, "pad"),
+        (1, 1, Some((run(0, 18, 16, false), 54)), "logic"),
+        (12, 16, Some((run(3, 18, 31, true), 54)), "mirrored logic"),
+        (3, 1, Some((run(0, 126, 16, false), 42)), "RAM"),
+        (0, 1, Some((run(0, 0, 16, false), 18)), "side"),
+        (1, 17, Some((run(1, 18, 15, false), 42)), "pad"),
         (0, 0, None, "corner"),
     ] {
-        assert!(rt; k1.row_run(x, y, 0) == found, "{what}");
+        assert!(rt; run_of_row(&k1, x, y, 0) == found, "{what}");
     }
     let k8 = Layout::standard(DeviceName::K8);
-    assert!(rt; k8.row_run(25, 1, 15) == Some(run(2, 396, 31, true)));
+    assert!(rt; run_of_row(&k8, 25, 1, 15) == Some((run(2, 396, 31, true), 42)));
+}
+
+/// The bit of its run that a column of the tile at (x, y) is, if it is an io tile.
+fn io_column(layout: &Layout, x: u8, y: u8, col: usize) -> Option<u8> {
+    match layout.io_columns(x, y) {
+        Some(columns) if col < 18 => Some(columns[col]),
+        _ => None,
+    }
+}
+
+#[test]
+fn finds_the_columns_of_io_tiles(rt: HostRuntime) {
+    let k1 = Layout::standard(DeviceName::K1);
+    assert!(rt; io_column(&k1, 0, 1, 0) == Some(17), "side");
+    assert!(rt; io_column(&k1, 1, 17, 17) == Some(5), "pad");
+    assert!(rt; io_column(&k1, 1, 1, 0) == None, "logic");
 }
 
 /// The run of a word of the RAM at (x, y), if there is one.

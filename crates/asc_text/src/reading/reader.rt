@@ -42,7 +42,29 @@ pub(crate) enum Expected {
 
 impl Expected {
     ghost use Rattle.asc_text.specs.Faults.{tile_named};
-    ghost use Rattle.asc_text.specs.inside.Reading.{plain_length, statement_of};
+    ghost use Rattle.asc_text.specs.inside.Reading.{plain_length, statement_of, row_at, memory_at};
+
+    /// What is expected before that row of a tile, of the rows 0 to 16.
+    fn row_at(kind: TileKind, x: u8, y: u8, row: u8) -> Expected
+        ensures { result ≡ row_at kind x y row }
+    {
+        if row == 16 {
+            Expected::Statement
+        } else {
+            Expected::Row { kind, x, y, row }
+        }
+    }
+
+    /// What is expected before that line of the contents of a RAM, of the lines 0 to 16.
+    fn memory_at(x: u8, y: u8, row: u8) -> Expected
+        ensures { result ≡ memory_at x y row }
+    {
+        if row == 16 {
+            Expected::Statement
+        } else {
+            Expected::Memory { x, y, row }
+        }
+    }
 
     /// How many bytes the expected row or digits have; 0 where a statement is expected.
     fn plain_len(self) -> usize

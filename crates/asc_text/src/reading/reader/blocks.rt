@@ -2,7 +2,7 @@
 ghost use Rattle.std.specs.Prelude.{◌≡◌, ◌<◌, Some, None, IfOk, IfErr, OnOk, OnErr};
 ghost use Rattle.ice_image.specs.Bits.{row_ones};
 ghost use Rattle.asc_text.specs.inside.Gains.{bytes_set};
-ghost use Rattle.asc_text.specs.inside.Reading.{state_of, HasKind, row_refusal, memory_refusal, TakesRow, TakesMemory, ImageGains, after_row, after_memory};
+ghost use Rattle.asc_text.specs.inside.Reading.{state_of, HasKind, row_refusal, memory_refusal, TakesRow, TakesMemory, ImageGains};
 
 use crate::fault::AscCause;
 use crate::reading::bits;
@@ -31,7 +31,7 @@ impl Reader {
         match row_ones(line, kind) {
             Some(ones) => {
                 set_row(&mut self.image, x, y, row, ones);
-                self.expected = after_row(kind, x, y, row);
+                self.expected = Expected::row_at(kind, x, y, row + 1);
                 Ok(())
             }
             None => Err(AscCause::Row),
@@ -56,7 +56,7 @@ impl Reader {
         match memory_bytes(line) {
             Some(bytes) => {
                 set_memory_line(&mut self.image, x, y, row, &bytes);
-                self.expected = after_memory(x, y, row);
+                self.expected = Expected::memory_at(x, y, row + 1);
                 Ok(())
             }
             None => Err(AscCause::Hex),
@@ -85,34 +85,5 @@ fn set_memory_line(image: &mut Option<AnyImage>, x: u8, y: u8, row: u8, bytes: &
     match image {
         Some(image) => bits::set_memory_line(image, x, y, row, bytes),
         None => {}
-    }
-}
-
-/// What follows a row of a tile.
-fn after_row(kind: TileKind, x: u8, y: u8, row: u8) -> Expected
-    requires { row < 16 }
-    ensures { result ≡ after_row kind x y row }
-{
-    if row == 15 {
-        Expected::Statement
-    } else {
-        Expected::Row {
-            kind,
-            x,
-            y,
-            row: row + 1,
-        }
-    }
-}
-
-/// What follows a line of the contents of a RAM.
-fn after_memory(x: u8, y: u8, row: u8) -> Expected
-    requires { row < 16 }
-    ensures { result ≡ after_memory x y row }
-{
-    if row == 15 {
-        Expected::Statement
-    } else {
-        Expected::Memory { x, y, row: row + 1 }
     }
 }

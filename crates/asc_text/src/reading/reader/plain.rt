@@ -9,7 +9,7 @@ ghost use Rattle.asc_text.specs.Rows.{is_row, is_memory_line, row_bit, memory_by
 ghost use Rattle.asc_text.specs.Meaning.{row_sets};
 ghost use Rattle.asc_text.specs.declared.reading.reader.Expected.TheVariants.{Row, Memory};
 ghost use Rattle.asc_text.specs.inside.Gains.{bytes_set};
-ghost use Rattle.asc_text.specs.inside.Reading.{state_of, HasKind, IsReady, TakesLines, TakesRows, TakesMemoryLines, GainsBits, is_lf_at, row_at, memory_at};
+ghost use Rattle.asc_text.specs.inside.Reading.{state_of, HasKind, IsReady, TakesLines, TakesRows, TakesMemoryLines, GainsBits, is_lf_at};
 
 use crate::reading::bits::set_memory_line;
 use crate::reading::reader::{Expected, Reader};
@@ -57,7 +57,7 @@ impl Reader {
         ensures { TakesLines (state_of self.old) text.now result.count result.rest.now (state_of self.new) }
     {
         let taken = set_rows(&mut self.image, kind, x, y, row, text);
-        self.expected = row_at(kind, x, y, row + taken.count);
+        self.expected = Expected::row_at(kind, x, y, row + taken.count);
         taken
     }
 
@@ -69,7 +69,7 @@ impl Reader {
         ensures { TakesLines (state_of self.old) text.now result.count result.rest.now (state_of self.new) }
     {
         let taken = set_memory_lines(&mut self.image, x, y, row, text);
-        self.expected = memory_at(x, y, row + taken.count);
+        self.expected = Expected::memory_at(x, y, row + taken.count);
         taken
     }
 }
@@ -283,26 +283,4 @@ fn is_lf_at(text: &[u8], offset: usize) -> bool
     ensures { result ≡ is_lf_at text.now offset }
 {
     offset < text.len() && text[offset] == b'\n'
-}
-
-/// What is expected before that row of a tile, of the rows 0 to 16.
-fn row_at(kind: TileKind, x: u8, y: u8, row: u8) -> Expected
-    ensures { result ≡ row_at kind x y row }
-{
-    if row == 16 {
-        Expected::Statement
-    } else {
-        Expected::Row { kind, x, y, row }
-    }
-}
-
-/// What is expected before that line of the contents of a RAM, of the lines 0 to 16.
-fn memory_at(x: u8, y: u8, row: u8) -> Expected
-    ensures { result ≡ memory_at x y row }
-{
-    if row == 16 {
-        Expected::Statement
-    } else {
-        Expected::Memory { x, y, row }
-    }
 }

@@ -1,5 +1,6 @@
 // The planes of the four banks, one for each quarter of the grid.
 ghost use Rattle.std.specs.Prelude.{◌≡◌, ◌+◌, ◌<◌, ◌≤◌, IfOk, replicate, take, drop};
+ghost use Rattle.std.specs.Int.RustNames.{bit_or};
 ghost use Rattle.bit_plane.specs.BitList.{word_bits, word_of, placed};
 ghost use Rattle.bit_plane.specs.Rows.{blank, row_at, with_row};
 ghost use Rattle.ice_image.specs.Configuration.{bank_rows, place_bit, with_bank, with_place_bit, AreBanks};
@@ -104,6 +105,26 @@ impl<P: Bits> Banks<P> {
             1 => self.left_top.set_row_bits(x, y, count, bits),
             2 => self.right_bottom.set_row_bits(x, y, count, bits),
             _ => self.right_top.set_row_bits(x, y, count, bits),
+        }
+    }
+
+    /// Sets those of `count` bits of row y of a bank's plane, from column x on, at which the low bits of `bits` have a 1. The first
+    /// is the bit of value 1.
+    pub(crate) fn gain_row_bits(&mut self, bank: usize, x: usize, y: usize, count: usize, bits: u64)
+        requires bank { bank < 4 }
+        requires count { count ≤ 64 }
+        requires columns { x + count ≤ P.WIDTH }
+        requires row { y < P.HEIGHT }
+        ensures planes { self.new ≡ with_bank self.old bank (with_row (bank_rows self.old bank) y
+            (placed x (word_bits count (bit_or (word_of (take count (drop x (row_at (bank_rows self.old bank) y)))) bits)) (row_at (bank_rows self.old bank) y))) }
+        ensures before { AreBanks P.WIDTH P.HEIGHT self.old }
+        ensures whole { AreBanks P.WIDTH P.HEIGHT self.new }
+    {
+        match bank {
+            0 => self.left_bottom.gain_row_bits(x, y, count, bits),
+            1 => self.left_top.gain_row_bits(x, y, count, bits),
+            2 => self.right_bottom.gain_row_bits(x, y, count, bits),
+            _ => self.right_top.gain_row_bits(x, y, count, bits),
         }
     }
 

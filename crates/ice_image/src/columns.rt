@@ -10,11 +10,12 @@ ghost use Rattle.ice_image.specs.Written.{IsSpread};
 use plane_map::{Layout, TileRuns};
 
 /// The bits of a row of a tile as they stand in their run. Column c is the bit of value 2^c in `row_bits`.
+#[inline(always)]
 pub(crate) fn spread(layout: &Layout, runs: TileRuns, row_bits: u64) -> u64
     requires { AreRunsOf layout.now runs.x runs.y runs }
     ensures { (row : ℕ) → IsSpread (λ col. column_of layout.now (record { x = runs.x; y = runs.y; row = row; col = col })) (columns_at layout.now.device runs.x runs.y) runs.count row_bits result }
 {
-    match layout.io_columns(runs.x, runs.y) {
+    match layout.io_columns(runs) {
         Some(columns) => spread_over(columns, row_bits),
         None => row_bits,
     }
@@ -39,7 +40,7 @@ pub(crate) fn gathered(layout: &Layout, runs: TileRuns, run_bits: u64) -> u64
     requires small { run_bits < 2 ^ runs.count }
     ensures { (row : ℕ) → result ≡ word_of (row_from (columns_at layout.now.device runs.x runs.y) (λ col. number_bit run_bits (column_of layout.now (record { x = runs.x; y = runs.y; row = row; col = col })))) }
 {
-    match layout.io_columns(runs.x, runs.y) {
+    match layout.io_columns(runs) {
         Some(columns) => gathered_from(columns, run_bits),
         None => run_bits,
     }

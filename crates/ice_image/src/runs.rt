@@ -41,11 +41,13 @@ pub(crate) fn set_run_ones<P: Bits>(planes: &mut Banks<P>, run: Run, count: usiz
     ensures written { IsWritten (run_place run count) (gained_bit (run_place run count) planes.old ones) count planes.old planes.new }
     ensures whole { AreBanks P.WIDTH P.HEIGHT planes.new }
 {
-    let bank = run.bank as usize;
-    let x = run.px as usize;
-    let y = run.py as usize;
-    let bits = planes.row_bits(bank, x, y, count);
-    planes.set_row_bits(bank, x, y, count, bits | turned(run.backwards, ones, count));
+    planes.gain_row_bits(
+        run.bank as usize,
+        run.px as usize,
+        run.py as usize,
+        count,
+        turned(run.backwards, ones, count),
+    );
 }
 
 /// The low `count` bits of a word, the last first where that is asked.

@@ -1,5 +1,5 @@
 -- Bits that lie side by side in one row of a plane: those in which a row of a tile lies, and those of a word of a RAM.
-use Rattle.std.specs.Prelude.{◌≡◌, ℕ, ◌+◌, ◌-◌, ◌*◌, ◌<◌, ◌≤◌, true, if◌then◌else◌}
+use Rattle.std.specs.Prelude.{◌||◌, ◌≡◌, ℕ, ◌+◌, ◌-◌, ◌*◌, ◌<◌, ◌≤◌, true, if◌then◌else◌}
 use Rattle.plane_map.specs.declared.tile.Place.{Place}
 use Rattle.plane_map.specs.declared.device.DeviceName.{DeviceName}
 use Rattle.plane_map.specs.declared.tile.Run.{Run}
@@ -37,6 +37,7 @@ pub record AreRunsOf (layout : Layout) (x y : ℕ) (runs : TileRuns) : Type 0 wh
   pub px : runs.px ≡ run_start layout x y
   pub count : runs.count ≡ run_length layout.device x y
   pub backwards : runs.backwards ≡ is_mirrored layout x y
+  pub is_io : runs.is_io ≡ (is_side layout.device x || is_end layout.device y)
 
 -- the run of a row
 abbrev pub run_in : Layout → TileRuns → ℕ → Run

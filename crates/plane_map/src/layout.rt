@@ -1,10 +1,10 @@
 // Layouts.
 ghost use Rattle.std.specs.Prelude.{◌≡◌, ◌≢◌, ℕ, ◌+◌, ◌<◌, ◌≤◌, Some, IfNone, IfSome, MatchOption, length, slice_index, if◌then◌else◌};
 ghost use Rattle.plane_map.specs.Layout.{kind_of, columns_at, column_of, half_width, width_of, start_of, cram_width, cram_height, bram_width, bram_height, standard_layout, place_of, word_place_of, IsLayout, IsTileBit, IsWordBit, IsInCram, IsInBram, IsExtraBit};
-ghost use Rattle.plane_map.specs.Runs.{AreRunsOf, IsRunIn, run_in, run_length, run_place, word_run};
+ghost use Rattle.plane_map.specs.Runs.{AreRunsOf, IsRunIn, run_in, run_place, word_run};
 
 use crate::device::DeviceName;
-use crate::grid::{on_end, on_side};
+use crate::grid::on_side;
 use crate::place::{owner_on, place_of_word, place_on};
 use crate::runs::{run_of_word, tile_row_on};
 use crate::tile::{Place, Run, TileBit, TileKind, TileRow, TileRuns, WordBit};
@@ -141,21 +141,21 @@ impl Layout {
         run_of_row(self, runs, row)
     }
 
-    /// Which bits of their runs the 18 columns of the tile at (x, y) are, where it is an io tile; of other tiles column c is
-    /// bit c.
-    pub fn io_columns(&self, x: u8, y: u8) -> Option<&[u8; 18]>
-        ensures order { MatchOption result ((row col : ℕ) → column_of self.now (record { x = x; y = y; row = row; col = col }) ≡ col)
-            (λ columns. (row col : ℕ) → column_of self.now (record { x = x; y = y; row = row; col = col }) ≡ slice_index columns.now col) }
-        ensures length { IfNone result (run_length self.now.device x y ≡ columns_at self.now.device x y) }
-        ensures count { IfSome result (λ _. 0 < columns_at self.now.device x y → columns_at self.now.device x y ≡ 18) }
+    /// Which bits of their runs the 18 columns of a tile are, where it is an io tile; of other tiles column c is bit c.
+    pub fn io_columns(&self, runs: TileRuns) -> Option<&[u8; 18]>
+        requires { AreRunsOf self.now runs.x runs.y runs }
+        ensures order { MatchOption result ((row col : ℕ) → column_of self.now (record { x = runs.x; y = runs.y; row = row; col = col }) ≡ col)
+            (λ columns. (row col : ℕ) → column_of self.now (record { x = runs.x; y = runs.y; row = row; col = col }) ≡ slice_index columns.now col) }
+        ensures length { IfNone result (runs.count ≡ columns_at self.now.device runs.x runs.y) }
+        ensures count { IfSome result (λ _. columns_at self.now.device runs.x runs.y ≡ 18) }
         ensures few { IfSome result (λ columns. (col : ℕ) → col < 18 → slice_index columns.now col < 64) }
     {
-        if on_side(self.device, x as u32) {
-            Some(&self.side_columns)
-        } else if on_end(self.device, y as u32) {
-            Some(&self.pad_columns)
-        } else {
+        if !runs.is_io {
             None
+        } else if on_side(self.device, runs.x as u32) {
+            Some(&self.side_columns)
+        } else {
+            Some(&self.pad_columns)
         }
     }
 

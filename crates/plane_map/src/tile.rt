@@ -69,6 +69,8 @@ pub struct TileRuns {
     /// How many bits each run has. An io tile of an end row has fewer columns, which lie somewhere among them.
     pub count: u8,
     pub backwards: bool,
+    /// Whether it is an io tile, whose columns have an order of their own.
+    pub is_io: bool,
 }
 
 /// A row of each tile of a row of tiles.

@@ -4,7 +4,7 @@ ghost use Rattle.plane_map.specs.Layout.{kind_of, columns_at, column_of, cram_wi
 ghost use Rattle.plane_map.specs.Runs.{AreRunsOf, IsRunIn, run_in, run_length, run_place};
 
 use crate::device::DeviceName;
-use crate::grid::{is_mirrored, kind_on, on_side, quarter_at, side_distance};
+use crate::grid::{is_mirrored, kind_on, on_end, on_side, quarter_at, side_distance};
 use crate::layout::Layout;
 use crate::place::tile_width;
 use crate::rows::py_of;
@@ -37,6 +37,7 @@ fn runs_of(layout: &Layout, kind: TileKind, x: u8, y: u8) -> TileRuns
         px: run_start(layout, column, count, backwards),
         count,
         backwards,
+        is_io: on_side(device, x as u32) || on_end(device, y as u32),
     }
 }
 

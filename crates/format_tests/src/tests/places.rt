@@ -141,10 +141,8 @@ fn finds_the_runs_of_rows(rt: HostRuntime) {
 
 /// The bit of its run that a column of the tile at (x, y) is, if it is an io tile.
 fn io_column(layout: &Layout, x: u8, y: u8, col: usize) -> Option<u8> {
-    match layout.io_columns(x, y) {
-        Some(columns) if col < 18 => Some(columns[col]),
-        _ => None,
-    }
+    let columns = layout.io_columns(layout.tile_runs(x, y)?)?;
+    if col < 18 { Some(columns[col]) } else { None }
 }
 
 #[test]

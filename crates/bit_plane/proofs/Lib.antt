@@ -1,5 +1,6 @@
 pub mod Bytes
 pub mod Flats
+pub mod Gained
 pub mod Grids
 pub mod Kept
 pub mod Packed

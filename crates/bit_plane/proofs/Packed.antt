@@ -82,18 +82,21 @@ packed-set_at words position word part within small is =
     packed-set words (position / 64) (position % 64) word part within small is ∙ ap (λ n. placed n part (packed words)) e
 
 -- other words in place of the two that have the bits from a position on
+pub packed-set_parts : (words : List ℕ) (position a b : ℕ) (front back : List Bool) → position / 64 + 1 < length words → length front ≡ 64 - position % 64 → length back ≤ 64 → word_bits 64 a ≡ placed (position % 64) front (word_bits 64 (get_or words (position / 64) 0)) → word_bits 64 b ≡ placed 0 back (word_bits 64 (get_or (set words (position / 64) a) (position / 64 + 1) 0)) → packed (set (set words (position / 64) a) (position / 64 + 1) b) ≡ placed position (front ++ back) (packed words)
+packed-set_parts words position a b front back within front_long small a_is b_is =
+    let place : ℕ = position / 64 in
+    let once : List ℕ = set words place a in
+    let first : packed once ≡ placed position front (packed words) = packed-set_at words position a front (omega arith) (omega (arith, front_long)) a_is in
+    let second : packed (set once (place + 1) b) ≡ placed (64 * (place + 1) + 0) back (packed once) = packed-set once (place + 1) 0 b back (omega (arith, length-set words place a)) (omega (arith, small)) b_is in
+    let next : 64 * (place + 1) + 0 ≡ position + length front = omega (arith, front_long) in
+    let room : 64 * (place + 1) + 0 + length back ≤ length (packed words) = omega (arith, small, length-packed words) in
+    second ∙ ap (placed (64 * (place + 1) + 0) back) first ∙ placed-more position (64 * (place + 1) + 0) front back (packed words) next room
+
+-- the same with the low bits of a number
 pub packed-set_two : (words : List ℕ) (position count here bits a b : ℕ) → position / 64 + 1 < length words → here ≡ 64 - position % 64 → here ≤ count → count ≤ 64 → word_bits 64 a ≡ placed (position % 64) (word_bits here bits) (word_bits 64 (get_or words (position / 64) 0)) → word_bits 64 b ≡ placed 0 (word_bits (count - here) (bits / 2 ^ here)) (word_bits 64 (get_or (set words (position / 64) a) (position / 64 + 1) 0)) → packed (set (set words (position / 64) a) (position / 64 + 1) b) ≡ placed position (word_bits count bits) (packed words)
 packed-set_two words position count here bits a b within here_is some small a_is b_is =
     let more : ℕ = count - here in
-    let place : ℕ = position / 64 in
     let front : List Bool = word_bits here bits in
     let back : List Bool = word_bits more (bits / 2 ^ here) in
-    let front_long : length front ≡ here = length-word_bits here bits in
-    let back_long : length back ≡ more = length-word_bits more (bits / 2 ^ here) in
-    let once : List ℕ = set words place a in
-    let first : packed once ≡ placed position front (packed words) = packed-set_at words position a front (omega arith) (omega arith) a_is in
-    let second : packed (set once (place + 1) b) ≡ placed (64 * (place + 1) + 0) back (packed once) = packed-set once (place + 1) 0 b back (omega (arith, length-set words place a)) (omega arith) b_is in
-    let next : 64 * (place + 1) + 0 ≡ position + length front = omega arith in
-    let room : 64 * (place + 1) + 0 + length back ≤ length (packed words) = omega (arith, length-packed words) in
     let e : count ≡ here + more = omega arith in
-    second ∙ ap (placed (64 * (place + 1) + 0) back) first ∙ placed-more position (64 * (place + 1) + 0) front back (packed words) next room ∙ ap (λ part. placed position part (packed words)) (sym (ap (λ n. word_bits n bits) e ∙ word_bits-add here more bits))
+    packed-set_parts words position a b front back within (length-word_bits here bits ∙ here_is) (omega (arith, length-word_bits more (bits / 2 ^ here))) a_is b_is ∙ ap (λ part. placed position part (packed words)) (sym (ap (λ n. word_bits n bits) e ∙ word_bits-add here more bits))

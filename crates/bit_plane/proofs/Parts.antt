@@ -3,7 +3,7 @@ use Rattle.std.proofs.Common.{◌≡◌, ℕ, zero, suc, ◌+◌, ◌-◌, ◌*�
 use Rattle.std.specs.Int.RustNames.{bit_xor}
 use Rattle.std.specs.Int.{bit_at}
 use Rattle.std.proofs.Math.Nat.{div-div-eq-div-mul, mod-eq_of_lt, mul_assoc, mul_comm, pow-succ', mod-lt}
-use Rattle.std.proofs.lemmas.Nat.{mod-pow-add, pow-add, div-add-mod', mul-add-lt, pow_pos}
+use Rattle.std.proofs.lemmas.Nat.{shr-shr, mod-pow-add, pow-add, div-add-mod', mul-add-lt, pow_pos}
 use Rattle.std.specs.Int.Bits.{or_shifted_r}
 use Rattle.std.proofs.lemmas.Nat.Bits.{bit_at_xor, bit_at_cat_low, bit_at_cat_high, bit_at_above, bit_at-lt, bit_at-zero}
 use Rattle.std.proofs.lemmas.Bool.{cases_lt}
@@ -72,18 +72,22 @@ joined front back at count a b front_long back_long within a_is b_is =
     ap (bit_or a) (shifted_fits b at count high within) ∙ or_shifted_r b at a low ∙ omega (arith, side, a_is, word_of-append front back)
 
 -- the low bits of a number are its own
-bit_at-low : (n count i : ℕ) → i < count → bit_at (n % 2 ^ count) i ≡ bit_at n i
+pub bit_at-low : (n count i : ℕ) → i < count → bit_at (n % 2 ^ count) i ≡ bit_at n i
 bit_at-low n count i within =
     sym (bit_at_cat_low (n / 2 ^ count) count (n % 2 ^ count) i within) ∙ ap (λ k. bit_at k i) (div-add-mod' n (2 ^ count))
 
+-- the bits of a number from one on
+pub bit_at-high : (n low i : ℕ) → bit_at (n / 2 ^ low) i ≡ bit_at n (low + i)
+bit_at-high n low i = ap (λ m. m % 2) (shr-shr n low i)
+
 -- a bit below those that moved up
-moved_below : (m at i : ℕ) → i < at → bit_at (m * 2 ^ at) i ≡ 0
+pub moved_below : (m at i : ℕ) → i < at → bit_at (m * 2 ^ at) i ≡ 0
 moved_below m at i below =
     let e : m * 2 ^ at ≡ m * 2 ^ at + 0 = omega arith in
     ap (λ k. bit_at k i) e ∙ bit_at_cat_low m at 0 i below ∙ bit_at-zero i
 
 -- a bit that moved up
-moved : (m at i : ℕ) → at ≤ i → bit_at (m * 2 ^ at) i ≡ bit_at m (i - at)
+pub moved : (m at i : ℕ) → at ≤ i → bit_at (m * 2 ^ at) i ≡ bit_at m (i - at)
 moved m at i above =
     let e : m * 2 ^ at ≡ m * 2 ^ at + 0 = omega arith in
     ap (λ k. bit_at k i) e ∙ bit_at_cat_high m at 0 i (pow_pos at) above
@@ -94,7 +98,7 @@ bit_changed word at count bits i after within =
     let j : ℕ = i - at in
     let change : ℕ = bit_xor (word / 2 ^ at) bits in
     let back : at + j ≡ i = omega arith in
-    let place : bit_at (word / 2 ^ at) j ≡ bit_at word i = ap (λ n. n % 2) (div-div-eq-div-mul word (2 ^ at) (2 ^ j) ∙ ap (λ d. word / d) (sym (pow-add 2 at j) ∙ ap (λ n. 2 ^ n) back)) in
+    let place : bit_at (word / 2 ^ at) j ≡ bit_at word i = bit_at-high word at j ∙ ap (bit_at word) back in
     let here : bit_at (change % 2 ^ count * 2 ^ at) i ≡ (bit_at (word / 2 ^ at) j + bit_at bits j) % 2 = moved (change % 2 ^ count) at i after ∙ bit_at-low change count j (omega arith) ∙ bit_at_xor (word / 2 ^ at) bits j in
     bit_at_xor word (change % 2 ^ count * 2 ^ at) i ∙ omega (arith, place, here, bit_at-lt word i, bit_at-lt bits j)
 

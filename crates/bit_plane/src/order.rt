@@ -3,6 +3,7 @@
 ghost use Rattle.std.specs.Prelude.{◌≡◌, ◌+◌, ◌*◌, ◌/◌, ◌%◌, ◌^◌, ◌<◌, ◌≤◌, ◌↔◌, IsTrue, length, take, drop};
 ghost use Rattle.bit_plane.specs.BitList.{word_bits, word_of, byte_bits, byte_of, bits_of, bytes_of, placed};
 ghost use Rattle.std.specs.Int.{w8, reverse_bits};
+ghost use Rattle.std.specs.Int.RustNames.{bit_or};
 ghost use Rattle.bit_plane.specs.inside.Packed.{packed};
 
 /// Each byte with its bits turned round, the last first.
@@ -62,6 +63,16 @@ fn replaced(word: u64, at: usize, count: usize, bits: u64) -> u64
     word ^ low(word >> at ^ bits, count) << at
 }
 
+/// The word with those of `count` bits from a place on set at which the low bits of a number have a 1.
+fn gained(word: u64, at: usize, count: usize, bits: u64) -> u64
+    requires at { at < 64 }
+    requires count { at + count ≤ 64 }
+    ensures { word_bits 64 result ≡ placed at
+        (word_bits count (bit_or (word_of (take count (drop at (word_bits 64 word)))) bits)) (word_bits 64 word) }
+{
+    word | low(bits, count) << at
+}
+
 /// The number that has `count` bits from a position on. The first is the bit of value 1.
 pub fn take_word(words: &[u64], position: usize, count: usize) -> u64
     requires count { count ≤ 64 }
@@ -92,6 +103,24 @@ pub fn put_word(words: &mut [u64], position: usize, count: usize, bits: u64)
     } else {
         words[place] = replaced(words[place], at, here, bits);
         words[place + 1] = replaced(words[place + 1], 0, count - here, bits >> here);
+    }
+}
+
+/// Sets those of `count` bits from a position on at which the low bits of a number have a 1. The first is the bit of value 1.
+pub fn gain_word(words: &mut [u64], position: usize, count: usize, bits: u64)
+    requires count { count ≤ 64 }
+    requires words { position + count < 64 * length words.old }
+    ensures { packed words.new ≡ placed position
+        (word_bits count (bit_or (word_of (take count (drop position (packed words.old)))) bits)) (packed words.old) }
+{
+    let place = position / 64;
+    let at = position % 64;
+    let here = 64 - at;
+    if count <= here {
+        words[place] = gained(words[place], at, count, bits);
+    } else {
+        words[place] = gained(words[place], at, here, bits);
+        words[place + 1] = gained(words[place + 1], 0, count - here, bits >> here);
     }
 }
 

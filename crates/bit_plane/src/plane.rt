@@ -72,6 +72,10 @@ impl<const W: usize, const H: usize> Bits for Plane<W, H> {
         order::put_word(&mut self.words, y * W + x, count, bits);
     }
 
+    fn gain_row_bits(&mut self, x: usize, y: usize, count: usize, bits: u64) {
+        order::gain_word(&mut self.words, y * W + x, count, bits);
+    }
+
     fn same(&self, other: &Self) -> bool {
         order::same(&self.words, &other.words)
     }

@@ -100,6 +100,23 @@ fn bits_cross_words(rt: HostRuntime) {
     assert!(rt; words_are_crossed(rt.alloc()) == Ok(true));
 }
 
+/// Whether a row gains bits on both sides of column 64, and keeps those that it has.
+fn gains_bits(plane: &mut Plane<332, 5>) -> bool {
+    plane.set_row_bits(60, 1, 8, 0b0010_1001);
+    plane.gain_row_bits(61, 1, 6, 0xFFC9);
+    plane.row_bits(56, 1, 16) == 0b0011_1011_0000
+}
+
+fn bits_are_gained(alloc: Global) -> Result<bool, AllocError> {
+    let mut plane = Plane::<332, 5>::zeroed(alloc)?;
+    Ok(gains_bits(&mut plane))
+}
+
+#[test]
+fn gained_bits_cross_words(rt: HostRuntime) {
+    assert!(rt; bits_are_gained(rt.alloc()) == Ok(true));
+}
+
 /// Whether one byte fills rows of three bits, each after the other.
 fn spans_rows(plane: &mut Plane<3, 6>) -> bool {
     plane.put_byte(2, 0b1_011_001_0);

@@ -1,5 +1,5 @@
 -- Values and a net with one space between them, and lines without a word.
-use Rattle.std.proofs.Common.{◌≡◌, ℕ, ◌<◌, ◌≤◌, Bool, true, false, ◌&&◌, ◌||◌, List, [], ◌∷◌, ◌++◌, append_assoc, length, length-append, map, get_or, refl, sym, ap, ◌∙◌, inl, inr, arith}
+use Rattle.std.proofs.Common.{◌≡◌, ℕ, ◌<◌, ◌≤◌, Bool, true, false, ◌&&◌, ◌||◌, List, [], ◌∷◌, ◌++◌, append_assoc, length, length-append, get_or, refl, sym, ap, ◌∙◌, inl, inr, arith}
 use Rattle.std.specs.Prelude.{All, Some, Ok, ◌==◌, nat_lt, nat_le}
 use Rattle.std.specs.List.{list_all}
 use Rattle.std.specs.Char.{is_ascii_digit}
@@ -14,7 +14,7 @@ use Rattle.text_lines.proofs.Written.{lines_of-plain}
 use Rattle.chipdb_lines.specs.declared.links.Choice.{Choice}
 use Rattle.chipdb_lines.specs.Words.{has_none, own_words, words_in}
 use Rattle.chipdb_lines.specs.Items.{choice_of}
-use Rattle.chipdb_lines.specs.Kept.{choice_named, low_bits, AreParted, BeginsWithPair, Chooses, StartsWithNumber, WritesValues}
+use Rattle.chipdb_lines.specs.Kept.{choice_named, AreParted, BeginsWithPair, Chooses, StartsWithNumber, WritesValues}
 use Rattle.chipdb_lines.proofs.Values.{and-left, and-right, list_all-at, value-byte}
 
 -- bytes all of which pass a test that no byte up to the space passes
@@ -54,12 +54,12 @@ number-word word number is =
     IsWord-high SpacesAndTabs word some (all-high is_ascii_digit word digit-high (and-right (nat_lt 0 (length word) && nat_le (length word) 9) (list_all is_ascii_digit word) whole))
 
 -- a choice of values and a net with one space between them
-pub choice_of-parted : (nets : ℕ) (values src : List ℕ) (choice : Choice) → 0 < length values → list_all (λ byte. (byte == 48) || (byte == 49)) values ≡ true → number_of src ≡ Some choice.src → choice.src < nets
-    → low_bits (length values) choice.values ≡ map (λ byte. byte == 49) values → choice_of nets (length values) (words_in (values ++ (32 ∷ src))) ≡ Ok (choice_named (length values) choice)
+pub choice_of-parted : (nets : ℕ) (values src : List ℕ) (choice : Choice) → 0 < length values → WritesValues values choice.values → number_of src ≡ Some choice.src → choice.src < nets
+    → choice_of nets (length values) (words_in (values ++ (32 ∷ src))) ≡ Ok (choice_named (length values) choice)
 unfolding choice_of
-choice_of-parted nets values src choice some all number lt bits =
-    let parted = words_of-two SpacesAndTabs values src (values-word values some all) (number-word src choice.src number) in
-    rw (parted, number, lt-ltb choice.src nets lt, eq-eqb (length values) (length values) refl, all, bits) refl
+choice_of-parted nets values src choice some written number lt =
+    let parted = words_of-two SpacesAndTabs values src (values-word values some written.all) (number-word src choice.src number) in
+    rw (parted, number, lt-ltb choice.src nets lt, eq-eqb (length values) (length values) refl, written.all, written.bits) refl
 
 -- a byte above the space begins no statement and no remark where it is a value
 value-begins : (byte : ℕ) → ((byte == 48) || (byte == 49)) ≡ true → ((byte == 46) ≡ false) × ((byte == 35) ≡ false)
@@ -92,7 +92,7 @@ pub choice-line : (nets : ℕ) (values text : List ℕ) (choice : Choice) (rest 
 choice-line nets values text choice rest some written starts lt =
     let src = starts.digits in
     let parted = parted-words values src choice.src some written.all starts.number_is in
-    let says = choice_of-parted nets values src choice some written.all starts.number_is lt written.bits in
+    let says = choice_of-parted nets values src choice some written starts.number_is lt in
     record {
       first = values;
       second = src;

@@ -1,11 +1,11 @@
 // The statements `.buffer` and `.routing`, and their lines.
-ghost use Rattle.std.specs.Prelude.{◌≡◌, ◌≤◌, ◌<◌, ◌^◌, ◌∷◌, ◌++◌, [], ℕ, map, ◌==◌, ◌||◌, length, IfOk, IfSome, MatchOption, true, false};
+ghost use Rattle.std.specs.Prelude.{◌≡◌, ◌≤◌, ◌<◌, ◌^◌, ◌∷◌, ◌++◌, ◌==◌, ◌||◌, length, IfOk, IfSome, MatchOption, false};
 ghost use Rattle.std.specs.List.{list_all};
 ghost use Rattle.plane_map.specs.Layout.{kind_of};
 ghost use Rattle.chipdb_lines.specs.Words.{has_none, is_values, words_in};
 ghost use Rattle.chipdb_lines.specs.Statements.{link_at, link_of_words};
 ghost use Rattle.chipdb_lines.specs.Items.{choice_by, choice_of};
-ghost use Rattle.chipdb_lines.specs.Kept.{choice_named, head_named, low_bits, Extends, IsChoiceLine, IsListOf, Reads, Tells, WritesValues};
+ghost use Rattle.chipdb_lines.specs.Kept.{choice_named, head_named, Extends, IsChoiceLine, IsListOf, Reads, Tells, WritesValues};
 
 use crate::bits::{BitList, push_bits};
 use crate::cause::{DbCause, Refusal};
@@ -181,7 +181,7 @@ fn choice_by(nets: u32, count: usize, values: &[u8], src: Option<u32>) -> Result
 fn values_of(count: usize, word: &[u8]) -> Option<u64>
     requires { count ≤ 64 }
     ensures { MatchOption result (is_values count word.now ≡ false)
-        (λ values. (is_values count word.now ≡ true) × (low_bits count values ≡ map (λ byte. byte == 49) word.now) × (values < 2 ^ count)) }
+        (λ values. (length word.now ≡ count) × WritesValues word.now values) }
 {
     if word.len() == count {
         values_in(word)

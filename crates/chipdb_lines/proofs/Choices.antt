@@ -1,12 +1,10 @@
 -- Values and a net with one space between them, and lines without a word.
-use Rattle.std.proofs.Common.{◌≡◌, ℕ, suc, ◌+◌, ◌-◌, ◌^◌, ◌<◌, ◌≤◌, Bool, true, false, ◌&&◌, ◌||◌, List, [], ◌∷◌, ◌++◌, append_assoc, length, length-append, length-drop, take, drop, map, get_or, refl, sym, ap, ◌∙◌, inl, inr, arith}
+use Rattle.std.proofs.Common.{◌≡◌, ℕ, ◌<◌, ◌≤◌, Bool, true, false, ◌&&◌, ◌||◌, List, [], ◌∷◌, ◌++◌, append_assoc, length, length-append, get_or, refl, sym, ap, ◌∙◌, inl, inr, arith}
 use Rattle.std.specs.Prelude.{All, Some, Ok, ◌==◌, nat_lt, nat_le}
 use Rattle.std.specs.List.{list_all}
 use Rattle.std.specs.Char.{is_ascii_digit}
 use Rattle.std.proofs.lemmas.Bool.{cases_Bool, ltb-true, lt-ltb, eq-eqb, ne_eqb}
 use Rattle.std.proofs.lemmas.Bool.Decides.{nat_tests}
-use Rattle.std.proofs.Math.Seq.{split_at}
-use Rattle.std.proofs.lemmas.List.{take_rest}
 use Rattle.std.proofs.lemmas.List.Elements.{All-append, All-cons, All-weaker}
 use Rattle.text_lines.specs.declared.words.Separators.TheVariants.{SpacesAndTabs}
 use Rattle.text_lines.specs.Lines.{is_blank, lines_of}
@@ -14,10 +12,9 @@ use Rattle.text_lines.specs.Words.{is_number, number_of, words_of, pieces_of, fr
 use Rattle.text_lines.proofs.Spaced.{IsWord, IsWord-high, words_of-two, words_of-separator, words_of-cut, from_word-inner}
 use Rattle.text_lines.proofs.Written.{lines_of-plain}
 use Rattle.chipdb_lines.specs.declared.links.Choice.{Choice}
-use Rattle.chipdb_lines.specs.declared.links.ChoiceLine.{ChoiceLine}
 use Rattle.chipdb_lines.specs.Words.{has_none, own_words, words_in}
 use Rattle.chipdb_lines.specs.Items.{choice_of}
-use Rattle.chipdb_lines.specs.Kept.{choice_named, low_bits, AreParted, EndsLine, IsChoiceLine, WritesValues}
+use Rattle.chipdb_lines.specs.Kept.{choice_named, AreParted, BeginsWithPair, Chooses, StartsWithNumber, WritesValues}
 use Rattle.chipdb_lines.proofs.Values.{and-left, and-right, list_all-at, value-byte}
 
 -- bytes all of which pass a test that no byte up to the space passes
@@ -57,12 +54,12 @@ number-word word number is =
     IsWord-high SpacesAndTabs word some (all-high is_ascii_digit word digit-high (and-right (nat_lt 0 (length word) && nat_le (length word) 9) (list_all is_ascii_digit word) whole))
 
 -- a choice of values and a net with one space between them
-pub choice_of-parted : (nets : ℕ) (values src : List ℕ) (choice : Choice) → 0 < length values → list_all (λ byte. (byte == 48) || (byte == 49)) values ≡ true → number_of src ≡ Some choice.src → choice.src < nets
-    → low_bits (length values) choice.values ≡ map (λ byte. byte == 49) values → choice_of nets (length values) (words_in (values ++ (32 ∷ src))) ≡ Ok (choice_named (length values) choice)
+pub choice_of-parted : (nets : ℕ) (values src : List ℕ) (choice : Choice) → 0 < length values → WritesValues values choice.values → number_of src ≡ Some choice.src → choice.src < nets
+    → choice_of nets (length values) (words_in (values ++ (32 ∷ src))) ≡ Ok (choice_named (length values) choice)
 unfolding choice_of
-choice_of-parted nets values src choice some all number lt bits =
-    let parted = words_of-two SpacesAndTabs values src (values-word values some all) (number-word src choice.src number) in
-    rw (parted, number, lt-ltb choice.src nets lt, eq-eqb (length values) (length values) refl, all, bits) refl
+choice_of-parted nets values src choice some written number lt =
+    let parted = words_of-two SpacesAndTabs values src (values-word values some written.all) (number-word src choice.src number) in
+    rw (parted, number, lt-ltb choice.src nets lt, eq-eqb (length values) (length values) refl, written.all, written.bits) refl
 
 -- a byte above the space begins no statement and no remark where it is a value
 value-begins : (byte : ℕ) → ((byte == 48) || (byte == 49)) ≡ true → ((byte == 46) ≡ false) × ((byte == 35) ≡ false)
@@ -90,29 +87,20 @@ parted-words (first ∷ values) src number some all is =
     }
 
 -- the first line of a text that begins with values, a space, and a number before LF
-pub choice-line : (nets : ℕ) (values text : List ℕ) (digits : ℕ) (found : ChoiceLine) → 0 < length values → WritesValues values 0 found.choice.values → EndsLine text digits found.choice.src → found.choice.src < nets
-    → found.rest.now ≡ take (length text - (digits + 1)) (drop (digits + 1) text) → IsChoiceLine nets (length values) (values ++ (32 ∷ text)) found
-choice-line nets values text digits found some checked ends lt rest =
-    let whole : length values - 0 ≡ length values = omega arith in
-    let all : list_all (λ byte. (byte == 48) || (byte == 49)) values ≡ true = checked.all in
-    let bits : low_bits (length values) found.choice.values ≡ map (λ byte. byte == 49) values = rw whole at checked.bits in
-    let small : found.choice.values < 2 ^ length values = rw whole at checked.small in
-    let parted = parted-words values (take digits text) found.choice.src some all ends.number_is in
-    let says = choice_of-parted nets values (take digits text) found.choice some all ends.number_is lt bits in
-    let next : suc digits ≡ digits + 1 = omega arith in
-    let more : List ℕ = drop (digits + 1) text in
-    let lf = ends.lf in
-    let cut : text ≡ take digits text ++ (10 ∷ more) = split_at text digits 0 ends.within ∙ (λ i. take digits text ++ (lf i ∷ drop (next i) text)) in
-    let behind : found.rest.now ≡ more = rest ∙ take_rest text (digits + 1) in
+pub choice-line : (nets : ℕ) (values text : List ℕ) (choice : Choice) (rest : List ℕ) → 0 < length values → WritesValues values choice.values → StartsWithNumber 10 text choice.src rest → choice.src < nets
+    → BeginsWithPair (values ++ (32 ∷ text)) rest (λ words. Chooses nets (length values) words choice)
+choice-line nets values text choice rest some written starts lt =
+    let src = starts.digits in
+    let parted = parted-words values src choice.src some written.all starts.number_is in
+    let says = choice_of-parted nets values src choice some written starts.number_is lt in
     record {
-      values = values;
-      src = take digits text;
+      first = values;
+      second = src;
       parted = parted;
-      lines = ap (λ t. lines_of (values ++ (32 ∷ t))) cut ∙ ap lines_of (sym (append_assoc values (32 ∷ take digits text) (10 ∷ more)))
-          ∙ lines_of-plain (values ++ (32 ∷ take digits text)) more parted.plain ∙ ap (λ r. (values ++ (32 ∷ take digits text)) ∷ lines_of r) (sym behind);
-      shorter = omega (arith, ap length behind, length-drop (digits + 1) text, length-append values (32 ∷ text));
-      says = ap (choice_of nets (length values)) (sym parted.words) ∙ says;
-      small = small;
+      lines = ap (λ t. lines_of (values ++ (32 ∷ t))) starts.text_is ∙ ap lines_of (sym (append_assoc values (32 ∷ src) (10 ∷ rest)))
+          ∙ lines_of-plain (values ++ (32 ∷ src)) rest parted.plain;
+      shorter = omega (arith, ap length starts.text_is, length-append src (10 ∷ rest), length-append values (32 ∷ text));
+      holds = record { says = ap (choice_of nets (length values)) (sym parted.words) ∙ says; small = written.small };
     }
 
 -- a line without a word has blanks alone

@@ -13,7 +13,7 @@ use Rattle.text_lines.specs.Words.{digits_value, number_of}
 use Rattle.text_lines.proofs.Numbers.{below_nine}
 use Rattle.std.proofs.Math.Seq.{split_at}
 use Rattle.std.proofs.lemmas.List.{take_rest}
-use Rattle.chipdb_lines.specs.Kept.{EndsLine, Leads, StartsWords}
+use Rattle.chipdb_lines.specs.Kept.{Leads, StartsWithNumber}
 
 pub Leads-nothing : (text : List ℕ) → Leads text 0 0
 Leads-nothing text = record { within = omega arith; few = omega arith; all = refl; number_is = refl; small = lit< tt }
@@ -49,18 +49,14 @@ Leads-number text digits number leads some =
     let count : length (take digits text) ≡ digits = length-take-le digits text leads.within in
     rw (count, lt-ltb 0 digits some, le-leb digits 9 leads.few, leads.all) (ap (λ n. Some n) (sym leads.number_is))
 
--- and LF stands behind them
-pub ends_line : (text : List ℕ) (digits number : ℕ) → Leads text digits number → 0 < digits → digits < length text → get_or text digits 0 ≡ 10 → EndsLine text digits number
-ends_line text digits number leads some lt lf = record { number_is = Leads-number text digits number leads some; within = lt; lf = lf }
-
--- and a space
-pub starts-words : (words : List ℕ) (digits number : ℕ) (rest : List ℕ) → Leads words digits number → 0 < digits → digits < length words → get_or words digits 0 ≡ 32
-    → rest ≡ take (length words - (digits + 1)) (drop (digits + 1) words) → StartsWords words number rest
-starts-words words digits number rest leads some lt space is =
+-- and a byte stands behind them
+pub starts-with_number : (end : ℕ) (text : List ℕ) (digits number : ℕ) (rest : List ℕ) → Leads text digits number → 0 < digits → digits < length text → get_or text digits 0 ≡ end
+    → rest ≡ take (length text - (digits + 1)) (drop (digits + 1) text) → StartsWithNumber end text number rest
+starts-with_number end text digits number rest leads some lt here is =
     let next : suc digits ≡ digits + 1 = omega arith in
-    let behind : rest ≡ drop (digits + 1) words = is ∙ take_rest words (digits + 1) in
+    let behind : rest ≡ drop (digits + 1) text = is ∙ take_rest text (digits + 1) in
     record {
-      first = take digits words;
-      number_is = Leads-number words digits number leads some;
-      words_are = split_at words digits 0 lt ∙ (λ i. take digits words ++ (space i ∷ drop (next i) words)) ∙ ap (λ more. take digits words ++ (32 ∷ more)) (sym behind);
+      digits = take digits text;
+      number_is = Leads-number text digits number leads some;
+      text_is = split_at text digits 0 lt ∙ (λ i. take digits text ++ (here i ∷ drop (next i) text)) ∙ ap (λ more. take digits text ++ (end ∷ more)) (sym behind);
     }

@@ -1,6 +1,6 @@
 -- The number that values write, their first bit the lowest.
-use Rattle.std.proofs.Common.{◌≡◌, ℕ, zero, suc, ◌+◌, ◌-◌, ◌*◌, ◌/◌, ◌%◌, ◌^◌, ◌<◌, ◌≤◌, Bool, true, false, ◌&&◌, ◌||◌, eqb, List, [], ◌∷◌, length, drop, map, get_or, refl, sym, ap, ◌∙◌, inl, inr, arith, lit<, lit≤, true≢false}
-use Rattle.std.proofs.lemmas.Bool.{cases_eq}
+use Rattle.std.proofs.Common.{◌≡◌, ℕ, zero, suc, ◌+◌, ◌-◌, ◌*◌, ◌/◌, ◌%◌, ◌^◌, ◌<◌, ◌≤◌, Bool, true, false, ◌&&◌, ◌||◌, eqb, List, [], ◌∷◌, length, length-drop, drop, get_or, refl, sym, ap, ◌∙◌, inl, inr, arith, lit<, lit≤, true≢false}
+use Rattle.std.proofs.lemmas.Bool.{cases_Bool, cases_eq}
 use Rattle.std.proofs.Math.Nat.{pow-succ', pow-le-pow_right}
 use Rattle.std.proofs.Math.Seq.{drop-cons, drop-length}
 use Rattle.std.specs.Prelude.{◌==◌, ◌≢◌}
@@ -46,82 +46,47 @@ value-byte byte is =
           ]
     ]
 
--- What the number is that the last bytes of a word write, from `left` on.
-pub record Written (word : List ℕ) (left values : ℕ) : Type 0 where
-  pub within : left ≤ length word
-  pub bits : low_bits (length word - left) values ≡ map (λ byte. byte == 49) (drop left word)
-  pub small : values < 2 ^ (length word - left)
+-- a byte that is neither keeps a word from being values
+pub no-values : (word : List ℕ) (i : ℕ) → i < length word → ((get_or word i 0 == 48) || (get_or word i 0 == 49)) ≡ false → list_all (λ byte. (byte == 48) || (byte == 49)) word ≡ false
+no-values word i lt is =
+    elim (cases_Bool (list_all (λ byte. (byte == 48) || (byte == 49)) word)) [
+      | inl all ↦ absurd (true≢false (sym (list_all-at (λ byte. (byte == 48) || (byte == 49)) word i 0 all lt) ∙ is))
+      | inr none ↦ none
+    ]
 
 -- no byte is written
-pub Written-nothing : (word : List ℕ) → Written word (length word) 0
-Written-nothing word =
-    let none : length word - length word ≡ 0 = omega arith in
-    record {
-      within = omega arith;
-      bits = rw (none, drop-length word) refl;
-      small = rw none (lit< tt);
-    }
+pub Writes-nothing : (word : List ℕ) → WritesValues (drop (length word) word) 0
+Writes-nothing word =
+    let none : WritesValues [] 0 = record { all = refl; bits = refl; small = lit< tt } in
+    rw (drop-length word) none
 
--- one byte more is written, which is a value
-pub Written-byte : (word : List ℕ) (left values : ℕ) → Written word left values → 0 < left → ((get_or word (left - 1) 0 == 48) || (get_or word (left - 1) 0 == 49)) ≡ true
-    → Written word (left - 1) (2 * values + (get_or word (left - 1) 0 - 48))
-Written-byte word left values written some is =
-    let byte = get_or word (left - 1) 0 in
-    let count = length word - left in
-    let within : left ≤ length word = written.within in
-    let lt : left - 1 < length word = omega arith in
+-- one byte more is written
+Writes-byte : (byte : ℕ) (bytes : List ℕ) (values : ℕ) → WritesValues bytes values → ((byte == 48) || (byte == 49)) ≡ true → WritesValues (byte ∷ bytes) (2 * values + (byte - 48))
+Writes-byte byte bytes values written is =
     let digit = value-byte byte is in
-    let next : suc (left - 1) ≡ left = omega arith in
-    let longer : length word - (left - 1) ≡ suc count = omega arith in
-    let split : drop (left - 1) word ≡ byte ∷ drop left word = rw next at (drop-cons word (left - 1) 0 lt) in
-    let bits : low_bits (suc count) (2 * values + (byte - 48)) ≡ map (λ b. b == 49) (byte ∷ drop left word) =
-    low_bits-more count values (byte - 48) digit.0 ∙ ap (λ b. b ∷ low_bits count values) digit.2 ∙ ap (λ bs. (byte == 49) ∷ bs) written.bits in
+    let count = length bytes in
     let small : values < 2 ^ count = written.small in
     let digit_small : byte - 48 < 2 = digit.0 in
     record {
-      within = omega arith;
-      bits = rw (longer, split) bits;
-      small = rw (longer, pow-succ' 2 count) (omega arith);
+      all = rw is written.all;
+      bits = low_bits-more count values (byte - 48) digit.0 ∙ ap (λ b. b ∷ low_bits count values) digit.2 ∙ ap (λ bs. (byte == 49) ∷ bs) written.bits;
+      small = rw (pow-succ' 2 count) (omega arith);
     }
 
--- the same, where each byte is one
-pub Written-more : (word : List ℕ) (left values : ℕ) → Written word left values → 0 < left → list_all (λ byte. (byte == 48) || (byte == 49)) word ≡ true
-    → Written word (left - 1) (2 * values + (get_or word (left - 1) 0 - 48))
-Written-more word left values written some digits =
-    let within : left ≤ length word = written.within in
-    Written-byte word left values written some (list_all-at (λ b. (b == 48) || (b == 49)) word (left - 1) 0 digits (omega arith))
+-- the byte before those from a place on is written
+pub Writes-more : (word : List ℕ) (left values : ℕ) → WritesValues (drop left word) values → 0 < left → left ≤ length word → ((get_or word (left - 1) 0 == 48) || (get_or word (left - 1) 0 == 49)) ≡ true
+    → WritesValues (drop (left - 1) word) (2 * values + (get_or word (left - 1) 0 - 48))
+Writes-more word left values written some within is =
+    let byte = get_or word (left - 1) 0 in
+    let next : suc (left - 1) ≡ left = omega arith in
+    let split : drop (left - 1) word ≡ byte ∷ drop left word = rw next at (drop-cons word (left - 1) 0 (omega arith)) in
+    rw split (Writes-byte byte (drop left word) values written is)
 
 -- there is room for one byte more
-pub Written-room : (word : List ℕ) (left values : ℕ) → Written word left values → 0 < left → length word ≤ 64 → 2 * values + 1 < 2 ^ 64
-Written-room word left values written some few =
-    let count = length word - left in
+pub Writes-room : (word : List ℕ) (left values : ℕ) → WritesValues (drop left word) values → 0 < left → left ≤ length word → length word ≤ 64 → 2 * values + 1 < 2 ^ 64
+Writes-room word left values written some within few =
+    let count = length (drop left word) in
     let small : values < 2 ^ count = written.small in
-    let within : left ≤ length word = written.within in
-    let more : count ≤ 63 = omega arith in
+    let more : count ≤ 63 = omega (arith, length-drop left word) in
     let grown : 2 ^ count ≤ 2 ^ 63 = pow-le-pow_right (lit< tt) more in
     omega arith
-
--- ---- values that are checked as they are read
-
-pub Checked-nothing : (word : List ℕ) → WritesValues word (length word) 0
-Checked-nothing word =
-    let nothing = Written-nothing word in
-    record { within = nothing.within; all = rw (drop-length word) refl; bits = nothing.bits; small = nothing.small }
-
-pub Checked-written : (word : List ℕ) (left values : ℕ) → WritesValues word left values → Written word left values
-Checked-written word left values checked = record { within = checked.within; bits = checked.bits; small = checked.small }
-
-pub Checked-more : (word : List ℕ) (left values byte : ℕ) → WritesValues word left values → 0 < left → byte ≡ get_or word (left - 1) 0 → ((byte == 48) || (byte == 49)) ≡ true
-    → WritesValues word (left - 1) (2 * values + (byte - 48))
-Checked-more word left values byte checked some here is =
-    let more = Written-byte word left values (Checked-written word left values checked) some (ap (λ b. (b == 48) || (b == 49)) (sym here) ∙ is) in
-    let within : left ≤ length word = checked.within in
-    let next : suc (left - 1) ≡ left = omega arith in
-    let split : drop (left - 1) word ≡ byte ∷ drop left word = rw next at (drop-cons word (left - 1) 0 (omega arith)) ∙ ap (λ b. b ∷ drop left word) (sym here) in
-    let number : 2 * values + (get_or word (left - 1) 0 - 48) ≡ 2 * values + (byte - 48) = ap (λ b. 2 * values + (b - 48)) (sym here) in
-    record {
-      within = more.within;
-      all = rw (split, is) checked.all;
-      bits = ap (low_bits (length word - (left - 1))) (sym number) ∙ more.bits;
-      small = rw number at more.small;
-    }

@@ -1,5 +1,5 @@
 -- What is kept of lines: bits in one table, and lists of them by their places in it.
-use Rattle.std.specs.Prelude.{◌≡◌, ℕ, zero, suc, ◌+◌, ◌-◌, ◌%◌, ◌/◌, ◌^◌, ◌<◌, ◌≤◌, Bool, true, false, ◌||◌, List, [], ◌∷◌, ◌++◌, length, get_or, take, drop, map, ◌==◌, Option, Some, Result, Ok, Err}
+use Rattle.std.specs.Prelude.{◌≡◌, ℕ, zero, suc, ◌+◌, ◌%◌, ◌/◌, ◌^◌, ◌<◌, ◌≤◌, Bool, true, false, ◌||◌, List, [], ◌∷◌, ◌++◌, length, take, drop, map, ◌==◌, Option, Some, Result, Ok, Err}
 use Rattle.std.specs.Result.{result_err, MatchResult}
 use Rattle.plane_map.specs.declared.tile.RowCol.{RowCol}
 use Rattle.chipdb_lines.specs.declared.cause.DbCause.{DbCause}
@@ -98,21 +98,29 @@ pub record AreParted (first second : List ℕ) : Type 0 where
   pub own : own_words (first ++ (32 ∷ second)) ≡ first ∷ second ∷ []
   pub item : is_statement (first ++ (32 ∷ second)) ≡ false
 
--- the first line of a text, and what stands behind it, and the choice that the line says
-pub record IsChoiceLine (nets count : ℕ) (text : List ℕ) (found : ChoiceLine) : Type 0 where
-  pub values : List ℕ
-  pub src : List ℕ
-  pub parted : AreParted values src
-  pub lines : lines_of text ≡ (values ++ (32 ∷ src)) ∷ lines_of found.rest.now
-  pub shorter : length found.rest.now < length text
-  pub says : choice_of nets count (values ∷ src ∷ []) ≡ Ok (choice_named count found.choice)
-  pub small : found.choice.values < 2 ^ count
+-- the first line of a text is two words with one space between them: what stands behind the line, and what holds of the words
+pub record BeginsWithPair (text rest : List ℕ) (Holds : List (List ℕ) → Type 0) : Type 0 where
+  pub first : List ℕ
+  pub second : List ℕ
+  pub parted : AreParted first second
+  pub lines : lines_of text ≡ (first ++ (32 ∷ second)) ∷ lines_of rest
+  pub shorter : length rest < length text
+  pub holds : Holds (first ∷ second ∷ [])
 
--- a number at the front of a text, behind whose digits LF stands
-pub record EndsLine (text : List ℕ) (digits number : ℕ) : Type 0 where
-  pub number_is : number_of (take digits text) ≡ Some number
-  pub within : digits < length text
-  pub lf : get_or text digits 0 ≡ 10
+-- words say a choice
+pub record Chooses (nets count : ℕ) (words : List (List ℕ)) (choice : Choice) : Type 0 where
+  pub says : choice_of nets count words ≡ Ok (choice_named count choice)
+  pub small : choice.values < 2 ^ count
+
+-- the first line of a text, and what stands behind it, and the choice that the line says
+abbrev pub IsChoiceLine : ℕ → ℕ → List ℕ → ChoiceLine → Type 0
+IsChoiceLine nets count text found = BeginsWithPair text found.rest.now (λ words. Chooses nets count words found.choice)
+
+-- a number at the front of a text, with that byte right behind its digits, and what stands behind the byte
+pub record StartsWithNumber (end : ℕ) (text : List ℕ) (number : ℕ) (rest : List ℕ) : Type 0 where
+  pub digits : List ℕ
+  pub number_is : number_of digits ≡ Some number
+  pub text_is : text ≡ digits ++ (end ∷ rest)
 
 -- the number that the first digits write
 pub record Leads (text : List ℕ) (digits number : ℕ) : Type 0 where
@@ -122,15 +130,8 @@ pub record Leads (text : List ℕ) (digits number : ℕ) : Type 0 where
   pub number_is : number ≡ digits_value (take digits text)
   pub small : number < 10 ^ digits
 
--- a number that the bytes of a word write from a place on, each of them `0` or `1` and the first one the lowest bit
-pub record WritesValues (word : List ℕ) (left values : ℕ) : Type 0 where
-  pub within : left ≤ length word
-  pub all : list_all (λ byte. (byte == 48) || (byte == 49)) (drop left word) ≡ true
-  pub bits : low_bits (length word - left) values ≡ map (λ byte. byte == 49) (drop left word)
-  pub small : values < 2 ^ (length word - left)
-
--- a number at the front of words, behind which a space stands
-pub record StartsWords (words : List ℕ) (number : ℕ) (rest : List ℕ) : Type 0 where
-  pub first : List ℕ
-  pub number_is : number_of first ≡ Some number
-  pub words_are : words ≡ first ++ (32 ∷ rest)
+-- each byte of a word is `0` or `1`, and they write the lowest bits of a number, the lowest first
+pub record WritesValues (word : List ℕ) (values : ℕ) : Type 0 where
+  pub all : list_all (λ byte. (byte == 48) || (byte == 49)) word ≡ true
+  pub bits : low_bits (length word) values ≡ map (λ byte. byte == 49) word
+  pub small : values < 2 ^ length word

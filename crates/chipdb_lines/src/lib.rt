@@ -13,6 +13,7 @@ mod keyword;
 mod kinds;
 mod links;
 mod names;
+mod numbers;
 mod statements;
 mod words;
 

@@ -1,15 +1,16 @@
 // The statements `.buffer` and `.routing`, and their lines.
-ghost use Rattle.std.specs.Prelude.{◌≡◌, ◌≤◌, ◌<◌, ◌^◌, ◌∷◌, ◌++◌, [], ℕ, map, ◌==◌, ◌||◌, length, IfOk, IfSome, MatchOption, true, false};
+ghost use Rattle.std.specs.Prelude.{◌≡◌, ◌≤◌, ◌<◌, ◌^◌, ◌∷◌, ◌++◌, ◌==◌, ◌||◌, length, IfOk, IfSome, MatchOption, false};
 ghost use Rattle.std.specs.List.{list_all};
 ghost use Rattle.plane_map.specs.Layout.{kind_of};
 ghost use Rattle.chipdb_lines.specs.Words.{has_none, is_values, words_in};
 ghost use Rattle.chipdb_lines.specs.Statements.{link_at, link_of_words};
 ghost use Rattle.chipdb_lines.specs.Items.{choice_by, choice_of};
-ghost use Rattle.chipdb_lines.specs.Kept.{choice_named, head_named, low_bits, EndsLine, Extends, IsChoiceLine, IsListOf, Leads, Reads, StartsWords, Tells, WritesValues};
+ghost use Rattle.chipdb_lines.specs.Kept.{choice_named, head_named, Extends, IsChoiceLine, IsListOf, Reads, Tells, WritesValues};
 
 use crate::bits::{BitList, push_bits};
 use crate::cause::{DbCause, Refusal};
 use crate::chip::Chip;
+use crate::numbers::number_before;
 use crate::words::has_no_word;
 use plane_map::{RowCol, TileKind, kind_on, tile_width};
 use text_lines::{Separators, number, one_word, split_word};
@@ -148,66 +149,16 @@ fn behind_values<'a>(nets: u32, values: &[u8], text: &'a [u8]) -> Option<ChoiceL
     requires few { length values.now ≤ 64 }
     ensures { IfSome result (IsChoiceLine nets (length values.now) (values.now ++ (32 ∷ text.now))) }
 {
-    let found = number_line(text)?;
-    let values = checked_values(values)?;
-    if found.number < nets {
+    let (src, rest) = number_before(b'\n', text)?;
+    let values = values_in(values)?;
+    if src < nets {
         Some(ChoiceLine {
-            choice: Choice {
-                src: found.number,
-                values,
-            },
-            rest: &text[found.digits + 1..],
+            choice: Choice { src, values },
+            rest,
         })
     } else {
         None
     }
-}
-
-/// A number at the front of a text, and how many digits write it.
-#[derive(Clone, Copy)]
-struct Leading {
-    number: u32,
-    digits: usize,
-}
-
-/// The number at the front of a text where LF stands right behind its one to nine digits.
-#[tactic(auto, using(crate::proofs::Leading::ends_line))]
-fn number_line(text: &[u8]) -> Option<Leading>
-    ensures { IfSome result (λ found. EndsLine text.now found.digits found.number) }
-{
-    let found = leading_number(text);
-    let end = found.digits;
-    if 0 < end && end < text.len() && text[end] == b'\n' {
-        Some(found)
-    } else {
-        None
-    }
-}
-
-/// The number at the front of words where a space stands right behind its one to nine digits, and what stands behind that.
-pub(crate) fn number_and_space(words: &[u8]) -> Option<(u32, &[u8])>
-    ensures { IfSome result (λ found. StartsWords words.now found.0 found.1.now) }
-{
-    let found = leading_number(words);
-    let end = found.digits;
-    if 0 < end && end < words.len() && words[end] == b' ' {
-        Some((found.number, &words[end + 1..]))
-    } else {
-        None
-    }
-}
-
-/// The number that the digits at the front of a text write, at most nine of them.
-fn leading_number(text: &[u8]) -> Leading
-    ensures { Leads text.now result.digits result.number }
-{
-    let mut number = 0;
-    let mut digits = 0;
-    while digits < text.len() && digits < 9 && text[digits].is_ascii_digit() {
-        number = 10 * number + u32::from(text[digits] - b'0');
-        digits += 1;
-    }
-    Leading { number, digits }
 }
 
 /// What the word `VALUES` and the number SRC say.
@@ -230,56 +181,19 @@ fn choice_by(nets: u32, count: usize, values: &[u8], src: Option<u32>) -> Result
 fn values_of(count: usize, word: &[u8]) -> Option<u64>
     requires { count ≤ 64 }
     ensures { MatchOption result (is_values count word.now ≡ false)
-        (λ values. (is_values count word.now ≡ true) × (low_bits count values ≡ map (λ byte. byte == 49) word.now) × (values < 2 ^ count)) }
+        (λ values. (length word.now ≡ count) × WritesValues word.now values) }
 {
-    if is_values(count, word) {
-        Some(values_in(word))
+    if word.len() == count {
+        values_in(word)
     } else {
         None
     }
 }
 
-/// Whether a word is one `0` or `1` for each of so many bits.
-fn is_values(count: usize, word: &[u8]) -> bool
-    ensures { result ≡ is_values count word.now }
-{
-    word.len() == count && are_values(word)
-}
-
-/// Whether each byte of a word is `0` or `1`.
-fn are_values(word: &[u8]) -> bool
-    ensures { result ≡ list_all (λ byte. (byte == 48) || (byte == 49)) word.now }
-{
-    word.iter().all(|byte| is_value(*byte))
-}
-
-/// Whether a byte is `0` or `1`.
-fn is_value(byte: u8) -> bool
-    ensures { result ≡ ((byte == 48) || (byte == 49)) }
-{
-    byte == b'0' || byte == b'1'
-}
-
-/// The number whose lowest bits a word of `0` and `1` has, the lowest first.
-fn values_in(word: &[u8]) -> u64
-    requires values { is_values (length word.now) word.now ≡ true }
-    requires count { length word.now ≤ 64 }
-    ensures bits { low_bits (length word.now) result ≡ map (λ byte. byte == 49) word.now }
-    ensures small { result < 2 ^ length word.now }
-{
-    let mut values = 0;
-    let mut left = word.len();
-    while 0 < left {
-        left -= 1;
-        values = 2 * values + u64::from(word[left] - b'0');
-    }
-    values
-}
-
 /// The number whose lowest bits a word has, the lowest first: none where a byte is neither `0` nor `1`.
-fn checked_values(word: &[u8]) -> Option<u64>
+fn values_in(word: &[u8]) -> Option<u64>
     requires { length word.now ≤ 64 }
-    ensures { IfSome result (λ values. WritesValues word.now 0 values) }
+    ensures { MatchOption result (list_all (λ byte. (byte == 48) || (byte == 49)) word.now ≡ false) (WritesValues word.now) }
 {
     let mut values = 0;
     let mut left = word.len();
@@ -292,4 +206,11 @@ fn checked_values(word: &[u8]) -> Option<u64>
         values = 2 * values + u64::from(byte - b'0');
     }
     Some(values)
+}
+
+/// Whether a byte is `0` or `1`.
+fn is_value(byte: u8) -> bool
+    ensures { result ≡ ((byte == 48) || (byte == 49)) }
+{
+    byte == b'0' || byte == b'1'
 }

@@ -8,8 +8,8 @@ ghost use Rattle.chipdb_lines.specs.Kept.{name_named, Reads};
 
 use crate::cause::DbCause;
 use crate::kinds::is_in_grid;
-use crate::links::number_and_space;
-use crate::words::is_blank;
+use crate::numbers::number_before;
+use crate::words::parts_words;
 use plane_map::DeviceName;
 use text_lines::{Separators, number, one_word, split_word};
 
@@ -36,8 +36,8 @@ pub fn name_item(device: DeviceName, words: &[u8]) -> Result<NameItem<'_>, DbCau
 fn usual_name(device: DeviceName, words: &[u8]) -> Option<NameItem<'_>>
     ensures { IfSome result (λ item. (net : ℕ) → name_of device net (words_in words.now) ≡ Ok (name_named net item)) }
 {
-    let (x, behind) = number_and_space(words)?;
-    let (y, name) = number_and_space(behind)?;
+    let (x, behind) = number_before(b' ', words)?;
+    let (y, name) = number_before(b' ', behind)?;
     if is_in_grid(device, x, y) && is_one_word(name) {
         Some(NameItem {
             x: x as u8,
@@ -60,7 +60,7 @@ fn is_one_word(name: &[u8]) -> bool
 fn has_no_blank(name: &[u8]) -> bool
     ensures { result ≡ list_all (λ byte. not (is_blank byte)) name.now }
 {
-    name.iter().all(|byte| !is_blank(*byte))
+    name.iter().all(|byte| !parts_words(*byte))
 }
 
 /// What the words `X Y NAME` say, whatever parts them.

@@ -43,11 +43,11 @@ pub(crate) fn has_no_word(words: &[u8]) -> bool
 fn are_blanks(words: &[u8]) -> bool
     ensures { result ≡ list_all is_blank words.now }
 {
-    words.iter().all(|byte| is_blank(*byte))
+    words.iter().all(|byte| parts_words(*byte))
 }
 
-/// Whether the byte is a space or a tab.
-pub(crate) fn is_blank(byte: u8) -> bool
+/// Whether the byte parts words, as a space and a tab do.
+pub(crate) fn parts_words(byte: u8) -> bool
     ensures { result ≡ is_blank byte }
 {
     byte == b' ' || byte == b'\t'

@@ -19,7 +19,7 @@ use Rattle.chipdb_lines.specs.declared.links.LinkHead.{LinkHead as KeptHead}
 use Rattle.chipdb_lines.specs.declared.links.Choice.{Choice}
 use Rattle.chipdb_lines.specs.declared.statements.Below.TheVariants.{Buffers, Routings}
 use Rattle.chipdb_lines.specs.Items.{LinkChoice, choice_of}
-use Rattle.chipdb_lines.specs.Kept.{block_named, bits_named, choice_named, head_named, low_bits, IsListOf}
+use Rattle.chipdb_lines.specs.Kept.{block_named, bits_named, choice_named, head_named, low_bits, IsListOf, Chooses}
 use Rattle.chipdb_reader.specs.declared.items.LinkLine.{LinkLine}
 use Rattle.chipdb_reader.specs.declared.reading.Reader.{Reader}
 use Rattle.chipdb_reader.specs.Blocks.{block_over}
@@ -27,7 +27,7 @@ use Rattle.chipdb_reader.specs.Buffers.{AddsBuffer, buffer_cause, choice_cause_o
 use Rattle.chipdb_reader.specs.Database.{Said, nothing, item, said_at, link_of, new_choices, buffers_in, buffers_at, routings_in, routings_at, is_chosen_before, has_same_values, is_same_choice, is_other_choice}
 use Rattle.chipdb_reader.specs.Faults.{cause_at, cause_if, choice_cause}
 use Rattle.chipdb_reader.specs.Kept.{link_line, link_lines}
-use Rattle.chipdb_reader.specs.Reading.{Chooses, PushesRouting, PushesBuffer, link_with}
+use Rattle.chipdb_reader.specs.Reading.{PushesRouting, PushesBuffer, link_with}
 use Rattle.std.proofs.lemmas.List.Folds.{list_any-append}
 use Rattle.place_search.specs.Places.{or_else}
 use Rattle.chipdb_reader.proofs.Grown.{length-bits_named, All-weaker}
@@ -106,7 +106,7 @@ link-read bits head choice is =
     λ i. record { x = head.x; y = head.y; dst = head.dst; src = choice.src; bits = bits_named bits head.bits; values = low_bits (sym count i) choice.values }
 
 -- what the words of a line say below a statement of links
-choice-read : (nets : ℕ) (bits : List RowCol) (head : KeptHead) (words : List (List ℕ)) (choice : Choice) → IsListOf (length bits) head.bits → Chooses nets head words choice
+choice-read : (nets : ℕ) (bits : List RowCol) (head : KeptHead) (words : List (List ℕ)) (choice : Choice) → IsListOf (length bits) head.bits → Chooses nets head.bits.count words choice
     → choice_of nets (length (bits_named bits head.bits)) words ≡ Ok (choice_named head.bits.count choice)
 choice-read nets bits head words choice is chosen = ap (λ count. choice_of nets count words) (length-bits_named bits head.bits is) ∙ chosen.says
 
@@ -257,13 +257,13 @@ judged reader lines n head choice (Some src) holds small chosen looked =
 
 -- what a `.buffer` line says
 buffer-said : (old : Reader) (lines : List (List ℕ)) (n : ℕ) (chip : Chip) (head : KeptHead) (word : List ℕ) (words : List (List ℕ)) (choice : Choice) → At old lines n chip (Buffers head) word words
-    → IsListOf (length old.bits.items) head.bits → Chooses chip.nets head (word ∷ words) choice → said_at lines n ≡ record nothing { choices = choice_named head.bits.count choice ∷ [] }
+    → IsListOf (length old.bits.items) head.bits → Chooses chip.nets head.bits.count (word ∷ words) choice → said_at lines n ≡ record nothing { choices = choice_named head.bits.count choice ∷ [] }
 buffer-said old lines n chip head word words choice at is chosen =
     said-at old lines n chip (Buffers head) word words at ∙ ap (λ r. record nothing { choices = item r }) (choice-read chip.nets old.bits.items head (word ∷ words) choice is chosen)
 
 -- and what is wrong with it
 pub buffer-cause : (old : Reader) (lines : List (List ℕ)) (n : ℕ) (chip : Chip) (head : KeptHead) (word : List ℕ) (words : List (List ℕ)) (choice : Choice) → At old lines n chip (Buffers head) word words
-    → IsListOf (length old.bits.items) head.bits → Chooses chip.nets head (word ∷ words) choice
+    → IsListOf (length old.bits.items) head.bits → Chooses chip.nets head.bits.count (word ∷ words) choice
     → cause_at lines n ≡ cause_if (is_chosen_before lines n (is_other_choice (choice_named head.bits.count choice))) ValuesTwice
 buffer-cause old lines n chip head word words choice at is chosen =
     cause-at old lines n chip (Buffers head) word words at ∙ ap (choice_cause lines n) (choice-read chip.nets old.bits.items head (word ∷ words) choice is chosen)
@@ -289,7 +289,7 @@ cause_of_apart (Some other) src = by (eqb other src)
 
 -- the cause of a line is that which the index tells
 pub buffer-cause_is : (old : Reader) (lines : List (List ℕ)) (n : ℕ) (chip : Chip) (head : KeptHead) (word : List ℕ) (words : List (List ℕ)) (choice : Choice) → At old lines n chip (Buffers head) word words
-    → IsListOf (length old.bits.items) head.bits → Chooses chip.nets head (word ∷ words) choice → cause_at lines n ≡ buffer_cause old.buffers (link_with head choice)
+    → IsListOf (length old.bits.items) head.bits → Chooses chip.nets head.bits.count (word ∷ words) choice → cause_at lines n ≡ buffer_cause old.buffers (link_with head choice)
 buffer-cause_is old lines n chip head word words choice at is chosen =
     buffer-cause old lines n chip head word words choice at is chosen
     ∙ ap (λ b. cause_if b ValuesTwice) (buffer-judged old lines n chip head word words choice at chosen.small).other
@@ -310,7 +310,7 @@ pub record Grows (old new : Reader) (lines : List (List ℕ)) (n : ℕ) (head : 
   pub last : LastHolds new lines (n + 1) head
 
 grows-new : (old new : Reader) (lines : List (List ℕ)) (n : ℕ) (chip : Chip) (head : KeptHead) (word : List ℕ) (words : List (List ℕ)) (choice : Choice) → At old lines n chip (Buffers head) word words
-    → IsListOf (length old.bits.items) head.bits → Chooses chip.nets head (word ∷ words) choice → AddsBuffer old.buffers new.buffers (link_with head choice)
+    → IsListOf (length old.bits.items) head.bits → Chooses chip.nets head.bits.count (word ∷ words) choice → AddsBuffer old.buffers new.buffers (link_with head choice)
     → chosen_src old.buffers choice.values ≡ None → Grows old new lines n head choice
 unfolding buffers_at
 grows-new old new lines n chip head word words choice at is chosen added none =
@@ -350,7 +350,7 @@ grows-new old new lines n chip head word words choice at is chosen added none =
     }
 
 grows-equal : (old new : Reader) (lines : List (List ℕ)) (n : ℕ) (chip : Chip) (head : KeptHead) (word : List ℕ) (words : List (List ℕ)) (choice : Choice) (src : ℕ) → At old lines n chip (Buffers head) word words
-    → IsListOf (length old.bits.items) head.bits → Chooses chip.nets head (word ∷ words) choice → AddsBuffer old.buffers new.buffers (link_with head choice)
+    → IsListOf (length old.bits.items) head.bits → Chooses chip.nets head.bits.count (word ∷ words) choice → AddsBuffer old.buffers new.buffers (link_with head choice)
     → chosen_src old.buffers choice.values ≡ Some src → eqb src choice.src ≡ true → Grows old new lines n head choice
 unfolding buffers_at
 grows-equal old new lines n chip head word words choice src at is chosen added some same_src =
@@ -395,7 +395,7 @@ grows-equal old new lines n chip head word words choice src at is chosen added s
     }
 
 grows : (old new : Reader) (lines : List (List ℕ)) (n : ℕ) (chip : Chip) (head : KeptHead) (word : List ℕ) (words : List (List ℕ)) (choice : Choice) (found : Option ℕ) → At old lines n chip (Buffers head) word words
-    → IsListOf (length old.bits.items) head.bits → Chooses chip.nets head (word ∷ words) choice → AddsBuffer old.buffers new.buffers (link_with head choice)
+    → IsListOf (length old.bits.items) head.bits → Chooses chip.nets head.bits.count (word ∷ words) choice → AddsBuffer old.buffers new.buffers (link_with head choice)
     → chosen_src old.buffers choice.values ≡ found → choice_cause_of found choice.src ≡ None → Grows old new lines n head choice
 grows old new lines n chip head word words choice None at is chosen added found fits = grows-new old new lines n chip head word words choice at is chosen added found
 grows old new lines n chip head word words choice (Some src) at is chosen added found fits = grows-equal old new lines n chip head word words choice src at is chosen added found (is_equal-fits src choice.src fits)

@@ -5,26 +5,28 @@ use Rattle.std.specs.BTreeMap.{get}
 use Rattle.place_search.specs.Places.{or_else}
 use Rattle.chipdb_reader.specs.declared.items.NetName.{NetName}
 use Rattle.chipdb_reader.specs.declared.name_index.NameIndex.{NameIndex}
+use Rattle.chipdb_reader.specs.declared.name_index.TheConstants.{SIDE, NAMES, NO_NET}
 use Rattle.chipdb_reader.specs.contracts.items.NetNameOrd.TheImpl as net_name_ord
 
 -- the order of names
 abbrev pub name_cmp : NetName → NetName → Ordering
 name_cmp = (net_name_ord.ghosts).cmp
 
--- the cell of a name
+-- the cell of a name: those of one name stand together, row by row of the grid, and only the first names have cells
 abbrev pub cell_of : NetName → Option ℕ
 cell_of name =
-    if nat_lt name.x 34 && (nat_lt name.y 34 && nat_lt name.name 4096)
-    then Some ((name.name * 34 + name.y) * 34 + name.x)
+    if nat_lt name.x SIDE && (nat_lt name.y SIDE && nat_lt name.name NAMES)
+    then Some ((name.name * SIDE + name.y) * SIDE + name.x)
     else None
 
--- the net of a cell; the greatest number stands for none
+-- the net that a cell holds, where it holds one
 abbrev pub net_held : ℕ → Option ℕ
-net_held net = if net == 4294967295 then None else Some net
+net_held net = if net == NO_NET then None else Some net
 
+-- the net in a cell; one behind the table's end is empty
 abbrev pub held_at : List ℕ → Option ℕ → Option ℕ
 held_at table None = None
-held_at table (Some cell) = net_held (get_or table cell 4294967295)
+held_at table (Some cell) = net_held (get_or table cell NO_NET)
 
 -- the net that the index has for a name
 abbrev pub net_in : NameIndex → NetName → Option ℕ

@@ -3,7 +3,7 @@
 use Rattle.std.specs.Bool.{MatchBool}
 use Rattle.std.specs.declared.vec.Vec.{Vec}
 use Rattle.std.specs.declared.alloc.Global.{Global}
-use Rattle.std.specs.Prelude.{◌≡◌, ℕ, ◌<◌, ◌^◌, true, false, List, [], ◌∷◌, ◌++◌, length, is_some, if◌then◌else◌, Option, Some, None, Result, Ok, Err}
+use Rattle.std.specs.Prelude.{◌≡◌, ℕ, ◌<◌, true, false, List, [], ◌∷◌, ◌++◌, length, is_some, if◌then◌else◌, Option, Some, None, Result, Ok, Err}
 use Rattle.std.specs.Result.{result_err, MatchResult}
 use Rattle.place_search.specs.Places.{or_else}
 use Rattle.plane_map.specs.declared.device.DeviceName.{DeviceName}
@@ -20,7 +20,7 @@ use Rattle.chipdb_lines.specs.declared.statements.Below.{Below}
 use Rattle.chipdb_lines.specs.declared.statements.Below.TheVariants.{Passed, Device, GlobalInputs, GlobalPins, Functions, ExtraBits, Names, Buffers, Routings}
 use Rattle.chipdb_lines.specs.Items.{name_of, function_of, extra_of, global_input_of, global_pin_of, choice_of}
 use Rattle.text_lines.specs.Lines.{lines_of}
-use Rattle.chipdb_lines.specs.Kept.{bits_named, block_named, choice_named, AreParted, Extends, IsBelowIn, IsListOf}
+use Rattle.chipdb_lines.specs.Kept.{bits_named, block_named, Chooses, Extends, IsBelowIn, IsListOf}
 use Rattle.chipdb_lines.specs.Statements.{statement_of}
 use Rattle.chipdb_lines.specs.Words.{is_statement, own_words, words_in}
 use Rattle.chipdb_reader.specs.declared.items.LinkLine.{LinkLine}
@@ -61,19 +61,14 @@ pub record Pushes {A : Type 0} (said : Result A DbCause) (old new : List A) : Ty
 abbrev pub link_with : LinkHead → Choice → LinkLine
 link_with head choice = record { x = head.x; y = head.y; dst = head.dst; src = choice.src; bits = head.bits; values = choice.values }
 
--- what a choice says
-pub record Chooses (nets : ℕ) (head : LinkHead) (words : List (List ℕ)) (choice : Choice) : Type 0 where
-  pub says : choice_of nets head.bits.count words ≡ Ok (choice_named head.bits.count choice)
-  pub small : choice.values < 2 ^ head.bits.count
-
 pub record PushesRouting (nets : ℕ) (head : LinkHead) (words : List (List ℕ)) (old new : List LinkLine) : Type 0 where
   pub choice : Choice
-  pub chosen : Chooses nets head words choice
+  pub chosen : Chooses nets head.bits.count words choice
   pub added : new ≡ old ++ link_with head choice ∷ []
 
 pub record PushesBuffer (nets : ℕ) (head : LinkHead) (words : List (List ℕ)) (old new : Reader) : Type 0 where
   pub choice : Choice
-  pub chosen : Chooses nets head words choice
+  pub chosen : Chooses nets head.bits.count words choice
   pub added : AddsBuffer old.buffers new.buffers (link_with head choice)
   pub fits : buffer_cause old.buffers (link_with head choice) ≡ None
   pub rest : new ≡ record old { buffers = new.buffers }
@@ -133,7 +128,7 @@ pub record IsNamedTwice (device : DeviceName) (net : ℕ) (words : List (List �
 -- values that choose another net already
 pub record IsChosenTwice (nets : ℕ) (head : LinkHead) (words : List (List ℕ)) (old : Reader) (cause : DbCause) : Type 0 where
   pub choice : Choice
-  pub chosen : Chooses nets head words choice
+  pub chosen : Chooses nets head.bits.count words choice
   pub twice : buffer_cause old.buffers (link_with head choice) ≡ Some cause
 
 -- a cause that a line has by itself, or by an earlier one
@@ -221,32 +216,6 @@ TakesLine old line new = MatchBool (is_statement line) (TakesStatement old line 
 -- why a line isn't taken
 abbrev pub RefusesLine : Reader → List ℕ → DbCause → Type 0
 RefusesLine old line cause = MatchBool (is_statement line) (StatementRefusal old line cause) (RefusesWords old old.chip (own_words line) cause)
-
--- a line of links, which is the first of a text, and what stands behind it
-pub record IsFirst (text rest values src : List ℕ) : Type 0 where
-  pub parted : AreParted values src
-  pub lines : lines_of text ≡ (values ++ (32 ∷ src)) ∷ lines_of rest
-  pub shorter : length rest < length text
-
-pub record TakesFirstBuffer (nets : ℕ) (head : LinkHead) (text rest : List ℕ) (old new : Reader) : Type 0 where
-  pub values : List ℕ
-  pub src : List ℕ
-  pub first : IsFirst text rest values src
-  pub pushed : PushesBuffer nets head (values ∷ src ∷ []) old new
-
-pub record TakesFirstRouting (nets : ℕ) (head : LinkHead) (text rest : List ℕ) (old new : Reader) : Type 0 where
-  pub values : List ℕ
-  pub src : List ℕ
-  pub first : IsFirst text rest values src
-  pub pushed : PushesRouting nets head (values ∷ src ∷ []) old.routings.items new.routings.items
-  pub rest_is : new ≡ record old { routings = new.routings }
-
-pub record RefusesFirstBuffer (nets : ℕ) (head : LinkHead) (text : List ℕ) (old : Reader) (cause : DbCause) : Type 0 where
-  pub values : List ℕ
-  pub src : List ℕ
-  pub rest : List ℕ
-  pub first : IsFirst text rest values src
-  pub refused : BufferRefusal nets head (values ∷ src ∷ []) old cause
 
 -- what the first line of a text changes
 pub record TakesFirst (old : Reader) (text rest : List ℕ) (new : Reader) : Type 0 where

@@ -13,6 +13,9 @@ const SIDE: usize = 34;
 /// How many names have cells in the table.
 const NAMES: usize = 4096;
 
+/// How many cells the table has at most.
+const CELLS: usize = NAMES * SIDE * SIDE;
+
 /// What stands in a cell whose name no net has.
 const NO_NET: u32 = u32::MAX;
 
@@ -61,7 +64,7 @@ impl NameIndex {
 /// The place of a name's cell in the table, where it has one.
 fn cell_of(name: &NetName) -> Option<usize>
     ensures cell { result ≡ cell_of name.now }
-    ensures small { IfSome result (λ cell. cell < 4734976) }
+    ensures small { IfSome result (λ cell. cell < CELLS) }
 {
     let (x, y, grid) = (name.x as usize, name.y as usize, name.name.place());
     if x < SIDE && y < SIDE && grid < NAMES {
@@ -93,9 +96,9 @@ fn net_held(net: u32) -> Option<u32>
 
 /// Puts a net into a cell.
 fn put_cell(table: &mut Vec<u32>, cell: usize, net: u32) -> Result<(), AllocError>
-    requires { cell < 4734976 }
-    ensures here { OnOk result (get_or table.new.items cell 4294967295 ≡ net) }
-    ensures others { OnOk result ((c : ℕ) → c ≢ cell → get_or table.new.items c 4294967295 ≡ get_or table.old.items c 4294967295) }
+    requires { cell < CELLS }
+    ensures here { OnOk result (get_or table.new.items cell NO_NET ≡ net) }
+    ensures others { OnOk result ((c : ℕ) → c ≢ cell → get_or table.new.items c NO_NET ≡ get_or table.old.items c NO_NET) }
 {
     grow(table, cell)?;
     table[cell] = net;
@@ -104,9 +107,9 @@ fn put_cell(table: &mut Vec<u32>, cell: usize, net: u32) -> Result<(), AllocErro
 
 /// Makes the table long enough to have a cell.
 fn grow(table: &mut Vec<u32>, cell: usize) -> Result<(), AllocError>
-    requires { cell < 4734976 }
+    requires { cell < CELLS }
     ensures within { OnOk result (cell < vec_len table.new) }
-    ensures same { OnOk result ((c : ℕ) → get_or table.new.items c 4294967295 ≡ get_or table.old.items c 4294967295) }
+    ensures same { OnOk result ((c : ℕ) → get_or table.new.items c NO_NET ≡ get_or table.old.items c NO_NET) }
 {
     if cell < table.len() {
         Ok(())

@@ -1,9 +1,9 @@
 // What is kept between the lines of a database, and how a line is taken.
-ghost use Rattle.std.specs.Prelude.{◌≡◌, ◌-◌, ◌^◌, ◌<◌, ◌≤◌, ℕ, length, IfOk, IfErr, OnOk, MatchOption, MatchResult, None, false};
+ghost use Rattle.std.specs.Prelude.{◌≡◌, ◌-◌, ◌^◌, ◌<◌, ◌≤◌, ℕ, List, length, IfOk, IfErr, OnOk, MatchOption, MatchResult, None, false};
 ghost use Rattle.std.specs.Result.{result_err};
 ghost use Rattle.chipdb_lines.specs.Words.{has_none, own_words, words_in};
 ghost use Rattle.chipdb_lines.specs.Items.{choice_of, global_input_of, global_pin_of};
-ghost use Rattle.chipdb_lines.specs.Kept.{Reports};
+ghost use Rattle.chipdb_lines.specs.Kept.{BeginsWithPair, Reports};
 
 use crate::buffers::Buffers;
 use crate::items::{Extra, Function, LinkLine, NetName};
@@ -37,7 +37,7 @@ impl Reader {
     ghost use Rattle.chipdb_reader.specs.Nets.{IsNetIndex};
     ghost use Rattle.chipdb_reader.specs.Texts.{IsIndexed};
     ghost use Rattle.chipdb_reader.specs.Buffers.{IsChosen};
-    ghost use Rattle.chipdb_reader.specs.Reading.{BeginsBlock, BufferRefusal, ForCause, IsReady, IsUnread, NameRefusal, PushesBuffer, PushesExtra, PushesFunction, PushesName, RefusesFirst, RefusesFirstBuffer, RefusesItem, RefusesLine, RefusesWords, StatementRefusal, TakesFirst, TakesFirstBuffer, TakesFirstRouting, TakesItem, TakesLine, TakesStatement, TakesWords, begin_cause};
+    ghost use Rattle.chipdb_reader.specs.Reading.{BeginsBlock, BufferRefusal, ForCause, IsReady, IsUnread, NameRefusal, PushesBuffer, PushesExtra, PushesFunction, PushesName, RefusesFirst, RefusesItem, RefusesLine, RefusesWords, StatementRefusal, TakesFirst, TakesItem, TakesLine, TakesStatement, TakesWords, begin_cause};
 
     /// No line was read. It takes no memory yet.
     pub(crate) fn new(alloc: Global) -> Reader
@@ -82,8 +82,8 @@ impl Reader {
         ensures refused { IfErr result (ForCause (RefusesFirst self.old text.now)) }
     {
         match (self.chip, self.below) {
-            (Some(chip), Below::Buffers(head)) => self.first_buffer(chip.nets, head, text),
-            (Some(chip), Below::Routings(head)) => self.first_routing(chip.nets, head, text),
+            (Some(chip), Below::Buffers(head)) => self.first_buffer(chip, head, text),
+            (Some(chip), Below::Routings(head)) => self.first_routing(chip, head, text),
             _ => Ok(None),
         }
     }
@@ -91,16 +91,16 @@ impl Reader {
     /// The same below a `.buffer`.
     fn first_buffer<'a>(
         &mut self,
-        nets: u32,
+        chip: Chip,
         head: LinkHead,
         text: &'a [u8],
     ) -> Result<Option<&'a [u8]>, Refusal>
         requires chosen { IsChosen self.old.buffers }
         requires few { head.bits.count ≤ 64 }
-        ensures taken { IfOk result (λ rest. MatchOption rest (self.new ≡ self.old) (λ rest. TakesFirstBuffer nets head text.now rest.now self.old self.new)) }
-        ensures refused { IfErr result (ForCause (RefusesFirstBuffer nets head text.now self.old)) }
+        ensures taken { IfOk result (λ rest. MatchOption rest (self.new ≡ self.old) (λ rest. BeginsWithPair text.now rest.now (λ words. TakesItem self.old chip (Below.Buffers head) words self.new))) }
+        ensures refused { IfErr result (ForCause (λ cause. (rest : List ℕ) × BeginsWithPair text.now rest (λ words. RefusesItem self.old chip (Below.Buffers head) words cause))) }
     {
-        match choice_line(nets, head.bits.len(), text) {
+        match choice_line(chip.nets, head.bits.len(), text) {
             None => Ok(None),
             Some(line) => match self.buffers.add(link(head, line.choice)) {
                 Err(refusal) => Err(refusal),
@@ -112,15 +112,15 @@ impl Reader {
     /// The same below a `.routing`.
     fn first_routing<'a>(
         &mut self,
-        nets: u32,
+        chip: Chip,
         head: LinkHead,
         text: &'a [u8],
     ) -> Result<Option<&'a [u8]>, Refusal>
         requires { head.bits.count ≤ 64 }
-        ensures taken { IfOk result (λ rest. MatchOption rest (self.new ≡ self.old) (λ rest. TakesFirstRouting nets head text.now rest.now self.old self.new)) }
+        ensures taken { IfOk result (λ rest. MatchOption rest (self.new ≡ self.old) (λ rest. BeginsWithPair text.now rest.now (λ words. TakesItem self.old chip (Below.Routings head) words self.new))) }
         ensures refused { IfErr result (Reports None) }
     {
-        match choice_line(nets, head.bits.len(), text) {
+        match choice_line(chip.nets, head.bits.len(), text) {
             None => Ok(None),
             Some(line) => match self.routings.push(link(head, line.choice)) {
                 Err(e) => Err(Refusal::Memory(AllocError::from(e))),

@@ -1,24 +1,22 @@
-use Rattle.std.proofs.Common.{◌-◌, ◌<◌, ◌||◌, length, get_or, arith}
-use Rattle.std.specs.Prelude.{◌==◌}
-use Rattle.std.specs.List.{list_all}
-use Rattle.chipdb_lines.proofs.Values.{Written-more, Written-room, and-right, list_all-at, value-byte}
+use Rattle.std.proofs.Common.{◌-◌, ◌<◌, ◌∙◌, get_or, sym, arith}
+use Rattle.chipdb_lines.proofs.Values.{value-byte, Writes-more, Writes-room}
 use Rattle.chipdb_lines.proofs.links.values_in.Goals as goal
+
+pub overflow_mul-values : goal.overflow_mul-values
+overflow_mul-values c =
+    let room = Writes-room c.args.word.now c.loop-left.left c.loop-left.values c.loop-left.invariant.written c.loop-left-test.true c.loop-left.invariant.within c.requires in
+    omega (arith, room)
 
 pub overflow_add-values : goal.overflow_add-values
 overflow_add-values c =
-    let word = c.args.word.now in
-    let left = c.loop-left.left in
-    let digits = and-right (length word == length word) (list_all (λ b. (b == 48) || (b == 49)) word) c.requires.values in
-    let some : 0 < left = c.loop-left-test.true in
-    let within = c.loop-left.invariant.within in
-    let digit = value-byte (get_or word (left - 1) 0) (list_all-at (λ b. (b == 48) || (b == 49)) word (left - 1) 0 digits (omega arith)) in
-    let small : get_or word (left - 1) 0 - 48 < 2 = digit.0 in
-    let room = Written-room word left c.loop-left.values c.loop-left.invariant some c.requires.count in
-    rw c.from.ensures (omega (arith, room, small))
+    let byte = get_or c.args.word.now (c.loop-left.left - 1) 0 in
+    let room = Writes-room c.args.word.now c.loop-left.left c.loop-left.values c.loop-left.invariant.written c.loop-left-test.true c.loop-left.invariant.within c.requires in
+    let bit : byte - 48 < 2 = (value-byte byte (sym c.is_value.ensures ∙ c.if-not-is_value.false)).0 in
+    rw c.from.ensures (omega (arith, room, bit))
 
 pub loop-left-preserved : goal.loop-left-preserved
 loop-left-preserved c =
-    let word = c.args.word.now in
-    let written = Written-more word c.loop-left.left c.loop-left.values c.loop-left.invariant c.loop-left-test.true
-    (and-right (length word == length word) (list_all (λ b. (b == 48) || (b == 49)) word) c.requires.values) in
-    rw c.from.ensures written
+    let more = Writes-more c.args.word.now c.loop-left.left c.loop-left.values c.loop-left.invariant.written c.loop-left-test.true c.loop-left.invariant.within
+    (sym c.is_value.ensures ∙ c.if-not-is_value.false) in
+    let within = c.loop-left.invariant.within in
+    rw c.from.ensures (record { within = omega (arith, within); written = more })

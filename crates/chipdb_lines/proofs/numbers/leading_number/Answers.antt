@@ -1,6 +1,6 @@
 use Rattle.std.proofs.Common.{arith}
 use Rattle.chipdb_lines.proofs.Leading.{Leads-room}
-use Rattle.chipdb_lines.proofs.links.leading_number.Goals as goal
+use Rattle.chipdb_lines.proofs.numbers.leading_number.Goals as goal
 
 pub overflow_mul-number : goal.overflow_mul-number
 overflow_mul-number c =

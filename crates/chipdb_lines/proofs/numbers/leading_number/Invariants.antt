@@ -1,6 +1,6 @@
 use Rattle.std.proofs.Common.{◌-◌, length}
 use Rattle.chipdb_lines.specs.Kept.{Leads}
-use Rattle.chipdb_lines.proofs.links.leading_number.Given as goal
+use Rattle.chipdb_lines.proofs.numbers.leading_number.Given as goal
 
 abbrev pub invariant-loop-digits : goal.invariant-loop-digits
 invariant-loop-digits l = Leads l.text l.digits l.number

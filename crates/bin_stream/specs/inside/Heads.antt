@@ -11,12 +11,12 @@ use Rattle.bin_stream.specs.declared.reading.command.ShortCommand.TheVariants.{R
 -- ---- in bytes
 
 -- the first byte
-abbrev pub head_of : List ℕ → ℕ
-head_of bytes = get_or bytes 0 0
+abbrev pub first_byte : List ℕ → ℕ
+first_byte bytes = get_or bytes 0 0
 
 -- the payload
 abbrev pub payload_in : List ℕ → List ℕ
-payload_in bytes = take (head_of bytes % 16) (drop 1 bytes)
+payload_in bytes = take (first_byte bytes % 16) (drop 1 bytes)
 
 -- how many bytes the head has
 abbrev pub head_size : List ℕ → ℕ

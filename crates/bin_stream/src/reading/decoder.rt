@@ -7,7 +7,6 @@ ghost use Rattle.bin_stream.specs.Spelling.{IsDecided, bin_read_of, Tells};
 use super::front::{comment_of, preamble_offset};
 use super::head::{Cursor, fault_at};
 use super::machine::Machine;
-use super::registers::Registers;
 use super::taking::{image_at_end, take_commands};
 use crate::fault::{BinCause, BinFault};
 use crate::marks::PREAMBLE;
@@ -35,11 +34,7 @@ pub fn decode_with(alloc: Global, bytes: &[u8], layouts: Layouts) -> Result<AnyI
     match preamble_offset(bytes) {
         Some(offset) => {
             let comment = comment_of(alloc, &bytes[..offset])?;
-            let machine = Machine {
-                layouts,
-                registers: Registers::new(),
-                image: None,
-            };
+            let machine = Machine::new(layouts);
             let at = Cursor::new(bytes).behind(offset + PREAMBLE.len());
             let taken = take_commands(alloc, machine, at)?;
             if taken.is_last {

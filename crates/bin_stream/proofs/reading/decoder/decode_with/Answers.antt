@@ -7,7 +7,7 @@ use Rattle.bin_stream.specs.Settled.{Settles}
 use Rattle.bin_stream.specs.Spelling.{bin_read_of, Tells}
 use Rattle.bin_stream.specs.inside.Stages.{IsWoken}
 use Rattle.bin_stream.proofs.ReadSoFar.{read_nowhere}
-use Rattle.bin_stream.proofs.Stages.{reading-begins, cut-told, settles-tells}
+use Rattle.bin_stream.proofs.Stages.{begins, reading-begins, cut-told, settles-tells}
 use Rattle.bin_stream.proofs.reading.decoder.decode_with.Goals as goal
 
 pub returns-in_err-taken-in-Some-clause-refused : goal.returns-in_err-taken-in-Some-clause-refused
@@ -16,10 +16,12 @@ returns-in_err-taken-in-Some-clause-refused c =
     let bytes = c.args.bytes.now in
     let comment = c.in_ok-comment-in-Some.comment in
     let place = c.in-Some.offset in
+    let m = c.new-machine in
     let at = c.behind-at in
-    let reading = reading-begins layouts bytes place comment c.new.result (sym c.in-Some.ensures.offset) c.in_ok-comment-in-Some.ensures c.new.ensures at.result.offset at.result.bytes.now (omega (arith, at.ensures.offset, c.new-in-Some.ensures.offset)) (at.ensures.bytes ∙ ap (drop (place + 4)) c.new-in-Some.ensures.bytes) in
+    let reading = reading-begins layouts bytes place comment m.result.registers (sym c.in-Some.ensures.offset) c.in_ok-comment-in-Some.ensures m.ensures.registers at.result.offset at.result.bytes.now (omega (arith, at.ensures.offset, c.new.ensures.offset)) (at.ensures.bytes ∙ ap (drop (place + 4)) c.new.ensures.bytes) in
     let p = err_from_is_err_and c.from_residual-in_err-taken-in-Some.result c.from_residual-in_err-taken-in-Some.ensures.1 in
-    rw (p.1, p.2) (settles-tells (bin_read_of layouts bytes) c.in_err-taken-in-Some.field-0.0 (c.in_err-taken-in-Some.ensures.refused bytes comment reading))
+    rw (p.1, p.2) (begins (λ layouts. Tells (bin_read_of layouts bytes) c.in_err-taken-in-Some.field-0.0) layouts m.result.layouts bytes comment m.result.registers m.result.image at.result.offset at.result.bytes.now m.ensures.layouts m.ensures.image reading
+    (λ reading. settles-tells (bin_read_of m.result.layouts bytes) c.in_err-taken-in-Some.field-0.0 (c.in_err-taken-in-Some.ensures.refused bytes comment reading)))
 
 pub returns-then-taken-clause-image : goal.returns-then-taken-clause-image
 returns-then-taken-clause-image c =
@@ -27,11 +29,13 @@ returns-then-taken-clause-image c =
     let bytes = c.args.bytes.now in
     let comment = c.in_ok-comment-in-Some.comment in
     let place = c.in-Some.offset in
+    let m = c.new-machine in
     let at = c.behind-at in
-    let reading = reading-begins layouts bytes place comment c.new.result (sym c.in-Some.ensures.offset) c.in_ok-comment-in-Some.ensures c.new.ensures at.result.offset at.result.bytes.now (omega (arith, at.ensures.offset, c.new-in-Some.ensures.offset)) (at.ensures.bytes ∙ ap (drop (place + 4)) c.new-in-Some.ensures.bytes) in
+    let reading = reading-begins layouts bytes place comment m.result.registers (sym c.in-Some.ensures.offset) c.in_ok-comment-in-Some.ensures m.ensures.registers at.result.offset at.result.bytes.now (omega (arith, at.ensures.offset, c.new.ensures.offset)) (at.ensures.bytes ∙ ap (drop (place + 4)) c.new.ensures.bytes) in
     let machine = c.in_ok-taken-in-Some.taken.machine in
     IfOk-weaker c.image_at_end.result (λ image. (layouts : Layouts) (all : List ℕ) → IsWoken layouts all comment machine.registers machine.image → bin_read_of layouts all ≡ Ok (configuration_of image)) (λ image. bin_read_of layouts bytes ≡ Ok (configuration_of image))
-    (λ image told. told layouts bytes (c.in_ok-taken-in-Some.ensures.woken c.if-taken.true bytes comment reading))
+    (λ image told. begins (λ layouts. bin_read_of layouts bytes ≡ Ok (configuration_of image)) layouts m.result.layouts bytes comment m.result.registers m.result.image at.result.offset at.result.bytes.now m.ensures.layouts m.ensures.image reading
+    (λ reading. told m.result.layouts bytes (c.in_ok-taken-in-Some.ensures.woken c.if-taken.true bytes comment reading)))
     c.image_at_end.ensures.image
 
 pub returns-then-taken-clause-refused : goal.returns-then-taken-clause-refused
@@ -40,13 +44,15 @@ returns-then-taken-clause-refused c =
     let bytes = c.args.bytes.now in
     let comment = c.in_ok-comment-in-Some.comment in
     let place = c.in-Some.offset in
+    let m = c.new-machine in
     let at = c.behind-at in
-    let reading = reading-begins layouts bytes place comment c.new.result (sym c.in-Some.ensures.offset) c.in_ok-comment-in-Some.ensures c.new.ensures at.result.offset at.result.bytes.now (omega (arith, at.ensures.offset, c.new-in-Some.ensures.offset)) (at.ensures.bytes ∙ ap (drop (place + 4)) c.new-in-Some.ensures.bytes) in
+    let reading = reading-begins layouts bytes place comment m.result.registers (sym c.in-Some.ensures.offset) c.in_ok-comment-in-Some.ensures m.ensures.registers at.result.offset at.result.bytes.now (omega (arith, at.ensures.offset, c.new.ensures.offset)) (at.ensures.bytes ∙ ap (drop (place + 4)) c.new.ensures.bytes) in
     let machine = c.in_ok-taken-in-Some.taken.machine in
     MatchResult-weaker c.image_at_end.result {P = λ _. ⊤} {P' = λ _. ⊤} {Q = λ fault. (layouts : Layouts) (all : List ℕ) → IsWoken layouts all comment machine.registers machine.image → Settles (bin_read_of layouts all) fault} {Q' = Tells (bin_read_of layouts bytes)}
     c.image_at_end.ensures.refused
     (λ _ holds. holds)
-    (λ fault told. settles-tells (bin_read_of layouts bytes) fault (told layouts bytes (c.in_ok-taken-in-Some.ensures.woken c.if-taken.true bytes comment reading)))
+    (λ fault told. begins (λ layouts. Tells (bin_read_of layouts bytes) fault) layouts m.result.layouts bytes comment m.result.registers m.result.image at.result.offset at.result.bytes.now m.ensures.layouts m.ensures.image reading
+    (λ reading. settles-tells (bin_read_of m.result.layouts bytes) fault (told m.result.layouts bytes (c.in_ok-taken-in-Some.ensures.woken c.if-taken.true bytes comment reading))))
 
 pub returns-else-taken-clause-refused : goal.returns-else-taken-clause-refused
 returns-else-taken-clause-refused c =
@@ -54,10 +60,12 @@ returns-else-taken-clause-refused c =
     let bytes = c.args.bytes.now in
     let comment = c.in_ok-comment-in-Some.comment in
     let place = c.in-Some.offset in
+    let m = c.new-machine in
     let at = c.behind-at in
-    let reading = reading-begins layouts bytes place comment c.new.result (sym c.in-Some.ensures.offset) c.in_ok-comment-in-Some.ensures c.new.ensures at.result.offset at.result.bytes.now (omega (arith, at.ensures.offset, c.new-in-Some.ensures.offset)) (at.ensures.bytes ∙ ap (drop (place + 4)) c.new-in-Some.ensures.bytes) in
+    let reading = reading-begins layouts bytes place comment m.result.registers (sym c.in-Some.ensures.offset) c.in_ok-comment-in-Some.ensures m.ensures.registers at.result.offset at.result.bytes.now (omega (arith, at.ensures.offset, c.new.ensures.offset)) (at.ensures.bytes ∙ ap (drop (place + 4)) c.new.ensures.bytes) in
     let taken = c.in_ok-taken-in-Some.taken in
-    cut-told layouts bytes comment taken.machine.registers taken.machine.image (at.result.offset + taken.end) (drop taken.end at.result.bytes.now) _ c.fault_at.result (c.in_ok-taken-in-Some.ensures.cut c.if-taken.false bytes comment reading) refl c.fault_at.ensures
+    begins (λ layouts. Tells (bin_read_of layouts bytes) c.fault_at.result) layouts m.result.layouts bytes comment m.result.registers m.result.image at.result.offset at.result.bytes.now m.ensures.layouts m.ensures.image reading
+    (λ reading. cut-told m.result.layouts bytes comment taken.machine.registers taken.machine.image (at.result.offset + taken.end) (drop taken.end at.result.bytes.now) _ c.fault_at.result (c.in_ok-taken-in-Some.ensures.cut c.if-taken.false bytes comment reading) refl c.fault_at.ensures)
 
 pub returns-in-None-clause-refused : goal.returns-in-None-clause-refused
 returns-in-None-clause-refused c =

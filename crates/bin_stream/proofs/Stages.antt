@@ -13,7 +13,7 @@ use Rattle.bin_stream.specs.Front.{preamble, preamble_offset, comment_of}
 use Rattle.bin_stream.specs.Spelling.{Spells, FailsAt, IsRefused, first_command, commands_from, image_of, bin_read_of, IsDecided, Tells}
 use Rattle.bin_stream.specs.Settled.{is_unfinished, Settles, IsOpen}
 use Rattle.bin_stream.specs.Decoding.{StandsFor}
-use Rattle.bin_stream.specs.declared.reading.pieces.Decoder.{Decoder}
+use Rattle.bin_stream.specs.declared.reading.decoder.Decoder.{Decoder}
 use Rattle.bin_stream.specs.inside.Registers.{Held, held_first}
 use Rattle.bin_stream.specs.inside.Step.{Refuses, IsEntered, HasRead, Stands}
 use Rattle.bin_stream.specs.inside.Stages.{is_cut, KeepsPlain, IsReading, IsCut, IsWoken, IsStage, fault_in}

@@ -8,7 +8,7 @@ use Rattle.bin_stream.specs.Spelling.{bin_read_of, Tells}
 use Rattle.bin_stream.specs.inside.Stages.{IsWoken}
 use Rattle.bin_stream.proofs.ReadSoFar.{read_nowhere}
 use Rattle.bin_stream.proofs.Stages.{begins, reading-begins, cut-told, settles-tells}
-use Rattle.bin_stream.proofs.reading.decoder.decode_with.Goals as goal
+use Rattle.bin_stream.proofs.reading.whole.decode_with.Goals as goal
 
 pub returns-in_err-taken-in-Some-clause-refused : goal.returns-in_err-taken-in-Some-clause-refused
 returns-in_err-taken-in-Some-clause-refused c =

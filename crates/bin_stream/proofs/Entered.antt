@@ -11,7 +11,7 @@ use Rattle.bin_stream.specs.Commands.{Command, Short, Data, number_of, spelling,
 use Rattle.bin_stream.specs.State.{size_after}
 use Rattle.bin_stream.specs.Refusals.{Fault, cause_if, fault_at, head_fault, first_fault, payload_fault, fault_where, body_fault, data_cause, data_fault, data_kind}
 use Rattle.bin_stream.specs.Spelling.{first_command, command_of}
-use Rattle.bin_stream.specs.inside.Heads.{head_of, payload_in, head_size, opcode_in, number_in, IsOf, Shows}
+use Rattle.bin_stream.specs.inside.Heads.{first_byte, payload_in, head_size, opcode_in, number_in, IsOf, Shows}
 use Rattle.bin_stream.specs.declared.reading.command.Command.{Command as Parsed}
 use Rattle.bin_stream.specs.declared.reading.command.Command.TheVariants.{Data as ParsedData, Short as ParsedShort}
 use Rattle.bin_stream.specs.declared.reading.command.ShortCommand.{ShortCommand}
@@ -57,18 +57,18 @@ short-no_data (Offset number) = refl
 short-no_data (Mode number) = refl
 
 -- what was read by an opcode and a number is the first command
-pub shows-first : (commands : List Command) (place : ℕ) (bytes : List ℕ) (parsed : Parsed) → head_fault place bytes ≡ None → IsOf (head_of bytes / 16) (number_of (payload_in bytes)) parsed → Shows (first_command commands bytes) parsed
+pub shows-first : (commands : List Command) (place : ℕ) (bytes : List ℕ) (parsed : Parsed) → head_fault place bytes ≡ None → IsOf (first_byte bytes / 16) (number_of (payload_in bytes)) parsed → Shows (first_command commands bytes) parsed
 shows-first commands place bytes (ParsedData kind) fine is =
-    let command_is = read_command commands place bytes fine ∙ ap (λ kind. command_of commands (head_of bytes / 16) (payload_in bytes) kind (behind_payload bytes)) is in
+    let command_is = read_command commands place bytes fine ∙ ap (λ kind. command_of commands (first_byte bytes / 16) (payload_in bytes) kind (behind_payload bytes)) is in
     subst (λ (command : Command). Shows command (ParsedData kind)) (sym command_is) refl
 shows-first commands place bytes (ParsedShort short) fine is =
-    let no_data : data_kind (head_of bytes / 16) (number_of (payload_in bytes)) ≡ None = ap₂ data_kind is.0 is.1 ∙ short-no_data short in
-    let command_is = read_command commands place bytes fine ∙ ap (λ kind. command_of commands (head_of bytes / 16) (payload_in bytes) kind (behind_payload bytes)) no_data in
+    let no_data : data_kind (first_byte bytes / 16) (number_of (payload_in bytes)) ≡ None = ap₂ data_kind is.0 is.1 ∙ short-no_data short in
+    let command_is = read_command commands place bytes fine ∙ ap (λ kind. command_of commands (first_byte bytes / 16) (payload_in bytes) kind (behind_payload bytes)) no_data in
     subst (λ (command : Command). Shows command (ParsedShort short)) (sym command_is) is
 
 module _ (layouts : Layouts) (commands : List Command) (place size : ℕ) (bytes : List ℕ) (held : Held) (image : Option AnyImage) (fine : head_fault place bytes ≡ None) (size_is : size ≡ head_size bytes) (stands : Stands layouts commands held image) where
   abbrev opcode : ℕ
-  opcode = head_of bytes / 16
+  opcode = first_byte bytes / 16
 
   abbrev payload : List ℕ
   payload = payload_in bytes
@@ -126,7 +126,7 @@ module _ (layouts : Layouts) (commands : List Command) (place size : ℕ) (bytes
   module _ (kind : PlaneKind) (is_data : data_kind opcode number ≡ Some kind) where
     behind : behind_payload bytes ≡ drop size bytes
     behind =
-        let count : head_of bytes % 16 ≡ length payload = sym (length-payload place bytes fine) in
+        let count : first_byte bytes % 16 ≡ length payload = sym (length-payload place bytes fine) in
         ap (λ count. drop count (drop 1 bytes)) count ∙ drop-drop (length payload) 1 bytes ∙ ap (λ n. drop n bytes) (omega (arith, size_is))
 
     size_is_after : held.width * held.height / 8 ≡ size_after commands
@@ -164,10 +164,10 @@ module _ (layouts : Layouts) (commands : List Command) (place size : ℕ) (bytes
       whole : bytes ≡ spelling command ++ drop 2 (drop (size_after commands) (behind_payload bytes))
       whole =
           let more = drop 2 (drop (size_after commands) (behind_payload bytes)) in
-          let no_opcode : head_of bytes / 16 ≡ 0 = (kind-from opcode number kind is_data).0 in
-          let head : head_of bytes ≡ length payload = omega (arith, length-payload place bytes fine) in
+          let no_opcode : first_byte bytes / 16 ≡ 0 = (kind-from opcode number kind is_data).0 in
+          let head : first_byte bytes ≡ length payload = omega (arith, length-payload place bytes fine) in
           let back : behind_payload bytes ≡ body ++ (0 ∷ 0 ∷ more) = sym (take-append-drop (size_after commands) (behind_payload bytes)) ∙ ap (λ rest. body ++ rest) ended.1 in
-          let rest : drop 1 bytes ≡ payload ++ (body ++ (0 ∷ 0 ∷ more)) = sym (take-append-drop (head_of bytes % 16) (drop 1 bytes)) ∙ ap (λ rest. payload ++ rest) back in
+          let rest : drop 1 bytes ≡ payload ++ (body ++ (0 ∷ 0 ∷ more)) = sym (take-append-drop (first_byte bytes % 16) (drop 1 bytes)) ∙ ap (λ rest. payload ++ rest) back in
           (with_payload place bytes fine).0
           ∙ ap₂ (λ head rest. head ∷ rest) head (rest ∙ sym (append_assoc payload body (0 ∷ 0 ∷ more)) ∙ sym (append_assoc (payload ++ body) (0 ∷ 0 ∷ []) more))
 

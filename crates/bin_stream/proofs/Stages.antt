@@ -13,7 +13,7 @@ use Rattle.bin_stream.specs.Front.{preamble, preamble_offset, comment_of}
 use Rattle.bin_stream.specs.Spelling.{Spells, FailsAt, IsRefused, first_command, commands_from, image_of, bin_read_of, IsDecided, Tells}
 use Rattle.bin_stream.specs.Settled.{is_unfinished, Settles, IsOpen}
 use Rattle.bin_stream.specs.Decoding.{StandsFor}
-use Rattle.bin_stream.specs.declared.reading.pieces.Decoder.{Decoder}
+use Rattle.bin_stream.specs.declared.reading.decoder.Decoder.{Decoder}
 use Rattle.bin_stream.specs.inside.Registers.{Held, held_first}
 use Rattle.bin_stream.specs.inside.Step.{Refuses, IsEntered, HasRead, Stands}
 use Rattle.bin_stream.specs.inside.Stages.{is_cut, KeepsPlain, IsReading, IsCut, IsWoken, IsStage, fault_in}
@@ -351,9 +351,9 @@ pending-grown layouts bytes piece comment held image fed pending reading offset 
     (reading-grown layouts bytes comment held image (fed - length pending) pending reading piece)
 
 -- what follows where nothing was taken yet
-pub begins-stage : (layouts other : Layouts) (all : List ℕ) (comment : Option (List (List ℕ))) (held : Held) (image : Option AnyImage) (offset : ℕ) (rest : List ℕ) (stage : Stage) → other ≡ layouts → image ≡ None → IsReading layouts all comment held None offset rest → (IsReading other all comment held image offset rest → IsStage other all stage) → IsStage layouts all stage
-begins-stage layouts other all comment held image offset rest stage same none reading told =
-    subst (λ (l : Layouts). IsStage l all stage) same
+pub begins : (P : Layouts → Type 0) (layouts other : Layouts) (all : List ℕ) (comment : Option (List (List ℕ))) (held : Held) (image : Option AnyImage) (offset : ℕ) (rest : List ℕ) → other ≡ layouts → image ≡ None → IsReading layouts all comment held None offset rest → (IsReading other all comment held image offset rest → P other) → P layouts
+begins P layouts other all comment held image offset rest same none reading told =
+    subst P same
     (told (subst (λ (l : Layouts). IsReading l all comment held image offset rest) (sym same)
     (subst (λ (image : Option AnyImage). IsReading layouts all comment held image offset rest) (sym none) reading)))
 

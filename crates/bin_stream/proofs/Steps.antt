@@ -13,7 +13,7 @@ use Rattle.bin_stream.specs.Commands.{Command, Short, Data, number_of, spelling,
 use Rattle.bin_stream.specs.State.{last_of, width_after, covered}
 use Rattle.bin_stream.specs.Refusals.{fault_at, head_fault, first_fault, payload_fault, short_cause, short_cause_where, data_kind, reached_in}
 use Rattle.bin_stream.specs.Spelling.{first_command, command_of}
-use Rattle.bin_stream.specs.inside.Heads.{head_of, payload_in}
+use Rattle.bin_stream.specs.inside.Heads.{first_byte, payload_in}
 use Rattle.bin_stream.specs.inside.Registers.{Held, held_after, held_first, short_cause_by, checked, after_short, gives_last_by, after_data}
 use Rattle.bin_stream.specs.declared.fault.BinCause.TheVariants.{Truncated, LongPayload}
 use Rattle.bin_stream.proofs.Powers.{check_value-nil, check_value-append}
@@ -23,10 +23,10 @@ use Rattle.bin_stream.proofs.OneMore.{last_of-more, width_after-more, covered-mo
 
 -- the bytes behind the payload
 abbrev pub behind_payload : List ℕ → List ℕ
-behind_payload bytes = drop (head_of bytes % 16) (drop 1 bytes)
+behind_payload bytes = drop (first_byte bytes % 16) (drop 1 bytes)
 
 -- bytes with a payload have a first byte and so many more
-pub with_payload : (place : ℕ) (bytes : List ℕ) → head_fault place bytes ≡ None → (bytes ≡ head_of bytes ∷ drop 1 bytes) × (nat_lt 4 (head_of bytes % 16) ≡ false) × (nat_lt (length (drop 1 bytes)) (head_of bytes % 16) ≡ false)
+pub with_payload : (place : ℕ) (bytes : List ℕ) → head_fault place bytes ≡ None → (bytes ≡ first_byte bytes ∷ drop 1 bytes) × (nat_lt 4 (first_byte bytes % 16) ≡ false) × (nat_lt (length (drop 1 bytes)) (first_byte bytes % 16) ≡ false)
 with_payload place [] none = absurd cc
 with_payload place (head ∷ rest) none =
     elim (cases_Bool (nat_lt 4 (head % 16))) [
@@ -42,28 +42,28 @@ with_payload place (head ∷ rest) none =
     ]
 
 -- what is wrong with its command is told behind the payload
-pub read_fault : (commands : List Command) (place : ℕ) (bytes : List ℕ) → head_fault place bytes ≡ None → first_fault commands place bytes ≡ payload_fault commands place (head_of bytes / 16) (payload_in bytes) (data_kind (head_of bytes / 16) (number_of (payload_in bytes))) (behind_payload bytes)
+pub read_fault : (commands : List Command) (place : ℕ) (bytes : List ℕ) → head_fault place bytes ≡ None → first_fault commands place bytes ≡ payload_fault commands place (first_byte bytes / 16) (payload_in bytes) (data_kind (first_byte bytes / 16) (number_of (payload_in bytes))) (behind_payload bytes)
 read_fault commands place [] none = absurd cc
 read_fault commands place (head ∷ rest) none =
     let parts = with_payload place (head ∷ rest) none in
     rw (parts.1, parts.2) refl
 
-pub read_command : (commands : List Command) (place : ℕ) (bytes : List ℕ) → head_fault place bytes ≡ None → first_command commands bytes ≡ command_of commands (head_of bytes / 16) (payload_in bytes) (data_kind (head_of bytes / 16) (number_of (payload_in bytes))) (behind_payload bytes)
+pub read_command : (commands : List Command) (place : ℕ) (bytes : List ℕ) → head_fault place bytes ≡ None → first_command commands bytes ≡ command_of commands (first_byte bytes / 16) (payload_in bytes) (data_kind (first_byte bytes / 16) (number_of (payload_in bytes))) (behind_payload bytes)
 read_command commands place [] none = absurd cc
 read_command commands place (head ∷ rest) none = refl
 
-pub length-payload : (place : ℕ) (bytes : List ℕ) → head_fault place bytes ≡ None → length (payload_in bytes) ≡ head_of bytes % 16
+pub length-payload : (place : ℕ) (bytes : List ℕ) → head_fault place bytes ≡ None → length (payload_in bytes) ≡ first_byte bytes % 16
 length-payload place bytes none =
     let parts = with_payload place bytes none in
-    length-take-le (head_of bytes % 16) (drop 1 bytes) (ltb-false (length (drop 1 bytes)) (head_of bytes % 16) parts.2)
+    length-take-le (first_byte bytes % 16) (drop 1 bytes) (ltb-false (length (drop 1 bytes)) (first_byte bytes % 16) parts.2)
 
 -- the bytes up to the end of the payload
-pub spelled_short : (place : ℕ) (bytes : List ℕ) → head_fault place bytes ≡ None → take (1 + length (payload_in bytes)) bytes ≡ spelling (Short (head_of bytes / 16) (payload_in bytes))
+pub spelled_short : (place : ℕ) (bytes : List ℕ) → head_fault place bytes ≡ None → take (1 + length (payload_in bytes)) bytes ≡ spelling (Short (first_byte bytes / 16) (payload_in bytes))
 spelled_short place bytes none =
     let parts = with_payload place bytes none in
     let long = length-payload place bytes none in
-    let head : 16 * (head_of bytes / 16) + length (payload_in bytes) ≡ head_of bytes = omega arith in
-    let e : 1 + length (payload_in bytes) ≡ suc (head_of bytes % 16) = omega arith in
+    let head : 16 * (first_byte bytes / 16) + length (payload_in bytes) ≡ first_byte bytes = omega arith in
+    let e : 1 + length (payload_in bytes) ≡ suc (first_byte bytes % 16) = omega arith in
     ap (take (1 + length (payload_in bytes))) parts.0 ∙ rw (e, head) refl
 
 -- ---- the check value

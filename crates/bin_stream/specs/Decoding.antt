@@ -4,7 +4,7 @@ use Rattle.std.specs.Prelude.{◌≡◌, ℕ, List, length, Option}
 use Rattle.layout_file.specs.declared.layouts.Layouts.{Layouts}
 use Rattle.bin_stream.specs.inside.Stages.{IsStage, fault_in}
 use Rattle.bin_stream.specs.declared.fault.BinFault.{BinFault}
-use Rattle.bin_stream.specs.declared.reading.pieces.Decoder.{Decoder}
+use Rattle.bin_stream.specs.declared.reading.decoder.Decoder.{Decoder}
 
 -- how many bytes were fed to a decoder
 abbrev pub fed_to : Decoder → ℕ

@@ -6,10 +6,10 @@ mod edge;
 mod front;
 mod head;
 mod machine;
-mod pieces;
 mod registers;
 mod stage;
 mod taking;
+mod whole;
 
-pub use decoder::{decode, decode_with};
-pub use pieces::Decoder;
+pub use decoder::Decoder;
+pub use whole::{decode, decode_with};

@@ -11,12 +11,12 @@ use Rattle.bin_stream.specs.declared.reading.command.ShortCommand.TheVariants.{R
 -- ---- in bytes
 
 -- the first byte
-abbrev pub head_of : List ℕ → ℕ
-head_of bytes = get_or bytes 0 0
+abbrev pub first_byte : List ℕ → ℕ
+first_byte bytes = get_or bytes 0 0
 
 -- the payload
 abbrev pub payload_in : List ℕ → List ℕ
-payload_in bytes = take (head_of bytes % 16) (drop 1 bytes)
+payload_in bytes = take (first_byte bytes % 16) (drop 1 bytes)
 
 -- how many bytes the head has
 abbrev pub head_size : List ℕ → ℕ
@@ -24,31 +24,24 @@ head_size bytes = 1 + length (payload_in bytes)
 
 -- ---- as a command
 
--- the opcode of a command that isn't data
-abbrev pub opcode_in : ShortCommand → ℕ
-opcode_in Reset = control_opcode
-opcode_in WakeUp = control_opcode
-opcode_in (Bank number) = bank_opcode
-opcode_in (Check number) = check_opcode
-opcode_in (BootAddress number) = boot_address_opcode
-opcode_in (Range number) = range_opcode
-opcode_in (Width number) = width_opcode
-opcode_in (Height number) = height_opcode
-opcode_in (Offset number) = offset_opcode
-opcode_in (Mode number) = mode_opcode
+-- the opcode of a command that isn't data, and the number of its payload
+abbrev pub numbers_in : ShortCommand → ℕ × ℕ
+numbers_in Reset = (control_opcode, reset_number)
+numbers_in WakeUp = (control_opcode, wake_up_number)
+numbers_in (Bank number) = (bank_opcode, number)
+numbers_in (Check number) = (check_opcode, number)
+numbers_in (BootAddress number) = (boot_address_opcode, number)
+numbers_in (Range number) = (range_opcode, number)
+numbers_in (Width number) = (width_opcode, number)
+numbers_in (Height number) = (height_opcode, number)
+numbers_in (Offset number) = (offset_opcode, number)
+numbers_in (Mode number) = (mode_opcode, number)
 
--- the number of its payload
+abbrev pub opcode_in : ShortCommand → ℕ
+opcode_in command = (numbers_in command).0
+
 abbrev pub number_in : ShortCommand → ℕ
-number_in Reset = reset_number
-number_in WakeUp = wake_up_number
-number_in (Bank number) = number
-number_in (Check number) = number
-number_in (BootAddress number) = number
-number_in (Range number) = number
-number_in (Width number) = number
-number_in (Height number) = number
-number_in (Offset number) = number
-number_in (Mode number) = number
+number_in command = (numbers_in command).1
 
 -- A command that was read is that of an opcode and of a payload with a number.
 abbrev pub IsOf : ℕ → ℕ → Parsed → Type 0

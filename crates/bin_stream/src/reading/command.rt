@@ -16,28 +16,18 @@ pub(crate) enum Command {
     Short(ShortCommand),
 }
 
-/// A command without rows, with the number that its payload is.
+/// A command without rows, with the number that its payload is. `Control` says what the first two are for, and `Opcode` the others.
 #[derive(Clone, Copy)]
 pub(crate) enum ShortCommand {
-    /// The CRC begins anew.
     Reset,
-    /// The configuration ends.
     WakeUp,
-    /// The bank of the data that follow.
     Bank(u32),
-    /// Behind it the CRC has to be 0. The number is what makes it so.
     Check(u32),
-    /// Where the device looks for the next image. It is passed over.
     BootAddress(u32),
-    /// The range of the oscillator.
     Range(u32),
-    /// The width of the data that follow in bits, less one.
     Width(u32),
-    /// How many rows the data that follow have.
     Height(u32),
-    /// The row at which the data that follow begin.
     Offset(u32),
-    /// Warm boot and sleep.
     Mode(u32),
 }
 

@@ -1,53 +1,105 @@
-// Reading a bitstream.
-ghost use Rattle.std.specs.Prelude.{◌≡◌, Ok, IfOk, IfErr};
-ghost use Rattle.layout_file.specs.Layouts.{standard_layouts, AreLayouts};
-ghost use Rattle.ice_image.specs.Either.{configuration_of};
-ghost use Rattle.bin_stream.specs.Spelling.{IsDecided, bin_read_of, Tells};
+// Reading a bitstream that comes in pieces.
+ghost use Rattle.std.specs.Prelude.{◌≡◌, ◌≤◌};
+ghost use Rattle.layout_file.specs.Layouts.{AreLayouts};
+ghost use Rattle.bin_stream.specs.inside.Stages.{length_kept};
 
-use super::front::{comment_of, preamble_offset};
-use super::head::{Cursor, fault_at};
-use super::machine::Machine;
-use super::registers::Registers;
-use super::taking::{image_at_end, take_commands};
+use super::head::fault_at;
+use super::stage::Stage;
 use crate::fault::{BinCause, BinFault};
-use crate::marks::PREAMBLE;
 use ice_image::AnyImage;
 use layout_file::Layouts;
 use std::alloc::Global;
+use std::mem;
 
-/// The image that a bitstream spells under the standard layouts, or its first fault.
-pub fn decode(alloc: Global, bytes: &[u8]) -> Result<AnyImage, BinFault>
-    ensures decided { IsDecided standard_layouts bytes.now }
-    ensures image { IfOk result (λ image. bin_read_of standard_layouts bytes.now ≡ Ok (configuration_of image)) }
-    ensures refused { IfErr result (Tells (bin_read_of standard_layouts bytes.now)) }
-{
-    decode_with(alloc, bytes, Layouts::standard())
+/// A reader of a bitstream that comes in pieces.
+///
+/// It keeps a front only where a comment may be in it, the image so far, and the bytes of a command that isn't whole.
+#[derive(Drop)]
+pub struct Decoder {
+    alloc: Global,
+    layouts: Layouts,
+    /// How many bytes were fed.
+    fed: usize,
+    stage: Stage,
+    ghost laid: { AreLayouts layouts },
+    ghost room: { length_kept stage ≤ fed },
 }
 
-/// The image that a bitstream spells under the layouts, or its first fault.
-#[tactic(auto, using(crate::proofs::Decided::decided))]
-pub fn decode_with(alloc: Global, bytes: &[u8], layouts: Layouts) -> Result<AnyImage, BinFault>
-    requires { AreLayouts layouts }
-    ensures decided { IsDecided layouts bytes.now }
-    ensures image { IfOk result (λ image. bin_read_of layouts bytes.now ≡ Ok (configuration_of image)) }
-    ensures refused { IfErr result (Tells (bin_read_of layouts bytes.now)) }
-{
-    match preamble_offset(bytes) {
-        Some(offset) => {
-            let comment = comment_of(alloc, &bytes[..offset])?;
-            let machine = Machine {
-                layouts,
-                registers: Registers::new(),
-                image: None,
-            };
-            let at = Cursor::new(bytes).behind(offset + PREAMBLE.len());
-            let taken = take_commands(alloc, machine, at)?;
-            if taken.is_last {
-                image_at_end(taken.machine, comment, bytes.len())
-            } else {
-                Err(fault_at(bytes.len(), BinCause::Truncated))
-            }
+impl Decoder {
+    ghost use Rattle.std.specs.Prelude.{List, ℕ, [], Ok, Err, Some, None, ◌++◌, ◌+◌, ◌<◌, ◌^◌, IfOk, IfErr, length};
+    ghost use Rattle.layout_file.specs.Layouts.{standard_layouts};
+    ghost use Rattle.ice_image.specs.Either.{configuration_of};
+    ghost use Rattle.bin_stream.specs.Spelling.{IsDecided, bin_read_of, Tells};
+    ghost use Rattle.bin_stream.specs.Settled.{Settles, IsOpen};
+    ghost use Rattle.bin_stream.specs.Decoding.{fed_to, refusal_of, StandsFor};
+    ghost use Rattle.bin_stream.specs.declared.fault.BinFault.{BinFault as Fault};
+
+    /// A decoder of images under the standard layouts, to which nothing was fed. It takes no memory.
+    pub fn new(alloc: Global) -> Decoder
+        ensures stands { StandsFor standard_layouts [] result }
+        ensures fed { fed_to result ≡ 0 }
+        ensures fresh { refusal_of result ≡ None }
+    {
+        Decoder::with(alloc, Layouts::standard())
+    }
+
+    /// A decoder of images under the layouts, to which nothing was fed. It takes no memory.
+    pub fn with(alloc: Global, layouts: Layouts) -> Decoder
+        requires { AreLayouts layouts }
+        ensures stands { StandsFor layouts [] result }
+        ensures fed { fed_to result ≡ 0 }
+        ensures fresh { refusal_of result ≡ None }
+    {
+        Decoder {
+            alloc,
+            layouts,
+            fed: 0,
+            stage: Stage::Front {
+                kept: Vec::new(alloc),
+            },
         }
-        None => Err(fault_at(bytes.len(), BinCause::NoPreamble)),
+    }
+
+    /// Takes the next bytes. It refuses where what was fed has a fault other than that it ended early (`NoPreamble` or
+    /// `Truncated`). That fault stays, whatever follows, and each later call answers it again. The same holds after it
+    /// ran out of memory.
+    pub fn feed(&mut self, piece: &[u8]) -> Result<(), BinFault>
+        requires { fed_to self.old + length piece.now < 2 ^ 32 }
+        ensures fed { fed_to self.new ≡ fed_to self.old + length piece.now }
+        ensures decided { (layouts : Layouts) (bytes : List ℕ) → StandsFor layouts bytes self.old → IsDecided layouts (bytes ++ piece.now) }
+        ensures stands { (layouts : Layouts) (bytes : List ℕ) → StandsFor layouts bytes self.old → StandsFor layouts (bytes ++ piece.now) self.new }
+        ensures goes_on { IfOk result (λ _. (layouts : Layouts) (bytes : List ℕ) → StandsFor layouts bytes self.old → IsOpen (bin_read_of layouts (bytes ++ piece.now))) }
+        ensures refused { IfErr result (λ fault. (layouts : Layouts) (bytes : List ℕ) → StandsFor layouts bytes self.old → Settles (bin_read_of layouts (bytes ++ piece.now)) fault) }
+        ensures stays { IfErr result (λ fault. (layouts : Layouts) (bytes more : List ℕ) → StandsFor layouts bytes self.old → Tells (bin_read_of layouts (bytes ++ piece.now ++ more)) fault) }
+        ensures clear { IfOk result (λ _. refusal_of self.new ≡ None) }
+        ensures kept { IfErr result (λ fault. refusal_of self.new ≡ Some fault) }
+        ensures again { (fault : Fault) → refusal_of self.old ≡ Some fault → result ≡ Err fault }
+    {
+        let stage = mem::replace(
+            &mut self.stage,
+            Stage::Refused(fault_at(0, BinCause::Truncated)),
+        );
+        let stage = stage.after(self.alloc, self.layouts, self.fed, piece);
+        let answer = stage.answer();
+        self.fed += piece.len();
+        self.stage = stage;
+        answer
+    }
+
+    /// The image that what was fed spells, or its first fault.
+    pub fn finish(self) -> Result<AnyImage, BinFault>
+        ensures decided { (layouts : Layouts) (bytes : List ℕ) → StandsFor layouts bytes self → IsDecided layouts bytes }
+        ensures image { IfOk result (λ image. (layouts : Layouts) (bytes : List ℕ) → StandsFor layouts bytes self → bin_read_of layouts bytes ≡ Ok (configuration_of image)) }
+        ensures refused { IfErr result (λ fault. (layouts : Layouts) (bytes : List ℕ) → StandsFor layouts bytes self → Tells (bin_read_of layouts bytes) fault) }
+        ensures again { (fault : Fault) → refusal_of self ≡ Some fault → result ≡ Err fault }
+    {
+        let Decoder { fed, stage, .. } = self;
+        match stage {
+            Stage::Front { .. } => Err(fault_at(fed, BinCause::NoPreamble)),
+            Stage::Plain { .. } => Err(fault_at(fed, BinCause::NoPreamble)),
+            Stage::Commands { .. } => Err(fault_at(fed, BinCause::Truncated)),
+            Stage::Image(image) => Ok(image),
+            Stage::Refused(fault) => Err(fault),
+        }
     }
 }

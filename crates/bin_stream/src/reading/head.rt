@@ -2,7 +2,7 @@
 ghost use Rattle.std.specs.Prelude.{◌≡◌, ◌+◌, ◌/◌, ◌%◌, ◌<◌, ◌≤◌, ◌^◌, None, IfOk, IfErr, length, take, drop};
 ghost use Rattle.bin_stream.specs.Commands.{number_of};
 ghost use Rattle.bin_stream.specs.Refusals.{head_fault, body_fault, end_fault};
-ghost use Rattle.bin_stream.specs.inside.Heads.{head_of, payload_in, head_size, IsOf};
+ghost use Rattle.bin_stream.specs.inside.Heads.{first_byte, payload_in, head_size, IsOf};
 ghost use Rattle.bin_stream.specs.inside.Step.{fault_of, Refuses, ShowsFirst, FailsAnyhow};
 ghost use Rattle.bin_stream.specs.declared.fault.BinCause.TheVariants.{Truncated};
 
@@ -74,7 +74,7 @@ impl<'a> Cursor<'a> {
         ensures size { IfOk result (λ head. head.size ≡ head_size self.entry.bytes.now) }
         ensures within { IfOk result (λ head. head.size ≤ length self.entry.bytes.now) }
         ensures first { IfOk result (λ head. ShowsFirst self.entry head.command) }
-        ensures says { IfOk result (λ head. IsOf (head_of self.entry.bytes.now / 16) (number_of (payload_in self.entry.bytes.now)) head.command) }
+        ensures says { IfOk result (λ head. IsOf (first_byte self.entry.bytes.now / 16) (number_of (payload_in self.entry.bytes.now)) head.command) }
         ensures allowed { IfOk result (λ head. head_fault self.entry.offset self.entry.bytes.now ≡ None) }
         ensures refused { IfErr result (FailsAnyhow self.entry) }
     {
@@ -93,7 +93,7 @@ impl<'a> Cursor<'a> {
         requires { self.offset + length self.bytes.now < 2 ^ 64 }
         ensures payload { IfOk result (λ payload. payload.now ≡ payload_in self.entry.bytes.now) }
         ensures within { IfOk result (λ payload. length payload.now < length self.entry.bytes.now) }
-        ensures long { IfOk result (λ payload. length payload.now ≡ head_of self.entry.bytes.now % 16) }
+        ensures long { IfOk result (λ payload. length payload.now ≡ first_byte self.entry.bytes.now % 16) }
         ensures allowed { IfOk result (λ payload. head_fault self.entry.offset self.entry.bytes.now ≡ None) }
         ensures refused { IfErr result (Refuses (head_fault self.entry.offset self.entry.bytes.now)) }
     {

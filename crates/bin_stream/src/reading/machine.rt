@@ -3,7 +3,7 @@ ghost use Rattle.std.specs.Prelude.{◌≡◌, ◌+◌, ◌*◌, ◌/◌, ◌<�
 ghost use Rattle.layout_file.specs.Layouts.{AreLayouts};
 ghost use Rattle.ice_image.specs.Either.{configuration_of};
 ghost use Rattle.bin_stream.specs.Refusals.{device_where};
-ghost use Rattle.bin_stream.specs.inside.Registers.{Fits, size_by, after_data};
+ghost use Rattle.bin_stream.specs.inside.Registers.{held_first, Fits, size_by, after_data};
 ghost use Rattle.bin_stream.specs.inside.Step.{Refuses, data_fault_at, device_if, image_or_blank, IsDrawnOn, FailsFirst, EntersFirst};
 ghost use Rattle.bin_stream.specs.inside.Stages.{is_cut};
 
@@ -35,6 +35,19 @@ pub(crate) struct Machine {
 }
 
 impl Machine {
+    /// What holds before the first command.
+    pub(crate) fn new(layouts: Layouts) -> Machine
+        ensures layouts { result.layouts ≡ layouts }
+        ensures registers { result.registers ≡ held_first }
+        ensures image { result.image ≡ None }
+    {
+        Machine {
+            layouts,
+            registers: Registers::new(),
+            image: None,
+        }
+    }
+
     /// Takes the first command of these bytes.
     pub(crate) fn enter_command(&mut self, alloc: Global, at: Cursor) -> Result<Entered, BinFault>
         requires offset { at.offset + length at.bytes.now < 2 ^ 64 }

@@ -21,8 +21,11 @@ const LAST_BANK: u32 = 3;
 /// The number of the high range, the last one.
 const HIGH_RANGE: u32 = 2;
 
+/// What warm boot adds to a mode.
+const WARM_BOOT: u32 = 32;
+
 /// The mode that holds where no command sets one: warm boot, and sleep.
-const FIRST_MODE: u32 = 32;
+const FIRST_MODE: u32 = WARM_BOOT;
 
 /// The numbers that commands gave, the CRC's register, and whether data reached the last row of a configuration plane.
 #[derive(Drop)]
@@ -101,7 +104,7 @@ impl Registers {
     {
         Settings {
             range: range_of(self.range),
-            warm_boot: self.mode / 32 % 2 == 1,
+            warm_boot: self.mode / WARM_BOOT % 2 == 1,
             no_sleep: self.mode % 2 == 1,
         }
     }

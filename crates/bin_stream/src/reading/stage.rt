@@ -2,7 +2,6 @@
 ghost use Rattle.std.specs.Prelude.{List, ℕ, ◌≡◌, ◌+◌, ◌-◌, ◌<◌, ◌≤◌, ◌^◌, ◌++◌, ◌∷◌, [], Option, None, Some, Err, true, false, ◌↔◌, IsTrue, IfOk, IfErr, length, drop};
 ghost use Rattle.layout_file.specs.Layouts.{AreLayouts};
 ghost use Rattle.bin_stream.specs.Front.{preamble_offset};
-ghost use Rattle.bin_stream.specs.inside.Registers.{held_first};
 ghost use Rattle.bin_stream.specs.inside.Stages.{begins_comment, IsPlain, KeepsFront, KeepsPlain, IsReading, ReadsAt, IsCut, IsWoken, length_kept, IsStage, stage_of, fault_in};
 ghost use Rattle.bin_stream.specs.declared.fault.BinFault.{BinFault as Fault};
 
@@ -183,7 +182,7 @@ fn begun_stage(
 {
     let comment = comment_of(alloc, &bytes[..place])?;
     let at = Cursor::new(bytes).behind(place + PREAMBLE.len());
-    commands_after(alloc, first_machine(layouts), comment, at)
+    commands_after(alloc, Machine::new(layouts), comment, at)
 }
 
 /// The stage behind a piece where the bytes before it have no preamble and no comment, and end with three bytes.
@@ -205,24 +204,11 @@ fn plain_after(
                 offset: fed,
                 bytes: piece,
             };
-            commands_after(alloc, first_machine(layouts), None, at.behind(start))
+            commands_after(alloc, Machine::new(layouts), None, at.behind(start))
         }
         None => Ok(Stage::Plain {
             last: last_behind(last, piece),
         }),
-    }
-}
-
-/// What holds before the first command.
-fn first_machine(layouts: Layouts) -> Machine
-    ensures layouts { result.layouts ≡ layouts }
-    ensures registers { result.registers ≡ held_first }
-    ensures image { result.image ≡ None }
-{
-    Machine {
-        layouts,
-        registers: Registers::new(),
-        image: None,
     }
 }
 

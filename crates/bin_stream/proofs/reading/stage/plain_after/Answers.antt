@@ -1,8 +1,8 @@
 use Rattle.std.proofs.Common.{◌+◌, ◌++◌, length, drop, refl, arith}
 use Rattle.std.specs.Prelude.{None}
-use Rattle.bin_stream.specs.inside.Stages.{stage_of}
+use Rattle.bin_stream.specs.inside.Stages.{stage_of, IsStage}
 use Rattle.bin_stream.proofs.FrontGrown.{plain-goes_on}
-use Rattle.bin_stream.proofs.Stages.{reading-at, plain-ends, begins-stage}
+use Rattle.bin_stream.proofs.Stages.{reading-at, plain-ends, begins}
 use Rattle.bin_stream.proofs.reading.stage.plain_after.Goals as goal
 
 pub returns-in-Some-clause-stands : goal.returns-in-Some-clause-stands
@@ -10,8 +10,8 @@ returns-in-Some-clause-stands c = λ bytes fed_is keeps.
     let piece = c.args.piece.now in
     let all = bytes ++ piece in
     let start = c.in-Some.start in
-    let m = c.first_machine in
-    begins-stage c.args.layouts m.result.layouts all None m.result.registers m.result.image c.behind.result.offset c.behind.result.bytes.now (stage_of c.commands_after.result) m.ensures.layouts m.ensures.image
+    let m = c.new in
+    begins (λ layouts. IsStage layouts all (stage_of c.commands_after.result)) c.args.layouts m.result.layouts all None m.result.registers m.result.image c.behind.result.offset c.behind.result.bytes.now m.ensures.layouts m.ensures.image
     (reading-at c.args.layouts all None m.result.registers None (length bytes + start) c.behind.result.offset (drop start piece) c.behind.result.bytes.now (omega (arith, c.behind.ensures.offset, fed_is)) c.behind.ensures.bytes
     (plain-ends c.args.layouts bytes c.args.last piece keeps start m.result.registers c.in-Some.ensures.some c.in-Some.ensures.found m.ensures.registers))
     (c.commands_after.ensures.stands all)

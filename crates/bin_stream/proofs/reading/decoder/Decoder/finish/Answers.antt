@@ -2,7 +2,7 @@ use Rattle.std.proofs.Common.{subst}
 use Rattle.bin_stream.specs.inside.Stages.{IsStage}
 use Rattle.bin_stream.specs.declared.reading.stage.Stage.TheVariants.{Front, Plain, Commands}
 use Rattle.bin_stream.proofs.Stages.{front-told, cut-told, decided_for}
-use Rattle.bin_stream.proofs.reading.pieces.Decoder.finish.Goals as goal
+use Rattle.bin_stream.proofs.reading.decoder.Decoder.finish.Goals as goal
 
 pub returns-in-Front-clause-refused : goal.returns-in-Front-clause-refused
 returns-in-Front-clause-refused c = λ layouts bytes stands.

@@ -7,7 +7,7 @@ use Rattle.bin_stream.specs.Decoding.{StandsFor}
 use Rattle.bin_stream.specs.Settled.{IsOpen, Settles}
 use Rattle.bin_stream.specs.inside.Stages.{IsStage, fault_in}
 use Rattle.bin_stream.proofs.Stages.{decided_for, stage_open, stage_settled, stage_stays}
-use Rattle.bin_stream.proofs.reading.pieces.Decoder.feed.Goals as goal
+use Rattle.bin_stream.proofs.reading.decoder.Decoder.feed.Goals as goal
 
 pub returns-clause-stays : goal.returns-clause-stays
 returns-clause-stays c =

@@ -7,7 +7,7 @@ use Rattle.plane_map.specs.declared.tile.TileKind.{TileKind}
 use Rattle.plane_map.specs.declared.tile.TileKind.TheVariants.{Io, Logic, RamB, RamT}
 use Rattle.plane_map.specs.declared.tile.TileRuns.{TileRuns}
 use Rattle.plane_map.specs.Layout.{Layout, IsLayout, kind_of, columns_of, columns_in, columns_at, width_of, start_of, is_side, is_end, is_mirrored, from_side, px_of, py_of, column_of, place_of, cram_width, cram_height, IsTileBit}
-use Rattle.plane_map.specs.Runs.{AreRunsOf, IsRunIn, run_in, run_length, run_place}
+use Rattle.plane_map.specs.Runs.{AreRunsOf, IsRunIn, row_run, run_length, run_place}
 use Rattle.plane_map.proofs.Offsets.{FitsColumn, column, entry-below, turned}
 use Rattle.plane_map.proofs.Layouts.{are_columns, from_side-below, width_of-fits}
 use Rattle.plane_map.proofs.Places.{IsPlaced, tile_bit_is_placed, px_of-is, bank_of-below, place_is_in}
@@ -59,6 +59,13 @@ side-columns device x y side some = grind (arith, nat_tests)
 pub end-columns : (device : DeviceName) (x y : ℕ) → is_end device y ≡ true → 0 < columns_at device x y → columns_at device x y ≡ 18
 unfolding kind_of
 end-columns device x y end some = grind (arith, nat_tests)
+
+-- and runs of eighteen bits, or of 42
+pub side-length : (device : DeviceName) (x y : ℕ) → is_side device x ≡ true → 18 ≡ run_length device x y
+side-length device x y side = rw side refl
+
+pub end-length : (device : DeviceName) (x y : ℕ) → is_side device x ≡ false → is_end device y ≡ true → 42 ≡ run_length device x y
+end-length device x y inner end = rw (inner, end) refl
 
 -- a column of a tile is a bit of its run, and the column of tiles has room for the run
 within_run : (layout : Layout) → IsLayout layout → (side end : Bool) (width columns col : ℕ) → FitsColumn side end width col → col < columns → (side ≡ false → end ≡ false → columns ≤ width)
@@ -121,15 +128,15 @@ module _ (layout : Layout) (sound : IsLayout layout) (x y row : ℕ) (row_in : r
   px-is false n within fits = omega arith
 
   -- a bit of the row is a bit of the run
-  pub run-place : (runs : TileRuns) → AreRunsOf layout x y runs → (col : ℕ) → col < columns → place_of layout (bit_at col) ≡ run_place (run_in layout runs row) runs.count (column_of layout (bit_at col))
+  pub run-place : (runs : TileRuns) → AreRunsOf layout x y runs → (col : ℕ) → col < columns → place_of layout (bit_at col) ≡ run_place (row_run layout runs row) runs.length (column_of layout (bit_at col))
   unfolding place_of
   run-place runs are col within =
       let parts = run-parts col within in
       let mirrored = is_mirrored layout x y in
       let n = column_of layout (bit_at col) in
       let px = px_of-is layout sound (bit_at col) (placed col within) ∙ px-is mirrored n parts.0 parts.1 in
-      let here : px_of layout (bit_at col) ≡ (if runs.backwards then runs.px + runs.count - 1 - n else runs.px + n) =
-      px ∙ (λ i. if sym are.backwards i then sym are.px i + sym are.count i - 1 - n else sym are.px i + n)
+      let here : px_of layout (bit_at col) ≡ (if runs.backwards then runs.px + runs.length - 1 - n else runs.px + n) =
+      px ∙ (λ i. if sym are.backwards i then sym are.px i + sym are.length i - 1 - n else sym are.px i + n)
       in
       λ i. record { bank = sym are.bank i; px = here i; py = py_of layout (record { x = sym are.x_is i; y = sym are.y_is i; row = row; col = 0 }) }
 
@@ -139,7 +146,7 @@ module _ (layout : Layout) (sound : IsLayout layout) (x y row : ℕ) (row_in : r
   in_room false n fits before = omega arith
 
   -- and in the planes
-  pub run-in : (runs : TileRuns) → AreRunsOf layout x y runs → IsRunIn (cram_width layout.device) (cram_height layout.device) runs.count (run_in layout runs row)
+  pub run-in : (runs : TileRuns) → AreRunsOf layout x y runs → IsRunIn (cram_width layout.device) (cram_height layout.device) runs.length (row_run layout runs row)
   unfolding place_of
   run-in runs are =
       let parts = run-parts 0 are.some in
@@ -152,8 +159,8 @@ module _ (layout : Layout) (sound : IsLayout layout) (x y row : ℕ) (row_in : r
       in
       record {
         bank_in = subst (λ (bank : ℕ). bank < 4) (sym are.bank) (bank_of-below layout sound x y);
-        some = omega (arith, parts.0, are.count);
-        few = omega (arith, are.count, run_length-few layout.device x y);
-        columns_in = omega (arith, are.px, are.count, inside);
+        some = omega (arith, parts.0, are.length);
+        few = omega (arith, are.length, run_length-few layout.device x y);
+        columns_in = omega (arith, are.px, are.length, inside);
         row_in = row_below;
       }

@@ -18,7 +18,7 @@ pub record IsRunIn (width height count : ℕ) (run : Run) : Type 0 where
   pub columns_in : run.px + count ≤ width
   pub row_in : run.py < height
 
--- How many bits the runs have in which the rows of a tile lie. In an end row the columns of an io tile lie somewhere among 42.
+-- How many bits the runs have in which the rows of a tile lie. In an end row the 18 columns of an io tile are some of 42 bits.
 abbrev pub run_length : DeviceName → ℕ → ℕ → ℕ
 run_length device x y = if is_side device x then 18 else if is_end device y then 42 else columns_at device x y
 
@@ -28,20 +28,20 @@ run_start layout x y =
     let u = from_side layout.device x in
     if is_mirrored layout x y then start_of layout u + width_of layout u - run_length layout.device x y else start_of layout u
 
--- what the runs of the rows of a tile that the device has share
+-- there is a tile, and these are the bank, the first column, the length and the direction that the runs of all its rows have
 pub record AreRunsOf (layout : Layout) (x y : ℕ) (runs : TileRuns) : Type 0 where
   pub x_is : runs.x ≡ x
   pub y_is : runs.y ≡ y
   pub some : 0 < columns_at layout.device x y
   pub bank : runs.bank ≡ bank_of layout x y
   pub px : runs.px ≡ run_start layout x y
-  pub count : runs.count ≡ run_length layout.device x y
+  pub length : runs.length ≡ run_length layout.device x y
   pub backwards : runs.backwards ≡ is_mirrored layout x y
   pub is_io : runs.is_io ≡ (is_side layout.device x || is_end layout.device y)
 
 -- the run of a row
-abbrev pub run_in : Layout → TileRuns → ℕ → Run
-run_in layout runs row =
+abbrev pub row_run : Layout → TileRuns → ℕ → Run
+row_run layout runs row =
     record { bank = runs.bank; px = runs.px; py = py_of layout (record { x = runs.x; y = runs.y; row = row; col = 0 }); backwards = runs.backwards }
 
 -- the run of a word of a RAM, its highest bit first

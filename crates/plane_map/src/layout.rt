@@ -1,7 +1,7 @@
 // Layouts.
-ghost use Rattle.std.specs.Prelude.{◌≡◌, ◌≢◌, ℕ, ◌+◌, ◌<◌, ◌≤◌, Some, IfNone, IfSome, MatchOption, length, slice_index, if◌then◌else◌};
+ghost use Rattle.std.specs.Prelude.{◌≡◌, ◌≢◌, ℕ, ◌+◌, ◌<◌, ◌≤◌, Some, IfNone, IfSome, MatchOption, is_some, length, slice_index, if◌then◌else◌};
 ghost use Rattle.plane_map.specs.Layout.{kind_of, columns_at, column_of, half_width, width_of, start_of, cram_width, cram_height, bram_width, bram_height, standard_layout, place_of, word_place_of, IsLayout, IsTileBit, IsWordBit, IsInCram, IsInBram, IsExtraBit};
-ghost use Rattle.plane_map.specs.Runs.{AreRunsOf, IsRunIn, run_in, run_place, word_run};
+ghost use Rattle.plane_map.specs.Runs.{AreRunsOf, IsRunIn, row_run, run_place, word_run};
 
 use crate::device::DeviceName;
 use crate::grid::on_side;
@@ -125,18 +125,18 @@ impl Layout {
         tile_runs_on(self, x, y)
     }
 
-    /// The run in which a row of a tile lies, by where its rows lie.
+    /// The run in which a row of a tile lies, from the `tile_runs` of its tile.
     pub fn run_of_row(&self, runs: TileRuns, row: u8) -> Run
         requires row { row < 16 }
         requires runs { AreRunsOf self.now runs.x runs.y runs }
-        ensures run { result ≡ run_in self.now runs row }
-        ensures in_planes { IsRunIn (cram_width self.now.device) (cram_height self.now.device) runs.count result }
+        ensures run { result ≡ row_run self.now runs row }
+        ensures in_planes { IsRunIn (cram_width self.now.device) (cram_height self.now.device) runs.length result }
         ensures columns { (col : ℕ) → col < columns_at self.now.device runs.x runs.y
-            → column_of self.now (record { x = runs.x; y = runs.y; row = row; col = col }) < runs.count }
+            → column_of self.now (record { x = runs.x; y = runs.y; row = row; col = col }) < runs.length }
         // Column c of the row is the bit of the run that `column_of` says.
         ensures places { (col : ℕ) → col < columns_at self.now.device runs.x runs.y
             → place_of self.now (record { x = runs.x; y = runs.y; row = row; col = col })
-                ≡ run_place result runs.count (column_of self.now (record { x = runs.x; y = runs.y; row = row; col = col })) }
+                ≡ run_place result runs.length (column_of self.now (record { x = runs.x; y = runs.y; row = row; col = col })) }
     {
         run_of_row(self, runs, row)
     }
@@ -146,9 +146,11 @@ impl Layout {
         requires { AreRunsOf self.now runs.x runs.y runs }
         ensures order { MatchOption result ((row col : ℕ) → column_of self.now (record { x = runs.x; y = runs.y; row = row; col = col }) ≡ col)
             (λ columns. (row col : ℕ) → column_of self.now (record { x = runs.x; y = runs.y; row = row; col = col }) ≡ slice_index columns.now col) }
-        ensures length { IfNone result (runs.count ≡ columns_at self.now.device runs.x runs.y) }
-        ensures count { IfSome result (λ _. columns_at self.now.device runs.x runs.y ≡ 18) }
-        ensures few { IfSome result (λ columns. (col : ℕ) → col < 18 → slice_index columns.now col < 64) }
+        ensures io { is_some result ≡ runs.is_io }
+        ensures whole { IfNone result (runs.length ≡ columns_at self.now.device runs.x runs.y) }
+        ensures eighteen { IfSome result (λ _. columns_at self.now.device runs.x runs.y ≡ 18) }
+        ensures within { IfSome result (λ columns. (col : ℕ) → col < 18 → slice_index columns.now col < runs.length) }
+        ensures few { runs.length ≤ 64 }
     {
         if !runs.is_io {
             None

@@ -11,6 +11,7 @@ pub(crate) fn py_of(layout: &Layout, bit: TileBit) -> u32
     requires { IsTileBit layout.now.device bit }
     ensures value { result ≡ py_of layout.now bit }
     ensures in_plane { result < cram_height layout.now.device }
+    // For callers that prove something of places from it.
     ensures layout { IsLayout layout.now }
 {
     let y = bit.y as u32;

@@ -66,8 +66,8 @@ pub struct TileRuns {
     pub bank: u8,
     /// The first column of each run.
     pub px: u16,
-    /// How many bits each run has. An io tile of an end row has fewer columns, which lie somewhere among them.
-    pub count: u8,
+    /// How many bits each run has. An io tile of an end row has fewer columns, which are some of them.
+    pub length: u8,
     pub backwards: bool,
     /// Whether it is an io tile, whose columns have an order of their own.
     pub is_io: bool,

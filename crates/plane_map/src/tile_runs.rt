@@ -1,7 +1,7 @@
 // The runs in which the rows of a tile lie.
 ghost use Rattle.std.specs.Prelude.{◌≡◌, ℕ, ◌+◌, ◌-◌, ◌<◌, ◌≤◌, Some, MatchOption, if◌then◌else◌};
 ghost use Rattle.plane_map.specs.Layout.{kind_of, columns_at, column_of, cram_width, cram_height, half_width, is_end, is_side, place_of, start_of, width_of, IsLayout};
-ghost use Rattle.plane_map.specs.Runs.{AreRunsOf, IsRunIn, run_in, run_length, run_place};
+ghost use Rattle.plane_map.specs.Runs.{AreRunsOf, IsRunIn, row_run, run_length, run_place};
 
 use crate::device::DeviceName;
 use crate::grid::{is_mirrored, kind_on, on_end, on_side, quarter_at, side_distance};
@@ -28,14 +28,14 @@ fn runs_of(layout: &Layout, kind: TileKind, x: u8, y: u8) -> TileRuns
 {
     let device = layout.device();
     let column = side_distance(device, x as u32);
-    let count = run_length(device, kind, x);
+    let length = run_length(device, kind, x);
     let backwards = is_mirrored(layout, x as u32, y as u32);
     TileRuns {
         x,
         y,
         bank: layout.bank(quarter_at(device, x as u32, y as u32)),
-        px: run_start(layout, column, count, backwards),
-        count,
+        px: run_start(layout, column, length, backwards),
+        length,
         backwards,
         is_io: on_side(device, x as u32) || on_end(device, y as u32),
     }
@@ -52,16 +52,16 @@ fn run_length(device: DeviceName, kind: TileKind, x: u8) -> u8
     }
 }
 
-/// The first column of runs of so many bits: the last ones of a column of tiles where they run backwards, and else the first.
-fn run_start(layout: &Layout, column: u32, count: u8, backwards: bool) -> u16
+/// The first column of runs of that length, which end with their column of tiles where they run backwards, and else begin with it.
+fn run_start(layout: &Layout, column: u32, length: u8, backwards: bool) -> u16
     requires column { column < half_width layout.now.device }
-    requires fits { count ≤ width_of layout.now column }
-    ensures { result ≡ (if backwards then start_of layout.now column + width_of layout.now column - count else start_of layout.now column) }
+    requires fits { length ≤ width_of layout.now column }
+    ensures { result ≡ (if backwards then start_of layout.now column + width_of layout.now column - length else start_of layout.now column) }
 {
     let start = layout.start(column);
     let end = start + layout.width(column);
     if backwards {
-        (end - count as u32) as u16
+        (end - length as u32) as u16
     } else {
         start as u16
     }
@@ -71,11 +71,11 @@ fn run_start(layout: &Layout, column: u32, count: u8, backwards: bool) -> u16
 pub(crate) fn run_of_row(layout: &Layout, runs: TileRuns, row: u8) -> Run
     requires row { row < 16 }
     requires runs { AreRunsOf layout.now runs.x runs.y runs }
-    ensures run { result ≡ run_in layout.now runs row }
-    ensures in_planes { IsRunIn (cram_width layout.now.device) (cram_height layout.now.device) runs.count result }
-    ensures columns { (col : ℕ) → col < columns_at layout.now.device runs.x runs.y → column_of layout.now (record { x = runs.x; y = runs.y; row = row; col = col }) < runs.count }
+    ensures run { result ≡ row_run layout.now runs row }
+    ensures in_planes { IsRunIn (cram_width layout.now.device) (cram_height layout.now.device) runs.length result }
+    ensures columns { (col : ℕ) → col < columns_at layout.now.device runs.x runs.y → column_of layout.now (record { x = runs.x; y = runs.y; row = row; col = col }) < runs.length }
     ensures places { (col : ℕ) → col < columns_at layout.now.device runs.x runs.y → place_of layout.now (record { x = runs.x; y = runs.y; row = row; col = col })
-        ≡ run_place result runs.count (column_of layout.now (record { x = runs.x; y = runs.y; row = row; col = col })) }
+        ≡ run_place result runs.length (column_of layout.now (record { x = runs.x; y = runs.y; row = row; col = col })) }
 {
     let bit = TileBit {
         x: runs.x,

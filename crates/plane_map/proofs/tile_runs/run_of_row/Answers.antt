@@ -11,7 +11,7 @@ returns-clause-in_planes c =
 pub returns-clause-columns : goal.returns-clause-columns
 returns-clause-columns c col within =
     let args = c.args in
-    subst (λ (n : ℕ). column_of args.layout.now (record { x = args.runs.x; y = args.runs.y; row = args.row; col = col }) < n) (sym c.requires.runs.count)
+    subst (λ (n : ℕ). column_of args.layout.now (record { x = args.runs.x; y = args.runs.y; row = args.row; col = col }) < n) (sym c.requires.runs.length)
     (run-parts args.layout.now c.py_of.ensures.layout args.runs.x args.runs.y args.row c.requires.row col within).0
 
 pub returns-clause-places : goal.returns-clause-places

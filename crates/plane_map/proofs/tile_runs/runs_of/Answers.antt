@@ -13,5 +13,5 @@ run_start-requires-clause-fits c =
     let args = c.args in
     let layout = args.layout.now in
     let some = there-some layout.device args.x args.y args.kind c.requires.there in
-    let count = c.run_length-count.ensures args.y (rw c.device-device.ensures.device c.requires.there) in
+    let count = c.run_length-length.ensures args.y (rw c.device-device.ensures.device c.requires.there) in
     rw (count, c.side_distance-column.ensures, c.device-device.ensures.device) (run-parts layout c.requires.layout args.x args.y 0 (omega arith) 0 some).1

@@ -1,4 +1,5 @@
 pub mod Bytes
+pub mod Exchanges
 pub mod Flats
 pub mod Gained
 pub mod Grids

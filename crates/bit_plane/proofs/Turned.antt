@@ -1,11 +1,12 @@
 -- The two orders of bits: a number whose bits are turned round, last first.
-use Rattle.std.proofs.Common.{◌≡◌, ℕ, zero, suc, ◌+◌, ◌*◌, ◌/◌, ◌%◌, ◌==◌, ◌^◌, ◌<◌, Bool, List, [], ◌∷◌, ◌++◌, length, get_or, refl, sym, ap, ap₂, ◌∙◌, arith, append_assoc, append-nil, reverse, map, flat_map, w8, w64}
-use Rattle.std.specs.Int.{reverse_bits, reverse_bits_onto, from_le_bytes, to_le_bytes}
-use Rattle.std.proofs.lemmas.List.{reverse-reverse}
+use Rattle.std.proofs.Common.{◌≡◌, ℕ, zero, suc, ◌+◌, ◌-◌, ◌*◌, ◌/◌, ◌%◌, ◌==◌, ◌^◌, ◌<◌, Bool, false, List, [], ◌∷◌, ◌++◌, length, get_or, ext_get_or, inl, inr, refl, sym, ap, ap₂, ◌∙◌, arith, append_assoc, append-nil, reverse, flat_map, w8, w64}
+use Rattle.std.specs.Int.{reverse_bits, reverse_bits_onto, bit_at, from_le_bytes, from_be_bytes, to_le_bytes, to_be_bytes}
+use Rattle.std.proofs.lemmas.Bool.{cases_lt}
+use Rattle.std.proofs.lemmas.List.{reverse-reverse, reverse-append, length-reverse, get_or-reverse, get_or_past, flat_map_more}
 use Rattle.std.proofs.lemmas.Nat.{from_le_bytes-to_le_bytes_8}
 use Rattle.std.proofs.lemmas.Grind.{reverse_onto}
 use Rattle.bit_plane.specs.BitList.{word_bits, word_of, byte_bits, byte_of, bits_of, bytes_of}
-use Rattle.bit_plane.proofs.Words.{length-word_bits, word_bits-word_of}
+use Rattle.bit_plane.proofs.Words.{length-word_bits, get_or-word_bits, word_bits-word_of}
 use Rattle.bit_plane.proofs.Parts.{word_bits-add, word_of-low}
 use Rattle.bit_plane.proofs.Bytes.{byte_of-byte_bits, bytes_of-bits_of}
 
@@ -73,52 +74,48 @@ low_first-bits (byte ∷ bytes) small =
     let low : word_bits 8 number ≡ word_bits 8 byte = sym (word_bits-low 8 number) ∙ ap (word_bits 8) below in
     ap (λ k. word_bits k number) whole ∙ word_bits-add 8 (8 * length bytes) number ∙ ap₂ (λ (front back : List Bool). front ++ back) low (ap (word_bits (8 * length bytes)) above ∙ low_first-bits bytes (λ i. small (suc i)))
 
--- a byte turned round is a byte
-turned-small : (b : ℕ) → reverse_bits w8 b < 256
-unfolding reverse_bits_onto
-turned-small b = omega arith
+-- small numbers are so in the other order
+reverse-small : (bytes : List ℕ) → ((i : ℕ) → get_or bytes i 0 < 256) → (i : ℕ) → get_or (reverse bytes) i 0 < 256
+reverse-small bytes small i = elim (cases_lt i (length bytes)) [
+  | inl within ↦ rw (get_or-reverse bytes i 0 within) (small (length bytes - 1 - i))
+  | inr past ↦ rw (get_or_past (reverse bytes) i 0 (omega (arith, past, length-reverse bytes))) (omega arith)
+]
 
--- bytes turned round, one by one
-abbrev pub turned_all : List ℕ → List ℕ
-turned_all bytes = map (reverse_bits w8) bytes
-
-turned_all-small : (bytes : List ℕ) (i : ℕ) → get_or (turned_all bytes) i 0 < 256
-turned_all-small [] i = omega arith
-turned_all-small (byte ∷ bytes) zero = turned-small byte
-turned_all-small (byte ∷ bytes) (suc i) = turned_all-small bytes i
-
--- turned round they have the bits of the stream
-turned_all-bits : (bytes : List ℕ) → flat_map (word_bits 8) (turned_all bytes) ≡ bits_of bytes
-turned_all-bits [] = refl
-turned_all-bits (byte ∷ bytes) = ap₂ (λ (front back : List Bool). front ++ back) (turned-byte byte) (turned_all-bits bytes)
-
--- and the other way round
-bits_of-turned_all : (bytes : List ℕ) → bits_of (turned_all bytes) ≡ flat_map (word_bits 8) bytes
-bits_of-turned_all [] = refl
-bits_of-turned_all (byte ∷ bytes) =
-    ap₂ (λ (front back : List Bool). front ++ back) (sym (reverse-byte (reverse_bits w8 byte)) ∙ ap reverse (turned 8 byte) ∙ reverse-reverse (word_bits 8 byte)) (bits_of-turned_all bytes)
-
--- eight bytes one by one, turned round
-pub eight_turned : (bytes : List ℕ) → length bytes ≡ 8 → reverse_bits w8 (get_or bytes 0 0) ∷ reverse_bits w8 (get_or bytes 1 0) ∷ reverse_bits w8 (get_or bytes 2 0) ∷ reverse_bits w8 (get_or bytes 3 0) ∷ reverse_bits w8 (get_or bytes 4 0) ∷ reverse_bits w8 (get_or bytes 5 0) ∷ reverse_bits w8 (get_or bytes 6 0) ∷ reverse_bits w8 (get_or bytes 7 0) ∷ [] ≡ turned_all bytes
-eight_turned (a ∷ b ∷ c ∷ d ∷ e ∷ f ∷ g ∷ h ∷ []) eight = refl
-eight_turned _ eight = absurd (omega (arith, eight))
-
--- the number of eight bytes
+-- the number of eight bytes, the first the lowest
 from_le_bytes-is : (bytes : List ℕ) → length bytes ≡ 8 → from_le_bytes w64 bytes ≡ low_first bytes
 unfolding low_first
 from_le_bytes-is (a ∷ b ∷ c ∷ d ∷ e ∷ f ∷ g ∷ h ∷ []) eight = omega arith
 from_le_bytes-is _ eight = absurd (omega (arith, eight))
 
-length-turned_all : (bytes : List ℕ) → length (turned_all bytes) ≡ length bytes
-length-turned_all [] = refl
-length-turned_all (byte ∷ bytes) = ap suc (length-turned_all bytes)
+-- bytes whose last comes first have the bits of the number, turned round
+bits_of-reverse : (bytes : List ℕ) → bits_of (reverse bytes) ≡ reverse (flat_map (word_bits 8) bytes)
+bits_of-reverse [] = refl
+bits_of-reverse (byte ∷ bytes) =
+    ap bits_of (reverse-append (byte ∷ []) bytes) ∙ sym (flat_map_more byte_bits [] (reverse bytes) byte) ∙ ap₂ (λ (front back : List Bool). front ++ back) (bits_of-reverse bytes) (sym (reverse-byte byte)) ∙ sym (reverse-append (word_bits 8 byte) (flat_map (word_bits 8) bytes))
+
+-- the bits of a word turned round
+reversed-bits : (word reversed : ℕ) → ((k : ℕ) → k < 64 → bit_at reversed k ≡ bit_at word (63 - k)) → word_bits 64 reversed ≡ reverse (word_bits 64 word)
+reversed-bits word reversed bits =
+    let long : length (word_bits 64 word) ≡ 64 = length-word_bits 64 word in
+    ext_get_or false (word_bits 64 reversed) (reverse (word_bits 64 word)) (length-word_bits 64 reversed ∙ sym (length-reverse (word_bits 64 word) ∙ long)) (λ k inside.
+    let within : k < 64 = omega (arith, length-word_bits 64 reversed) in
+    let place : length (word_bits 64 word) - 1 - k ≡ 63 - k = omega (arith, long) in
+    get_or-word_bits 64 reversed k within ∙ ap (λ m. m == 1) (bits k within) ∙ sym (get_or-reverse (word_bits 64 word) k false (omega (arith, long)) ∙ ap (λ n. get_or (word_bits 64 word) n false) place ∙ get_or-word_bits 64 word (63 - k) (omega arith)))
+
+-- the number of eight bytes, the first the highest
+from_be_bytes-is : (bytes : List ℕ) → length bytes ≡ 8 → from_be_bytes w64 bytes ≡ low_first (reverse bytes)
+unfolding low_first
+from_be_bytes-is (a ∷ b ∷ c ∷ d ∷ e ∷ f ∷ g ∷ h ∷ []) eight = omega arith
+from_be_bytes-is _ eight = absurd (omega (arith, eight))
 
 -- the number of eight bytes turned round has their bits
-pub turned-bytes : (bytes : List ℕ) → length bytes ≡ 8 → word_bits 64 (from_le_bytes w64 (turned_all bytes)) ≡ bits_of bytes
-turned-bytes bytes eight =
-    let long : length (turned_all bytes) ≡ 8 = length-turned_all bytes ∙ eight in
-    let whole : 64 ≡ 8 * length (turned_all bytes) = omega (arith, long) in
-    ap₂ word_bits whole (from_le_bytes-is (turned_all bytes) long) ∙ low_first-bits (turned_all bytes) (turned_all-small bytes) ∙ turned_all-bits bytes
+pub reversed-number : (bytes : List ℕ) (reversed : ℕ) → length bytes ≡ 8 → ((i : ℕ) → get_or bytes i 0 < 256) → ((k : ℕ) → k < 64 → bit_at reversed k ≡ bit_at (from_be_bytes w64 bytes) (63 - k)) → word_bits 64 reversed ≡ bits_of bytes
+reversed-number bytes reversed eight small bits =
+    let back : List ℕ = reverse bytes in
+    let long : length back ≡ 8 = length-reverse bytes ∙ eight in
+    let whole : 64 ≡ 8 * length back = omega (arith, long) in
+    let number : word_bits 64 (from_be_bytes w64 bytes) ≡ flat_map (word_bits 8) back = ap₂ word_bits whole (from_be_bytes-is bytes eight) ∙ low_first-bits back (reverse-small bytes small) in
+    reversed-bits (from_be_bytes w64 bytes) reversed bits ∙ ap reverse number ∙ sym (bits_of-reverse back) ∙ ap bits_of (reverse-reverse bytes)
 
 -- the bytes of a number are bytes
 bytes-small : (n i : ℕ) → get_or (to_le_bytes w64 n) i 0 < 256
@@ -132,10 +129,10 @@ bytes-small n (suc (suc (suc (suc (suc (suc zero)))))) = omega arith
 bytes-small n (suc (suc (suc (suc (suc (suc (suc zero))))))) = omega arith
 bytes-small n (suc (suc (suc (suc (suc (suc (suc (suc i)))))))) = omega arith
 
--- the bytes of a number, each turned round, are those of its bits
-pub bytes_of-turned : (word : ℕ) → word < 2 ^ 64 → turned_all (to_le_bytes w64 word) ≡ bytes_of 8 (word_bits 64 word)
-bytes_of-turned word fits =
-    let bytes : List ℕ = to_le_bytes w64 word in
-    let number : low_first bytes ≡ word = sym (from_le_bytes-is bytes refl) ∙ from_le_bytes-to_le_bytes_8 word fits in
-    let bits : bits_of (turned_all bytes) ≡ word_bits 64 word = bits_of-turned_all bytes ∙ sym (low_first-bits bytes (bytes-small word)) ∙ ap (word_bits 64) number in
-    sym (bytes_of-bits_of (turned_all bytes) (turned_all-small bytes)) ∙ ap (bytes_of 8) bits
+-- the bytes of a number turned round are those of its bits
+pub reversed-bytes : (word reversed : ℕ) → ((k : ℕ) → k < 64 → bit_at reversed k ≡ bit_at word (63 - k)) → reversed < 2 ^ 64 → to_be_bytes w64 reversed ≡ bytes_of 8 (word_bits 64 word)
+reversed-bytes word reversed bits fits =
+    let bytes : List ℕ = to_le_bytes w64 reversed in
+    let number : low_first bytes ≡ reversed = sym (from_le_bytes-is bytes refl) ∙ from_le_bytes-to_le_bytes_8 reversed fits in
+    let turn : bits_of (reverse bytes) ≡ word_bits 64 word = bits_of-reverse bytes ∙ ap reverse (sym (low_first-bits bytes (bytes-small reversed)) ∙ ap (word_bits 64) number ∙ reversed-bits word reversed bits) ∙ reverse-reverse (word_bits 64 word) in
+    sym (bytes_of-bits_of (reverse bytes) (reverse-small bytes (bytes-small reversed))) ∙ ap (bytes_of 8) turn

@@ -1,2 +1,3 @@
 -- What contracts within this crate cite, and no public one.
 pub mod Packed
+pub mod Pairs

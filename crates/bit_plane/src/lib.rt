@@ -7,10 +7,12 @@
 mod bits;
 mod order;
 mod plane;
+mod reversal;
 mod tile;
 
 pub use bits::Bits;
 pub use plane::Plane;
+pub use reversal::reversed;
 pub use tile::Tile;
 
 #[cfg(test)]

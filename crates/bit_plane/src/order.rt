@@ -6,6 +6,8 @@ ghost use Rattle.std.specs.Int.{w8, reverse_bits};
 ghost use Rattle.std.specs.Int.RustNames.{bit_or};
 ghost use Rattle.bit_plane.specs.inside.Packed.{packed};
 
+use crate::reversal::reversed;
+
 /// Each byte with its bits turned round, the last first.
 static TURNED: [u8; 256] = [
     0x00, 0x80, 0x40, 0xC0, 0x20, 0xA0, 0x60, 0xE0, 0x10, 0x90, 0x50, 0xD0, 0x30, 0xB0, 0x70, 0xF0,
@@ -145,33 +147,16 @@ fn word_of_bytes(bytes: &[u8]) -> u64
     requires { length bytes.now ≡ 8 }
     ensures { word_bits 64 result ≡ bits_of bytes.now }
 {
-    u64::from_le_bytes([
-        turned(bytes[0]),
-        turned(bytes[1]),
-        turned(bytes[2]),
-        turned(bytes[3]),
-        turned(bytes[4]),
-        turned(bytes[5]),
-        turned(bytes[6]),
-        turned(bytes[7]),
-    ])
+    reversed(u64::from_be_bytes([
+        bytes[0], bytes[1], bytes[2], bytes[3], bytes[4], bytes[5], bytes[6], bytes[7],
+    ]))
 }
 
 /// The eight bytes of the bits of a word, its bit of value 1 the first.
 fn bytes_of_word(word: u64) -> [u8; 8]
     ensures { result ≡ bytes_of 8 (word_bits 64 word) }
 {
-    let bytes = word.to_le_bytes();
-    [
-        turned(bytes[0]),
-        turned(bytes[1]),
-        turned(bytes[2]),
-        turned(bytes[3]),
-        turned(bytes[4]),
-        turned(bytes[5]),
-        turned(bytes[6]),
-        turned(bytes[7]),
-    ]
+    reversed(word).to_be_bytes()
 }
 
 /// Sets the bits from a position on to those of the bytes, eight bytes at once.

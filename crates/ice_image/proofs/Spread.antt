@@ -6,6 +6,7 @@ use Rattle.std.proofs.Math.Bool.{and-false, and-true, or-false, or-true}
 use Rattle.std.specs.Int.{bit_at, bit_not}
 use mir.Val.{bool_byte}
 use Rattle.bit_plane.proofs.Made.{length-row_from, get_or-row_from}
+use Rattle.bit_plane.proofs.Parts.{bit_at-low, moved_below, moved}
 use Rattle.bit_plane.proofs.Words.{get_or-word_bits}
 use Rattle.bit_plane.specs.BitList.{word_of}
 use Rattle.bit_plane.specs.Rows.{Rows, row_from}
@@ -17,7 +18,6 @@ use Rattle.ice_image.proofs.Gained.{number_bit-or, number_bit-row}
 use Rattle.ice_image.proofs.Made.{row_from-is, row_word-is, row_word-none}
 use Rattle.ice_image.proofs.Marked.{number_bit-less}
 use Rattle.ice_image.proofs.Owned.{among}
-use Rattle.ice_image.proofs.Turned.{bit_at-cut, bit_at-below, bit_at-from}
 
 -- ---- one bit at its place
 
@@ -32,12 +32,12 @@ low_bit b small = bit_at_lowest b ∙ omega arith
 shifted-here : (b c : ℕ) → b < 2 → c < 64 → bit_at (b * 2 ^ c % 2 ^ 64) c ≡ b
 shifted-here b c small within =
     let none : c - c ≡ 0 = omega arith in
-    bit_at-cut (b * 2 ^ c) 64 c within ∙ bit_at-from b c c (omega arith) ∙ ap (bit_at b) none ∙ low_bit b small
+    bit_at-low (b * 2 ^ c) 64 c within ∙ moved b c c (omega arith) ∙ ap (bit_at b) none ∙ low_bit b small
 
 shifted-other : (b c k : ℕ) → b < 2 → k < 64 → (k ≢ c) → bit_at (b * 2 ^ c % 2 ^ 64) k ≡ 0
-shifted-other b c k small within other = bit_at-cut (b * 2 ^ c) 64 k within ∙ elim (cases_lt k c) [
-  | inl below ↦ bit_at-below b c k below
-  | inr from ↦ bit_at-from b c k from ∙ high_bit b (k - c) small (omega (arith, other))
+shifted-other b c k small within other = bit_at-low (b * 2 ^ c) 64 k within ∙ elim (cases_lt k c) [
+  | inl below ↦ moved_below b c k below
+  | inr from ↦ moved b c k from ∙ high_bit b (k - c) small (omega (arith, other))
 ]
 
 -- ---- one bit after the other

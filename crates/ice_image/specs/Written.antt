@@ -1,6 +1,6 @@
 -- What holds along the way: bits that are written one after the other, and set extra bits that are found place after
 -- place. Only contracts within this crate cite this.
-use Rattle.std.specs.Prelude.{◌≡◌, ℕ, ◌+◌, ◌-◌, ◌/◌, ◌%◌, ◌==◌, ◌<◌, nat_lt, nat_le, ◌⊎◌, ◌↔◌, Bool, true, false, not, ◌&&◌, ◌||◌, if◌then◌else◌, List, [], ◌∷◌, ◌++◌, get_or, Contains, AllPairs}
+use Rattle.std.specs.Prelude.{◌≡◌, ℕ, ◌+◌, ◌<◌, ◌⊎◌, ◌↔◌, Bool, true, false, not, ◌&&◌, ◌||◌, if◌then◌else◌, List, [], ◌∷◌, ◌++◌, get_or, Contains, AllPairs}
 use Rattle.place_search.specs.Places.{gathered_below}
 use Rattle.bit_plane.specs.BitList.{word_bits}
 use Rattle.bit_plane.specs.Rows.{Rows, IsGrid, bit_at}
@@ -83,19 +83,3 @@ pub record AreMarked (layout : Layout) (count : ℕ) (owned : List Rows) : Type 
   pub marks : AreMarks layout owned
   pub ends : (bank : ℕ) → bank < count → IsMarked layout owned bank 0
   pub inner : (bank : ℕ) → bank < count → IsMarked layout owned bank 16
-
--- ---- bits of a word, turned
-
--- the place that a place is exchanged with, that many places away
-abbrev pub partner : ℕ → ℕ → ℕ
-partner shift k = if k / shift % 2 == 0 then k + shift else k - shift
-
--- whether a mask has a place, or the lower one that it is exchanged with
-abbrev pub is_paired : ℕ → ℕ → ℕ → Bool
-is_paired shift mask k =
-    if k / shift % 2 == 0 then number_bit mask k && nat_lt (k + shift) 64 && (nat_lt k shift || not (number_bit mask (k - shift)))
-    else not (number_bit mask k) && nat_le shift k && number_bit mask (k - shift)
-
--- a mask has the lower place of each two
-abbrev pub ArePairs : ℕ → ℕ → Type 0
-ArePairs shift mask = (k : ℕ) → k < 64 → is_paired shift mask k ≡ true

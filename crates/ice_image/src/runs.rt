@@ -5,10 +5,10 @@ ghost use Rattle.bit_plane.specs.Rows.{row_from};
 ghost use Rattle.plane_map.specs.Runs.{IsRunIn, run_place};
 ghost use Rattle.ice_image.specs.Bits.{number_bit};
 ghost use Rattle.ice_image.specs.Configuration.{place_bit, AreBanks};
-ghost use Rattle.ice_image.specs.Written.{IsWritten, bit_of_word, gained_bit, ArePairs, partner};
+ghost use Rattle.ice_image.specs.Written.{IsWritten, bit_of_word, gained_bit};
 
 use crate::banks::Banks;
-use bit_plane::Bits;
+use bit_plane::{Bits, reversed};
 use plane_map::Run;
 
 /// The bits of a run as a word. Bit k of the run is the bit of value 2^k.
@@ -62,25 +62,4 @@ fn turned(backwards: bool, word: u64, count: usize) -> u64
     } else {
         word
     }
-}
-
-/// A word with its bits turned, the last first.
-fn reversed(word: u64) -> u64
-    ensures { (k : ℕ) → k < 64 → number_bit result k ≡ number_bit word (63 - k) }
-{
-    let ones = exchanged(word, 1, 0x5555_5555_5555_5555);
-    let twos = exchanged(ones, 2, 0x3333_3333_3333_3333);
-    let fours = exchanged(twos, 4, 0x0f0f_0f0f_0f0f_0f0f);
-    let eights = exchanged(fours, 8, 0x00ff_00ff_00ff_00ff);
-    let sixteens = exchanged(eights, 16, 0x0000_ffff_0000_ffff);
-    exchanged(sixteens, 32, 0x0000_0000_ffff_ffff)
-}
-
-/// A word with each two bits exchanged that are so many places apart; the mask has the lower one of each two.
-fn exchanged(word: u64, shift: u32, mask: u64) -> u64
-    requires shift { shift < 64 }
-    requires pairs { ArePairs shift mask }
-    ensures { (k : ℕ) → k < 64 → number_bit result k ≡ number_bit word (partner shift k) }
-{
-    word >> shift & mask | (word & mask) << shift
 }

@@ -145,13 +145,7 @@ pub(crate) fn write_row<P: Bits>(
 }
 
 /// Sets a row of a tile to the bits of a word, by where its rows lie. Column c gets the bit of value 2^c.
-fn write_row_in<P: Bits>(
-    layout: &Layout,
-    cram: &mut Banks<P>,
-    runs: TileRuns,
-    row: u8,
-    word: u64,
-)
+fn write_row_in<P: Bits>(layout: &Layout, cram: &mut Banks<P>, runs: TileRuns, row: u8, word: u64)
     requires layout { IsLayout layout.now }
     requires row { row < 16 }
     requires runs { AreRunsOf layout.now runs.x runs.y runs }

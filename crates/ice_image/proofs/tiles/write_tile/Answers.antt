@@ -10,9 +10,11 @@ pub loop-row-init : goal.loop-row-init
 loop-row-init g c = (rows_written-none c.args.layout.now c.requires.layout c.args.x c.args.y g.row.C c.args.tile.now c.requires.width c.args.cram.now, c.requires.whole)
 
 pub loop-row-preserved : goal.loop-row-preserved
-loop-row-preserved g c =
-    (rows_written-more c.args.layout.now c.requires.layout c.args.x c.args.y g.row.C c.args.tile.now c.requires.width c.loop-row.row c.row.result c.args.cram.now c.loop-row.cram c.write_row.new.cram (omega arith) c.loop-row.invariant.0
-    (subst (λ (n : ℕ). IsWritten (tile_place c.args.layout.now c.args.x c.args.y c.loop-row.row) (bit_of_word n c.row.result) n c.loop-row.cram c.write_row.new.cram) c.requires.width c.write_row.ensures.written) (c.row.ensures.word ∙ ap (λ row. word_of (row_at c.args.tile.now row)) c.from.ensures) c.row.ensures.grid, c.write_row.ensures.whole)
+loop-row-preserved g c = (
+  rows_written-more c.args.layout.now c.requires.layout c.args.x c.args.y g.row.C c.args.tile.now c.requires.width c.loop-row.row c.row.result c.args.cram.now c.loop-row.cram c.write_row.new.cram (omega arith) c.loop-row.invariant.0
+      (subst (λ (n : ℕ). IsWritten (tile_place c.args.layout.now c.args.x c.args.y c.loop-row.row) (bit_of_word n c.row.result) n c.loop-row.cram c.write_row.new.cram) c.requires.width c.write_row.ensures.written) (c.row.ensures.word ∙ ap (λ row. word_of (row_at c.args.tile.now row)) c.from.ensures) c.row.ensures.grid,
+  c.write_row.ensures.whole,
+)
 
 pub returns-clause-tile : goal.returns-clause-tile
 returns-clause-tile g c =

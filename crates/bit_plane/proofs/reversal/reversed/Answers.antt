@@ -1,8 +1,8 @@
 use Rattle.std.proofs.Common.{ap, ◌∙◌}
-use Rattle.ice_image.specs.Bits.{number_bit}
-use Rattle.ice_image.specs.Written.{partner}
-use Rattle.ice_image.proofs.Turned.{pairs_1, pairs_2, pairs_4, pairs_8, pairs_16, pairs_32, partner-below, partners-turn}
-use Rattle.ice_image.proofs.runs.reversed.Goals as goal
+use Rattle.std.specs.Int.{bit_at}
+use Rattle.bit_plane.specs.inside.Pairs.{partner}
+use Rattle.bit_plane.proofs.Exchanges.{pairs_1, pairs_2, pairs_4, pairs_8, pairs_16, pairs_32, partner-below, partners-turn}
+use Rattle.bit_plane.proofs.reversal.reversed.Goals as goal
 
 pub exchanged-ones-requires-clause-pairs : goal.exchanged-ones-requires-clause-pairs
 exchanged-ones-requires-clause-pairs c = pairs_1
@@ -30,4 +30,4 @@ returns c = λ k within.
     let e = partner-below 4 0x0f0f0f0f0f0f0f0f _ pairs_4 d in
     let f = partner-below 2 0x3333333333333333 _ pairs_2 e in
     c.exchanged.ensures k within ∙ c.exchanged-sixteens.ensures _ a ∙ c.exchanged-eights.ensures _ b ∙ c.exchanged-fours.ensures _ d ∙ c.exchanged-twos.ensures _ e ∙ c.exchanged-ones.ensures _ f
-    ∙ ap (number_bit c.args.word) (partners-turn k within)
+    ∙ ap (bit_at c.args.word) (partners-turn k within)

@@ -1,4 +1,5 @@
-// The check value of bytes, which the bitstream documentation calls the CRC: one register, which eight bytes enter at a time.
+// The check value of bytes, which the bitstream documentation calls the CRC: one register, which eight
+// bytes enter at a time, and what is left over by two and by one.
 ghost use Rattle.std.specs.Prelude.{◌≡◌, ◌%◌, length, slice_index};
 ghost use Rattle.bit_plane.specs.BitList.{bits_of, byte_bits};
 ghost use Rattle.bin_stream.specs.CheckValue.{check_value};
@@ -38,7 +39,8 @@ fn enter_eights(value: u16, bytes: &[u8]) -> u16
     value
 }
 
-/// The register after eight bytes have entered. The first two meet what it held, and no other waits for that.
+/// The register after eight bytes have entered. Only the first two are combined with what it held, so the other six look-ups needn't
+/// wait for it.
 fn enter_eight(value: u16, bytes: &[u8]) -> u16
     requires { length bytes.now ≡ 8 }
     ensures { result ≡ entered_all value (bits_of bytes.now) }

@@ -12,7 +12,7 @@ pub(crate) enum Opcode {
     Control = 0,
     /// The bank of the data that follow.
     Bank = 1,
-    /// A check: behind its payload, which makes it so, the CRC has to be 0.
+    /// A check: its payload is chosen so that the CRC is 0 behind it.
     Check = 2,
     /// Where the device looks for the next image. It is passed over.
     BootAddress = 4,

@@ -1,6 +1,7 @@
 -- Bits as lists of Booleans, and the two orders in which numbers hold them: a row's word has its first bit as the
 -- bit of value 1, a byte of the stream has its first bit as the bit of value 128.
 use Rattle.std.specs.Prelude.{ℕ, zero, suc, ◌+◌, ◌*◌, ◌/◌, ◌%◌, Bool, true, false, List, [], ◌∷◌, ◌++◌, length, take, drop, fold, flat_map, ◌==◌}
+use Rattle.std.specs.Int.RustNames.{bit_or}
 
 -- what a bit adds where it has value 1
 abbrev pub bit_value : Bool → ℕ
@@ -39,3 +40,7 @@ bytes_of (suc count) bits = byte_of (take 8 bits) ∷ bytes_of count (drop 8 bit
 -- the list with `part` written over it from `at` on
 abbrev pub placed : {A : Type 0} → ℕ → List A → List A → List A
 placed at part whole = take at whole ++ part ++ drop (at + length part) whole
+
+-- the list with 1 also where `count` bits of a number have it, the bit of value 1 standing at place `at`
+abbrev pub gained : ℕ → ℕ → ℕ → List Bool → List Bool
+gained at count ones whole = placed at (word_bits count (bit_or (word_of (take count (drop at whole))) ones)) whole

@@ -1,7 +1,6 @@
 // What every plane of bits can do, however it keeps them.
 ghost use Rattle.std.specs.Prelude.{◌≡◌, ℕ, ◌+◌, ◌*◌, ◌/◌, ◌%◌, ◌<◌, ◌≤◌, ◌↔◌, ◌++◌, List, Bool, length, take, drop, IfOk, IsTrue};
-ghost use Rattle.std.specs.Int.RustNames.{bit_or};
-ghost use Rattle.bit_plane.specs.BitList.{word_bits, word_of, byte_bits, byte_of, bits_of, bytes_of, placed};
+ghost use Rattle.bit_plane.specs.BitList.{word_bits, word_of, byte_bits, byte_of, bits_of, bytes_of, gained, placed};
 ghost use Rattle.bit_plane.specs.Rows.{Rows, IsGrid, row_at, bit_at, with_row, with_bit, blank, flat, rows_of};
 
 use std::alloc::{AllocError, Global};
@@ -52,13 +51,13 @@ pub trait Bits: Sized + Drop {
         ensures { rows self.new ≡ with_row (rows self.old) y
             (placed x (word_bits count bits) (row_at (rows self.old) y)) };
 
-    /// Sets those of `count` bits of row y, from column x on, at which the low bits of `bits` have a 1. The first is the bit of value 1.
+    /// Sets to 1 each of `count` bits of row y, from column x on, for which `bits` has a 1; the others stay. The first is the bit of
+    /// value 1.
     fn gain_row_bits(&mut self, x: usize, y: usize, count: usize, bits: u64)
         requires count { count ≤ 64 }
         requires columns { x + count ≤ WIDTH }
         requires row { y < HEIGHT }
-        ensures { rows self.new ≡ with_row (rows self.old) y
-            (placed x (word_bits count (bit_or (word_of (take count (drop x (row_at (rows self.old) y)))) bits)) (row_at (rows self.old) y)) };
+        ensures { rows self.new ≡ with_row (rows self.old) y (gained x count bits (row_at (rows self.old) y)) };
 
     /// Sets the eight bits from a position on to those of a byte, the most significant first.
     fn put_byte(&mut self, position: usize, byte: u8)

@@ -1,9 +1,8 @@
 // The two orders in which numbers hold bits, over slices of words. Bit p of such a slice is bit p % 64 of word p / 64.
 // One bit at least follows those that are read or written, so that a word is there even where no bit is.
 ghost use Rattle.std.specs.Prelude.{◌≡◌, ◌+◌, ◌*◌, ◌/◌, ◌%◌, ◌^◌, ◌<◌, ◌≤◌, ◌↔◌, IsTrue, length, take, drop};
-ghost use Rattle.bit_plane.specs.BitList.{word_bits, word_of, byte_bits, byte_of, bits_of, bytes_of, placed};
+ghost use Rattle.bit_plane.specs.BitList.{word_bits, word_of, byte_bits, byte_of, bits_of, bytes_of, gained, placed};
 ghost use Rattle.std.specs.Int.{w8, reverse_bits};
-ghost use Rattle.std.specs.Int.RustNames.{bit_or};
 ghost use Rattle.bit_plane.specs.inside.Packed.{packed};
 
 use crate::reversal::reversed;
@@ -65,12 +64,11 @@ fn replaced(word: u64, at: usize, count: usize, bits: u64) -> u64
     word ^ low(word >> at ^ bits, count) << at
 }
 
-/// The word with those of `count` bits from a place on set at which the low bits of a number have a 1.
+/// The word in which each of `count` bits from a place on is 1 that was 1 or for which a number has a 1.
 fn gained(word: u64, at: usize, count: usize, bits: u64) -> u64
     requires at { at < 64 }
     requires count { at + count ≤ 64 }
-    ensures { word_bits 64 result ≡ placed at
-        (word_bits count (bit_or (word_of (take count (drop at (word_bits 64 word)))) bits)) (word_bits 64 word) }
+    ensures { word_bits 64 result ≡ gained at count bits (word_bits 64 word) }
 {
     word | low(bits, count) << at
 }
@@ -108,12 +106,11 @@ pub fn put_word(words: &mut [u64], position: usize, count: usize, bits: u64)
     }
 }
 
-/// Sets those of `count` bits from a position on at which the low bits of a number have a 1. The first is the bit of value 1.
+/// Sets to 1 each of `count` bits from a position on for which a number has a 1; the others stay. The first is the bit of value 1.
 pub fn gain_word(words: &mut [u64], position: usize, count: usize, bits: u64)
     requires count { count ≤ 64 }
     requires words { position + count < 64 * length words.old }
-    ensures { packed words.new ≡ placed position
-        (word_bits count (bit_or (word_of (take count (drop position (packed words.old)))) bits)) (packed words.old) }
+    ensures { packed words.new ≡ gained position count bits (packed words.old) }
 {
     let place = position / 64;
     let at = position % 64;

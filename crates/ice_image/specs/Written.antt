@@ -29,7 +29,7 @@ pub record IsWritten (places : ℕ → Place) (bits : ℕ → Bool) (count : ℕ
   pub written : (k : ℕ) → k < count → place_bit after (places k) ≡ bits k
   pub others : SameBut (IsAmong places count) before after
 
--- a number has the bits of another at other places: it is 1 at the place of each that is 1 there, and at no other place below a bound
+-- `spread` has bit k of `ones` at place `places k`, for each k below `count`, and is 0 at all other places below `bound`
 pub record IsSpread (places : ℕ → ℕ) (count bound ones spread : ℕ) : Type 0 where
   pub set : (k : ℕ) → k < count → number_bit ones k ≡ true → number_bit spread (places k) ≡ true
   pub only : (place : ℕ) → place < bound → number_bit spread place ≡ true → (k : ℕ) × (k < count) × (places k ≡ place) × (number_bit ones k ≡ true)

@@ -168,17 +168,16 @@ impl AnyImage {
         }
     }
 
-    /// Sets the bits of a row of a tile at which `ones` has a 1, by where its rows lie. Column c is the bit of value 2^c; bits
-    /// past the tile's columns are passed over.
-    pub fn set_row_ones(&mut self, runs: TileRuns, row: u8, ones: u64)
+    /// The same as `set_ones`, for a tile whose `tile_runs` were asked for before.
+    pub fn set_ones_in(&mut self, runs: TileRuns, row: u8, ones: u64)
         requires row { row < 16 }
         requires runs { AreRunsOf (configuration_of self.old).layout runs.x runs.y runs }
         ensures device { device_of self.new ≡ device_of self.old }
         ensures bits { Gains (row_ones runs.x runs.y row ones) (configuration_of self.old) (configuration_of self.new) }
     {
         match self {
-            AnyImage::K1(image) => image.set_row_ones(runs, row, ones),
-            AnyImage::K8(image) => image.set_row_ones(runs, row, ones),
+            AnyImage::K1(image) => image.set_ones_in(runs, row, ones),
+            AnyImage::K8(image) => image.set_ones_in(runs, row, ones),
         }
     }
 

@@ -1,7 +1,6 @@
 // The planes of the four banks, one for each quarter of the grid.
 ghost use Rattle.std.specs.Prelude.{◌≡◌, ◌+◌, ◌<◌, ◌≤◌, IfOk, replicate, take, drop};
-ghost use Rattle.std.specs.Int.RustNames.{bit_or};
-ghost use Rattle.bit_plane.specs.BitList.{word_bits, word_of, placed};
+ghost use Rattle.bit_plane.specs.BitList.{word_bits, word_of, gained, placed};
 ghost use Rattle.bit_plane.specs.Rows.{blank, row_at, with_row};
 ghost use Rattle.ice_image.specs.Configuration.{bank_rows, place_bit, with_bank, with_place_bit, AreBanks};
 ghost use Rattle.std.specs.Borrow.{Lends, sem};
@@ -108,15 +107,15 @@ impl<P: Bits> Banks<P> {
         }
     }
 
-    /// Sets those of `count` bits of row y of a bank's plane, from column x on, at which the low bits of `bits` have a 1. The first
-    /// is the bit of value 1.
+    /// Sets to 1 each of `count` bits of row y of a bank's plane, from column x on, for which `bits` has a 1; the others stay. The
+    /// first is the bit of value 1.
     pub(crate) fn gain_row_bits(&mut self, bank: usize, x: usize, y: usize, count: usize, bits: u64)
         requires bank { bank < 4 }
         requires count { count ≤ 64 }
         requires columns { x + count ≤ P.WIDTH }
         requires row { y < P.HEIGHT }
         ensures planes { self.new ≡ with_bank self.old bank (with_row (bank_rows self.old bank) y
-            (placed x (word_bits count (bit_or (word_of (take count (drop x (row_at (bank_rows self.old bank) y)))) bits)) (row_at (bank_rows self.old bank) y))) }
+            (gained x count bits (row_at (bank_rows self.old bank) y))) }
         ensures before { AreBanks P.WIDTH P.HEIGHT self.old }
         ensures whole { AreBanks P.WIDTH P.HEIGHT self.new }
     {

@@ -9,11 +9,12 @@ ghost use Rattle.ice_image.specs.Written.{IsSpread};
 
 use plane_map::{Layout, TileRuns};
 
-/// The bits of a row of a tile as they stand in their run. Column c is the bit of value 2^c in `row_bits`.
+/// The bits of a row of a tile as they stand in their run. Column c is the bit of value 2^c in `row_bits`. Bits of the run that
+/// are no column's are 0, and bits past the run may be anything.
 #[inline(always)]
 pub(crate) fn spread(layout: &Layout, runs: TileRuns, row_bits: u64) -> u64
     requires { AreRunsOf layout.now runs.x runs.y runs }
-    ensures { (row : ℕ) → IsSpread (λ col. column_of layout.now (record { x = runs.x; y = runs.y; row = row; col = col })) (columns_at layout.now.device runs.x runs.y) runs.count row_bits result }
+    ensures { (row : ℕ) → IsSpread (λ col. column_of layout.now (record { x = runs.x; y = runs.y; row = row; col = col })) (columns_at layout.now.device runs.x runs.y) runs.length row_bits result }
 {
     match layout.io_columns(runs) {
         Some(columns) => spread_over(columns, row_bits),
@@ -37,7 +38,7 @@ fn spread_over(columns: &[u8; 18], row_bits: u64) -> u64
 /// The bits of a row of a tile, from the bits of its run. Column c is the bit of value 2^c.
 pub(crate) fn gathered(layout: &Layout, runs: TileRuns, run_bits: u64) -> u64
     requires runs { AreRunsOf layout.now runs.x runs.y runs }
-    requires small { run_bits < 2 ^ runs.count }
+    requires small { run_bits < 2 ^ runs.length }
     ensures { (row : ℕ) → result ≡ word_of (row_from (columns_at layout.now.device runs.x runs.y) (λ col. number_bit run_bits (column_of layout.now (record { x = runs.x; y = runs.y; row = row; col = col })))) }
 {
     match layout.io_columns(runs) {

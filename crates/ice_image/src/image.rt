@@ -19,7 +19,7 @@ use crate::comment::Comment;
 use crate::extras::{extra_place, extras_of};
 use crate::planes::PlaneKind;
 use crate::settings::{Range, Settings};
-use crate::tiles::{read_tile, row_word, set_ones_in, set_row_ones, write_tile};
+use crate::tiles::{read_tile, row_word, set_ones, set_ones_in, write_tile};
 use crate::words::{read_word, set_ones_of_word, write_word};
 use bit_plane::{Bits, Tile};
 use plane_map::{Device, DeviceName, Layout, Place, RowCol, TileBit, TileKind, TileRuns, WordBit};
@@ -153,7 +153,7 @@ impl<D: Device> Image<D> {
         requires { row < 16 }
         ensures { Gains (row_ones x y row ones) self.old self.new }
     {
-        set_row_ones(&self.layout, &mut self.cram, x, y, row, ones);
+        set_ones(&self.layout, &mut self.cram, x, y, row, ones);
     }
 
     /// Where the rows of the tile at (x, y) lie; none where there is no tile.
@@ -163,9 +163,8 @@ impl<D: Device> Image<D> {
         self.layout.tile_runs(x, y)
     }
 
-    /// Sets the bits of a row of a tile at which `ones` has a 1, by where its rows lie. Column c is the bit of value 2^c; bits
-    /// past the tile's columns are passed over.
-    pub fn set_row_ones(&mut self, runs: TileRuns, row: u8, ones: u64)
+    /// The same as `set_ones`, for a tile whose `tile_runs` were asked for before.
+    pub fn set_ones_in(&mut self, runs: TileRuns, row: u8, ones: u64)
         requires row { row < 16 }
         requires runs { AreRunsOf self.old.layout runs.x runs.y runs }
         ensures { Gains (row_ones runs.x runs.y row ones) self.old self.new }

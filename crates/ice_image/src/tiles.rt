@@ -52,7 +52,7 @@ fn row_in<P: Bits>(layout: &Layout, cram: &Banks<P>, runs: TileRuns, row: u8) ->
     ensures { result ≡ word_of (row_from (columns_at layout.now.device runs.x runs.y) (λ col. place_bit cram.now (tile_place layout.now runs.x runs.y row col))) }
 {
     let run = layout.run_of_row(runs, row);
-    gathered(layout, runs, run_word(cram, run, usize::from(runs.count)))
+    gathered(layout, runs, run_word(cram, run, usize::from(runs.length)))
 }
 
 /// Sets all bits of the tile at (x, y) to those of another tile.
@@ -77,7 +77,7 @@ pub(crate) fn write_tile<P: Bits, const C: usize>(
 }
 
 /// Sets the bits of a row of the tile at (x, y) at which `ones` has a 1. Column c is the bit of value 2^c.
-pub(crate) fn set_row_ones<P: Bits>(
+pub(crate) fn set_ones<P: Bits>(
     layout: &Layout,
     cram: &mut Banks<P>,
     x: u8,
@@ -119,7 +119,7 @@ pub(crate) fn set_ones_in<P: Bits>(
     }
     let run = layout.run_of_row(runs, row);
     let spread = spread(layout, runs, ones);
-    set_run_ones(cram, run, usize::from(runs.count), spread);
+    set_run_ones(cram, run, usize::from(runs.length), spread);
 }
 
 /// Sets a row of the tile at (x, y) to the bits of a word. Column c gets the bit of value 2^c.
@@ -155,8 +155,8 @@ fn write_row_in<P: Bits>(layout: &Layout, cram: &mut Banks<P>, runs: TileRuns, r
     ensures whole { AreBanks P.WIDTH P.HEIGHT cram.new }
 {
     let run = layout.run_of_row(runs, row);
-    let count = usize::from(runs.count);
+    let length = usize::from(runs.length);
     // Bits of the run that are no column's stay as they are.
-    let others = run_word(cram, run, count) & !spread(layout, runs, u64::MAX);
-    write_run(cram, run, count, others | spread(layout, runs, word));
+    let others = run_word(cram, run, length) & !spread(layout, runs, u64::MAX);
+    write_run(cram, run, length, others | spread(layout, runs, word));
 }

@@ -1,6 +1,7 @@
 // What a byte adds to the check value's register.
 
-/// What each byte adds where so many bytes follow: the remainder of its bits times x^16, and x^8 more for each byte that follows.
+/// `REMAINDERS[n][b]` is what byte b adds where n bytes follow it in the same step: the remainder of its bits times
+/// x^(16 + 8n).
 pub(super) const REMAINDERS: [[u16; 256]; 8] = [
     [
         0x0000, 0x1021, 0x2042, 0x3063, 0x4084, 0x50A5, 0x60C6, 0x70E7, 0x8108, 0x9129, 0xA14A,

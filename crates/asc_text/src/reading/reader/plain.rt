@@ -27,7 +27,8 @@ pub(crate) struct TakenLines<'a> {
 }
 
 impl Reader {
-    /// Takes the lines at the front of a text that are the expected rows or digits with LF right behind. There may be none.
+    /// Takes the lines at the front of a text that are the expected rows or digits with LF right behind. There may be none. The
+    /// line behind them is left to `accept_any`.
     #[inline(always)]
     pub(crate) fn accept_plain<'a>(&mut self, text: &'a [u8]) -> TakenLines<'a>
         requires ready { IsReady self.old.image self.old.expected }
@@ -172,7 +173,7 @@ fn set_plain_row(image: &mut AnyImage, runs: TileRuns, row: u8, text: &[u8], wid
 {
     match plain_row(text, width) {
         Some(ones) => {
-            image.set_row_ones(runs, row, ones);
+            image.set_ones_in(runs, row, ones);
             true
         }
         None => false,

@@ -16,6 +16,6 @@ returns-clause-written g c =
     let after = c.set_run_ones.new.planes in
     let spread = c.spread-spread.result in
     let written = subst (λ (n : ℕ). IsWritten (run_place run.result n) (gained_bit (run_place run.result n) before spread) n before after) c.from.ensures c.set_run_ones.ensures.written in
-    row-gained (run_place run.result runs.count) runs.count (tile_place layout runs.x runs.y c.args.row) (columns_at layout.device runs.x runs.y)
+    row-gained (run_place run.result runs.length) runs.length (tile_place layout runs.x runs.y c.args.row) (columns_at layout.device runs.x runs.y)
     (λ col. column_of layout (record { x = runs.x; y = runs.y; row = c.args.row; col = col })) c.args.ones spread before after run.ensures.columns run.ensures.places
     (λ k j within inside same. (tile_place-same layout c.requires.layout runs.x runs.y c.args.row k c.args.row j c.requires.row within c.requires.row inside same).1) (c.spread-spread.ensures c.args.row) written

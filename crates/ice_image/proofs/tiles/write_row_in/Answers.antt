@@ -22,9 +22,9 @@ returns-clause-written g c =
     let kept = c.run_word.result in
     let all = c.spread.result in
     let part = c.spread-2.result in
-    let written = subst (λ (n : ℕ). IsWritten (run_place run.result n) (bit_of_word n (bit_or (bit_and kept (bit_not w64 all)) part)) n before after) c.from-count.ensures c.write_run.ensures.written in
-    row-written (run_place run.result runs.count) runs.count (tile_place layout runs.x runs.y c.args.row) (columns_at layout.device runs.x runs.y)
+    let written = subst (λ (n : ℕ). IsWritten (run_place run.result n) (bit_of_word n (bit_or (bit_and kept (bit_not w64 all)) part)) n before after) c.from-length.ensures c.write_run.ensures.written in
+    row-written (run_place run.result runs.length) runs.length (tile_place layout runs.x runs.y c.args.row) (columns_at layout.device runs.x runs.y)
     (λ col. column_of layout (record { x = runs.x; y = runs.y; row = c.args.row; col = col })) c.args.word all part kept before after run.ensures.columns run.ensures.places
     (λ k j within inside same. (tile_place-same layout c.requires.layout runs.x runs.y c.args.row k c.args.row j c.requires.row within c.requires.row inside same).1)
-    (omega (arith, c.requires.runs.count, run_length-few layout.device runs.x runs.y)) (omega (arith, columns_at-le layout.device runs.x runs.y)) c.spread.type_inv
-    (c.run_word.ensures ∙ ap (λ n. word_of (row_from n (λ k. place_bit before (run_place run.result n k)))) c.from-count.ensures) (c.spread.ensures c.args.row) (c.spread-2.ensures c.args.row) written
+    (omega (arith, c.requires.runs.length, run_length-few layout.device runs.x runs.y)) (omega (arith, columns_at-le layout.device runs.x runs.y)) c.spread.type_inv
+    (c.run_word.ensures ∙ ap (λ n. word_of (row_from n (λ k. place_bit before (run_place run.result n k)))) c.from-length.ensures) (c.spread.ensures c.args.row) (c.spread-2.ensures c.args.row) written

@@ -13,5 +13,5 @@ returns-in-Some c =
     let line = take c.args.width c.args.text.now in
     let ones = c.in-Some.ones in
     let is = c.in-Some.ensures in
-    let gains = Gains-same (row_ones x y row ones) (row_sets x y row line) (configuration_of c.args.image.now) (configuration_of c.set_row_ones.new.self) c.set_row_ones.ensures.bits (λ bit there. ones-characters x y row ones line is.2 bit) in
-    (is.0, is.1, record { device = c.set_row_ones.ensures.device; gains = gains })
+    let gains = Gains-same (row_ones x y row ones) (row_sets x y row line) (configuration_of c.args.image.now) (configuration_of c.set_ones_in.new.self) c.set_ones_in.ensures.bits (λ bit there. ones-characters x y row ones line is.2 bit) in
+    (is.0, is.1, record { device = c.set_ones_in.ensures.device; gains = gains })

@@ -1,7 +1,7 @@
 use Rattle.std.proofs.Common.{rules}
 use Rattle.ice_image.proofs.Gained.{row_gains_in}
 use Rattle.ice_image.proofs.Sizes.{image_of-whole}
-use Rattle.ice_image.proofs.image.Image.set_row_ones.Goals as goal
+use Rattle.ice_image.proofs.image.Image.set_ones_in.Goals as goal
 
 pub returns : goal.returns
 returns g c =

@@ -25,7 +25,7 @@ use Rattle.asc_text.proofs.Gains.{bytes-line}
 use Rattle.ice_image.specs.Bits.{Bit}
 use Rattle.asc_text.specs.Blocks.{depth_at, statement_over, statement_at, depth_after, has_rows}
 use Rattle.asc_text.specs.Faults.{cause_at, cause_if}
-use Rattle.asc_text.specs.inside.Reading.{ReaderState, HasKind, ImageGains, TakesRow, TakesMemory, row_at, memory_at, after_text, with_line}
+use Rattle.asc_text.specs.inside.Reading.{ReaderState, HasKind, ImageGains, TakesRow, TakesMemory, before_row, before_memory, after_text, with_line}
 use Rattle.asc_text.proofs.Dotted.{none_without_dot}
 use Rattle.asc_text.proofs.HasRead.{HasRead, HasComment, HasImage, IsAt, device_known}
 use Rattle.asc_text.proofs.Given.{Follows, HasGiven-more}
@@ -145,15 +145,15 @@ row_step layouts lines n row s image expected read depth outside fits dot same h
 
 -- where the line after a row stands
 row-stands : (lines : List (List ℕ)) (n x y row : ℕ) (kind : TileKind) (s : ReaderState) (image : Option AnyImage) → IsAt lines n s (Row kind x y row) → device_known image ≡ device_known s.image
-    → IsAt lines (n + 1) (moved s image (row_at kind x y (row + 1))) (row_at kind x y (row + 1))
+    → IsAt lines (n + 1) (moved s image (before_row kind x y (row + 1))) (before_row kind x y (row + 1))
 row-stands lines n x y row kind s image stands same =
     let at : Expected → Type 0 = λ e. IsAt lines (n + 1) (moved s image e) e in
     elim (cases_eq row 15) [
       | inl last ↦
-          let next : row_at kind x y (row + 1) ≡ AnyStatement = rw (eq-eqb (row + 1) 16 (omega (arith, last))) refl in
+          let next : before_row kind x y (row + 1) ≡ AnyStatement = rw (eq-eqb (row + 1) 16 (omega (arith, last))) refl in
           subst at (sym next) (depth-last lines n row stands.0 last)
       | inr other ↦
-          let next : row_at kind x y (row + 1) ≡ Row kind x y (row + 1) = rw (ne_eqb (row + 1) 16 (λ is. other (omega (arith, is)))) refl in
+          let next : before_row kind x y (row + 1) ≡ Row kind x y (row + 1) = rw (ne_eqb (row + 1) 16 (λ is. other (omega (arith, is)))) refl in
           subst at (sym next) (
             depth-next lines n row stands.0 other,
             ap (λ k. statement_in (line_at lines k)) (omega arith) ∙ stands.1,
@@ -164,15 +164,15 @@ row-stands lines n x y row kind s image stands same =
     ]
 
 memory-stands : (lines : List (List ℕ)) (n x y row : ℕ) (s : ReaderState) (image : Option AnyImage) → IsAt lines n s (Memory x y row) → device_known image ≡ device_known s.image
-    → IsAt lines (n + 1) (moved s image (memory_at x y (row + 1))) (memory_at x y (row + 1))
+    → IsAt lines (n + 1) (moved s image (before_memory x y (row + 1))) (before_memory x y (row + 1))
 memory-stands lines n x y row s image stands same =
     let at : Expected → Type 0 = λ e. IsAt lines (n + 1) (moved s image e) e in
     elim (cases_eq row 15) [
       | inl last ↦
-          let next : memory_at x y (row + 1) ≡ AnyStatement = rw (eq-eqb (row + 1) 16 (omega (arith, last))) refl in
+          let next : before_memory x y (row + 1) ≡ AnyStatement = rw (eq-eqb (row + 1) 16 (omega (arith, last))) refl in
           subst at (sym next) (depth-last lines n row stands.0 last)
       | inr other ↦
-          let next : memory_at x y (row + 1) ≡ Memory x y (row + 1) = rw (ne_eqb (row + 1) 16 (λ is. other (omega (arith, is)))) refl in
+          let next : before_memory x y (row + 1) ≡ Memory x y (row + 1) = rw (ne_eqb (row + 1) 16 (λ is. other (omega (arith, is)))) refl in
           subst at (sym next) (
             depth-next lines n row stands.0 other,
             ap (λ k. statement_in (line_at lines k)) (omega arith) ∙ stands.1,
@@ -203,7 +203,7 @@ took-row layouts lines n x y row kind s new read stands fits refusal takes =
     let has_read : ReaderState → Type 0 = λ t. HasRead layouts lines (n + 1) t in
     let bits : HasImage layouts lines (n + 1) new.image = image-gains layouts lines n s.image new.image (row_sets x y row line) read.image takes.1
     (λ bit. sym (rw (over, stands.0, later row, before row) (and-true (row_sets x y row line bit)))) in
-    subst has_read (sym takes.0) (row_step layouts lines n row s new.image (row_at kind x y (row + 1)) read stands.0 stands.4 fits dot same bits (row-stands lines n x y row kind s new.image stands same))
+    subst has_read (sym takes.0) (row_step layouts lines n row s new.image (before_row kind x y (row + 1)) read stands.0 stands.4 fits dot same bits (row-stands lines n x y row kind s new.image stands same))
 
 -- a line of the contents of a RAM
 pub took-memory : (layouts : Layouts) (lines : List (List ℕ)) (n x y row : ℕ) (s new : ReaderState) → HasRead layouts lines n s → IsAt lines n s (Memory x y row) → cause_at layouts lines n ≡ None
@@ -216,7 +216,7 @@ took-memory layouts lines n x y row s new read stands fits refusal takes =
     let has_read : ReaderState → Type 0 = λ t. HasRead layouts lines (n + 1) t in
     let bits : HasImage layouts lines (n + 1) new.image = image-gains layouts lines n s.image new.image (bytes_set x y row (memory_bytes line)) read.image takes.1
     (λ bit. bytes-line x y row line bit ∙ sym (rw (over, stands.0, later row, before row) (and-true (line_sets x y row line bit)))) in
-    subst has_read (sym takes.0) (row_step layouts lines n row s new.image (memory_at x y (row + 1)) read stands.0 stands.4 fits dot same bits (memory-stands lines n x y row s new.image stands same))
+    subst has_read (sym takes.0) (row_step layouts lines n row s new.image (before_memory x y (row + 1)) read stands.0 stands.4 fits dot same bits (memory-stands lines n x y row s new.image stands same))
 
 -- ---- a line that is no statement
 

@@ -10,7 +10,7 @@ use Rattle.asc_text.specs.Meaning.{row_sets}
 use Rattle.asc_text.specs.declared.reading.reader.Expected.{Expected}
 use Rattle.asc_text.specs.declared.reading.reader.Expected.TheVariants.{Statement as AnyStatement, Row, Memory}
 use Rattle.asc_text.specs.inside.Gains.{bytes_set}
-use Rattle.asc_text.specs.inside.Reading.{ReaderState, GainsBits, TakesFirst, TakesLines, TakesRows, TakesMemoryLines, row_refusal, memory_refusal, is_lf_at, row_at, memory_at}
+use Rattle.asc_text.specs.inside.Reading.{ReaderState, GainsBits, TakesFirst, TakesLines, TakesRows, TakesMemoryLines, row_refusal, memory_refusal, is_lf_at, before_row, before_memory}
 use Rattle.asc_text.proofs.FirstLines.{taken-row, taken-memory}
 
 -- a line of sixteen is not the end of them
@@ -38,43 +38,43 @@ one-more s expected first row middle after text left rest from taken took =
 
 -- ---- rows of a tile
 
-row_at-row : (kind : TileKind) (x y row : ℕ) → row < 16 → row_at kind x y row ≡ Row kind x y row
-row_at-row kind x y row small = ap (λ (b : Bool). if b then AnyStatement else Row kind x y row) (not-end row small)
+before_row-row : (kind : TileKind) (x y row : ℕ) → row < 16 → before_row kind x y row ≡ Row kind x y row
+before_row-row kind x y row small = ap (λ (b : Bool). if b then AnyStatement else Row kind x y row) (not-end row small)
 
 -- one row
 row-first : (s : ReaderState) (kind : TileKind) (x y row width : ℕ) (before after : AnyImage) (text : List ℕ) → row < 16 → columns_of kind ≡ width → is_lf_at text width ≡ true → is_row width (take width text) ≡ true
     → GainsBits before after (row_sets x y row (take width text))
-    → TakesFirst (with_lines s (Some before) (row_at kind x y row)) text (drop (width + 1) text) (with_lines s (Some after) (row_at kind x y (row + 1)))
+    → TakesFirst (with_lines s (Some before) (before_row kind x y row)) text (drop (width + 1) text) (with_lines s (Some after) (before_row kind x y (row + 1)))
 row-first s kind x y row width before after text small wide at is gains =
-    let old : ReaderState = with_lines s (Some before) (row_at kind x y row) in
-    let new : ReaderState = with_lines s (Some after) (row_at kind x y (row + 1)) in
+    let old : ReaderState = with_lines s (Some before) (before_row kind x y row) in
+    let new : ReaderState = with_lines s (Some after) (before_row kind x y (row + 1)) in
     let fits : row_refusal kind (take width text) ≡ None = rw (wide, is) refl in
-    taken-row old new text kind x y row width (row_at-row kind x y row small) at fits (refl, gains)
+    taken-row old new text kind x y row width (before_row-row kind x y row small) at fits (refl, gains)
 
 -- one more
 pub more-rows : (kind : TileKind) (x y first row width : ℕ) (before : Option AnyImage) (middle after : AnyImage) (text left : List ℕ) → first ≤ row → row < 16 → columns_of kind ≡ width
     → TakesRows kind x y first before text (row - first) left (Some middle) → is_lf_at left width ≡ true → is_row width (take width left) ≡ true
     → GainsBits middle after (row_sets x y row (take width left)) → TakesRows kind x y first before text (row + 1 - first) (drop (width + 1) left) (Some after)
 more-rows kind x y first row width before middle after text left from small wide taken at is gains s image expected =
-    one-more s (row_at kind x y) first row middle after text left (drop (width + 1) left) from (taken s image expected) (row-first s kind x y row width middle after left small wide at is gains)
+    one-more s (before_row kind x y) first row middle after text left (drop (width + 1) left) from (taken s image expected) (row-first s kind x y row width middle after left small wide at is gains)
 
 -- ---- lines of a RAM's contents
 
-memory_at-memory : (x y row : ℕ) → row < 16 → memory_at x y row ≡ Memory x y row
-memory_at-memory x y row small = ap (λ (b : Bool). if b then AnyStatement else Memory x y row) (not-end row small)
+before_memory-memory : (x y row : ℕ) → row < 16 → before_memory x y row ≡ Memory x y row
+before_memory-memory x y row small = ap (λ (b : Bool). if b then AnyStatement else Memory x y row) (not-end row small)
 
 -- one line
 memory-first : (s : ReaderState) (x y row : ℕ) (before after : AnyImage) (text : List ℕ) → row < 16 → is_lf_at text 64 ≡ true → is_memory_line (take 64 text) ≡ true → GainsBits before after (bytes_set x y row (memory_bytes (take 64 text)))
-    → TakesFirst (with_lines s (Some before) (memory_at x y row)) text (drop 65 text) (with_lines s (Some after) (memory_at x y (row + 1)))
+    → TakesFirst (with_lines s (Some before) (before_memory x y row)) text (drop 65 text) (with_lines s (Some after) (before_memory x y (row + 1)))
 memory-first s x y row before after text small at is gains =
-    let old : ReaderState = with_lines s (Some before) (memory_at x y row) in
-    let new : ReaderState = with_lines s (Some after) (memory_at x y (row + 1)) in
+    let old : ReaderState = with_lines s (Some before) (before_memory x y row) in
+    let new : ReaderState = with_lines s (Some after) (before_memory x y (row + 1)) in
     let fits : memory_refusal (take 64 text) ≡ None = rw is refl in
-    taken-memory old new text x y row 64 (memory_at-memory x y row small) at fits (refl, gains)
+    taken-memory old new text x y row 64 (before_memory-memory x y row small) at fits (refl, gains)
 
 -- one more
 pub more-memory_lines : (x y first row : ℕ) (before : Option AnyImage) (middle after : AnyImage) (text left : List ℕ) → first ≤ row → row < 16
     → TakesMemoryLines x y first before text (row - first) left (Some middle) → is_lf_at left 64 ≡ true → is_memory_line (take 64 left) ≡ true
     → GainsBits middle after (bytes_set x y row (memory_bytes (take 64 left))) → TakesMemoryLines x y first before text (row + 1 - first) (drop 65 left) (Some after)
 more-memory_lines x y first row before middle after text left from small taken at is gains s image expected =
-    one-more s (memory_at x y) first row middle after text left (drop 65 left) from (taken s image expected) (memory-first s x y row middle after left small at is gains)
+    one-more s (before_memory x y) first row middle after text left (drop 65 left) from (taken s image expected) (memory-first s x y row middle after left small at is gains)

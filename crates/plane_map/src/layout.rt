@@ -136,7 +136,7 @@ impl Layout {
         // Column c of the row is the bit of the run that `column_of` says.
         ensures places { (col : ℕ) → col < columns_at self.now.device runs.x runs.y
             → place_of self.now (record { x = runs.x; y = runs.y; row = row; col = col })
-                ≡ run_place result runs.length (column_of self.now (record { x = runs.x; y = runs.y; row = row; col = col })) }
+            ≡ run_place result runs.length (column_of self.now (record { x = runs.x; y = runs.y; row = row; col = col })) }
     {
         run_of_row(self, runs, row)
     }

@@ -210,13 +210,13 @@ with_line (Some lines) line = Some (lines ++ line ∷ [])
 abbrev pub after_text : ReaderState → List ℕ → ReaderState
 after_text s line = record s { comment = if s.in_comment && nat_lt 0 (length line) then with_line s.comment line else s.comment }
 
--- what is expected before that row of a tile, of the rows 0 to 16
-abbrev pub row_at : TileKind → ℕ → ℕ → ℕ → Expected
-row_at kind x y row = if row == 16 then AnyStatement else Row kind x y row
+-- what is expected behind the rows of a tile before that one: it, or a statement behind all sixteen
+abbrev pub before_row : TileKind → ℕ → ℕ → ℕ → Expected
+before_row kind x y row = if row == 16 then AnyStatement else Row kind x y row
 
--- what is expected before that line of a RAM's contents, of the lines 0 to 16
-abbrev pub memory_at : ℕ → ℕ → ℕ → Expected
-memory_at x y row = if row == 16 then AnyStatement else Memory x y row
+-- what is expected behind the lines of a RAM's contents before that one: it, or a statement behind all sixteen
+abbrev pub before_memory : ℕ → ℕ → ℕ → Expected
+before_memory x y row = if row == 16 then AnyStatement else Memory x y row
 
 -- what a statement changes
 abbrev pub TakesStatement : ReaderState → Statement → List ℕ → ReaderState → Type 0
@@ -238,12 +238,12 @@ TakesDotted s (Some statement) line new = TakesStatement (record s { in_comment 
 
 -- what a row of a tile changes
 abbrev pub TakesRow : ReaderState → TileKind → ℕ → ℕ → ℕ → List ℕ → ReaderState → Type 0
-TakesRow s kind x y row line new = (new ≡ record s { image = new.image; expected = row_at kind x y (row + 1) })
+TakesRow s kind x y row line new = (new ≡ record s { image = new.image; expected = before_row kind x y (row + 1) })
     × ImageGains s.image new.image (row_sets x y row line)
 
 -- what a line of a RAM's contents changes
 abbrev pub TakesMemory : ReaderState → ℕ → ℕ → ℕ → List ℕ → ReaderState → Type 0
-TakesMemory s x y row line new = (new ≡ record s { image = new.image; expected = memory_at x y (row + 1) })
+TakesMemory s x y row line new = (new ≡ record s { image = new.image; expected = before_memory x y (row + 1) })
     × ImageGains s.image new.image (bytes_set x y row (memory_bytes line))
 
 -- what a line changes
@@ -271,12 +271,12 @@ TakesLines s text (suc count) rest new = (middle : List ℕ) × (between : Reade
 -- that many rows of a tile were taken into an image, from that row on
 abbrev pub TakesRows : TileKind → ℕ → ℕ → ℕ → Option AnyImage → List ℕ → ℕ → List ℕ → Option AnyImage → Type 0
 TakesRows kind x y row before text count rest after = (s : ReaderState) → s.image ≡ before → s.expected ≡ Row kind x y row
-    → TakesLines s text count rest (record s { image = after; expected = row_at kind x y (row + count) })
+    → TakesLines s text count rest (record s { image = after; expected = before_row kind x y (row + count) })
 
 -- that many lines of a RAM's contents were taken into an image, from that line on
 abbrev pub TakesMemoryLines : ℕ → ℕ → ℕ → Option AnyImage → List ℕ → ℕ → List ℕ → Option AnyImage → Type 0
 TakesMemoryLines x y row before text count rest after = (s : ReaderState) → s.image ≡ before → s.expected ≡ Memory x y row
-    → TakesLines s text count rest (record s { image = after; expected = memory_at x y (row + count) })
+    → TakesLines s text count rest (record s { image = after; expected = before_memory x y (row + count) })
 
 -- ---- the end
 

@@ -42,11 +42,11 @@ pub(crate) enum Expected {
 
 impl Expected {
     ghost use Rattle.asc_text.specs.Faults.{tile_named};
-    ghost use Rattle.asc_text.specs.inside.Reading.{plain_length, statement_of, row_at, memory_at};
+    ghost use Rattle.asc_text.specs.inside.Reading.{plain_length, statement_of, before_row, before_memory};
 
-    /// What is expected before that row of a tile, of the rows 0 to 16.
-    fn row_at(kind: TileKind, x: u8, y: u8, row: u8) -> Expected
-        ensures { result ≡ row_at kind x y row }
+    /// What is expected behind the rows of a tile before that one: it, or a statement behind all sixteen.
+    fn before_row(kind: TileKind, x: u8, y: u8, row: u8) -> Expected
+        ensures { result ≡ before_row kind x y row }
     {
         if row == 16 {
             Expected::Statement
@@ -55,9 +55,9 @@ impl Expected {
         }
     }
 
-    /// What is expected before that line of the contents of a RAM, of the lines 0 to 16.
-    fn memory_at(x: u8, y: u8, row: u8) -> Expected
-        ensures { result ≡ memory_at x y row }
+    /// What is expected behind the lines of a RAM's contents before that one: it, or a statement behind all sixteen.
+    fn before_memory(x: u8, y: u8, row: u8) -> Expected
+        ensures { result ≡ before_memory x y row }
     {
         if row == 16 {
             Expected::Statement

@@ -31,7 +31,7 @@ impl Reader {
         match row_ones(line, kind) {
             Some(ones) => {
                 set_row(&mut self.image, x, y, row, ones);
-                self.expected = Expected::row_at(kind, x, y, row + 1);
+                self.expected = Expected::before_row(kind, x, y, row + 1);
                 Ok(())
             }
             None => Err(AscCause::Row),
@@ -56,7 +56,7 @@ impl Reader {
         match memory_bytes(line) {
             Some(bytes) => {
                 set_memory_line(&mut self.image, x, y, row, &bytes);
-                self.expected = Expected::memory_at(x, y, row + 1);
+                self.expected = Expected::before_memory(x, y, row + 1);
                 Ok(())
             }
             None => Err(AscCause::Hex),

@@ -58,7 +58,7 @@ impl Reader {
         ensures { TakesLines (state_of self.old) text.now result.count result.rest.now (state_of self.new) }
     {
         let taken = set_rows(&mut self.image, kind, x, y, row, text);
-        self.expected = Expected::row_at(kind, x, y, row + taken.count);
+        self.expected = Expected::before_row(kind, x, y, row + taken.count);
         taken
     }
 
@@ -70,7 +70,7 @@ impl Reader {
         ensures { TakesLines (state_of self.old) text.now result.count result.rest.now (state_of self.new) }
     {
         let taken = set_memory_lines(&mut self.image, x, y, row, text);
-        self.expected = Expected::memory_at(x, y, row + taken.count);
+        self.expected = Expected::before_memory(x, y, row + taken.count);
         taken
     }
 }

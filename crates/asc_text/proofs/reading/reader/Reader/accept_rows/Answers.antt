@@ -3,4 +3,4 @@ use Rattle.asc_text.specs.inside.Reading.{state_of}
 use Rattle.asc_text.proofs.reading.reader.Reader.accept_rows.Goals as goal
 
 pub returns : goal.returns
-returns c = rw c.row_at-self.ensures (c.set_rows-taken.ensures.taken (state_of c.args.self.now) refl c.requires.expected)
+returns c = rw c.before_row-self.ensures (c.set_rows-taken.ensures.taken (state_of c.args.self.now) refl c.requires.expected)

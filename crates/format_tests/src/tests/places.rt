@@ -117,7 +117,7 @@ fn run(bank: u8, px: u16, py: u16, backwards: bool) -> Run {
 /// The run in which a row of the tile at (x, y) lies, and how many bits it has, if there is a tile.
 fn run_of_row(layout: &Layout, x: u8, y: u8, row: u8) -> Option<(Run, u8)> {
     match layout.tile_runs(x, y) {
-        Some(runs) if row < 16 => Some((layout.run_of_row(runs, row), runs.count)),
+        Some(runs) if row < 16 => Some((layout.run_of_row(runs, row), runs.length)),
         _ => None,
     }
 }

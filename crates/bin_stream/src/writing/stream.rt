@@ -45,11 +45,11 @@ pub fn encode(alloc: Global, image: &AnyImage) -> Result<Vec<u8>, AllocError>
     Ok(out)
 }
 
-/// How many bytes the bitstream of an image has, where its comment has no lines.
+/// Room enough for the bitstream of an image with a short comment.
 fn usual_size(device: DeviceName) -> usize {
     match device {
-        DeviceName::K1 => 32_220,
-        DeviceName::K8 => 135_100,
+        DeviceName::K1 => 33_000,
+        DeviceName::K8 => 136_000,
     }
 }
 

@@ -1,5 +1,5 @@
 -- Files in memory: what is found in a list of them, and what was stored over them.
-use Rattle.std.proofs.Common.{◌≡◌, ◌∙◌, ℕ, ◌+◌, ◌<◌, Bool, true, false, cond, List, ◌∷◌, map, length, drop, take, get_or, Option, Some, None, refl, sym, ap}
+use Rattle.std.proofs.Common.{◌≡◌, ◌∙◌, ℕ, ◌+◌, ◌<◌, Bool, true, false, cond, List, ◌∷◌, map, length, drop, get_or, Some, refl, sym, ap}
 use Rattle.std.proofs.lemmas.List.{drop_more}
 use Rattle.std.proofs.lemmas.Map.Text.{is_eq-slice_cmp}
 use Rattle.std.specs.Prelude.{bytes_eq, string_bytes}
@@ -41,21 +41,20 @@ get_inserted files target bytes name b is =
     ∙ ap (λ b. cond b (Some bytes) (get files name)) (is_eq-slice_cmp name target ∙ is)
 
 -- what was stored is found under its name
-pub get_stored : (files : FileMap) (target room name : List ℕ) (stored : Option ℕ) (len : ℕ) → stored ≡ Some len → bytes_eq name target ≡ true
-    → get (stored_over files target stored room) name ≡ Some (take len room)
-get_stored files target room name stored len is same =
-    ap (λ o. get (stored_over files target o room) name) is ∙ get_inserted files target (take len room) name true same
+pub get_stored : (files : FileMap) (target bytes name : List ℕ) (stored : Bool) → stored ≡ true → bytes_eq name target ≡ true
+    → get (stored_over files target stored bytes) name ≡ Some bytes
+get_stored files target bytes name stored is same = ap (λ b. get (stored_over files target b bytes) name) is ∙ get_inserted files target bytes name true same
 
 -- under another name all is as it was
-pub get_other : (files : FileMap) (target room name : List ℕ) (stored : Option ℕ) → bytes_eq name target ≡ false
-    → get (stored_over files target stored room) name ≡ get files name
-get_other files target room name None other = refl
-get_other files target room name (Some len) other = get_inserted files target (take len room) name false other
+pub get_other : (files : FileMap) (target bytes name : List ℕ) (stored : Bool) → bytes_eq name target ≡ false
+    → get (stored_over files target stored bytes) name ≡ get files name
+get_other files target bytes name false other = refl
+get_other files target bytes name true other = get_inserted files target bytes name false other
 
 -- where nothing was stored, all is as it was
-pub get_unstored : (files : FileMap) (target room name : List ℕ) (stored : Option ℕ) → stored ≡ None
-    → get (stored_over files target stored room) name ≡ get files name
-get_unstored files target room name stored is = ap (λ o. get (stored_over files target o room) name) is
+pub get_unstored : (files : FileMap) (target bytes name : List ℕ) (stored : Bool) → stored ≡ false
+    → get (stored_over files target stored bytes) name ≡ get files name
+get_unstored files target bytes name stored is = ap (λ b. get (stored_over files target b bytes) name) is
 
 -- a test that is repeated
 cond_again : {A : Type 0} (b : Bool) (x y z : A) → cond b x (cond b y z) ≡ cond b x z
@@ -72,7 +71,7 @@ insert_again files name old new =
     ∙ sym (get-insert nat_list_cmp_total files name new q))
 
 -- what is stored takes the place of what was
-pub stored_over_stored : (files : FileMap) (name : List ℕ) (stored : Option ℕ) (room new bytes : List ℕ) (n : ℕ) → take n new ≡ bytes
-    → stored_over files name (Some n) new ≡ insert (stored_over files name stored room) name bytes
-stored_over_stored files name None room new bytes n is = ap (insert files name) is
-stored_over_stored files name (Some len) room new bytes n is = ap (insert files name) is ∙ sym (insert_again files name (take len room) bytes)
+pub stored_over_stored : (files : FileMap) (name : List ℕ) (stored : Bool) (old bytes : List ℕ)
+    → stored_over files name true bytes ≡ insert (stored_over files name stored old) name bytes
+stored_over_stored files name false old bytes = refl
+stored_over_stored files name true old bytes = sym (insert_again files name old bytes)

@@ -1,8 +1,10 @@
 pub mod Faults
 pub mod Taken
+pub mod Takers
 pub mod Put
 pub mod InMemory
 pub mod Files
+pub mod Room
 pub mod MemFiles
 pub mod DirFiles
 pub mod Real

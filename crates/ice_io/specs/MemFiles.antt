@@ -1,5 +1,5 @@
 -- The files in memory: what their calls do, and which fail.
-use Rattle.std.specs.Prelude.{◌≡◌, ◌≢◌, ◌⊎◌, ℕ, List, Option, Some, None, map, take, Contains, string_bytes, refl}
+use Rattle.std.specs.Prelude.{◌≡◌, ◌≢◌, ◌⊎◌, ℕ, Bool, true, false, List, None, map, take, Contains, string_bytes, refl}
 use Rattle.std.specs.FinMap as map_of
 use Rattle.std.specs.FinMap.{get, insert, from_entries}
 use Rattle.std.specs.Coded.{Coded, code_by, coded×, coded_ℕ, coded_list}
@@ -36,10 +36,10 @@ entry_of file = (string_bytes file.name, file.bytes.items)
 abbrev pub files_of : List NamedFile → FileMap
 files_of files = from_entries (map entry_of files)
 
--- the files, with what was stored under one name, if anything was: the first bytes of the room
-abbrev pub stored_over : FileMap → List ℕ → Option ℕ → List ℕ → FileMap
-stored_over files target None room = files
-stored_over files target (Some len) room = insert files target (take len room)
+-- the files, with these bytes under one name, if it was stored
+abbrev pub stored_over : FileMap → List ℕ → Bool → List ℕ → FileMap
+stored_over files target false bytes = files
+stored_over files target true bytes = insert files target bytes
 
 -- the next call, a load of this name, fails
 abbrev pub LoadFails : FilesState → List ℕ → Type 0

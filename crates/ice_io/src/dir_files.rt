@@ -1,14 +1,17 @@
-// The real files. A load returns all that was left in a file of the system, and a store adds all its bytes to one. That the file
-// is the one of that name, and was emptied before, is the system's part.
-ghost use Rattle.std.specs.Prelude.{◌≡◌, ◌+◌, ◌<◌, ◌≤◌, ◌^◌, ℕ, None, true, false, length, vec_len, IfOk, IfErr, OnOk, OnErr, IsErrOf};
+// The real files. A load returns or gives all that was left in a file of the system, and a store adds all its bytes to one.
+// That the file is the one of that name, and was emptied before, is the system's part.
+ghost use Rattle.std.specs.Prelude.{◌≡◌, ◌+◌, ◌<◌, ◌≤◌, ◌^◌, ℕ, List, None, true, false, length, vec_len, IfOk, IfErr, OnOk, OnErr, IsErrOf};
 ghost use Rattle.ice_io.specs.DirFiles.{after_load_fault, after_store_fault, WereInFile, WereTaken, WereWritten, WerePartWritten};
 ghost use Rattle.ice_io.specs.Files.{LeavesPart};
 ghost use Rattle.ice_io.specs.Put.{written_before};
+ghost use Rattle.ice_io.specs.Takers.{TakesMore};
 
+use crate::content::Content;
 use crate::files::{Files, StoreFault};
 use crate::real::{StdSink, StdSource};
-use crate::sink::{PutFault, write_whole};
+use crate::sink::PutFault;
 use crate::source::{TakeFault, read_expected};
+use crate::taker::{Taker, feed_all};
 use std::alloc::Global;
 use std::fs::OpenFile;
 use std::marker::Model;
@@ -72,6 +75,33 @@ impl<R: rt::Files> Files for DirFiles<'_, R> {
         loaded
     }
 
+    fn load_into<T: Taker>(
+        &mut self,
+        alloc: Global,
+        name: &str,
+        limit: usize,
+        taker: &mut T,
+    ) -> Result<(), TakeFault>
+        requires limit { limit < 2 ^ 32 }
+        requires none { T.fed taker.old ≡ 0 }
+        ensures never_falls { self.old.load_faults ≤ self.new.load_faults }
+        ensures same_store_faults { self.new.store_faults ≡ self.old.store_faults }
+
+        ensures same { (IsErrOf result TakeFault.Failed → ⊥) → self.new ≡ self.old }
+        ensures failed { IsErrOf result TakeFault.Failed → self.new ≡ after_load_fault self.old }
+
+        // `Ok` has given all bytes of a file, and `TooLong` comes only where more than the limit were read from one.
+        ensures whole { OnOk result ((bytes : List ℕ) × WereInFile R.File.remaining bytes
+            × (length bytes ≤ limit) × TakesMore T.has_taken taker.old taker.new bytes) }
+        ensures longer { IsErrOf result TakeFault.TooLong → WereTaken R.File.remaining (limit + 1) }
+    {
+        let loaded = feed_from(self.rt, alloc, name, limit, taker);
+        if let Err(TakeFault::Failed) = loaded {
+            self.load_faults = self.load_faults.saturating_add(1);
+        }
+        loaded
+    }
+
     fn store(&mut self, name: &str, bytes: &[u8]) -> Result<(), StoreFault>
         ensures part { IfErr result (LeavesPart None None name.now bytes.now) }
         ensures never_falls { self.old.store_faults ≤ self.new.store_faults }
@@ -84,7 +114,22 @@ impl<R: rt::Files> Files for DirFiles<'_, R> {
         ensures whole { OnOk result (WereWritten R.File.contents bytes.now) }
         ensures first { IfErr result (WerePartWritten R.File.contents bytes.now) }
     {
-        let stored = store_to(self.rt, name, bytes);
+        self.store_content(name, bytes)
+    }
+
+    fn store_content<C: Content>(&mut self, name: &str, content: C) -> Result<(), StoreFault>
+        ensures part { IfErr result (LeavesPart None None name.now (C.bytes content)) }
+        ensures never_falls { self.old.store_faults ≤ self.new.store_faults }
+        ensures same_load_faults { self.new.load_faults ≡ self.old.load_faults }
+
+        ensures same { OnOk result (self.new ≡ self.old) }
+        ensures failed { OnErr result (self.new ≡ after_store_fault self.old) }
+
+        // `Ok` has written all bytes to a file, and a fault as many as it says.
+        ensures whole { OnOk result (WereWritten R.File.contents (C.bytes content)) }
+        ensures first { IfErr result (WerePartWritten R.File.contents (C.bytes content)) }
+    {
+        let stored = store_to(self.rt, name, content);
         if stored.is_err() {
             self.store_faults = self.store_faults.saturating_add(1);
         }
@@ -111,6 +156,26 @@ fn load_from<R: rt::Files>(
     read_expected(alloc, &mut StdSource::new(file), limit, expected)
 }
 
+// Opens a file and gives its bytes to a taker, to its end.
+fn feed_from<R: rt::Files, T: Taker>(
+    rt: &R,
+    alloc: Global,
+    name: &str,
+    limit: usize,
+    taker: &mut T,
+) -> Result<(), TakeFault>
+    requires limit { limit < 2 ^ 32 }
+    requires none { T.fed taker.old ≡ 0 }
+    ensures whole { OnOk result ((bytes : List ℕ) × WereInFile R.File.remaining bytes
+        × (length bytes ≤ limit) × TakesMore T.has_taken taker.old taker.new bytes) }
+    ensures longer { IsErrOf result TakeFault.TooLong → WereTaken R.File.remaining (limit + 1) }
+{
+    match fs::open(rt, name) {
+        Ok(file) => feed_all(alloc, &mut StdSource::new(file), limit, taker),
+        Err(_) => Err(TakeFault::Failed),
+    }
+}
+
 // How many bytes the system says that a file has. It may say too many or too few.
 fn length_of<F: OpenFile>(file: &F) -> usize {
     match file.metadata() {
@@ -119,11 +184,11 @@ fn length_of<F: OpenFile>(file: &F) -> usize {
     }
 }
 
-// Creates a file, or empties it, and writes the bytes.
-fn store_to<R: rt::Files>(rt: &R, name: &str, bytes: &[u8]) -> Result<(), StoreFault>
-    ensures part { IfErr result (LeavesPart None None name.now bytes.now) }
-    ensures whole { OnOk result (WereWritten R.File.contents bytes.now) }
-    ensures first { IfErr result (WerePartWritten R.File.contents bytes.now) }
+// Creates a file, or empties it, and writes the content.
+fn store_to<R: rt::Files, C: Content>(rt: &R, name: &str, content: C) -> Result<(), StoreFault>
+    ensures part { IfErr result (LeavesPart None None name.now (C.bytes content)) }
+    ensures whole { OnOk result (WereWritten R.File.contents (C.bytes content)) }
+    ensures first { IfErr result (WerePartWritten R.File.contents (C.bytes content)) }
 {
     let Ok(file) = fs::create(rt, name) else {
         return Err(StoreFault::Failed {
@@ -131,7 +196,7 @@ fn store_to<R: rt::Files>(rt: &R, name: &str, bytes: &[u8]) -> Result<(), StoreF
             written: 0,
         });
     };
-    match write_whole(&mut StdSink::new(file), bytes) {
+    match content.write_to(&mut StdSink::new(file)) {
         Ok(()) => Ok(()),
         Err(fault) => Err(fault_of_opened(fault)),
     }

@@ -5,6 +5,7 @@
 //! what lies in a file of the system, only the system knows.
 #![tactic(auto)]
 
+mod content;
 mod dir_files;
 mod files;
 mod mem_files;
@@ -12,9 +13,12 @@ mod memory;
 mod named_file;
 mod pieces;
 mod real;
+mod room;
 mod sink;
 mod source;
+mod taker;
 
+pub use content::Content;
 pub use dir_files::DirFiles;
 pub use files::{Files, StoreFault};
 pub use mem_files::MemFiles;
@@ -23,3 +27,4 @@ pub use named_file::NamedFile;
 pub use real::{StdSink, StdSource};
 pub use sink::{PutFault, Sink, write_whole};
 pub use source::{Failed, Source, TakeFault, read_all};
+pub use taker::{Taker, feed_all};

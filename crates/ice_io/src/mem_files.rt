@@ -1,14 +1,18 @@
 // Files in memory. They know their bytes, and fail at the calls that were chosen.
-ghost use Rattle.std.specs.Prelude.{◌≡◌, ◌⊎◌, ◌↔◌, ◌+◌, ◌<◌, ◌≤◌, ◌^◌, ℕ, Bool, true, false, Option, Some, None, map, nat_eq, length, take, vec_len, IfOk, IfErr, OnOk, OnErr, IfSome, IsSomeAnd, IsErrOf, IsTrue, option_copied};
+ghost use Rattle.std.specs.Prelude.{◌≡◌, ◌⊎◌, ◌↔◌, ◌+◌, ◌<◌, ◌≤◌, ◌^◌, ℕ, List, Bool, true, false, Option, Some, None, map, nat_eq, length, take, vec_len, IfOk, IfErr, OnOk, OnErr, IfSome, IsSomeAnd, IsErrOf, IsTrue, option_copied};
 ghost use Rattle.std.specs.Ordering.{nat_cmp};
 ghost use Rattle.std.specs.Cmp.Lexicographic.{slice_cmp};
 ghost use Rattle.std.specs.FinMap.{get, find};
 ghost use Rattle.ice_io.specs.MemFiles.{entry_of, files_of, LoadFails, StoreFails, after_load, after_failed_load, after_store, after_part_store, after_failed_store};
+ghost use Rattle.ice_io.specs.Takers.{TakesMore};
 
+use crate::content::Content;
 use crate::files::{Files, StoreFault};
 use crate::named_file::NamedFile;
-use crate::pieces::{copy_whole, fill_front, is_listed};
+use crate::pieces::{copy_whole, give_whole, is_listed};
+use crate::room::Room;
 use crate::source::TakeFault;
+use crate::taker::Taker;
 use std::alloc::{AllocError, Global};
 use std::marker::Model;
 
@@ -17,8 +21,8 @@ use std::marker::Model;
 pub struct MemFiles {
     files: Vec<NamedFile>,
     target: String,
-    room: Vec<u8>,
-    stored: Option<usize>,
+    room: Room,
+    stored: bool,
     most: usize,
     failing: Vec<u64>,
     calls: u64,
@@ -27,8 +31,7 @@ pub struct MemFiles {
 }
 
 impl Model for MemFiles {
-    ghost use Rattle.std.specs.Prelude.{◌≤◌, vec_len, string_bytes};
-    ghost use Rattle.std.specs.Option.{ForSome};
+    ghost use Rattle.std.specs.Prelude.{◌≤◌, string_bytes};
     ghost use Rattle.ice_io.specs.MemFiles.{FilesState, files_code, files_of, stored_over};
 
     ghost Value = { FilesState };
@@ -36,9 +39,9 @@ impl Model for MemFiles {
     ghost coded = { files_code };
 
     ghost view = { λ s. record {
-      files = stored_over (files_of s.files.items) (string_bytes s.target) s.stored s.room.items;
+      files = stored_over (files_of s.files.items) (string_bytes s.target) s.stored s.room.held;
       target = string_bytes s.target;
-      room = vec_len s.room;
+      room = s.room.size;
       most = s.most;
       failing = s.failing.items;
       calls = s.calls;
@@ -46,13 +49,13 @@ impl Model for MemFiles {
       store_faults = s.store_faults;
     } };
 
-    ghost invariant = { λ s. (1 ≤ s.most) × ForSome s.stored (λ len. len ≤ vec_len s.room) };
+    ghost invariant = { λ s. 1 ≤ s.most };
 }
 
 impl MemFiles {
-    /// Files in memory, whose bytes are copied at most `most` at a time. Only `target` may be stored, with at most `room` bytes.
-    /// `failing` lists the calls that fail: loads and stores are counted together, from 1. The memory for `target` is allocated
-    /// here.
+    /// Files in memory, whose bytes are copied and given at most `most` at a time. Only `target` may be stored, with at most
+    /// `room` bytes. `failing` lists the calls that fail: loads and stores are counted together, from 1. The memory for `target`
+    /// is allocated here.
     pub fn new(
         alloc: Global,
         files: Vec<NamedFile>,
@@ -67,8 +70,8 @@ impl MemFiles {
         Ok(MemFiles {
             files,
             target: String::from_str(alloc, target)?,
-            room: vec![in alloc; 0u8; room]?,
-            stored: None,
+            room: Room::new(alloc, room, most)?,
+            stored: false,
             most,
             failing,
             calls: 0,
@@ -81,10 +84,10 @@ impl MemFiles {
     pub fn bytes_of(&self, name: &str) -> Option<&[u8]>
         ensures { option_copied result ≡ get self.now.files name.now }
     {
-        match self.stored {
-            Some(len) if name == self.target.as_str() => Some(&self.room[..len]),
-            _ => find_file(&self.files, name),
+        if self.stored && name == self.target.as_str() {
+            return Some(self.room.bytes());
         }
+        find_file(&self.files, name)
     }
 }
 
@@ -119,6 +122,37 @@ impl Files for MemFiles {
         loaded
     }
 
+    fn load_into<T: Taker>(
+        &mut self,
+        _alloc: Global,
+        name: &str,
+        limit: usize,
+        taker: &mut T,
+    ) -> Result<(), TakeFault>
+        requires limit { limit < 2 ^ 32 }
+        requires none { T.fed taker.old ≡ 0 }
+        ensures never_falls { self.old.load_faults ≤ self.new.load_faults }
+
+        ensures fails { IsErrOf result TakeFault.Failed ↔ LoadFails self.old name.now }
+        ensures too_long { IsErrOf result TakeFault.TooLong → IsSomeAnd (get self.old.files name.now) (λ bytes. limit < length bytes) }
+        ensures bytes { OnOk result ((bytes : List ℕ) × (get self.old.files name.now ≡ Some bytes)
+            × (length bytes ≤ limit) × TakesMore T.has_taken taker.old taker.new bytes) }
+        ensures none { OnErr result (taker.new ≡ taker.old) }
+        ensures after { (IsErrOf result TakeFault.Failed → ⊥) → self.new ≡ after_load self.old }
+        ensures after_failed { IsErrOf result TakeFault.Failed → self.new ≡ after_failed_load self.old }
+    {
+        self.calls = self.calls.saturating_add(1);
+        let loaded = if is_listed(&self.failing, self.calls) {
+            Err(TakeFault::Failed)
+        } else {
+            given(self.bytes_of(name), limit, self.most, taker)
+        };
+        if let Err(TakeFault::Failed) = loaded {
+            self.load_faults = self.load_faults.saturating_add(1);
+        }
+        loaded
+    }
+
     fn store(&mut self, name: &str, bytes: &[u8]) -> Result<(), StoreFault>
         ensures never_falls { self.old.store_faults ≤ self.new.store_faults }
 
@@ -130,6 +164,20 @@ impl Files for MemFiles {
         ensures after_part { IsErrOf result (StoreFault.Failed true self.old.room) → self.new ≡ after_part_store self.old bytes.now }
         ensures after_failed { IsErrOf result (StoreFault.Failed false 0) → self.new ≡ after_failed_store self.old }
     {
+        self.store_content(name, bytes)
+    }
+
+    fn store_content<C: Content>(&mut self, name: &str, content: C) -> Result<(), StoreFault>
+        ensures never_falls { self.old.store_faults ≤ self.new.store_faults }
+
+        ensures fails { IsErrOf result (StoreFault.Failed false 0) ↔ StoreFails self.old name.now }
+        ensures short { IsErrOf result (StoreFault.Failed true self.old.room) → self.old.room < length (C.bytes content) }
+        ensures fits { OnOk result (length (C.bytes content) ≤ self.old.room) }
+        ensures err { IfErr result (λ fault. (fault ≡ StoreFault.Failed false 0) ⊎ (fault ≡ StoreFault.Failed true self.old.room)) }
+        ensures after { OnOk result (self.new ≡ after_store self.old (C.bytes content)) }
+        ensures after_part { IsErrOf result (StoreFault.Failed true self.old.room) → self.new ≡ after_part_store self.old (C.bytes content) }
+        ensures after_failed { IsErrOf result (StoreFault.Failed false 0) → self.new ≡ after_failed_store self.old }
+    {
         self.calls = self.calls.saturating_add(1);
         if is_listed(&self.failing, self.calls) || name != self.target.as_str() {
             self.store_faults = self.store_faults.saturating_add(1);
@@ -138,16 +186,15 @@ impl Files for MemFiles {
                 written: 0,
             });
         }
-        let written = fill_front(bytes, self.most, &mut self.room);
-        self.stored = Some(written);
-        if written < bytes.len() {
-            self.store_faults = self.store_faults.saturating_add(1);
-            return Err(StoreFault::Failed {
-                opened: true,
-                written,
-            });
+        self.stored = true;
+        if self.room.fill(content) {
+            return Ok(());
         }
-        Ok(())
+        self.store_faults = self.store_faults.saturating_add(1);
+        Err(StoreFault::Failed {
+            opened: true,
+            written: self.room.size(),
+        })
     }
 }
 
@@ -183,4 +230,28 @@ fn copied(
     let mut copy = vec![in alloc; 0u8; file.len()]?;
     copy_whole(file, most, &mut copy);
     Ok(copy)
+}
+
+// Gives a taker a file that is there and has at most `limit` bytes, at most `most` bytes at a time.
+fn given<T: Taker>(
+    file: Option<&[u8]>,
+    limit: usize,
+    most: usize,
+    taker: &mut T,
+) -> Result<(), TakeFault>
+    requires some { 1 ≤ most }
+    requires limit { limit < 2 ^ 32 }
+    requires none { T.fed taker.old ≡ 0 }
+    ensures failed { IsErrOf result TakeFault.Failed ↔ (option_copied file.entry ≡ None) }
+    ensures too_long { IsErrOf result TakeFault.TooLong → IsSomeAnd (option_copied file.entry) (λ bytes. limit < length bytes) }
+    ensures bytes { OnOk result ((bytes : List ℕ) × (option_copied file.entry ≡ Some bytes)
+        × (length bytes ≤ limit) × TakesMore T.has_taken taker.old taker.new bytes) }
+    ensures none { OnErr result (taker.new ≡ taker.old) }
+{
+    let file = file.ok_or(TakeFault::Failed)?;
+    if file.len() > limit {
+        return Err(TakeFault::TooLong);
+    }
+    give_whole(file, most, taker);
+    Ok(())
 }

@@ -1,5 +1,8 @@
-// Shared by the sources, sinks and files in memory: which calls fail, and copying a piece at a time.
-ghost use Rattle.std.specs.Prelude.{◌≡◌, ◌++◌, ◌↔◌, ◌≤◌, min, length, take, drop, IsTrue, Contains};
+// Shared by the sources, sinks and files in memory: which calls fail, and copying and giving a piece at a time.
+ghost use Rattle.std.specs.Prelude.{◌≡◌, ◌+◌, ◌++◌, ◌↔◌, ◌<◌, ◌≤◌, ◌^◌, min, length, take, drop, IsTrue, Contains};
+ghost use Rattle.ice_io.specs.Takers.{TakesMore};
+
+use crate::taker::Taker;
 
 // Whether a call is one of those that are listed.
 pub(crate) fn is_listed(failing: &[u64], call: u64) -> bool
@@ -30,13 +33,16 @@ pub(crate) fn copy_whole(from: &[u8], most: usize, into: &mut [u8])
     }
 }
 
-// Copies the front of the bytes over the front of the room, as many as it has room for, at most `most` at a time.
-pub(crate) fn fill_front(bytes: &[u8], most: usize, room: &mut [u8]) -> usize
-    requires { 1 ≤ most }
-    ensures count { result ≡ min (length bytes.now) (length room.old) }
-    ensures copied { take result room.new ≡ take result bytes.now }
+// Gives a taker all the bytes, at most `most` at a time.
+pub(crate) fn give_whole<T: Taker>(bytes: &[u8], most: usize, taker: &mut T)
+    requires some { 1 ≤ most }
+    requires few { T.fed taker.old + length bytes.now < 2 ^ 32 }
+    ensures { TakesMore T.has_taken taker.old taker.new bytes.now }
 {
-    let count = bytes.len().min(room.len());
-    copy_whole(&bytes[..count], most, &mut room[..count]);
-    count
+    let mut at = 0;
+    while at < bytes.len() {
+        let count = most.min(bytes.len() - at);
+        taker.take(&bytes[at..at + count]);
+        at += count;
+    }
 }

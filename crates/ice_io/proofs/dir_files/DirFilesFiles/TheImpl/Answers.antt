@@ -13,6 +13,11 @@ on_ok : {T E P : Type 0} (r : Result T E) → P → OnOk r P
 on_ok (Ok x) p = p
 on_ok (Err e) p = tt
 
+-- what follows from a fact, where the call succeeded
+on_ok_then : {T E P Q : Type 0} (r : Result T E) → (P → Q) → OnOk r P → OnOk r Q
+on_ok_then (Ok x) f p = f p
+on_ok_then (Err e) f p = tt
+
 -- what follows from a fact, where the call failed
 on_err : {T E P Q : Type 0} (r : Result T E) → (P → Q) → OnErr r P → OnErr r Q
 on_err (Ok x) f p = tt
@@ -31,8 +36,30 @@ load-tells g c = record {
   same_store_faults = c.ensures.same_store_faults;
 }
 
+pub load_into-tells : goal.load_into-tells
+load_into-tells g c = record {
+  bytes = on_ok_then c.result (λ h. (h.0, tt, h.2, h.3)) c.ensures.whole;
+  too_long = λ _. tt;
+  lacks = λ _ _. tt;
+  failed = λ h. omega (arith, ap (λ (s : FileFaults). s.load_faults) (c.ensures.failed h));
+  same_contents = refl;
+  same_steady = refl;
+  never_falls = c.ensures.never_falls;
+  same_store_faults = c.ensures.same_store_faults;
+}
+
 pub store-tells : goal.store-tells
 store-tells g c = record {
+  whole = on_ok c.result refl;
+  part = c.ensures.part;
+  failed = on_err c.result (λ h. omega (arith, ap (λ (s : FileFaults). s.store_faults) h)) c.ensures.failed;
+  same_steady = refl;
+  never_falls = c.ensures.never_falls;
+  same_load_faults = c.ensures.same_load_faults;
+}
+
+pub store_content-tells : goal.store_content-tells
+store_content-tells g c = record {
   whole = on_ok c.result refl;
   part = c.ensures.part;
   failed = on_err c.result (λ h. omega (arith, ap (λ (s : FileFaults). s.store_faults) h)) c.ensures.failed;

@@ -1,38 +1,39 @@
 -- From what was made of the needs, and what became of it, to what a run does.
 use Rattle.std.proofs.Common.{◌≡◌, ◌⊎◌, ℕ, false, List, refl, sym, ap, subst, ◌∙◌, inl, inr, arith}
-use Rattle.std.specs.Prelude.{Option, Ok, Err, IsOkAnd, IsErrAnd}
+use Rattle.std.specs.Prelude.{Option, Result, Ok, Err, IsOkAnd, IsErrAnd}
 use Rattle.ice_io.specs.Files.{FileMap}
 use Rattle.tool_run.specs.Needs.{need_of}
 use Rattle.tool_run.specs.Lines.{line_of, refusal_text}
 use Rattle.tool_run.specs.Tasks.{Answer, Done, TooLong as MissesLimit, Outcome, Task}
 use Rattle.tool_run.specs.Effects.{Delivers, DeliversPart, TargetRose, Writes}
-use Rattle.tool_run.specs.Answering.{Answers, Gives, Made}
+use Rattle.tool_run.specs.Answering.{Answers, Gives}
 use Rattle.tool_run.specs.Concluding.{Concludes, Refuses, TellsStop}
 use Rattle.tool_run.specs.Jobs.{RefusesWith}
 use Rattle.tool_run.specs.Runs.{Does, HasBytes, IsStatusFor, Outside, scene}
 use Rattle.tool_run.specs.declared.load.LoadStop.{LoadStop}
 use Rattle.tool_run.specs.declared.load.LoadStop.TheVariants as load_stop
+use Rattle.tool_run.specs.declared.tool.Stop.{Stop}
 use Rattle.tool_run.specs.declared.tool.Stop.TheVariants.{Refused, NotTaken, Memory}
 use Rattle.tool_run.proofs.Outcomes.{concluded-small, exact-answer, foretold, foretold_failure, foretold_input, foretold_reached, has_bytes, not-read, refused-one, refuses, takes-not}
 
 -- the bytes that a tool made are its answer
-made_bytes : (made : Made) (answer : Answer) (D : List ℕ → Type 0) → IsOkAnd made (λ bytes. D bytes.items) → Gives answer made → (bytes : List ℕ) × D bytes × (answer ≡ Done bytes)
-made_bytes (Ok bytes) answer D delivers gives = (bytes.items, delivers, gives)
-made_bytes (Err stop) answer D none gives = absurd none
+made_bytes : {M : Type 0} (bytes : M → List ℕ) (made : Result M Stop) (answer : Answer) (D : List ℕ → Type 0) → IsOkAnd made (λ content. D (bytes content)) → Gives bytes answer made → (text : List ℕ) × D text × (answer ≡ Done text)
+made_bytes bytes (Ok content) answer D delivers gives = (bytes content, delivers, gives)
+made_bytes bytes (Err stop) answer D none gives = absurd none
 
 -- and so is its refusal
-made_refusal : (made : Made) (answer : Answer) (status : ℕ) (S : List ℕ → Type 0) → IsErrAnd made (Refuses status S) → Gives answer made → (said : List ℕ) × RefusesWith answer status said × S said
-made_refusal (Ok bytes) answer status S none gives = absurd none
-made_refusal (Err (Refused refusal)) answer status S refuses gives = (refusal_text refusal, subst (λ a. RefusesWith a status (refusal_text refusal)) (sym gives) (refuses.0, refl), refuses.1)
-made_refusal (Err (NotTaken refusal)) answer status S refuses gives = (refusal_text refusal, subst (λ a. RefusesWith a status (refusal_text refusal)) (sym gives) (refuses.0, refl), refuses.1)
-made_refusal (Err Memory) answer status S none gives = absurd none
+made_refusal : {M : Type 0} (bytes : M → List ℕ) (made : Result M Stop) (answer : Answer) (status : ℕ) (S : List ℕ → Type 0) → IsErrAnd made (Refuses status S) → Gives bytes answer made → (said : List ℕ) × RefusesWith answer status said × S said
+made_refusal bytes (Ok content) answer status S none gives = absurd none
+made_refusal bytes (Err (Refused refusal)) answer status S refuses gives = (refusal_text refusal, subst (λ a. RefusesWith a status (refusal_text refusal)) (sym gives) (refuses.0, refl), refuses.1)
+made_refusal bytes (Err (NotTaken refusal)) answer status S refuses gives = (refusal_text refusal, subst (λ a. RefusesWith a status (refusal_text refusal)) (sym gives) (refuses.0, refl), refuses.1)
+made_refusal bytes (Err Memory) answer status S none gives = absurd none
 
 -- a run in which all was loaded
-pub concluded_run : {F I O E : Type 0} (by : Outside F I O E) (task : Task) (made : Made) (status : ℕ) (files middle new_files : F) (input new_input : I) (output new_output : O) (errors new_errors : E)
-    → Answers by.contents by.steady by.load_faults by.store_faults by.left by.input_faults task.needs task.answer (Ok made) files middle input new_input
-    → Concludes by.contents by.store_faults by.held by.output_faults by.said by.error_faults task.speaker task.target made status middle new_files output new_output errors new_errors
+pub concluded_run : {F I O E M : Type 0} (by : Outside F I O E) (task : Task) (bytes : M → List ℕ) (made : Result M Stop) (status : ℕ) (files middle new_files : F) (input new_input : I) (output new_output : O) (errors new_errors : E)
+    → Answers by.contents by.steady by.load_faults by.store_faults by.left by.input_faults task.needs task.answer bytes (Ok made) files middle input new_input
+    → Concludes by.contents by.store_faults by.held by.output_faults by.said by.error_faults task.speaker task.target bytes made status middle new_files output new_output errors new_errors
     → Does by task status (scene files input output errors) (scene new_files new_input new_output new_errors)
-concluded_run by task made status files middle new_files input new_input output new_output errors new_errors l k =
+concluded_run by task bytes made status files middle new_files input new_input output new_output errors new_errors l k =
     let contents = by.contents files in
     let left = by.left input in
     let texts = l.made.0 in
@@ -40,14 +41,14 @@ concluded_run by task made status files middle new_files input new_input output 
     let answer = task.answer texts in
     let says : List ℕ → Type 0 = λ line. Writes line (by.said errors) (by.said new_errors) (by.error_faults errors) (by.error_faults new_errors) in
     let spoken : List ℕ → Type 0 = λ text. says (line_of task.speaker text) in
-    let delivered : Option FileMap → List ℕ → Type 0 = λ old bytes. Delivers task.target bytes old (by.contents new_files) (by.held output) (by.held new_output) in
-    let parted : Option FileMap → List ℕ → Type 0 = λ old bytes. DeliversPart task.target bytes old (by.contents new_files) (by.held output) (by.held new_output) in
-    let whole : status ≡ 0 → (bytes : List ℕ) × delivered (by.contents middle) bytes × (answer ≡ Done bytes) =
-    λ zero_is. made_bytes made answer (delivered (by.contents middle)) (k.whole zero_is) l.made.2 in
-    let part : status ≡ 4 → (bytes : List ℕ) × parted (by.contents middle) bytes × (answer ≡ Done bytes) =
-    λ four_is. made_bytes made answer (parted (by.contents middle)) (k.part four_is) l.made.2 in
+    let delivered : Option FileMap → List ℕ → Type 0 = λ old text. Delivers task.target text old (by.contents new_files) (by.held output) (by.held new_output) in
+    let parted : Option FileMap → List ℕ → Type 0 = λ old text. DeliversPart task.target text old (by.contents new_files) (by.held output) (by.held new_output) in
+    let whole : status ≡ 0 → (text : List ℕ) × delivered (by.contents middle) text × (answer ≡ Done text) =
+    λ zero_is. made_bytes bytes made answer (delivered (by.contents middle)) (k.whole zero_is) l.made.2 in
+    let part : status ≡ 4 → (text : List ℕ) × parted (by.contents middle) text × (answer ≡ Done text) =
+    λ four_is. made_bytes bytes made answer (parted (by.contents middle)) (k.part four_is) l.made.2 in
     let refused : (status ≡ 1) ⊎ (status ≡ 2) → (said : List ℕ) × RefusesWith answer status said × spoken said =
-    λ refusal. made_refusal made answer status spoken (k.refused refusal) l.made.2 in
+    λ refusal. made_refusal bytes made answer status spoken (k.refused refusal) l.made.2 in
     record {
       statuses = concluded-small status k.statuses;
       whole = λ zero_is.
@@ -79,11 +80,11 @@ concluded_run by task made status files middle new_files input new_input output 
     }
 
 -- a run in which loading stopped
-pub stopped_run : {F I O E : Type 0} (by : Outside F I O E) (task : Task) (stop : LoadStop) (status : ℕ) (files new_files : F) (input new_input : I) (output : O) (errors new_errors : E)
-    → Answers by.contents by.steady by.load_faults by.store_faults by.left by.input_faults task.needs task.answer (Err stop) files new_files input new_input
+pub stopped_run : {F I O E M : Type 0} (by : Outside F I O E) (task : Task) (bytes : M → List ℕ) (stop : LoadStop) (status : ℕ) (files new_files : F) (input new_input : I) (output : O) (errors new_errors : E)
+    → Answers by.contents by.steady by.load_faults by.store_faults by.left by.input_faults task.needs task.answer bytes (Err stop) files new_files input new_input
     → TellsStop status (λ said. Writes (line_of task.speaker said) (by.said errors) (by.said new_errors) (by.error_faults errors) (by.error_faults new_errors)) stop
     → Does by task status (scene files input output errors) (scene new_files new_input output new_errors)
-stopped_run by task (load_stop.Failed load) status files new_files input new_input output errors new_errors l k =
+stopped_run by task bytes (load_stop.Failed load) status files new_files input new_input output errors new_errors l k =
     let contents = by.contents files in
     let left = by.left input in
     let need = need_of load in
@@ -111,7 +112,7 @@ stopped_run by task (load_stop.Failed load) status files new_files input new_inp
       unreached = foretold_reached task contents left false l.unreached;
       unasked = λ no_file no_target. l.unasked no_file;
     }
-stopped_run by task (load_stop.TooLong load) status files new_files input new_input output errors new_errors l k =
+stopped_run by task bytes (load_stop.TooLong load) status files new_files input new_input output errors new_errors l k =
     let contents = by.contents files in
     let left = by.left input in
     let need = need_of load in
@@ -139,7 +140,7 @@ stopped_run by task (load_stop.TooLong load) status files new_files input new_in
       unreached = foretold_reached task contents left false l.unreached;
       unasked = λ no_file no_target. l.unasked no_file;
     }
-stopped_run by task load_stop.Memory status files new_files input new_input output errors new_errors l k =
+stopped_run by task bytes load_stop.Memory status files new_files input new_input output errors new_errors l k =
     let five = k.0 in
     record {
       statuses = omega (arith, five);

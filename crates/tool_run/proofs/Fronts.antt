@@ -1,21 +1,21 @@
 -- Needs behind others.
-use Rattle.std.proofs.Common.{◌≡◌, ℕ, zero, suc, ◌^◌, ◌<◌, ◌≤◌, Bool, true, false, not, ◌||◌, List, [], ◌∷◌, ◌++◌, length, refl, sym, ap, subst, ◌∙◌, arith}
-use Rattle.std.specs.Prelude.{Option, None, Some, Result, Ok, Err, IfOk, IfErr, OnOk, Contains, nat_lt, slice_get}
+use Rattle.std.proofs.Common.{◌≡◌, ℕ, zero, suc, ◌^◌, ◌<◌, ◌≤◌, Bool, true, false, not, ◌||◌, List, [], ◌∷◌, ◌++◌, length, refl, sym, ap, subst, ◌∙◌, inl, inr, arith}
+use Rattle.std.specs.Prelude.{Option, Result, Ok, Err, IfOk, IfErr, OnOk, Contains, slice_get}
 use Rattle.std.specs.Io.KnownBytes.{IsAtEnd}
 use Rattle.std.proofs.Math.ListN.{get_or-append}
 use Rattle.std.proofs.Math.Seq.{get_or-append_seam}
-use Rattle.std.proofs.lemmas.Bool.{le-ltb}
-use Rattle.std.proofs.lemmas.List.{append-nil, length-append}
+use Rattle.std.proofs.lemmas.Bool.{cases_Bool}
+use Rattle.std.proofs.lemmas.List.{length-append}
 use Rattle.std.proofs.lemmas.List.Folds.{list_any-append}
 use Rattle.ice_io.specs.Files.{FileMap}
-use Rattle.ice_io.specs.Taken.{TakesAll}
 use Rattle.tool_run.specs.Needs.{IsFile, IsSound, Need, is_stream, need_of, reads_files, reads_input}
-use Rattle.tool_run.specs.Tasks.{Answer, LoadFault, Missing, TooLong as MissesLimit, bytes_by, bytes_of, loaded, loaded_after, reached, reached_after, with_first}
-use Rattle.tool_run.specs.Loads.{AreTold, NameIsTold, StopsLoading, WhereTold}
-use Rattle.tool_run.specs.Answering.{Answers, Gives, Made}
+use Rattle.tool_run.specs.Tasks.{Answer, LoadFault, Missing, TooLong as MissesLimit, bytes_of, loaded, loaded_after, reached, reached_after, with_first}
+use Rattle.tool_run.specs.Loads.{AreTold, StopsLoading, WhereTold}
+use Rattle.tool_run.specs.Answering.{Answers, Gives}
 use Rattle.tool_run.specs.declared.load.LoadStop.{LoadStop}
 use Rattle.tool_run.specs.declared.load.LoadStop.TheVariants.{Failed, TooLong, Memory}
-use Rattle.tool_run.proofs.Loading.{IsSound-rest, SourceRose-earlier, file-name, not-first}
+use Rattle.tool_run.specs.declared.tool.Stop.{Stop}
+use Rattle.tool_run.proofs.Loading.{IsSound-rest, SourceRose-earlier, file-name, not-first, not-others}
 use Rattle.tool_run.proofs.Outcomes.{or-left, or-right}
 
 -- ---- what is loaded and reached of a front and what is behind it
@@ -169,99 +169,99 @@ stops_behind contents steady left front need texts loads loads_now new_loads inp
     fault_back known text front (need ∷ []) texts (MissesLimit (need_of load)) first (stops known text (told_back contents left known text front (need ∷ []) texts first told))
 stops_behind contents steady left front need texts loads loads_now new_loads inputs new_inputs Memory gives le stops = tt
 
--- ---- standard input behind files
+-- ---- what is behind the front
 
--- the bytes that were left are those that were taken
-taken_text : (left new_left : Option (List ℕ)) (text bytes : List ℕ) → left ≡ Some text → TakesAll left new_left bytes → text ≡ bytes
-taken_text left None text bytes is takes = let all : TakesAll (Some text) None bytes = subst (λ (l : Option (List ℕ)). TakesAll l None bytes) is takes in absurd (all.0)
-taken_text left (Some rest) text bytes is takes =
-    let all : TakesAll (Some text) (Some rest) bytes = subst (λ (l : Option (List ℕ)). TakesAll l (Some rest) bytes) is takes in
-    all.0 ∙ ap (λ r. bytes ++ r) all.1 ∙ append-nil bytes
-
--- they are those of the need
-given_bytes : (known : FileMap) (text : List ℕ) (need : Need) (name : Option (List ℕ)) → need.name ≡ name → name ≡ None → length text ≤ need.limit → bytes_by known text need name ≡ Ok text
-given_bytes known text need None is none le = let within : nat_lt need.limit (length text) ≡ false = le-ltb need.limit (length text) le in rw within refl
-given_bytes known text need (Some name) is none le = absurd cc
-
-pub loads_taken : (contents : Option FileMap) (left new_left : Option (List ℕ)) (front : List Need) (need : Need) (texts : List (List ℕ)) (bytes : List ℕ) → need.name ≡ None
-    → WhereTold contents left front (λ known text. loaded known text front ≡ Ok texts) → TakesAll left new_left bytes → length bytes ≤ need.limit
-    → WhereTold contents left (front ++ need ∷ []) (λ known text. loaded known text (front ++ need ∷ []) ≡ Ok (texts ++ bytes ∷ []))
-loads_taken contents left new_left front need texts bytes is gives takes le = λ known text told.
-    let first = gives known text (told_front contents left known text front (need ∷ []) told) in
-    let last = told_back contents left known text front (need ∷ []) texts first told in
-    let here : left ≡ Some text = subst (λ (name : Option (List ℕ)). NameIsTold contents left known text name) is last.0 in
-    let same = taken_text left new_left text bytes here takes in
-    let one : bytes_of known text need ≡ Ok bytes =
-    given_bytes known text need need.name refl is (subst (λ (b : List ℕ). length b ≤ need.limit) (sym same) le) ∙ ap (λ (b : List ℕ). Ok b) same in
-    loaded-append known text front (need ∷ [])
-    ∙ ap (λ (f : Result (List (List ℕ)) LoadFault). joined f (loaded known text (need ∷ []))) first
-    ∙ ap (λ (b : Result (List ℕ) LoadFault). joined (Ok texts) (loaded_after b (Ok []))) one
-
--- standard input is read where it is behind
-stream_read : (front : List Need) (need : Need) → need.name ≡ None → reads_input (front ++ need ∷ []) ≡ true
-stream_read front need is =
-    list_any-append (λ (n : Need). is_stream n.name) front (need ∷ []) ∙ or-right (reads_input front) (is_stream need.name || false) (rw is refl)
+-- both were loaded
+loads_both : (contents now : Option FileMap) (left : Option (List ℕ)) (front back : List Need) (texts more : List (List ℕ)) → now ≡ contents
+    → WhereTold contents left front (λ known text. loaded known text front ≡ Ok texts) → WhereTold now left back (λ known text. loaded known text back ≡ Ok more)
+    → WhereTold contents left (front ++ back) (λ known text. loaded known text (front ++ back) ≡ Ok (texts ++ more))
+loads_both contents now left front back texts more same gives gives_back = λ known text told.
+    let first = gives known text (told_front contents left known text front back told) in
+    let behind_it = told_back contents left known text front back texts first told in
+    let last = gives_back known text (subst (λ (c : Option FileMap). AreTold c left known text back) (sym same) behind_it) in
+    loaded-append known text front back
+    ∙ ap (λ (f : Result (List (List ℕ)) LoadFault). joined f (loaded known text back)) first
+    ∙ ap (λ (b : Result (List (List ℕ)) LoadFault). joined (Ok texts) b) last
 
 -- no file among all is none in the front
 no_files : (front : List Need) (need : Need) → reads_files (front ++ need ∷ []) ≡ false → reads_files front ≡ false
 no_files front need none =
     not-first (reads_files front) (reads_files (need ∷ [])) (sym (list_any-append (λ (n : Need). not (is_stream n.name)) front (need ∷ [])) ∙ none)
 
--- all in the front was loaded, and standard input fed
-pub answers_behind : {F I : Type 0} (contents : F → Option FileMap) (steady : F → Bool) (load_faults store_faults : F → ℕ) (left : I → Option (List ℕ)) (input_faults : I → ℕ)
-    (front : List Need) (need : Need) (answer : List (List ℕ) → Answer) (result : Result Made LoadStop) (texts : List (List ℕ)) (files new_files : F) (input middle new_input : I)
-    → need.name ≡ None → IsSound (front ++ need ∷ [])
+-- and none behind it
+no_file_behind : (front : List Need) (need : Need) → reads_files (front ++ need ∷ []) ≡ false → reads_files (need ∷ []) ≡ false
+no_file_behind front need none =
+    not-others (reads_files front) (reads_files (need ∷ [])) (sym (list_any-append (λ (n : Need). not (is_stream n.name)) front (need ∷ [])) ∙ none)
+
+-- standard input is among all where it is behind a front without it
+reads_last : (front : List Need) (need : Need) → reads_input front ≡ false → reads_input (front ++ need ∷ []) ≡ reads_input (need ∷ [])
+reads_last front need none =
+    list_any-append (λ (n : Need). is_stream n.name) front (need ∷ []) ∙ ap (λ b. b || reads_input (need ∷ [])) none
+
+-- all in the front was loaded, and this was made of what is behind
+pub answers_behind : {F I M : Type 0} (contents : F → Option FileMap) (steady : F → Bool) (load_faults store_faults : F → ℕ) (left : I → Option (List ℕ)) (input_faults : I → ℕ)
+    (front : List Need) (need : Need) (answer : List (List ℕ) → Answer) (bytes : M → List ℕ) (result : Result (Result M Stop) LoadStop) (texts : List (List ℕ)) (files middle new_files : F) (input middle_input new_input : I)
+    → IsSound (front ++ need ∷ [])
     → WhereTold (contents files) (left input) front (λ known text. loaded known text front ≡ Ok texts)
-    → contents new_files ≡ contents files → store_faults new_files ≡ store_faults files → load_faults files ≤ load_faults new_files
-    → (reads_input front ≡ false → middle ≡ input) → (reads_files front ≡ false → new_files ≡ files)
-    → IfOk result (λ made. (bytes : List ℕ) × TakesAll (left middle) (left new_input) bytes × (length bytes ≤ need.limit) × Gives (answer (texts ++ bytes ∷ [])) made)
-    → IfErr result (λ stop. (c : Option FileMap) (s : Bool) (n : ℕ) → StopsLoading c s (left middle) (need ∷ []) n n (input_faults middle) (input_faults new_input) stop)
-    → Answers contents steady load_faults store_faults left input_faults (front ++ need ∷ []) answer result files new_files input new_input
-answers_behind {F = F} {I = I} contents steady load_faults store_faults left input_faults front need answer result texts files new_files input middle new_input is sound gives same_contents same_store le unread unasked made stops =
+    → contents middle ≡ contents files → steady middle ≡ steady files → store_faults middle ≡ store_faults files → load_faults files ≤ load_faults middle
+    → (reads_input front ≡ false → middle_input ≡ input) → (reads_files front ≡ false → middle ≡ files)
+    → Answers contents steady load_faults store_faults left input_faults (need ∷ []) (λ more. answer (texts ++ more)) bytes result middle new_files middle_input new_input
+    → Answers contents steady load_faults store_faults left input_faults (front ++ need ∷ []) answer bytes result files new_files input new_input
+answers_behind {F = F} {I = I} {M = M} contents steady load_faults store_faults left input_faults front need answer bytes result texts files middle new_files input middle_input new_input sound gives same_contents same_steady same_store le unread unasked behind_it =
     record {
-      made = taken result made;
-      stops = stopped result stops;
-      end = ended result made;
-      same_contents = same_contents;
-      same_store_faults = same_store;
-      unread = λ none. let both : true ≡ false = sym (stream_read front need is) ∙ none in absurd cc;
-      unreached = λ known text told none.
-          let first = gives known text (told_front (contents files) (left input) known text front (need ∷ []) told) in
-          let here : reads_input (reached known text (need ∷ [])) ≡ true = rw is refl in
-          let both : true ≡ false = sym (reads_back known text front (need ∷ []) texts first here) ∙ none in absurd cc;
-      unasked = λ none. unasked (no_files front need none);
+      made = was_made result back.made;
+      stops = stopped result back.stops;
+      end = ended result back.end;
+      same_contents = back.same_contents ∙ same_contents;
+      same_store_faults = back.same_store_faults ∙ same_store;
+      unread = λ none. back.unread (sym (reads_last front need no_stream) ∙ none);
+      unreached = unreached;
+      unasked = λ none. back.unasked (no_file_behind front need none) ∙ unasked (no_files front need none);
     }
   where
-    same_input : middle ≡ input
-    same_input = unread (front_files front need sound)
+    no_stream : reads_input front ≡ false
+    no_stream = front_files front need sound
 
-    taken : (r : Result Made LoadStop) → IfOk r (λ made. (bytes : List ℕ) × TakesAll (left middle) (left new_input) bytes × (length bytes ≤ need.limit) × Gives (answer (texts ++ bytes ∷ [])) made)
-        → IfOk r (λ made. (all : List (List ℕ)) × WhereTold (contents files) (left input) (front ++ need ∷ []) (λ known text. loaded known text (front ++ need ∷ []) ≡ Ok all) × Gives (answer all) made)
-    taken (Ok made) t =
-        (texts ++ t.0 ∷ [], loads_taken (contents files) (left input) (left new_input) front need texts t.0 is gives (subst (λ (i : I). TakesAll (left i) (left new_input) t.0) same_input t.1) t.2, t.3)
-    taken (Err stop) t = tt
+    back : Answers contents steady load_faults store_faults left input_faults (need ∷ []) (λ more. answer (texts ++ more)) bytes result middle new_files input new_input
+    back = subst (λ (i : I). Answers contents steady load_faults store_faults left input_faults (need ∷ []) (λ more. answer (texts ++ more)) bytes result middle new_files i new_input) (unread no_stream) behind_it
 
-    stopped : (r : Result Made LoadStop) → IfErr r (λ stop. (c : Option FileMap) (s : Bool) (n : ℕ) → StopsLoading c s (left middle) (need ∷ []) n n (input_faults middle) (input_faults new_input) stop)
+    was_made : (r : Result (Result M Stop) LoadStop)
+        → IfOk r (λ made. (more : List (List ℕ)) × WhereTold (contents middle) (left input) (need ∷ []) (λ known text. loaded known text (need ∷ []) ≡ Ok more) × Gives bytes (answer (texts ++ more)) made)
+        → IfOk r (λ made. (all : List (List ℕ)) × WhereTold (contents files) (left input) (front ++ need ∷ []) (λ known text. loaded known text (front ++ need ∷ []) ≡ Ok all) × Gives bytes (answer all) made)
+    was_made (Ok made) m = (texts ++ m.0, loads_both (contents files) (contents middle) (left input) front (need ∷ []) texts m.0 same_contents gives m.1, m.2)
+    was_made (Err stop) m = tt
+
+    stopped : (r : Result (Result M Stop) LoadStop)
+        → IfErr r (StopsLoading (contents middle) (steady middle) (left input) (need ∷ []) (load_faults middle) (load_faults new_files) (input_faults input) (input_faults new_input))
         → IfErr r (StopsLoading (contents files) (steady files) (left input) (front ++ need ∷ []) (load_faults files) (load_faults new_files) (input_faults input) (input_faults new_input))
     stopped (Ok made) s = tt
     stopped (Err stop) s =
-        stops_behind (contents files) (steady files) (left input) front need texts (load_faults files) (load_faults new_files) (load_faults new_files) (input_faults input) (input_faults new_input) stop gives le
-        (subst (λ (i : I). StopsLoading (contents files) (steady files) (left i) (need ∷ []) (load_faults new_files) (load_faults new_files) (input_faults i) (input_faults new_input) stop) same_input (s (contents files) (steady files) (load_faults new_files)))
+        stops_behind (contents files) (steady files) (left input) front need texts (load_faults files) (load_faults middle) (load_faults new_files) (input_faults input) (input_faults new_input) stop gives le
+        (subst (λ (c : Option FileMap). StopsLoading c (steady files) (left input) (need ∷ []) (load_faults middle) (load_faults new_files) (input_faults input) (input_faults new_input) stop) same_contents
+        (subst (λ (b : Bool). StopsLoading (contents middle) b (left input) (need ∷ []) (load_faults middle) (load_faults new_files) (input_faults input) (input_faults new_input) stop) same_steady s))
 
-    ended : (r : Result Made LoadStop) → IfOk r (λ made. (bytes : List ℕ) × TakesAll (left middle) (left new_input) bytes × (length bytes ≤ need.limit) × Gives (answer (texts ++ bytes ∷ [])) made)
-        → OnOk r (reads_input (front ++ need ∷ []) ≡ true → IsAtEnd (left new_input))
-    ended (Ok made) t = λ reads. t.1.1
-    ended (Err stop) t = tt
+    ended : (r : Result (Result M Stop) LoadStop) → OnOk r (reads_input (need ∷ []) ≡ true → IsAtEnd (left new_input)) → OnOk r (reads_input (front ++ need ∷ []) ≡ true → IsAtEnd (left new_input))
+    ended (Ok made) e = λ reads. e (sym (reads_last front need no_stream) ∙ reads)
+    ended (Err stop) e = tt
+
+    unreached : WhereTold (contents files) (left input) (front ++ need ∷ []) (λ known text. reads_input (reached known text (front ++ need ∷ [])) ≡ false → new_input ≡ input)
+    unreached = λ known text told none.
+        let first = gives known text (told_front (contents files) (left input) known text front (need ∷ []) told) in
+        let last = told_back (contents files) (left input) known text front (need ∷ []) texts first told in
+        elim (cases_Bool (reads_input (reached known text (need ∷ [])))) [
+          | inl reads ↦ let both : true ≡ false = sym (reads_back known text front (need ∷ []) texts first reads) ∙ none in absurd cc
+          | inr here ↦ back.unreached known text (subst (λ (c : Option FileMap). AreTold c (left input) known text (need ∷ [])) (sym same_contents) last) here
+        ]
 
 -- loading stopped in the front
-pub answers_stopped : {F I : Type 0} (contents : F → Option FileMap) (steady : F → Bool) (load_faults store_faults : F → ℕ) (left : I → Option (List ℕ)) (input_faults : I → ℕ)
-    (front : List Need) (need : Need) (answer : List (List ℕ) → Answer) (stop : LoadStop) (files new_files : F) (input new_input : I)
+pub answers_stopped : {F I M : Type 0} (contents : F → Option FileMap) (steady : F → Bool) (load_faults store_faults : F → ℕ) (left : I → Option (List ℕ)) (input_faults : I → ℕ)
+    (front : List Need) (need : Need) (answer : List (List ℕ) → Answer) (bytes : M → List ℕ) (stop : LoadStop) (files new_files : F) (input new_input : I)
     → IsSound (front ++ need ∷ [])
     → StopsLoading (contents files) (steady files) (left input) front (load_faults files) (load_faults new_files) (input_faults input) (input_faults new_input) stop
     → contents new_files ≡ contents files → store_faults new_files ≡ store_faults files
     → (reads_input front ≡ false → new_input ≡ input) → (reads_files front ≡ false → new_files ≡ files)
-    → Answers contents steady load_faults store_faults left input_faults (front ++ need ∷ []) answer (Err stop) files new_files input new_input
-answers_stopped contents steady load_faults store_faults left input_faults front need answer stop files new_files input new_input sound stops same_contents same_store unread unasked =
+    → Answers contents steady load_faults store_faults left input_faults (front ++ need ∷ []) answer bytes (Err stop) files new_files input new_input
+answers_stopped contents steady load_faults store_faults left input_faults front need answer bytes stop files new_files input new_input sound stops same_contents same_store unread unasked =
     let same : new_input ≡ input = unread (front_files front need sound) in
     record {
       made = tt;

@@ -215,6 +215,11 @@ stops_later contents now steady steady_now left left_now need needs bytes loads 
     (stops known text (rest_told contents now left left_now known text need needs bytes sound b.same_contents b.same_left gives told))
 stops_later contents now steady steady_now left left_now need needs bytes loads loads_now new_loads inputs inputs_now new_inputs Memory sound b stops = tt
 
+-- the only one was loaded
+pub loads_one : (contents : Option FileMap) (left : Option (List ℕ)) (need : Need) (bytes : List ℕ) → WhereTold contents left (need ∷ []) (λ known text. bytes_of known text need ≡ Ok bytes)
+    → WhereTold contents left (need ∷ []) (λ known text. loaded known text (need ∷ []) ≡ Ok (bytes ∷ []))
+loads_one contents left need bytes gives = λ known text told. ap (λ (one : Result (List ℕ) LoadFault). loaded_after one (Ok [])) (gives known text told)
+
 -- all were loaded
 pub loads_all : (contents now : Option FileMap) (steady steady_now : Bool) (left left_now : Option (List ℕ)) (need : Need) (needs : List Need) (bytes : List ℕ) (loads loads_now inputs inputs_now : ℕ) (front middle back : List (List ℕ))
     → IsSound (need ∷ needs) → Between contents now steady steady_now left left_now need bytes loads loads_now inputs inputs_now → middle ≡ front ++ bytes ∷ []
@@ -284,6 +289,11 @@ not-first false c e = refl
 pub not-others : (b c : Bool) → (b || c) ≡ false → c ≡ false
 not-others true c e = absurd cc
 not-others false c e = e
+
+-- what is read of one alone is that one
+pub first-alone : (b : Bool) → (b || false) ≡ true → b ≡ true
+first-alone true e = refl
+first-alone false e = absurd cc
 
 -- what isn't a file is standard input
 pub stream-not : (b : Bool) → not b ≡ false → b ≡ true

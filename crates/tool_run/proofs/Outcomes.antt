@@ -10,7 +10,8 @@ use Rattle.tool_run.specs.Tasks.{Answer, Done, Refused, NotTaken, LoadFault, Mis
 use Rattle.tool_run.specs.Effects.{Foretells, SourceRose, Tells}
 use Rattle.tool_run.specs.Loads.{AreTold, FailsToLoad, NameIsTold, WhereTold}
 use Rattle.tool_run.specs.Stops.{StopsWith}
-use Rattle.tool_run.specs.Answering.{Gives, Made}
+use Rattle.tool_run.specs.Answering.{Gives}
+use Rattle.tool_run.specs.declared.tool.Stop.{Stop}
 use Rattle.tool_run.specs.Jobs.{RefusesWith}
 use Rattle.tool_run.specs.Runs.{HasBytes, IsRefusal, IsStatusFor}
 
@@ -103,9 +104,17 @@ has_bytes task needs answer bytes done =
     subst has (sym done) (refl, refl)
 
 -- the bytes that are made are an answer, or the stop is its refusal
-pub gives_of : (made : Made) (answer : Answer) → IfOk made (λ bytes. answer ≡ Done bytes.items) → IfErr made (StopsWith answer) → Gives answer made
-gives_of (Ok bytes) answer done stops = done
-gives_of (Err stop) answer done stops = stops
+pub gives_of : {M : Type 0} (bytes : M → List ℕ) (made : Result M Stop) (answer : Answer) → IfOk made (λ content. answer ≡ Done (bytes content)) → IfErr made (StopsWith answer) → Gives bytes answer made
+gives_of bytes (Ok content) answer done stops = done
+gives_of bytes (Err stop) answer done stops = stops
+
+-- and so where they are made of what was taken behind others
+pub gives_taken : {M : Type 0} (bytes : M → List ℕ) (made : Result M Stop) (answer : List (List ℕ) → Answer) (takes : List (List ℕ) → List ℕ → Type 0) (texts : List (List ℕ)) (taken : List ℕ)
+    → IfOk made (λ content. (before : List (List ℕ)) (last : List ℕ) → takes before last → answer (before ++ last ∷ []) ≡ Done (bytes content))
+    → IfErr made (λ stop. (before : List (List ℕ)) (last : List ℕ) → takes before last → StopsWith (answer (before ++ last ∷ [])) stop)
+    → takes texts taken → Gives bytes (answer (texts ++ taken ∷ [])) made
+gives_taken bytes (Ok content) answer takes texts taken done stops has = done texts taken has
+gives_taken bytes (Err stop) answer takes texts taken done stops has = stops texts taken has
 
 pub refuses : (task : Task) (needs : List Need) (answer : Answer) (status : ℕ) (said : List ℕ) (S : List ℕ → Type 0) → RefusesWith answer status said → S (line_of task.speaker said)
     → ((answered task needs answer).status ≡ status) × S (answered task needs answer).message

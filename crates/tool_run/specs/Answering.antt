@@ -1,8 +1,6 @@
 -- Loading, and what a tool makes of what was loaded.
 use Rattle.std.specs.Prelude.{◌≡◌, ℕ, Bool, true, false, List, Option, Result, Ok, Err, IfOk, IfErr, OnOk}
 use Rattle.std.specs.Io.KnownBytes.{IsAtEnd}
-use Rattle.std.specs.declared.alloc.Global.{Global}
-use Rattle.std.specs.declared.vec.Vec.{Vec}
 use Rattle.ice_io.specs.Files.{FileMap}
 use Rattle.tool_run.specs.Needs.{Need, reads_files, reads_input}
 use Rattle.tool_run.specs.Tasks.{Answer, Done, loaded, reached}
@@ -11,20 +9,16 @@ use Rattle.tool_run.specs.Stops.{StopsWith}
 use Rattle.tool_run.specs.declared.load.LoadStop.{LoadStop}
 use Rattle.tool_run.specs.declared.tool.Stop.{Stop}
 
--- a tool's bytes, or why it gives none
-abbrev pub Made : Type 0
-Made = Result (Vec ℕ Global) Stop
-
--- they are this answer
-abbrev pub Gives : Answer → Made → Type 0
-Gives answer (Ok bytes) = answer ≡ Done bytes.items
-Gives answer (Err stop) = StopsWith answer stop
+-- what a tool made has the bytes of this answer, or it is why the tool gives none
+abbrev pub Gives : {M : Type 0} → (M → List ℕ) → Answer → Result M Stop → Type 0
+Gives bytes answer (Ok made) = answer ≡ Done (bytes made)
+Gives bytes answer (Err stop) = StopsWith answer stop
 
 -- what was made of the needs, or why loading stopped
-pub record Answers {F I : Type 0} (contents : F → Option FileMap) (steady : F → Bool) (load_faults store_faults : F → ℕ) (left : I → Option (List ℕ)) (input_faults : I → ℕ) (needs : List Need) (answer : List (List ℕ) → Answer) (result : Result Made LoadStop) (files new_files : F) (input new_input : I) : Type 0 where
+pub record Answers {F I M : Type 0} (contents : F → Option FileMap) (steady : F → Bool) (load_faults store_faults : F → ℕ) (left : I → Option (List ℕ)) (input_faults : I → ℕ) (needs : List Need) (answer : List (List ℕ) → Answer) (bytes : M → List ℕ) (result : Result (Result M Stop) LoadStop) (files new_files : F) (input new_input : I) : Type 0 where
   pub made : IfOk result (λ made. (texts : List (List ℕ))
       × WhereTold (contents files) (left input) needs (λ known text. loaded known text needs ≡ Ok texts)
-      × Gives (answer texts) made)
+      × Gives bytes (answer texts) made)
   pub stops : IfErr result (StopsLoading (contents files) (steady files) (left input) needs
       (load_faults files) (load_faults new_files) (input_faults input) (input_faults new_input))
   pub end : OnOk result (reads_input needs ≡ true → IsAtEnd (left new_input))

@@ -4,7 +4,6 @@ pub mod Tasks
 pub mod Effects
 pub mod Loads
 pub mod Stops
-pub mod Intakes
 pub mod Answering
 pub mod Concluding
 pub mod Jobs

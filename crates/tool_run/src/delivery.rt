@@ -1,34 +1,34 @@
-// The bytes of an outcome on their way to the target.
+// What a tool made on its way to the target.
 ghost use Rattle.std.specs.Prelude.{◌≡◌, ◌≢◌, ◌≤◌, None, OnOk, OnErr};
 ghost use Rattle.tool_run.specs.Needs.{text_of};
 ghost use Rattle.tool_run.specs.Effects.{Delivers, DeliversPart, TargetRose};
 
-use ice_io::{Files, Sink, write_whole};
+use ice_io::{Content, Files, Sink};
 
 /// A target didn't take all the bytes.
 #[derive(Clone, Copy, Debug, PartialEq, Eq)]
 pub(crate) struct Undelivered;
 
 /// Stores the bytes in the file, or writes them to standard output where there is none.
-pub(crate) fn deliver<F: Files, O: Sink>(
+pub(crate) fn deliver<C: Content, F: Files, O: Sink>(
     target: Option<&str>,
-    bytes: &[u8],
+    content: C,
     files: &mut F,
     output: &mut O,
 ) -> Result<(), Undelivered>
-    ensures whole { OnOk result (Delivers (text_of target.entry) bytes.now (F.contents files.old) (F.contents files.new) (O.held output.old) (O.held output.new)) }
-    ensures part { OnErr result (DeliversPart (text_of target.entry) bytes.now (F.contents files.old) (F.contents files.new) (O.held output.old) (O.held output.new)) }
+    ensures whole { OnOk result (Delivers (text_of target.entry) (C.bytes content) (F.contents files.old) (F.contents files.new) (O.held output.old) (O.held output.new)) }
+    ensures part { OnErr result (DeliversPart (text_of target.entry) (C.bytes content) (F.contents files.old) (F.contents files.new) (O.held output.old) (O.held output.new)) }
     ensures failed { OnErr result (TargetRose (text_of target.entry) (F.store_faults files.old) (F.store_faults files.new) (O.faults output.old) (O.faults output.new)) }
     ensures aside { text_of target.entry ≢ None → output.new ≡ output.old }
     ensures same_files { text_of target.entry ≡ None → files.new ≡ files.old }
     ensures same_load_faults { F.load_faults files.new ≡ F.load_faults files.old }
 {
     match target {
-        Some(name) => match files.store(name, bytes) {
+        Some(name) => match files.store_content(name, content) {
             Ok(()) => Ok(()),
             Err(_) => Err(Undelivered),
         },
-        None => match write_whole(output, bytes) {
+        None => match content.write_to(output) {
             Ok(()) => Ok(()),
             Err(_) => Err(Undelivered),
         },

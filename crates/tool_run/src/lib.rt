@@ -1,6 +1,9 @@
 //! What every tool does in the same way: it loads what it needs, in order and within limits, makes its answer, delivers
 //! that to a file or to standard output, and tells a failure in one line on standard error.
 //!
+//! A `Tool` makes its answer of all that it loaded, and the answer is whole before its first byte goes out. A `PieceTool`
+//! takes its last need in pieces, and its answer is made while it is written.
+//!
 //! `Task` (in `specs/Tasks.antt`) says what a command line asks for, and `outcome_of` what comes of it where nothing fails
 //! from outside. `Does` (in `specs/Runs.antt`) says what a run of a task does to files and streams, by its status. Each
 //! function here that answers a status has it as its one clause.
@@ -9,7 +12,6 @@
 mod answering;
 mod at_once;
 mod delivery;
-mod feeding;
 mod help;
 mod line;
 mod load;
@@ -17,6 +19,7 @@ mod loaded;
 mod performing;
 mod piece_tool;
 mod tool;
+mod tool_taker;
 
 pub use at_once::{AtOnce, answer_at_once};
 pub use help::asks_for_help;

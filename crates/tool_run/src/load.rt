@@ -1,12 +1,13 @@
 // The bytes that a tool needs, loaded in order.
-ghost use Rattle.std.specs.Prelude.{◌≡◌, ◌∷◌, [], ◌+◌, ◌++◌, length, ◌<◌, ◌≤◌, ◌^◌, true, false, Ok, map, vec_items, IfOk, IfErr, OnOk, IsOkAnd};
+ghost use Rattle.std.specs.Prelude.{◌≡◌, ◌∷◌, [], ◌+◌, ◌++◌, ℕ, List, length, ◌<◌, ◌≤◌, ◌^◌, true, false, Ok, map, vec_items, IfOk, IfErr, OnOk, IsOkAnd};
 ghost use Rattle.std.specs.declared.alloc.AllocError.{AllocError};
 ghost use Rattle.std.specs.Io.KnownBytes.{IsAtEnd};
+ghost use Rattle.ice_io.specs.Takers.{TakesMore};
 ghost use Rattle.tool_run.specs.Needs.{IsSound, is_stream, need_of, reads_files, reads_input};
 ghost use Rattle.tool_run.specs.Tasks.{bytes_of, loaded, reached};
 ghost use Rattle.tool_run.specs.Loads.{StopsLoading, WhereTold};
 
-use ice_io::{Files, Source, TakeFault, read_all};
+use ice_io::{Files, Source, TakeFault, Taker, feed_all, read_all};
 use std::alloc::{AllocError, AllocFailed, Global};
 
 /// Bytes that a tool needs: those of a file, or of standard input where there is no name.
@@ -38,8 +39,8 @@ impl<'a, T: Drop> From<AllocFailed<T>> for LoadStop<'a> {
     }
 }
 
-/// Why a load stopped at that fault.
-pub(crate) fn stop_of(fault: TakeFault, load: Load<'_>) -> LoadStop<'_>
+// Why a load stopped at that fault.
+fn stop_of(fault: TakeFault, load: Load<'_>) -> LoadStop<'_>
     ensures failed { fault ≡ TakeFault.Failed → result ≡ LoadStop.Failed load.entry }
     ensures too_long { fault ≡ TakeFault.TooLong → result ≡ LoadStop.TooLong load.entry }
     ensures memory { (e : AllocError) → fault ≡ TakeFault.Memory e → result ≡ LoadStop.Memory }
@@ -118,4 +119,37 @@ pub(crate) fn load_all<'a, F: Files, I: Source>(
         }
     }
     Ok(())
+}
+
+/// Gives the bytes of one need to a taker, in pieces.
+pub(crate) fn load_into<'a, K: Taker, F: Files, I: Source>(
+    alloc: Global,
+    load: Load<'a>,
+    files: &mut F,
+    input: &mut I,
+    taker: &mut K,
+) -> Result<(), LoadStop<'a>>
+    requires limit { load.limit < 2 ^ 32 }
+    requires none { K.fed taker.old ≡ 0 }
+    ensures bytes { OnOk result ((bytes : List ℕ) × WhereTold (F.contents files.old) (I.left input.old) (need_of load.entry ∷ [])
+        (λ known text. bytes_of known text (need_of load.entry) ≡ Ok bytes) × TakesMore K.has_taken taker.old taker.new bytes) }
+    ensures stops { IfErr result (StopsLoading (F.contents files.old) (F.steady files.old) (I.left input.old) (need_of load.entry ∷ [])
+        (F.load_faults files.old) (F.load_faults files.new) (I.faults input.old) (I.faults input.new)) }
+    ensures end { OnOk result (is_stream (need_of load.entry).name ≡ true → IsAtEnd (I.left input.new)) }
+
+    ensures same_contents { F.contents files.new ≡ F.contents files.old }
+    ensures same_store_faults { F.store_faults files.new ≡ F.store_faults files.old }
+    ensures unread { is_stream (need_of load.entry).name ≡ false → input.new ≡ input.old }
+    ensures unasked { is_stream (need_of load.entry).name ≡ true → files.new ≡ files.old }
+{
+    match load.name {
+        Some(name) => match files.load_into(alloc, name, load.limit, taker) {
+            Ok(()) => Ok(()),
+            Err(fault) => Err(stop_of(fault, load)),
+        },
+        None => match feed_all(alloc, input, load.limit, taker) {
+            Ok(()) => Ok(()),
+            Err(fault) => Err(stop_of(fault, load)),
+        },
+    }
 }

@@ -14,7 +14,7 @@ use crate::line::{Phrase, Refusal, decimal, text, write_named, write_refusal};
 use crate::load::{Load, LoadStop};
 use crate::piece_tool::PieceTool;
 use crate::tool::{Stop, Tool};
-use ice_io::{Files, Sink, Source};
+use ice_io::{Content, Files, Sink, Source};
 use std::alloc::Global;
 
 /// What a tool is asked to do, beside its own options.
@@ -56,18 +56,18 @@ fn write_out_of_memory<E: Sink>(errors: &mut E, speaker: &str)
 }
 
 // Delivers what the tool made, or says why there is nothing.
-fn conclude<F: Files, O: Sink, E: Sink>(
+fn conclude<C: Content, F: Files, O: Sink, E: Sink>(
     job: &Job<'_>,
-    made: Result<Vec<u8>, Stop>,
+    made: Result<C, Stop>,
     files: &mut F,
     output: &mut O,
     errors: &mut E,
 ) -> u8
-    ensures { Concludes F.contents F.store_faults O.held O.faults E.held E.faults job.now.speaker.now (text_of job.now.target) made result
+    ensures { Concludes F.contents F.store_faults O.held O.faults E.held E.faults job.now.speaker.now (text_of job.now.target) C.bytes made result
         files.old files.new output.old output.new errors.old errors.new }
 {
     match made {
-        Ok(bytes) => match deliver(job.target, &bytes, files, output) {
+        Ok(content) => match deliver(job.target, content, files, output) {
             Ok(()) => 0,
             Err(_) => {
                 let name = target_name(job.target);
@@ -136,8 +136,9 @@ pub fn perform<T: Tool, F: Files, I: Source, O: Sink, E: Sink>(
     }
 }
 
-/// Performs the job as `perform` does, but where its last load is standard input, the tool takes that in pieces of at most
-/// 65,536 bytes, as they are read. A refusal is told only after the input was read to its end, so the statuses are the same.
+/// Performs the job as `perform` does, but the tool takes its last load in pieces, as they are read, and its answer is made
+/// while it is written. The tool refuses, if it does, after its last load was read to the end and before the first byte goes
+/// out, so the statuses are the same.
 pub fn perform_in_pieces<T: PieceTool, F: Files, I: Source, O: Sink, E: Sink>(
     alloc: Global,
     tool: &T,

@@ -1,4 +1,4 @@
-use Rattle.std.proofs.Common.{◌≡◌, ◌∙◌, ◌++◌, ◌∷◌, [], List, ap, subst, sym, rules}
+use Rattle.std.proofs.Common.{◌≡◌, ◌∙◌, ◌++◌, ◌∷◌, [], List, ap, subst, sym}
 use Rattle.std.specs.Prelude.{Err, map, vec_items}
 use Rattle.std.proofs.lemmas.List.{map-append}
 use Rattle.tool_run.specs.Needs.{IsSound, Need, need_of}
@@ -19,27 +19,29 @@ pub returns-in-Ok : goal.returns-in-Ok
 returns-in-Ok g c =
     let F = g.F.Files in
     let I = g.I.Source in
+    let bytes = g.T.Made.Content.bytes in
     let front = map need_of c.in-Some.before.now in
     let need = need_of c.in-Some.last.now in
-    let answer = g.T.Tool.answer_of c.args.tool.now in
+    let answer = g.T.PieceTool.answer_of c.args.tool.now in
     let texts = map vec_items c.load_all.new.texts.items in
     let needs_are : map need_of c.args.loads.now ≡ front ++ need ∷ [] = ap (map need_of) c.in-Some.ensures.cases.0 ∙ map-append need_of c.in-Some.before.now (c.in-Some.last.now ∷ []) in
     let l = c.in-Ok.ensures in
-    subst (λ (needs : List Need). Answers F.contents F.steady F.load_faults F.store_faults I.left I.faults needs answer c.answer_fed.result c.args.files.now c.load_all.new.files c.args.input.now c.answer_fed.new.input) (sym needs_are)
-    (answers_behind F.contents F.steady F.load_faults F.store_faults I.left I.faults front need answer c.answer_fed.result texts c.args.files.now c.load_all.new.files c.args.input.now c.load_all.new.input c.answer_fed.new.input
-    (search rules) (subst (λ (needs : List Need). IsSound needs) needs_are c.requires.sound)
+    subst (λ (needs : List Need). Answers F.contents F.steady F.load_faults F.store_faults I.left I.faults needs answer bytes c.answer_last.result c.args.files.now c.answer_last.new.files c.args.input.now c.answer_last.new.input) (sym needs_are)
+    (answers_behind F.contents F.steady F.load_faults F.store_faults I.left I.faults front need answer bytes c.answer_last.result texts c.args.files.now c.load_all.new.files c.answer_last.new.files c.args.input.now c.load_all.new.input c.answer_last.new.input
+    (subst (λ (needs : List Need). IsSound needs) needs_are c.requires.sound)
     (λ known text told. loaded-is (loaded known text front) (map vec_items c.new-loaded.result.items) texts (ap (map vec_items) c.new-loaded.ensures.items) (l.bytes known text told))
-    l.same_contents l.same_store_faults l.load_faults l.unread l.unasked c.answer_fed.ensures.made c.answer_fed.ensures.stops)
+    l.same_contents l.same_steady l.same_store_faults l.load_faults l.unread l.unasked c.answer_last.ensures)
 
-pub returns-in-Some : goal.returns-in-Some
-returns-in-Some g c =
+pub returns : goal.returns
+returns g c =
     let F = g.F.Files in
     let I = g.I.Source in
+    let bytes = g.T.Made.Content.bytes in
     let front = map need_of c.in-Some.before.now in
     let need = need_of c.in-Some.last.now in
-    let answer = g.T.Tool.answer_of c.args.tool.now in
+    let answer = g.T.PieceTool.answer_of c.args.tool.now in
     let needs_are : map need_of c.args.loads.now ≡ front ++ need ∷ [] = ap (map need_of) c.in-Some.ensures.cases.0 ∙ map-append need_of c.in-Some.before.now (c.in-Some.last.now ∷ []) in
     let l = c.in-Err.ensures in
-    subst (λ (needs : List Need). Answers F.contents F.steady F.load_faults F.store_faults I.left I.faults needs answer (Err c.in-Err.stop) c.args.files.now c.load_all.new.files c.args.input.now c.load_all.new.input) (sym needs_are)
-    (answers_stopped F.contents F.steady F.load_faults F.store_faults I.left I.faults front need answer c.in-Err.stop c.args.files.now c.load_all.new.files c.args.input.now c.load_all.new.input
+    subst (λ (needs : List Need). Answers F.contents F.steady F.load_faults F.store_faults I.left I.faults needs answer bytes (Err c.in-Err.stop) c.args.files.now c.load_all.new.files c.args.input.now c.load_all.new.input) (sym needs_are)
+    (answers_stopped F.contents F.steady F.load_faults F.store_faults I.left I.faults front need answer bytes c.in-Err.stop c.args.files.now c.load_all.new.files c.args.input.now c.load_all.new.input
     (subst (λ (needs : List Need). IsSound needs) needs_are c.requires.sound) l.stops l.same_contents l.same_store_faults l.unread l.unasked)

@@ -13,7 +13,7 @@ returns-in-Ok g c =
       made = (
         texts,
         λ known text told. loaded-is (loaded known text needs) (map vec_items c.new-loaded.result.items) texts (ap (map vec_items) c.new-loaded.ensures.items) (c.in-Ok.ensures.bytes known text told),
-        gives_of c.answer.result (g.T.Tool.answer_of c.args.tool.now texts) c.answer.ensures.bytes c.answer.ensures.stops,
+        gives_of vec_items c.answer.result (g.T.Tool.answer_of c.args.tool.now texts) c.answer.ensures.bytes c.answer.ensures.stops,
       );
       stops = tt;
       end = λ reads. c.in-Ok.ensures.end reads;

@@ -4,8 +4,8 @@ use Rattle.tool_run.specs.Lines.{line_of, phrase_text}
 use Rattle.tool_run.specs.Effects.{Writes}
 use Rattle.tool_run.proofs.performing.conclude.Goals as goal
 
-pub returns-in-Ok : goal.returns-in-Ok
-returns-in-Ok g c =
+pub returns-in-Err : goal.returns-in-Err
+returns-in-Err g c =
     let e = c.in-Err.ensures in
     let writes : List ℕ → Type 0 = λ said. Writes (line_of c.args.job.now.speaker.now said) (g.E.Sink.held c.args.errors.now) (g.E.Sink.held c.write_named.new.errors) (g.E.Sink.faults c.args.errors.now) (g.E.Sink.faults c.write_named.new.errors) in
     let said = codes "write failed: " ++ c.target_name-name.result.now in
@@ -14,7 +14,7 @@ returns-in-Ok g c =
       whole = λ zero_is. absurd (omega arith);
       silent = λ zero_is. absurd (omega arith);
       refused = λ refusal. absurd (grind arith);
-      part = λ four_is. rw c.in-Ok.is (rw c.deref.ensures.value at e.part);
+      part = λ four_is. rw c.in-Ok.is e.part;
       rose = λ four_is. e.failed;
       target_line = λ four_is. subst writes (ap (λ phrase. said ++ phrase_text phrase) c.text.ensures ∙ append-nil said ∙ ap (λ name. codes "write failed: " ++ name) c.target_name-name.ensures) c.write_named.ensures;
       memory = λ five_is. absurd (omega arith);

@@ -2,7 +2,7 @@
 
 use ice_io::{
     DirFiles, Failed, Files, MemFiles, MemSink, MemSource, NamedFile, PutFault, Source, StdSink,
-    StdSource, StoreFault, TakeFault, read_all, write_whole,
+    StdSource, StoreFault, TakeFault, Taker, read_all, write_whole,
 };
 use std::alloc::{AllocError, Global};
 use std::fs;
@@ -81,6 +81,50 @@ fn is_kept<F: Files>(
     Ok(loaded.as_slice() == bytes)
 }
 
+/// Compares what it takes with the bytes that it should take.
+#[derive(Drop)]
+struct Compared<'a> {
+    want: &'a [u8],
+    taken: u64,
+    are_same: bool,
+}
+
+impl Taker for Compared<'_> {
+    ghost use Rattle.std.specs.Prelude.{◌≡◌, length};
+
+    ghost Setting = { Unit {0} };
+
+    ghost has_taken = { λ setting compared bytes. compared.taken ≡ length bytes };
+
+    ghost fed = { λ compared. compared.taken };
+
+    fn take(&mut self, piece: &[u8]) {
+        let start = self.taken as usize;
+        self.taken += piece.len() as u64;
+        self.are_same &= self.want.get(start..self.taken as usize) == Some(piece);
+    }
+}
+
+/// Stores the bytes and loads them again in pieces, and answers whether they are the same.
+fn is_kept_in_pieces<F: Files>(
+    alloc: Global,
+    files: &mut F,
+    name: &str,
+    bytes: &[u8],
+    limit: u32,
+) -> Result<bool, TakeFault> {
+    if files.store_content(name, bytes.to_vec(alloc)?).is_err() {
+        return Ok(false);
+    }
+    let mut compared = Compared {
+        want: bytes,
+        taken: 0,
+        are_same: true,
+    };
+    files.load_into(alloc, name, limit as usize, &mut compared)?;
+    Ok(compared.are_same && compared.taken == bytes.len() as u64)
+}
+
 /// 100,000 bytes, with a period that divides no power of two.
 fn many_bytes(alloc: Global) -> Result<Vec<u8>, AllocError> {
     (0..100_000u32).map(|i| (i % 251) as u8).collect(alloc)
@@ -99,6 +143,7 @@ fn real_files_are_stored_and_loaded_whole(rt: HostRuntime) -> Result<(), Fail> {
         (b"".as_slice(), 0, Ok(true)),
     ] {
         are_as_wanted &= is_kept(rt.alloc(), &mut files, name, bytes, limit) == want;
+        are_as_wanted &= is_kept_in_pieces(rt.alloc(), &mut files, name, bytes, limit) == want;
     }
     fs::remove_file(&rt, name)?;
     assert!(rt; are_as_wanted);
@@ -106,14 +151,26 @@ fn real_files_are_stored_and_loaded_whole(rt: HostRuntime) -> Result<(), Fail> {
 }
 
 #[test]
-fn faults_of_real_files_are_told(rt: HostRuntime) {
+fn faults_of_real_files_are_told(rt: HostRuntime) -> Result<(), Fail> {
     let mut files = DirFiles::new(&rt);
     for (name, opened) in [("ice_io_missing/file", false), ("/dev/full", true)] {
         let fault = StoreFault::Failed { opened, written: 0 };
         assert_eq!(rt; files.store(name, b"abc"), Err(fault));
+        assert_eq!(rt;
+            files.store_content(name, b"abc".to_vec(rt.alloc())?),
+            Err(fault)
+        );
     }
     let missing = files.load(rt.alloc(), "ice_io_missing", 3);
     assert!(rt; matches!(missing, Err(TakeFault::Failed)));
+    let mut compared = Compared {
+        want: b"",
+        taken: 0,
+        are_same: true,
+    };
+    let missing = files.load_into(rt.alloc(), "ice_io_missing", 3, &mut compared);
+    assert!(rt; matches!(missing, Err(TakeFault::Failed)));
+    Ok(())
 }
 
 #[test]
@@ -126,6 +183,10 @@ fn files_in_memory_are_stored_and_loaded(rt: HostRuntime) -> Result<(), Fail> {
     })?;
     let mut files = MemFiles::new(alloc, given, "b", 3, 2, Vec::new(alloc))?;
     assert_eq!(rt; is_kept(alloc, &mut files, "b", b"xyz", 3), Ok(true));
+    assert_eq!(rt;
+        is_kept_in_pieces(alloc, &mut files, "b", b"uvw", 3),
+        Ok(true)
+    );
     assert_eq!(rt; files.bytes_of("a"), Some(b"abc".as_slice()));
     Ok(())
 }

@@ -1,12 +1,12 @@
-// A tool that takes standard input in pieces.
+// A tool that takes its input in pieces, from a file or standard input.
 ghost use Rattle.std.specs.Prelude.{◌≡◌, ◌∷◌, [], ◌%◌, codes, if◌then◌else◌, IfOk, IfErr};
 ghost use Rattle.tool_run.specs.Tasks.{Done, Refused};
 ghost use Rattle.tool_run.specs.Stops.{StopsWith};
 
-use ice_io::{MemFiles, MemSink, MemSource};
+use ice_io::{MemFiles, MemSink, MemSource, NamedFile};
 use std::alloc::{AllocError, Global};
 use std::test::Fail;
-use tool_run::{Job, Load, PieceTool, Refusal, Stop, Tool, loaded_at, perform_in_pieces, text};
+use tool_run::{Job, Load, PieceTool, Refusal, Stop, perform_in_pieces, text};
 
 /// Counts the bytes of its last need, and refuses a byte 0 among them.
 struct Counting;
@@ -33,24 +33,16 @@ fn answer_to(alloc: Global, bytes: u64, has_zero: bool) -> Result<Vec<u8>, Stop>
     Ok(Vec::from_slice(alloc, &[(bytes % 256) as u8])?)
 }
 
-impl Tool for Counting {
-    ghost use Rattle.std.specs.Prelude.{◌∷◌, [], ◌-◌, ◌%◌, length, codes, get_or, nat_eq, if◌then◌else◌};
+impl PieceTool for Counting {
+    ghost use Rattle.std.specs.Prelude.{◌≡◌, ◌∷◌, [], ◌-◌, ◌%◌, length, codes, get_or, nat_eq, if◌then◌else◌};
     ghost use Rattle.std.specs.List.{list_any};
     ghost use Rattle.tool_run.specs.Tasks.{Done, Refused};
 
-    ghost answer_of = { λ tool texts. if list_any (λ byte. nat_eq byte 0) (get_or texts (length texts - 1) []) then Refused (codes "zero") else Done (length (get_or texts (length texts - 1) []) % 256 ∷ []) };
-
-    fn answer(&self, alloc: Global, loaded: &Vec<Vec<u8>>) -> Result<Vec<u8>, Stop> {
-        let last = loaded_at(loaded, loaded.len().saturating_sub(1));
-        answer_to(alloc, last.len() as u64, last.contains(&0))
-    }
-}
-
-impl PieceTool for Counting {
-    ghost use Rattle.std.specs.Prelude.{◌≡◌, length, nat_eq};
-    ghost use Rattle.std.specs.List.{list_any};
-
     type Intake = Count;
+
+    type Made = Vec<u8>;
+
+    ghost answer_of = { λ tool texts. if list_any (λ byte. nat_eq byte 0) (get_or texts (length texts - 1) []) then Refused (codes "zero") else Done (length (get_or texts (length texts - 1) []) % 256 ∷ []) };
 
     ghost before = { λ tool. 0 };
 
@@ -75,27 +67,51 @@ impl PieceTool for Counting {
     }
 }
 
-/// The status, the bytes written and the line said where standard input has these bytes, at most eight, and is read by three.
+/// A file `in` with these bytes, and room for one byte in a file `out`. The bytes are given by three.
+fn files_with(alloc: Global, bytes: &[u8], failing: &[u64]) -> Result<MemFiles, AllocError> {
+    let mut files = Vec::new(alloc);
+    files.push(NamedFile {
+        name: String::from_str(alloc, "in")?,
+        bytes: bytes.to_vec(alloc)?,
+    })?;
+    MemFiles::new(alloc, files, "out", 1, 3, failing.to_vec(alloc)?)
+}
+
+/// A count, of standard input or of the file `in`, told on standard output or in the file `out`.
+#[derive(Clone, Copy)]
+struct Way {
+    from: Option<&'static str>,
+    to: Option<&'static str>,
+}
+
+/// What comes of a count.
+#[derive(Clone, Copy)]
+struct Outcome<'a> {
+    status: u8,
+    written: &'a [u8],
+    said: &'a str,
+}
+
+/// Whether this comes of a count of these bytes, at most eight, which are read by three.
 fn is_counted(
     alloc: Global,
+    way: Way,
     bytes: &[u8],
     failing: &[u64],
-    status: u8,
-    written: &[u8],
-    said: &str,
+    want: Outcome<'_>,
 ) -> Result<bool, AllocError> {
-    let mut files = MemFiles::new(alloc, Vec::new(alloc), "", 0, 1, Vec::new(alloc))?;
+    let mut files = files_with(alloc, bytes, failing)?;
     let mut input = MemSource::new(bytes.to_vec(alloc)?, 3, failing.to_vec(alloc)?);
     let mut output = MemSink::new(alloc, 1, 1, Vec::new(alloc))?;
     let mut errors = MemSink::new(alloc, 80, 80, Vec::new(alloc))?;
     let loads = [Load {
-        name: None,
+        name: way.from,
         limit: 8,
     }];
     let job = Job {
         speaker: "count",
         loads: &loads,
-        target: None,
+        target: way.to,
     };
     let done = perform_in_pieces(
         alloc,
@@ -106,16 +122,30 @@ fn is_counted(
         &mut output,
         &mut errors,
     );
-    Ok(done == status && output.bytes() == written && errors.bytes() == said.as_bytes())
+    let is_written = match way.to {
+        None => output.bytes() == want.written,
+        Some(name) => files.bytes_of(name).unwrap_or(&[]) == want.written,
+    };
+    Ok(done == want.status && is_written && errors.bytes() == want.said.as_bytes())
 }
 
 #[test]
-fn standard_input_is_taken_in_pieces(rt: HostRuntime) -> Result<(), Fail> {
-    let zero: &str = "count: zero\n";
-    let failed: &str = "count: read failed: standard input\n";
-    let long: &str = "count: too long: standard input limit 8\n";
-    for (bytes, failing, status, written, said) in [
+fn an_input_is_taken_in_pieces(rt: HostRuntime) -> Result<(), Fail> {
+    let stream = Way {
+        from: None,
+        to: None,
+    };
+    let file = Way {
+        from: Some("in"),
+        to: Some("out"),
+    };
+    let missing = Way {
+        from: Some("no"),
+        to: None,
+    };
+    for (way, bytes, failing, status, written, said) in [
         (
+            stream,
             b"abcdefgh".as_slice(),
             [9].as_slice(),
             0,
@@ -123,29 +153,85 @@ fn standard_input_is_taken_in_pieces(rt: HostRuntime) -> Result<(), Fail> {
             "",
         ),
         (
+            stream,
             b"abcd\0fgh".as_slice(),
             [9].as_slice(),
             1,
             [].as_slice(),
-            zero,
+            "count: zero\n",
         ),
         (
+            stream,
             b"a\0cdefgh".as_slice(),
             [2].as_slice(),
             3,
             [].as_slice(),
-            failed,
+            "count: read failed: standard input\n",
         ),
         (
+            stream,
             b"a\0cdefghi".as_slice(),
             [9].as_slice(),
             6,
             [].as_slice(),
-            long,
+            "count: too long: standard input limit 8\n",
+        ),
+        (
+            file,
+            b"abcdefgh".as_slice(),
+            [9].as_slice(),
+            0,
+            [8].as_slice(),
+            "",
+        ),
+        (
+            file,
+            b"abcd\0fgh".as_slice(),
+            [9].as_slice(),
+            1,
+            [].as_slice(),
+            "count: zero\n",
+        ),
+        (
+            file,
+            b"a\0c".as_slice(),
+            [1].as_slice(),
+            3,
+            [].as_slice(),
+            "count: read failed: in\n",
+        ),
+        (
+            file,
+            b"a\0cdefghi".as_slice(),
+            [9].as_slice(),
+            6,
+            [].as_slice(),
+            "count: too long: in limit 8\n",
+        ),
+        (
+            file,
+            b"abc".as_slice(),
+            [2].as_slice(),
+            4,
+            [].as_slice(),
+            "count: write failed: out\n",
+        ),
+        (
+            missing,
+            b"abc".as_slice(),
+            [9].as_slice(),
+            3,
+            [].as_slice(),
+            "count: read failed: no\n",
         ),
     ] {
+        let want = Outcome {
+            status,
+            written,
+            said,
+        };
         assert_eq!(rt;
-            is_counted(rt.alloc(), bytes, failing, status, written, said),
+            is_counted(rt.alloc(), way, bytes, failing, want),
             Ok(true),
             "{said}"
         );

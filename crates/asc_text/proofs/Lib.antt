@@ -25,10 +25,13 @@ pub mod HasRead
 pub mod ImageSteps
 pub mod LineSteps
 pub mod LinesRead
+pub mod Progress
+pub mod WholeLines
 pub mod Refusals
 pub mod StatementSteps
 mod Worked
 pub mod Pieces
+pub mod Sent
 pub mod PlainLines
 pub mod RamLines
 pub mod RamPlaces

@@ -1,8 +1,9 @@
 -- Texts that are written piece by piece.
-use Rattle.std.proofs.Common.{◌≡◌, ℕ, ◌+◌, ◌-◌, ◌*◌, Bool, ◌<◌, ◌≤◌, List, [], ◌∷◌, ◌++◌, length, get_or, take, map, Some, None, refl, ap, sym, ◌∙◌, subst, add-one, append_assoc, append-nil, arith}
+use Rattle.std.proofs.Common.{◌≡◌, ℕ, ◌+◌, ◌-◌, ◌*◌, Bool, ◌<◌, ◌≤◌, List, [], ◌∷◌, ◌++◌, length, get_or, take, drop, map, Some, None, refl, ap, sym, ◌∙◌, subst, add-one, append_assoc, append-nil, arith}
 use Rattle.std.proofs.lemmas.List.{map-append, take_more, take_all, length-map, length-take-le, get_or-map, get_or-take, get_or-set_same, get_or-set_other}
 use Rattle.std.proofs.lemmas.Bool.{cases_eq}
 use Rattle.std.proofs.lemmas.Grind.{flat_map-append, same_number_lists}
+use Rattle.std.proofs.Math.Seq.{take-append_seam, drop-append_seam}
 use Rattle.hex.specs.Hex.{encode_with, lower_digits, encode_lower}
 use Rattle.place_search.specs.Places.{gathered_below}
 use Rattle.text_lines.specs.Written.{text_of}
@@ -19,6 +20,7 @@ use Rattle.ice_image.specs.Bits.{tile_bit_of, number_bit}
 use Rattle.ice_image.specs.Configuration.{Configuration}
 use Rattle.plane_map.specs.DeviceWords.{device_word}
 use Rattle.asc_text.specs.Statements.{tile_keyword, device_keyword}
+use Rattle.asc_text.specs.inside.Head.{head_lines}
 use Rattle.asc_text.specs.Canonical.{with_word, comment_lines, warm_boot_lines, range_lines, no_sleep_lines, all_tile_lines, all_extra_lines, canonical_lines, asc_text_of, bit_character, row_line, grid_line, tile_lines, ram_lines, lines_of_tile_at}
 
 -- ---- lines
@@ -148,17 +150,32 @@ module _ (image : Configuration) (x y : ℕ) where
 
 -- ---- the whole
 
--- the parts of a text, one behind the other, are the text
-pub text-written : (image : Configuration) (start comment device warm_boot range no_sleep tiles extras : List ℕ) → start ≡ [] → comment ≡ start ++ text_of (comment_lines image.comment) → device ≡ comment ++ text_of (with_word device_keyword (device_word image.layout.device) ∷ []) → warm_boot ≡ device ++ text_of (warm_boot_lines image.settings.warm_boot) → range ≡ warm_boot ++ text_of (range_lines image.settings.range) → no_sleep ≡ range ++ text_of (no_sleep_lines image.settings.no_sleep) → tiles ≡ no_sleep ++ text_of (all_tile_lines image) → extras ≡ tiles ++ text_of (all_extra_lines image) → extras ≡ asc_text_of image
+-- what stands before the tiles, one part behind the other
+pub head-written : (image : Configuration) (start comment device warm_boot range no_sleep : List ℕ) → comment ≡ start ++ text_of (comment_lines image.comment) → device ≡ comment ++ text_of (with_word device_keyword (device_word image.layout.device) ∷ []) → warm_boot ≡ device ++ text_of (warm_boot_lines image.settings.warm_boot) → range ≡ warm_boot ++ text_of (range_lines image.settings.range) → no_sleep ≡ range ++ text_of (no_sleep_lines image.settings.no_sleep) → no_sleep ≡ start ++ text_of (head_lines image)
+head-written image start comment device warm_boot range no_sleep comment_is device_is warm_boot_is range_is no_sleep_is =
+    let two = lines-joined start comment device (comment_lines image.comment) (with_word device_keyword (device_word image.layout.device) ∷ []) comment_is device_is in
+    let three = lines-joined start device warm_boot _ (warm_boot_lines image.settings.warm_boot) two warm_boot_is in
+    let four = lines-joined start warm_boot range _ (range_lines image.settings.range) three range_is in
+    lines-joined start range no_sleep _ (no_sleep_lines image.settings.no_sleep) four no_sleep_is
+
+-- it, the tiles and the extra bits are the text
+pub text-written : (image : Configuration) (start head tiles extras : List ℕ) → start ≡ [] → head ≡ start ++ text_of (head_lines image) → tiles ≡ head ++ text_of (all_tile_lines image) → extras ≡ tiles ++ text_of (all_extra_lines image) → extras ≡ asc_text_of image
 unfolding canonical_lines asc_text_of
-text-written image start comment device warm_boot range no_sleep tiles extras start_is comment_is device_is warm_boot_is range_is no_sleep_is tiles_are extras_are =
-    let one : comment ≡ [] ++ text_of (comment_lines image.comment) = comment_is ∙ ap (λ text. text ++ text_of (comment_lines image.comment)) start_is in
-    let two = lines-joined [] comment device (comment_lines image.comment) (with_word device_keyword (device_word image.layout.device) ∷ []) one device_is in
-    let three = lines-joined [] device warm_boot _ (warm_boot_lines image.settings.warm_boot) two warm_boot_is in
-    let four = lines-joined [] warm_boot range _ (range_lines image.settings.range) three range_is in
-    let five = lines-joined [] range no_sleep _ (no_sleep_lines image.settings.no_sleep) four no_sleep_is in
-    let six = lines-joined [] no_sleep tiles _ (all_tile_lines image) five tiles_are in
-    lines-joined [] tiles extras _ (all_extra_lines image) six extras_are
+text-written image start head tiles extras start_is head_is tiles_are extras_are =
+    let one : head ≡ [] ++ text_of (head_lines image) = head_is ∙ ap (λ text. text ++ text_of (head_lines image)) start_is in
+    let two = lines-joined [] head tiles (head_lines image) (all_tile_lines image) one tiles_are in
+    lines-joined [] tiles extras _ (all_extra_lines image) two extras_are
+
+-- so are the tiles between what stands before them and what stands behind
+pub around-written : (image : Configuration) (start head around : List ℕ) (behind : ℕ) → start ≡ [] → head ≡ start ++ text_of (head_lines image) → behind ≡ length head → around ≡ head ++ text_of (all_extra_lines image)
+    → take behind around ++ text_of (all_tile_lines image) ++ drop behind around ≡ asc_text_of image
+around-written image start head around behind start_is head_is behind_is around_is =
+    let extras : List ℕ = text_of (all_extra_lines image) in
+    let front : take behind around ≡ head = ap (λ n. take n around) behind_is ∙ ap (take (length head)) around_is ∙ take-append_seam head extras in
+    let back : drop behind around ≡ extras = ap (λ n. drop n around) behind_is ∙ ap (drop (length head)) around_is ∙ drop-append_seam head extras in
+    ap (λ text. text ++ text_of (all_tile_lines image) ++ drop behind around) front
+    ∙ ap (λ text. head ++ text_of (all_tile_lines image) ++ text) back
+    ∙ text-written image start head (head ++ text_of (all_tile_lines image)) ((head ++ text_of (all_tile_lines image)) ++ extras) start_is head_is refl refl
 
 -- what `grind` is told of them
 pub ruleset joined = (append_assoc, append-nil, text_of-append, text_of-none, gathered_below-more)

@@ -7,3 +7,6 @@ pub mod Meaning
 pub mod Characters
 pub mod Canonical
 pub mod inside
+pub mod Ended
+pub mod Feeding
+pub mod InPieces

@@ -3,4 +3,9 @@ pub mod Keywords
 pub mod TileSets
 pub mod Gains
 pub mod Reading
+pub mod LinesTaken
+pub mod Feeding
 pub mod RowNumbers
+pub mod Room
+pub mod Sent
+pub mod Head

@@ -1,8 +1,10 @@
 // Texts written.
 
+mod canonical;
 mod extras;
 mod lines;
 mod tiles;
 mod writer;
 
+pub use canonical::CanonicalText;
 pub use writer::write;

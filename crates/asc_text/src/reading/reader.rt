@@ -156,10 +156,10 @@ impl Reader {
     ghost use Rattle.asc_text.specs.Statements.{statement_in};
 
     /// Nothing was read.
-    pub(crate) fn new(alloc: Global, layouts: Layouts) -> Result<Reader, AllocError>
-        ensures { IfOk result (λ reader. state_of reader ≡ begun layouts) }
+    pub(crate) fn new(alloc: Global, layouts: Layouts) -> Reader
+        ensures { state_of result ≡ begun layouts }
     {
-        Ok(Reader {
+        Reader {
             alloc,
             layouts,
             warm_boot: None,
@@ -168,11 +168,11 @@ impl Reader {
             comment: None,
             in_comment: false,
             image: None,
-            tiles: TileSet::new(alloc)?,
-            rams: TileSet::new(alloc)?,
+            tiles: TileSet::new(),
+            rams: TileSet::new(),
             symbols: Vec::new(alloc),
             expected: Expected::Statement,
-        })
+        }
     }
 
     /// Takes the first line of a text, which has that number, whatever it is, and gives the text behind it.

@@ -1,4 +1,4 @@
-// A text read line by line.
+// A text that is there as a whole.
 ghost use Rattle.std.specs.Prelude.{◌≡◌, None, IfOk, IfErr, OnOk};
 ghost use Rattle.layout_file.specs.Layouts.{standard_layouts, AreLayouts};
 ghost use Rattle.ice_image.specs.Either.{configuration_of};
@@ -8,7 +8,7 @@ ghost use Rattle.asc_text.specs.Characters.{HasBits};
 
 use crate::fault::AscFault;
 use crate::file::AscFile;
-use crate::reading::reader::Reader;
+use crate::reading::asc_reader::AscReader;
 use layout_file::Layouts;
 use std::alloc::Global;
 
@@ -32,14 +32,7 @@ pub fn read_with(alloc: Global, bytes: &[u8], layouts: Layouts) -> Result<AscFil
     ensures accepted { OnOk result (asc_fault_of layouts bytes.now ≡ None) }
     ensures refused { IfErr result (Tells (asc_fault_of layouts bytes.now)) }
 {
-    let mut reader = Reader::new(alloc, layouts)?;
-    let mut left = bytes;
-    let mut count = 0;
-    while !left.is_empty() {
-        let behind = reader.accept_any(count + 1, left)?;
-        let plain = reader.accept_plain(behind);
-        left = plain.rest;
-        count += 1 + u64::from(plain.count);
-    }
-    reader.finish(count + 1)
+    let mut reader = AscReader::with(alloc, layouts);
+    reader.feed(bytes)?;
+    reader.finish()
 }

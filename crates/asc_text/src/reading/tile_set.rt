@@ -1,14 +1,13 @@
 // Which tiles of a grid were named.
-ghost use Rattle.std.specs.Prelude.{◌≡◌, ℕ, ◌+◌, ◌*◌, ◌<◌, ◌==◌, ◌&&◌, ◌||◌, true, false, replicate, set, length, IfOk};
+ghost use Rattle.std.specs.Prelude.{◌≡◌, ℕ, ◌+◌, ◌*◌, ◌<◌, ◌==◌, ◌&&◌, ◌||◌, true, false, replicate, set, length};
 ghost use Rattle.asc_text.specs.inside.TileSets.{has_tile};
 
-use std::alloc::{AllocError, Global};
 use std::marker::Model;
 
 /// A set of tiles of a grid of 34 by 34. Contracts see a flag for each tile, row of the grid by row of the grid.
 #[derive(Drop)]
 pub(crate) struct TileSet {
-    flags: Vec<bool>,
+    flags: [bool; 1156],
 }
 
 impl Model for TileSet {
@@ -16,19 +15,19 @@ impl Model for TileSet {
 
     ghost Value = { List Bool };
 
-    ghost view = { λ tiles. tiles.flags.items };
+    ghost view = { λ tiles. tiles.flags };
 
-    ghost invariant = { λ tiles. length tiles.flags.items ≡ 1156 };
+    ghost invariant = { λ tiles. length tiles.flags ≡ 1156 };
 }
 
 impl TileSet {
     /// No tile.
-    pub(crate) fn new(alloc: Global) -> Result<TileSet, AllocError>
-        ensures { IfOk result (λ set. set ≡ replicate 1156 false) }
+    pub(crate) fn new() -> TileSet
+        ensures { result ≡ replicate 1156 false }
     {
-        Ok(TileSet {
-            flags: vec![in alloc; false; 1156]?,
-        })
+        TileSet {
+            flags: [false; 1156],
+        }
     }
 
     /// Whether the tile is among them.

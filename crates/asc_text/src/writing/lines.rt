@@ -1,5 +1,6 @@
-// Lines that are appended to a text, whole or word by word.
-ghost use Rattle.std.specs.Prelude.{◌≡◌, [], ◌∷◌, ◌++◌, OnOk, decimal};
+// Lines that are appended to a text, whole or word by word. Where a line has a most length, the clauses `room`, `most` and `full`
+// say that the text's capacity doesn't fall, how many bytes are added at most, and that only a lack of room for so many fails.
+ghost use Rattle.std.specs.Prelude.{◌≡◌, ◌+◌, ◌<◌, ◌≤◌, [], ◌∷◌, ◌++◌, length, vec_len, vec_capacity, OnOk, OnErr, decimal};
 ghost use Rattle.text_lines.specs.Written.{text_of};
 ghost use Rattle.asc_text.specs.Canonical.{grid_line};
 
@@ -38,7 +39,10 @@ pub(crate) fn append_grid_line(
     x: u8,
     y: u8,
 ) -> Result<(), AllocError>
-    ensures { OnOk result (text.new.items ≡ text.old.items ++ text_of (grid_line keyword.now x y ∷ [])) }
+    ensures text { OnOk result (text.new.items ≡ text.old.items ++ text_of (grid_line keyword.now x y ∷ [])) }
+    ensures room { vec_capacity text.old ≤ vec_capacity text.new }
+    ensures most { vec_len text.new ≤ vec_len text.old + (length keyword.now + 23) }
+    ensures full { OnErr result (vec_capacity text.old < vec_len text.old + (length keyword.now + 23)) }
 {
     text.extend_from_slice(keyword)?;
     append_number(text, u32::from(x))?;
@@ -48,7 +52,10 @@ pub(crate) fn append_grid_line(
 
 /// Appends a space and a number.
 pub(crate) fn append_number(text: &mut Vec<u8>, number: u32) -> Result<(), AllocError>
-    ensures { OnOk result (text.new.items ≡ text.old.items ++ 32 ∷ decimal number) }
+    ensures text { OnOk result (text.new.items ≡ text.old.items ++ 32 ∷ decimal number) }
+    ensures room { vec_capacity text.old ≤ vec_capacity text.new }
+    ensures most { vec_len text.new ≤ vec_len text.old + 11 }
+    ensures full { OnErr result (vec_capacity text.old < vec_len text.old + 11) }
 {
     let mut digits = Buffer::new();
     text.push(b' ')?;
@@ -58,7 +65,10 @@ pub(crate) fn append_number(text: &mut Vec<u8>, number: u32) -> Result<(), Alloc
 
 /// Ends a line.
 pub(crate) fn end_line(text: &mut Vec<u8>) -> Result<(), AllocError>
-    ensures { OnOk result (text.new.items ≡ text.old.items ++ 10 ∷ []) }
+    ensures text { OnOk result (text.new.items ≡ text.old.items ++ 10 ∷ []) }
+    ensures room { vec_capacity text.old ≤ vec_capacity text.new }
+    ensures most { vec_len text.new ≤ vec_len text.old + 1 }
+    ensures full { OnErr result (vec_capacity text.old < vec_len text.old + 1) }
 {
     text.push(b'\n')?;
     Ok(())

@@ -1,5 +1,6 @@
-// The lines of the tiles, and of the contents of the RAMs.
-ghost use Rattle.std.specs.Prelude.{◌≡◌, ℕ, ◌<◌, [], ◌∷◌, ◌++◌, get_or, Some, OnOk};
+// The lines of the tiles, and of the contents of the RAMs. The clauses `room`, `most` and `full` say that the text's capacity
+// doesn't fall, how many bytes are added at most, and that only a lack of room for so many fails.
+ghost use Rattle.std.specs.Prelude.{◌≡◌, ℕ, ◌+◌, ◌<◌, ◌≤◌, [], ◌∷◌, ◌++◌, get_or, length, vec_len, vec_capacity, Some, OnOk, OnErr};
 ghost use Rattle.place_search.specs.Places.{gathered_below};
 ghost use Rattle.text_lines.specs.Written.{text_of};
 ghost use Rattle.bit_plane.specs.Rows.{row_from};
@@ -8,6 +9,7 @@ ghost use Rattle.plane_map.specs.Layout.{kind_of, columns_at, grid_width, grid_h
 ghost use Rattle.ice_image.specs.Bits.{number_bit, tile_bit_of};
 ghost use Rattle.ice_image.specs.Either.{configuration_of, device_of};
 ghost use Rattle.asc_text.specs.Statements.{tile_keyword as keyword_of};
+ghost use Rattle.asc_text.specs.inside.Room.{tile_room, ram_room, place_room, row_room};
 ghost use Rattle.asc_text.specs.Canonical.{bit_character as character_of, all_tile_lines, lines_of_tile_at, tile_lines, row_line, ram_lines, memory_line, two_bytes};
 
 use crate::writing::lines::{append_grid_line, end_line};
@@ -28,8 +30,11 @@ pub(crate) fn append_tiles(text: &mut Vec<u8>, image: &AnyImage) -> Result<(), A
 
 /// Appends the tiles of a row of the grid.
 #[tactic(auto, using(crate::proofs::Pieces::joined), unfolding(place_search::specs::Places::gathered_below))]
-fn append_grid_row(text: &mut Vec<u8>, image: &AnyImage, y: u8) -> Result<(), AllocError>
-    ensures { OnOk result (text.new.items ≡ text.old.items ++ text_of (gathered_below (grid_width (configuration_of image.now).layout.device) (λ x. lines_of_tile_at (configuration_of image.now) x y (kind_of (configuration_of image.now).layout.device x y)))) }
+pub(crate) fn append_grid_row(text: &mut Vec<u8>, image: &AnyImage, y: u8) -> Result<(), AllocError>
+    ensures text { OnOk result (text.new.items ≡ text.old.items ++ text_of (gathered_below (grid_width (configuration_of image.now).layout.device) (λ x. lines_of_tile_at (configuration_of image.now) x y (kind_of (configuration_of image.now).layout.device x y)))) }
+    ensures room { vec_capacity text.old ≤ vec_capacity text.new }
+    ensures most { vec_len text.new ≤ vec_len text.old + row_room }
+    ensures full { OnErr result (vec_capacity text.old < vec_len text.old + row_room) }
 {
     for x in 0..image.device().columns() {
         append_place(text, image, x as u8, y)?;
@@ -39,7 +44,10 @@ fn append_grid_row(text: &mut Vec<u8>, image: &AnyImage, y: u8) -> Result<(), Al
 
 /// Appends the tile at a place of the grid, and behind a lower tile its RAM's contents.
 fn append_place(text: &mut Vec<u8>, image: &AnyImage, x: u8, y: u8) -> Result<(), AllocError>
-    ensures { OnOk result (text.new.items ≡ text.old.items ++ text_of (lines_of_tile_at (configuration_of image.now) x y (kind_of (configuration_of image.now).layout.device x y))) }
+    ensures text { OnOk result (text.new.items ≡ text.old.items ++ text_of (lines_of_tile_at (configuration_of image.now) x y (kind_of (configuration_of image.now).layout.device x y))) }
+    ensures room { vec_capacity text.old ≤ vec_capacity text.new }
+    ensures most { vec_len text.new ≤ vec_len text.old + place_room }
+    ensures full { OnErr result (vec_capacity text.old < vec_len text.old + place_room) }
 {
     match kind_on(image.device(), u32::from(x), u32::from(y)) {
         None => Ok(()),
@@ -53,7 +61,8 @@ fn append_place(text: &mut Vec<u8>, image: &AnyImage, x: u8, y: u8) -> Result<()
 
 /// The keyword of a tile's statement.
 fn tile_keyword(kind: TileKind) -> &'static [u8]
-    ensures { result.now ≡ keyword_of kind }
+    ensures word { result.now ≡ keyword_of kind }
+    ensures short { length result.now ≤ 11 }
 {
     match kind {
         TileKind::Io => b".io_tile",
@@ -72,7 +81,10 @@ fn append_tile(
     y: u8,
 ) -> Result<(), AllocError>
     requires { kind_of (device_of image.now) x y ≡ Some kind }
-    ensures { OnOk result (text.new.items ≡ text.old.items ++ text_of (tile_lines (configuration_of image.now) x y kind)) }
+    ensures text { OnOk result (text.new.items ≡ text.old.items ++ text_of (tile_lines (configuration_of image.now) x y kind)) }
+    ensures room { vec_capacity text.old ≤ vec_capacity text.new }
+    ensures most { vec_len text.new ≤ vec_len text.old + tile_room }
+    ensures full { OnErr result (vec_capacity text.old < vec_len text.old + tile_room) }
 {
     append_grid_line(text, tile_keyword(kind), x, y)?;
     let width = tile_width(kind) as u8;
@@ -93,7 +105,10 @@ fn append_row(
 ) -> Result<(), AllocError>
     requires row { row < 16 }
     requires width { columns_at (configuration_of image.now).layout.device x y ≡ width }
-    ensures { OnOk result (text.new.items ≡ text.old.items ++ text_of (row_line (row_from width (tile_bit_of (configuration_of image.now) x y row)) ∷ [])) }
+    ensures text { OnOk result (text.new.items ≡ text.old.items ++ text_of (row_line (row_from width (tile_bit_of (configuration_of image.now) x y row)) ∷ [])) }
+    ensures room { vec_capacity text.old ≤ vec_capacity text.new }
+    ensures most { vec_len text.new ≤ vec_len text.old + 65 }
+    ensures full { OnErr result (vec_capacity text.old < vec_len text.old + 65) }
 {
     let characters = characters_of(image.tile_row(x, y, row));
     text.extend_from_slice(&characters[..usize::from(width)])?;
@@ -122,7 +137,10 @@ fn bit_character(bit: bool) -> u8
 #[tactic(auto, using(crate::proofs::Pieces::joined), unfolding(place_search::specs::Places::gathered_below))]
 fn append_ram(text: &mut Vec<u8>, image: &AnyImage, x: u8, y: u8) -> Result<(), AllocError>
     requires { kind_of (device_of image.now) x y ≡ Some TileKind.RamB }
-    ensures { OnOk result (text.new.items ≡ text.old.items ++ text_of (ram_lines (configuration_of image.now) x y)) }
+    ensures text { OnOk result (text.new.items ≡ text.old.items ++ text_of (ram_lines (configuration_of image.now) x y)) }
+    ensures room { vec_capacity text.old ≤ vec_capacity text.new }
+    ensures most { vec_len text.new ≤ vec_len text.old + ram_room }
+    ensures full { OnErr result (vec_capacity text.old < vec_len text.old + ram_room) }
 {
     append_grid_line(text, b".ram_data", x, y)?;
     for row in 0..16 {
@@ -141,7 +159,10 @@ fn append_memory_line(
 ) -> Result<(), AllocError>
     requires row { row < 16 }
     requires lower { kind_of (device_of image.now) x y ≡ Some TileKind.RamB }
-    ensures { OnOk result (text.new.items ≡ text.old.items ++ text_of (memory_line (configuration_of image.now) x y row ∷ [])) }
+    ensures text { OnOk result (text.new.items ≡ text.old.items ++ text_of (memory_line (configuration_of image.now) x y row ∷ [])) }
+    ensures room { vec_capacity text.old ≤ vec_capacity text.new }
+    ensures most { vec_len text.new ≤ vec_len text.old + 65 }
+    ensures full { OnErr result (vec_capacity text.old < vec_len text.old + 65) }
 {
     for index in 0..16 {
         append_digits(text, image.ram_word(x, y, 16 * row + 15 - index))?;
@@ -151,7 +172,10 @@ fn append_memory_line(
 
 /// Appends the four hexadecimal digits of a word, the highest first.
 fn append_digits(text: &mut Vec<u8>, word: u16) -> Result<(), AllocError>
-    ensures { OnOk result (text.new.items ≡ text.old.items ++ encode_lower (two_bytes word)) }
+    ensures text { OnOk result (text.new.items ≡ text.old.items ++ encode_lower (two_bytes word)) }
+    ensures room { vec_capacity text.old ≤ vec_capacity text.new }
+    ensures most { vec_len text.new ≤ vec_len text.old + 4 }
+    ensures full { OnErr result (vec_capacity text.old < vec_len text.old + 4) }
 {
     let mut digits = [0; 4];
     hex::encode_to_slice(word.to_be_bytes(), &mut digits).unwrap();

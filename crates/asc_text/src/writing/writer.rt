@@ -3,11 +3,13 @@ ghost use Rattle.std.specs.Prelude.{◌≡◌, ◌≤◌, ◌^◌, [], ◌∷◌
 ghost use Rattle.text_lines.specs.Written.{text_of};
 ghost use Rattle.layout_file.specs.declared.layouts.Layouts.{Layouts};
 ghost use Rattle.layout_file.specs.Layouts.{HasLayout};
+ghost use Rattle.ice_image.specs.Configuration.{IsWhole};
 ghost use Rattle.ice_image.specs.Either.{configuration_of};
 ghost use Rattle.ice_image.specs.CommentLines.{IsCommentLine};
 ghost use Rattle.plane_map.specs.DeviceWords.{device_word};
 ghost use Rattle.asc_text.specs.Statements.{device_keyword, comment_keyword};
 ghost use Rattle.asc_text.specs.Canonical.{asc_text_of, comment_lines, with_word, warm_boot_lines, range_lines, no_sleep_lines};
+ghost use Rattle.asc_text.specs.inside.Head.{head_lines};
 ghost use Rattle.asc_text.specs.Meaning.{AscMeans};
 
 use crate::writing::extras::append_extra_bits;
@@ -22,17 +24,25 @@ pub fn write(alloc: Global, image: &AnyImage) -> Result<Vec<u8>, AllocError>
     ensures text { IfOk result (λ text. text.items ≡ asc_text_of (configuration_of image.now)) }
     ensures means { IfOk result (λ text. (layouts : Layouts) → HasLayout layouts (configuration_of image.now).layout → AscMeans layouts text.items (configuration_of image.now) []) }
 {
-    let device = image.device();
-    let mut text = Vec::with_capacity(alloc, usual_len(device))?;
-    let settings = image.settings();
-    append_comment(&mut text, image.comment())?;
-    append_device(&mut text, device)?;
-    append_warm_boot(&mut text, settings.warm_boot)?;
-    append_range(&mut text, settings.range)?;
-    append_no_sleep(&mut text, settings.no_sleep)?;
+    let mut text = Vec::with_capacity(alloc, usual_len(image.device()))?;
+    append_head(&mut text, image)?;
     append_tiles(&mut text, image)?;
     append_extra_bits(&mut text, image, alloc)?;
     Ok(text)
+}
+
+/// Appends what stands before the tiles: the comment, the device and the settings.
+pub(crate) fn append_head(text: &mut Vec<u8>, image: &AnyImage) -> Result<(), AllocError>
+    ensures text { OnOk result (text.new.items ≡ text.old.items ++ text_of (head_lines (configuration_of image.now))) }
+    ensures lines { OnOk result (IfSome (configuration_of image.now).comment (All IsCommentLine)) }
+    ensures whole { OnOk result (IsWhole (configuration_of image.now)) }
+{
+    let settings = image.settings();
+    append_comment(text, image.comment())?;
+    append_device(text, image.device())?;
+    append_warm_boot(text, settings.warm_boot)?;
+    append_range(text, settings.range)?;
+    append_no_sleep(text, settings.no_sleep)
 }
 
 /// Room enough for a text with a short comment and few extra bits.

@@ -1,0 +1,22 @@
+-- Which text a reader stands for that is fed in pieces. The clauses of its calls say all that matters of it: a new one stands for an
+-- empty text, `feed` adds a piece, and `finish` tells what the text means. What a reader keeps stands in specs/inside.
+use Rattle.std.specs.Prelude.{◌≡◌, ℕ, List, length, Option}
+use Rattle.layout_file.specs.declared.layouts.Layouts.{Layouts}
+use Rattle.layout_file.specs.Layouts.{AreLayouts}
+use Rattle.asc_text.specs.declared.fault.AscFault.{AscFault}
+use Rattle.asc_text.specs.declared.reading.asc_reader.AscReader.{AscReader}
+use Rattle.asc_text.specs.inside.Feeding.{IsStage, fault_in}
+
+-- how many bytes were fed to a reader
+abbrev pub fed_to : AscReader → ℕ
+fed_to reader = reader.fed
+
+-- the fault with which a reader refused, where it did
+abbrev pub refusal_of : AscReader → Option AscFault
+refusal_of reader = fault_in reader.stage
+
+-- A reader stands for a text under layouts: so many bytes were fed to it, and it is at their stage.
+pub record StandsFor (layouts : Layouts) (text : List ℕ) (reader : AscReader) : Type 0 where
+  pub fed : fed_to reader ≡ length text
+  pub laid : AreLayouts layouts
+  pub stage : IsStage layouts text reader.stage

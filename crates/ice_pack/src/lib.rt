@@ -4,5 +4,5 @@
 mod packing;
 mod unpacking;
 
-pub use packing::{pack, pack_with};
-pub use unpacking::{unpack, unpack_with};
+pub use packing::{pack, pack_fed, pack_with};
+pub use unpacking::{unpack, unpack_fed, unpack_with};

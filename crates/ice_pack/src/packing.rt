@@ -1,11 +1,13 @@
 // A text as a bitstream.
-ghost use Rattle.std.specs.Prelude.{◌≡◌, None, IfOk, IfErr, OnOk};
+ghost use Rattle.std.specs.Prelude.{◌≡◌, ℕ, List, None, IfOk, IfErr, OnOk};
+ghost use Rattle.layout_file.specs.declared.layouts.Layouts.{Layouts};
 ghost use Rattle.layout_file.specs.Layouts.{standard_layouts, AreLayouts};
 ghost use Rattle.ice_image.specs.Either.{configuration_of, device_of};
 ghost use Rattle.asc_text.specs.Faults.{asc_fault_of, Tells};
+ghost use Rattle.asc_text.specs.Feeding.{StandsFor};
 ghost use Rattle.ice_pack.specs.Packed.{awake_where, IsPacked, PacksAlike, UnpacksBack};
 
-use asc_text::{AscFault, AscFile, read_with};
+use asc_text::{AscFault, AscFile, AscReader};
 use bin_stream::encode;
 use ice_image::{AnyImage, Settings};
 use layout_file::Layouts;
@@ -24,7 +26,6 @@ pub fn pack(alloc: Global, asc: &[u8], no_sleep: bool) -> Result<Vec<u8>, AscFau
 }
 
 /// The same under other layouts.
-#[tactic(auto, using(crate::proofs::BothWays::packs_alike, crate::proofs::BothWays::unpacks_back))]
 pub fn pack_with(
     alloc: Global,
     asc: &[u8],
@@ -38,10 +39,24 @@ pub fn pack_with(
     ensures accepted { OnOk result (asc_fault_of layouts asc.now ≡ None) }
     ensures refused { IfErr result (Tells (asc_fault_of layouts asc.now)) }
 {
+    let mut reader = AscReader::with(alloc, layouts);
+    // The reader keeps what it refuses.
+    let _ = reader.feed(asc);
+    pack_fed(alloc, reader, no_sleep)
+}
+
+/// The same for the text that was fed to a reader, which may have come in pieces.
+pub fn pack_fed(alloc: Global, reader: AscReader, no_sleep: bool) -> Result<Vec<u8>, AscFault>
+    ensures packed { IfOk result (λ bytes. (layouts : Layouts) (text : List ℕ) → StandsFor layouts text reader → IsPacked layouts text no_sleep bytes.items) }
+    ensures alike { IfOk result (λ bytes. (layouts : Layouts) (text : List ℕ) → StandsFor layouts text reader → PacksAlike layouts text no_sleep bytes.items) }
+    ensures back { IfOk result (λ bytes. (layouts : Layouts) (text : List ℕ) → StandsFor layouts text reader → UnpacksBack layouts text no_sleep bytes.items) }
+    ensures accepted { OnOk result ((layouts : Layouts) (text : List ℕ) → StandsFor layouts text reader → asc_fault_of layouts text ≡ None) }
+    ensures refused { IfErr result (λ fault. (layouts : Layouts) (text : List ℕ) → StandsFor layouts text reader → Tells (asc_fault_of layouts text) fault) }
+{
     let AscFile {
         mut image,
         symbols: _,
-    } = read_with(alloc, asc, layouts)?;
+    } = reader.finish()?;
     keep_awake(&mut image, no_sleep);
     Ok(encode(alloc, &image)?)
 }

@@ -1,11 +1,14 @@
 // A bitstream as a text.
-ghost use Rattle.std.specs.Prelude.{◌≡◌, IfOk, IfErr};
+ghost use Rattle.std.specs.Prelude.{◌≡◌, ℕ, List, IfOk, IfErr};
+ghost use Rattle.layout_file.specs.declared.layouts.Layouts.{Layouts};
 ghost use Rattle.layout_file.specs.Layouts.{standard_layouts, AreLayouts};
+ghost use Rattle.asc_text.specs.InPieces.{canonical_in};
+ghost use Rattle.bin_stream.specs.Decoding.{StandsFor};
 ghost use Rattle.bin_stream.specs.Spelling.{IsDecided, bin_read_of, Tells};
 ghost use Rattle.ice_pack.specs.Packed.{IsUnpacked, PacksBack, PacksToItself};
 
-use asc_text::write;
-use bin_stream::{BinFault, decode_with};
+use asc_text::{CanonicalText, write};
+use bin_stream::{BinFault, Decoder, decode_with};
 use layout_file::Layouts;
 use std::alloc::Global;
 
@@ -32,4 +35,16 @@ pub fn unpack_with(alloc: Global, bin: &[u8], layouts: Layouts) -> Result<Vec<u8
 {
     let image = decode_with(alloc, bin, layouts)?;
     Ok(write(alloc, &image)?)
+}
+
+/// The same for the bitstream that was fed to a decoder, which may have come in pieces. The text is made while it is written.
+pub fn unpack_fed(alloc: Global, decoder: Decoder) -> Result<CanonicalText, BinFault>
+    ensures decided { (layouts : Layouts) (bytes : List ℕ) → StandsFor layouts bytes decoder → IsDecided layouts bytes }
+    ensures unpacked { IfOk result (λ text. (layouts : Layouts) (bytes : List ℕ) → StandsFor layouts bytes decoder → IsUnpacked layouts bytes (canonical_in text)) }
+    ensures back { IfOk result (λ text. (layouts : Layouts) (bytes : List ℕ) → StandsFor layouts bytes decoder → PacksBack layouts bytes (canonical_in text)) }
+    ensures itself { IfOk result (λ text. (layouts : Layouts) (bytes : List ℕ) → StandsFor layouts bytes decoder → PacksToItself layouts bytes (canonical_in text)) }
+    ensures refused { IfErr result (λ fault. (layouts : Layouts) (bytes : List ℕ) → StandsFor layouts bytes decoder → Tells (bin_read_of layouts bytes) fault) }
+{
+    let image = decoder.finish()?;
+    Ok(CanonicalText::of(alloc, image)?)
 }

@@ -1,30 +1,24 @@
--- The text's image has a layout of these, so that what was written is read back under them.
-use Rattle.std.proofs.Common.{ap, subst, ◌∙◌}
-use Rattle.std.specs.Prelude.{Ok}
-use Rattle.layout_file.specs.Layouts.{HasLayout}
-use Rattle.ice_image.specs.Configuration.{Configuration}
-use Rattle.ice_image.specs.Either.{configuration_of}
-use Rattle.bin_stream.specs.CanonicalBytes.{canonical_bytes}
-use Rattle.bin_stream.specs.Spelling.{Spells}
-use Rattle.ice_pack.proofs.BothWays.{unpacks_back}
-use Rattle.ice_pack.proofs.Laid.{has_layout_awake}
+-- The reader stands for the whole text behind the one piece that is fed.
+use Rattle.std.proofs.Common.{[]}
+use Rattle.std.proofs.lemmas.Result.{IfOk-weaker, IfErr-weaker, on_ok_weaker}
 use Rattle.ice_pack.proofs.packing.pack_with.Goals as goal
 
 pub returns-clause-packed : goal.returns-clause-packed
 returns-clause-packed c =
-    let layouts = c.args.layouts in
-    let image = configuration_of c.in_ok-image.field-0.image in
-    let awake = configuration_of c.keep_awake.new.image in
-    let kept : HasLayout layouts awake.layout = has_layout_awake layouts c.requires c.args.asc.now image awake c.args.no_sleep c.in_ok-image.ensures.means.configures c.keep_awake.ensures in
-    record {
-      image = image;
-      symbols = c.in_ok-image.field-0.symbols.items;
-      means = c.in_ok-image.ensures.means;
-      canonical = c.in_ok-encode.ensures.bytes ∙ ap canonical_bytes c.keep_awake.ensures;
-      spells = subst (λ (image : Configuration). Spells layouts c.in_ok-encode.field-0.items image) c.keep_awake.ensures (c.in_ok-encode.ensures.spells layouts kept);
-      read = c.in_ok-encode.ensures.read layouts kept ∙ ap (λ (image : Configuration). Ok image) c.keep_awake.ensures;
-    }
+    IfOk-weaker c.pack_fed.result _ _ (λ bytes packed. packed c.args.layouts c.args.asc.now (c.feed.ensures.stands c.args.layouts [] c.with-reader.ensures.stands)) c.pack_fed.ensures.packed
+
+pub returns-clause-alike : goal.returns-clause-alike
+returns-clause-alike c =
+    IfOk-weaker c.pack_fed.result _ _ (λ bytes alike. alike c.args.layouts c.args.asc.now (c.feed.ensures.stands c.args.layouts [] c.with-reader.ensures.stands)) c.pack_fed.ensures.alike
 
 pub returns-clause-back : goal.returns-clause-back
 returns-clause-back c =
-    unpacks_back c.args.layouts c.args.asc.now c.args.no_sleep c.in_ok-encode.field-0.items (returns-clause-packed c)
+    IfOk-weaker c.pack_fed.result _ _ (λ bytes back. back c.args.layouts c.args.asc.now (c.feed.ensures.stands c.args.layouts [] c.with-reader.ensures.stands)) c.pack_fed.ensures.back
+
+pub returns-clause-accepted : goal.returns-clause-accepted
+returns-clause-accepted c =
+    on_ok_weaker c.pack_fed.result (λ accepted. accepted c.args.layouts c.args.asc.now (c.feed.ensures.stands c.args.layouts [] c.with-reader.ensures.stands)) c.pack_fed.ensures.accepted
+
+pub returns-clause-refused : goal.returns-clause-refused
+returns-clause-refused c =
+    IfErr-weaker c.pack_fed.result _ _ (λ fault refused. refused c.args.layouts c.args.asc.now (c.feed.ensures.stands c.args.layouts [] c.with-reader.ensures.stands)) c.pack_fed.ensures.refused

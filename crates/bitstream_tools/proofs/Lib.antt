@@ -1,3 +1,4 @@
 mod CommandLines
 pub mod InPieces
+pub mod Packed
 pub mod UnderLayouts

@@ -3,5 +3,5 @@ pub mod Faults
 pub mod Layouts
 pub mod Multi
 pub mod Pack
+pub mod Taking
 pub mod Unpack
-pub mod Unpacking

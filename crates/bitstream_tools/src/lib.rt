@@ -9,6 +9,8 @@ mod faults;
 mod layouts;
 mod multi;
 mod pack;
+mod packing;
+mod taking;
 mod unpack;
 mod unpacking;
 

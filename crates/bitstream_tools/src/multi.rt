@@ -87,7 +87,7 @@ fn number_given(text: Option<&str>) -> Option<Option<u32>>
     }
 }
 
-// The options but for the alignment: `-p` chooses the image of power-on; with `-c` the pins do, and it may only be 0.
+// The options except the alignment: `-p` chooses the image of power-on; with `-c` the pins do, and it may only be 0.
 fn powered_by(cold: bool, power_on: Option<Option<u32>>) -> Option<Options>
     ensures { result ≡ powered_by cold power_on }
 {

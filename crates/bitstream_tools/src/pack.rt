@@ -1,25 +1,21 @@
 // `icepack`: the bitstream of a text.
-ghost use Rattle.std.specs.Prelude.{◌≡◌, map, string_bytes, vec_items, IfOk, IfErr};
-ghost use Rattle.asc_text.specs.Faults.{asc_fault_of};
-ghost use Rattle.asc_text.specs.Meaning.{asc_image_of};
+ghost use Rattle.std.specs.Prelude.{◌≡◌, map, string_bytes, IfOk};
 ghost use Rattle.clap.specs.Words.{app_of};
-ghost use Rattle.layout_file.specs.Layouts.{AreLayouts};
 ghost use Rattle.tool_run.specs.Needs.{text_of};
 ghost use Rattle.tool_run.specs.Runs.{Does, outside, scene};
-ghost use Rattle.tool_run.specs.Stops.{StopsWith};
-ghost use Rattle.tool_run.specs.Tasks.{Done};
-ghost use Rattle.bitstream_tools.specs.Pack.{icepack_command, icepack_task, icepack_outcome, icepack_task_for, icepack_task_of, pack_answer, pack_task, packed_under};
+ghost use Rattle.bitstream_tools.specs.Pack.{icepack_command, icepack_task, icepack_outcome, icepack_task_for, icepack_task_of, pack_task};
 
-use crate::faults::asc_refusal;
-use crate::layouts::{LAYOUT_LIMIT, behind_layout, layouts_for, with_layout};
+use crate::layouts::{LAYOUT_LIMIT, with_layout};
+use crate::packing::{begin, feed, finish};
+use crate::taking::Taking;
 use crate::unpack::{Names, unpack_between};
-use asc_text::AscFault;
+use asc_text::AscReader;
 use clap::Command;
 use ice_io::{Files, Sink, Source};
-use ice_pack::pack_with;
-use layout_file::Layouts;
 use std::alloc::{AllocError, Global};
-use tool_run::{AtOnce, Job, Load, Stop, Tool, answer_at_once, asks_for_help, give_up, perform};
+use tool_run::{
+    AtOnce, Job, Load, PieceTool, Stop, answer_at_once, asks_for_help, give_up, perform_in_pieces,
+};
 use tool_words::{flag, has_flag, long_option, parse, positional, value, with};
 
 /// The most bytes of a text.
@@ -56,7 +52,7 @@ failed; 4 writing failed; 5 out of memory; 6 FILE or the input is longer than
 its limit.
 ";
 
-/// Packs the text that it loads, under the layouts of a file that it loads before where one is named. The flash stays awake
+/// Packs the text that it takes, under the layouts of a file that it loads before where one is named. The flash stays awake
 /// where `no_sleep` is true, whatever the text says.
 #[derive(Clone, Copy, Debug, PartialEq, Eq)]
 pub(crate) struct Pack {
@@ -65,41 +61,33 @@ pub(crate) struct Pack {
     pub(crate) no_sleep: bool,
 }
 
-impl Tool for Pack {
+impl PieceTool for Pack {
+    ghost use Rattle.asc_text.specs.Feeding.{StandsFor, fed_to};
     ghost use Rattle.bitstream_tools.specs.Pack.{pack_answer};
+    ghost use Rattle.bitstream_tools.specs.Taking.{fed_of, loads_before, IsTaking};
+
+    type Intake = Taking<AscReader>;
+
+    type Made = Vec<u8>;
 
     ghost answer_of = { λ tool texts. pack_answer tool.named tool.no_sleep texts };
 
-    fn answer(&self, alloc: Global, loaded: &Vec<Vec<u8>>) -> Result<Vec<u8>, Stop> {
-        packed_from(alloc, *self, loaded)
-    }
-}
+    ghost before = { λ tool. loads_before tool.named };
 
-// The bitstream of the text that was loaded.
-#[tactic(auto, using(crate::proofs::UnderLayouts::stops_under))]
-fn packed_from(alloc: Global, tool: Pack, loaded: &[Vec<u8>]) -> Result<Vec<u8>, Stop>
-    ensures bytes { IfOk result (λ bytes. pack_answer tool.named tool.no_sleep (map vec_items loaded.now) ≡ Done bytes.items) }
-    ensures stops { IfErr result (StopsWith (pack_answer tool.named tool.no_sleep (map vec_items loaded.now))) }
-{
-    let text = behind_layout(tool.named, loaded, 0);
-    match layouts_for(tool.named, loaded) {
-        Ok(layouts) => packed(alloc, text, tool.no_sleep, layouts),
-        Err(stop) => Err(stop),
-    }
-}
+    ghost takes = { λ tool texts packing text. IsTaking StandsFor tool.named texts text packing };
 
-// The bitstream of a text under layouts.
-fn packed(alloc: Global, text: &[u8], no_sleep: bool, layouts: Layouts) -> Result<Vec<u8>, Stop>
-    requires { AreLayouts layouts }
-    ensures bytes { IfOk result (λ bytes. packed_under no_sleep text.now layouts ≡ Done bytes.items) }
-    ensures stops { IfErr result (StopsWith (packed_under no_sleep text.now layouts)) }
-{
-    match pack_with(alloc, text, no_sleep, layouts) {
-        Ok(bytes) => Ok(bytes),
-        Err(AscFault::At { line, tile, cause }) => {
-            Err(Stop::Refused(asc_refusal(line, tile, cause)))
-        }
-        Err(AscFault::Memory(_)) => Err(Stop::Memory),
+    ghost fed = { fed_of fed_to };
+
+    fn begin(&self, alloc: Global, loaded: &Vec<Vec<u8>>) -> Taking<AscReader> {
+        begin(alloc, self.named, loaded)
+    }
+
+    fn feed(&self, packing: &mut Taking<AscReader>, piece: &[u8]) {
+        feed(self.named, packing, piece);
+    }
+
+    fn finish(&self, alloc: Global, packing: Taking<AscReader>) -> Result<Vec<u8>, Stop> {
+        finish(alloc, self.named, self.no_sleep, packing)
     }
 }
 
@@ -187,7 +175,7 @@ fn pack_between<F: Files, I: Source, O: Sink, E: Sink>(
         loads: with_layout(names.layout, &loads),
         target: names.output,
     };
-    perform(alloc, &tool, &job, files, input, output, errors)
+    perform_in_pieces(alloc, &tool, &job, files, input, output, errors)
 }
 
 /// Runs `icepack` with these words, of which the first is its name.

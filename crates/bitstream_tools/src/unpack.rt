@@ -1,23 +1,20 @@
 // `iceunpack`, and what `icepack -u` does too: the text of a bitstream.
-ghost use Rattle.std.specs.Prelude.{◌≡◌, map, string_bytes, vec_items, IfOk, IfErr};
+ghost use Rattle.std.specs.Prelude.{◌≡◌, map, string_bytes, IfOk};
 ghost use Rattle.clap.specs.Words.{app_of};
-ghost use Rattle.layout_file.specs.Layouts.{AreLayouts};
 ghost use Rattle.tool_run.specs.Runs.{Does, outside, scene};
 ghost use Rattle.tool_run.specs.Needs.{text_of};
-ghost use Rattle.tool_run.specs.Stops.{StopsWith};
-ghost use Rattle.tool_run.specs.Tasks.{Done};
-ghost use Rattle.bitstream_tools.specs.Unpack.{iceunpack_command, iceunpack_task, iceunpack_outcome, iceunpack_task_for, unpack_answer, unpack_task, unpacked_under};
+ghost use Rattle.bitstream_tools.specs.Unpack.{iceunpack_command, iceunpack_task, iceunpack_outcome, iceunpack_task_for, unpack_task};
 
-use crate::layouts::{LAYOUT_LIMIT, behind_layout, layouts_for, with_layout};
-use crate::unpacking::{Unpacking, begin, feed, finish, stop_of};
+use crate::layouts::{LAYOUT_LIMIT, with_layout};
+use crate::taking::Taking;
+use crate::unpacking::{begin, feed, finish};
+use asc_text::CanonicalText;
+use bin_stream::Decoder;
 use clap::Command;
 use ice_io::{Files, Sink, Source};
-use ice_pack::unpack_with;
-use layout_file::Layouts;
 use std::alloc::{AllocError, Global};
 use tool_run::{
-    AtOnce, Job, Load, PieceTool, Stop, Tool, answer_at_once, asks_for_help, give_up,
-    perform_in_pieces,
+    AtOnce, Job, Load, PieceTool, Stop, answer_at_once, asks_for_help, give_up, perform_in_pieces,
 };
 use tool_words::{long_option, parse, positional, value, with};
 
@@ -53,69 +50,40 @@ its limit.
 /// The most bytes of a bitstream.
 pub(crate) const STREAM_LIMIT: usize = 4_194_304;
 
-/// Unpacks the bitstream that it loads, under the layouts of a file that it loads before where one is named.
+/// Unpacks the bitstream that it takes, under the layouts of a file that it loads before where one is named.
 #[derive(Clone, Copy, Debug, PartialEq, Eq)]
 pub(crate) struct Unpack {
     /// Whether a layout file is loaded first.
     pub(crate) named: bool,
 }
 
-impl Tool for Unpack {
+impl PieceTool for Unpack {
+    ghost use Rattle.bin_stream.specs.Decoding.{StandsFor, fed_to};
+    ghost use Rattle.bitstream_tools.specs.Taking.{fed_of, loads_before, IsTaking};
     ghost use Rattle.bitstream_tools.specs.Unpack.{unpack_answer};
+
+    type Intake = Taking<Decoder>;
+
+    type Made = CanonicalText;
 
     ghost answer_of = { λ tool texts. unpack_answer tool.named texts };
 
-    fn answer(&self, alloc: Global, loaded: &Vec<Vec<u8>>) -> Result<Vec<u8>, Stop> {
-        unpacked_from(alloc, *self, loaded)
-    }
-}
-
-impl PieceTool for Unpack {
-    ghost use Rattle.bitstream_tools.specs.Unpacking.{fed_of, loads_before, IsUnpacking};
-
-    type Intake = Unpacking;
-
     ghost before = { λ tool. loads_before tool.named };
 
-    ghost takes = { λ tool texts unpacking bytes. IsUnpacking tool.named texts bytes unpacking };
+    ghost takes = { λ tool texts unpacking bytes. IsTaking StandsFor tool.named texts bytes unpacking };
 
-    ghost fed = { fed_of };
+    ghost fed = { fed_of fed_to };
 
-    fn begin(&self, alloc: Global, loaded: &Vec<Vec<u8>>) -> Unpacking {
+    fn begin(&self, alloc: Global, loaded: &Vec<Vec<u8>>) -> Taking<Decoder> {
         begin(alloc, self.named, loaded)
     }
 
-    fn feed(&self, unpacking: &mut Unpacking, piece: &[u8]) {
+    fn feed(&self, unpacking: &mut Taking<Decoder>, piece: &[u8]) {
         feed(self.named, unpacking, piece);
     }
 
-    fn finish(&self, alloc: Global, unpacking: Unpacking) -> Result<Vec<u8>, Stop> {
+    fn finish(&self, alloc: Global, unpacking: Taking<Decoder>) -> Result<CanonicalText, Stop> {
         finish(alloc, self.named, unpacking)
-    }
-}
-
-// The text of the bitstream that was loaded.
-#[tactic(auto, using(crate::proofs::UnderLayouts::stops_under))]
-fn unpacked_from(alloc: Global, tool: Unpack, loaded: &[Vec<u8>]) -> Result<Vec<u8>, Stop>
-    ensures text { IfOk result (λ text. unpack_answer tool.named (map vec_items loaded.now) ≡ Done text.items) }
-    ensures stops { IfErr result (StopsWith (unpack_answer tool.named (map vec_items loaded.now))) }
-{
-    let bytes = behind_layout(tool.named, loaded, 0);
-    match layouts_for(tool.named, loaded) {
-        Ok(layouts) => unpacked(alloc, bytes, layouts),
-        Err(stop) => Err(stop),
-    }
-}
-
-// The text of a bitstream under layouts.
-fn unpacked(alloc: Global, bytes: &[u8], layouts: Layouts) -> Result<Vec<u8>, Stop>
-    requires { AreLayouts layouts }
-    ensures text { IfOk result (λ text. unpacked_under bytes.now layouts ≡ Done text.items) }
-    ensures stops { IfErr result (StopsWith (unpacked_under bytes.now layouts)) }
-{
-    match unpack_with(alloc, bytes, layouts) {
-        Ok(text) => Ok(text),
-        Err(fault) => Err(stop_of(fault)),
     }
 }
 

@@ -1,81 +1,79 @@
-// A bitstream that comes in pieces from standard input.
+// A bitstream that comes in pieces, unpacked.
 ghost use Rattle.std.specs.Prelude.{◌≡◌, ◌+◌, ◌++◌, ◌∷◌, [], ◌<◌, ◌≤◌, ◌^◌, ℕ, List, Result, length, map, vec_items, IfOk, IfErr};
-ghost use Rattle.tool_run.specs.Intakes.{TakesMore};
+ghost use Rattle.ice_io.specs.Takers.{TakesMore};
 ghost use Rattle.tool_run.specs.Stops.{StopsWith};
 ghost use Rattle.tool_run.specs.Tasks.{Done};
 ghost use Rattle.layout_file.specs.declared.layouts.Layouts.{Layouts};
-ghost use Rattle.bin_stream.specs.Decoding.{StandsFor};
+ghost use Rattle.asc_text.specs.InPieces.{canonical_in};
+ghost use Rattle.bin_stream.specs.Decoding.{StandsFor, fed_to};
 ghost use Rattle.ice_image.specs.Configuration.{Configuration};
 ghost use Rattle.bin_stream.specs.Refusals.{Fault};
 ghost use Rattle.bin_stream.specs.Spelling.{Tells};
 ghost use Rattle.bitstream_tools.specs.Unpack.{unpack_answer, unpacked, unpacked_under};
-ghost use Rattle.bitstream_tools.specs.Unpacking.{fed_of, loads_before, IsUnpacking};
+ghost use Rattle.bitstream_tools.specs.Taking.{fed_of, loads_before, IsTaking};
 
 use crate::faults::bin_refusal;
 use crate::layouts::layouts_for;
-use asc_text::write;
+use crate::taking::Taking;
+use asc_text::CanonicalText;
 use bin_stream::{BinFault, Decoder};
+use ice_pack::unpack_fed;
 use std::alloc::Global;
 use tool_run::Stop;
 
-/// What is kept of a bitstream that comes in pieces.
-#[derive(Drop)]
-pub(crate) enum Unpacking {
-    /// What the decoder knows of the pieces so far.
-    Reading(Decoder),
-    /// The layout file is refused, whatever the pieces are.
-    Stopped(Stop),
-}
-
 /// Begins to unpack, under the layouts of the file that was loaded where one is named.
-pub(crate) fn begin(alloc: Global, named: bool, loaded: &[Vec<u8>]) -> Unpacking
+pub(crate) fn begin(alloc: Global, named: bool, loaded: &[Vec<u8>]) -> Taking<Decoder>
     requires { length loaded.now ≡ loads_before named }
-    ensures taken { IsUnpacking named (map vec_items loaded.now) [] result }
-    ensures none { fed_of result ≡ 0 }
+    ensures taken { IsTaking StandsFor named (map vec_items loaded.now) [] result }
+    ensures none { fed_of fed_to result ≡ 0 }
 {
     match layouts_for(named, loaded) {
-        Ok(layouts) => Unpacking::Reading(Decoder::with(alloc, layouts)),
-        Err(stop) => Unpacking::Stopped(stop),
+        Ok(layouts) => Taking::Reading(Decoder::with(alloc, layouts)),
+        Err(stop) => Taking::Stopped(stop),
     }
 }
 
 /// Takes a piece more. What is refused is told at the end, so pieces behind a refusal are passed over.
-pub(crate) fn feed(named: bool, unpacking: &mut Unpacking, piece: &[u8])
-    requires { fed_of unpacking.old + length piece.now < 2 ^ 32 }
-    ensures taken { TakesMore (λ texts kept bytes. IsUnpacking named texts bytes kept) unpacking.old unpacking.new piece.now }
-    ensures bound { fed_of unpacking.new ≤ fed_of unpacking.old + length piece.now }
+pub(crate) fn feed(named: bool, unpacking: &mut Taking<Decoder>, piece: &[u8])
+    requires { fed_of fed_to unpacking.old + length piece.now < 2 ^ 32 }
+    ensures taken { TakesMore (λ texts kept bytes. IsTaking StandsFor named texts bytes kept) unpacking.old unpacking.new piece.now }
+    ensures bound { fed_of fed_to unpacking.new ≤ fed_of fed_to unpacking.old + length piece.now }
 {
     match unpacking {
-        Unpacking::Reading(decoder) => {
+        Taking::Reading(decoder) => {
             // The decoder keeps what it refuses.
             let _ = decoder.feed(piece);
         }
-        Unpacking::Stopped(_) => {}
+        Taking::Stopped(_) => {}
     }
 }
 
 /// The text of the bitstream, or why there is none, after the last piece.
-pub(crate) fn finish(alloc: Global, named: bool, unpacking: Unpacking) -> Result<Vec<u8>, Stop>
-    ensures text { IfOk result (λ text. (texts : List (List ℕ)) (bytes : List ℕ) → IsUnpacking named texts bytes unpacking
-        → unpack_answer named (texts ++ bytes ∷ []) ≡ Done text.items) }
-    ensures stops { IfErr result (λ stop. (texts : List (List ℕ)) (bytes : List ℕ) → IsUnpacking named texts bytes unpacking
+pub(crate) fn finish(
+    alloc: Global,
+    named: bool,
+    unpacking: Taking<Decoder>,
+) -> Result<CanonicalText, Stop>
+    ensures text { IfOk result (λ text. (texts : List (List ℕ)) (bytes : List ℕ) → IsTaking StandsFor named texts bytes unpacking
+        → unpack_answer named (texts ++ bytes ∷ []) ≡ Done (canonical_in text)) }
+    ensures stops { IfErr result (λ stop. (texts : List (List ℕ)) (bytes : List ℕ) → IsTaking StandsFor named texts bytes unpacking
         → StopsWith (unpack_answer named (texts ++ bytes ∷ [])) stop) }
 {
     match unpacking {
-        Unpacking::Reading(decoder) => text_of(alloc, decoder),
-        Unpacking::Stopped(stop) => Err(stop),
+        Taking::Reading(decoder) => text_of(alloc, decoder),
+        Taking::Stopped(stop) => Err(stop),
     }
 }
 
 /// The text of what was fed to a decoder, or its first fault.
-fn text_of(alloc: Global, decoder: Decoder) -> Result<Vec<u8>, Stop>
+fn text_of(alloc: Global, decoder: Decoder) -> Result<CanonicalText, Stop>
     ensures text { IfOk result (λ text. (layouts : Layouts) (bytes : List ℕ) → StandsFor layouts bytes decoder
-        → unpacked_under bytes layouts ≡ Done text.items) }
+        → unpacked_under bytes layouts ≡ Done (canonical_in text)) }
     ensures stops { IfErr result (λ stop. (layouts : Layouts) (bytes : List ℕ) → StandsFor layouts bytes decoder
         → StopsWith (unpacked_under bytes layouts) stop) }
 {
-    match decoder.finish() {
-        Ok(image) => Ok(write(alloc, &image)?),
+    match unpack_fed(alloc, decoder) {
+        Ok(text) => Ok(text),
         Err(fault) => Err(stop_of(fault)),
     }
 }

@@ -6,8 +6,8 @@ use Rattle.bitstream_tools.specs.Pack.{icepack_name, pack_answer, text_limit}
 use Rattle.bitstream_tools.proofs.UnderLayouts.{named-is, needs-are, needs-sound, one-sound}
 use Rattle.bitstream_tools.proofs.pack.pack_between.Goals as goal
 
-pub perform-requires : goal.perform-requires
-perform-requires g c =
+pub perform_in_pieces-requires-clause-sound : goal.perform_in_pieces-requires-clause-sound
+perform_in_pieces-requires-clause-sound g c =
     let names = c.args.names in
     let needed = needs-are names.layout (record { name = names.input; limit = text_limit } ∷ []) c.with_layout.result.now c.with_layout.ensures in
     subst (λ (needs : List Need). IsSound needs) (sym needed) (needs-sound (text_of names.layout) _ (one-sound _ (omega arith)))
@@ -18,4 +18,4 @@ returns g c =
     let needed = needs-are names.layout (record { name = names.input; limit = text_limit } ∷ []) c.with_layout.result.now c.with_layout.ensures in
     let task : List Need → Bool → Task =
     λ needs named. record { speaker = icepack_name; needs = needs; target = text_of names.output; answer = pack_answer named c.args.no_sleep } in
-    Does-same _ _ _ _ _ _ (ap₂ task needed (c.is_some.ensures ∙ named-is names.layout)) c.perform.ensures
+    Does-same _ _ _ _ _ _ (ap₂ task needed (c.is_some.ensures ∙ named-is names.layout)) c.perform_in_pieces.ensures

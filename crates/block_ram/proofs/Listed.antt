@@ -9,14 +9,14 @@ use Rattle.ice_image.specs.Configuration.{Configuration}
 use Rattle.chipdb_reader.specs.Database.{Database}
 use Rattle.chipdb_reader.specs.Fit.{IsFit}
 use Rattle.chipdb_reader.specs.declared.items.TileXy8.{TileXy8}
-use Rattle.fabric_rules.specs.declared.ram.RamCell.{RamCell}
-use Rattle.fabric_rules.specs.Nets.{net_named}
-use Rattle.fabric_rules.specs.Rams.{is_ram_used, over_rams, port_net, ram_at, rams_of}
-use Rattle.fabric_rules.specs.Faults.{Fault, rams_fault, mode_faults, cascade_faults}
-use Rattle.fabric_rules.specs.Tiles.{first_of}
-use Rattle.tile_lookups.specs.Tiles.{tiles_of}
-use Rattle.tile_lookups.proofs.InOrder.{over_tiles-listed}
-use Rattle.tile_lookups.proofs.Nets.{net_named-inside}
+use Rattle.net_extract.specs.declared.ram.RamCell.{RamCell}
+use Rattle.net_extract.specs.Nets.{net_named}
+use Rattle.net_extract.specs.Rams.{is_ram_used, over_rams, port_net, ram_at, rams_of}
+use Rattle.net_extract.specs.Faults.{Fault, rams_fault, mode_faults, cascade_faults}
+use Rattle.net_extract.specs.Tiles.{first_of}
+use Rattle.net_extract.specs.TilesOfKind.{tiles_of}
+use Rattle.net_extract.proofs.InOrder.{over_tiles-listed}
+use Rattle.net_extract.proofs.Nets.{net_named-inside}
 use Rattle.block_ram.specs.Faults.{mode_at, cascade_at}
 
 -- what items that pass give

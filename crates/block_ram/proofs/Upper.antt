@@ -10,7 +10,7 @@ use Rattle.plane_map.specs.declared.tile.TileKind.TheVariants.{Io, Logic, RamB, 
 use Rattle.ice_image.specs.declared.any.AnyImage.{AnyImage}
 use Rattle.ice_image.specs.Either.{device_of}
 use Rattle.chipdb_reader.specs.declared.items.TileXy8.{TileXy8}
-use Rattle.tile_lookups.specs.Tiles.{HasTile}
+use Rattle.net_extract.specs.TilesOfKind.{HasTile}
 use Rattle.block_ram.specs.Rams.{HasRam}
 
 -- the tile at a place by the tests of its column and its row

@@ -3,10 +3,10 @@ use Rattle.std.specs.Prelude.{◌≡◌, ℕ, Bool, not, ◌||◌, ◌==◌, Lis
 use Rattle.ice_image.specs.Configuration.{Configuration}
 use Rattle.chipdb_reader.specs.Database.{Database}
 use Rattle.chipdb_reader.specs.declared.items.TileXy8.{TileXy8}
-use Rattle.fabric_rules.specs.Tiles.{item_if}
-use Rattle.fabric_rules.specs.Rams.{is_cascaded, is_narrow, read_mode, write_mode}
-use Rattle.fabric_rules.specs.Faults.{Fault}
-use Rattle.fabric_rules.specs.Faults.Fault.{mode, cascade}
+use Rattle.net_extract.specs.Tiles.{item_if}
+use Rattle.net_extract.specs.Rams.{is_cascaded, is_narrow, read_mode, write_mode}
+use Rattle.net_extract.specs.Faults.{Fault}
+use Rattle.net_extract.specs.Faults.Fault.{mode, cascade}
 use Rattle.block_ram.specs.declared.fault.RamFault.{RamFault}
 use Rattle.block_ram.specs.declared.fault.RamFault.TheVariants.{Mode, Cascade, Memory}
 use Rattle.block_ram.specs.declared.modes.RamModes.{RamModes}

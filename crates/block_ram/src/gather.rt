@@ -4,10 +4,10 @@ ghost use Rattle.std.specs.List.{flat_map};
 ghost use Rattle.plane_map.specs.declared.tile.TileKind.TheVariants.{RamB};
 ghost use Rattle.ice_image.specs.Either.{configuration_of};
 ghost use Rattle.chipdb_reader.specs.Kept.{database_in};
-ghost use Rattle.fabric_rules.specs.Rams.{is_ram_used, ram_at, rams_of};
-ghost use Rattle.fabric_rules.specs.Faults.{rams_fault};
+ghost use Rattle.net_extract.specs.Rams.{is_ram_used, ram_at, rams_of};
+ghost use Rattle.net_extract.specs.Faults.{rams_fault};
 ghost use Rattle.net_extract.specs.Links.{AreLinks};
-ghost use Rattle.tile_lookups.specs.Tiles.{tiles_of};
+ghost use Rattle.net_extract.specs.TilesOfKind.{tiles_of};
 ghost use Rattle.block_ram.specs.Rams.{HasRam};
 ghost use Rattle.block_ram.specs.Faults.{IsCause};
 
@@ -16,12 +16,12 @@ use crate::modes::{first_cascaded, first_narrow};
 use crate::ram::ram;
 use crate::used::used_rams;
 use chipdb_reader::{ChipDb, TileXy8};
-use fabric_rules::RamCell;
+use net_extract::RamCell;
 use ice_image::AnyImage;
 use net_extract::Links;
 use plane_map::TileKind;
 use std::alloc::{AllocError, Global};
-use tile_lookups::tiles_of_image;
+use net_extract::tiles_of_image;
 
 /// Finds the RAMs that an image uses, by rows, then by columns.
 ///

@@ -3,18 +3,18 @@ ghost use Rattle.std.specs.Prelude.{◌≡◌, ◌+◌, codes, All};
 ghost use Rattle.std.specs.List.{flat_map};
 ghost use Rattle.ice_image.specs.Either.{configuration_of};
 ghost use Rattle.chipdb_reader.specs.Kept.{database_in};
-ghost use Rattle.fabric_rules.specs.Rams.{is_cascaded, mode_of, read_mode, write_mode};
+ghost use Rattle.net_extract.specs.Rams.{is_cascaded, mode_of, read_mode, write_mode};
 ghost use Rattle.plane_map.specs.declared.tile.TileKind.TheVariants.{RamT};
-ghost use Rattle.fabric_rules.specs.Nets.{ending_in};
-ghost use Rattle.fabric_rules.specs.On.{is_function_on};
-ghost use Rattle.fabric_rules.specs.Tiles.{first_of};
+ghost use Rattle.net_extract.specs.Nets.{ending_in};
+ghost use Rattle.net_extract.specs.On.{is_function_on};
+ghost use Rattle.net_extract.specs.Tiles.{first_of};
 ghost use Rattle.block_ram.specs.Rams.{HasRam};
 ghost use Rattle.block_ram.specs.Faults.{cascade_at, cascade_fault, is_narrow_by, mode_at, mode_fault};
 
 use chipdb_reader::{ChipDb, TileXy8};
 use ice_image::AnyImage;
 use plane_map::TileKind;
-use tile_lookups::{Name, is_any_on, is_on};
+use net_extract::{Name, is_any_on, is_on};
 
 /// The RAM at (x, y), and the modes of its ports.
 #[derive(Clone, Copy)]

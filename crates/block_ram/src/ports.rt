@@ -1,12 +1,12 @@
 // The nets of a RAM's ports, each named at its lower tile or else at its upper one.
 ghost use Rattle.std.specs.Prelude.{◌≡◌, ◌<◌, ◌≤◌, length};
 ghost use Rattle.chipdb_reader.specs.Kept.{database_in};
-ghost use Rattle.fabric_rules.specs.Nets.{ending_in};
-ghost use Rattle.fabric_rules.specs.Rams.{port_net};
-ghost use Rattle.fabric_rules.specs.Tiles.{each_below};
+ghost use Rattle.net_extract.specs.Nets.{ending_in};
+ghost use Rattle.net_extract.specs.Rams.{port_net};
+ghost use Rattle.net_extract.specs.Tiles.{each_below};
 
 use chipdb_reader::ChipDb;
-use tile_lookups::Name;
+use net_extract::Name;
 
 /// The net of a port of the RAM at (x, y).
 pub(crate) fn port_net(db: &ChipDb, x: u8, y: u8, name: &[u8]) -> Option<u32>

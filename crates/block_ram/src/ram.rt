@@ -2,18 +2,18 @@
 ghost use Rattle.std.specs.Prelude.{◌≡◌, ◌<◌};
 ghost use Rattle.ice_image.specs.Either.{configuration_of};
 ghost use Rattle.chipdb_reader.specs.Kept.{database_in};
-ghost use Rattle.fabric_rules.specs.Rams.{is_port_inverted, ram_at};
+ghost use Rattle.net_extract.specs.Rams.{is_port_inverted, ram_at};
 ghost use Rattle.block_ram.specs.Rams.{HasRam};
 
 use crate::ports::{numbered_nets, port_net};
 use chipdb_reader::ChipDb;
-use fabric_rules::RamCell;
+use net_extract::RamCell;
 use ice_image::AnyImage;
 use plane_map::TileKind;
-use tile_lookups::is_on;
+use net_extract::is_on;
 
 /// The RAM at (x, y).
-#[tactic(auto, unfolding(fabric_rules::specs::Rams::ram_at))]
+#[tactic(auto, unfolding(net_extract::specs::Rams::ram_at))]
 pub(crate) fn ram(db: &ChipDb, image: &AnyImage, x: u8, y: u8) -> RamCell
     requires { HasRam image.now x y }
     ensures { result ≡ ram_at (database_in db.now) (configuration_of image.now) x y }

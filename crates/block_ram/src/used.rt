@@ -2,15 +2,15 @@
 ghost use Rattle.std.specs.Prelude.{◌≡◌, ◌<◌, All, IfOk, filter};
 ghost use Rattle.ice_image.specs.Either.{configuration_of};
 ghost use Rattle.chipdb_reader.specs.Kept.{database_in};
-ghost use Rattle.fabric_rules.specs.Rams.{is_ram_used};
-ghost use Rattle.tile_lookups.specs.Reads.{BelongTogether};
+ghost use Rattle.net_extract.specs.Rams.{is_ram_used};
+ghost use Rattle.net_extract.specs.BelongTogether.{BelongTogether};
 
 use crate::ports::numbered_net;
 use chipdb_reader::{ChipDb, TileXy8};
 use ice_image::AnyImage;
 use net_extract::Links;
 use std::alloc::{AllocError, Global};
-use tile_lookups::is_some_read;
+use net_extract::is_some_read;
 
 /// Those of the lower tiles whose RAMs are used.
 pub(crate) fn used_rams(

@@ -18,7 +18,7 @@ use Rattle.chipdb_reader.specs.Database.{Database, database_of}
 use Rattle.chipdb_reader.specs.Faults.{DbMeans, Fault, db_fault_of}
 use Rattle.chipdb_reader.specs.Fit.{IsFit}
 use Rattle.chipdb_reader.proofs.FitPlaces.{means-fit}
-use Rattle.fabric_rules.proofs.Tests.{and-right}
+use Rattle.net_extract.proofs.Tests.{and-right}
 use Rattle.fabric_tools.specs.Databases.{database_by, database_read, database_with}
 
 -- ---- a device has few nets

@@ -11,12 +11,12 @@ use Rattle.vlog_module.specs.Names.{is_name, reserved_words, IsName}
 use Rattle.vlog_forms.specs.Printed.{printed}
 use Rattle.vlog_forms.proofs.PrintedTokens.{printed-spells}
 use Rattle.vlog_forms.proofs.Spelled.{one-module}
-use Rattle.fabric_rules.specs.Fabric.{fabric_of}
-use Rattle.fabric_rules.specs.Wiring.{wiring_of, IsWriteOrder}
-use Rattle.fabric_rules.specs.Faults.{Fault, design_fault}
-use Rattle.fabric_rules.proofs.Within.{fabric-within}
-use Rattle.fabric_rules.proofs.Taken.{design-taken, taken-order}
-use Rattle.fabric_rules.proofs.Runs.{design-run}
+use Rattle.net_extract.specs.Fabric.{fabric_of}
+use Rattle.net_extract.specs.Wiring.{wiring_of, IsWriteOrder}
+use Rattle.net_extract.specs.Faults.{Fault, design_fault}
+use Rattle.net_extract.proofs.Within.{fabric-within}
+use Rattle.net_extract.proofs.Taken.{design-taken, taken-order}
+use Rattle.net_extract.proofs.Runs.{design-run}
 use Rattle.vlog_emit.specs.Written.{module_of}
 use Rattle.vlog_emit.proofs.Design.{design-is-module, design-well_formed}
 use Rattle.fabric_tools.proofs.CommandLines.{helped-no}

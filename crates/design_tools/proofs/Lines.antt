@@ -11,8 +11,8 @@ use Rattle.vlog_cycle.specs.Entries.{Entry as ModuleEntry}
 use Rattle.vlog_cycle.specs.Events.{event_fault, events_of}
 use Rattle.vlog_cycle.specs.Run.{module_run}
 use Rattle.vlog_cycle.specs.Text.{bit_digit, word_text, registers_text, entry_line, run_text}
-use Rattle.fabric_rules.specs.Fabric.{Fabric}
-use Rattle.fabric_rules.specs.Steps.{Entry}
+use Rattle.net_extract.specs.Fabric.{Fabric}
+use Rattle.net_extract.specs.Steps.{Entry}
 use Rattle.vlog_emit.specs.Matching.{Matches, module_event}
 use Rattle.tool_run.specs.Tasks.{Done}
 use Rattle.module_tools.specs.Vlogrun.{run_over, run_of, vlogrun_answer}

@@ -7,10 +7,10 @@ use Rattle.std.proofs.lemmas.List.{append-nil, take_all}
 use Rattle.std.proofs.Math.Seq.{take-suc}
 use Rattle.place_search.specs.Places.{least_below}
 use Rattle.place_search.proofs.Places.{least_below-first, least_below-none}
-use Rattle.fabric_rules.specs.Wiring.{Wiring, has, IsReady, IsWriteOrder}
-use Rattle.fabric_rules.proofs.Tests.{and-left, and-right}
-use Rattle.fabric_rules.proofs.Order.{has-none, has-cases, has-first, has-behind}
-use Rattle.fabric_rules.proofs.Chains.{order-few}
+use Rattle.net_extract.specs.Wiring.{Wiring, has, IsReady, IsWriteOrder}
+use Rattle.net_extract.proofs.Tests.{and-left, and-right}
+use Rattle.net_extract.proofs.Order.{has-none, has-cases, has-first, has-behind}
+use Rattle.net_extract.proofs.Chains.{order-few}
 use Rattle.design_tools.specs.Order.{is_ready, first_classes, write_order}
 
 -- ---- the test says what the record says

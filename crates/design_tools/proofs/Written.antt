@@ -6,9 +6,9 @@ use Rattle.ice_image.specs.Configuration.{Configuration}
 use Rattle.chipdb_reader.specs.Database.{Database}
 use Rattle.vlog_module.specs.Parts.{Parts}
 use Rattle.vlog_forms.specs.Printed.{printed}
-use Rattle.fabric_rules.specs.Fabric.{Fabric, fabric_of}
-use Rattle.fabric_rules.specs.Wiring.{wiring_of}
-use Rattle.fabric_rules.specs.Faults.{Fault}
+use Rattle.net_extract.specs.Fabric.{Fabric, fabric_of}
+use Rattle.net_extract.specs.Wiring.{wiring_of}
+use Rattle.net_extract.specs.Faults.{Fault}
 use Rattle.fabric.specs.declared.fault.FabricFault.{FabricFault}
 use Rattle.fabric.specs.declared.fault.FabricFault.TheVariants.{Device, Pll, PinMode, Mode, Cascade, Async, TwoDrivers, Loop, Clock, Memory as OutOfMemory}
 use Rattle.fabric.specs.Kept.{Kept}

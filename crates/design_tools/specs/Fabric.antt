@@ -14,10 +14,10 @@ use Rattle.vlog_cycle.specs.declared.event.Event.{Event as ModuleEvent}
 use Rattle.vlog_cycle.specs.Events.{events_of}
 use Rattle.vlog_cycle.specs.Run.{module_run}
 use Rattle.vlog_cycle.specs.Text.{bit_digit, word_text}
-use Rattle.fabric_rules.specs.Fabric.{fabric_of}
-use Rattle.fabric_rules.specs.Values.{State}
-use Rattle.fabric_rules.specs.Steps.{Event, Entry, IsRun}
-use Rattle.fabric_rules.specs.Unique.{ExactlyOne}
+use Rattle.net_extract.specs.Fabric.{fabric_of}
+use Rattle.net_extract.specs.Values.{State}
+use Rattle.net_extract.specs.Steps.{Event, Entry, IsRun}
+use Rattle.net_extract.specs.Unique.{ExactlyOne}
 use Rattle.vlog_emit.specs.Written.{port_of}
 use Rattle.vlog_emit.specs.Matching.{Matches, module_event}
 use Rattle.tool_run.specs.Effects.{Tells}

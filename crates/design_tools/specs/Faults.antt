@@ -1,8 +1,8 @@
 -- What a tool says of a database and an image that aren't taken.
 use Rattle.std.specs.Prelude.{◌≡◌, ℕ, List, ◌++◌, codes, decimal, Option, Some, None}
-use Rattle.fabric_rules.specs.declared.driver.ClockUser.{ClockUser}
-use Rattle.fabric_rules.specs.declared.driver.ClockUser.TheVariants as user
-use Rattle.fabric_rules.specs.Faults.{Fault}
+use Rattle.net_extract.specs.declared.driver.ClockUser.{ClockUser}
+use Rattle.net_extract.specs.declared.driver.ClockUser.TheVariants as user
+use Rattle.net_extract.specs.Faults.{Fault}
 use Rattle.fabric.specs.declared.fault.FabricFault.{FabricFault}
 use Rattle.fabric.specs.declared.fault.FabricFault.TheVariants.{Device, Pll, PinMode, Mode, Cascade, Async, TwoDrivers, Loop, Clock, Memory as OutOfMemory}
 use Rattle.tool_run.specs.Lines.{refusal_text, six_digits}

@@ -3,7 +3,7 @@ use Rattle.std.specs.Prelude.{ℕ, zero, suc, Bool, not, ◌&&◌, ◌||◌, Lis
 use Rattle.std.specs.List.{list_all}
 use Rattle.std.specs.Option.{option_to_list}
 use Rattle.place_search.specs.Places.{least_below}
-use Rattle.fabric_rules.specs.Wiring.{Wiring, has}
+use Rattle.net_extract.specs.Wiring.{Wiring, has}
 
 -- whether a class can be written where some are listed: it has a driver, isn't listed, and each class with a driver that its driver
 -- reads is listed

@@ -6,9 +6,9 @@ use Rattle.ice_image.specs.Configuration.{Configuration}
 use Rattle.chipdb_reader.specs.Database.{Database}
 use Rattle.vlog_module.specs.Parts.{Parts}
 use Rattle.vlog_forms.specs.Printed.{printed}
-use Rattle.fabric_rules.specs.Fabric.{fabric_of}
-use Rattle.fabric_rules.specs.Wiring.{wiring_of}
-use Rattle.fabric_rules.specs.Faults.{Fault, design_fault}
+use Rattle.net_extract.specs.Fabric.{fabric_of}
+use Rattle.net_extract.specs.Wiring.{wiring_of}
+use Rattle.net_extract.specs.Faults.{Fault, design_fault}
 use Rattle.vlog_emit.specs.Written.{module_of}
 use Rattle.tool_run.specs.Needs.{text_of}
 use Rattle.tool_run.specs.Tasks.{Answer, Done, Refused, Task, helped, not_taken}

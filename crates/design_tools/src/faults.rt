@@ -4,7 +4,7 @@ ghost use Rattle.tool_run.specs.Lines.{phrase_text, refusal_text};
 ghost use Rattle.design_tools.specs.Faults.{net_text, pintype_text, tile_text, told_fault, user_text, StopsFor};
 
 use fabric::FabricFault;
-use fabric_rules::ClockUser;
+use net_extract::ClockUser;
 use tool_run::{Number, Phrase, Refusal, Stop, decimal, text};
 
 // A refusal at a tile: what of it, and the cause.

@@ -5,18 +5,18 @@ use Rattle.std.proofs.lemmas.List.Elements.{All-nil, All-cons}
 use Rattle.ice_image.specs.Configuration.{Configuration}
 use Rattle.chipdb_reader.specs.Database.{Database}
 use Rattle.chipdb_reader.specs.Fit.{IsFit}
-use Rattle.fabric_rules.specs.Joins.{class_of}
-use Rattle.fabric_rules.specs.Fabric.{Fabric, fabric_of}
-use Rattle.fabric_rules.specs.Values.{bit_in}
-use Rattle.fabric_rules.specs.Wiring.{wiring_of, IsWriteOrder}
-use Rattle.fabric_rules.specs.Steps.{Event, Entry, IsEntry, FollowEach, IsRun}
-use Rattle.fabric_rules.specs.Clocks.{ClockEnd, LeadsTo, clock_end}
-use Rattle.fabric_rules.specs.Clocks.ClockEnd.{at_pin, still, other}
-use Rattle.fabric_rules.specs.Faults.{design_fault}
-use Rattle.fabric_rules.proofs.Chains.{HasEndValue, clock-value, clock_end-leads}
-use Rattle.fabric_rules.proofs.Taken.{design-taken, taken-order}
-use Rattle.fabric_rules.proofs.Within.{fabric-within}
-use Rattle.fabric_rules.proofs.Runs.{IsClockEnd, IsClocked, fabric-placed, flip-good, read-good, write-good}
+use Rattle.net_extract.specs.Joins.{class_of}
+use Rattle.net_extract.specs.Fabric.{Fabric, fabric_of}
+use Rattle.net_extract.specs.Values.{bit_in}
+use Rattle.net_extract.specs.Wiring.{wiring_of, IsWriteOrder}
+use Rattle.net_extract.specs.Steps.{Event, Entry, IsEntry, FollowEach, IsRun}
+use Rattle.net_extract.specs.Clocks.{ClockEnd, LeadsTo, clock_end}
+use Rattle.net_extract.specs.Clocks.ClockEnd.{at_pin, still, other}
+use Rattle.net_extract.specs.Faults.{design_fault}
+use Rattle.net_extract.proofs.Chains.{HasEndValue, clock-value, clock_end-leads}
+use Rattle.net_extract.proofs.Taken.{design-taken, taken-order}
+use Rattle.net_extract.proofs.Within.{fabric-within}
+use Rattle.net_extract.proofs.Runs.{IsClockEnd, IsClocked, fabric-placed, flip-good, read-good, write-good}
 use Rattle.fabric.specs.Clocks.{HasEndBit, HasClock, HasClocks}
 
 end-bit : (pins : List Bool) (end : ClockEnd) (bit : Bool) → IsClockEnd end → HasEndValue pins end bit → HasEndBit pins end bit

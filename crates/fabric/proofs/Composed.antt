@@ -8,22 +8,22 @@ use Rattle.ice_image.specs.Configuration.{Configuration}
 use Rattle.chipdb_reader.specs.Database.{Database}
 use Rattle.chipdb_reader.specs.Fit.{IsFit}
 use Rattle.net_extract.specs.Links.{LinkSet, AreLinks}
-use Rattle.fabric_rules.specs.Cells.{cells_of, sets_of}
-use Rattle.fabric_rules.specs.Rams.{rams_of}
-use Rattle.fabric_rules.specs.Pins.{pins_of, globals_of}
+use Rattle.net_extract.specs.Cells.{cells_of, sets_of}
+use Rattle.net_extract.specs.Rams.{rams_of}
+use Rattle.net_extract.specs.Pins.{pins_of, globals_of}
 use Rattle.ice_image.specs.Bits.{ram_word_of}
-use Rattle.fabric_rules.specs.declared.ram.RamCell.{RamCell}
-use Rattle.fabric_rules.specs.declared.pin.Pin.{Pin}
-use Rattle.fabric_rules.specs.Tiles.{each_below}
-use Rattle.fabric_rules.specs.Faults.{fabric_fault}
-use Rattle.fabric_rules.specs.Fabric.{fabric_of, buffers_of, inputs_of}
-use Rattle.fabric_rules.proofs.Within.{fabric-in}
-use Rattle.fabric_drivers.specs.declared.parts.Parts.{Parts}
-use Rattle.fabric_drivers.specs.Parts.{ArePartsOf, buffer_of}
-use Rattle.fabric_rules.specs.Wiring.{wiring_of, IsWriteOrder}
-use Rattle.fabric_drivers.specs.Kept.{DriverSet, AreDriversOf}
-use Rattle.fabric_clocks.specs.declared.ends.ClockEnd.{ClockEnd}
-use Rattle.fabric_clocks.specs.Ends.{AreEndsOf}
+use Rattle.net_extract.specs.declared.ram.RamCell.{RamCell}
+use Rattle.net_extract.specs.declared.pin.Pin.{Pin}
+use Rattle.net_extract.specs.Tiles.{each_below}
+use Rattle.net_extract.specs.Faults.{fabric_fault}
+use Rattle.net_extract.specs.Fabric.{fabric_of, buffers_of, inputs_of}
+use Rattle.net_extract.proofs.Within.{fabric-in}
+use Rattle.fabric_wiring.specs.declared.parts.Parts.{Parts}
+use Rattle.fabric_wiring.specs.Parts.{ArePartsOf, buffer_of}
+use Rattle.net_extract.specs.Wiring.{wiring_of, IsWriteOrder}
+use Rattle.fabric_wiring.specs.DriverLists.{DriverSet, AreDriversOf}
+use Rattle.fabric_wiring.specs.declared.ends.ClockEnd.{ClockEnd}
+use Rattle.fabric_wiring.specs.Ends.{AreEndsOf}
 use Rattle.fabric.specs.Kept.{Kept, AreWordsOf, IsKeptOf}
 use Rattle.fabric.specs.Design.{IsDesignOf}
 use Rattle.fabric.specs.Faults.{AreTaken}

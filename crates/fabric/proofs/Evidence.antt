@@ -4,26 +4,26 @@ use Rattle.std.specs.Prelude.{Option, Some, None, Contains, flat_map, slice_inde
 use Rattle.std.proofs.lemmas.Bool.{cases_lt, false≢true}
 use Rattle.plane_map.specs.declared.device.DeviceName.{DeviceName}
 use Rattle.place_search.specs.Places.{gathered_below}
-use Rattle.fabric_rules.specs.declared.driver.Driver.{Driver}
-use Rattle.fabric_rules.specs.declared.driver.ClockUser.{ClockUser}
-use Rattle.fabric_rules.specs.Tiles.{first_of, item_if}
-use Rattle.fabric_rules.specs.Fabric.{Fabric}
-use Rattle.fabric_rules.specs.Drivers.{Drive, drivers_of}
+use Rattle.net_extract.specs.declared.driver.Driver.{Driver}
+use Rattle.net_extract.specs.declared.driver.ClockUser.{ClockUser}
+use Rattle.net_extract.specs.Tiles.{first_of, item_if}
+use Rattle.net_extract.specs.Fabric.{Fabric}
+use Rattle.net_extract.specs.Drivers.{Drive, drivers_of}
 use Rattle.std.specs.declared.vec.Vec.{Vec}
-use Rattle.fabric_rules.specs.Wiring.{Wiring, wiring_of, is_on_cycle, IsCycle}
-use Rattle.fabric_rules.proofs.Cycles.{IsBounded, is_on_cycle-whole}
-use Rattle.fabric_order.specs.Rows.{is_marked, ReadsByDriven, wiring_of as rows_wiring}
-use Rattle.fabric_rules.specs.Clocks.{ClockEnd, User, users_of, clock_end}
-use Rattle.fabric_rules.specs.Clocks.ClockEnd.{at_pin, still, other}
-use Rattle.fabric_rules.specs.Faults.{Fault, drivers_fault, driver_faults, loop_faults, end_fault, user_fault, clock_faults, fabric_fault}
-use Rattle.fabric_drivers.specs.declared.fault.DriverFault.{DriverFault}
-use Rattle.fabric_drivers.specs.declared.fault.DriverFault.TheVariants as drivers
-use Rattle.fabric_drivers.specs.Faults.{IsCause as IsDriverCause}
+use Rattle.net_extract.specs.Wiring.{Wiring, wiring_of, is_on_cycle, IsCycle}
+use Rattle.net_extract.proofs.Cycles.{IsBounded, is_on_cycle-whole}
+use Rattle.fabric_wiring.specs.Rows.{is_marked, ReadsByDriven, wiring_of as rows_wiring}
+use Rattle.net_extract.specs.Clocks.{ClockEnd, User, users_of, clock_end}
+use Rattle.net_extract.specs.Clocks.ClockEnd.{at_pin, still, other}
+use Rattle.net_extract.specs.Faults.{Fault, drivers_fault, driver_faults, loop_faults, end_fault, user_fault, clock_faults, fabric_fault}
+use Rattle.fabric_wiring.specs.declared.fault.DriverFault.{DriverFault}
+use Rattle.fabric_wiring.specs.declared.fault.DriverFault.TheVariants as drivers
+use Rattle.fabric_wiring.specs.Faults.{IsCause as IsDriverCause}
 use Rattle.fabric.specs.declared.fault.FabricFault.{FabricFault}
 use Rattle.fabric.specs.declared.fault.FabricFault.TheVariants.{Device, Pll, PinMode, Mode, Cascade, Async, TwoDrivers, Loop, Clock, Memory}
-use Rattle.fabric_clocks.specs.Wires.{AreAlike}
-use Rattle.fabric_clocks.proofs.Alike.{is_on_cycle-alike, cycle-alike}
-use Rattle.fabric_rules.proofs.OneValue.{count-is}
+use Rattle.fabric_wiring.specs.Wires.{AreAlike}
+use Rattle.fabric_wiring.proofs.Alike.{is_on_cycle-alike, cycle-alike}
+use Rattle.net_extract.proofs.OneValue.{count-is}
 use Rattle.fabric.specs.Causes.{of_drivers}
 use Rattle.fabric.specs.Faults.{IsCause, AreTwoDrivers, IsCycleFrom, IsUnclocked}
 

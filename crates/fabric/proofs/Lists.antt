@@ -4,8 +4,8 @@ use Rattle.std.specs.Prelude.{All, Option, Some, None, filter, flat_map, slice_g
 use Rattle.std.proofs.lemmas.Bool.{cases_Bool}
 use Rattle.std.proofs.lemmas.List.{map-append}
 use Rattle.place_search.specs.Places.{gathered_below}
-use Rattle.fabric_rules.specs.Tiles.{over_grid, over_tiles, each_below}
-use Rattle.fabric_rules.specs.Fabric.{numbered_from, numbered}
+use Rattle.net_extract.specs.Tiles.{over_grid, over_tiles, each_below}
+use Rattle.net_extract.specs.Fabric.{numbered_from, numbered}
 use Rattle.std.proofs.lemmas.List.Elements.{All-nil, All-cons}
 use Rattle.std.proofs.Common.{append_assoc, zero-add, suc-add, zero-mul, suc-mul, length-append}
 use Rattle.std.proofs.Math.ListN.{get_or-append}

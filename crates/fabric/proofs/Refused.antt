@@ -7,9 +7,9 @@ use Rattle.plane_map.specs.declared.device.DeviceName.TheVariants.{K1, K8}
 use Rattle.ice_image.specs.Configuration.{Configuration}
 use Rattle.chipdb_reader.specs.Database.{Database}
 use Rattle.place_search.specs.Places.{or_else}
-use Rattle.fabric_rules.specs.Tiles.{first_of}
-use Rattle.fabric_rules.specs.Fabric.{fabric_of}
-use Rattle.fabric_rules.specs.Faults.{Fault, is_same_device, device_faults, pins_fault, rams_fault, cells_fault, fabric_fault, design_fault}
+use Rattle.net_extract.specs.Tiles.{first_of}
+use Rattle.net_extract.specs.Fabric.{fabric_of}
+use Rattle.net_extract.specs.Faults.{Fault, is_same_device, device_faults, pins_fault, rams_fault, cells_fault, fabric_fault, design_fault}
 use Rattle.net_extract.specs.declared.fault.LinkFault.{LinkFault}
 use Rattle.net_extract.specs.declared.fault.LinkFault.TheVariants as links
 use Rattle.io_cell.specs.declared.fault.PinFault.{PinFault}

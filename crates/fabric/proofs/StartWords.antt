@@ -12,13 +12,13 @@ use Rattle.ice_image.specs.Configuration.{Configuration}
 use Rattle.ice_image.specs.Bits.{ram_word_of}
 use Rattle.place_search.specs.Places.{gathered_below}
 use Rattle.place_search.proofs.Places.{gathered_below-same}
-use Rattle.fabric_rules.specs.declared.ram.RamCell.{RamCell}
-use Rattle.fabric_rules.specs.Tiles.{over_grid, over_tiles, at_kind, each_below}
-use Rattle.fabric_rules.specs.Rams.{is_ram_used, ram_at, rams_of, over_rams, start_word, start_words}
-use Rattle.fabric_rules.specs.Fabric.{fabric_of}
-use Rattle.fabric_rules.proofs.Within.{All-over_grid, All-if, All-single}
-use Rattle.fabric_rules.proofs.OneValue.{each_below-length, each_below-at}
-use Rattle.tile_lookups.proofs.InOrder.{is_kind_there-is}
+use Rattle.net_extract.specs.declared.ram.RamCell.{RamCell}
+use Rattle.net_extract.specs.Tiles.{over_grid, over_tiles, at_kind, each_below}
+use Rattle.net_extract.specs.Rams.{is_ram_used, ram_at, rams_of, over_rams, start_word, start_words}
+use Rattle.net_extract.specs.Fabric.{fabric_of}
+use Rattle.net_extract.proofs.Within.{All-over_grid, All-if, All-single}
+use Rattle.net_extract.proofs.OneValue.{each_below-length, each_below-at}
+use Rattle.net_extract.proofs.InOrder.{is_kind_there-is}
 use Rattle.fabric.specs.Kept.{AreWordsOf, word_in}
 use Rattle.fabric.proofs.Lists.{map-gathered, map-if, item-of_part, count-of_parts}
 

@@ -1,7 +1,7 @@
 -- Buffers at places.
 use Rattle.std.specs.Prelude.{ℕ, List, [], ◌∷◌, flat_map, slice_get, Option, Some, None}
 use Rattle.chipdb_reader.specs.declared.items.LinkLine.{LinkLine}
-use Rattle.fabric_rules.specs.Fabric.{Buffer}
+use Rattle.net_extract.specs.Fabric.{Buffer}
 
 -- the buffer of a line at a place, where there is one
 abbrev pub buffer_if : ℕ → Option LinkLine → List Buffer

@@ -7,8 +7,8 @@ use Rattle.block_ram.specs.declared.fault.RamFault.{RamFault}
 use Rattle.block_ram.specs.declared.fault.RamFault.TheVariants as rams
 use Rattle.logic_cell.specs.declared.fault.LcFault.{LcFault}
 use Rattle.logic_cell.specs.declared.fault.LcFault.TheVariants as cells
-use Rattle.fabric_drivers.specs.declared.fault.DriverFault.{DriverFault}
-use Rattle.fabric_drivers.specs.declared.fault.DriverFault.TheVariants as drivers
+use Rattle.fabric_wiring.specs.declared.fault.DriverFault.{DriverFault}
+use Rattle.fabric_wiring.specs.declared.fault.DriverFault.TheVariants as drivers
 use Rattle.fabric.specs.declared.fault.FabricFault.{FabricFault}
 use Rattle.fabric.specs.declared.fault.FabricFault.TheVariants.{Device, Pll, PinMode, Mode, Cascade, Async, TwoDrivers, Memory}
 

@@ -1,12 +1,12 @@
 -- The clocks in an entry of a run.
 use Rattle.std.specs.Prelude.{◌≡◌, ℕ, Bool, false, List, get_or, Contains, Option, Some, None}
-use Rattle.fabric_rules.specs.declared.cell.Lc.{Lc}
-use Rattle.fabric_rules.specs.declared.ram.RamCell.{RamCell}
-use Rattle.fabric_rules.specs.Fabric.{Fabric, flips_of}
-use Rattle.fabric_rules.specs.Values.{bit_in}
-use Rattle.fabric_rules.specs.Steps.{Entry}
-use Rattle.fabric_rules.specs.Clocks.{ClockEnd, clock_end}
-use Rattle.fabric_rules.specs.Clocks.ClockEnd.{at_pin, still, other}
+use Rattle.net_extract.specs.declared.cell.Lc.{Lc}
+use Rattle.net_extract.specs.declared.ram.RamCell.{RamCell}
+use Rattle.net_extract.specs.Fabric.{Fabric, flips_of}
+use Rattle.net_extract.specs.Values.{bit_in}
+use Rattle.net_extract.specs.Steps.{Entry}
+use Rattle.net_extract.specs.Clocks.{ClockEnd, clock_end}
+use Rattle.net_extract.specs.Clocks.ClockEnd.{at_pin, still, other}
 
 -- a clock has the value of the pin at which its chain ends, or is 0 where it ends at a class without a driver
 abbrev pub HasEndBit : List Bool → ClockEnd → Bool → Type 0

@@ -4,12 +4,12 @@ use Rattle.ice_image.specs.Configuration.{Configuration}
 use Rattle.chipdb_reader.specs.Database.{Database}
 use Rattle.chipdb_reader.specs.Fit.{IsFit}
 use Rattle.chipdb_reader.specs.declared.items.PinXy.{PinXy}
-use Rattle.fabric_rules.specs.declared.pin.Pin.{Pin}
-use Rattle.fabric_rules.specs.Fabric.{fabric_of}
-use Rattle.fabric_rules.specs.Clocks.{ClockEnd}
-use Rattle.fabric_rules.specs.Clocks.ClockEnd.{at_pin, still, other}
-use Rattle.fabric_rules.specs.Faults.{design_fault}
-use Rattle.fabric_drivers.specs.declared.parts.Buffer.{Buffer}
+use Rattle.net_extract.specs.declared.pin.Pin.{Pin}
+use Rattle.net_extract.specs.Fabric.{fabric_of}
+use Rattle.net_extract.specs.Clocks.{ClockEnd}
+use Rattle.net_extract.specs.Clocks.ClockEnd.{at_pin, still, other}
+use Rattle.net_extract.specs.Faults.{design_fault}
+use Rattle.fabric_wiring.specs.declared.parts.Buffer.{Buffer}
 use Rattle.fabric.specs.declared.kept.LinkEnds.{LinkEnds}
 use Rattle.fabric.specs.Kept.{Kept, IsKeptOf}
 

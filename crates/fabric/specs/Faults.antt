@@ -1,16 +1,16 @@
 -- Why a database and an image aren't taken, with the evidence.
 use Rattle.std.specs.Prelude.{◌≡◌, ℕ, ◌<◌, List, ◌∷◌, Contains, Option, Some, None}
 use Rattle.ice_image.specs.Configuration.{Configuration}
-use Rattle.fabric_rules.specs.declared.driver.Driver.{Driver}
-use Rattle.fabric_rules.specs.declared.driver.ClockUser.{ClockUser}
-use Rattle.fabric_rules.specs.Tiles.{first_of}
-use Rattle.fabric_rules.specs.Fabric.{Fabric}
-use Rattle.fabric_rules.specs.Drivers.{Drive, drivers_of}
-use Rattle.fabric_rules.specs.Wiring.{wiring_of, IsCycle}
-use Rattle.fabric_rules.specs.Clocks.{User, users_of, clock_end}
-use Rattle.fabric_rules.specs.Clocks.ClockEnd.{other}
+use Rattle.net_extract.specs.declared.driver.Driver.{Driver}
+use Rattle.net_extract.specs.declared.driver.ClockUser.{ClockUser}
+use Rattle.net_extract.specs.Tiles.{first_of}
+use Rattle.net_extract.specs.Fabric.{Fabric}
+use Rattle.net_extract.specs.Drivers.{Drive, drivers_of}
+use Rattle.net_extract.specs.Wiring.{wiring_of, IsCycle}
+use Rattle.net_extract.specs.Clocks.{User, users_of, clock_end}
+use Rattle.net_extract.specs.Clocks.ClockEnd.{other}
 use Rattle.chipdb_reader.specs.Database.{Database}
-use Rattle.fabric_rules.specs.Faults.{Fault, pins_fault, rams_fault, cells_fault}
+use Rattle.net_extract.specs.Faults.{Fault, pins_fault, rams_fault, cells_fault}
 use Rattle.plane_map.specs.declared.device.DeviceName.{DeviceName}
 use Rattle.fabric.specs.declared.fault.FabricFault.{FabricFault}
 use Rattle.fabric.specs.declared.fault.FabricFault.TheVariants.{Device, Pll, PinMode, Mode, Cascade, Async, TwoDrivers, Loop, Clock, Memory}

@@ -1,14 +1,14 @@
 -- What is kept of a design, and when it is that of a fabric.
 use Rattle.std.specs.Prelude.{◌≡◌, ℕ, ◌+◌, ◌*◌, ◌<◌, List, [], length, get_or}
 use Rattle.bit_plane.specs.BitList.{word_of}
-use Rattle.fabric_rules.specs.declared.pin.Pin.{Pin}
-use Rattle.fabric_rules.specs.Fabric.{Fabric, inputs_of}
-use Rattle.fabric_rules.specs.Wiring.{wiring_of, IsWriteOrder}
-use Rattle.fabric_drivers.specs.declared.parts.Parts.{Parts}
-use Rattle.fabric_drivers.specs.Parts.{ArePartsOf}
-use Rattle.fabric_drivers.specs.Kept.{DriverSet, AreDriversOf}
-use Rattle.fabric_clocks.specs.declared.ends.ClockEnd.{ClockEnd}
-use Rattle.fabric_clocks.specs.Ends.{AreEndsOf}
+use Rattle.net_extract.specs.declared.pin.Pin.{Pin}
+use Rattle.net_extract.specs.Fabric.{Fabric, inputs_of}
+use Rattle.net_extract.specs.Wiring.{wiring_of, IsWriteOrder}
+use Rattle.fabric_wiring.specs.declared.parts.Parts.{Parts}
+use Rattle.fabric_wiring.specs.Parts.{ArePartsOf}
+use Rattle.fabric_wiring.specs.DriverLists.{DriverSet, AreDriversOf}
+use Rattle.fabric_wiring.specs.declared.ends.ClockEnd.{ClockEnd}
+use Rattle.fabric_wiring.specs.Ends.{AreEndsOf}
 
 -- the parts of a fabric, its input pins and its drivers, the order in which classes are written, where the chain from each class
 -- ends, and the start words of the used RAMs, 256 for each

@@ -3,8 +3,8 @@ ghost use Rattle.std.specs.Prelude.{◌≡◌};
 
 use crate::cycle::Cycle;
 use block_ram::RamFault;
-use fabric_drivers::DriverFault;
-use fabric_rules::{ClockUser, Driver};
+use fabric_wiring::DriverFault;
+use net_extract::{ClockUser, Driver};
 use io_cell::PinFault;
 use logic_cell::LcFault;
 use net_extract::LinkFault;

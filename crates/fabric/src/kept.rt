@@ -5,15 +5,15 @@ ghost use Rattle.std.specs.List.{list_any};
 ghost use Rattle.ice_image.specs.Configuration.{Configuration};
 ghost use Rattle.chipdb_reader.specs.Database.{Database};
 ghost use Rattle.net_extract.specs.Links.{class_in};
-ghost use Rattle.fabric_drivers.specs.Kept.{driver_in};
-ghost use Rattle.fabric_clocks.specs.Ends.{end_in, end_of};
+ghost use Rattle.fabric_wiring.specs.DriverLists.{driver_in};
+ghost use Rattle.fabric_wiring.specs.Ends.{end_in, end_of};
 ghost use Rattle.fabric.specs.Kept.{word_in, IsKeptOf};
 ghost use Rattle.fabric.specs.Design.{IsDesign, end_pin, ends_of};
 
 use chipdb_reader::PinXy;
-use fabric_clocks::ClockEnd;
-use fabric_drivers::{Buffer, Drive, Drivers, Parts, Rule};
-use fabric_rules::{CarrySet, Driver, GlobalNet, Lc, Pin, RamCell};
+use fabric_wiring::ClockEnd;
+use fabric_wiring::{Buffer, Drive, Drivers, Parts, Rule};
+use net_extract::{CarrySet, Driver, GlobalNet, Lc, Pin, RamCell};
 use std::marker::Model;
 
 /// The two nets of a buffer.

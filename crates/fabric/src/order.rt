@@ -1,21 +1,21 @@
 // The order in which classes are written.
 ghost use Rattle.std.specs.Prelude.{◌≡◌, ◌≤◌, length, IfOk, IfErr, OnOk, None};
 ghost use Rattle.plane_map.specs.declared.device.DeviceName.{DeviceName};
-ghost use Rattle.fabric_rules.specs.Fabric.{Fabric};
-ghost use Rattle.fabric_rules.specs.Tiles.{first_of};
-ghost use Rattle.fabric_rules.specs.Wiring.{wiring_of as wiring_of_fabric, IsWriteOrder};
-ghost use Rattle.fabric_order.specs.Rows.{wiring_of, ReadsWithin, ReadsByDriven};
-ghost use Rattle.fabric_clocks.specs.Wires.{AreAlike};
-ghost use Rattle.fabric_rules.specs.Faults.{loop_faults};
-ghost use Rattle.fabric_drivers.specs.Parts.{ArePartsOf};
-ghost use Rattle.fabric_drivers.specs.Kept.{AreDriversOf};
+ghost use Rattle.net_extract.specs.Fabric.{Fabric};
+ghost use Rattle.net_extract.specs.Tiles.{first_of};
+ghost use Rattle.net_extract.specs.Wiring.{wiring_of as wiring_of_fabric, IsWriteOrder};
+ghost use Rattle.fabric_wiring.specs.Rows.{wiring_of, ReadsWithin, ReadsByDriven};
+ghost use Rattle.fabric_wiring.specs.Wires.{AreAlike};
+ghost use Rattle.net_extract.specs.Faults.{loop_faults};
+ghost use Rattle.fabric_wiring.specs.Parts.{ArePartsOf};
+ghost use Rattle.fabric_wiring.specs.DriverLists.{AreDriversOf};
 ghost use Rattle.fabric.specs.Faults.{IsCause};
 
 use crate::cycle::Cycle;
 use crate::fault::FabricFault;
-use fabric_clocks::wires;
-use fabric_drivers::{Drivers, Parts};
-use fabric_order::{least_cycle, write_order};
+use fabric_wiring::wires;
+use fabric_wiring::{Drivers, Parts};
+use fabric_wiring::{least_cycle, write_order};
 use std::alloc::Global;
 
 /// Finds the order in which the classes of a fabric are written, from what they read, or the least class that lies on a cycle.

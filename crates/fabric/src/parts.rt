@@ -3,16 +3,16 @@ ghost use Rattle.std.specs.Prelude.{◌≡◌, ◌++◌, map, IfOk, IfErr, OnOk,
 ghost use Rattle.ice_image.specs.Either.{configuration_of};
 ghost use Rattle.chipdb_reader.specs.Fit.{IsFit};
 ghost use Rattle.chipdb_reader.specs.Kept.{database_in};
-ghost use Rattle.fabric_rules.specs.Fabric.{fabric_of};
-ghost use Rattle.fabric_rules.specs.Faults.{design_fault};
-ghost use Rattle.fabric_drivers.specs.Parts.{ArePartsOf, buffer_of};
+ghost use Rattle.net_extract.specs.Fabric.{fabric_of};
+ghost use Rattle.net_extract.specs.Faults.{design_fault};
+ghost use Rattle.fabric_wiring.specs.Parts.{ArePartsOf, buffer_of};
 ghost use Rattle.fabric.specs.Faults.{IsCause, AreTaken};
 ghost use Rattle.fabric.specs.Buffers.{buffer_if, buffers_at};
 
 use crate::fault::FabricFault;
 use block_ram::rams;
 use chipdb_reader::{ChipDb, LinkLine};
-use fabric_drivers::{Buffer, Parts};
+use fabric_wiring::{Buffer, Parts};
 use ice_image::AnyImage;
 use io_cell::pins;
 use logic_cell::cells;

@@ -5,9 +5,9 @@ ghost use Rattle.plane_map.specs.Layout.{kind_of};
 ghost use Rattle.plane_map.specs.declared.tile.TileKind.TheVariants.{RamB};
 ghost use Rattle.ice_image.specs.Either.{configuration_of, device_of};
 ghost use Rattle.ice_image.specs.Bits.{ram_word_of};
-ghost use Rattle.fabric_rules.specs.Tiles.{each_below};
+ghost use Rattle.net_extract.specs.Tiles.{each_below};
 
-use fabric_rules::RamCell;
+use net_extract::RamCell;
 use ice_image::AnyImage;
 use std::alloc::{AllocError, Global};
 

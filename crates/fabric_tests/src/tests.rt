@@ -13,8 +13,8 @@ mod rams;
 
 use chipdb_reader::ChipDb;
 use fabric::{Design, FabricFault, design};
-use fabric_drivers::Drive;
-use fabric_rules::{CarrySet, ClockUser, Driver, GlobalNet, Lc, Pin, RamCell};
+use fabric_wiring::Drive;
+use net_extract::{CarrySet, ClockUser, Driver, GlobalNet, Lc, Pin, RamCell};
 use ice_image::AnyImage;
 use net_extract::{Links, links};
 use plane_map::Place;

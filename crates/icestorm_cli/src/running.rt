@@ -12,7 +12,7 @@ ghost use Rattle.fabric_tools.specs.Explain.{explain_outcome};
 ghost use Rattle.module_tools.specs.Vlogrun.{vlogrun_outcome};
 ghost use Rattle.design_tools.specs.Vlog.{vlog_outcome};
 ghost use Rattle.design_tools.specs.Fabric.{PromisesFabric, PromisesRun};
-ghost use Rattle.fabric_rules.specs.Unique.{ExactlyOne};
+ghost use Rattle.net_extract.specs.Unique.{ExactlyOne};
 ghost use Rattle.job_tools.specs.Selfrun.{IsSelfrunAnswer, selfrun_outcome};
 ghost use Rattle.icestorm_cli.specs.Tools.{other_outcome, own_outcome, program_name, tool_of};
 

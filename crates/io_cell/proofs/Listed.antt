@@ -7,12 +7,12 @@ use Rattle.plane_map.specs.declared.tile.TileKind.TheVariants.{Io}
 use Rattle.ice_image.specs.Configuration.{Configuration}
 use Rattle.chipdb_reader.specs.Database.{Database}
 use Rattle.chipdb_reader.specs.declared.items.TileXy8.{TileXy8}
-use Rattle.fabric_rules.specs.declared.pin.Pin.{Pin}
-use Rattle.fabric_rules.specs.Pins.{pins_of, port_at}
-use Rattle.fabric_rules.specs.Faults.{Fault, pins_fault, pll_faults, pin_faults}
-use Rattle.fabric_rules.specs.Tiles.{first_of}
-use Rattle.tile_lookups.specs.Tiles.{tiles_of}
-use Rattle.tile_lookups.proofs.InOrder.{over_tiles-listed}
+use Rattle.net_extract.specs.declared.pin.Pin.{Pin}
+use Rattle.net_extract.specs.Pins.{pins_of, port_at}
+use Rattle.net_extract.specs.Faults.{Fault, pins_fault, pll_faults, pin_faults}
+use Rattle.net_extract.specs.Tiles.{first_of}
+use Rattle.net_extract.specs.TilesOfKind.{tiles_of}
+use Rattle.net_extract.proofs.InOrder.{over_tiles-listed}
 use Rattle.io_cell.specs.Faults.{pll_at, pin_faults_in}
 
 pub pins_listed : (db : Database) (image : Configuration) (tiles : List TileXy8) → tiles ≡ tiles_of image.layout.device Io

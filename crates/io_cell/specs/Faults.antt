@@ -4,10 +4,10 @@ use Rattle.ice_image.specs.Configuration.{Configuration}
 use Rattle.chipdb_reader.specs.Database.{Database}
 use Rattle.chipdb_reader.specs.declared.items.TileXy8.{TileXy8}
 use Rattle.place_search.specs.Places.{gathered_below}
-use Rattle.fabric_rules.specs.Tiles.{item_if}
-use Rattle.fabric_rules.specs.Pins.{has_pll}
-use Rattle.fabric_rules.specs.Faults.{Fault, pin_fault_at}
-use Rattle.fabric_rules.specs.Faults.Fault.{pll, pin_mode}
+use Rattle.net_extract.specs.Tiles.{item_if}
+use Rattle.net_extract.specs.Pins.{has_pll}
+use Rattle.net_extract.specs.Faults.{Fault, pin_fault_at}
+use Rattle.net_extract.specs.Faults.Fault.{pll, pin_mode}
 use Rattle.io_cell.specs.declared.fault.PinFault.{PinFault}
 use Rattle.io_cell.specs.declared.fault.PinFault.TheVariants.{Pll, PinMode, Memory}
 use Rattle.io_cell.specs.declared.refused.TypedPin.{TypedPin}

@@ -5,11 +5,11 @@ ghost use Rattle.plane_map.specs.declared.tile.TileKind.TheVariants.{Io};
 ghost use Rattle.place_search.specs.Places.{gathered_below};
 ghost use Rattle.ice_image.specs.Either.{configuration_of};
 ghost use Rattle.chipdb_reader.specs.Kept.{database_in};
-ghost use Rattle.fabric_rules.specs.Pins.{pins_of, globals_of, port_at};
-ghost use Rattle.fabric_rules.specs.Faults.{pins_fault};
+ghost use Rattle.net_extract.specs.Pins.{pins_of, globals_of, port_at};
+ghost use Rattle.net_extract.specs.Faults.{pins_fault};
 ghost use Rattle.net_extract.specs.Links.{AreLinks};
-ghost use Rattle.tile_lookups.specs.Tiles.{HasTile, tiles_of};
-ghost use Rattle.tile_lookups.specs.Reads.{BelongTogether};
+ghost use Rattle.net_extract.specs.TilesOfKind.{HasTile, tiles_of};
+ghost use Rattle.net_extract.specs.BelongTogether.{BelongTogether};
 ghost use Rattle.io_cell.specs.Faults.{IsCause};
 
 use crate::fault::PinFault;
@@ -18,12 +18,12 @@ use crate::pin::{PinSet, pin};
 use crate::pintype::{is_port, pintype};
 use crate::refused::{first_pll, first_refused};
 use chipdb_reader::{ChipDb, TileXy8};
-use fabric_rules::Pin;
+use net_extract::Pin;
 use ice_image::AnyImage;
 use net_extract::Links;
 use plane_map::TileKind;
 use std::alloc::{AllocError, Global};
-use tile_lookups::tiles_of_image;
+use net_extract::tiles_of_image;
 
 /// Finds the pins of an image that are ports, and its global nets.
 ///

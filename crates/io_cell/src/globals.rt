@@ -4,17 +4,17 @@ ghost use Rattle.std.specs.List.{list_any};
 ghost use Rattle.ice_image.specs.Either.{configuration_of};
 ghost use Rattle.chipdb_reader.specs.Fit.{IsFit};
 ghost use Rattle.chipdb_reader.specs.Kept.{database_in};
-ghost use Rattle.fabric_rules.specs.On.{is_extra_on};
-ghost use Rattle.fabric_rules.specs.Pins.{global_pad, global_fabout, global_source, global_nets, globals_of, is_global_net, nets_from};
-ghost use Rattle.fabric_rules.specs.Nets.{ending_in};
-ghost use Rattle.fabric_rules.specs.Tiles.{item_if};
+ghost use Rattle.net_extract.specs.On.{is_extra_on};
+ghost use Rattle.net_extract.specs.Pins.{global_pad, global_fabout, global_source, global_nets, globals_of, is_global_net, nets_from};
+ghost use Rattle.net_extract.specs.Nets.{ending_in};
+ghost use Rattle.net_extract.specs.Tiles.{item_if};
 ghost use Rattle.io_cell.specs.Globals.{global_net, AreOneDevice};
 
 use chipdb_reader::{ChipDb, PinXy};
-use fabric_rules::{GlobalFrom, GlobalNet};
+use net_extract::{GlobalFrom, GlobalNet};
 use ice_image::AnyImage;
 use std::alloc::{AllocError, Global};
-use tile_lookups::Name;
+use net_extract::Name;
 
 /// The nets of globals 0 to 7 with what gives them their values.
 pub(crate) fn globals(
@@ -133,7 +133,7 @@ fn global_fabout(db: &ChipDb, g: u8) -> Option<u32>
 }
 
 /// Whether the first extra bit of that name is set.
-#[tactic(auto, unfolding(fabric_rules::specs::On::is_extra_on))]
+#[tactic(auto, unfolding(net_extract::specs::On::is_extra_on))]
 fn is_extra_on(db: &ChipDb, image: &AnyImage, name: &[u8]) -> bool
     requires { AreOneDevice db.now image.now }
     ensures { result ≡ is_extra_on (database_in db.now) (configuration_of image.now) name.now }

@@ -1,12 +1,12 @@
 // Pins.
 ghost use Rattle.std.specs.Prelude.{◌≡◌, ◌<◌, ◌≤◌, length, IfSome};
 ghost use Rattle.chipdb_reader.specs.Kept.{database_in};
-ghost use Rattle.fabric_rules.specs.Pins.{io_net, pin_with};
+ghost use Rattle.net_extract.specs.Pins.{io_net, pin_with};
 
 use crate::pintype::{has_plain_input, has_plain_output};
 use chipdb_reader::ChipDb;
-use fabric_rules::{GlobalNet, Pin};
-use tile_lookups::Name;
+use net_extract::{GlobalNet, Pin};
+use net_extract::Name;
 
 /// The pins that are ports, by tile and number, and the nets of the globals 0 to 7, by global and net. Tiles go by rows, then by
 /// columns.
@@ -25,7 +25,7 @@ pub(crate) fn io_net(db: &ChipDb, x: u8, y: u8, n: u8, port: &[u8]) -> Option<u3
 }
 
 /// Pin `n` of the tile at (x, y), which has that type.
-#[tactic(auto, unfolding(fabric_rules::specs::Pins::pin_with))]
+#[tactic(auto, unfolding(net_extract::specs::Pins::pin_with))]
 pub(crate) fn pin(db: &ChipDb, x: u8, y: u8, n: u8, pintype: u8) -> Pin
     ensures { result ≡ pin_with (database_in db.now) x y n pintype }
 {

@@ -3,13 +3,13 @@ ghost use Rattle.std.specs.Prelude.{◌≡◌, ◌<◌};
 ghost use Rattle.plane_map.specs.declared.tile.TileKind.TheVariants.{Io};
 ghost use Rattle.ice_image.specs.Either.{configuration_of};
 ghost use Rattle.chipdb_reader.specs.Kept.{database_in};
-ghost use Rattle.fabric_rules.specs.Pins.{pintype_of, pintype_bit, has_no_output, has_plain_output, has_plain_input, is_input_pin, is_port};
-ghost use Rattle.tile_lookups.specs.Tiles.{HasTile};
+ghost use Rattle.net_extract.specs.Pins.{pintype_of, pintype_bit, has_no_output, has_plain_output, has_plain_input, is_input_pin, is_port};
+ghost use Rattle.net_extract.specs.TilesOfKind.{HasTile};
 
 use chipdb_reader::ChipDb;
 use ice_image::AnyImage;
 use plane_map::TileKind;
-use tile_lookups::{Name, is_on};
+use net_extract::{Name, is_on};
 
 /// The type of pin `n` of the io tile at (x, y): a number of six bits.
 pub(crate) fn pintype(db: &ChipDb, image: &AnyImage, x: u8, y: u8, n: u8) -> u8

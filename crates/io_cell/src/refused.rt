@@ -4,12 +4,12 @@ ghost use Rattle.std.specs.List.{flat_map};
 ghost use Rattle.plane_map.specs.declared.tile.TileKind.TheVariants.{Io};
 ghost use Rattle.ice_image.specs.Either.{configuration_of};
 ghost use Rattle.chipdb_reader.specs.Kept.{database_in};
-ghost use Rattle.fabric_rules.specs.Pins.{has_no_output, has_plain_output, has_plain_input, is_input_pin, is_port, io_net, is_global_pad, is_pin_at, is_refused_with};
-ghost use Rattle.fabric_rules.specs.On.{is_function_on};
+ghost use Rattle.net_extract.specs.Pins.{has_no_output, has_plain_output, has_plain_input, is_input_pin, is_port, io_net, is_global_pad, is_pin_at, is_refused_with};
+ghost use Rattle.net_extract.specs.On.{is_function_on};
 ghost use Rattle.chipdb_reader.specs.Fit.{IsFit};
-ghost use Rattle.fabric_rules.specs.Tiles.{first_of};
-ghost use Rattle.tile_lookups.specs.Tiles.{HasTile};
-ghost use Rattle.tile_lookups.specs.Reads.{BelongTogether, is_some_read_in};
+ghost use Rattle.net_extract.specs.Tiles.{first_of};
+ghost use Rattle.net_extract.specs.TilesOfKind.{HasTile};
+ghost use Rattle.net_extract.specs.BelongTogether.{BelongTogether, is_some_read_in};
 ghost use Rattle.io_cell.specs.Globals.{AreOneDevice};
 ghost use Rattle.io_cell.specs.Faults.{pll_at, pin_faults_in, pll_fault, pin_fault};
 
@@ -22,7 +22,7 @@ use chipdb_reader::{ChipDb, PinXy, TileXy8};
 use ice_image::AnyImage;
 use net_extract::Links;
 use plane_map::TileKind;
-use tile_lookups::{is_any_on, is_on, is_some_read};
+use net_extract::{is_any_on, is_on, is_some_read};
 
 /// Pin `n` of the tile at (x, y), and its type.
 #[derive(Clone, Copy)]

@@ -5,11 +5,11 @@ use Rattle.plane_map.specs.declared.device.DeviceName.{DeviceName}
 use Rattle.chipdb_reader.specs.Database.{Database}
 use Rattle.chipdb_reader.specs.Fit.{IsFit}
 use Rattle.ice_gen.specs.Database.{generated_database}
-use Rattle.fabric_rules.specs.Faults.{Fault, design_fault}
-use Rattle.fabric_rules.specs.Fabric.{Fabric, fabric_of}
-use Rattle.fabric_rules.specs.Steps.{Event, Entry, IsRun}
-use Rattle.fabric_rules.specs.Unique.{ExactlyOne}
-use Rattle.fabric_rules.proofs.Runs.{design-run}
+use Rattle.net_extract.specs.Faults.{Fault, design_fault}
+use Rattle.net_extract.specs.Fabric.{Fabric, fabric_of}
+use Rattle.net_extract.specs.Steps.{Event, Entry, IsRun}
+use Rattle.net_extract.specs.Unique.{ExactlyOne}
+use Rattle.net_extract.proofs.Runs.{design-run}
 use Rattle.fabric.specs.declared.fault.FabricFault.{FabricFault}
 use Rattle.fabric.specs.Faults.{IsCause}
 use Rattle.tool_run.specs.Lines.{usage_text, refusal_text}

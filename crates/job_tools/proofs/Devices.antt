@@ -5,8 +5,8 @@ use Rattle.plane_map.specs.declared.device.DeviceName.{DeviceName}
 use Rattle.plane_map.specs.declared.device.DeviceName.TheVariants.{K1, K8}
 use Rattle.ice_image.specs.Configuration.{Configuration}
 use Rattle.chipdb_reader.specs.Database.{Database}
-use Rattle.fabric_rules.specs.Faults.{Fault, design_fault, device_faults, is_same_device as is_for_device}
-use Rattle.fabric_rules.proofs.Taken.{design-taken}
+use Rattle.net_extract.specs.Faults.{Fault, design_fault, device_faults, is_same_device as is_for_device}
+use Rattle.net_extract.proofs.Taken.{design-taken}
 use Rattle.tile_bits.specs.Explained.{explain_fault_of, is_same_device}
 
 same-device : (device : DeviceName) → is_same_device device device ≡ true

@@ -9,8 +9,8 @@ use Rattle.vlog_cycle.specs.Entries.{Entry as ModuleEntry}
 use Rattle.vlog_cycle.specs.Named.{values_of}
 use Rattle.vlog_cycle.specs.Run.{followed, run_from}
 use Rattle.vlog_cycle.proofs.Runs.{last_entry}
-use Rattle.fabric_rules.specs.Fabric.{Fabric}
-use Rattle.fabric_rules.specs.Steps.{Entry}
+use Rattle.net_extract.specs.Fabric.{Fabric}
+use Rattle.net_extract.specs.Steps.{Entry}
 use Rattle.vlog_emit.specs.Matching.{Matches}
 use Rattle.job_tools.specs.Counted.{ones_in, output_bits}
 use Rattle.job_tools.specs.Inside.{module_bits}

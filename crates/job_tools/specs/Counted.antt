@@ -10,12 +10,12 @@ use Rattle.bin_stream.specs.CanonicalBytes.{canonical_bytes}
 use Rattle.chipdb_reader.specs.Database.{Database}
 use Rattle.tile_bits.specs.Explained.{explained}
 use Rattle.ice_gen.specs.declared.event.PinEvent.{PinEvent}
-use Rattle.fabric_rules.specs.declared.pin.Pin.{Pin}
-use Rattle.fabric_rules.specs.Fabric.{fabric_of}
-use Rattle.fabric_rules.specs.Cells.{cells_of}
-use Rattle.fabric_rules.specs.Rams.{rams_of}
-use Rattle.fabric_rules.specs.Wiring.{wiring_of}
-use Rattle.fabric_rules.specs.Steps.{Event, Entry}
+use Rattle.net_extract.specs.declared.pin.Pin.{Pin}
+use Rattle.net_extract.specs.Fabric.{fabric_of}
+use Rattle.net_extract.specs.Cells.{cells_of}
+use Rattle.net_extract.specs.Rams.{rams_of}
+use Rattle.net_extract.specs.Wiring.{wiring_of}
+use Rattle.net_extract.specs.Steps.{Event, Entry}
 use Rattle.design_tools.specs.Order.{write_order}
 use Rattle.job_tools.specs.declared.counts.Counts.{Counts}
 

@@ -5,8 +5,8 @@ use Rattle.chipdb_reader.specs.Database.{Database}
 use Rattle.ice_gen.specs.declared.event.PinEvent.{PinEvent}
 use Rattle.vlog_cycle.specs.Entries.{Entry as ModuleEntry}
 use Rattle.vlog_cycle.specs.Named.{values_of}
-use Rattle.fabric_rules.specs.Fabric.{fabric_of, inputs_of}
-use Rattle.fabric_rules.specs.Steps.{Event, Entry, IsRun}
+use Rattle.net_extract.specs.Fabric.{fabric_of, inputs_of}
+use Rattle.net_extract.specs.Steps.{Event, Entry, IsRun}
 use Rattle.fabric.specs.Kept.{Kept}
 use Rattle.fabric.specs.Design.{IsDesignOf}
 use Rattle.tool_run.specs.Lines.{refusal_text}

@@ -11,9 +11,9 @@ use Rattle.chipdb_reader.specs.Database.{Database}
 use Rattle.ice_gen.specs.Database.{generated_database}
 use Rattle.ice_gen.specs.Image.{generated_image}
 use Rattle.ice_gen.specs.Events.{generated_events}
-use Rattle.fabric_rules.specs.Fabric.{fabric_of, inputs_of}
-use Rattle.fabric_rules.specs.Faults.{Fault, design_fault}
-use Rattle.fabric_rules.specs.Steps.{Event, Entry, IsRun}
+use Rattle.net_extract.specs.Fabric.{fabric_of, inputs_of}
+use Rattle.net_extract.specs.Faults.{Fault, design_fault}
+use Rattle.net_extract.specs.Steps.{Event, Entry, IsRun}
 use Rattle.tool_run.specs.Lines.{usage_text}
 use Rattle.tool_run.specs.Tasks.{Answer, Done, Refused, NotTaken, Task, at_once, helped}
 use Rattle.tool_words.specs.Commands.{command, is_taken, positional}

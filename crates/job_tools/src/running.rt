@@ -3,10 +3,10 @@ ghost use Rattle.std.specs.Prelude.{◌≡◌, List, None, IfOk, IfErr, length, 
 ghost use Rattle.ice_image.specs.Either.{configuration_of};
 ghost use Rattle.chipdb_reader.specs.Kept.{database_in};
 ghost use Rattle.bin_stream.specs.CanonicalBytes.{canonical_bytes};
-ghost use Rattle.fabric_rules.specs.Fabric.{fabric_of};
-ghost use Rattle.fabric_rules.specs.Faults.{design_fault};
-ghost use Rattle.fabric_rules.specs.Steps.{Entry, IsRun};
-ghost use Rattle.fabric_rules.specs.Unique.{ExactlyOne};
+ghost use Rattle.net_extract.specs.Fabric.{fabric_of};
+ghost use Rattle.net_extract.specs.Faults.{design_fault};
+ghost use Rattle.net_extract.specs.Steps.{Entry, IsRun};
+ghost use Rattle.net_extract.specs.Unique.{ExactlyOne};
 ghost use Rattle.fabric.specs.Design.{IsDesignOf};
 ghost use Rattle.tool_run.specs.Runs.{Does, outside, scene};
 ghost use Rattle.tool_run.specs.Tasks.{Answer, Done, at_once};

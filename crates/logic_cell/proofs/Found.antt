@@ -5,9 +5,9 @@ use Rattle.std.specs.Option.{option_map}
 use Rattle.plane_map.specs.declared.tile.RowCol.{RowCol}
 use Rattle.ice_image.specs.Configuration.{Configuration}
 use Rattle.chipdb_lines.specs.Items.{FunctionLine}
-use Rattle.fabric_rules.specs.On.{bits_at}
-use Rattle.fabric_rules.specs.Cells.{bits_of_function, set_with}
-use Rattle.fabric_rules.specs.declared.cell.CarrySet.{CarrySet}
+use Rattle.net_extract.specs.On.{bits_at}
+use Rattle.net_extract.specs.Cells.{bits_of_function, set_with}
+use Rattle.net_extract.specs.declared.cell.CarrySet.{CarrySet}
 
 -- the bits of a function that was found
 pub bits_of_function-found : (image : Configuration) (x y : ℕ) (function : Option FunctionLine) (bits : List RowCol)

@@ -3,10 +3,10 @@ use Rattle.std.specs.Prelude.{◌≡◌, ℕ, List, Option, Some, None}
 use Rattle.ice_image.specs.Configuration.{Configuration}
 use Rattle.chipdb_reader.specs.Database.{Database}
 use Rattle.place_search.specs.Places.{gathered_below}
-use Rattle.fabric_rules.specs.Tiles.{item_if}
-use Rattle.fabric_rules.specs.Cells.{cell_bits, is_async_flip}
-use Rattle.fabric_rules.specs.Faults.{Fault}
-use Rattle.fabric_rules.specs.Faults.Fault.{async}
+use Rattle.net_extract.specs.Tiles.{item_if}
+use Rattle.net_extract.specs.Cells.{cell_bits, is_async_flip}
+use Rattle.net_extract.specs.Faults.{Fault}
+use Rattle.net_extract.specs.Faults.Fault.{async}
 use Rattle.logic_cell.specs.declared.fault.LcFault.{LcFault}
 use Rattle.logic_cell.specs.declared.fault.LcFault.TheVariants.{Async, Memory}
 use Rattle.logic_cell.specs.declared.asynchronous.CellAt.{CellAt}

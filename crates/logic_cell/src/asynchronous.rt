@@ -4,16 +4,16 @@ ghost use Rattle.std.specs.List.{flat_map};
 ghost use Rattle.plane_map.specs.declared.tile.TileKind.TheVariants.{Logic};
 ghost use Rattle.ice_image.specs.Either.{configuration_of};
 ghost use Rattle.chipdb_reader.specs.Kept.{database_in};
-ghost use Rattle.fabric_rules.specs.Cells.{cell_bits, is_async_flip};
-ghost use Rattle.fabric_rules.specs.Tiles.{first_of};
-ghost use Rattle.tile_lookups.specs.Tiles.{HasTile};
+ghost use Rattle.net_extract.specs.Cells.{cell_bits, is_async_flip};
+ghost use Rattle.net_extract.specs.Tiles.{first_of};
+ghost use Rattle.net_extract.specs.TilesOfKind.{HasTile};
 ghost use Rattle.logic_cell.specs.Faults.{async_at, async_faults_in, fault_at};
 
 use crate::bits::cell_bits;
 use chipdb_reader::{ChipDb, TileXy8};
 use ice_image::AnyImage;
 use plane_map::TileKind;
-use tile_lookups::listed_bit;
+use net_extract::listed_bit;
 
 /// Cell `i` of the tile at (x, y).
 #[derive(Clone, Copy)]

@@ -5,14 +5,14 @@ ghost use Rattle.ice_image.specs.Configuration.{Configuration};
 ghost use Rattle.ice_image.specs.Either.{configuration_of};
 ghost use Rattle.chipdb_reader.specs.Fit.{IsBitIn};
 ghost use Rattle.chipdb_reader.specs.Kept.{database_in};
-ghost use Rattle.fabric_rules.specs.Cells.{cell_bits, is_used, lut_of};
-ghost use Rattle.fabric_rules.specs.On.{bits_at};
-ghost use Rattle.tile_lookups.specs.Tiles.{HasTile};
+ghost use Rattle.net_extract.specs.Cells.{cell_bits, is_used, lut_of};
+ghost use Rattle.net_extract.specs.On.{bits_at};
+ghost use Rattle.net_extract.specs.TilesOfKind.{HasTile};
 
 use chipdb_reader::ChipDb;
 use ice_image::AnyImage;
 use plane_map::{RowCol, TileKind};
-use tile_lookups::{Name, function_bits, listed_bit};
+use net_extract::{Name, function_bits, listed_bit};
 
 /// Which bits of a cell are entries 0 to 15 of its LUT.
 const ENTRY_BITS: [usize; 16] = [4, 14, 15, 5, 6, 16, 17, 7, 3, 13, 12, 2, 1, 11, 10, 0];

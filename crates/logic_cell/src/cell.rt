@@ -4,17 +4,17 @@ ghost use Rattle.plane_map.specs.declared.tile.TileKind.TheVariants.{Logic};
 ghost use Rattle.ice_image.specs.Either.{configuration_of};
 ghost use Rattle.chipdb_reader.specs.Fit.{IsBitIn};
 ghost use Rattle.chipdb_reader.specs.Kept.{database_in};
-ghost use Rattle.fabric_rules.specs.Cells.{cell_with};
-ghost use Rattle.fabric_rules.specs.On.{bits_at};
-ghost use Rattle.tile_lookups.specs.Tiles.{HasTile};
+ghost use Rattle.net_extract.specs.Cells.{cell_with};
+ghost use Rattle.net_extract.specs.On.{bits_at};
+ghost use Rattle.net_extract.specs.TilesOfKind.{HasTile};
 
 use crate::bits::lut;
 use crate::ports::{carry_in_net, input_nets, lutff_net};
 use chipdb_reader::ChipDb;
-use fabric_rules::{CarrySet, Lc};
+use net_extract::{CarrySet, Lc};
 use ice_image::AnyImage;
 use plane_map::{RowCol, TileKind};
-use tile_lookups::{is_on, listed_bit};
+use net_extract::{is_on, listed_bit};
 
 /// The used logic cells by tile and index, and the carry inputs that are set by tile. Tiles go by rows, then by columns.
 #[derive(Drop)]
@@ -24,7 +24,7 @@ pub struct Cells {
 }
 
 /// Cell `i` of the tile at (x, y), which has these bits.
-#[tactic(auto, unfolding(fabric_rules::specs::Cells::cell_with))]
+#[tactic(auto, unfolding(net_extract::specs::Cells::cell_with))]
 pub(crate) fn cell(db: &ChipDb, image: &AnyImage, x: u8, y: u8, i: u8, bits: &[RowCol]) -> Lc
     requires tile { HasTile image.now Logic x y }
     requires in_tile { All (IsBitIn 54) bits.now }

@@ -4,9 +4,9 @@ ghost use Rattle.std.specs.List.{flat_map};
 ghost use Rattle.plane_map.specs.declared.tile.TileKind.TheVariants.{Logic};
 ghost use Rattle.ice_image.specs.Either.{configuration_of};
 ghost use Rattle.chipdb_reader.specs.Kept.{database_in};
-ghost use Rattle.fabric_rules.specs.Cells.{cells_of, cells_at, sets_of, sets_at, used_cell};
-ghost use Rattle.fabric_rules.specs.Faults.{cells_fault};
-ghost use Rattle.tile_lookups.specs.Tiles.{HasTile, tiles_of};
+ghost use Rattle.net_extract.specs.Cells.{cells_of, cells_at, sets_of, sets_at, used_cell};
+ghost use Rattle.net_extract.specs.Faults.{cells_fault};
+ghost use Rattle.net_extract.specs.TilesOfKind.{HasTile, tiles_of};
 ghost use Rattle.logic_cell.specs.Faults.{IsCause};
 
 use crate::asynchronous::first_async;
@@ -14,11 +14,11 @@ use crate::bits::{cell_bits, is_used};
 use crate::cell::{Cells, cell};
 use crate::fault::LcFault;
 use chipdb_reader::{ChipDb, TileXy8};
-use fabric_rules::{CarrySet, Lc};
+use net_extract::{CarrySet, Lc};
 use ice_image::AnyImage;
 use plane_map::TileKind;
 use std::alloc::{AllocError, Global};
-use tile_lookups::{is_on, tiles_of_image};
+use net_extract::{is_on, tiles_of_image};
 
 /// Finds the logic cells that an image uses.
 pub fn cells(alloc: Global, db: &ChipDb, image: &AnyImage) -> Result<Cells, LcFault>

@@ -1,12 +1,12 @@
 // The nets of a cell's ports.
 ghost use Rattle.std.specs.Prelude.{◌≡◌, ◌≤◌, codes, length};
 ghost use Rattle.chipdb_reader.specs.Kept.{database_in};
-ghost use Rattle.fabric_rules.specs.Cells.{lutff_net, carry_in_net};
-ghost use Rattle.fabric_rules.specs.Nets.{ending_in};
-ghost use Rattle.fabric_rules.specs.Tiles.{each_below};
+ghost use Rattle.net_extract.specs.Cells.{lutff_net, carry_in_net};
+ghost use Rattle.net_extract.specs.Nets.{ending_in};
+ghost use Rattle.net_extract.specs.Tiles.{each_below};
 
 use chipdb_reader::ChipDb;
-use tile_lookups::Name;
+use net_extract::Name;
 
 /// The net of a port of cell `i`, named by what stands behind the cell.
 pub(crate) fn lutff_net(db: &ChipDb, x: u8, y: u8, i: u8, port: &[u8]) -> Option<u32>

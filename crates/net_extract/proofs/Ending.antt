@@ -9,10 +9,10 @@ use Rattle.ice_image.specs.Configuration.{Configuration}
 use Rattle.chipdb_lines.specs.declared.chip.Chip.{Chip}
 use Rattle.chipdb_reader.specs.Database.{Database, Link}
 use Rattle.chipdb_reader.specs.Fit.{IsLink, IsFit}
-use Rattle.fabric_rules.specs.On.{is_link_on}
-use Rattle.fabric_rules.specs.Fabric.{numbered_from, joins_of}
-use Rattle.fabric_rules.specs.Nets.{is_source, is_end, is_read}
-use Rattle.fabric_rules.specs.Joins.{class_of}
+use Rattle.net_extract.specs.On.{is_link_on}
+use Rattle.net_extract.specs.Fabric.{numbered_from, joins_of}
+use Rattle.net_extract.specs.Nets.{is_source, is_end, is_read}
+use Rattle.net_extract.specs.Joins.{class_of}
 use Rattle.net_extract.specs.declared.on.OnLink.{OnLink}
 use Rattle.net_extract.specs.Found.{on_link, links_on, ends_of, IsBelow, comes_from, touches}
 use Rattle.net_extract.specs.Links.{LinkSet, AreLinks, places_on}

@@ -4,7 +4,7 @@ use Rattle.std.specs.Prelude.{unwrap_or}
 use Rattle.std.proofs.lemmas.Bool.Decides.{nat_tests}
 use Rattle.std.proofs.lemmas.Bool.{cases_lt}
 use Rattle.place_search.proofs.Places.{least_below-first}
-use Rattle.fabric_rules.specs.Joins.{is_joined, class_of}
+use Rattle.net_extract.specs.Joins.{is_joined, class_of}
 use Rattle.net_extract.specs.Parents.{merged}
 
 -- ---- names by recursion

@@ -5,8 +5,8 @@ use Rattle.std.proofs.lemmas.Bool.{cases_Bool}
 use Rattle.std.proofs.lemmas.List.Elements.{All-nil, All-cons, All-weaker}
 use Rattle.ice_image.specs.Configuration.{Configuration}
 use Rattle.chipdb_reader.specs.Database.{Database, Link}
-use Rattle.fabric_rules.specs.On.{is_link_on}
-use Rattle.fabric_rules.specs.Fabric.{buffer_of, buffers_of, numbered, numbered_from}
+use Rattle.net_extract.specs.On.{is_link_on}
+use Rattle.net_extract.specs.Fabric.{buffer_of, buffers_of, numbered, numbered_from}
 use Rattle.net_extract.specs.Links.{places_on}
 
 -- ---- places are those of links

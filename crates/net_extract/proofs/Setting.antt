@@ -16,8 +16,8 @@ use Rattle.chipdb_reader.specs.declared.items.LinkLine.{LinkLine}
 use Rattle.chipdb_reader.specs.Database.{Link}
 use Rattle.chipdb_reader.specs.Fit.{IsLink}
 use Rattle.chipdb_reader.specs.Kept.{link_line, link_lines}
-use Rattle.fabric_rules.specs.On.{bits_at, is_link_on}
-use Rattle.fabric_rules.specs.Fabric.{numbered, numbered_from}
+use Rattle.net_extract.specs.On.{bits_at, is_link_on}
+use Rattle.net_extract.specs.Fabric.{numbered, numbered_from}
 use Rattle.net_extract.specs.declared.on.OnLink.{OnLink}
 use Rattle.net_extract.specs.Found.{on_link, links_on}
 

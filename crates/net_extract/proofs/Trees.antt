@@ -3,7 +3,7 @@ use Rattle.std.proofs.Common.{◌≡◌, ◌≢◌, ℕ, ◌+◌, ◌-◌, ◌<�
 use Rattle.std.proofs.lemmas.Bool.{cases_eq}
 use Rattle.std.proofs.lemmas.Bool.Decides.{nat_tests}
 use Rattle.std.proofs.lemmas.List.{drop_more, drop_all}
-use Rattle.fabric_rules.specs.Joins.{class_of}
+use Rattle.net_extract.specs.Joins.{class_of}
 use Rattle.net_extract.specs.declared.on.OnLink.{OnLink}
 use Rattle.net_extract.specs.Found.{ends_of}
 use Rattle.net_extract.specs.Parents.{IsForest, AreParents, merged}

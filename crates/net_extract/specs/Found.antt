@@ -2,8 +2,8 @@
 use Rattle.std.specs.Prelude.{ℕ, ◌<◌, Bool, ◌||◌, List, map, filter, ◌==◌}
 use Rattle.ice_image.specs.Configuration.{Configuration}
 use Rattle.chipdb_reader.specs.Database.{Link}
-use Rattle.fabric_rules.specs.On.{is_link_on}
-use Rattle.fabric_rules.specs.Fabric.{numbered}
+use Rattle.net_extract.specs.On.{is_link_on}
+use Rattle.net_extract.specs.Fabric.{numbered}
 use Rattle.net_extract.specs.declared.on.OnLink.{OnLink}
 
 -- a link with its place

@@ -2,10 +2,10 @@
 use Rattle.std.specs.Prelude.{◌≡◌, ℕ, Bool, false, List, length, map, filter, slice_index_or}
 use Rattle.ice_image.specs.Configuration.{Configuration}
 use Rattle.chipdb_reader.specs.Database.{Database, Link}
-use Rattle.fabric_rules.specs.On.{is_link_on}
-use Rattle.fabric_rules.specs.Nets.{is_read}
-use Rattle.fabric_rules.specs.Joins.{class_of}
-use Rattle.fabric_rules.specs.Fabric.{numbered, joins_of}
+use Rattle.net_extract.specs.On.{is_link_on}
+use Rattle.net_extract.specs.Nets.{is_read}
+use Rattle.net_extract.specs.Joins.{class_of}
+use Rattle.net_extract.specs.Fabric.{numbered, joins_of}
 
 -- the places of the buffers and of the routings that are on, and for each net its class and whether it is read
 pub record LinkSet : Type 0 where

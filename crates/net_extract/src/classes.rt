@@ -2,7 +2,7 @@
 //
 // Each net has a parent in its class that isn't greater; the least net of a class is its own parent.
 ghost use Rattle.std.specs.Prelude.{◌≡◌, ℕ, ◌<◌, ◌≤◌, length, slice_index, All, IfOk};
-ghost use Rattle.fabric_rules.specs.Joins.{class_of};
+ghost use Rattle.net_extract.specs.Joins.{class_of};
 ghost use Rattle.net_extract.specs.Found.{IsBelow, ends_of};
 ghost use Rattle.net_extract.specs.Parents.{IsForest, AreParents, merged};
 

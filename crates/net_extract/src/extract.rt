@@ -2,8 +2,8 @@
 ghost use Rattle.std.specs.Prelude.{◌≡◌, ◌↔◌, ℕ, map, IfOk, IfErr, OnOk};
 ghost use Rattle.ice_image.specs.Either.{configuration_of};
 ghost use Rattle.chipdb_reader.specs.Kept.{database_in};
-ghost use Rattle.fabric_rules.specs.Fabric.{joins_of};
-ghost use Rattle.fabric_rules.specs.Joins.{IsClassOf};
+ghost use Rattle.net_extract.specs.Fabric.{joins_of};
+ghost use Rattle.net_extract.specs.Joins.{IsClassOf};
 ghost use Rattle.net_extract.specs.Links.{AreLinks, class_in};
 
 use crate::classes::classes;

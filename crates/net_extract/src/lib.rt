@@ -1,16 +1,36 @@
-//! The links of a chip database that an image sets, and what they make of its nets: the classes of joined nets, and the nets
-//! that are read.
+//! What an image sets of a chip database, and the rules of the fabric that it configures.
 //!
-//! [`links`] finds them. The calls of [`Links`] take no memory.
+//! The definitions are in specs/: which functions, links and extra bits an image sets, what its nets, cells, RAMs, pins and global
+//! nets are, what drives each net and with which value, how the state changes at an event, and for which cause a database and an
+//! image aren't taken. They say what holds and know no order of evaluation.
+//!
+//! The code reads what is on: [`links`] finds the links that an image sets, the classes of joined nets and the nets that are read,
+//! and [`is_on`], [`is_any_on`] and [`function_bits`] look functions up at a tile. The calls of [`Links`] take no memory.
 #![tactic(auto)]
 
+mod cell;
 mod classes;
+mod driver;
 mod extract;
 mod fault;
+mod functions;
 mod kept;
+mod name;
 mod on;
+mod pin;
+mod ram;
 mod reads;
+mod some_read;
+mod tiles;
 
+pub use cell::{CarrySet, Lc};
+pub use driver::{ClockUser, Driver};
 pub use extract::links;
 pub use fault::LinkFault;
+pub use functions::{function_bits, is_any_on, is_on, listed_bit};
 pub use kept::Links;
+pub use name::Name;
+pub use pin::{GlobalFrom, GlobalNet, Pin};
+pub use ram::RamCell;
+pub use some_read::is_some_read;
+pub use tiles::tiles_of_image;

@@ -7,7 +7,7 @@ ghost use Rattle.ice_image.specs.Either.{configuration_of};
 ghost use Rattle.chipdb_lines.specs.Kept.{low_bits};
 ghost use Rattle.chipdb_reader.specs.Fit.{IsLink};
 ghost use Rattle.chipdb_reader.specs.Kept.{link_line, link_lines};
-ghost use Rattle.fabric_rules.specs.On.{bits_at, is_link_on};
+ghost use Rattle.net_extract.specs.On.{bits_at, is_link_on};
 ghost use Rattle.net_extract.specs.Found.{links_on};
 
 use chipdb_reader::{ChipDb, LinkLine};
@@ -33,7 +33,7 @@ fn have_values(image: &AnyImage, x: u8, y: u8, bits: &[RowCol], values: u64) -> 
 }
 
 /// Whether each bit of a link has its value.
-#[tactic(auto, unfolding(fabric_rules::specs::On::is_link_on))]
+#[tactic(auto, unfolding(crate::specs::On::is_link_on))]
 fn is_on(db: &ChipDb, image: &AnyImage, link: LinkLine) -> bool
     requires device { db.now.chip.device ≡ (configuration_of image.now).layout.device }
     requires fit { IsLink db.now.chip (link_line db.now.bits link) }

@@ -11,8 +11,8 @@ use Rattle.plane_map.specs.declared.tile.TileKind.{TileKind}
 use Rattle.plane_map.specs.Layout.{kind_of, grid_width, grid_height}
 use Rattle.chipdb_lines.specs.Statements.{is_kind_there}
 use Rattle.place_search.specs.Places.{gathered_below}
-use Rattle.fabric_rules.specs.Tiles.{over_grid, over_tiles, at_kind, item_if}
-use Rattle.fabric_rules.proofs.Within.{All-gathered, All-if}
+use Rattle.net_extract.specs.Tiles.{over_grid, over_tiles, at_kind, item_if}
+use Rattle.net_extract.proofs.Within.{All-gathered, All-if}
 use Rattle.vlog_emit.specs.Names.{two_numbers, three_numbers}
 use Rattle.vlog_emit.proofs.Lists.{Apart, bytes-same}
 

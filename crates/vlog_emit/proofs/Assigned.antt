@@ -9,10 +9,10 @@ use Rattle.vlog_module.specs.declared.item.Item.{Item}
 use Rattle.vlog_module.specs.Uses.{atom_uses, uses_of}
 use Rattle.vlog_module.specs.Uses.Use.{Assigns}
 use Rattle.vlog_module.specs.WellFormed.{section_of, declared_by, assigned_by, started_by, Scope, IsAllowed}
-use Rattle.fabric_rules.specs.declared.pin.Pin.{Pin}
-use Rattle.fabric_rules.specs.Fabric.{Fabric}
-use Rattle.fabric_rules.specs.Drivers.{is_driven}
-use Rattle.fabric_rules.proofs.Within.{All-single}
+use Rattle.net_extract.specs.declared.pin.Pin.{Pin}
+use Rattle.net_extract.specs.Fabric.{Fabric}
+use Rattle.net_extract.specs.Drivers.{is_driven}
+use Rattle.net_extract.proofs.Within.{All-single}
 use Rattle.vlog_emit.specs.Names.{port_name}
 use Rattle.vlog_emit.specs.Rights.{atom_or_0}
 use Rattle.vlog_emit.specs.Written.{output_assign}

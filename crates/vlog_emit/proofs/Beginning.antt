@@ -12,14 +12,14 @@ use Rattle.bit_plane.specs.BitList.{word_of}
 use Rattle.vlog_module.specs.declared.item.Item.{Item}
 use Rattle.vlog_module.specs.declared.item.Item.TheVariants.{Register, Word, Memory, Wire, Assign, Flip, Read, Write, Start}
 use Rattle.vlog_cycle.specs.Run.{input_start, register_start, word_start, memory_start, start_step, start}
-use Rattle.fabric_rules.specs.declared.cell.Lc.{Lc}
-use Rattle.fabric_rules.specs.declared.ram.RamCell.{RamCell}
-use Rattle.fabric_rules.specs.declared.pin.Pin.{Pin}
-use Rattle.fabric_rules.specs.Tiles.{each_below}
-use Rattle.fabric_rules.specs.Fabric.{Fabric, numbered_from, numbered, inputs_of, flips_of}
-use Rattle.fabric_rules.specs.Steps.{Entry, start_state, IsFirst}
-use Rattle.fabric_rules.specs.Wiring.{wiring_of, IsWriteOrder}
-use Rattle.fabric_rules.proofs.OneValue.{IsWithin}
+use Rattle.net_extract.specs.declared.cell.Lc.{Lc}
+use Rattle.net_extract.specs.declared.ram.RamCell.{RamCell}
+use Rattle.net_extract.specs.declared.pin.Pin.{Pin}
+use Rattle.net_extract.specs.Tiles.{each_below}
+use Rattle.net_extract.specs.Fabric.{Fabric, numbered_from, numbered, inputs_of, flips_of}
+use Rattle.net_extract.specs.Steps.{Entry, start_state, IsFirst}
+use Rattle.net_extract.specs.Wiring.{wiring_of, IsWriteOrder}
+use Rattle.net_extract.proofs.OneValue.{IsWithin}
 use Rattle.vlog_emit.specs.Names.{port_name, flip_name, register_name, memory_name}
 use Rattle.vlog_emit.specs.Written.{port_of, flip_register, read_register, ram_memory, start_item, start_items, items_of, module_of}
 use Rattle.vlog_emit.specs.Matching.{HasValues, Matches}
@@ -27,7 +27,7 @@ use Rattle.vlog_emit.proofs.Lists.{Apart-numbered, bytes-true, map-map, map-numb
 use Rattle.vlog_emit.proofs.Sections.{is_in, Skips, fold-section, flat_map-section, registers-section, words-section, memories-section, starts-section}
 use Rattle.vlog_emit.proofs.Fills.{FillsOwn, filled}
 use Rattle.vlog_emit.proofs.Settled.{IsWritable, Holding, holding-moved, settled-matches}
-use Rattle.fabric_rules.specs.Values.{State}
+use Rattle.net_extract.specs.Values.{State}
 
 -- ---- values by places
 

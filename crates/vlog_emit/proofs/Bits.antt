@@ -11,7 +11,7 @@ use Rattle.bit_plane.proofs.Made.{length-row_from, get_or-row_from}
 use Rattle.bit_plane.proofs.Words.{get_or-word_bits, test-bit_value, word_of-lt}
 use Rattle.vlog_cycle.specs.Values.{bit_of, number_of, majority}
 use Rattle.vlog_cycle.specs.Run.{masked}
-use Rattle.fabric_rules.specs.Values.{majority as two_of}
+use Rattle.net_extract.specs.Values.{majority as two_of}
 use Rattle.std.specs.Int.{w16}
 
 -- bit k of the number of some bits is bit k of them

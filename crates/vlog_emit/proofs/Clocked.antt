@@ -12,14 +12,14 @@ use Rattle.vlog_cycle.specs.declared.event.Event.{Event as ModuleEvent}
 use Rattle.vlog_cycle.specs.Entries.{Entry as ModuleEntry}
 use Rattle.vlog_cycle.specs.Values.{atom_value, atoms_value, lut_value}
 use Rattle.vlog_cycle.specs.Run.{readable, is_clocked, register_step, word_step, memory_step, put_read, words_of, masked}
-use Rattle.fabric_rules.specs.declared.cell.Lc.{Lc}
-use Rattle.fabric_rules.specs.declared.ram.RamCell.{RamCell}
-use Rattle.fabric_rules.specs.Fabric.{Fabric}
-use Rattle.fabric_rules.specs.Drivers.{is_driven}
-use Rattle.fabric_rules.specs.Values.{State, input_value, input_or_0, input_or_1, bit_in, is_connected, IsConsistent}
-use Rattle.fabric_rules.specs.Values.{lut_value as cell_value}
-use Rattle.fabric_rules.specs.Steps.{has_edge, next_flip, address_of, word_at, written, shown, next_words, next_register, flip_after, words_after, register_after}
-use Rattle.fabric_rules.proofs.OneValue.{IsWithin}
+use Rattle.net_extract.specs.declared.cell.Lc.{Lc}
+use Rattle.net_extract.specs.declared.ram.RamCell.{RamCell}
+use Rattle.net_extract.specs.Fabric.{Fabric}
+use Rattle.net_extract.specs.Drivers.{is_driven}
+use Rattle.net_extract.specs.Values.{State, input_value, input_or_0, input_or_1, bit_in, is_connected, IsConsistent}
+use Rattle.net_extract.specs.Values.{lut_value as cell_value}
+use Rattle.net_extract.specs.Steps.{has_edge, next_flip, address_of, word_at, written, shown, next_words, next_register, flip_after, words_after, register_after}
+use Rattle.net_extract.proofs.OneValue.{IsWithin}
 use Rattle.vlog_emit.specs.Names.{flip_name, register_name, memory_name}
 use Rattle.vlog_emit.specs.Rights.{input_atom, right_of, atom_or_0, atom_or_1, port_atoms, cell_lut}
 use Rattle.vlog_emit.specs.Written.{clocked, clock_name, flip_item, read_item, write_item}

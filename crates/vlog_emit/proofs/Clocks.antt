@@ -6,17 +6,17 @@ use Rattle.vlog_module.specs.declared.sort.Sort.{Sort}
 use Rattle.vlog_module.specs.declared.sort.Sort.TheVariants as sort
 use Rattle.vlog_module.specs.declared.item.Item.{Item}
 use Rattle.vlog_module.specs.WellFormed.{Scope, IsAllowed}
-use Rattle.fabric_rules.specs.declared.cell.Lc.{Lc}
-use Rattle.fabric_rules.specs.declared.ram.RamCell.{RamCell}
-use Rattle.fabric_rules.specs.declared.pin.Pin.{Pin}
-use Rattle.fabric_rules.specs.Joins.{class_of}
-use Rattle.fabric_rules.specs.Fabric.{Fabric, outputs_of, flips_of}
-use Rattle.fabric_rules.specs.Drivers.{is_driven}
-use Rattle.fabric_rules.specs.Clocks.{ClockEnd, LeadsTo, clock_end}
-use Rattle.fabric_rules.specs.Clocks.ClockEnd.{at_pin, still, other}
-use Rattle.fabric_rules.specs.Wiring.{wiring_of, IsWriteOrder}
-use Rattle.fabric_rules.proofs.Chains.{clock_end-leads}
-use Rattle.fabric_rules.proofs.OneValue.{IsWithin}
+use Rattle.net_extract.specs.declared.cell.Lc.{Lc}
+use Rattle.net_extract.specs.declared.ram.RamCell.{RamCell}
+use Rattle.net_extract.specs.declared.pin.Pin.{Pin}
+use Rattle.net_extract.specs.Joins.{class_of}
+use Rattle.net_extract.specs.Fabric.{Fabric, outputs_of, flips_of}
+use Rattle.net_extract.specs.Drivers.{is_driven}
+use Rattle.net_extract.specs.Clocks.{ClockEnd, LeadsTo, clock_end}
+use Rattle.net_extract.specs.Clocks.ClockEnd.{at_pin, still, other}
+use Rattle.net_extract.specs.Wiring.{wiring_of, IsWriteOrder}
+use Rattle.net_extract.proofs.Chains.{clock_end-leads}
+use Rattle.net_extract.proofs.OneValue.{IsWithin}
 use Rattle.vlog_emit.specs.Names.{port_name, flip_name, register_name, memory_name}
 use Rattle.vlog_emit.specs.Rights.{input_name}
 use Rattle.vlog_emit.specs.Written.{end_name, clock_name, clocked, output_assign, flip_item, flip_items, read_item, read_items, write_item, write_items}

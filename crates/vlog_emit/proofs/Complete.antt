@@ -8,10 +8,10 @@ use Rattle.std.proofs.lemmas.List.Elements.{All-nil, All-cons, All-weaker, All-c
 use Rattle.vlog_module.specs.declared.item.Item.{Item}
 use Rattle.vlog_module.specs.Uses.{uses_of}
 use Rattle.vlog_module.specs.WellFormed.{assigned_by, is_assigned, IsComplete}
-use Rattle.fabric_rules.specs.declared.pin.Pin.{Pin}
-use Rattle.fabric_rules.specs.Fabric.{Fabric, outputs_of}
-use Rattle.fabric_rules.proofs.OneValue.{filter-has}
-use Rattle.fabric_rules.proofs.Tests.{or-left, or-right}
+use Rattle.net_extract.specs.declared.pin.Pin.{Pin}
+use Rattle.net_extract.specs.Fabric.{Fabric, outputs_of}
+use Rattle.net_extract.proofs.OneValue.{filter-has}
+use Rattle.net_extract.proofs.Tests.{or-left, or-right}
 use Rattle.vlog_emit.specs.Names.{port_name}
 use Rattle.vlog_emit.specs.Written.{port_of, output_assign}
 use Rattle.vlog_emit.proofs.Lists.{bytes-true}

@@ -12,22 +12,22 @@ use Rattle.ice_image.specs.Configuration.{Configuration}
 use Rattle.chipdb_lines.specs.Statements.{is_kind_there}
 use Rattle.chipdb_reader.specs.Database.{Database}
 use Rattle.place_search.specs.Places.{gathered_below}
-use Rattle.fabric_rules.specs.declared.cell.Lc.{Lc}
-use Rattle.fabric_rules.specs.declared.ram.RamCell.{RamCell}
-use Rattle.fabric_rules.specs.declared.pin.Pin.{Pin}
-use Rattle.fabric_rules.specs.declared.pin.GlobalNet.{GlobalNet}
-use Rattle.fabric_rules.specs.declared.pin.GlobalFrom.{GlobalFrom}
-use Rattle.fabric_rules.specs.declared.pin.GlobalFrom.TheVariants.{Pad, Fabout}
-use Rattle.fabric_rules.specs.declared.driver.Driver.{Driver}
-use Rattle.fabric_rules.specs.Tiles.{over_grid}
-use Rattle.fabric_rules.specs.Cells.{cell_bits, cell_with, used_cell, cells_at, cells_of}
-use Rattle.fabric_rules.specs.Rams.{is_ram_used, ram_at, rams_of, start_word, start_words}
-use Rattle.fabric_rules.specs.Pins.{pintype_of, is_port, pin_with, port_at, pins_of}
-use Rattle.fabric_rules.specs.Fabric.{Fabric, numbered_from, numbered, inputs_of, flips_of, fabric_of}
-use Rattle.fabric_rules.specs.Drivers.{Rule, Drive, drives_if, pin_drives, back_drives, lut_drives, flip_drives, lout_drives, carry_drives, set_drives, ram_drive, ram_drives, pad_place, global_rule, global_drives, buffer_drives, drives_of}
-use Rattle.fabric_rules.specs.Drivers.Rule.{pin_bit, sent_back, lut_entry, flip_bit, carry_out, one, register_bit, copied}
-use Rattle.fabric_rules.proofs.OneValue.{each_below-length}
-use Rattle.fabric_rules.proofs.Within.{All-flat_map, All-gathered, All-item_if, All-if, All-single, All-over_tiles, All-numbered}
+use Rattle.net_extract.specs.declared.cell.Lc.{Lc}
+use Rattle.net_extract.specs.declared.ram.RamCell.{RamCell}
+use Rattle.net_extract.specs.declared.pin.Pin.{Pin}
+use Rattle.net_extract.specs.declared.pin.GlobalNet.{GlobalNet}
+use Rattle.net_extract.specs.declared.pin.GlobalFrom.{GlobalFrom}
+use Rattle.net_extract.specs.declared.pin.GlobalFrom.TheVariants.{Pad, Fabout}
+use Rattle.net_extract.specs.declared.driver.Driver.{Driver}
+use Rattle.net_extract.specs.Tiles.{over_grid}
+use Rattle.net_extract.specs.Cells.{cell_bits, cell_with, used_cell, cells_at, cells_of}
+use Rattle.net_extract.specs.Rams.{is_ram_used, ram_at, rams_of, start_word, start_words}
+use Rattle.net_extract.specs.Pins.{pintype_of, is_port, pin_with, port_at, pins_of}
+use Rattle.net_extract.specs.Fabric.{Fabric, numbered_from, numbered, inputs_of, flips_of, fabric_of}
+use Rattle.net_extract.specs.Drivers.{Rule, Drive, drives_if, pin_drives, back_drives, lut_drives, flip_drives, lout_drives, carry_drives, set_drives, ram_drive, ram_drives, pad_place, global_rule, global_drives, buffer_drives, drives_of}
+use Rattle.net_extract.specs.Drivers.Rule.{pin_bit, sent_back, lut_entry, flip_bit, carry_out, one, register_bit, copied}
+use Rattle.net_extract.proofs.OneValue.{each_below-length}
+use Rattle.net_extract.proofs.Within.{All-flat_map, All-gathered, All-item_if, All-if, All-single, All-over_tiles, All-numbered}
 use Rattle.vlog_emit.specs.Names.{two_numbers, three_numbers, port_name, flip_name, register_name, memory_name}
 use Rattle.vlog_emit.proofs.Lists.{Apart}
 use Rattle.vlog_emit.proofs.Rights.{IsPlaceIn}

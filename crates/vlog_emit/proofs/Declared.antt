@@ -13,11 +13,11 @@ use Rattle.vlog_module.specs.Uses.{uses_of, used_name}
 use Rattle.vlog_module.specs.Uses.Use.{Declares}
 use Rattle.vlog_module.specs.WellFormed.{section_of, port_sort, Scope, scope_of, is_known, is_first, IsInRange, IsShaped, IsAllowed}
 use Rattle.vlog_cycle.specs.Named.{names_of}
-use Rattle.fabric_rules.proofs.Within.{All-single}
-use Rattle.fabric_rules.specs.declared.cell.Lc.{Lc}
-use Rattle.fabric_rules.specs.declared.ram.RamCell.{RamCell}
-use Rattle.fabric_rules.specs.declared.pin.Pin.{Pin}
-use Rattle.fabric_rules.specs.Fabric.{Fabric, flips_of}
+use Rattle.net_extract.proofs.Within.{All-single}
+use Rattle.net_extract.specs.declared.cell.Lc.{Lc}
+use Rattle.net_extract.specs.declared.ram.RamCell.{RamCell}
+use Rattle.net_extract.specs.declared.pin.Pin.{Pin}
+use Rattle.net_extract.specs.Fabric.{Fabric, flips_of}
 use Rattle.vlog_emit.specs.Names.{port_name, flip_name, register_name, memory_name}
 use Rattle.vlog_emit.specs.Written.{port_of, flip_register, read_register, ram_memory}
 use Rattle.vlog_emit.proofs.Lists.{Apart, Apart-filter, names-absent, map-map}

@@ -9,15 +9,15 @@ use Rattle.chipdb_reader.specs.Fit.{IsFit}
 use Rattle.vlog_module.specs.Names.{IsName}
 use Rattle.vlog_module.specs.WellFormed.{IsModule}
 use Rattle.vlog_cycle.specs.Run.{module_run}
-use Rattle.fabric_rules.specs.declared.pin.GlobalNet.{GlobalNet}
-use Rattle.fabric_rules.specs.Rams.{rams_of}
-use Rattle.fabric_rules.specs.Fabric.{inputs_of, fabric_of}
-use Rattle.fabric_rules.specs.Steps.{Event, Entry, IsRun}
-use Rattle.fabric_rules.specs.Wiring.{wiring_of, IsWriteOrder}
-use Rattle.fabric_rules.specs.Faults.{design_fault}
-use Rattle.fabric_rules.proofs.Within.{fabric-within}
-use Rattle.fabric_rules.proofs.Taken.{design-taken}
-use Rattle.fabric_rules.proofs.Runs.{fabric-placed}
+use Rattle.net_extract.specs.declared.pin.GlobalNet.{GlobalNet}
+use Rattle.net_extract.specs.Rams.{rams_of}
+use Rattle.net_extract.specs.Fabric.{inputs_of, fabric_of}
+use Rattle.net_extract.specs.Steps.{Event, Entry, IsRun}
+use Rattle.net_extract.specs.Wiring.{wiring_of, IsWriteOrder}
+use Rattle.net_extract.specs.Faults.{design_fault}
+use Rattle.net_extract.proofs.Within.{fabric-within}
+use Rattle.net_extract.proofs.Taken.{design-taken}
+use Rattle.net_extract.proofs.Runs.{fabric-placed}
 use Rattle.vlog_emit.specs.Names.{register_name, memory_name}
 use Rattle.vlog_emit.specs.Written.{module_of}
 use Rattle.vlog_emit.specs.Matching.{Matches, module_event}

@@ -15,17 +15,17 @@ use Rattle.vlog_module.specs.Parts.{Parts}
 use Rattle.vlog_cycle.specs.Entries.{Entry as ModuleEntry}
 use Rattle.vlog_cycle.specs.Named.{names_of, values_of}
 use Rattle.vlog_cycle.specs.Run.{readable, register_step, word_step, memory_step, with_input, changed, is_same_bit, input_bit, followed, run_from, start, module_run}
-use Rattle.fabric_rules.specs.declared.cell.Lc.{Lc}
-use Rattle.fabric_rules.specs.declared.ram.RamCell.{RamCell}
-use Rattle.fabric_rules.specs.Fabric.{Fabric, numbered_from, numbered, inputs_of, flips_of}
-use Rattle.fabric_rules.specs.Drivers.{is_driven}
-use Rattle.fabric_rules.specs.Values.{State, bit_in, is_connected}
-use Rattle.fabric_rules.specs.Steps.{has_edge, flip_after, words_after, register_after, state_after, Event, Entry, IsEntry, Follows, FollowEach, IsRun}
-use Rattle.fabric_rules.specs.Wiring.{wiring_of, IsWriteOrder}
-use Rattle.fabric_rules.specs.Faults.{fabric_fault}
-use Rattle.fabric_rules.proofs.OneValue.{IsWithin}
-use Rattle.fabric_rules.proofs.Within.{All-numbered}
-use Rattle.fabric_rules.proofs.Runs.{IsPlaced, IsClocked, clock_bit, flip-good, read-good, write-good, entry-one, state-clocked}
+use Rattle.net_extract.specs.declared.cell.Lc.{Lc}
+use Rattle.net_extract.specs.declared.ram.RamCell.{RamCell}
+use Rattle.net_extract.specs.Fabric.{Fabric, numbered_from, numbered, inputs_of, flips_of}
+use Rattle.net_extract.specs.Drivers.{is_driven}
+use Rattle.net_extract.specs.Values.{State, bit_in, is_connected}
+use Rattle.net_extract.specs.Steps.{has_edge, flip_after, words_after, register_after, state_after, Event, Entry, IsEntry, Follows, FollowEach, IsRun}
+use Rattle.net_extract.specs.Wiring.{wiring_of, IsWriteOrder}
+use Rattle.net_extract.specs.Faults.{fabric_fault}
+use Rattle.net_extract.proofs.OneValue.{IsWithin}
+use Rattle.net_extract.proofs.Within.{All-numbered}
+use Rattle.net_extract.proofs.Runs.{IsPlaced, IsClocked, clock_bit, flip-good, read-good, write-good, entry-one, state-clocked}
 use Rattle.vlog_emit.specs.Names.{port_name, flip_name, register_name, memory_name}
 use Rattle.vlog_emit.specs.Written.{clock_name, flip_items, read_items, write_items, items_of, module_of}
 use Rattle.vlog_emit.specs.Matching.{HasValues, Matches, module_event}

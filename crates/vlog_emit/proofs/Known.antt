@@ -10,11 +10,11 @@ use Rattle.vlog_module.specs.declared.sort.Sort.TheVariants as sort
 use Rattle.vlog_module.specs.Names.{IsName}
 use Rattle.vlog_module.specs.WellFormed.{port_sort, Scope}
 use Rattle.vlog_cycle.specs.Named.{names_of}
-use Rattle.fabric_rules.specs.declared.ram.RamCell.{RamCell}
-use Rattle.fabric_rules.specs.declared.pin.Pin.{Pin}
-use Rattle.fabric_rules.specs.Fabric.{Fabric, inputs_of, outputs_of, flips_of}
-use Rattle.fabric_rules.specs.Wiring.{has}
-use Rattle.fabric_rules.proofs.Order.{has-none, has-cases}
+use Rattle.net_extract.specs.declared.ram.RamCell.{RamCell}
+use Rattle.net_extract.specs.declared.pin.Pin.{Pin}
+use Rattle.net_extract.specs.Fabric.{Fabric, inputs_of, outputs_of, flips_of}
+use Rattle.net_extract.specs.Wiring.{has}
+use Rattle.net_extract.proofs.Order.{has-none, has-cases}
 use Rattle.vlog_emit.specs.Names.{port_name, flip_name, register_name, memory_name, wire_name}
 use Rattle.vlog_emit.specs.Written.{port_of}
 use Rattle.vlog_emit.proofs.Lists.{Apart, Apart-filter, bytes-true, value_in-front, value_in-behind, names-absent, map-map, All-pick}

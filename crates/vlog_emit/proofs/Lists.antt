@@ -8,7 +8,7 @@ use Rattle.std.proofs.lemmas.Slice.Eq.{bytes_eq-Decides}
 use Rattle.std.proofs.Math.Seq.{get_or-append_seam}
 use Rattle.vlog_module.specs.Maps.{value_in}
 use Rattle.vlog_cycle.specs.Named.{names_of, values_of}
-use Rattle.fabric_rules.specs.Fabric.{numbered_from, numbered}
+use Rattle.net_extract.specs.Fabric.{numbered_from, numbered}
 
 -- ---- names
 

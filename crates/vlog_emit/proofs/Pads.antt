@@ -19,22 +19,22 @@ use Rattle.chipdb_reader.specs.Lookups.{pin_of, pad_of}
 use Rattle.chipdb_reader.specs.Fit.{IsFit, IsGlobalPin}
 use Rattle.place_search.specs.Places.{gathered_below}
 use Rattle.place_search.proofs.Places.{any_below-at}
-use Rattle.fabric_rules.specs.declared.pin.Pin.{Pin}
-use Rattle.fabric_rules.specs.declared.pin.GlobalNet.{GlobalNet}
-use Rattle.fabric_rules.specs.declared.pin.GlobalFrom.{GlobalFrom}
-use Rattle.fabric_rules.specs.declared.pin.GlobalFrom.TheVariants.{Pad, Fabout}
-use Rattle.fabric_rules.specs.Tiles.{over_grid, at_kind}
-use Rattle.fabric_rules.specs.On.{is_function_on}
-use Rattle.fabric_rules.specs.Nets.{is_some_read}
-use Rattle.fabric_rules.specs.Pins.{pintype_of, has_no_output, has_plain_output, has_plain_input, is_input_pin, is_output_pin, is_port, io_net, pin_with, port_at, pins_of, global_pad, global_source, global_fabout, source_of_global, global_nets, nets_from, globals_of, is_pin_at, is_global_pad, is_refused_with}
-use Rattle.fabric_rules.specs.Fabric.{inputs_of, fabric_of}
-use Rattle.fabric_rules.specs.Drivers.{pad_place}
-use Rattle.fabric_rules.specs.Faults.{Fault, is_same_device, device_faults, pin_fault_at, pin_faults}
-use Rattle.fabric_rules.proofs.OneValue.{filter-has}
-use Rattle.fabric_rules.proofs.Taken.{IsTaken, gathered_below-empty, item_if-none}
-use Rattle.fabric_rules.proofs.Tests.{and-both, and-left, or-left}
-use Rattle.fabric_rules.proofs.Runs.{contains-gathered, contains-over_grid}
-use Rattle.fabric_rules.proofs.Within.{All-gathered}
+use Rattle.net_extract.specs.declared.pin.Pin.{Pin}
+use Rattle.net_extract.specs.declared.pin.GlobalNet.{GlobalNet}
+use Rattle.net_extract.specs.declared.pin.GlobalFrom.{GlobalFrom}
+use Rattle.net_extract.specs.declared.pin.GlobalFrom.TheVariants.{Pad, Fabout}
+use Rattle.net_extract.specs.Tiles.{over_grid, at_kind}
+use Rattle.net_extract.specs.On.{is_function_on}
+use Rattle.net_extract.specs.Nets.{is_some_read}
+use Rattle.net_extract.specs.Pins.{pintype_of, has_no_output, has_plain_output, has_plain_input, is_input_pin, is_output_pin, is_port, io_net, pin_with, port_at, pins_of, global_pad, global_source, global_fabout, source_of_global, global_nets, nets_from, globals_of, is_pin_at, is_global_pad, is_refused_with}
+use Rattle.net_extract.specs.Fabric.{inputs_of, fabric_of}
+use Rattle.net_extract.specs.Drivers.{pad_place}
+use Rattle.net_extract.specs.Faults.{Fault, is_same_device, device_faults, pin_fault_at, pin_faults}
+use Rattle.net_extract.proofs.OneValue.{filter-has}
+use Rattle.net_extract.proofs.Taken.{IsTaken, gathered_below-empty, item_if-none}
+use Rattle.net_extract.proofs.Tests.{and-both, and-left, or-left}
+use Rattle.net_extract.proofs.Runs.{contains-gathered, contains-over_grid}
+use Rattle.net_extract.proofs.Within.{All-gathered}
 use Rattle.vlog_emit.proofs.Configured.{IsPadIn}
 
 -- ---- tests and places

@@ -7,16 +7,16 @@ use Rattle.vlog_module.specs.declared.atoms.Atom.{Atom}
 use Rattle.vlog_module.specs.declared.atoms.Atom.TheVariants.{Bit, Whole, Part}
 use Rattle.vlog_module.specs.Maps.{value_in}
 use Rattle.vlog_cycle.specs.Values.{Readable, atom_value, right_value}
-use Rattle.fabric_rules.specs.declared.cell.Lc.{Lc}
-use Rattle.fabric_rules.specs.Joins.{class_of}
-use Rattle.fabric_rules.specs.Fabric.{Fabric, inputs_of, flips_of}
-use Rattle.fabric_rules.specs.Drivers.{Rule, Drive, drives_of, drivers_of, is_driven, nets_read}
-use Rattle.fabric_rules.specs.Drivers.Rule.{pin_bit, sent_back, lut_entry, flip_bit, carry_out, one, register_bit, copied}
-use Rattle.fabric_rules.specs.Values.{State, input_value, cell_input, lut_value, carry_value, value_of, bit_in, is_connected, IsConsistent}
-use Rattle.fabric_rules.specs.Wiring.{wiring_of, has, depends}
-use Rattle.fabric_rules.proofs.Joins.{class_of-class}
-use Rattle.fabric_rules.proofs.Facts.{has-left, has-right, has-some, has-input}
-use Rattle.fabric_rules.proofs.OneValue.{IsWithin, first-driver, first-is, first-class, first-reads, net-bit, class_bit, class-still}
+use Rattle.net_extract.specs.declared.cell.Lc.{Lc}
+use Rattle.net_extract.specs.Joins.{class_of}
+use Rattle.net_extract.specs.Fabric.{Fabric, inputs_of, flips_of}
+use Rattle.net_extract.specs.Drivers.{Rule, Drive, drives_of, drivers_of, is_driven, nets_read}
+use Rattle.net_extract.specs.Drivers.Rule.{pin_bit, sent_back, lut_entry, flip_bit, carry_out, one, register_bit, copied}
+use Rattle.net_extract.specs.Values.{State, input_value, cell_input, lut_value, carry_value, value_of, bit_in, is_connected, IsConsistent}
+use Rattle.net_extract.specs.Wiring.{wiring_of, has, depends}
+use Rattle.net_extract.proofs.Joins.{class_of-class}
+use Rattle.net_extract.proofs.Facts.{has-left, has-right, has-some, has-input}
+use Rattle.net_extract.proofs.OneValue.{IsWithin, first-driver, first-is, first-class, first-reads, net-bit, class_bit, class-still}
 use Rattle.vlog_emit.specs.Names.{wire_name}
 use Rattle.vlog_emit.specs.Rights.{input_atom, atom_or_0, cell_atom, input_name, flip_at, register_at, right_alone, right_of, right_by, class_right}
 use Rattle.vlog_emit.proofs.Bits.{bit_of-word_of, table-entry, majority-same}

@@ -5,8 +5,8 @@ use Rattle.std.proofs.lemmas.Bool.{cases_Bool}
 use Rattle.std.proofs.lemmas.List.Elements.{All-nil, All-cons, All-head, All-tail, All-append, filter-append}
 use Rattle.vlog_module.specs.declared.item.Item.{Item}
 use Rattle.vlog_module.specs.WellFormed.{section_of}
-use Rattle.fabric_rules.specs.Fabric.{Fabric, numbered, outputs_of, flips_of}
-use Rattle.fabric_rules.proofs.Within.{All-single, All-gathered}
+use Rattle.net_extract.specs.Fabric.{Fabric, numbered, outputs_of, flips_of}
+use Rattle.net_extract.proofs.Within.{All-single, All-gathered}
 use Rattle.vlog_emit.specs.Written.{clocked, clock_name, flip_register, read_register, ram_memory, class_wire, output_assign, flip_item, flip_items, read_item, read_items, write_item, write_items, start_item, start_items, items_of}
 
 -- an item of a section

@@ -13,17 +13,17 @@ use Rattle.vlog_module.specs.Maps.{value_in}
 use Rattle.vlog_cycle.specs.Named.{names_of}
 use Rattle.vlog_cycle.specs.Values.{Readable, atom_value, right_value}
 use Rattle.vlog_cycle.specs.Run.{output_start, wire_step, output_step, settled}
-use Rattle.fabric_rules.specs.declared.cell.Lc.{Lc}
-use Rattle.fabric_rules.specs.declared.pin.Pin.{Pin}
-use Rattle.fabric_rules.specs.Fabric.{Fabric, inputs_of, outputs_of, flips_of}
-use Rattle.fabric_rules.specs.Drivers.{Drive, drives_of, is_driven}
-use Rattle.fabric_rules.specs.Values.{State, input_or_0, bit_in, is_connected, IsConsistent}
-use Rattle.fabric_rules.specs.Steps.{Entry, output_values, IsEntry}
-use Rattle.fabric_rules.specs.Wiring.{wiring_of, has, IsWriteOrder}
-use Rattle.fabric_rules.proofs.Order.{has-none, has-first, has-cases, Continues, order-continues}
-use Rattle.fabric_rules.proofs.Order.Continues.{whole, next}
-use Rattle.fabric_rules.proofs.Facts.{has-left, has-right}
-use Rattle.fabric_rules.proofs.OneValue.{IsWithin, driven-is, count-is, driven-below}
+use Rattle.net_extract.specs.declared.cell.Lc.{Lc}
+use Rattle.net_extract.specs.declared.pin.Pin.{Pin}
+use Rattle.net_extract.specs.Fabric.{Fabric, inputs_of, outputs_of, flips_of}
+use Rattle.net_extract.specs.Drivers.{Drive, drives_of, is_driven}
+use Rattle.net_extract.specs.Values.{State, input_or_0, bit_in, is_connected, IsConsistent}
+use Rattle.net_extract.specs.Steps.{Entry, output_values, IsEntry}
+use Rattle.net_extract.specs.Wiring.{wiring_of, has, IsWriteOrder}
+use Rattle.net_extract.proofs.Order.{has-none, has-first, has-cases, Continues, order-continues}
+use Rattle.net_extract.proofs.Order.Continues.{whole, next}
+use Rattle.net_extract.proofs.Facts.{has-left, has-right}
+use Rattle.net_extract.proofs.OneValue.{IsWithin, driven-is, count-is, driven-below}
 use Rattle.vlog_emit.specs.Names.{port_name, flip_name, register_name, memory_name, wire_name}
 use Rattle.vlog_emit.specs.Rights.{atom_or_0, input_name, flip_at, register_at, class_right}
 use Rattle.vlog_emit.specs.Written.{port_of, class_wire, output_assign, items_of, module_of}

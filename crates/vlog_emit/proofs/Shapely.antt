@@ -14,19 +14,19 @@ use Rattle.vlog_module.specs.declared.atoms.Atom.{Atom}
 use Rattle.vlog_module.specs.declared.atoms.Atom.TheVariants.{Bit, Whole, Part}
 use Rattle.vlog_module.specs.Names.{IsName}
 use Rattle.vlog_module.specs.WellFormed.{IsRight}
-use Rattle.fabric_rules.specs.declared.cell.Lc.{Lc}
-use Rattle.fabric_rules.specs.declared.ram.RamCell.{RamCell}
-use Rattle.fabric_rules.specs.declared.pin.Pin.{Pin}
-use Rattle.fabric_rules.specs.declared.pin.GlobalFrom.{GlobalFrom}
-use Rattle.fabric_rules.specs.declared.pin.GlobalFrom.TheVariants.{Pad, Fabout}
-use Rattle.fabric_rules.specs.declared.driver.Driver.{Driver}
-use Rattle.fabric_rules.specs.Cells.{cell_bit, entry_bits, cell_bits, cell_with, used_cell, cells_at, cells_of}
-use Rattle.fabric_rules.specs.Rams.{is_ram_used, ram_at, rams_of, start_word, start_words}
-use Rattle.fabric_rules.specs.Pins.{pintype_of, is_port, pin_with, port_at, pins_of}
-use Rattle.fabric_rules.specs.Fabric.{Fabric, numbered, inputs_of, flips_of, fabric_of}
-use Rattle.fabric_rules.specs.Drivers.{Rule, Drive, drives_if, pin_drives, back_drives, lut_drives, flip_drives, lout_drives, carry_drives, set_drives, ram_drive, ram_drives, global_rule, global_drives, buffer_drives, drives_of, is_driver_of, drivers_of}
-use Rattle.fabric_rules.specs.Drivers.Rule.{pin_bit, sent_back, lut_entry, flip_bit, carry_out, one, register_bit, copied}
-use Rattle.fabric_rules.proofs.Within.{All-flat_map, All-gathered, All-item_if, All-if, All-single, All-over_tiles}
+use Rattle.net_extract.specs.declared.cell.Lc.{Lc}
+use Rattle.net_extract.specs.declared.ram.RamCell.{RamCell}
+use Rattle.net_extract.specs.declared.pin.Pin.{Pin}
+use Rattle.net_extract.specs.declared.pin.GlobalFrom.{GlobalFrom}
+use Rattle.net_extract.specs.declared.pin.GlobalFrom.TheVariants.{Pad, Fabout}
+use Rattle.net_extract.specs.declared.driver.Driver.{Driver}
+use Rattle.net_extract.specs.Cells.{cell_bit, entry_bits, cell_bits, cell_with, used_cell, cells_at, cells_of}
+use Rattle.net_extract.specs.Rams.{is_ram_used, ram_at, rams_of, start_word, start_words}
+use Rattle.net_extract.specs.Pins.{pintype_of, is_port, pin_with, port_at, pins_of}
+use Rattle.net_extract.specs.Fabric.{Fabric, numbered, inputs_of, flips_of, fabric_of}
+use Rattle.net_extract.specs.Drivers.{Rule, Drive, drives_if, pin_drives, back_drives, lut_drives, flip_drives, lout_drives, carry_drives, set_drives, ram_drive, ram_drives, global_rule, global_drives, buffer_drives, drives_of, is_driver_of, drivers_of}
+use Rattle.net_extract.specs.Drivers.Rule.{pin_bit, sent_back, lut_entry, flip_bit, carry_out, one, register_bit, copied}
+use Rattle.net_extract.proofs.Within.{All-flat_map, All-gathered, All-item_if, All-if, All-single, All-over_tiles}
 use Rattle.vlog_emit.specs.Names.{port_name, flip_name, register_name, memory_name}
 use Rattle.vlog_emit.specs.Rights.{atom_or_0, right_alone, right_of, right_by, class_right}
 use Rattle.vlog_emit.proofs.Configured.{PinSmall, CellSmall, RamSmall, pin-at, cell-at, ram-placed}

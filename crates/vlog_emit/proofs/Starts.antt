@@ -10,10 +10,10 @@ use Rattle.bit_plane.specs.BitList.{word_of}
 use Rattle.vlog_module.specs.declared.sort.Sort.TheVariants as sort
 use Rattle.vlog_module.specs.Uses.Use.{Starts}
 use Rattle.vlog_module.specs.WellFormed.{Scope, IsAllowed}
-use Rattle.fabric_rules.specs.declared.ram.RamCell.{RamCell}
-use Rattle.fabric_rules.specs.Fabric.{Fabric}
-use Rattle.fabric_rules.specs.Tiles.{each_below}
-use Rattle.fabric_rules.proofs.Within.{All-single, All-gathered}
+use Rattle.net_extract.specs.declared.ram.RamCell.{RamCell}
+use Rattle.net_extract.specs.Fabric.{Fabric}
+use Rattle.net_extract.specs.Tiles.{each_below}
+use Rattle.net_extract.proofs.Within.{All-single, All-gathered}
 use Rattle.vlog_emit.specs.Names.{memory_name}
 use Rattle.vlog_emit.specs.Written.{start_item, start_items}
 use Rattle.vlog_emit.proofs.Lists.{Apart}

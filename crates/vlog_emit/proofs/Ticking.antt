@@ -9,10 +9,10 @@ use Rattle.vlog_module.specs.declared.atoms.Atom.{Atom}
 use Rattle.vlog_module.specs.Uses.{Use, atom_uses, atoms_uses, lut_uses}
 use Rattle.vlog_module.specs.Uses.Use.{Reads, ReadsBit, Takes, Assigns}
 use Rattle.vlog_module.specs.WellFormed.{declared_by, assigned_by, started_by, Scope, IsAllowed}
-use Rattle.fabric_rules.specs.declared.cell.Lc.{Lc}
-use Rattle.fabric_rules.specs.declared.ram.RamCell.{RamCell}
-use Rattle.fabric_rules.specs.Fabric.{Fabric}
-use Rattle.fabric_rules.specs.Drivers.{is_driven}
+use Rattle.net_extract.specs.declared.cell.Lc.{Lc}
+use Rattle.net_extract.specs.declared.ram.RamCell.{RamCell}
+use Rattle.net_extract.specs.Fabric.{Fabric}
+use Rattle.net_extract.specs.Drivers.{is_driven}
 use Rattle.vlog_emit.specs.Names.{flip_name, register_name, memory_name}
 use Rattle.vlog_emit.specs.Rights.{input_atom, atom_or_0, atom_or_1, port_atoms, cell_lut}
 use Rattle.vlog_emit.specs.Written.{flip_item, read_item, write_item}

@@ -9,21 +9,21 @@ use Rattle.vlog_cycle.specs.declared.event.Event.{Event as ModuleEvent}
 use Rattle.vlog_cycle.specs.Named.{names_of}
 use Rattle.vlog_cycle.specs.Numbered.{numbered as counted}
 use Rattle.vlog_cycle.specs.Run.{input_names, pin_of, is_pin, is_edge, is_same_bit}
-use Rattle.fabric_rules.specs.declared.pin.Pin.{Pin}
-use Rattle.fabric_rules.specs.Fabric.{Fabric, inputs_of}
-use Rattle.fabric_rules.specs.Drivers.{Rule, is_driven}
-use Rattle.fabric_rules.specs.Drivers.Rule.{pin_bit, sent_back, lut_entry, flip_bit, carry_out, one, register_bit, copied}
-use Rattle.fabric_rules.specs.Values.{bit_in}
-use Rattle.fabric_rules.specs.Steps.{has_edge, Event, Entry, IsEntry, Follows}
-use Rattle.fabric_rules.specs.Clocks.{ClockEnd, LeadsTo, turn_by, clock_end}
-use Rattle.fabric_rules.specs.Clocks.ClockEnd.{at_pin, still, other}
-use Rattle.fabric_rules.specs.Clocks.Turn.{ends}
-use Rattle.fabric_rules.specs.Clocks.LeadsTo.{ends_here, goes_on}
-use Rattle.fabric_rules.specs.Faults.{fabric_fault}
-use Rattle.fabric_rules.proofs.OneValue.{IsWithin, first-driver, first-is}
-use Rattle.fabric_rules.proofs.Chains.{turn-still, turn-first, clock_end-leads}
-use Rattle.fabric_rules.proofs.Taken.{taken-order}
-use Rattle.fabric_rules.proofs.Runs.{IsPlaced, IsClockEnd, IsClocked, end_bit, clock-bit, clock_bit-is}
+use Rattle.net_extract.specs.declared.pin.Pin.{Pin}
+use Rattle.net_extract.specs.Fabric.{Fabric, inputs_of}
+use Rattle.net_extract.specs.Drivers.{Rule, is_driven}
+use Rattle.net_extract.specs.Drivers.Rule.{pin_bit, sent_back, lut_entry, flip_bit, carry_out, one, register_bit, copied}
+use Rattle.net_extract.specs.Values.{bit_in}
+use Rattle.net_extract.specs.Steps.{has_edge, Event, Entry, IsEntry, Follows}
+use Rattle.net_extract.specs.Clocks.{ClockEnd, LeadsTo, turn_by, clock_end}
+use Rattle.net_extract.specs.Clocks.ClockEnd.{at_pin, still, other}
+use Rattle.net_extract.specs.Clocks.Turn.{ends}
+use Rattle.net_extract.specs.Clocks.LeadsTo.{ends_here, goes_on}
+use Rattle.net_extract.specs.Faults.{fabric_fault}
+use Rattle.net_extract.proofs.OneValue.{IsWithin, first-driver, first-is}
+use Rattle.net_extract.proofs.Chains.{turn-still, turn-first, clock_end-leads}
+use Rattle.net_extract.proofs.Taken.{taken-order}
+use Rattle.net_extract.proofs.Runs.{IsPlaced, IsClockEnd, IsClocked, end_bit, clock-bit, clock_bit-is}
 use Rattle.vlog_emit.specs.Names.{port_name}
 use Rattle.vlog_emit.specs.Rights.{input_name}
 use Rattle.vlog_emit.specs.Written.{end_name, clock_name, port_of}

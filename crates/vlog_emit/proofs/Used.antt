@@ -13,15 +13,15 @@ use Rattle.vlog_module.specs.Names.{IsName}
 use Rattle.vlog_module.specs.Uses.{Use, used_name, atom_uses, atoms_uses, right_uses, uses_of}
 use Rattle.vlog_module.specs.Uses.Use.{Reads, ReadsBit}
 use Rattle.vlog_module.specs.WellFormed.{section_of, Scope, is_known, is_first, IsInRange, IsShaped, IsAllowed}
-use Rattle.fabric_rules.specs.declared.cell.Lc.{Lc}
-use Rattle.fabric_rules.specs.Joins.{class_of}
-use Rattle.fabric_rules.specs.Fabric.{Fabric, inputs_of, flips_of}
-use Rattle.fabric_rules.specs.Drivers.{Rule, nets_read}
-use Rattle.fabric_rules.specs.Drivers.Rule.{pin_bit, sent_back, lut_entry, flip_bit, carry_out, one, register_bit, copied}
-use Rattle.fabric_rules.specs.Values.{is_connected}
-use Rattle.fabric_rules.specs.Wiring.{has}
-use Rattle.fabric_rules.proofs.Within.{All-single}
-use Rattle.fabric_rules.proofs.Facts.{has-left, has-right, has-some, has-input}
+use Rattle.net_extract.specs.declared.cell.Lc.{Lc}
+use Rattle.net_extract.specs.Joins.{class_of}
+use Rattle.net_extract.specs.Fabric.{Fabric, inputs_of, flips_of}
+use Rattle.net_extract.specs.Drivers.{Rule, nets_read}
+use Rattle.net_extract.specs.Drivers.Rule.{pin_bit, sent_back, lut_entry, flip_bit, carry_out, one, register_bit, copied}
+use Rattle.net_extract.specs.Values.{is_connected}
+use Rattle.net_extract.specs.Wiring.{has}
+use Rattle.net_extract.proofs.Within.{All-single}
+use Rattle.net_extract.proofs.Facts.{has-left, has-right, has-some, has-input}
 use Rattle.vlog_emit.specs.Names.{wire_name}
 use Rattle.vlog_emit.specs.Rights.{input_atom, atom_or_0, port_atoms, cell_atom, input_name, flip_at, register_at, right_alone, right_of}
 use Rattle.vlog_emit.proofs.Lists.{value_in-front}

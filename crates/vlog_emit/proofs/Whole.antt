@@ -9,13 +9,13 @@ use Rattle.vlog_module.specs.declared.sort.Sort.TheVariants as sort
 use Rattle.vlog_module.specs.declared.item.Item.{Item}
 use Rattle.vlog_module.specs.Names.{IsName}
 use Rattle.vlog_module.specs.WellFormed.{Scope, scope_of, IsRight, IsComplete, IsModule}
-use Rattle.fabric_rules.specs.declared.ram.RamCell.{RamCell}
-use Rattle.fabric_rules.specs.Fabric.{Fabric, numbered, outputs_of, flips_of}
-use Rattle.fabric_rules.specs.Drivers.{is_driven}
-use Rattle.fabric_rules.specs.Wiring.{wiring_of, has, IsWriteOrder}
-use Rattle.fabric_rules.proofs.Order.{order-continues}
-use Rattle.fabric_rules.proofs.OneValue.{IsWithin, driven-is, count-is, driven-below}
-use Rattle.fabric_rules.proofs.Within.{All-numbered}
+use Rattle.net_extract.specs.declared.ram.RamCell.{RamCell}
+use Rattle.net_extract.specs.Fabric.{Fabric, numbered, outputs_of, flips_of}
+use Rattle.net_extract.specs.Drivers.{is_driven}
+use Rattle.net_extract.specs.Wiring.{wiring_of, has, IsWriteOrder}
+use Rattle.net_extract.proofs.Order.{order-continues}
+use Rattle.net_extract.proofs.OneValue.{IsWithin, driven-is, count-is, driven-below}
+use Rattle.net_extract.proofs.Within.{All-numbered}
 use Rattle.vlog_emit.specs.Names.{port_name, memory_name, wire_name}
 use Rattle.vlog_emit.specs.Rights.{class_right}
 use Rattle.vlog_emit.specs.Written.{port_of, flip_register, read_register, ram_memory, class_wire, output_assign, flip_items, read_items, write_items, start_items, items_of, module_of}

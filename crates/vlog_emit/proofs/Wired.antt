@@ -16,14 +16,14 @@ use Rattle.vlog_module.specs.Uses.{Use, atom_uses, atoms_uses, right_uses}
 use Rattle.vlog_module.specs.Uses.Use.{Declares, Reads, ReadsBit}
 use Rattle.vlog_module.specs.WellFormed.{declared_by, assigned_by, started_by, Scope, IsRight, IsAllowed}
 use Rattle.vlog_cycle.specs.Named.{names_of}
-use Rattle.fabric_rules.specs.Fabric.{Fabric}
-use Rattle.fabric_rules.specs.Joins.{class_of}
-use Rattle.fabric_rules.specs.Drivers.{is_driven}
-use Rattle.fabric_rules.specs.Wiring.{wiring_of, has, IsReady}
-use Rattle.fabric_rules.proofs.Order.{has-first, has-cases, has-other, Continues}
-use Rattle.fabric_rules.proofs.Order.Continues.{whole, next}
-use Rattle.fabric_rules.proofs.OneValue.{IsWithin, first-driver, first-is, first-reads, driven-is, driven-below}
-use Rattle.fabric_rules.proofs.Within.{All-single}
+use Rattle.net_extract.specs.Fabric.{Fabric}
+use Rattle.net_extract.specs.Joins.{class_of}
+use Rattle.net_extract.specs.Drivers.{is_driven}
+use Rattle.net_extract.specs.Wiring.{wiring_of, has, IsReady}
+use Rattle.net_extract.proofs.Order.{has-first, has-cases, has-other, Continues}
+use Rattle.net_extract.proofs.Order.Continues.{whole, next}
+use Rattle.net_extract.proofs.OneValue.{IsWithin, first-driver, first-is, first-reads, driven-is, driven-below}
+use Rattle.net_extract.proofs.Within.{All-single}
 use Rattle.vlog_emit.specs.Names.{wire_name}
 use Rattle.vlog_emit.specs.Rights.{right_by, class_right}
 use Rattle.vlog_emit.specs.Written.{class_wire}

@@ -7,13 +7,13 @@ use Rattle.bit_plane.specs.BitList.{word_of}
 use Rattle.vlog_module.specs.declared.atoms.Atom.TheVariants.{Bit, Whole}
 use Rattle.vlog_module.specs.declared.item.Item.TheVariants.{Wire, Assign, Flip, Read, Write}
 use Rattle.vlog_module.specs.declared.item.Right.TheVariants.{Whole as RightWhole, Lut as RightLut}
-use Rattle.fabric_rules.specs.declared.cell.Lc.{Lc}
-use Rattle.fabric_rules.specs.declared.ram.RamCell.{RamCell}
-use Rattle.fabric_rules.specs.declared.pin.Pin.{Pin}
-use Rattle.fabric_rules.specs.Fabric.{Fabric, numbered_from}
-use Rattle.fabric_rules.specs.Joins.{is_joined, class_of}
-use Rattle.fabric_rules.specs.Drivers.{drives_of, drivers_of, is_driven}
-use Rattle.fabric_rules.specs.Clocks.{turn_at, end_within, clock_end}
+use Rattle.net_extract.specs.declared.cell.Lc.{Lc}
+use Rattle.net_extract.specs.declared.ram.RamCell.{RamCell}
+use Rattle.net_extract.specs.declared.pin.Pin.{Pin}
+use Rattle.net_extract.specs.Fabric.{Fabric, numbered_from}
+use Rattle.net_extract.specs.Joins.{is_joined, class_of}
+use Rattle.net_extract.specs.Drivers.{drives_of, drivers_of, is_driven}
+use Rattle.net_extract.specs.Clocks.{turn_at, end_within, clock_end}
 use Rattle.vlog_emit.specs.Names.{two_numbers, three_numbers, port_name, flip_name, register_name, memory_name, wire_name}
 use Rattle.vlog_emit.specs.Rights.{input_atom, right_of, class_right}
 use Rattle.vlog_emit.specs.Written.{clock_name, flip_items, write_items, read_items, items_of, module_of}

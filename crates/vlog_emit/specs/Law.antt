@@ -7,11 +7,11 @@ use Rattle.chipdb_reader.specs.Fit.{IsFit}
 use Rattle.vlog_module.specs.Names.{IsName}
 use Rattle.vlog_module.specs.WellFormed.{IsModule}
 use Rattle.vlog_cycle.specs.Run.{module_run}
-use Rattle.fabric_rules.specs.Fabric.{fabric_of}
-use Rattle.fabric_rules.specs.Steps.{Event, Entry, IsRun}
-use Rattle.fabric_rules.specs.Unique.{ExactlyOne}
-use Rattle.fabric_rules.specs.Wiring.{wiring_of, IsWriteOrder}
-use Rattle.fabric_rules.specs.Faults.{design_fault}
+use Rattle.net_extract.specs.Fabric.{fabric_of}
+use Rattle.net_extract.specs.Steps.{Event, Entry, IsRun}
+use Rattle.net_extract.specs.Unique.{ExactlyOne}
+use Rattle.net_extract.specs.Wiring.{wiring_of, IsWriteOrder}
+use Rattle.net_extract.specs.Faults.{design_fault}
 use Rattle.vlog_emit.specs.Written.{module_of}
 use Rattle.vlog_emit.specs.Matching.{Matches, module_event}
 

@@ -5,10 +5,10 @@ use Rattle.vlog_module.specs.Maps.{value_in}
 use Rattle.vlog_cycle.specs.Named.{names_of, values_of}
 use Rattle.vlog_cycle.specs.declared.event.Event.{Event as ModuleEvent}
 use Rattle.vlog_cycle.specs.Entries.{Entry as ModuleEntry}
-use Rattle.fabric_rules.specs.Fabric.{Fabric, inputs_of, outputs_of, flips_of}
-use Rattle.fabric_rules.specs.Drivers.{is_driven}
-use Rattle.fabric_rules.specs.Values.{bit_in}
-use Rattle.fabric_rules.specs.Steps.{Event, Entry}
+use Rattle.net_extract.specs.Fabric.{Fabric, inputs_of, outputs_of, flips_of}
+use Rattle.net_extract.specs.Drivers.{is_driven}
+use Rattle.net_extract.specs.Values.{bit_in}
+use Rattle.net_extract.specs.Steps.{Event, Entry}
 use Rattle.vlog_emit.specs.Names.{port_name, flip_name, register_name, memory_name, wire_name}
 
 -- exactly these names, in this order, have these values

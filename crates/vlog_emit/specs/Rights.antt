@@ -5,12 +5,12 @@ use Rattle.vlog_module.specs.declared.atoms.Atom.TheVariants.{Bit, Whole, Part}
 use Rattle.vlog_module.specs.declared.item.Lut.{Lut}
 use Rattle.vlog_module.specs.declared.item.Right.{Right}
 use Rattle.vlog_module.specs.declared.item.Right.TheVariants.{Bit as RightBit, Whole as RightWhole, Part as RightPart, Lut as RightLut, Majority}
-use Rattle.fabric_rules.specs.declared.cell.Lc.{Lc}
-use Rattle.fabric_rules.specs.Joins.{class_of}
-use Rattle.fabric_rules.specs.Fabric.{Fabric, inputs_of, flips_of}
-use Rattle.fabric_rules.specs.Drivers.{Rule, Drive, drivers_of}
-use Rattle.fabric_rules.specs.Drivers.Rule.{pin_bit, sent_back, lut_entry, flip_bit, carry_out, one, register_bit, copied}
-use Rattle.fabric_rules.specs.Values.{is_connected}
+use Rattle.net_extract.specs.declared.cell.Lc.{Lc}
+use Rattle.net_extract.specs.Joins.{class_of}
+use Rattle.net_extract.specs.Fabric.{Fabric, inputs_of, flips_of}
+use Rattle.net_extract.specs.Drivers.{Rule, Drive, drivers_of}
+use Rattle.net_extract.specs.Drivers.Rule.{pin_bit, sent_back, lut_entry, flip_bit, carry_out, one, register_bit, copied}
+use Rattle.net_extract.specs.Values.{is_connected}
 use Rattle.vlog_emit.specs.Names.{port_name, flip_name, register_name, wire_name}
 
 -- ---- atoms

@@ -5,13 +5,13 @@ use Rattle.vlog_module.specs.Parts.{Parts}
 use Rattle.vlog_module.specs.declared.item.Item.{Item}
 use Rattle.vlog_module.specs.declared.item.Item.TheVariants.{Register, Word, Memory, Wire, Assign, Flip, Read, Write, Start}
 use Rattle.vlog_module.specs.declared.modules.Port.{Port}
-use Rattle.fabric_rules.specs.declared.cell.Lc.{Lc}
-use Rattle.fabric_rules.specs.declared.ram.RamCell.{RamCell}
-use Rattle.fabric_rules.specs.declared.pin.Pin.{Pin}
-use Rattle.fabric_rules.specs.Tiles.{each_below}
-use Rattle.fabric_rules.specs.Fabric.{Fabric, numbered, outputs_of, flips_of}
-use Rattle.fabric_rules.specs.Clocks.{ClockEnd, clock_end}
-use Rattle.fabric_rules.specs.Clocks.ClockEnd.{at_pin, still, other}
+use Rattle.net_extract.specs.declared.cell.Lc.{Lc}
+use Rattle.net_extract.specs.declared.ram.RamCell.{RamCell}
+use Rattle.net_extract.specs.declared.pin.Pin.{Pin}
+use Rattle.net_extract.specs.Tiles.{each_below}
+use Rattle.net_extract.specs.Fabric.{Fabric, numbered, outputs_of, flips_of}
+use Rattle.net_extract.specs.Clocks.{ClockEnd, clock_end}
+use Rattle.net_extract.specs.Clocks.ClockEnd.{at_pin, still, other}
 use Rattle.vlog_emit.specs.Names.{port_name, flip_name, register_name, memory_name, wire_name}
 use Rattle.vlog_emit.specs.Rights.{atom_or_0, atom_or_1, port_atoms, cell_lut, input_name, class_right}
 

@@ -5,20 +5,20 @@ use Rattle.std.proofs.lemmas.Bool.{cases_Bool}
 use Rattle.vlog_module.specs.declared.item.Right.TheVariants as right
 use Rattle.vlog_module.specs.declared.item.Item.{Item}
 use Rattle.vlog_module.specs.declared.item.Item.TheVariants.{Start}
-use Rattle.fabric_rules.specs.declared.cell.Lc.{Lc}
-use Rattle.fabric_rules.specs.declared.ram.RamCell.{RamCell}
-use Rattle.fabric_rules.specs.Joins.{class_of}
-use Rattle.fabric_rules.specs.Fabric.{Fabric, numbered, outputs_of, flips_of}
-use Rattle.fabric_rules.specs.Drivers.{drivers_of}
-use Rattle.fabric_rules.specs.Values.{is_connected}
-use Rattle.fabric_rules.specs.Clocks.{ClockEnd, clock_end}
-use Rattle.fabric_rules.proofs.Joins.{class_of-le}
-use Rattle.fabric_rules.proofs.OneValue.{first-driver, first-is, none-driven}
+use Rattle.net_extract.specs.declared.cell.Lc.{Lc}
+use Rattle.net_extract.specs.declared.ram.RamCell.{RamCell}
+use Rattle.net_extract.specs.Joins.{class_of}
+use Rattle.net_extract.specs.Fabric.{Fabric, numbered, outputs_of, flips_of}
+use Rattle.net_extract.specs.Drivers.{drivers_of}
+use Rattle.net_extract.specs.Values.{is_connected}
+use Rattle.net_extract.specs.Clocks.{ClockEnd, clock_end}
+use Rattle.net_extract.proofs.Joins.{class_of-le}
+use Rattle.net_extract.proofs.OneValue.{first-driver, first-is, none-driven}
 use Rattle.net_extract.specs.Links.{class_in}
-use Rattle.fabric_drivers.specs.declared.drive.Drive.{Drive as KeptDrive}
-use Rattle.fabric_drivers.specs.Drives.{drive_of, rule_of}
-use Rattle.fabric_drivers.specs.Kept.{driver_in}
-use Rattle.fabric_clocks.specs.Ends.{end_in}
+use Rattle.fabric_wiring.specs.declared.drive.Drive.{Drive as KeptDrive}
+use Rattle.fabric_wiring.specs.Drives.{drive_of, rule_of}
+use Rattle.fabric_wiring.specs.DriverLists.{driver_in}
+use Rattle.fabric_wiring.specs.Ends.{end_in}
 use Rattle.fabric.specs.Kept.{Kept, word_in, IsKeptOf}
 use Rattle.vlog_emit.specs.Names.{memory_name}
 use Rattle.vlog_emit.specs.Rights.{class_right, right_by, right_of}

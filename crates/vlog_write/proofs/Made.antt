@@ -5,7 +5,7 @@ use Rattle.chipdb_reader.specs.Database.{Database}
 use Rattle.vlog_module.specs.Names.{IsName}
 use Rattle.vlog_module.specs.Parts.{Parts}
 use Rattle.vlog_module.specs.WellFormed.{IsModule}
-use Rattle.fabric_rules.specs.Fabric.{Fabric, fabric_of}
+use Rattle.net_extract.specs.Fabric.{Fabric, fabric_of}
 use Rattle.fabric.specs.Kept.{Kept, IsKeptOf}
 use Rattle.fabric.specs.Design.{IsDesign, IsDesignOf}
 use Rattle.vlog_emit.specs.Written.{port_of, items_of, module_of}

@@ -1,9 +1,9 @@
 -- The names of a written module are names.
 use Rattle.std.proofs.Common.{◌≡◌, ℕ, ◌++◌, List, sym, subst}
 use Rattle.std.specs.Prelude.{codes, decimal}
-use Rattle.fabric_rules.specs.declared.cell.Lc.{Lc}
-use Rattle.fabric_rules.specs.declared.ram.RamCell.{RamCell}
-use Rattle.fabric_rules.specs.declared.pin.Pin.{Pin}
+use Rattle.net_extract.specs.declared.cell.Lc.{Lc}
+use Rattle.net_extract.specs.declared.ram.RamCell.{RamCell}
+use Rattle.net_extract.specs.declared.pin.Pin.{Pin}
 use Rattle.vlog_module.specs.Names.{IsName}
 use Rattle.vlog_emit.specs.Names.{two_numbers, three_numbers, port_name, flip_name, register_name, memory_name, wire_name}
 use Rattle.vlog_emit.proofs.Apart.{IsSmall}

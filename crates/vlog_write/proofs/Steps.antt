@@ -5,8 +5,8 @@ use Rattle.std.proofs.lemmas.List.{map_more, take_more}
 use Rattle.std.proofs.lemmas.Grind.{flat_map-append}
 use Rattle.place_search.specs.Places.{gathered_below}
 use Rattle.place_search.proofs.Places.{gathered_below-more}
-use Rattle.fabric_rules.specs.Tiles.{each_below}
-use Rattle.fabric_rules.specs.Fabric.{numbered_from, numbered}
+use Rattle.net_extract.specs.Tiles.{each_below}
+use Rattle.net_extract.specs.Fabric.{numbered_from, numbered}
 
 -- an item is pushed
 pub map-step : {X Y : Type 0} (f : X → Y) (xs : List X) (i : ℕ) (d : X) (start before after : List Y) (item : Y) → i < length xs

@@ -3,24 +3,24 @@ use Rattle.std.proofs.Common.{◌≡◌, ℕ, zero, suc, ◌<◌, true, List, []
 use Rattle.std.specs.Prelude.{All, Contains, Option, Some, None, filter, option_to_list}
 use Rattle.std.proofs.lemmas.Bool.{cases_Bool}
 use Rattle.std.proofs.lemmas.List.Elements.{All-from_get_or, All-filter, All-head, All-tail}
-use Rattle.fabric_rules.specs.Fabric.{fabric_of}
-use Rattle.fabric_rules.specs.Within.{IsNetIn, IsPinIn, IsCellIn, IsRamIn}
-use Rattle.fabric_rules.specs.Drivers.{drivers_of, drives_of, is_driven, nets_read}
-use Rattle.fabric_rules.specs.Clocks.{clock_end}
-use Rattle.fabric_rules.specs.Clocks.ClockEnd.{at_pin}
-use Rattle.fabric_rules.specs.Wiring.{has}
-use Rattle.fabric_rules.proofs.Facts.{has-some, has-input, has-left, has-right}
-use Rattle.fabric_rules.proofs.Order.{has-first}
-use Rattle.fabric_rules.proofs.OneValue.{first-driver, first-is, none-driven, count-is}
-use Rattle.fabric_rules.proofs.Within.{fabric-within}
-use Rattle.fabric_rules.proofs.Chains.{clock_end-leads}
+use Rattle.net_extract.specs.Fabric.{fabric_of}
+use Rattle.net_extract.specs.Within.{IsNetIn, IsPinIn, IsCellIn, IsRamIn}
+use Rattle.net_extract.specs.Drivers.{drivers_of, drives_of, is_driven, nets_read}
+use Rattle.net_extract.specs.Clocks.{clock_end}
+use Rattle.net_extract.specs.Clocks.ClockEnd.{at_pin}
+use Rattle.net_extract.specs.Wiring.{has}
+use Rattle.net_extract.proofs.Facts.{has-some, has-input, has-left, has-right}
+use Rattle.net_extract.proofs.Order.{has-first}
+use Rattle.net_extract.proofs.OneValue.{first-driver, first-is, none-driven, count-is}
+use Rattle.net_extract.proofs.Within.{fabric-within}
+use Rattle.net_extract.proofs.Chains.{clock_end-leads}
 use Rattle.net_extract.specs.Links.{class_in}
-use Rattle.fabric_drivers.specs.declared.drive.Rule.{Rule as KeptRule}
-use Rattle.fabric_drivers.specs.declared.drive.Rule.TheVariants.{PinBit, SentBack, LutEntry, FlipBit, CarryOut, One, RegisterBit, Copied}
-use Rattle.fabric_drivers.specs.declared.drive.Drive.{Drive as KeptDrive}
-use Rattle.fabric_drivers.specs.Drives.{drive_of, rule_of}
-use Rattle.fabric_drivers.specs.Kept.{driver_in}
-use Rattle.fabric_clocks.specs.Ends.{end_in}
+use Rattle.fabric_wiring.specs.declared.drive.Rule.{Rule as KeptRule}
+use Rattle.fabric_wiring.specs.declared.drive.Rule.TheVariants.{PinBit, SentBack, LutEntry, FlipBit, CarryOut, One, RegisterBit, Copied}
+use Rattle.fabric_wiring.specs.declared.drive.Drive.{Drive as KeptDrive}
+use Rattle.fabric_wiring.specs.Drives.{drive_of, rule_of}
+use Rattle.fabric_wiring.specs.DriverLists.{driver_in}
+use Rattle.fabric_wiring.specs.Ends.{end_in}
 use Rattle.fabric.specs.Kept.{Kept}
 use Rattle.fabric.specs.Design.{IsDesign}
 use Rattle.vlog_emit.proofs.Rights.{IsPlaceIn}

@@ -1,10 +1,10 @@
 -- What is known of the fabrics whose design is kept.
 use Rattle.std.specs.Prelude.{ℕ, ◌<◌, List, All, length, filter, get_or, None}
-use Rattle.fabric_rules.specs.declared.cell.Lc.{Lc}
-use Rattle.fabric_rules.specs.Fabric.{Fabric}
-use Rattle.fabric_rules.specs.Within.{IsNetIn}
-use Rattle.fabric_drivers.specs.declared.drive.Rule.{Rule}
-use Rattle.fabric_drivers.specs.declared.drive.Rule.TheVariants.{PinBit, SentBack, LutEntry, FlipBit, CarryOut, One, RegisterBit, Copied}
+use Rattle.net_extract.specs.declared.cell.Lc.{Lc}
+use Rattle.net_extract.specs.Fabric.{Fabric}
+use Rattle.net_extract.specs.Within.{IsNetIn}
+use Rattle.fabric_wiring.specs.declared.drive.Rule.{Rule}
+use Rattle.fabric_wiring.specs.declared.drive.Rule.TheVariants.{PinBit, SentBack, LutEntry, FlipBit, CarryOut, One, RegisterBit, Copied}
 use Rattle.fabric.specs.Kept.{Kept, IsKeptOf}
 
 -- something holds of each fabric whose design is kept

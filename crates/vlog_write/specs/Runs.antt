@@ -5,9 +5,9 @@ use Rattle.ice_image.specs.Configuration.{Configuration}
 use Rattle.chipdb_reader.specs.Database.{Database}
 use Rattle.vlog_module.specs.Parts.{Parts}
 use Rattle.vlog_cycle.specs.Run.{module_run}
-use Rattle.fabric_rules.specs.Fabric.{fabric_of}
-use Rattle.fabric_rules.specs.Steps.{Event, Entry, IsRun}
-use Rattle.fabric_rules.specs.Unique.{ExactlyOne}
+use Rattle.net_extract.specs.Fabric.{fabric_of}
+use Rattle.net_extract.specs.Steps.{Event, Entry, IsRun}
+use Rattle.net_extract.specs.Unique.{ExactlyOne}
 use Rattle.vlog_emit.specs.Matching.{Matches, module_event}
 
 -- The fabric has exactly one run for each list of events, and the module runs as it does: at the start and after each event the two

@@ -1,14 +1,14 @@
 // Atoms: what is read of nets.
 ghost use Rattle.std.specs.Prelude.{◌≡◌, ◌<◌, ◌∷◌, [], All, get_or, Some, None, if◌then◌else◌, IfOk};
-ghost use Rattle.fabric_rules.specs.Joins.{class_of};
-ghost use Rattle.fabric_rules.specs.Values.{is_connected};
-ghost use Rattle.fabric_rules.specs.Within.{IsNetIn};
+ghost use Rattle.net_extract.specs.Joins.{class_of};
+ghost use Rattle.net_extract.specs.Values.{is_connected};
+ghost use Rattle.net_extract.specs.Within.{IsNetIn};
 ghost use Rattle.vlog_emit.specs.Rights.{input_atom, port_atoms, cell_atom, cell_lut};
 ghost use Rattle.vlog_write.specs.Each.{EachFabric, nets_in};
 
 use crate::names::wire_name;
 use fabric::Design;
-use fabric_rules::Lc;
+use net_extract::Lc;
 use std::alloc::{AllocError, Global};
 use vlog_module::{Atom, Atoms, Lut};
 

@@ -1,6 +1,6 @@
 // Items.
 ghost use Rattle.std.specs.Prelude.{◌≡◌, ◌<◌, ◌++◌, IfOk, OnOk};
-ghost use Rattle.fabric_rules.specs.Within.{IsNetIn, IsPinIn, IsCellIn, IsRamIn};
+ghost use Rattle.net_extract.specs.Within.{IsNetIn, IsPinIn, IsCellIn, IsRamIn};
 ghost use Rattle.fabric.specs.Design.{IsDesign};
 ghost use Rattle.vlog_emit.specs.Written.{clock_name, port_of, flip_register, read_register, ram_memory, class_wire, output_assign, flip_item, flip_items, read_item, read_items, write_item, write_items};
 ghost use Rattle.vlog_write.specs.Each.{EachFabric, nets_in, flips_in};
@@ -9,8 +9,8 @@ use crate::atoms::{cell_lut, input_atom, port_atoms};
 use crate::names::{flip_name, memory_name, port_name, register_name, wire_name};
 use crate::rights::{class_right, input_name};
 use fabric::Design;
-use fabric_clocks::ClockEnd;
-use fabric_rules::{Lc, Pin, RamCell};
+use fabric_wiring::ClockEnd;
+use net_extract::{Lc, Pin, RamCell};
 use std::alloc::{AllocError, Global};
 use vlog_module::{Item, Name, Port};
 

@@ -3,7 +3,7 @@ ghost use Rattle.std.specs.Prelude.{◌≡◌, ◌≤◌, ◌++◌, length, IfOk
 ghost use Rattle.vlog_emit.specs.Names.{two_numbers, three_numbers, port_name, flip_name, register_name, memory_name, wire_name};
 
 use crate::text::Text;
-use fabric_rules::{Lc, Pin, RamCell};
+use net_extract::{Lc, Pin, RamCell};
 use std::alloc::{AllocError, Global};
 use vlog_module::Name;
 

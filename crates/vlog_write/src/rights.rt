@@ -1,7 +1,7 @@
 // The right sides of wires.
 ghost use Rattle.std.specs.Prelude.{◌≡◌, ◌<◌, length, get_or, None, IfOk};
-ghost use Rattle.fabric_rules.specs.Within.{IsNetIn};
-ghost use Rattle.fabric_drivers.specs.Drives.{rule_of};
+ghost use Rattle.net_extract.specs.Within.{IsNetIn};
+ghost use Rattle.fabric_wiring.specs.Drives.{rule_of};
 ghost use Rattle.fabric.specs.Design.{IsDesign};
 ghost use Rattle.vlog_emit.specs.Rights.{atom_or_0, cell_atom, input_name, flip_at, register_at, right_alone, right_of, class_right};
 ghost use Rattle.vlog_write.specs.Each.{EachFabric, IsRuleIn, nets_in, flips_in};
@@ -9,8 +9,8 @@ ghost use Rattle.vlog_write.specs.Each.{EachFabric, IsRuleIn, nets_in, flips_in}
 use crate::atoms::{cell_atom, cell_lut, input_atom};
 use crate::names::{flip_name, port_name, register_name};
 use fabric::Design;
-use fabric_drivers::Rule;
-use fabric_rules::Lc;
+use fabric_wiring::Rule;
+use net_extract::Lc;
 use std::alloc::{AllocError, Global};
 use vlog_module::{Atom, Name, Right};
 

@@ -1,7 +1,7 @@
 // The sections of a module.
 ghost use Rattle.std.specs.Prelude.{◌≡◌, ◌<◌, ◌++◌, All, map, flat_map, length, IfOk, OnOk};
-ghost use Rattle.fabric_rules.specs.Fabric.{numbered};
-ghost use Rattle.fabric_rules.specs.Within.{IsPinIn, IsCellIn, IsRamIn};
+ghost use Rattle.net_extract.specs.Fabric.{numbered};
+ghost use Rattle.net_extract.specs.Within.{IsPinIn, IsCellIn, IsRamIn};
 ghost use Rattle.fabric.specs.Design.{IsDesign};
 ghost use Rattle.vlog_emit.specs.Written.{port_of, flip_register, read_register, ram_memory, class_wire, output_assign, flip_items, read_items, write_items, start_items};
 ghost use Rattle.vlog_write.specs.Each.{EachFabric, nets_in, flips_in};
@@ -12,7 +12,7 @@ use crate::items::{
 };
 use crate::names::memory_name;
 use fabric::Design;
-use fabric_rules::{Lc, Pin, RamCell};
+use net_extract::{Lc, Pin, RamCell};
 use std::alloc::{AllocError, Global};
 use vlog_module::{Item, Port};
 

@@ -3,7 +3,7 @@ ghost use Rattle.std.specs.Prelude.{◌≡◌, ◌++◌, map, flat_map, filter, 
 ghost use Rattle.ice_image.specs.Configuration.{Configuration};
 ghost use Rattle.chipdb_reader.specs.Database.{Database};
 ghost use Rattle.vlog_module.specs.Names.{IsName};
-ghost use Rattle.fabric_rules.specs.Fabric.{fabric_of, outputs_of};
+ghost use Rattle.net_extract.specs.Fabric.{fabric_of, outputs_of};
 ghost use Rattle.fabric.specs.Design.{IsDesignOf};
 ghost use Rattle.vlog_emit.specs.Written.{flip_register, read_register, ram_memory, class_wire, output_assign, flip_items, read_items, write_items, items_of, module_of};
 ghost use Rattle.vlog_write.specs.Each.{EachFabric, flips_in};
@@ -14,7 +14,7 @@ use crate::sections::{
     append_wires, append_words, append_writes, ports_of,
 };
 use fabric::Design;
-use fabric_rules::{Lc, Pin};
+use net_extract::{Lc, Pin};
 use std::alloc::{AllocError, Global};
 use vlog_emit::module_is_fabric;
 use vlog_module::{Item, Module, Name};

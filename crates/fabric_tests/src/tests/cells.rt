@@ -1,7 +1,7 @@
 // Logic cells.
 
 use super::{Case, Cause, Gives, is_so};
-use fabric_rules::{CarrySet, Lc};
+use net_extract::{CarrySet, Lc};
 use sample_images::SampleBit;
 use std::alloc::Global;
 

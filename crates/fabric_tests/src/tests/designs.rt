@@ -1,7 +1,7 @@
 // Orders of classes, loops and clocks.
 
 use super::{Case, Cause, Gives, is_so};
-use fabric_rules::{ClockUser, Driver};
+use net_extract::{ClockUser, Driver};
 use sample_images::{INVERTER, SampleBit};
 use std::alloc::Global;
 

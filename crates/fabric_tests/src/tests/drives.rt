@@ -1,8 +1,8 @@
 // What drives nets, and classes with two drivers.
 
 use super::{Case, Cause, Gives, is_so};
-use fabric_drivers::{Drive, Rule};
-use fabric_rules::{Driver, Lc};
+use fabric_wiring::{Drive, Rule};
+use net_extract::{Driver, Lc};
 use sample_images::SampleBit;
 use std::alloc::Global;
 

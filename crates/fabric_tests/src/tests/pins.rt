@@ -1,7 +1,7 @@
 // Pins and globals.
 
 use super::{Case, Cause, Gives, is_so};
-use fabric_rules::{GlobalFrom, GlobalNet, Pin};
+use net_extract::{GlobalFrom, GlobalNet, Pin};
 use sample_images::SampleBit;
 use std::alloc::Global;
 

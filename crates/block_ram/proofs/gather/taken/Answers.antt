@@ -1,7 +1,7 @@
 use Rattle.std.specs.Prelude.{None, Some}
 use Rattle.ice_image.specs.Either.{configuration_of}
 use Rattle.chipdb_reader.specs.Kept.{database_in}
-use Rattle.fabric_rules.specs.Faults.Fault.{mode, cascade}
+use Rattle.net_extract.specs.Faults.Fault.{mode, cascade}
 use Rattle.block_ram.proofs.Listed.{fault_listed, mode_listed}
 use Rattle.block_ram.proofs.gather.taken.Goals as goal
 

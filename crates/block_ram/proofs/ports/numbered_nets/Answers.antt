@@ -4,8 +4,8 @@ use Rattle.std.proofs.lemmas.List.{take_more_set, length-replicate}
 use Rattle.place_search.specs.Places.{gathered_below}
 use Rattle.place_search.proofs.Places.{gathered_below-more}
 use Rattle.chipdb_reader.specs.Kept.{database_in}
-use Rattle.fabric_rules.specs.Nets.{ending_in}
-use Rattle.fabric_rules.specs.Rams.{port_net}
+use Rattle.net_extract.specs.Nets.{ending_in}
+use Rattle.net_extract.specs.Rams.{port_net}
 use Rattle.block_ram.proofs.ports.numbered_nets.Goals as goal
 
 pub loop-k-init : goal.loop-k-init

@@ -1,4 +1,4 @@
-use Rattle.fabric_rules.specs.Rams.{ram_at}
+use Rattle.net_extract.specs.Rams.{ram_at}
 use Rattle.block_ram.proofs.ram.ram.Goals as goal
 
 pub returns : goal.returns

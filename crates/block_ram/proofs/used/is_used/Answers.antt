@@ -4,10 +4,10 @@ use Rattle.place_search.specs.Places.{any_below}
 use Rattle.place_search.proofs.Places.{any_below-more, any_below-at}
 use Rattle.ice_image.specs.Either.{configuration_of}
 use Rattle.chipdb_reader.specs.Kept.{database_in}
-use Rattle.fabric_rules.specs.Nets.{is_some_read, ending_in}
-use Rattle.fabric_rules.specs.Rams.{ram_net, port_net, is_ram_used}
-use Rattle.tile_lookups.specs.Reads.{is_some_read_in}
-use Rattle.tile_lookups.proofs.Nets.{is_some_read-same}
+use Rattle.net_extract.specs.Nets.{is_some_read, ending_in}
+use Rattle.net_extract.specs.Rams.{ram_net, port_net, is_ram_used}
+use Rattle.net_extract.specs.BelongTogether.{is_some_read_in}
+use Rattle.net_extract.proofs.Nets.{is_some_read-same}
 use Rattle.block_ram.proofs.Listed.{port_net-inside}
 use Rattle.block_ram.proofs.used.is_used.Goals as goal
 

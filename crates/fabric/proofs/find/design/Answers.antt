@@ -4,12 +4,12 @@ use Rattle.plane_map.specs.Layout.{kind_of}
 use Rattle.plane_map.specs.declared.tile.TileKind.TheVariants.{RamB}
 use Rattle.ice_image.specs.Either.{configuration_of, device_of}
 use Rattle.chipdb_reader.specs.Kept.{database_in}
-use Rattle.fabric_rules.specs.declared.ram.RamCell.{RamCell}
-use Rattle.fabric_rules.specs.Fabric.{fabric_of}
-use Rattle.fabric_rules.specs.Faults.{fabric_fault}
-use Rattle.fabric_rules.proofs.Runs.{design-run}
-use Rattle.fabric_rules.proofs.Within.{fabric-within}
-use Rattle.fabric_rules.proofs.Taken.{design-taken, taken-value}
+use Rattle.net_extract.specs.declared.ram.RamCell.{RamCell}
+use Rattle.net_extract.specs.Fabric.{fabric_of}
+use Rattle.net_extract.specs.Faults.{fabric_fault}
+use Rattle.net_extract.proofs.Runs.{design-run}
+use Rattle.net_extract.proofs.Within.{fabric-within}
+use Rattle.net_extract.proofs.Taken.{design-taken, taken-value}
 use Rattle.fabric.specs.Faults.{IsCause}
 use Rattle.fabric.proofs.Refused.{told, fabric-left}
 use Rattle.fabric.proofs.Evidence.{same-cause}

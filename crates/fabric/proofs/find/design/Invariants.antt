@@ -1,6 +1,6 @@
 use Rattle.ice_image.specs.Either.{configuration_of}
 use Rattle.chipdb_reader.specs.Kept.{database_in}
-use Rattle.fabric_rules.specs.Fabric.{fabric_of}
+use Rattle.net_extract.specs.Fabric.{fabric_of}
 use Rattle.fabric.proofs.find.design.Given as goal
 
 abbrev pub ghost-wire : goal.ghost-wire

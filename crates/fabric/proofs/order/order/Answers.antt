@@ -1,5 +1,5 @@
 use Rattle.std.proofs.Common.{◌≡◌, ◌≤◌, length}
-use Rattle.fabric_order.specs.Rows.{wiring_of}
+use Rattle.fabric_wiring.specs.Rows.{wiring_of}
 use Rattle.fabric.proofs.Refused.{on-ok}
 use Rattle.fabric.proofs.Evidence.{nets-few}
 use Rattle.fabric.proofs.order.order.Goals as goal

@@ -1,6 +1,6 @@
 use Rattle.std.proofs.Common.{◌≡◌, ◌<◌, refl, sym, ap, ◌∙◌, subst}
-use Rattle.fabric_rules.specs.Wiring.{wiring_of as wiring_of_fabric}
-use Rattle.fabric_clocks.proofs.Alike.{order-alike, is_on_cycle-alike}
+use Rattle.net_extract.specs.Wiring.{wiring_of as wiring_of_fabric}
+use Rattle.fabric_wiring.proofs.Alike.{order-alike, is_on_cycle-alike}
 use Rattle.fabric.proofs.Evidence.{loop-told, loop-none}
 use Rattle.fabric.proofs.order.order_of.Goals as goal
 

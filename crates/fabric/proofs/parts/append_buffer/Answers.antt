@@ -2,7 +2,7 @@ use Rattle.std.proofs.Common.{◌≡◌, ◌<◌, ◌≤◌, ◌++◌, map, [], 
 use Rattle.std.specs.Prelude.{slice_get, Some, None}
 use Rattle.std.proofs.lemmas.List.{map-append}
 use Rattle.std.proofs.lemmas.Option.{slice_get-get_or, slice_get_past}
-use Rattle.fabric_drivers.specs.Parts.{buffer_of}
+use Rattle.fabric_wiring.specs.Parts.{buffer_of}
 use Rattle.fabric.specs.Buffers.{buffer_if}
 use Rattle.fabric.proofs.parts.append_buffer.Goals as goal
 

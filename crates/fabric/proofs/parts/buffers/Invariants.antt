@@ -1,5 +1,5 @@
 use Rattle.std.proofs.Common.{◌≡◌, map, take}
-use Rattle.fabric_drivers.specs.Parts.{buffer_of}
+use Rattle.fabric_wiring.specs.Parts.{buffer_of}
 use Rattle.fabric.specs.Buffers.{buffers_at}
 use Rattle.fabric.proofs.parts.buffers.Given as goal
 

@@ -1,7 +1,7 @@
 use Rattle.std.proofs.Common.{◌≡◌, refl, sym, ap, ◌∙◌, subst}
 use Rattle.std.specs.Prelude.{None}
-use Rattle.fabric_rules.specs.Tiles.{first_of}
-use Rattle.fabric_rules.specs.Faults.{clock_faults}
+use Rattle.net_extract.specs.Tiles.{first_of}
+use Rattle.net_extract.specs.Faults.{clock_faults}
 use Rattle.fabric.specs.Faults.{IsCause}
 use Rattle.fabric.proofs.Refused.{told}
 use Rattle.fabric.proofs.Evidence.{drivers-told, same-cause, loops-cause, clocks-cause, no-cause}

@@ -1,8 +1,8 @@
 use Rattle.std.proofs.Common.{◌≡◌, ◌+◌, ◌++◌, [], ◌∷◌, ℕ, ◌<◌, arith, ap, ◌∙◌}
 use Rattle.ice_image.specs.Either.{configuration_of, device_of}
 use Rattle.ice_image.specs.Bits.{ram_word_of}
-use Rattle.fabric_rules.specs.Tiles.{each_below}
-use Rattle.tile_lookups.proofs.InOrder.{grown-none, grown-more}
+use Rattle.net_extract.specs.Tiles.{each_below}
+use Rattle.net_extract.proofs.InOrder.{grown-none, grown-more}
 use Rattle.fabric.proofs.words.append_words.Goals as goal
 
 pub loop-word-init : goal.loop-word-init

@@ -1,6 +1,6 @@
 use Rattle.std.proofs.Common.{ap, subst, sym}
 use Rattle.std.specs.Prelude.{map, string_bytes}
-use Rattle.fabric_rules.specs.Unique.{ExactlyOne}
+use Rattle.net_extract.specs.Unique.{ExactlyOne}
 use Rattle.tool_run.proofs.Same.{Does-same}
 use Rattle.tool_words.specs.Commands.{texts_of}
 use Rattle.module_tools.specs.Vlogrun.{vlogrun_outcome}

@@ -4,7 +4,7 @@ use Rattle.place_search.specs.Places.{gathered_below}
 use Rattle.ice_image.specs.Either.{configuration_of}
 use Rattle.chipdb_reader.specs.Kept.{database_in}
 use Rattle.chipdb_reader.specs.declared.items.TileXy8.{TileXy8}
-use Rattle.fabric_rules.specs.Pins.{port_at}
+use Rattle.net_extract.specs.Pins.{port_at}
 use Rattle.io_cell.proofs.gather.ports.Given as goal
 
 abbrev pub invariant-loop-tile : goal.invariant-loop-tile

@@ -1,7 +1,7 @@
 use Rattle.std.specs.Prelude.{None, Some}
 use Rattle.ice_image.specs.Either.{configuration_of}
 use Rattle.chipdb_reader.specs.Kept.{database_in}
-use Rattle.fabric_rules.specs.Faults.Fault.{pll, pin_mode}
+use Rattle.net_extract.specs.Faults.Fault.{pll, pin_mode}
 use Rattle.io_cell.proofs.Listed.{fault_listed, pll_listed}
 use Rattle.io_cell.proofs.gather.taken.Goals as goal
 

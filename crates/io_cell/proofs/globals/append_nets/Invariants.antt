@@ -1,8 +1,8 @@
 use Rattle.std.proofs.Common.{◌≡◌, ◌++◌, map}
 use Rattle.place_search.specs.Places.{gathered_below}
 use Rattle.chipdb_reader.specs.Kept.{database_in}
-use Rattle.fabric_rules.specs.Tiles.{item_if}
-use Rattle.fabric_rules.specs.Pins.{is_global_net}
+use Rattle.net_extract.specs.Tiles.{item_if}
+use Rattle.net_extract.specs.Pins.{is_global_net}
 use Rattle.io_cell.specs.Globals.{global_net}
 use Rattle.io_cell.proofs.globals.append_nets.Given as goal
 

@@ -3,7 +3,7 @@ use Rattle.place_search.specs.Places.{any_below}
 use Rattle.place_search.proofs.Places.{any_below-more, any_below-at}
 use Rattle.ice_image.specs.Either.{configuration_of}
 use Rattle.chipdb_reader.specs.Kept.{database_in}
-use Rattle.fabric_rules.specs.Pins.{global_pad, is_pin_at}
+use Rattle.net_extract.specs.Pins.{global_pad, is_pin_at}
 use Rattle.io_cell.proofs.refused.is_global_pad.Goals as goal
 
 pub loop-g-init : goal.loop-g-init

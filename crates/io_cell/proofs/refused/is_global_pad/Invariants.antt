@@ -2,7 +2,7 @@ use Rattle.std.proofs.Common.{◌≡◌, false}
 use Rattle.place_search.specs.Places.{any_below}
 use Rattle.ice_image.specs.Either.{configuration_of}
 use Rattle.chipdb_reader.specs.Kept.{database_in}
-use Rattle.fabric_rules.specs.Pins.{global_pad, is_pin_at}
+use Rattle.net_extract.specs.Pins.{global_pad, is_pin_at}
 use Rattle.io_cell.proofs.refused.is_global_pad.Given as goal
 
 abbrev pub invariant-loop-g : goal.invariant-loop-g

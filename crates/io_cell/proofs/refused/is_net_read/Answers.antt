@@ -1,8 +1,8 @@
 use Rattle.std.proofs.Common.{◌<◌, ℕ, length, sym, subst}
 use Rattle.std.specs.Prelude.{Option, IfSome, codes}
 use Rattle.chipdb_reader.specs.Kept.{database_in}
-use Rattle.fabric_rules.specs.Nets.{with_number}
-use Rattle.tile_lookups.proofs.Nets.{net_named-inside}
+use Rattle.net_extract.specs.Nets.{with_number}
+use Rattle.net_extract.proofs.Nets.{net_named-inside}
 use Rattle.io_cell.proofs.refused.is_net_read.Goals as goal
 
 pub is_some_read-requires : goal.is_some_read-requires

@@ -3,10 +3,10 @@ use Rattle.std.specs.Prelude.{not, codes, Option, ℕ}
 use Rattle.plane_map.specs.declared.tile.TileKind.TheVariants.{Io}
 use Rattle.ice_image.specs.Either.{configuration_of}
 use Rattle.chipdb_reader.specs.Kept.{database_in}
-use Rattle.fabric_rules.specs.Nets.{is_some_read}
-use Rattle.fabric_rules.specs.On.{is_function_on}
-use Rattle.fabric_rules.specs.Pins.{is_refused_with, has_no_output, has_plain_output, has_plain_input, is_input_pin, is_port, is_global_pad, io_net}
-use Rattle.tile_lookups.proofs.Nets.{is_some_read-same}
+use Rattle.net_extract.specs.Nets.{is_some_read}
+use Rattle.net_extract.specs.On.{is_function_on}
+use Rattle.net_extract.specs.Pins.{is_refused_with, has_no_output, has_plain_output, has_plain_input, is_input_pin, is_port, is_global_pad, io_net}
+use Rattle.net_extract.proofs.Nets.{is_some_read-same}
 use Rattle.io_cell.proofs.Sources.{five_tests, first_passes, first_fails}
 use Rattle.io_cell.proofs.refused.is_refused.Goals as goal
 use Rattle.io_cell.proofs.refused.is_refused.Goals.{then-has_other_output, else-has_other_output, then-has_read_input, else-has_read_input, then-is_net_read, else-is_net_read}

@@ -2,7 +2,7 @@ use Rattle.std.proofs.Common.{◌∙◌, ap₂, List, map, sym}
 use Rattle.std.specs.Prelude.{codes}
 use Rattle.ice_gen.specs.Events.{generated_events}
 use Rattle.ice_gen.specs.declared.event.PinEvent.{PinEvent}
-use Rattle.fabric_rules.specs.declared.pin.Pin.{Pin}
+use Rattle.net_extract.specs.declared.pin.Pin.{Pin}
 use Rattle.vlog_emit.specs.Matching.{module_event}
 use Rattle.job_tools.specs.Counted.{events_for}
 use Rattle.job_tools.proofs.Ran.{inputs-named, ran-is}

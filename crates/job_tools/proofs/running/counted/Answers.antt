@@ -4,8 +4,8 @@ use Rattle.ice_image.specs.Configuration.{Configuration}
 use Rattle.text_lines.specs.Lines.{lines_of}
 use Rattle.chipdb_reader.specs.Kept.{database_in}
 use Rattle.tile_bits.specs.Explained.{explained}
-use Rattle.fabric_rules.specs.Fabric.{fabric_of}
-use Rattle.fabric_rules.specs.Wiring.{wiring_of}
+use Rattle.net_extract.specs.Fabric.{fabric_of}
+use Rattle.net_extract.specs.Wiring.{wiring_of}
 use Rattle.design_tools.proofs.Order.{order-is}
 use Rattle.job_tools.specs.Counted.{counts_of}
 use Rattle.job_tools.specs.Selfrun.{image_for}

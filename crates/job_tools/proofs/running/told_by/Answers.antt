@@ -2,10 +2,10 @@ use Rattle.std.proofs.Common.{◌≡◌, List, subst}
 use Rattle.std.specs.Prelude.{None}
 use Rattle.ice_image.specs.Configuration.{Configuration}
 use Rattle.chipdb_reader.specs.Kept.{database_in}
-use Rattle.fabric_rules.specs.Fabric.{fabric_of}
-use Rattle.fabric_rules.specs.Faults.{design_fault}
-use Rattle.fabric_rules.specs.Steps.{Event, IsRun}
-use Rattle.fabric_rules.specs.Unique.{ExactlyOne}
+use Rattle.net_extract.specs.Fabric.{fabric_of}
+use Rattle.net_extract.specs.Faults.{design_fault}
+use Rattle.net_extract.specs.Steps.{Event, IsRun}
+use Rattle.net_extract.specs.Unique.{ExactlyOne}
 use Rattle.fabric.specs.Design.{IsDesignOf}
 use Rattle.fabric.specs.Faults.{IsCause}
 use Rattle.job_tools.proofs.Answer.{counted-answer, told_stops}

@@ -5,9 +5,9 @@ use Rattle.plane_map.specs.declared.tile.RowCol.{RowCol}
 use Rattle.plane_map.specs.declared.tile.TileKind.TheVariants.{Logic}
 use Rattle.chipdb_lines.specs.Items.{FunctionLine}
 use Rattle.chipdb_reader.specs.Kept.{database_in}
-use Rattle.fabric_rules.specs.Cells.{cell_bits}
-use Rattle.fabric_rules.specs.Nets.{ending_in}
-use Rattle.fabric_rules.specs.On.{function_named}
+use Rattle.net_extract.specs.Cells.{cell_bits}
+use Rattle.net_extract.specs.Nets.{ending_in}
+use Rattle.net_extract.specs.On.{function_named}
 use Rattle.logic_cell.proofs.Found.{bits_of_function-found, bits_of_function-missing}
 use Rattle.logic_cell.proofs.bits.cell_bits.Goals as goal
 

@@ -1,6 +1,6 @@
 use Rattle.std.proofs.Common.{◌≡◌, ◌<◌, ℕ, false, get_or}
 use Rattle.ice_image.specs.Either.{configuration_of}
-use Rattle.fabric_rules.specs.On.{bits_at}
+use Rattle.net_extract.specs.On.{bits_at}
 use Rattle.logic_cell.proofs.bits.is_used.Given as goal
 
 abbrev pub invariant-loop-k : goal.invariant-loop-k

@@ -3,8 +3,8 @@ use Rattle.bit_plane.specs.BitList.{word_of}
 use Rattle.bit_plane.specs.Rows.{row_from}
 use Rattle.ice_image.specs.Either.{configuration_of}
 use Rattle.ice_image.proofs.Made.{row_word-none, row_word-more, row_word-double, row_word-lt}
-use Rattle.fabric_rules.specs.Cells.{cell_bit, entry_bits}
-use Rattle.fabric_rules.specs.On.{bits_at}
+use Rattle.net_extract.specs.Cells.{cell_bit, entry_bits}
+use Rattle.net_extract.specs.On.{bits_at}
 use Rattle.logic_cell.proofs.bits.lut.Goals as goal
 
 pub loop-entry-init : goal.loop-entry-init

@@ -2,8 +2,8 @@ use Rattle.std.proofs.Common.{◌≡◌, drop, get_or}
 use Rattle.bit_plane.specs.BitList.{word_of}
 use Rattle.bit_plane.specs.Rows.{row_from}
 use Rattle.ice_image.specs.Either.{configuration_of}
-use Rattle.fabric_rules.specs.Cells.{cell_bit, entry_bits}
-use Rattle.fabric_rules.specs.On.{bits_at}
+use Rattle.net_extract.specs.Cells.{cell_bit, entry_bits}
+use Rattle.net_extract.specs.On.{bits_at}
 use Rattle.logic_cell.proofs.bits.lut.Given as goal
 
 abbrev pub invariant-loop-entry : goal.invariant-loop-entry

@@ -1,4 +1,4 @@
-use Rattle.fabric_rules.specs.Cells.{cell_with}
+use Rattle.net_extract.specs.Cells.{cell_with}
 use Rattle.logic_cell.proofs.cell.cell.Goals as goal
 
 pub returns : goal.returns

@@ -2,8 +2,8 @@ use Rattle.std.proofs.Common.{◌≡◌, ◌++◌, arith, ap, ◌∙◌}
 use Rattle.place_search.specs.Places.{gathered_below}
 use Rattle.ice_image.specs.Either.{configuration_of}
 use Rattle.chipdb_reader.specs.Kept.{database_in}
-use Rattle.fabric_rules.specs.Cells.{cells_at, used_cell}
-use Rattle.tile_lookups.proofs.InOrder.{grown-none, grown-more}
+use Rattle.net_extract.specs.Cells.{cells_at, used_cell}
+use Rattle.net_extract.proofs.InOrder.{grown-none, grown-more}
 use Rattle.logic_cell.proofs.gather.append_cells.Goals as goal
 
 pub loop-i-init : goal.loop-i-init

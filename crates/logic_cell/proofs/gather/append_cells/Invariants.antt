@@ -2,7 +2,7 @@ use Rattle.std.proofs.Common.{◌≡◌, ◌++◌}
 use Rattle.place_search.specs.Places.{gathered_below}
 use Rattle.ice_image.specs.Either.{configuration_of}
 use Rattle.chipdb_reader.specs.Kept.{database_in}
-use Rattle.fabric_rules.specs.Cells.{used_cell}
+use Rattle.net_extract.specs.Cells.{used_cell}
 use Rattle.logic_cell.proofs.gather.append_cells.Given as goal
 
 abbrev pub invariant-loop-i : goal.invariant-loop-i

@@ -3,8 +3,8 @@ use Rattle.std.specs.Prelude.{codes}
 use Rattle.plane_map.specs.declared.tile.TileKind.TheVariants.{Logic}
 use Rattle.ice_image.specs.Either.{configuration_of}
 use Rattle.chipdb_reader.specs.Kept.{database_in}
-use Rattle.fabric_rules.specs.Nets.{net_named}
-use Rattle.fabric_rules.specs.On.{is_function_on}
+use Rattle.net_extract.specs.Nets.{net_named}
+use Rattle.net_extract.specs.On.{is_function_on}
 use Rattle.logic_cell.proofs.Found.{set-missing, set-there}
 use Rattle.logic_cell.proofs.gather.append_set.Goals as goal
 

@@ -6,13 +6,13 @@ use Rattle.ice_image.specs.Either.{configuration_of}
 use Rattle.chipdb_reader.specs.Database.{Database}
 use Rattle.chipdb_reader.specs.Kept.{database_in}
 use Rattle.chipdb_reader.specs.declared.items.TileXy8.{TileXy8}
-use Rattle.fabric_rules.specs.Cells.{cells_of, cells_at, sets_of, sets_at}
-use Rattle.fabric_rules.specs.declared.cell.Lc.{Lc}
-use Rattle.fabric_rules.specs.declared.cell.CarrySet.{CarrySet}
-use Rattle.fabric_rules.specs.Faults.{Fault, cells_fault, async_faults}
-use Rattle.fabric_rules.specs.Tiles.{first_of}
-use Rattle.tile_lookups.specs.Tiles.{tiles_of}
-use Rattle.tile_lookups.proofs.InOrder.{over_tiles-listed}
+use Rattle.net_extract.specs.Cells.{cells_of, cells_at, sets_of, sets_at}
+use Rattle.net_extract.specs.declared.cell.Lc.{Lc}
+use Rattle.net_extract.specs.declared.cell.CarrySet.{CarrySet}
+use Rattle.net_extract.specs.Faults.{Fault, cells_fault, async_faults}
+use Rattle.net_extract.specs.Tiles.{first_of}
+use Rattle.net_extract.specs.TilesOfKind.{tiles_of}
+use Rattle.net_extract.proofs.InOrder.{over_tiles-listed}
 use Rattle.logic_cell.specs.Faults.{async_faults_in}
 use Rattle.logic_cell.proofs.gather.cells_in.Goals as goal
 

@@ -1,5 +1,5 @@
 use Rattle.std.proofs.Common.{drop}
-use Rattle.fabric_rules.specs.Joins.{class_of}
+use Rattle.net_extract.specs.Joins.{class_of}
 use Rattle.net_extract.specs.Found.{ends_of}
 use Rattle.net_extract.proofs.Trees.{leads-none, leads-more}
 use Rattle.net_extract.proofs.classes.join_all.Goals as goal

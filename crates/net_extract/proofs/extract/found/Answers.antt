@@ -3,7 +3,7 @@ use Rattle.std.specs.List.{list_any}
 use Rattle.ice_image.specs.Either.{configuration_of}
 use Rattle.chipdb_reader.specs.declared.items.LinkLine.{LinkLine}
 use Rattle.chipdb_reader.specs.Kept.{database_in, link_lines}
-use Rattle.fabric_rules.specs.Joins.{class_of}
+use Rattle.net_extract.specs.Joins.{class_of}
 use Rattle.net_extract.specs.Found.{links_on, ends_of, comes_from, touches}
 use Rattle.net_extract.proofs.Ending.{below-at, are-links}
 use Rattle.net_extract.proofs.extract.found.Goals as goal

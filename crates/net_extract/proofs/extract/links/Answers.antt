@@ -1,9 +1,9 @@
 use Rattle.std.proofs.Common.{sym, subst}
 use Rattle.ice_image.specs.Either.{configuration_of}
 use Rattle.chipdb_reader.specs.Kept.{database_in}
-use Rattle.fabric_rules.specs.Fabric.{joins_of}
-use Rattle.fabric_rules.specs.Joins.{IsClassOf}
-use Rattle.fabric_rules.proofs.Joins.{class_of-is}
+use Rattle.net_extract.specs.Fabric.{joins_of}
+use Rattle.net_extract.specs.Joins.{IsClassOf}
+use Rattle.net_extract.proofs.Joins.{class_of-is}
 use Rattle.net_extract.proofs.extract.links.Goals as goal
 
 pub returns-in_ok-found-clause-classes : goal.returns-in_ok-found-clause-classes

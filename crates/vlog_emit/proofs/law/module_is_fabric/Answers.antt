@@ -1,4 +1,4 @@
-use Rattle.fabric_rules.proofs.Runs.{design-run}
+use Rattle.net_extract.proofs.Runs.{design-run}
 use Rattle.vlog_emit.proofs.Design.{design-is-module, design-well_formed}
 use Rattle.vlog_emit.proofs.law.module_is_fabric.Goals as goal
 

@@ -1,6 +1,6 @@
 use Rattle.std.proofs.Common.{sym, ap, ◌∙◌}
 use Rattle.std.specs.Prelude.{Some}
-use Rattle.fabric_rules.specs.Clocks.ClockEnd.{at_pin, still, other}
+use Rattle.net_extract.specs.Clocks.ClockEnd.{at_pin, still, other}
 use Rattle.vlog_write.proofs.Kept.{clock-end}
 use Rattle.vlog_write.proofs.Within.{clock-within}
 use Rattle.vlog_write.proofs.items.end_name.Goals as goal

@@ -1,5 +1,5 @@
 use Rattle.std.proofs.Common.{◌≡◌, ◌++◌, [], get_or}
-use Rattle.fabric_rules.specs.Tiles.{each_below}
+use Rattle.net_extract.specs.Tiles.{each_below}
 use Rattle.vlog_emit.specs.Written.{start_item}
 use Rattle.vlog_write.specs.Each.{EachFabric}
 use Rattle.vlog_write.proofs.sections.append_start_words.Given as goal

@@ -1,5 +1,5 @@
 use Rattle.std.proofs.Common.{◌≡◌, ◌++◌, flat_map, take}
-use Rattle.fabric_rules.specs.Fabric.{numbered}
+use Rattle.net_extract.specs.Fabric.{numbered}
 use Rattle.vlog_emit.specs.Written.{start_items}
 use Rattle.vlog_write.specs.Each.{EachFabric}
 use Rattle.vlog_write.proofs.sections.append_starts.Given as goal

@@ -1,6 +1,6 @@
 use Rattle.std.proofs.Common.{◌<◌, sym, subst, ◌∙◌}
 use Rattle.std.specs.Prelude.{All}
-use Rattle.fabric_rules.specs.Within.{IsPinIn}
+use Rattle.net_extract.specs.Within.{IsPinIn}
 use Rattle.vlog_write.specs.Each.{nets_in}
 use Rattle.vlog_write.proofs.Within.{order-within, outputs-within}
 use Rattle.vlog_write.proofs.whole.append_values.Goals as goal

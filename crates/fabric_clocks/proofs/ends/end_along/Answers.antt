@@ -1,7 +1,0 @@
-use Rattle.std.proofs.Common.{ap}
-use Rattle.fabric_rules.specs.Clocks.{turn_by}
-use Rattle.fabric_drivers.specs.Drives.{rule_of}
-use Rattle.fabric_clocks.proofs.ends.end_along.Goals as goal
-
-pub class_of-requires : goal.class_of-requires
-class_of-requires c = c.requires c.in-Copied.net (ap (λ rule. turn_by (rule_of rule)) c.in-Copied.is)

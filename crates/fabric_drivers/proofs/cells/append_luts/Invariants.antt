@@ -1,9 +1,0 @@
-use Rattle.std.proofs.Common.{◌≡◌, ◌++◌, map, take}
-use Rattle.std.specs.Prelude.{flat_map, filter, not}
-use Rattle.fabric_rules.specs.Drivers.{lut_drives}
-use Rattle.fabric_drivers.specs.Drives.{drive_of}
-use Rattle.fabric_rules.specs.declared.cell.Lc.{Lc}
-use Rattle.fabric_drivers.proofs.cells.append_luts.Given as goal
-
-abbrev pub invariant-loop-lc : goal.invariant-loop-lc
-invariant-loop-lc l = map drive_of l.drives.items ≡ map drive_of l.initial.drives.items ++ flat_map lut_drives (filter (λ (lc : Lc). not lc.flip) (take l.lc-index l.lcs))

@@ -1,4 +1,0 @@
-pub mod Rows
-pub mod Ready
-pub mod Search
-pub mod Levels

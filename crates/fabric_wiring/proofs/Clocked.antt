@@ -1,0 +1,228 @@
+-- The first user whose clock comes from no pin is the first fault of the clocks of a fabric.
+use Rattle.std.proofs.Common.{◌≡◌, ℕ, zero, suc, ◌+◌, ◌<◌, Bool, true, false, inl, inr, List, [], ◌∷◌, ◌++◌, length, map, take, get_or, refl, sym, ◌∙◌, ap}
+use Rattle.std.specs.Prelude.{Option, Some, None, All, filter, flat_map, ◌&&◌, ◌==◌, if◌then◌else◌}
+use Rattle.std.proofs.lemmas.Bool.{cases_Bool}
+use Rattle.std.proofs.lemmas.List.{take_more, map-append, append-nil}
+use Rattle.std.proofs.lemmas.List.Elements.{All-head, All-tail, filter-append}
+use Rattle.std.proofs.lemmas.Grind.{flat_map-append}
+use Rattle.place_search.specs.Places.{gathered_below}
+use Rattle.place_search.proofs.Places.{gathered_below-none, gathered_below-same}
+use Rattle.plane_map.specs.Layout.{grid_width, grid_height}
+use Rattle.plane_map.specs.declared.device.DeviceName.{DeviceName}
+use Rattle.net_extract.specs.declared.cell.Lc.{Lc}
+use Rattle.net_extract.specs.declared.ram.RamCell.{RamCell}
+use Rattle.net_extract.specs.declared.driver.ClockUser.TheVariants.{Cell, Read, Write}
+use Rattle.net_extract.specs.Fabric.{Fabric, flips_of}
+use Rattle.net_extract.specs.Tiles.{over_grid, item_if, first_of}
+use Rattle.net_extract.specs.Within.{IsNetIn}
+use Rattle.net_extract.specs.Clocks.{ClockEnd, User, cell_user, ram_users, users_at, users_of, clock_end}
+use Rattle.net_extract.specs.Clocks.ClockEnd.{at_pin, still, other}
+use Rattle.net_extract.specs.Faults.{Fault, end_fault, user_fault, clock_faults}
+use Rattle.net_extract.specs.Faults.Fault.{clock}
+use Rattle.net_extract.specs.Links.{LinkSet, class_in}
+use Rattle.fabric_wiring.specs.declared.ends.ClockEnd.{ClockEnd as KeptEnd}
+use Rattle.fabric_wiring.specs.declared.users.Unclocked.{Unclocked}
+use Rattle.fabric_wiring.specs.declared.users.ClockInput.{ClockInput}
+use Rattle.fabric_wiring.specs.Ends.{end_in}
+use Rattle.fabric_wiring.specs.Users.{fault_of}
+use Rattle.fabric_wiring.specs.First.{cell_inputs, ram_inputs, is_other, unclocked_with, unclocked_by, unclocked_in, is_at, first_on}
+
+-- ---- the users of some parts, with one part more
+
+pub unclocked-more : {X : Type 0} (links : LinkSet) (ends : List KeptEnd) (inputs : X → List ClockInput) (list : List X) (i : ℕ) (d : X) → i < length list
+    → unclocked_in links ends (flat_map inputs (take i list)) ++ unclocked_in links ends (inputs (get_or list i d)) ≡ unclocked_in links ends (flat_map inputs (take (i + 1) list))
+unclocked-more links ends inputs list i d there = sym (
+    ap (λ l. unclocked_in links ends (flat_map inputs l)) (take_more list i d there)
+    ∙ (ap (unclocked_in links ends) (flat_map-append inputs (take i list) (get_or list i d ∷ []) ∙ ap (λ l. flat_map inputs (take i list) ++ l) (append-nil (inputs (get_or list i d))))
+    ∙ flat_map-append (unclocked_by links ends) (flat_map inputs (take i list)) (inputs (get_or list i d))))
+
+-- where nothing stands at any tile, there is no first
+pub first_on-none : (device : DeviceName) → None ≡ first_on device []
+unfolding first_on over_grid
+first_on-none device =
+    ap first_of (sym (gathered_below-none (grid_height device) (λ y. gathered_below (grid_width device) (λ x. [])) (λ y low. gathered_below-none (grid_width device) (λ x. []) (λ x left. refl))))
+
+-- ---- what tiles give, as faults
+
+fault : Unclocked → Fault
+fault found = clock found.x found.y found.user found.net
+
+fault_of-first : (list : List Unclocked) → fault_of (first_of list) ≡ first_of (map fault list)
+unfolding fault
+fault_of-first [] = refl
+fault_of-first (found ∷ list) = refl
+
+map-gathered : {A B : Type 0} (change : A → B) (n : ℕ) (given : ℕ → List A) → map change (gathered_below n given) ≡ gathered_below n (λ k. map change (given k))
+unfolding gathered_below
+map-gathered change zero given = refl
+map-gathered change (suc n) given =
+    map-append change (gathered_below n given) (given n) ∙ ap (λ before. before ++ map change (given n)) (map-gathered change n given)
+
+flat_map-gathered : {A B : Type 0} (change : A → List B) (n : ℕ) (given : ℕ → List A) → flat_map change (gathered_below n given) ≡ gathered_below n (λ k. flat_map change (given k))
+unfolding gathered_below
+flat_map-gathered change zero given = refl
+flat_map-gathered change (suc n) given =
+    flat_map-append change (gathered_below n given) (given n) ∙ ap (λ before. before ++ flat_map change (given n)) (flat_map-gathered change n given)
+
+-- two ways to gather the same from all tiles
+over_grid-same : {A B C : Type 0} (device : DeviceName) (change : A → C) (gives : B → List C) (one : ℕ → ℕ → List A) (two : ℕ → ℕ → List B)
+    → ((x y : ℕ) → map change (one x y) ≡ flat_map gives (two x y)) → map change (over_grid device one) ≡ flat_map gives (over_grid device two)
+unfolding over_grid
+over_grid-same device change gives one two same =
+    map-gathered change (grid_height device) (λ y. gathered_below (grid_width device) (λ x. one x y))
+    ∙ (gathered_below-same (grid_height device) (λ y. map change (gathered_below (grid_width device) (λ x. one x y))) (λ y. flat_map gives (gathered_below (grid_width device) (λ x. two x y)))
+    (λ y low.
+    map-gathered change (grid_width device) (λ x. one x y)
+    ∙ (gathered_below-same (grid_width device) (λ x. map change (one x y)) (λ x. flat_map gives (two x y)) (λ x left. same x y)
+    ∙ sym (flat_map-gathered gives (grid_width device) (λ x. two x y))))
+    ∙ sym (flat_map-gathered gives (grid_height device) (λ y. gathered_below (grid_width device) (λ x. two x y))))
+
+-- ---- at a tile
+
+-- a user of the fabric
+abbrev user_of : ClockInput → User
+user_of input = record { x = input.x; y = input.y; user = input.user; net = input.net }
+
+-- a user whose clock has that net
+abbrev found_with : ClockInput → ℕ → Unclocked
+found_with input net = record { x = input.x; y = input.y; user = input.user; net = net }
+
+module _ (x y : ℕ) where
+  tile-end : (input : ClockInput) (net : ℕ) (end : ClockEnd) (here : Bool) → ((input.x == x) && (input.y == y)) ≡ here
+      → map fault (filter (is_at x y) (item_if (is_other end) (found_with input net))) ≡ (if here then end_fault (user_of input) net end else [])
+  unfolding fault
+  tile-end input net (at_pin place) true is = refl
+  tile-end input net (at_pin place) false is = refl
+  tile-end input net still true is = refl
+  tile-end input net still false is = refl
+  tile-end input net other true is = rw is refl
+  tile-end input net other false is = rw is refl
+
+  module _ (fabric : Fabric) (links : LinkSet) (ends : List KeptEnd) (same : (net : ℕ) → net < fabric.nets → end_in ends (class_in links net) ≡ clock_end fabric net) where
+    tile-with : (input : ClockInput) (net : Option ℕ) → IsNetIn fabric.nets net → (here : Bool) → ((input.x == x) && (input.y == y)) ≡ here
+        → map fault (filter (is_at x y) (unclocked_with links ends input net)) ≡ (if here then user_fault fabric (user_of input) net else [])
+    tile-with input None in' true is = refl
+    tile-with input None in' false is = refl
+    tile-with input (Some net) in' here is =
+        ap (λ end. map fault (filter (is_at x y) (item_if (is_other end) (found_with input net)))) (same net in')
+        ∙ tile-end input net (clock_end fabric net) here is
+
+    -- faults of some inputs at the tile
+    faults_in : List ClockInput → List Fault
+    faults_in inputs = map fault (filter (is_at x y) (unclocked_in links ends inputs))
+
+    faults-then : (one two : List ClockInput) → faults_in (one ++ two) ≡ faults_in one ++ faults_in two
+    unfolding faults_in
+    faults-then one two =
+        ap (λ l. map fault (filter (is_at x y) l)) (flat_map-append (unclocked_by links ends) one two)
+        ∙ (ap (map fault) (filter-append (is_at x y) (unclocked_in links ends one) (unclocked_in links ends two))
+        ∙ map-append fault (filter (is_at x y) (unclocked_in links ends one)) (filter (is_at x y) (unclocked_in links ends two)))
+
+    faults-first : (input : ClockInput) (rest : List ClockInput) → IsNetIn fabric.nets input.net → (here : Bool) → ((input.x == x) && (input.y == y)) ≡ here
+        → faults_in (input ∷ rest) ≡ (if here then user_fault fabric (user_of input) input.net else []) ++ faults_in rest
+    unfolding faults_in
+    faults-first input rest in' here is =
+        ap (map fault) (filter-append (is_at x y) (unclocked_by links ends input) (unclocked_in links ends rest))
+        ∙ (map-append fault (filter (is_at x y) (unclocked_by links ends input)) (filter (is_at x y) (unclocked_in links ends rest))
+        ∙ ap (λ l. l ++ map fault (filter (is_at x y) (unclocked_in links ends rest))) (tile-with input input.net in' here is))
+
+    abbrev users_fault : User → List Fault
+    users_fault user = user_fault fabric user user.net
+
+    -- the faults of cells
+    cell_faults : List Lc → List Fault
+    cell_faults lcs = flat_map users_fault (map cell_user (filter (λ lc. (lc.x == x) && (lc.y == y)) (filter (λ lc. lc.flip) lcs)))
+
+    -- those of one cell, in front of more
+    cell-none : (lc : Lc) (lcs : List Lc) → lc.flip ≡ false → cell_inputs lc ≡ []
+    cell-none lc lcs off = rw off refl
+
+    cell-one : (lc : Lc) → lc.flip ≡ true → cell_inputs lc ≡ record { x = lc.x; y = lc.y; user = Cell lc.i; net = lc.clk } ∷ []
+    cell-one lc on = rw on refl
+
+    cell-off : (lc : Lc) (lcs : List Lc) → lc.flip ≡ false → cell_faults (lc ∷ lcs) ≡ cell_faults lcs
+    unfolding cell_faults
+    cell-off lc lcs off = rw off refl
+
+    cell-on : (lc : Lc) (lcs : List Lc) → lc.flip ≡ true → (here : Bool) → ((lc.x == x) && (lc.y == y)) ≡ here
+        → cell_faults (lc ∷ lcs) ≡ (if here then users_fault (cell_user lc) else []) ++ cell_faults lcs
+    unfolding cell_faults
+    cell-on lc lcs on true is = rw (on, is) refl
+    cell-on lc lcs on false is = rw (on, is) refl
+
+    cells-tile : (lcs : List Lc) → All (λ lc. IsNetIn fabric.nets lc.clk) lcs → faults_in (flat_map cell_inputs lcs) ≡ cell_faults lcs
+    unfolding faults_in cell_faults
+    cells-tile [] all = refl
+    cells-tile (lc ∷ lcs) all =
+        let in' : IsNetIn fabric.nets lc.clk = All-head (λ (l : Lc). IsNetIn fabric.nets l.clk) lc lcs all in
+        let rest = cells-tile lcs (All-tail (λ (l : Lc). IsNetIn fabric.nets l.clk) lc lcs all) in
+        let behind = flat_map cell_inputs lcs in
+        elim (cases_Bool lc.flip) [
+          | inl on ↦
+              let input : ClockInput = record { x = lc.x; y = lc.y; user = Cell lc.i; net = lc.clk } in
+              ap (λ l. faults_in (l ++ behind)) (cell-one lc on)
+              ∙ (faults-first input behind in' ((lc.x == x) && (lc.y == y)) refl
+              ∙ (ap (λ l. (if (lc.x == x) && (lc.y == y) then users_fault (cell_user lc) else []) ++ l) rest
+              ∙ sym (cell-on lc lcs on ((lc.x == x) && (lc.y == y)) refl)))
+          | inr off ↦ ap (λ l. faults_in (l ++ behind)) (cell-none lc lcs off) ∙ (rest ∙ sym (cell-off lc lcs off))
+        ]
+
+    -- the faults of RAMs
+    ram_faults : List RamCell → List Fault
+    ram_faults rams = flat_map users_fault (flat_map ram_users (filter (λ ram. (ram.x == x) && (ram.y == y)) rams))
+
+    ram-more : (ram : RamCell) (rams : List RamCell) (here : Bool) → ((ram.x == x) && (ram.y == y)) ≡ here
+        → ram_faults (ram ∷ rams)
+        ≡ (if here then user_fault fabric (record { x = ram.x; y = ram.y; user = Read; net = ram.rclk }) ram.rclk else [])
+        ++ ((if here then user_fault fabric (record { x = ram.x; y = ram.y; user = Write; net = ram.wclk }) ram.wclk else []) ++ ram_faults rams)
+    unfolding ram_faults
+    ram-more ram rams true is = rw is refl
+    ram-more ram rams false is = rw is refl
+
+    rams-tile : (rams : List RamCell) → All (λ ram. IsNetIn fabric.nets ram.rclk) rams → All (λ ram. IsNetIn fabric.nets ram.wclk) rams
+        → faults_in (flat_map ram_inputs rams) ≡ ram_faults rams
+    unfolding faults_in ram_faults
+    rams-tile [] reads writes = refl
+    rams-tile (ram ∷ rams) reads writes =
+        let Reads : RamCell → Type 0 = λ (r : RamCell). IsNetIn fabric.nets r.rclk in
+        let Writes : RamCell → Type 0 = λ (r : RamCell). IsNetIn fabric.nets r.wclk in
+        let rest = rams-tile rams (All-tail Reads ram rams reads) (All-tail Writes ram rams writes) in
+        let here = (ram.x == x) && (ram.y == y) in
+        let read : ClockInput = record { x = ram.x; y = ram.y; user = Read; net = ram.rclk } in
+        let write : ClockInput = record { x = ram.x; y = ram.y; user = Write; net = ram.wclk } in
+        let behind = flat_map ram_inputs rams in
+        faults-first read (write ∷ behind) (All-head Reads ram rams reads) here refl
+        ∙ (ap (λ l. (if here then user_fault fabric (user_of read) ram.rclk else []) ++ l)
+        (faults-first write behind (All-head Writes ram rams writes) here refl
+        ∙ ap (λ l. (if here then user_fault fabric (user_of write) ram.wclk else []) ++ l) rest)
+        ∙ sym (ram-more ram rams here refl))
+
+    -- those of all users at the tile
+    users-tile : All (λ lc. IsNetIn fabric.nets lc.clk) fabric.lcs → All (λ ram. IsNetIn fabric.nets ram.rclk) fabric.rams → All (λ ram. IsNetIn fabric.nets ram.wclk) fabric.rams
+        → faults_in (flat_map cell_inputs fabric.lcs ++ flat_map ram_inputs fabric.rams) ≡ flat_map users_fault (users_at fabric x y)
+    unfolding cell_faults ram_faults
+    users-tile clocks reads writes =
+        let cells = map cell_user (filter (λ lc. (lc.x == x) && (lc.y == y)) (flips_of fabric)) in
+        let ports = flat_map ram_users (filter (λ ram. (ram.x == x) && (ram.y == y)) fabric.rams) in
+        faults-then (flat_map cell_inputs fabric.lcs) (flat_map ram_inputs fabric.rams)
+        ∙ (ap (λ l. l ++ faults_in (flat_map ram_inputs fabric.rams)) (cells-tile fabric.lcs clocks)
+        ∙ (ap (λ l. cell_faults fabric.lcs ++ l) (rams-tile fabric.rams reads writes)
+        ∙ sym (flat_map-append users_fault cells ports)))
+
+-- ---- the whole
+
+-- the first of all users is the first fault
+pub first-fault : (device : DeviceName) (fabric : Fabric) (links : LinkSet) (ends : List KeptEnd)
+    → ((net : ℕ) → net < fabric.nets → end_in ends (class_in links net) ≡ clock_end fabric net)
+    → All (λ lc. IsNetIn fabric.nets lc.clk) fabric.lcs → All (λ ram. IsNetIn fabric.nets ram.rclk) fabric.rams → All (λ ram. IsNetIn fabric.nets ram.wclk) fabric.rams
+    → fault_of (first_on device (unclocked_in links ends (flat_map cell_inputs fabric.lcs) ++ unclocked_in links ends (flat_map ram_inputs fabric.rams)))
+    ≡ first_of (clock_faults device fabric)
+unfolding first_on clock_faults users_of faults_in
+first-fault device fabric links ends same clocks reads writes =
+    let inputs = flat_map cell_inputs fabric.lcs ++ flat_map ram_inputs fabric.rams in
+    let found = unclocked_in links ends inputs in
+    ap (λ l. fault_of (first_of (over_grid device (λ x y. filter (is_at x y) l))))
+    (sym (flat_map-append (unclocked_by links ends) (flat_map cell_inputs fabric.lcs) (flat_map ram_inputs fabric.rams)))
+    ∙ (fault_of-first (over_grid device (λ x y. filter (is_at x y) found))
+    ∙ ap first_of (over_grid-same device fault (λ user. user_fault fabric user user.net) (λ x y. filter (is_at x y) found) (users_at fabric)
+    (λ x y. users-tile x y fabric links ends same clocks reads writes)))

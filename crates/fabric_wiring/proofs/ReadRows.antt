@@ -1,0 +1,172 @@
+-- Rows and marks of the classes of a fabric.
+use Rattle.std.proofs.Common.{◌≡◌, ℕ, ◌+◌, ◌<◌, ◌≤◌, true, false, List, [], ◌∷◌, ◌++◌, length, take, map, get_or, refl, sym, ◌∙◌, ap, subst, inl, inr, arith}
+use Rattle.std.proofs.Math.Seq.{get_or-append_seam}
+use Rattle.std.specs.Prelude.{flat_map, option_to_list, Option, Some, None, is_some, IfSome}
+use Rattle.std.specs.declared.vec.Vec.{Vec}
+use Rattle.std.proofs.Math.ListN.{get_or-append}
+use Rattle.std.proofs.lemmas.Bool.{cases_lt, cases_Bool}
+use Rattle.std.proofs.lemmas.List.{take_more, map-append, append-nil, get_or_past}
+use Rattle.std.proofs.lemmas.Grind.{flat_map-append}
+use Rattle.net_extract.specs.declared.cell.Lc.{Lc}
+use Rattle.net_extract.specs.Joins.{class_of}
+use Rattle.net_extract.specs.Fabric.{Fabric}
+use Rattle.net_extract.specs.Drivers.{Drive, drivers_of, is_driven, nets_read}
+use Rattle.net_extract.specs.Drivers.Rule.{sent_back, carry_out}
+use Rattle.net_extract.specs.Wiring.{depends, has}
+use Rattle.net_extract.specs.Wiring.{wiring_of as wiring_of_fabric}
+use Rattle.net_extract.proofs.Joins.{class_of-le}
+use Rattle.net_extract.proofs.Order.{has-none, has-first, has-behind, has-cases}
+use Rattle.net_extract.proofs.OneValue.{IsWithin, depends-driven, driven-below, none-driven, driven-is, count-is}
+use Rattle.fabric_wiring.specs.Rows.{lists_of, row_at, is_marked, wiring_of}
+use Rattle.fabric_wiring.proofs.Rows.{lists-length}
+use Rattle.net_extract.specs.Links.{LinkSet, class_in}
+use Rattle.fabric_wiring.specs.declared.drive.Drive.{Drive as KeptDrive}
+use Rattle.fabric_wiring.specs.declared.parts.Parts.{Parts}
+use Rattle.fabric_wiring.specs.Drives.{drive_of}
+use Rattle.fabric_wiring.specs.Parts.{ArePartsOf}
+use Rattle.fabric_wiring.specs.DriverLists.{DriverSet, driver_in, AreDriversOf}
+use Rattle.fabric_wiring.specs.declared.found_wires.Wires.{Wires}
+use Rattle.fabric_wiring.specs.Reading.{row_in}
+use Rattle.fabric_wiring.specs.Wires.{AreAlike, AreWiresOf}
+use Rattle.fabric_wiring.proofs.Drives.{driven-some, driven-none, first-within, kept-within}
+
+-- what is known of a list's items, with one more
+pub known-more : {A : Type 0} (d : A) (list : List A) (item : A) (given : ℕ → A) → ((k : ℕ) → k < length list → get_or list k d ≡ given k)
+    → item ≡ given (length list) → (k : ℕ) → k < length list + 1 → get_or (list ++ item ∷ []) k d ≡ given k
+known-more d list item given known is k less =
+    elim (cases_lt k (length list)) [
+      | inl before ↦ get_or-append list (item ∷ []) d k before ∙ known k before
+      | inr more ↦
+          let same : length list ≡ k = omega arith in
+          subst (λ n. get_or (list ++ item ∷ []) n d ≡ given n) same (get_or-append_seam list item [] d ∙ is)
+    ]
+
+-- the same for rows
+pub rows-more : {Z : Type 0} (rows : List (Vec ℕ Z)) (row : Vec ℕ Z) (given : ℕ → List ℕ) (n : ℕ) → length rows ≡ n → ((k : ℕ) → k < n → row_at rows k ≡ given k)
+    → row.items ≡ given n → (k : ℕ) → k < n + 1 → row_at (rows ++ row ∷ []) k ≡ given k
+rows-more {Z} rows row given n long known is k less =
+    let lists = lists_of rows in
+    let same : length lists ≡ n = lists-length rows ∙ long in
+    ap (λ l. get_or l k []) (map-append (λ (r : Vec ℕ Z). r.items) rows (row ∷ []))
+    ∙ known-more [] lists row.items given (λ j before. known j (omega (arith, before, same))) (is ∙ ap given (sym same)) k (omega (arith, less, same))
+
+-- the classes of the nets that are there, with one more
+pub reads-more : (change : ℕ → ℕ) (nets : List (Option ℕ)) (i : ℕ) (d : Option ℕ) → i < length nets
+    → map change (flat_map option_to_list (take (i + 1) nets)) ≡ map change (flat_map option_to_list (take i nets)) ++ map change (option_to_list (get_or nets i d))
+reads-more change nets i d there =
+    ap (λ l. map change (flat_map option_to_list l)) (take_more nets i d there)
+    ∙ ap (map change) (flat_map-append option_to_list (take i nets) (get_or nets i d ∷ []))
+    ∙ map-append change (flat_map option_to_list (take i nets)) (option_to_list (get_or nets i d) ++ [])
+    ∙ ap (λ l. map change (flat_map option_to_list (take i nets)) ++ map change l) (append-nil (option_to_list (get_or nets i d)))
+
+-- the nets that a rule reads, from a list of those that may be missing
+pub read-back : (net : Option ℕ) → option_to_list net ++ [] ≡ nets_read (sent_back net)
+unfolding nets_read
+read-back net = append-nil (option_to_list net)
+
+pub read-carry : (lc : Lc) → option_to_list (get_or lc.ins 1 None) ++ (option_to_list (get_or lc.ins 2 None) ++ (option_to_list lc.cin ++ [])) ≡ nets_read (carry_out lc)
+unfolding nets_read
+read-carry lc = ap (λ l. option_to_list (get_or lc.ins 1 None) ++ (option_to_list (get_or lc.ins 2 None) ++ l)) (append-nil (option_to_list lc.cin))
+
+-- ---- the wiring
+
+map-cong : (one two : ℕ → ℕ) → ((n : ℕ) → one n ≡ two n) → (list : List ℕ) → map one list ≡ map two list
+map-cong one two same [] = refl
+map-cong one two same (n ∷ list) = let first = same n in let rest = map-cong one two same list in cc
+
+-- a number in a changed list comes from one in the list
+has-changed : (change : ℕ → ℕ) (list : List ℕ) (n : ℕ) → has (map change list) n ≡ true → (m : ℕ) × (has list m ≡ true) × (change m ≡ n)
+has-changed change [] n found = absurd (has-none n found)
+has-changed change (first ∷ rest) n found =
+    elim (has-cases (change first) (map change rest) n found) [
+      | inl here ↦ (first, has-first first rest, here)
+      | inr behind ↦ let more = has-changed change rest n behind in (more.0, has-behind first rest more.0 more.1, more.2)
+    ]
+
+module _ (fabric : Fabric) where
+  -- what a class reads, by its drivers
+  reads-drivers : (class : ℕ) (drives : List Drive) → drivers_of fabric class ≡ drives
+      → (wiring_of_fabric fabric).reads class ≡ flat_map (λ drive. map (class_of fabric.joins) (nets_read drive.rule)) drives
+  unfolding wiring_of_fabric
+  reads-drivers class drives is = ap (flat_map (λ drive. map (class_of fabric.joins) (nets_read drive.rule))) is
+
+  reads-none : (class : ℕ) → is_driven fabric class ≡ false → (wiring_of_fabric fabric).reads class ≡ []
+  reads-none class away = reads-drivers class [] (none-driven fabric class away)
+
+  -- by its kept driver
+  row-kept : (links : LinkSet) → ((net : ℕ) → class_in links net ≡ class_of fabric.joins net) → (class : ℕ) (drive : Option KeptDrive)
+      → drivers_of fabric class ≡ map drive_of (option_to_list drive) → row_in links drive ≡ (wiring_of_fabric fabric).reads class
+  row-kept links same class None is = sym (reads-drivers class [] is)
+  row-kept links same class (Some drive) is =
+      map-cong (class_in links) (class_of fabric.joins) same (nets_read (drive_of drive).rule)
+      ∙ sym (append-nil (map (class_of fabric.joins) (nets_read (drive_of drive).rule)))
+      ∙ sym (reads-drivers class (drive_of drive ∷ []) is)
+
+  mark-kept : (class : ℕ) (drive : Option KeptDrive) → drivers_of fabric class ≡ map drive_of (option_to_list drive) → is_some drive ≡ is_driven fabric class
+  mark-kept class None is = sym (driven-none fabric class is)
+  mark-kept class (Some drive) is = sym (driven-some fabric class (drive_of drive) [] is)
+
+  -- a class depends on classes of the fabric
+  depends-by : IsWithin fabric → (class other : ℕ) (drive : Option KeptDrive) → drivers_of fabric class ≡ map drive_of (option_to_list drive)
+      → depends (wiring_of_fabric fabric) class other ≡ true → other < fabric.nets
+  depends-by within class other None is reads = absurd (has-none other (ap (λ l. has l other) (sym (reads-drivers class [] is)) ∙ reads))
+  depends-by within class other (Some drive) is reads =
+      let list = map (class_of fabric.joins) (nets_read (drive_of drive).rule) in
+      let row : has list other ≡ true = ap (λ l. has l other) (sym (reads-drivers class (drive_of drive ∷ []) is ∙ append-nil list)) ∙ reads in
+      let found = has-changed (class_of fabric.joins) (nets_read (drive_of drive).rule) other row in
+      let less = first-within fabric class within (drive_of drive) [] is found.0 found.1 in
+      omega (arith, less, class_of-le fabric.joins found.0, found.2)
+
+  -- the nets that the kept drivers read are those of the links
+  pub reads-links : (within : IsWithin fabric) (parts : Parts) → ArePartsOf fabric parts → (drivers : DriverSet) → AreDriversOf fabric drivers → (class : ℕ) → class < length drivers.places
+      → IfSome (driver_in drivers class) (λ drive. (net : ℕ) → has (nets_read (drive_of drive).rule) net ≡ true → net < length parts.links.classes)
+  reads-links within parts of_parts drivers of_drivers class less =
+      let below : class < fabric.nets = omega (arith, less, of_drivers.classes) in
+      subst (λ n. IfSome (driver_in drivers class) (λ drive. (net : ℕ) → has (nets_read (drive_of drive).rule) net ≡ true → net < n)) (sym of_parts.nets)
+      (kept-within fabric class within (driver_in drivers class) (of_drivers.each class below))
+
+  module _ (within : IsWithin fabric) (parts : Parts) (of_parts : ArePartsOf fabric parts) (drivers : DriverSet) (of_drivers : AreDriversOf fabric drivers)
+      (wires : Wires) (marks : length wires.driven.items ≡ fabric.nets) (rows : length wires.reads.items ≡ fabric.nets)
+      (marked : (class : ℕ) → class < fabric.nets → is_marked wires.driven.items class ≡ is_some (driver_in drivers class))
+      (read : (class : ℕ) → class < fabric.nets → row_at wires.reads.items class ≡ row_in parts.links (driver_in drivers class)) where
+    away-past : (class : ℕ) → fabric.nets ≤ class → is_driven fabric class ≡ false
+    away-past class past =
+        elim (cases_Bool (is_driven fabric class)) [
+          | inl driven ↦ absurd (omega (arith, driven-below fabric within class driven, past))
+          | inr away ↦ away
+        ]
+
+    mark-same : (class : ℕ) → is_marked wires.driven.items class ≡ is_driven fabric class
+    mark-same class = elim (cases_lt class fabric.nets) [
+      | inl less ↦ marked class less ∙ mark-kept class (driver_in drivers class) (of_drivers.each class less)
+      | inr more ↦ get_or_past wires.driven.items class false (omega (arith, more, marks)) ∙ sym (away-past class more)
+    ]
+
+    row-same : (class : ℕ) → row_at wires.reads.items class ≡ (wiring_of_fabric fabric).reads class
+    row-same class = elim (cases_lt class fabric.nets) [
+      | inl less ↦ read class less ∙ row-kept parts.links of_parts.classes class (driver_in drivers class) (of_drivers.each class less)
+      | inr more ↦
+          get_or_past (lists_of wires.reads.items) class [] (omega (arith, more, rows, lists-length wires.reads.items))
+          ∙ sym (reads-none class (away-past class more))
+    ]
+
+    depends-within : (class other : ℕ) → depends (wiring_of_fabric fabric) class other ≡ true → other < fabric.nets
+    depends-within class other reads =
+        let below = driven-below fabric within class (depends-driven fabric class other _ refl reads) in
+        depends-by within class other (driver_in drivers class) (of_drivers.each class below) reads
+
+    alike : AreAlike (wiring_of wires.driven.items wires.reads.items) (wiring_of_fabric fabric)
+    alike = record {
+      count = marks ∙ sym (count-is fabric);
+      driven = λ class. mark-same class ∙ sym (driven-is fabric class);
+      reads = λ class other. ap (λ l. has l other) (row-same class);
+    }
+
+    -- marks and rows of the kept drivers are those of the fabric
+    pub wires-kept : AreWiresOf fabric wires
+    wires-kept = record {
+      rows = rows ∙ sym marks;
+      alike = alike;
+      within = λ class other reads. let less = depends-within class other (sym (alike.reads class other) ∙ reads) in omega (arith, less, marks);
+      by_driven = λ class other reads. mark-same class ∙ depends-driven fabric class other _ refl (sym (alike.reads class other) ∙ reads);
+    }

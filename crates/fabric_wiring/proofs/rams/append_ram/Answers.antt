@@ -1,0 +1,11 @@
+use Rattle.std.proofs.Common.{arith}
+use Rattle.net_extract.specs.Drivers.{ram_drive}
+use Rattle.fabric_wiring.proofs.Grown.{numbered-none, numbered-more}
+use Rattle.fabric_wiring.proofs.rams.append_ram.Goals as goal
+
+pub loop-bit-init : goal.loop-bit-init
+loop-bit-init c = numbered-none (ram_drive (c.args.place, c.args.ram.now)) c.args.ram.now.rdata _
+
+pub loop-bit-preserved : goal.loop-bit-preserved
+loop-bit-preserved c =
+    numbered-more (ram_drive (c.args.place, c.args.ram.now)) c.args.ram.now.rdata c.loop-bit.bit _ _ _ _ (omega arith) c.loop-bit.invariant c.in_ok-push_if.ensures

@@ -1,0 +1,23 @@
+-- Where clocks come from, as it is kept.
+use Rattle.std.specs.Prelude.{◌≡◌, ℕ, ◌<◌, List, length, get_or}
+use Rattle.net_extract.specs.Joins.{class_of}
+use Rattle.net_extract.specs.Fabric.{Fabric}
+use Rattle.net_extract.specs.Clocks.{ClockEnd, clock_end}
+use Rattle.net_extract.specs.Clocks.ClockEnd.{at_pin, still, other}
+use Rattle.fabric_wiring.specs.declared.ends.ClockEnd.{ClockEnd as KeptEnd}
+use Rattle.fabric_wiring.specs.declared.ends.ClockEnd.TheVariants.{Pin, Still, Other}
+
+-- what a kept end says
+abbrev pub end_of : KeptEnd → ClockEnd
+end_of (Pin place) = at_pin place
+end_of Still = still
+end_of Other = other
+
+-- the end that is kept for a class
+abbrev pub end_in : List KeptEnd → ℕ → ClockEnd
+end_in ends class = end_of (get_or ends class Still)
+
+-- ends are those of a fabric where the clock of each net comes from the end that is kept for its class
+pub record AreEndsOf (fabric : Fabric) (ends : List KeptEnd) : Type 0 where
+  pub classes : length ends ≡ fabric.nets
+  pub each : (net : ℕ) → net < fabric.nets → end_in ends (class_of fabric.joins net) ≡ clock_end fabric net

@@ -1,0 +1,14 @@
+pub mod Drives
+pub mod Parts
+pub mod DriverLists
+pub mod Faults
+pub mod Passed
+pub mod Ends
+pub mod Users
+pub mod Wires
+pub mod Reading
+pub mod First
+pub mod Rows
+pub mod Ready
+pub mod Search
+pub mod Levels

@@ -1,0 +1,25 @@
+-- When the parts that are kept are those of a fabric.
+use Rattle.std.specs.Prelude.{◌≡◌, ℕ, length, map}
+use Rattle.net_extract.specs.Joins.{class_of}
+use Rattle.net_extract.specs.Fabric.{Fabric, Buffer}
+use Rattle.net_extract.specs.Within.{HasNetsIn}
+use Rattle.net_extract.specs.Links.{class_in}
+use Rattle.fabric_wiring.specs.declared.parts.Buffer.{Buffer as KeptBuffer}
+use Rattle.fabric_wiring.specs.declared.parts.Parts.{Parts}
+
+-- what a kept buffer says
+abbrev pub buffer_of : KeptBuffer → Buffer
+buffer_of buffer = record { line = buffer.line; src = buffer.src; dst = buffer.dst }
+
+-- Parts are those of a fabric where each list is that of the fabric and each net has the class that the routings of the fabric give
+-- it. All nets of such a fabric are below their count.
+pub record ArePartsOf (fabric : Fabric) (parts : Parts) : Type 0 where
+  pub within : HasNetsIn fabric
+  pub nets : length parts.links.classes ≡ fabric.nets
+  pub classes : (net : ℕ) → class_in parts.links net ≡ class_of fabric.joins net
+  pub buffers : map buffer_of parts.buffers.items ≡ fabric.buffers
+  pub pins : parts.pins.items ≡ fabric.pins
+  pub globals : parts.globals.items ≡ fabric.globals
+  pub lcs : parts.lcs.items ≡ fabric.lcs
+  pub sets : parts.sets.items ≡ fabric.sets
+  pub rams : parts.rams.items ≡ fabric.rams

@@ -1,0 +1,20 @@
+-- What the classes of a fabric read, as it is kept.
+use Rattle.std.specs.Prelude.{◌≡◌, ℕ, length}
+use Rattle.net_extract.specs.Fabric.{Fabric}
+use Rattle.net_extract.specs.Wiring.{Wiring, depends}
+use Rattle.net_extract.specs.Wiring.{wiring_of as wiring_of_fabric}
+use Rattle.fabric_wiring.specs.Rows.{wiring_of, ReadsWithin, ReadsByDriven}
+use Rattle.fabric_wiring.specs.declared.found_wires.Wires.{Wires}
+
+-- two wirings that say the same
+pub record AreAlike (one two : Wiring) : Type 0 where
+  pub count : one.count ≡ two.count
+  pub driven : (class : ℕ) → one.driven class ≡ two.driven class
+  pub reads : (class other : ℕ) → depends one class other ≡ depends two class other
+
+-- wires are those of a fabric where they say what its drivers do
+pub record AreWiresOf (fabric : Fabric) (wires : Wires) : Type 0 where
+  pub rows : length wires.reads.items ≡ length wires.driven.items
+  pub alike : AreAlike (wiring_of wires.driven.items wires.reads.items) (wiring_of_fabric fabric)
+  pub within : ReadsWithin (wiring_of wires.driven.items wires.reads.items)
+  pub by_driven : ReadsByDriven (wiring_of wires.driven.items wires.reads.items)

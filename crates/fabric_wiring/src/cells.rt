@@ -1,0 +1,115 @@
+// What logic cells drive.
+ghost use Rattle.std.specs.Prelude.{◌≡◌, ◌∷◌, [], ◌++◌, map, filter, flat_map, not, IfOk, OnOk};
+ghost use Rattle.net_extract.specs.Fabric.{numbered};
+ghost use Rattle.net_extract.specs.Drivers.{lut_drives, flip_drives, lout_drives, carry_drives, set_drives};
+ghost use Rattle.fabric_wiring.specs.Drives.{drive_of};
+
+use crate::drive::{Drive, Rule};
+use crate::push::{place_of, push_if};
+use net_extract::{CarrySet, Driver, Lc};
+use std::alloc::{AllocError, Global};
+
+/// The cells with flip-flop among cells.
+pub(crate) fn flips(alloc: Global, lcs: &[Lc]) -> Result<Vec<Lc>, AllocError>
+    ensures { IfOk result (λ flips. flips.items ≡ filter (λ lc. lc.flip) lcs.now) }
+{
+    let mut flips = Vec::new(alloc);
+    for lc in lcs {
+        if lc.flip {
+            flips.push(*lc)?;
+        }
+    }
+    Ok(flips)
+}
+
+/// Appends what a cell drives on `lutff_i/out` where it has no flip-flop.
+fn append_lut(drives: &mut Vec<Drive>, lc: Lc) -> Result<(), AllocError>
+    ensures { OnOk result (map drive_of drives.new.items ≡ map drive_of drives.old.items ++ flat_map lut_drives (filter (λ lc. not lc.flip) (lc ∷ []))) }
+{
+    if lc.flip {
+        return Ok(());
+    }
+    let driver = Driver::Lut {
+        x: lc.x,
+        y: lc.y,
+        i: lc.i,
+    };
+    push_if(drives, driver, Rule::LutEntry(lc), lc.out)
+}
+
+/// Appends what cells without flip-flop drive on `lutff_i/out`.
+pub(crate) fn append_luts(drives: &mut Vec<Drive>, lcs: &[Lc]) -> Result<(), AllocError>
+    ensures { OnOk result (map drive_of drives.new.items ≡ map drive_of drives.old.items ++ flat_map lut_drives (filter (λ lc. not lc.flip) lcs.now)) }
+{
+    for lc in lcs {
+        append_lut(drives, *lc)?;
+    }
+    Ok(())
+}
+
+/// Appends what cells with flip-flop drive on `lutff_i/out`.
+pub(crate) fn append_flips(drives: &mut Vec<Drive>, flips: &[Lc]) -> Result<(), AllocError>
+    ensures { OnOk result (map drive_of drives.new.items ≡ map drive_of drives.old.items ++ flat_map flip_drives (numbered flips.now)) }
+{
+    for (i, lc) in flips.iter().enumerate() {
+        let place = place_of(i)?;
+        let driver = Driver::Flip {
+            x: lc.x,
+            y: lc.y,
+            i: lc.i,
+        };
+        push_if(drives, driver, Rule::FlipBit(place), lc.out)?;
+    }
+    Ok(())
+}
+
+/// Appends what cells drive on `lutff_i/lout`.
+pub(crate) fn append_louts(drives: &mut Vec<Drive>, lcs: &[Lc]) -> Result<(), AllocError>
+    ensures { OnOk result (map drive_of drives.new.items ≡ map drive_of drives.old.items ++ flat_map lout_drives lcs.now) }
+{
+    for lc in lcs {
+        let driver = Driver::Lout {
+            x: lc.x,
+            y: lc.y,
+            i: lc.i,
+        };
+        push_if(drives, driver, Rule::LutEntry(*lc), lc.lout)?;
+    }
+    Ok(())
+}
+
+/// Appends what a cell drives on `lutff_i/cout` where it carries.
+fn append_carry(drives: &mut Vec<Drive>, lc: Lc) -> Result<(), AllocError>
+    ensures { OnOk result (map drive_of drives.new.items ≡ map drive_of drives.old.items ++ flat_map carry_drives (filter (λ lc. lc.carry) (lc ∷ []))) }
+{
+    if !lc.carry {
+        return Ok(());
+    }
+    let driver = Driver::Carry {
+        x: lc.x,
+        y: lc.y,
+        i: lc.i,
+    };
+    push_if(drives, driver, Rule::CarryOut(lc), lc.cout)
+}
+
+/// Appends what cells drive on `lutff_i/cout` that carry.
+pub(crate) fn append_carries(drives: &mut Vec<Drive>, lcs: &[Lc]) -> Result<(), AllocError>
+    ensures { OnOk result (map drive_of drives.new.items ≡ map drive_of drives.old.items ++ flat_map carry_drives (filter (λ lc. lc.carry) lcs.now)) }
+{
+    for lc in lcs {
+        append_carry(drives, *lc)?;
+    }
+    Ok(())
+}
+
+/// Appends what carry inputs drive that are set.
+pub(crate) fn append_sets(drives: &mut Vec<Drive>, sets: &[CarrySet]) -> Result<(), AllocError>
+    ensures { OnOk result (map drive_of drives.new.items ≡ map drive_of drives.old.items ++ flat_map set_drives sets.now) }
+{
+    for set in sets {
+        let driver = Driver::CarrySet { x: set.x, y: set.y };
+        push_if(drives, driver, Rule::One, Some(set.net))?;
+    }
+    Ok(())
+}

@@ -1,0 +1,42 @@
+// The drivers of a fabric.
+ghost use Rattle.std.specs.Prelude.{◌≡◌, ◌<◌, length};
+ghost use Rattle.fabric_wiring.specs.DriverLists.{driver_in};
+
+use crate::drive::Drive;
+use crate::places::driver_at;
+use std::marker::Model;
+
+/// The drivers of a fabric in which no class of nets has two.
+///
+/// Contracts see the drivers in their order, and for each class the place of its driver. They are those of a fabric where
+/// `AreDriversOf` says so. No call takes memory.
+#[derive(Drop)]
+pub struct Drivers {
+    pub(crate) drives: Vec<Drive>,
+    pub(crate) places: Vec<Option<u32>>,
+}
+
+impl Model for Drivers {
+    ghost use Rattle.fabric_wiring.specs.DriverLists.{DriverSet};
+
+    ghost Value = { DriverSet };
+
+    ghost view = { λ drivers. record { drives = drivers.drives.items; places = drivers.places.items } };
+}
+
+impl Drivers {
+    /// How many classes there are: as many as nets.
+    pub fn len(&self) -> usize
+        ensures { result ≡ length self.now.places }
+    {
+        self.places.len()
+    }
+
+    /// The driver of a class.
+    pub fn of_class(&self, class: u32) -> Option<Drive>
+        requires { class < length self.now.places }
+        ensures { result ≡ driver_in self.now class }
+    {
+        driver_at(&self.drives, self.places[class as usize])
+    }
+}

@@ -1,0 +1,31 @@
+// Finds the drivers of a fabric.
+ghost use Rattle.std.specs.Prelude.{◌≡◌, IfOk, IfErr, OnOk, None};
+ghost use Rattle.net_extract.specs.Fabric.{Fabric};
+ghost use Rattle.net_extract.specs.Tiles.{first_of};
+ghost use Rattle.net_extract.specs.Faults.{driver_faults};
+ghost use Rattle.fabric_wiring.specs.Parts.{ArePartsOf};
+ghost use Rattle.fabric_wiring.specs.DriverLists.{AreDriversOf};
+ghost use Rattle.fabric_wiring.specs.Faults.{IsCause};
+
+use crate::all::all_drives;
+use crate::fault::DriverFault;
+use crate::found_drivers::Drivers;
+use crate::parts::Parts;
+use crate::places::places;
+use std::alloc::Global;
+
+/// Finds the drivers of a fabric from its parts.
+///
+/// # Errors
+/// `TwoDrivers` where a class of nets has two drivers or more.
+pub fn drivers(alloc: Global, parts: &Parts) -> Result<Drivers, DriverFault>
+    ghost fabric: { Fabric }
+    requires parts { ArePartsOf fabric parts.now }
+    ensures drivers { IfOk result (AreDriversOf fabric) }
+    ensures taken { OnOk result (first_of (driver_faults fabric) ≡ None) }
+    ensures refused { IfErr result (IsCause (first_of (driver_faults fabric))) }
+{
+    let drives = all_drives(alloc, parts)?;
+    let places = places(alloc, &parts.links, &drives)?;
+    Ok(Drivers { drives, places })
+}

@@ -1,0 +1,42 @@
+//! The wiring of a fabric: what drives each class of nets, what each class reads, where the clocks come from, and the order in
+//! which the classes can be written.
+//!
+//! [`drivers`] finds the drivers from the parts of a fabric. [`wires`] and [`clock_ends`] go over them, and [`first_unclocked`] over
+//! the cells and RAMs. [`write_order`] finds the order of writing, for classes that are given as marks and rows; where there is none,
+//! [`least_cycle`] finds the least class that lies on a cycle. The calls of [`Drivers`] take no memory.
+#![tactic(auto)]
+
+mod all;
+mod cells;
+mod cycle;
+mod drive;
+mod ends;
+mod fault;
+mod found_drivers;
+mod found_wires;
+mod gather;
+mod levels;
+mod order;
+mod parts;
+mod pins;
+mod places;
+mod push;
+mod rams;
+mod readers;
+mod reading;
+mod ready;
+mod search;
+mod twice;
+mod users;
+
+pub use cycle::least_cycle;
+pub use drive::{Drive, Rule};
+pub use ends::{ClockEnd, clock_ends};
+pub use fault::DriverFault;
+pub use found_drivers::Drivers;
+pub use found_wires::Wires;
+pub use gather::drivers;
+pub use order::write_order;
+pub use parts::{Buffer, Parts};
+pub use reading::wires;
+pub use users::{Unclocked, first_unclocked};

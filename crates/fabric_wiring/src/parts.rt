@@ -1,0 +1,31 @@
+// The parts of a fabric.
+
+use net_extract::{CarrySet, GlobalNet, Lc, Pin, RamCell};
+use net_extract::Links;
+
+/// A buffer that is on: the `.buffer` line of that place in the database, and its two nets.
+#[derive(Clone, Copy, Debug, PartialEq, Eq)]
+pub struct Buffer {
+    pub line: u32,
+    pub src: u32,
+    pub dst: u32,
+}
+
+/// The parts of a fabric. Each list is in the order of tiles (by rows, then by columns), then of indices; globals go by number,
+/// then by net, and buffers by line.
+#[derive(Drop)]
+pub struct Parts {
+    /// The classes of nets.
+    pub links: Links,
+    /// The buffers that are on.
+    pub buffers: Vec<Buffer>,
+    /// The pins that are ports.
+    pub pins: Vec<Pin>,
+    pub globals: Vec<GlobalNet>,
+    /// The used cells.
+    pub lcs: Vec<Lc>,
+    /// The carry inputs that are set.
+    pub sets: Vec<CarrySet>,
+    /// The used RAMs.
+    pub rams: Vec<RamCell>,
+}

@@ -1,0 +1,33 @@
+// One driver more.
+ghost use Rattle.std.specs.Prelude.{◌≡◌, ◌++◌, map, IfOk, OnOk};
+ghost use Rattle.net_extract.specs.Drivers.{drives_if};
+ghost use Rattle.fabric_wiring.specs.Drives.{drive_of, rule_of};
+
+use crate::drive::{Drive, Rule};
+use net_extract::Driver;
+use std::alloc::AllocError;
+
+/// A place as it is kept. For one that needs more than 32 bits there is no room.
+pub(crate) fn place_of(place: usize) -> Result<u32, AllocError>
+    ensures { IfOk result (λ kept. kept ≡ place) }
+{
+    u32::try_from(place).map_err(|_| AllocError)
+}
+
+/// Appends a driver of a net, where there is the net.
+pub(crate) fn push_if(
+    drives: &mut Vec<Drive>,
+    driver: Driver,
+    rule: Rule,
+    net: Option<u32>,
+) -> Result<(), AllocError>
+    ensures { OnOk result (map drive_of drives.new.items ≡ map drive_of drives.old.items ++ drives_if driver (rule_of rule) net) }
+{
+    match net {
+        None => Ok(()),
+        Some(net) => {
+            drives.push(Drive { driver, net, rule })?;
+            Ok(())
+        }
+    }
+}

@@ -1,0 +1,116 @@
+// Which classes have a driver, and which classes each reads.
+ghost use Rattle.std.specs.Prelude.{◌≡◌, ℕ, ◌<◌, ◌≤◌, true, is_some, length, map, flat_map, option_to_list, IfOk, IfSome};
+ghost use Rattle.net_extract.specs.Fabric.{Fabric};
+ghost use Rattle.net_extract.specs.Drivers.{nets_read};
+ghost use Rattle.net_extract.specs.Wiring.{has};
+ghost use Rattle.fabric_wiring.specs.Rows.{is_marked, row_at};
+ghost use Rattle.net_extract.specs.Links.{class_in};
+ghost use Rattle.fabric_wiring.specs.Drives.{rule_of};
+ghost use Rattle.fabric_wiring.specs.Parts.{ArePartsOf};
+ghost use Rattle.fabric_wiring.specs.DriverLists.{AreDriversOf, driver_in};
+ghost use Rattle.fabric_wiring.specs.Reading.{classes_read, row_in};
+ghost use Rattle.fabric_wiring.specs.Wires.{AreWiresOf};
+
+use crate::found_wires::Wires;
+use crate::{Drive, Drivers, Parts, Rule};
+use net_extract::Links;
+use std::alloc::{AllocError, Global};
+
+/// Finds what the classes of a fabric read: a mark and a row for each class, from the least on.
+///
+/// # Errors
+/// `AllocError` where memory is out, or where there are more classes than 32 bits count.
+pub fn wires(alloc: Global, parts: &Parts, drivers: &Drivers) -> Result<Wires, AllocError>
+    ghost fabric: { Fabric }
+    requires parts { ArePartsOf fabric parts.now }
+    requires drivers { AreDriversOf fabric drivers.now }
+    ensures wires { IfOk result (AreWiresOf fabric) }
+    ensures few { IfOk result (λ wires. length wires.driven.items ≤ u32.MAX) }
+{
+    let count = count_of(drivers)?;
+    let driven = marks_of(alloc, drivers, count)?;
+    let reads = rows_of(alloc, &parts.links, drivers, count)?;
+    Ok(Wires { driven, reads })
+}
+
+/// How many classes there are. For more than 32 bits count there is no room.
+fn count_of(drivers: &Drivers) -> Result<u32, AllocError>
+    ensures { IfOk result (λ count. count ≡ length drivers.now.places) }
+{
+    u32::try_from(drivers.len()).map_err(|_| AllocError)
+}
+
+/// Whether each class has a driver.
+fn marks_of(alloc: Global, drivers: &Drivers, count: u32) -> Result<Vec<bool>, AllocError>
+    requires { count ≤ length drivers.now.places }
+    ensures length { IfOk result (λ marks. length marks.items ≡ count) }
+    ensures marks { IfOk result (λ marks. (class : ℕ) → class < count → is_marked marks.items class ≡ is_some (driver_in drivers.now class)) }
+{
+    let mut marks = Vec::new(alloc);
+    for class in 0..count {
+        marks.push(drivers.of_class(class).is_some())?;
+    }
+    Ok(marks)
+}
+
+/// The classes that the driver of each class reads.
+fn rows_of(
+    alloc: Global,
+    links: &Links,
+    drivers: &Drivers,
+    count: u32,
+) -> Result<Vec<Vec<u32>>, AllocError>
+    requires count { count ≤ length drivers.now.places }
+    requires nets { (class : ℕ) → class < count → IfSome (driver_in drivers.now class) (λ drive. (net : ℕ) → has (nets_read (rule_of drive.rule)) net ≡ true → net < length links.now.classes) }
+    ensures length { IfOk result (λ rows. length rows.items ≡ count) }
+    ensures rows { IfOk result (λ rows. (class : ℕ) → class < count → row_at rows.items class ≡ row_in links.now (driver_in drivers.now class)) }
+{
+    let mut rows = Vec::new(alloc);
+    for class in 0..count {
+        let row = row_of(alloc, links, drivers.of_class(class))?;
+        rows.push(row).map_err(AllocError::from)?;
+    }
+    Ok(rows)
+}
+
+/// The classes that a driver reads, and none where there is no driver.
+fn row_of(alloc: Global, links: &Links, drive: Option<Drive>) -> Result<Vec<u32>, AllocError>
+    requires { IfSome drive (λ drive. (net : ℕ) → has (nets_read (rule_of drive.rule)) net ≡ true → net < length links.now.classes) }
+    ensures { IfOk result (λ row. row.items ≡ row_in links.now drive) }
+{
+    match drive {
+        None => Ok(Vec::new(alloc)),
+        Some(drive) => row_by(alloc, links, drive.rule),
+    }
+}
+
+/// The classes that a driver with that rule reads.
+#[tactic(auto, unfolding(net_extract::specs::Drivers::nets_read))]
+fn row_by(alloc: Global, links: &Links, rule: Rule) -> Result<Vec<u32>, AllocError>
+    requires { (net : ℕ) → has (nets_read (rule_of rule)) net ≡ true → net < length links.now.classes }
+    ensures { IfOk result (λ row. row.items ≡ classes_read links.now rule) }
+{
+    match rule {
+        Rule::SentBack(net) => classes_of(alloc, links, &[net]),
+        Rule::LutEntry(lc) => classes_of(alloc, links, &lc.ins),
+        Rule::CarryOut(lc) => classes_of(alloc, links, &[lc.ins[1], lc.ins[2], lc.cin]),
+        Rule::Copied(net) => classes_of(alloc, links, &[Some(net)]),
+        Rule::PinBit(_) | Rule::FlipBit(_) | Rule::One | Rule::RegisterBit { .. } => {
+            Ok(Vec::new(alloc))
+        }
+    }
+}
+
+/// The classes of the nets that are there.
+fn classes_of(alloc: Global, links: &Links, nets: &[Option<u32>]) -> Result<Vec<u32>, AllocError>
+    requires { (net : ℕ) → has (flat_map option_to_list nets.now) net ≡ true → net < length links.now.classes }
+    ensures { IfOk result (λ row. row.items ≡ map (class_in links.now) (flat_map option_to_list nets.now)) }
+{
+    let mut row = Vec::new(alloc);
+    for net in nets {
+        if let Some(net) = net {
+            row.push(links.class_of(*net))?;
+        }
+    }
+    Ok(row)
+}

@@ -1,0 +1,199 @@
+// Users of clocks whose clock comes from no pin.
+ghost use Rattle.std.specs.Prelude.{◌≡◌, ◌<◌, ◌&&◌, ◌||◌, ◌==◌, ◌∷◌, ◌++◌, [], List, All, nat_lt, length, flat_map, option_to_list};
+ghost use Rattle.net_extract.specs.Fabric.{Fabric};
+ghost use Rattle.net_extract.specs.Within.{IsNetIn};
+ghost use Rattle.net_extract.specs.Tiles.{first_of};
+ghost use Rattle.net_extract.specs.Faults.{clock_faults};
+ghost use Rattle.net_extract.specs.Links.{class_in};
+ghost use Rattle.fabric_wiring.specs.Parts.{ArePartsOf};
+ghost use Rattle.fabric_wiring.specs.Ends.{end_in, AreEndsOf};
+ghost use Rattle.fabric_wiring.specs.Users.{fault_of};
+ghost use Rattle.fabric_wiring.specs.First.{cell_inputs, ram_inputs, is_other, unclocked_by, unclocked_in, first_on, is_on_grid, is_before, is_before_any};
+
+use crate::ends::{ClockEnd, end_at};
+use crate::Parts;
+use net_extract::{ClockUser, Lc, RamCell};
+use net_extract::Links;
+use plane_map::DeviceName;
+
+/// A user of a clock at the tile at (x, y), and the net of its clock, which comes from another driver than a pin.
+#[derive(Clone, Copy, Debug, PartialEq, Eq)]
+pub struct Unclocked {
+    pub x: u8,
+    pub y: u8,
+    pub user: ClockUser,
+    pub net: u32,
+}
+
+/// A user of a clock at the tile at (x, y), and the net of its clock, where there is one.
+#[derive(Clone, Copy)]
+struct ClockInput {
+    x: u8,
+    y: u8,
+    user: ClockUser,
+    net: Option<u32>,
+}
+
+/// Finds the first user whose clock comes from another driver than a pin. Users go by tiles, the cells of a tile by index, and at a
+/// RAM the read port goes first. It goes over the cells and the RAMs once, and takes no memory.
+pub fn first_unclocked(device: DeviceName, parts: &Parts, ends: &[ClockEnd]) -> Option<Unclocked>
+    ghost fabric: { Fabric }
+    requires parts { ArePartsOf fabric parts.now }
+    requires ends { AreEndsOf fabric ends.now }
+    ensures { fault_of result ≡ first_of (clock_faults device fabric) }
+{
+    let cell = first_cell(device, &parts.links, ends, &parts.lcs);
+    or_first_port(device, &parts.links, ends, &parts.rams, cell)
+}
+
+/// The first flip-flop whose clock comes from another driver than a pin.
+fn first_cell(device: DeviceName, links: &Links, ends: &[ClockEnd], lcs: &[Lc]) -> Option<Unclocked>
+    requires { All (λ lc. IsNetIn (length links.now.classes) lc.clk) lcs.now }
+    ensures { result ≡ first_on device (unclocked_in links.now ends.now (flat_map cell_inputs lcs.now)) }
+{
+    let mut found = None;
+    for lc in lcs {
+        found = or_cell(device, links, ends, found, lc);
+    }
+    found
+}
+
+/// What was found, or the first port of RAMs whose clock comes from another driver than a pin, where its tile goes before.
+fn or_first_port(
+    device: DeviceName,
+    links: &Links,
+    ends: &[ClockEnd],
+    rams: &[RamCell],
+    first: Option<Unclocked>,
+) -> Option<Unclocked>
+    requires read { All (λ ram. IsNetIn (length links.now.classes) ram.rclk) rams.now }
+    requires write { All (λ ram. IsNetIn (length links.now.classes) ram.wclk) rams.now }
+    ensures { (before : List Unclocked) → first ≡ first_on device before → result ≡ first_on device (before ++ unclocked_in links.now ends.now (flat_map ram_inputs rams.now)) }
+{
+    let mut found = first;
+    for ram in rams {
+        found = or_ports(device, links, ends, found, ram);
+    }
+    found
+}
+
+/// What was found, or the flip-flop of a cell, where it goes before.
+fn or_cell(
+    device: DeviceName,
+    links: &Links,
+    ends: &[ClockEnd],
+    found: Option<Unclocked>,
+    lc: &Lc,
+) -> Option<Unclocked>
+    requires { IsNetIn (length links.now.classes) lc.now.clk }
+    ensures { (before : List Unclocked) → found ≡ first_on device before → result ≡ first_on device (before ++ unclocked_in links.now ends.now (cell_inputs lc.now)) }
+{
+    if lc.flip {
+        let input = ClockInput {
+            x: lc.x,
+            y: lc.y,
+            user: ClockUser::Cell { i: lc.i },
+            net: lc.clk,
+        };
+        or_input(device, links, ends, found, input)
+    } else {
+        found
+    }
+}
+
+/// What was found, or a port of a RAM, where it goes before.
+fn or_ports(
+    device: DeviceName,
+    links: &Links,
+    ends: &[ClockEnd],
+    found: Option<Unclocked>,
+    ram: &RamCell,
+) -> Option<Unclocked>
+    requires read { IsNetIn (length links.now.classes) ram.now.rclk }
+    requires write { IsNetIn (length links.now.classes) ram.now.wclk }
+    ensures { (before : List Unclocked) → found ≡ first_on device before → result ≡ first_on device (before ++ unclocked_in links.now ends.now (ram_inputs ram.now)) }
+{
+    let read = ClockInput {
+        x: ram.x,
+        y: ram.y,
+        user: ClockUser::Read,
+        net: ram.rclk,
+    };
+    let write = ClockInput {
+        x: ram.x,
+        y: ram.y,
+        user: ClockUser::Write,
+        net: ram.wclk,
+    };
+    let found = or_input(device, links, ends, found, read);
+    or_input(device, links, ends, found, write)
+}
+
+/// What was found, or a user whose clock comes from another driver than a pin, where it goes before.
+fn or_input(
+    device: DeviceName,
+    links: &Links,
+    ends: &[ClockEnd],
+    found: Option<Unclocked>,
+    input: ClockInput,
+) -> Option<Unclocked>
+    requires { IsNetIn (length links.now.classes) input.net }
+    ensures { (before : List Unclocked) → found ≡ first_on device before → result ≡ first_on device (before ++ unclocked_by links.now ends.now input) }
+{
+    match without_pin(links, ends, input) {
+        None => found,
+        Some(next) => or_sooner(device, found, next),
+    }
+}
+
+/// A user with its net, where its clock comes from another driver than a pin.
+fn without_pin(links: &Links, ends: &[ClockEnd], input: ClockInput) -> Option<Unclocked>
+    requires { IsNetIn (length links.now.classes) input.net }
+    ensures { option_to_list result ≡ unclocked_by links.now ends.now input }
+{
+    let net = input.net?;
+    if !ends_otherwise(ends, links.class_of(net)) {
+        return None;
+    }
+    Some(Unclocked {
+        x: input.x,
+        y: input.y,
+        user: input.user,
+        net,
+    })
+}
+
+/// Whether the chain from a class ends at another driver than a pin.
+fn ends_otherwise(ends: &[ClockEnd], class: u32) -> bool
+    ensures { result ≡ is_other (end_in ends.now class) }
+{
+    matches!(end_at(ends, class), ClockEnd::Other)
+}
+
+/// The one of two whose tile goes first, which is what was found where both stand at one tile. One off the grid doesn't count.
+fn or_sooner(device: DeviceName, found: Option<Unclocked>, next: Unclocked) -> Option<Unclocked>
+    ensures { (before : List Unclocked) → found ≡ first_on device before → result ≡ first_on device (before ++ next ∷ []) }
+{
+    if on_grid(device, next) && goes_before(next, found) {
+        Some(next)
+    } else {
+        found
+    }
+}
+
+/// Whether the tile is one of the grid.
+fn on_grid(device: DeviceName, user: Unclocked) -> bool
+    ensures { result ≡ is_on_grid device user }
+{
+    (user.x as u32) < device.columns() && (user.y as u32) < device.rows()
+}
+
+/// Whether the tile of one goes before that of another that may be missing.
+fn goes_before(one: Unclocked, other: Option<Unclocked>) -> bool
+    ensures { result ≡ is_before_any one other }
+{
+    match other {
+        None => true,
+        Some(other) => one.y < other.y || (one.y == other.y && one.x < other.x),
+    }
+}

@@ -1,0 +1,277 @@
+-- A wiring without a cycle has a write order.
+use Rattle.std.proofs.Common.{◌≡◌, ℕ, zero, suc, ◌+◌, ◌<◌, ◌≤◌, Bool, true, false, not, ◌&&◌, inl, inr, List, [], ◌∷◌, refl, sym, ap, ◌∙◌, subst, arith}
+use Rattle.std.specs.Prelude.{Option, Some, None}
+use Rattle.std.proofs.lemmas.Bool.{cases_lt, cases_Bool, false_from_ne_true}
+use Rattle.bit_plane.specs.BitList.{bit_value}
+use Rattle.place_search.specs.Places.{least_below}
+use Rattle.place_search.proofs.Found.{least_below-place, least_below-clear}
+use Rattle.net_extract.specs.Wiring.{Wiring, has, leads_below, is_on_cycle, IsReady, IsLeastReady, IsWriteOrder}
+use Rattle.net_extract.proofs.Tests.{and-left, and-right, and-both}
+use Rattle.net_extract.proofs.Cycles.{IsBounded, leads_below-then, leads_below-step}
+use Rattle.net_extract.proofs.Order.{has-first, has-behind, has-cases, Continues, continues-order}
+use Rattle.net_extract.proofs.Order.Continues.{whole, next}
+
+-- ---- how many numbers below a bound pass
+
+unfoldable pub count_below : ℕ → (ℕ → Bool) → ℕ
+count_below zero test = 0
+count_below (suc n) test = count_below n test + bit_value (test n)
+
+bit-le : (a b : Bool) → (b ≡ true → a ≡ true) → bit_value b ≤ bit_value a
+bit-le true true so = omega arith
+bit-le true false so = omega arith
+bit-le false true so = absurd (cc (so refl))
+bit-le false false so = omega arith
+
+pub count_below-le : (n : ℕ) (test other : ℕ → Bool) → ((k : ℕ) → other k ≡ true → test k ≡ true) → count_below n other ≤ count_below n test
+unfolding count_below
+count_below-le zero test other so = omega arith
+count_below-le (suc n) test other so = omega (arith, count_below-le n test other so, bit-le (test n) (other n) (so n))
+
+-- one that passes no more
+pub count_below-lt : (n k : ℕ) (test other : ℕ → Bool) → ((j : ℕ) → other j ≡ true → test j ≡ true) → k < n → test k ≡ true → other k ≡ false
+    → count_below n other < count_below n test
+unfolding count_below
+count_below-lt zero k test other so within passed fails = absurd (omega arith)
+count_below-lt (suc n) k test other so within passed fails =
+    elim (cases_lt k n) [
+      | inl less ↦ omega (arith, count_below-lt n k test other so less passed fails, bit-le (test n) (other n) (so n))
+      | inr more ↦
+          let same : k ≡ n = omega arith in
+          let gone : bit_value (other n) ≡ 0 = ap bit_value (ap other (sym same) ∙ fails) in
+          let was : bit_value (test n) ≡ 1 = ap bit_value (ap test (sym same) ∙ passed) in
+          omega (arith, count_below-le n test other so)
+    ]
+
+-- none of them passes
+pub count_below-none : (n k : ℕ) (test : ℕ → Bool) → count_below n test ≡ 0 → k < n → test k ≡ false
+unfolding count_below
+count_below-none zero k test none within = absurd (omega arith)
+count_below-none (suc n) k test none within =
+    elim (cases_lt k n) [
+      | inl less ↦ count_below-none n k test (omega arith) less
+      | inr more ↦
+          let same : n ≡ k = omega arith in
+          let here : test n ≡ false = false_from_ne_true (test n) (λ passes. let one : bit_value (test n) ≡ 1 = ap bit_value passes in absurd (omega arith)) in
+          ap test (sym same) ∙ here
+    ]
+
+-- ---- what can be written next, as a test
+
+-- whether all numbers of a list pass
+each : List ℕ → (ℕ → Bool) → Bool
+each [] test = true
+each (first ∷ rest) test = test first && each rest test
+
+each-so : (list : List ℕ) (test : ℕ → Bool) (n : ℕ) → each list test ≡ true → has list n ≡ true → test n ≡ true
+unfolding each has
+each-so [] test n all found = absurd cc
+each-so (first ∷ rest) test n all found =
+    elim (has-cases first rest n found) [
+      | inl here ↦ ap test (sym here) ∙ and-left _ _ all
+      | inr behind ↦ each-so rest test n (and-right _ _ all) behind
+    ]
+
+each-from : (list : List ℕ) (test : ℕ → Bool) → ((n : ℕ) → has list n ≡ true → test n ≡ true) → each list test ≡ true
+unfolding each
+each-from [] test all = refl
+each-from (first ∷ rest) test all =
+    and-both _ _ (all first (has-first first rest)) (each-from rest test (λ n found. all n (has-behind first rest n found)))
+
+-- a class with a driver that isn't listed
+pub is_left : Wiring → (ℕ → Bool) → ℕ → Bool
+is_left wiring listed class = wiring.driven class && not (listed class)
+
+pub left-from : (wiring : Wiring) (listed : ℕ → Bool) (class : ℕ) → wiring.driven class ≡ true → listed class ≡ false → is_left wiring listed class ≡ true
+unfolding is_left
+left-from wiring listed class driven fresh = and-both _ _ driven (ap not fresh)
+
+not-true : (b : Bool) → not b ≡ true → b ≡ false
+not-true true e = absurd cc
+not-true false e = refl
+
+left-driven : (wiring : Wiring) (listed : ℕ → Bool) (class : ℕ) → is_left wiring listed class ≡ true → wiring.driven class ≡ true
+unfolding is_left
+left-driven wiring listed class left = and-left _ _ left
+
+left-fresh : (wiring : Wiring) (listed : ℕ → Bool) (class : ℕ) → is_left wiring listed class ≡ true → listed class ≡ false
+unfolding is_left
+left-fresh wiring listed class left = not-true _ (and-right _ _ left)
+
+-- none of the classes that it reads is left
+is_ready : Wiring → (ℕ → Bool) → ℕ → Bool
+is_ready wiring listed class = is_left wiring listed class && each (wiring.reads class) (λ other. not (is_left wiring listed other))
+
+ready-sound : (wiring : Wiring) (listed : ℕ → Bool) (class : ℕ) → class < wiring.count → is_ready wiring listed class ≡ true → IsReady wiring listed class
+unfolding is_ready
+ready-sound wiring listed class within passes = record {
+  within = within;
+  driven = left-driven wiring listed class (and-left _ _ passes);
+  unlisted = left-fresh wiring listed class (and-left _ _ passes);
+  inputs = λ other reads drives. elim (cases_Bool (listed other)) [
+    | inl done ↦ done
+    | inr fresh ↦
+        let none_left : each (wiring.reads class) (λ k. not (is_left wiring listed k)) ≡ true = and-right (is_left wiring listed class) _ passes in
+        let kept : not (is_left wiring listed other) ≡ true = each-so (wiring.reads class) (λ k. not (is_left wiring listed k)) other none_left reads in
+        absurd (cc (left-from wiring listed other drives fresh, not-true (is_left wiring listed other) kept))
+  ];
+}
+
+ready-whole : (wiring : Wiring) (listed : ℕ → Bool) (class : ℕ) → IsReady wiring listed class → is_ready wiring listed class ≡ true
+unfolding is_ready
+ready-whole wiring listed class ready =
+    and-both _ _ (left-from wiring listed class ready.driven ready.unlisted)
+    (each-from (wiring.reads class) (λ other. not (is_left wiring listed other)) (λ other reads.
+    ap not (false_from_ne_true (is_left wiring listed other) (λ left.
+    absurd (cc (ready.inputs other reads (left-driven wiring listed other left), left-fresh wiring listed other left))))))
+
+-- the least class that can be written, where one can
+least_by : (wiring : Wiring) (listed : ℕ → Bool) (class : ℕ) (found : Option ℕ) → IsReady wiring listed class
+    → least_below wiring.count (is_ready wiring listed) ≡ found → (least : ℕ) × IsLeastReady wiring listed least
+least_by wiring listed class None ready missing =
+    absurd (cc (ready-whole wiring listed class ready, least_below-clear wiring.count class (is_ready wiring listed) missing ready.within))
+least_by wiring listed class (Some least) ready found =
+    let here = least_below-place wiring.count (is_ready wiring listed) least found in (
+      least,
+      record {
+        ready = ready-sound wiring listed least here.within here.passes;
+        least = λ other rival. elim (cases_lt other least) [
+          | inl less ↦ absurd (cc (ready-whole wiring listed other rival, here.before other less))
+          | inr more ↦ more
+        ];
+      },
+    )
+
+-- ---- without a cycle some class can be written while any is left
+
+-- a class below a bound that passes and leads to no other that does
+record IsLast (wiring : Wiring) (n : ℕ) (test : ℕ → Bool) (class : ℕ) : Type 0 where
+  within : class < n
+  passes : test class ≡ true
+  last : (other : ℕ) → other < n → test other ≡ true → leads_below wiring wiring.count class other ≡ false
+
+-- no class below the bound leads to itself
+IsOpen : Wiring → Type 0
+IsOpen wiring = (class : ℕ) → class < wiring.count → is_on_cycle wiring class ≡ false
+
+module _ (wiring : Wiring) (open_ : (class : ℕ) → class < wiring.count → leads_below wiring wiring.count class class ≡ false) (test : ℕ → Bool) where
+  last-next : (n class : ℕ) → n < wiring.count → test n ≡ true → IsLast wiring n test class → (last : ℕ) × IsLast wiring (suc n) test last
+  last-next n class within here old =
+      elim (cases_Bool (leads_below wiring wiring.count class n)) [
+        | inl leads ↦ (
+          n,
+          record {
+            within = omega arith;
+            passes = here;
+            last = λ other below passes. elim (cases_lt other n) [
+              | inl less ↦ false_from_ne_true _ (λ more. absurd (cc (leads_below-then wiring wiring.count class n other within leads more, old.last other less passes)))
+              | inr not_less ↦ let same : n ≡ other = omega arith in subst (λ k. leads_below wiring wiring.count n k ≡ false) same (open_ n within)
+            ];
+          },
+        )
+        | inr apart ↦ (
+          class,
+          record {
+            within = omega (arith, old.within);
+            passes = old.passes;
+            last = λ other below passes. elim (cases_lt other n) [
+              | inl less ↦ old.last other less passes
+              | inr not_less ↦ let same : n ≡ other = omega arith in subst (λ k. leads_below wiring wiring.count class k ≡ false) same apart
+            ];
+          },
+        )
+      ]
+
+  -- none passes, or one is the last
+  data Search (n : ℕ) : Type 0 where
+    none : ((class : ℕ) → class < n → test class ≡ false) → Search n
+    some : (class : ℕ) → IsLast wiring n test class → Search n
+
+  search_more : (n : ℕ) → n < wiring.count → Search n → Search (suc n)
+  search_more n within (none all) =
+      elim (cases_Bool (test n)) [
+        | inl here ↦ some n (record {
+          within = omega arith;
+          passes = here;
+          last = λ other below passes. elim (cases_lt other n) [
+            | inl less ↦ absurd (cc (all other less))
+            | inr not_less ↦ let same : n ≡ other = omega arith in subst (λ k. leads_below wiring wiring.count n k ≡ false) same (open_ n within)
+          ];
+        })
+        | inr away ↦ none (λ class below. elim (cases_lt class n) [
+          | inl less ↦ all class less
+          | inr not_less ↦ let same : n ≡ class = omega arith in ap test (sym same) ∙ away
+        ])
+      ]
+  search_more n within (some class old) =
+      elim (cases_Bool (test n)) [
+        | inl here ↦ let found = last-next n class within here old in some found.0 found.1
+        | inr away ↦ some class (record {
+          within = omega (arith, old.within);
+          passes = old.passes;
+          last = λ other below passes. elim (cases_lt other n) [
+            | inl less ↦ old.last other less passes
+            | inr not_less ↦ let same : n ≡ other = omega arith in absurd (cc (ap test same, away, passes))
+          ];
+        })
+      ]
+
+  search_all : (n : ℕ) → n ≤ wiring.count → Search n
+  search_all zero within = none (λ class below. absurd (omega arith))
+  search_all (suc n) within = search_more n (omega arith) (search_all n (omega arith))
+
+-- what is left once one more is listed
+pub still-left : (wiring : Wiring) (class : ℕ) (before : List ℕ) (other : ℕ) → is_left wiring (has (class ∷ before)) other ≡ true → is_left wiring (has before) other ≡ true
+still-left wiring class before other left =
+    left-from wiring (has before) other (left-driven wiring (has (class ∷ before)) other left)
+    (false_from_ne_true _ (λ listed. absurd (cc (has-behind class before other listed, left-fresh wiring (has (class ∷ before)) other left))))
+
+pub gone-left : (wiring : Wiring) (class : ℕ) (before : List ℕ) → is_left wiring (has (class ∷ before)) class ≡ false
+gone-left wiring class before = false_from_ne_true _ (λ left. absurd (cc (has-first class before, left-fresh wiring (has (class ∷ before)) class left)))
+
+-- ---- the order
+
+module _ (wiring : Wiring) (bounded : IsBounded wiring) (open_ : (class : ℕ) → class < wiring.count → leads_below wiring wiring.count class class ≡ false) where
+  -- a class that leads to no other that is left can be written
+  last-ready : (listed : ℕ → Bool) (class : ℕ) → IsLast wiring wiring.count (is_left wiring listed) class → IsReady wiring listed class
+  last-ready listed class last = record {
+    within = last.within;
+    driven = left-driven wiring listed class last.passes;
+    unlisted = left-fresh wiring listed class last.passes;
+    inputs = λ other reads drives. elim (cases_Bool (listed other)) [
+      | inl done ↦ done
+      | inr fresh ↦
+          let apart = last.last other (bounded.driven other drives) (left-from wiring listed other drives fresh) in
+          absurd (cc (apart, leads_below-step wiring wiring.count class other reads))
+    ];
+  }
+
+  -- all is listed where nothing is left
+  none-left : (before : List ℕ) → ((class : ℕ) → class < wiring.count → is_left wiring (has before) class ≡ false) → Continues wiring before []
+  none-left before clear = whole (λ class within driven. elim (cases_Bool (has before class)) [
+    | inl listed ↦ listed
+    | inr fresh ↦ absurd (cc (left-from wiring (has before) class driven fresh, clear class within))
+  ])
+
+  order-from : (most : ℕ) (before : List ℕ) → count_below wiring.count (is_left wiring (has before)) ≤ most → (order : List ℕ) × Continues wiring before order
+  order-from zero before few =
+      ([], none-left before (λ class within. count_below-none wiring.count class (is_left wiring (has before)) (omega arith) within))
+  order-from (suc most) before few =
+      elim (search_all wiring open_ (is_left wiring (has before)) wiring.count (omega arith)) [
+        | none all ↦ ([], none-left before all)
+        | some class last ↦
+            let least = least_by wiring (has before) class _ (last-ready (has before) class last) refl in
+            let ready = least.1.ready in
+            let fewer = count_below-lt wiring.count least.0 (is_left wiring (has before)) (is_left wiring (has (least.0 ∷ before)))
+            (still-left wiring least.0 before) ready.within (left-from wiring (has before) least.0 ready.driven ready.unlisted) (gone-left wiring least.0 before) in
+            let rest = order-from most (least.0 ∷ before) (omega arith) in
+            (least.0 ∷ rest.0, next least.1 rest.1)
+      ]
+
+-- a wiring without a cycle has a write order
+pub write_order-there : (wiring : Wiring) → IsBounded wiring → ((class : ℕ) → class < wiring.count → is_on_cycle wiring class ≡ false)
+    → (order : List ℕ) × IsWriteOrder wiring order
+unfolding is_on_cycle
+write_order-there wiring bounded open_ =
+    let found = order-from wiring bounded open_ (count_below wiring.count (is_left wiring (has []))) [] (omega arith) in
+    (found.0, continues-order wiring found.0 found.1)

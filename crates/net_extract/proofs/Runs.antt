@@ -1,0 +1,421 @@
+-- A fabric without a fault has exactly one run for each list of events. Whether a clock has an edge depends on the pins alone;
+-- so the next state is known before the values of the nets after the event are.
+use Rattle.std.proofs.Common.{◌≡◌, ℕ, zero, suc, ◌<◌, Bool, true, false, List, [], ◌∷◌, ◌++◌, length, map, get_or, set, replicate, refl, sym, ap, ◌∙◌, subst, arith, inl, inr}
+use Rattle.std.specs.Prelude.{All, Contains, Option, Some, None, filter, flat_map, ◌&&◌, ◌==◌}
+use Rattle.std.specs.List.{AllByRecursion}
+use Rattle.std.proofs.lemmas.Bool.{cases_lt}
+use Rattle.std.proofs.Common.{eq-eqb}
+use Rattle.std.proofs.lemmas.List.Elements.{All-head, All-tail, All-filter, All-contains, All-contains_itself, All-weaker, Contains-append_left, Contains-append_right}
+use Rattle.plane_map.specs.declared.device.DeviceName.{DeviceName}
+use Rattle.plane_map.specs.declared.tile.TileKind.TheVariants.{Logic, RamB}
+use Rattle.plane_map.specs.Layout.{grid_width, grid_height}
+use Rattle.chipdb_reader.specs.Database.{Database}
+use Rattle.chipdb_reader.specs.Fit.{IsFit}
+use Rattle.ice_image.specs.Configuration.{Configuration}
+use Rattle.place_search.specs.Places.{gathered_below}
+use Rattle.net_extract.specs.declared.cell.Lc.{Lc}
+use Rattle.net_extract.specs.declared.ram.RamCell.{RamCell}
+use Rattle.net_extract.specs.declared.driver.ClockUser.TheVariants.{Read, Write}
+use Rattle.net_extract.specs.Unique.{ExactlyOne}
+use Rattle.net_extract.specs.Tiles.{over_grid}
+use Rattle.net_extract.specs.Cells.{cell_bits, cell_with, used_cell, cells_at, cells_of}
+use Rattle.net_extract.specs.Rams.{is_ram_used, ram_at, rams_of}
+use Rattle.net_extract.specs.Fabric.{Fabric, numbered, inputs_of, flips_of, fabric_of}
+use Rattle.net_extract.specs.Values.{State, bit_in, is_connected, IsConsistent}
+use Rattle.net_extract.specs.Steps.{has_edge, flip_after, words_after, register_after, state_after, Event, Entry, output_values, IsEntry, Follows, start_state, IsFirst, FollowEach, IsRun}
+use Rattle.net_extract.specs.Clocks.{ClockEnd, User, cell_user, ram_users, users_at, users_of, clock_end}
+use Rattle.net_extract.specs.Clocks.ClockEnd.{at_pin, still, other}
+use Rattle.net_extract.specs.Faults.{end_fault, user_fault, clock_faults, fabric_fault, design_fault}
+use Rattle.net_extract.proofs.OneValue.{IsWithin, filter-has}
+use Rattle.net_extract.proofs.Taken.{design-taken, taken-order, taken-value, taken-clocks}
+use Rattle.net_extract.proofs.Chains.{clock_end-leads, HasEndValue, clock-value}
+use Rattle.net_extract.proofs.Tests.{and-both}
+use Rattle.net_extract.proofs.Within.{fabric-within, All-gathered, All-item_if, All-if, All-single, All-over_tiles, All-numbered}
+
+-- ---- lists
+
+pub contains-gathered : {A : Type 0} (n k : ℕ) (given : ℕ → List A) (item : A) → k < n → Contains (given k) item → Contains (gathered_below n given) item
+unfolding gathered_below
+contains-gathered zero k given item within there = absurd (omega arith)
+contains-gathered (suc n) k given item within there =
+    elim (cases_lt k n) [
+      | inl less ↦ Contains-append_left (gathered_below n given) (given n) item (contains-gathered n k given item less there)
+      | inr more ↦
+          let same : k ≡ n = omega arith in
+          Contains-append_right (gathered_below n given) (given n) item (subst (λ place. Contains (given place) item) same there)
+    ]
+
+pub contains-over_grid : {A : Type 0} (device : DeviceName) (given : ℕ → ℕ → List A) (x y : ℕ) (item : A)
+    → x < grid_width device → y < grid_height device → Contains (given x y) item → Contains (over_grid device given) item
+unfolding over_grid
+contains-over_grid device given x y item left low there =
+    contains-gathered (grid_height device) y (λ row. gathered_below (grid_width device) (λ column. given column row)) item low
+    (contains-gathered (grid_width device) x (λ column. given column y) item left there)
+
+contains-map : {A B : Type 0} (change : A → B) (list : List A) (item : A) → Contains list item → Contains (map change list) (change item)
+contains-map change [] item (k, within, here) = absurd (omega (arith, within))
+contains-map change (head ∷ list) item (zero, within, here) = (0, omega arith, ap change here)
+contains-map change (head ∷ list) item (suc k, within, here) =
+    let rest = contains-map change list item (k, omega (arith, within), here) in (suc rest.0, omega (arith, rest.1), rest.2)
+
+contains-flat_map : {A B : Type 0} (given : A → List B) (list : List A) (item : A) (part : B) → Contains list item → Contains (given item) part
+    → Contains (flat_map given list) part
+contains-flat_map given [] item part (k, within, here) there = absurd (omega (arith, within))
+contains-flat_map given (head ∷ list) item part (zero, within, here) there =
+    Contains-append_left (given head) (flat_map given list) part (subst (λ i. Contains (given i) part) (sym here) there)
+contains-flat_map given (head ∷ list) item part (suc k, within, here) there =
+    Contains-append_right (given head) (flat_map given list) part (contains-flat_map given list item part (k, omega (arith, within), here) there)
+
+empty-left : {A : Type 0} (first second : List A) → first ++ second ≡ [] → first ≡ []
+empty-left [] second none = refl
+empty-left (item ∷ first) second none = absurd cc
+
+empty-right : {A : Type 0} (first second : List A) → first ++ second ≡ [] → second ≡ []
+empty-right [] second none = none
+empty-right (item ∷ first) second none = absurd cc
+
+-- no item gives anything
+gives-none : {A B : Type 0} (given : A → List B) (list : List A) (item : A) → flat_map given list ≡ [] → Contains list item → given item ≡ []
+gives-none given [] item none (k, within, here) = absurd (omega (arith, within))
+gives-none given (head ∷ list) item none (zero, within, here) = ap given (sym here) ∙ empty-left (given head) (flat_map given list) none
+gives-none given (head ∷ list) item none (suc k, within, here) =
+    gives-none given list item (empty-right (given head) (flat_map given list) none) (k, omega (arith, within), here)
+
+map-same : {A B : Type 0} (one two : A → B) (list : List A) → All (λ item. one item ≡ two item) list → map one list ≡ map two list
+map-same one two [] same = refl
+map-same one two (item ∷ list) same =
+    let first : one item ≡ two item = All-head (λ i. one i ≡ two i) item list same in
+    let rest : map one list ≡ map two list = map-same one two list (All-tail (λ i. one i ≡ two i) item list same) in
+    cc
+
+-- ---- users stand at places of the grid
+
+pub record IsAt (device : DeviceName) (x y : ℕ) : Type 0 where
+  pub left : x < grid_width device
+  pub low : y < grid_height device
+
+pub record IsPlaced (device : DeviceName) (fabric : Fabric) : Type 0 where
+  pub lcs : All (λ lc. IsAt device lc.x lc.y) fabric.lcs
+  pub rams : All (λ ram. IsAt device ram.x ram.y) fabric.rams
+
+module _ (db : Database) (image : Configuration) where
+  cell-placed : (x y i : ℕ) (bits : List Bool) → IsAt image.layout.device x y
+      → IsAt image.layout.device (cell_with db image x y i bits).x (cell_with db image x y i bits).y
+  unfolding cell_with
+  cell-placed x y i bits at = at
+
+  cells-placed : All (λ lc. IsAt image.layout.device lc.x lc.y) (cells_of db image)
+  unfolding cells_of cells_at
+  cells-placed =
+      All-over_tiles (λ lc. IsAt image.layout.device lc.x lc.y) image.layout.device Logic (cells_at db image)
+      (λ x y left low. All-gathered (λ lc. IsAt image.layout.device lc.x lc.y) 8 (used_cell db image x y)
+      (λ i below. All-item_if (λ lc. IsAt image.layout.device lc.x lc.y) _ (cell_with db image x y i (cell_bits db image x y i))
+      (cell-placed x y i (cell_bits db image x y i) (record { left = left; low = low }))))
+
+  ram-placed : (x y : ℕ) → IsAt image.layout.device x y → IsAt image.layout.device (ram_at db image x y).x (ram_at db image x y).y
+  unfolding ram_at
+  ram-placed x y at = at
+
+  rams-placed : All (λ ram. IsAt image.layout.device ram.x ram.y) (rams_of db image)
+  unfolding rams_of
+  rams-placed =
+      All-over_tiles (λ ram. IsAt image.layout.device ram.x ram.y) image.layout.device RamB _
+      (λ x y left low. All-if (λ ram. IsAt image.layout.device ram.x ram.y) (is_ram_used db image x y) (ram_at db image x y ∷ [])
+      (All-single (λ ram. IsAt image.layout.device ram.x ram.y) (ram_at db image x y) (ram-placed x y (record { left = left; low = low }))))
+
+  -- cells and RAMs of a database and an image stand at places of the grid
+  pub fabric-placed : IsPlaced image.layout.device (fabric_of db image)
+  unfolding fabric_of
+  fabric-placed = record { lcs = cells-placed; rams = rams-placed }
+
+-- ---- clocks that agree
+
+-- two lists of bits agree at a net that may be missing
+abbrev pub AgreeAt : (ℕ → Bool) → (ℕ → Bool) → Option ℕ → Type 0
+AgreeAt one two None = Unit {0}
+AgreeAt one two (Some net) = one net ≡ two net
+
+-- they agree at each clock net
+pub record ClocksAgree (fabric : Fabric) (one two : ℕ → Bool) : Type 0 where
+  pub flips : All (λ lc. AgreeAt one two lc.clk) (flips_of fabric)
+  pub reads : All (λ ram. AgreeAt one two ram.rclk) fabric.rams
+  pub writes : All (λ ram. AgreeAt one two ram.wclk) fabric.rams
+
+module _ (before one two : ℕ → Bool) where
+  edge-same : (inverted : Bool) (clock : Option ℕ) → AgreeAt one two clock → has_edge inverted clock before one ≡ has_edge inverted clock before two
+  edge-same inverted None agree = refl
+  edge-same inverted (Some net) agree = rw agree refl
+
+  module _ (connected : ℕ → Bool) where
+    flip-same : (flips : List Bool) (place : ℕ × Lc) → AgreeAt one two place.1.clk
+        → flip_after connected before one flips place ≡ flip_after connected before two flips place
+    flip-same flips place agree = rw (edge-same place.1.neg place.1.clk agree) refl
+
+    words-same : (state : State) (place : ℕ × RamCell) → AgreeAt one two place.1.wclk
+        → words_after connected before one state place ≡ words_after connected before two state place
+    words-same state place agree = rw (edge-same place.1.wneg place.1.wclk agree) refl
+
+    register-same : (state : State) (place : ℕ × RamCell) → AgreeAt one two place.1.rclk
+        → register_after connected before one state place ≡ register_after connected before two state place
+    register-same state place agree = rw (edge-same place.1.rneg place.1.rclk agree) refl
+
+  -- the next state looks at the bits after the event at clock nets alone
+  pub state-same : (fabric : Fabric) (state : State) → ClocksAgree fabric one two → state_after fabric state before one ≡ state_after fabric state before two
+  unfolding state_after
+  state-same fabric state agree =
+      let connected = is_connected fabric in
+      let flips = map-same (flip_after connected before one state.flips) (flip_after connected before two state.flips) (numbered (flips_of fabric))
+      (All-weaker (λ (place : ℕ × Lc). AgreeAt one two place.1.clk) (λ (place : ℕ × Lc). flip_after connected before one state.flips place ≡ flip_after connected before two state.flips place)
+      (flip-same connected state.flips) (numbered (flips_of fabric)) (All-numbered (λ lc. AgreeAt one two lc.clk) 0 (flips_of fabric) agree.flips)) in
+      let registers = map-same (register_after connected before one state) (register_after connected before two state) (numbered fabric.rams)
+      (All-weaker (λ (place : ℕ × RamCell). AgreeAt one two place.1.rclk) (λ (place : ℕ × RamCell). register_after connected before one state place ≡ register_after connected before two state place)
+      (register-same connected state) (numbered fabric.rams) (All-numbered (λ ram. AgreeAt one two ram.rclk) 0 fabric.rams agree.reads)) in
+      let words = map-same (words_after connected before one state) (words_after connected before two state) (numbered fabric.rams)
+      (All-weaker (λ (place : ℕ × RamCell). AgreeAt one two place.1.wclk) (λ (place : ℕ × RamCell). words_after connected before one state place ≡ words_after connected before two state place)
+      (words-same connected state) (numbered fabric.rams) (All-numbered (λ ram. AgreeAt one two ram.wclk) 0 fabric.rams agree.writes)) in
+      rw (flips, registers, words) refl
+
+-- ---- the bits of clocks
+
+-- the bit of the end of a chain
+abbrev pub end_bit : List Bool → ClockEnd → Bool
+end_bit pins (at_pin place) = get_or pins place false
+end_bit pins still = false
+end_bit pins other = false
+
+-- the bit that the pins give a clock net
+pub clock_bit : Fabric → List Bool → ℕ → Bool
+clock_bit fabric pins net = end_bit pins (clock_end fabric net)
+
+pub clock_bit-is : (fabric : Fabric) (pins : List Bool) (net : ℕ) → clock_bit fabric pins net ≡ end_bit pins (clock_end fabric net)
+unfolding clock_bit
+clock_bit-is fabric pins net = refl
+
+-- an end that a clock of a user may have
+abbrev pub IsClockEnd : ClockEnd → Type 0
+IsClockEnd (at_pin place) = Unit {0}
+IsClockEnd still = Unit {0}
+IsClockEnd other = ⊥
+
+end-value : (pins : List Bool) (end : ClockEnd) (bit : Bool) → IsClockEnd end → HasEndValue pins end bit → bit ≡ end_bit pins end
+end-value pins (at_pin place) bit good has = has
+end-value pins still bit good has = has
+end-value pins other bit good has = absurd good
+
+end-good : (user : User) (net : ℕ) (end : ClockEnd) → end_fault user net end ≡ [] → IsClockEnd end
+end-good user net (at_pin place) none = tt
+end-good user net still none = tt
+end-good user net other none = absurd cc
+
+-- a clock net that may be missing has such an end
+abbrev pub IsClocked : Fabric → Option ℕ → Type 0
+IsClocked fabric None = Unit {0}
+IsClocked fabric (Some net) = IsClockEnd (clock_end fabric net)
+
+user-good : (fabric : Fabric) (user : User) (net : Option ℕ) → user_fault fabric user net ≡ [] → IsClocked fabric net
+user-good fabric user None none = tt
+user-good fabric user (Some net) none = end-good user net (clock_end fabric net) none
+
+module _ (device : DeviceName) (fabric : Fabric) (taken : fabric_fault device fabric ≡ None) (placed : IsPlaced device fabric) where
+  listed-good : (user : User) → Contains (users_of device fabric) user → IsClocked fabric user.net
+  unfolding clock_faults
+  listed-good user there =
+      user-good fabric user user.net (gives-none (λ u. user_fault fabric u u.net) (users_of device fabric) user (taken-clocks device fabric taken) there)
+
+  there-good : (x y : ℕ) (user : User) → IsAt device x y → Contains (users_at fabric x y) user → IsClocked fabric user.net
+  unfolding users_of
+  there-good x y user at there = listed-good user (contains-over_grid device (users_at fabric) x y user at.left at.low there)
+
+  same-place : (x y : ℕ) → ((x == x) && (y == y)) ≡ true
+  same-place x y = and-both (x == x) (y == y) (eq-eqb x x refl) (eq-eqb y y refl)
+
+  pub flip-good : (lc : Lc) → Contains (flips_of fabric) lc → IsClocked fabric lc.clk
+  flip-good lc there =
+      let at : IsAt device lc.x lc.y = All-contains (λ c. IsAt device c.x c.y) (flips_of fabric) lc (All-filter (λ c. c.flip) (λ c. IsAt device c.x c.y) fabric.lcs placed.lcs) there in
+      there-good lc.x lc.y (cell_user lc) at
+      (Contains-append_left (map cell_user (filter (λ c. (c.x == lc.x) && (c.y == lc.y)) (flips_of fabric))) _ (cell_user lc)
+      (contains-map cell_user (filter (λ c. (c.x == lc.x) && (c.y == lc.y)) (flips_of fabric)) lc
+      (filter-has (λ c. (c.x == lc.x) && (c.y == lc.y)) (flips_of fabric) lc there (same-place lc.x lc.y))))
+
+  ram-user-good : (ram : RamCell) (user : User) → Contains fabric.rams ram → Contains (ram_users ram) user → IsClocked fabric user.net
+  ram-user-good ram user there of_ram =
+      let at : IsAt device ram.x ram.y = All-contains (λ r. IsAt device r.x r.y) fabric.rams ram placed.rams there in
+      there-good ram.x ram.y user at
+      (Contains-append_right (map cell_user (filter (λ c. (c.x == ram.x) && (c.y == ram.y)) (flips_of fabric))) _ user
+      (contains-flat_map ram_users (filter (λ r. (r.x == ram.x) && (r.y == ram.y)) fabric.rams) ram user
+      (filter-has (λ r. (r.x == ram.x) && (r.y == ram.y)) fabric.rams ram there (same-place ram.x ram.y)) of_ram))
+
+  pub read-good : (ram : RamCell) → Contains fabric.rams ram → IsClocked fabric ram.rclk
+  read-good ram there = ram-user-good ram (record { x = ram.x; y = ram.y; user = Read; net = ram.rclk }) there (0, omega arith, refl)
+
+  pub write-good : (ram : RamCell) → Contains fabric.rams ram → IsClocked fabric ram.wclk
+  write-good ram there = ram-user-good ram (record { x = ram.x; y = ram.y; user = Write; net = ram.wclk }) there (1, omega arith, refl)
+
+  module _ (within : IsWithin fabric) where
+    module _ (state : State) (pins v : List Bool) (is : IsConsistent fabric state pins v) where
+      -- a clock net has the bit that the pins give it
+      pub clock-bit : (net : ℕ) → IsClockEnd (clock_end fabric net) → bit_in v net ≡ clock_bit fabric pins net
+      unfolding clock_bit
+      clock-bit net good =
+          let order = taken-order device fabric taken within in
+          end-value pins (clock_end fabric net) (bit_in v net) good
+          (clock-value fabric within state pins v is net (clock_end fabric net) (clock_end-leads fabric within order.it order.is net))
+
+      clock-agrees : (clock : Option ℕ) → IsClocked fabric clock → AgreeAt (bit_in v) (clock_bit fabric pins) clock
+      clock-agrees None good = tt
+      clock-agrees (Some net) good = clock-bit net good
+
+      -- so all clocks have
+      pub clocks-agree : ClocksAgree fabric (bit_in v) (clock_bit fabric pins)
+      clocks-agree = record {
+        flips = All-weaker (Contains (flips_of fabric)) (λ lc. AgreeAt (bit_in v) (clock_bit fabric pins) lc.clk)
+            (λ lc there. clock-agrees lc.clk (flip-good lc there)) (flips_of fabric) (All-contains_itself (flips_of fabric));
+        reads = All-weaker (Contains fabric.rams) (λ ram. AgreeAt (bit_in v) (clock_bit fabric pins) ram.rclk)
+            (λ ram there. clock-agrees ram.rclk (read-good ram there)) fabric.rams (All-contains_itself fabric.rams);
+        writes = All-weaker (Contains fabric.rams) (λ ram. AgreeAt (bit_in v) (clock_bit fabric pins) ram.wclk)
+            (λ ram there. clock-agrees ram.wclk (write-good ram there)) fabric.rams (All-contains_itself fabric.rams);
+      }
+
+    -- ---- entries
+
+    entry-same : (one two : Entry) → one.pins ≡ two.pins → one.state ≡ two.state → one.v ≡ two.v → one.outputs ≡ two.outputs → one ≡ two
+    entry-same one two pins state v outputs = λ i. record { pins = pins i; state = state i; v = v i; outputs = outputs i }
+
+    -- two entries with the same pins and state are one
+    pub entry-one : (one two : Entry) → IsEntry fabric one → IsEntry fabric two → one.pins ≡ two.pins → one.state ≡ two.state → one ≡ two
+    entry-one one two of_one of_two pins state =
+        let value = taken-value device fabric taken within two.state two.pins in
+        let moved : IsConsistent fabric two.state two.pins one.v =
+        subst (λ p. IsConsistent fabric two.state p one.v) pins (subst (λ s. IsConsistent fabric s one.pins one.v) state of_one.consistent) in
+        let v : one.v ≡ two.v = value.only one.v moved ∙ sym (value.only two.v of_two.consistent) in
+        entry-same one two pins state v (of_one.outputs ∙ (ap (output_values fabric) v ∙ sym of_two.outputs))
+
+    -- the entry of some pins and a state
+    entry_of : List Bool → State → Entry
+    entry_of pins state =
+        let v = (taken-value device fabric taken within state pins).it in
+        record { pins = pins; state = state; v = v; outputs = output_values fabric v }
+
+    entry_of-is : (pins : List Bool) (state : State) → IsEntry fabric (entry_of pins state)
+    unfolding entry_of
+    entry_of-is pins state = record { consistent = (taken-value device fabric taken within state pins).is; outputs = refl }
+
+    entry_of-pins : (pins : List Bool) (state : State) → (entry_of pins state).pins ≡ pins
+    unfolding entry_of
+    entry_of-pins pins state = refl
+
+    entry_of-state : (pins : List Bool) (state : State) → (entry_of pins state).state ≡ state
+    unfolding entry_of
+    entry_of-state pins state = refl
+
+    -- ---- one event
+
+    -- the next state is that of the clocks' bits
+    pub state-clocked : (entry : Entry) → IsEntry fabric entry → (state : State) (before : ℕ → Bool)
+        → state_after fabric state before (bit_in entry.v) ≡ state_after fabric state before (clock_bit fabric entry.pins)
+    state-clocked entry is state before =
+        state-same before (bit_in entry.v) (clock_bit fabric entry.pins) fabric state (clocks-agree entry.state entry.pins entry.v is.consistent)
+
+    follows-one : (before : Entry) (event : Event) (one two : Entry) → Follows fabric before event one → Follows fabric before event two → one ≡ two
+    follows-one before event one two of_one of_two =
+        let pins : one.pins ≡ two.pins = of_one.pins ∙ sym of_two.pins in
+        let first : one.state ≡ state_after fabric before.state (bit_in before.v) (clock_bit fabric one.pins) =
+        of_one.state ∙ state-clocked one of_one.entry before.state (bit_in before.v) in
+        let second : two.state ≡ state_after fabric before.state (bit_in before.v) (clock_bit fabric two.pins) =
+        of_two.state ∙ state-clocked two of_two.entry before.state (bit_in before.v) in
+        let state : one.state ≡ two.state =
+        first ∙ (ap (λ p. state_after fabric before.state (bit_in before.v) (clock_bit fabric p)) pins ∙ sym second) in
+        entry-one one two of_one.entry of_two.entry pins state
+
+    next_entry : Entry → Event → Entry
+    next_entry before event =
+        let pins = set before.pins event.pin event.bit in
+        entry_of pins (state_after fabric before.state (bit_in before.v) (clock_bit fabric pins))
+
+    next-follows : (before : Entry) (event : Event) → Follows fabric before event (next_entry before event)
+    unfolding next_entry
+    next-follows before event =
+        let pins = set before.pins event.pin event.bit in
+        let state = state_after fabric before.state (bit_in before.v) (clock_bit fabric pins) in
+        let after = entry_of pins state in
+        let is = entry_of-is pins state in
+        record {
+          entry = is;
+          pins = entry_of-pins pins state;
+          state = entry_of-state pins state
+              ∙ (ap (λ p. state_after fabric before.state (bit_in before.v) (clock_bit fabric p)) (sym (entry_of-pins pins state))
+              ∙ sym (state-clocked after is before.state (bit_in before.v)));
+        }
+
+    -- ---- runs
+
+    follow-there : (entry : Entry) (events : List Event) → (entries : List Entry) × FollowEach fabric entry events entries
+    follow-there entry [] = ([], tt)
+    follow-there entry (event ∷ events) =
+        let rest = follow-there (next_entry entry event) events in
+        (next_entry entry event ∷ rest.0, (next-follows entry event, rest.1))
+
+    follow-one : (entry : Entry) (events : List Event) (one two : List Entry) → FollowEach fabric entry events one → FollowEach fabric entry events two → one ≡ two
+    follow-one entry [] [] [] of_one of_two = refl
+    follow-one entry [] (a ∷ one) two of_one of_two = absurd of_one
+    follow-one entry [] [] (b ∷ two) of_one of_two = absurd of_two
+    follow-one entry (event ∷ events) [] two of_one of_two = absurd of_one
+    follow-one entry (event ∷ events) (a ∷ one) [] of_one of_two = absurd of_two
+    follow-one entry (event ∷ events) (a ∷ one) (b ∷ two) of_one of_two =
+        let same : a ≡ b = follows-one entry event a b of_one.0 of_two.0 in
+        let rest : one ≡ two = follow-one b events one two (subst (λ e. FollowEach fabric e events one) same of_one.1) of_two.1 in
+        cc
+
+    first_entry : Entry
+    first_entry = entry_of (replicate (length (inputs_of fabric)) false) (start_state fabric)
+
+    first-is : IsFirst fabric first_entry
+    unfolding first_entry
+    first-is = record {
+      entry_is = entry_of-is _ _;
+      pins = entry_of-pins _ _;
+      state = entry_of-state _ _;
+    }
+
+    first-one : (one two : Entry) → IsFirst fabric one → IsFirst fabric two → one ≡ two
+    first-one one two of_one of_two = entry-one one two of_one.entry_is of_two.entry_is (of_one.pins ∙ sym of_two.pins) (of_one.state ∙ sym of_two.state)
+
+    run-only : (events : List Event) (one two : List Entry) → IsRun fabric events one → IsRun fabric events two → one ≡ two
+    run-only events [] two of_one of_two = absurd of_one
+    run-only events (a ∷ one) [] of_one of_two = absurd of_two
+    run-only events (a ∷ one) (b ∷ two) of_one of_two =
+        let same : a ≡ b = first-one a b of_one.0 of_two.0 in
+        let rest : one ≡ two = follow-one b events one two (subst (λ e. FollowEach fabric e events one) same of_one.1) of_two.1 in
+        cc
+
+    -- there is exactly one run for each list of events
+    pub taken-run : (events : List Event) → ExactlyOne (IsRun fabric events)
+    taken-run events =
+        let rest = follow-there first_entry events in
+        record {
+          it = first_entry ∷ rest.0;
+          is = (first-is, rest.1);
+          only = λ entries is. run-only events entries (first_entry ∷ rest.0) is (first-is, rest.1);
+        }
+
+    -- ---- clocks in a run
+
+    entry-clocks : (entry : Entry) → IsEntry fabric entry → ClocksAgree fabric (bit_in entry.v) (clock_bit fabric entry.pins)
+    entry-clocks entry is = clocks-agree entry.state entry.pins entry.v is.consistent
+
+    follow-clocks : (entry : Entry) (events : List Event) (entries : List Entry) → FollowEach fabric entry events entries
+        → AllByRecursion (λ (e : Entry). ClocksAgree fabric (bit_in e.v) (clock_bit fabric e.pins)) entries
+    follow-clocks entry events [] follow = tt
+    follow-clocks entry [] (next ∷ entries) follow = absurd follow
+    follow-clocks entry (event ∷ events) (next ∷ entries) follow = (entry-clocks next follow.0.entry, follow-clocks next events entries follow.1)
+
+    -- in each entry of a run the clock nets of all users have the bits that the pins give them
+    pub run-clocks : (events : List Event) (entries : List Entry) → IsRun fabric events entries
+        → AllByRecursion (λ (e : Entry). ClocksAgree fabric (bit_in e.v) (clock_bit fabric e.pins)) entries
+    run-clocks events [] run = tt
+    run-clocks events (first ∷ entries) run = (entry-clocks first run.0.entry_is, follow-clocks first events entries run.1)
+
+-- A database and an image that aren't refused have exactly one run for each list of events.
+pub design-run : (db : Database) (image : Configuration) → IsFit db → design_fault db image ≡ None → (events : List Event) → ExactlyOne (IsRun (fabric_of db image) events)
+design-run db image fit none events =
+    taken-run image.layout.device (fabric_of db image) (design-taken db image none).fabric (fabric-placed db image) (fabric-within db image fit) events

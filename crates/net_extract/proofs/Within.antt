@@ -1,0 +1,365 @@
+-- The fabric of a database whose lines name nets of the device has no net past their number.
+use Rattle.std.proofs.Common.{◌≡◌, ℕ, zero, suc, ◌+◌, ◌<◌, Bool, true, false, List, [], ◌∷◌, ◌++◌, subst, arith, inl, inr}
+use Rattle.std.specs.Prelude.{All, not, Option, Some, None, find, filter, flat_map, option_map, option_and_then, option_to_list, get_or, if◌then◌else◌}
+use Rattle.std.proofs.lemmas.Bool.{cases_Bool}
+use Rattle.std.proofs.lemmas.List.Elements.{All-nil, All-cons, All-head, All-tail, All-append, All-map, All-filter, All-weaker, All-contains}
+use Rattle.plane_map.specs.declared.device.DeviceName.{DeviceName}
+use Rattle.plane_map.specs.declared.tile.TileKind.{TileKind}
+use Rattle.plane_map.specs.declared.tile.TileKind.TheVariants.{Io, Logic, RamB}
+use Rattle.plane_map.specs.Layout.{kind_of, grid_width, grid_height}
+use Rattle.chipdb_lines.specs.declared.chip.Chip.{Chip}
+use Rattle.chipdb_lines.specs.Items.{NameLine}
+use Rattle.chipdb_lines.specs.Statements.{is_kind_there}
+use Rattle.chipdb_reader.specs.declared.items.TileXy8.{TileXy8}
+use Rattle.chipdb_reader.specs.declared.items.PinXy.{PinXy}
+use Rattle.chipdb_reader.specs.Database.{Database, Link}
+use Rattle.chipdb_reader.specs.Lookups.{net_at, input_of}
+use Rattle.chipdb_reader.specs.Fit.{IsFit, IsNameLine, IsLink}
+use Rattle.ice_image.specs.Configuration.{Configuration}
+use Rattle.place_search.specs.Places.{gathered_below, or_else}
+use Rattle.net_extract.specs.declared.cell.Lc.{Lc}
+use Rattle.net_extract.specs.declared.cell.CarrySet.{CarrySet}
+use Rattle.net_extract.specs.declared.ram.RamCell.{RamCell}
+use Rattle.net_extract.specs.declared.pin.Pin.{Pin}
+use Rattle.net_extract.specs.declared.pin.GlobalNet.{GlobalNet}
+use Rattle.net_extract.specs.declared.pin.GlobalFrom.{GlobalFrom}
+use Rattle.net_extract.specs.declared.pin.GlobalFrom.TheVariants.{Pad, Fabout}
+use Rattle.net_extract.specs.declared.driver.Driver.{Driver}
+use Rattle.net_extract.specs.On.{is_link_on}
+use Rattle.net_extract.specs.Tiles.{over_grid, over_tiles, at_kind, each_below, item_if}
+use Rattle.net_extract.specs.Nets.{net_named}
+use Rattle.net_extract.specs.Cells.{cell_bits, cell_with, used_cell, cells_at, cells_of, set_with, sets_at, sets_of, carry_in_net}
+use Rattle.net_extract.specs.Rams.{port_net, is_ram_used, ram_at, rams_of}
+use Rattle.net_extract.specs.Pins.{pin_with, port_at, pins_of, global_fabout, global_source, source_of_global, global_pad, is_global_net, global_nets, nets_from, globals_of}
+use Rattle.net_extract.specs.Fabric.{Fabric, Buffer, numbered_from, numbered, joins_of, buffer_of, buffers_of, fabric_of, inputs_of, flips_of}
+use Rattle.net_extract.specs.Drivers.{Rule, Drive, drives_if, pin_drives, back_drives, lut_drives, flip_drives, lout_drives, carry_drives, set_drives, ram_drive, ram_drives, global_rule, global_drives, buffer_drives, drives_of, nets_read}
+use Rattle.net_extract.specs.Drivers.Rule.{pin_bit, sent_back, lut_entry, flip_bit, carry_out, one, register_bit, copied}
+use Rattle.net_extract.specs.Wiring.{has}
+use Rattle.net_extract.specs.Within.{IsNetIn, IsPinIn, IsCellIn, IsSetIn, IsRamIn, IsFromIn, IsGlobalIn, IsBufferIn, IsJoinIn, HasNetsIn}
+use Rattle.net_extract.proofs.Order.{has-none, has-cases}
+use Rattle.net_extract.proofs.OneValue.{IsWithin}
+
+-- ---- lists
+
+pub All-flat_map : {X A : Type 0} (P : A → Type 0) (f : X → List A) (xs : List X) → All (λ x. All P (f x)) xs → All P (flat_map f xs)
+All-flat_map P f [] all = All-nil P
+All-flat_map P f (x ∷ xs) all =
+    All-append P (f x) (flat_map f xs) (All-head (λ y. All P (f y)) x xs all) (All-flat_map P f xs (All-tail (λ y. All P (f y)) x xs all))
+
+pub All-single : {X : Type 0} (P : X → Type 0) (x : X) → P x → All P (x ∷ [])
+All-single P x here = All-cons P x [] here (All-nil P)
+
+pub All-gathered : {A : Type 0} (P : A → Type 0) (n : ℕ) (given : ℕ → List A) → ((k : ℕ) → k < n → All P (given k)) → All P (gathered_below n given)
+unfolding gathered_below
+All-gathered P zero given all = All-nil P
+All-gathered P (suc n) given all =
+    All-append P (gathered_below n given) (given n) (All-gathered P n given (λ k less. all k (omega arith))) (all n (omega arith))
+
+pub All-item_if : {A : Type 0} (P : A → Type 0) (passes : Bool) (item : A) → P item → All P (item_if passes item)
+All-item_if P true item here = All-single P item here
+All-item_if P false item here = All-nil P
+
+pub All-if : {A : Type 0} (P : A → Type 0) (passes : Bool) (list : List A) → All P list → All P (if passes then list else [])
+All-if P true list all = all
+All-if P false list all = All-nil P
+
+-- what holds of what each place of the grid gives
+pub All-over_grid : {A : Type 0} (P : A → Type 0) (device : DeviceName) (given : ℕ → ℕ → List A)
+    → ((x y : ℕ) → x < grid_width device → y < grid_height device → All P (given x y)) → All P (over_grid device given)
+unfolding over_grid
+All-over_grid P device given all =
+    All-gathered P (grid_height device) (λ y. gathered_below (grid_width device) (λ x. given x y))
+    (λ y low. All-gathered P (grid_width device) (λ x. given x y) (λ x left. all x y left low))
+
+pub All-over_tiles : {A : Type 0} (P : A → Type 0) (device : DeviceName) (kind : TileKind) (given : ℕ → ℕ → List A)
+    → ((x y : ℕ) → x < grid_width device → y < grid_height device → All P (given x y)) → All P (over_tiles device kind given)
+All-over_tiles P device kind given all =
+    All-over_grid P device (at_kind device kind given)
+    (λ x y left low. All-if P (is_kind_there kind (kind_of device x y)) (given x y) (all x y left low))
+
+pub All-numbered : {A : Type 0} (P : A → Type 0) (place : ℕ) (items : List A) → All P items → All (λ (pair : ℕ × A). P pair.1) (numbered_from place items)
+unfolding numbered_from
+All-numbered {A} P place [] all = All-nil (λ (pair : ℕ × A). P pair.1)
+All-numbered {A} P place (item ∷ items) all =
+    All-cons (λ (pair : ℕ × A). P pair.1) (place, item) (numbered_from (suc place) items) (All-head P item items all)
+    (All-numbered P (suc place) items (All-tail P item items all))
+
+has-All : (P : ℕ → Type 0) (list : List ℕ) (n : ℕ) → All P list → has list n ≡ true → P n
+has-All P [] n all found = absurd (has-none n found)
+has-All P (head ∷ rest) n all found =
+    elim (has-cases head rest n found) [
+      | inl here ↦ subst P here (All-head P head rest all)
+      | inr behind ↦ has-All P rest n (All-tail P head rest all) behind
+    ]
+
+-- ---- nets that may be missing
+
+abbrev Below : ℕ → ℕ → Type 0
+Below nets net = net < nets
+
+listed-in : (nets : ℕ) (net : Option ℕ) → IsNetIn nets net → All (Below nets) (option_to_list net)
+listed-in nets None in' = All-nil (Below nets)
+listed-in nets (Some net) in' = All-single (Below nets) net in'
+
+all_listed-in : (nets : ℕ) (list : List (Option ℕ)) → All (IsNetIn nets) list → All (Below nets) (flat_map option_to_list list)
+all_listed-in nets list all = All-flat_map (Below nets) option_to_list list (All-weaker (IsNetIn nets) (λ net. All (Below nets) (option_to_list net)) (listed-in nets) list all)
+
+get_or-in : (nets : ℕ) (list : List (Option ℕ)) (k : ℕ) → All (IsNetIn nets) list → IsNetIn nets (get_or list k None)
+get_or-in nets [] k all = tt
+get_or-in nets (net ∷ list) zero all = All-head (IsNetIn nets) net list all
+get_or-in nets (net ∷ list) (suc k) all = get_or-in nets list k (All-tail (IsNetIn nets) net list all)
+
+-- ---- drivers
+
+record IsDriveIn (nets : ℕ) (drive : Drive) : Type 0 where
+  net : drive.net < nets
+  reads : All (Below nets) (nets_read drive.rule)
+
+drives_if-in : (nets : ℕ) (by : Driver) (rule : Rule) (net : Option ℕ) → IsNetIn nets net → All (Below nets) (nets_read rule) → All (IsDriveIn nets) (drives_if by rule net)
+drives_if-in nets by rule None in' reads = All-nil (IsDriveIn nets)
+drives_if-in nets by rule (Some net) in' reads = All-single (IsDriveIn nets) (record { driver = by; net = net; rule = rule }) (record { net = in'; reads = reads })
+
+module _ (nets : ℕ) where
+  pin_drives-in : (place : ℕ × Pin) → IsPinIn nets place.1 → All (IsDriveIn nets) (pin_drives place)
+  unfolding nets_read
+  pin_drives-in place in' = drives_if-in nets _ (pin_bit place.0) place.1.din in'.din (All-nil (Below nets))
+
+  back_drives-in : (pin : Pin) → IsPinIn nets pin → All (IsDriveIn nets) (back_drives pin)
+  unfolding nets_read
+  back_drives-in pin in' = drives_if-in nets _ (sent_back pin.dout) pin.din in'.din (listed-in nets pin.dout in'.dout)
+
+  lut_reads-in : (lc : Lc) → IsCellIn nets lc → All (Below nets) (nets_read (lut_entry lc))
+  unfolding nets_read
+  lut_reads-in lc in' = all_listed-in nets lc.ins in'.ins
+
+  lut_drives-in : (lc : Lc) → IsCellIn nets lc → All (IsDriveIn nets) (lut_drives lc)
+  lut_drives-in lc in' = drives_if-in nets _ (lut_entry lc) lc.out in'.out (lut_reads-in lc in')
+
+  flip_drives-in : (place : ℕ × Lc) → IsCellIn nets place.1 → All (IsDriveIn nets) (flip_drives place)
+  unfolding nets_read
+  flip_drives-in place in' = drives_if-in nets _ (flip_bit place.0) place.1.out in'.out (All-nil (Below nets))
+
+  lout_drives-in : (lc : Lc) → IsCellIn nets lc → All (IsDriveIn nets) (lout_drives lc)
+  lout_drives-in lc in' = drives_if-in nets _ (lut_entry lc) lc.lout in'.lout (lut_reads-in lc in')
+
+  carry_drives-in : (lc : Lc) → IsCellIn nets lc → All (IsDriveIn nets) (carry_drives lc)
+  unfolding nets_read
+  carry_drives-in lc in' =
+      drives_if-in nets _ (carry_out lc) lc.cout in'.cout
+      (All-append (Below nets) (option_to_list (get_or lc.ins 1 None)) (option_to_list (get_or lc.ins 2 None) ++ option_to_list lc.cin)
+      (listed-in nets (get_or lc.ins 1 None) (get_or-in nets lc.ins 1 in'.ins))
+      (All-append (Below nets) (option_to_list (get_or lc.ins 2 None)) (option_to_list lc.cin)
+      (listed-in nets (get_or lc.ins 2 None) (get_or-in nets lc.ins 2 in'.ins)) (listed-in nets lc.cin in'.cin)))
+
+  set_drives-in : (set : CarrySet) → IsSetIn nets set → All (IsDriveIn nets) (set_drives set)
+  unfolding nets_read
+  set_drives-in set in' = drives_if-in nets _ one (Some set.net) in' (All-nil (Below nets))
+
+  ram_drives-in : (place : ℕ × RamCell) → IsRamIn nets place.1 → All (IsDriveIn nets) (ram_drives place)
+  unfolding nets_read
+  ram_drives-in place in' =
+      All-flat_map (IsDriveIn nets) (ram_drive place) (numbered place.1.rdata)
+      (All-weaker (λ (port : ℕ × Option ℕ). IsNetIn nets port.1) (λ (port : ℕ × Option ℕ). All (IsDriveIn nets) (ram_drive place port))
+      (λ port here. drives_if-in nets _ (register_bit place.0 port.0) port.1 here (All-nil (Below nets)))
+      (numbered place.1.rdata) (All-numbered (IsNetIn nets) 0 place.1.rdata in'.rdata))
+
+  global_reads-in : (pins : List Pin) (from : GlobalFrom) → IsFromIn nets from → All (Below nets) (nets_read (global_rule pins from))
+  unfolding nets_read
+  global_reads-in pins (Pad x y n) in' = All-nil (Below nets)
+  global_reads-in pins (Fabout net) in' = All-single (Below nets) net in'
+
+  global_drives-in : (pins : List Pin) (global : GlobalNet) → IsGlobalIn nets global → All (IsDriveIn nets) (global_drives pins global)
+  global_drives-in pins global in' =
+      drives_if-in nets _ (global_rule pins global.from) (Some global.net) in'.net (global_reads-in pins global.from in'.from)
+
+  buffer_drives-in : (buffer : Buffer) → IsBufferIn nets buffer → All (IsDriveIn nets) (buffer_drives buffer)
+  unfolding nets_read
+  buffer_drives-in buffer in' = drives_if-in nets _ (copied buffer.src) (Some buffer.dst) in'.dst (All-single (Below nets) buffer.src in'.src)
+
+  -- what all of some parts drive
+  gives-in : {X : Type 0} (Is : X → Type 0) (given : X → List Drive) → ((x : X) → Is x → All (IsDriveIn nets) (given x))
+      → (parts : List X) → All Is parts → All (IsDriveIn nets) (flat_map given parts)
+  gives-in Is given each parts all =
+      All-flat_map (IsDriveIn nets) given parts (All-weaker Is (λ x. All (IsDriveIn nets) (given x)) each parts all)
+
+module _ (fabric : Fabric) (in' : HasNetsIn fabric) where
+  All-then : (first second : List Drive) → All (IsDriveIn fabric.nets) first → All (IsDriveIn fabric.nets) second → All (IsDriveIn fabric.nets) (first ++ second)
+  All-then first second = All-append (IsDriveIn fabric.nets) first second
+
+  drives-in : All (IsDriveIn fabric.nets) (drives_of fabric)
+  unfolding drives_of
+  drives-in =
+      let nets = fabric.nets in
+      let inputs = All-filter (λ pin. not pin.output) (IsPinIn nets) fabric.pins in'.pins in
+      All-then _ _ (gives-in nets (λ (place : ℕ × Pin). IsPinIn nets place.1) pin_drives (pin_drives-in nets) (numbered (inputs_of fabric)) (All-numbered (IsPinIn nets) 0 (inputs_of fabric) inputs))
+      (All-then _ _ (gives-in nets (IsPinIn nets) back_drives (back_drives-in nets) _ (All-filter (λ pin. pin.back) (IsPinIn nets) fabric.pins in'.pins))
+      (All-then _ _ (gives-in nets (IsCellIn nets) lut_drives (lut_drives-in nets) _ (All-filter (λ lc. not lc.flip) (IsCellIn nets) fabric.lcs in'.lcs))
+      (All-then _ _ (gives-in nets (λ (place : ℕ × Lc). IsCellIn nets place.1) flip_drives (flip_drives-in nets) (numbered (flips_of fabric))
+      (All-numbered (IsCellIn nets) 0 (flips_of fabric) (All-filter (λ lc. lc.flip) (IsCellIn nets) fabric.lcs in'.lcs)))
+      (All-then _ _ (gives-in nets (IsCellIn nets) lout_drives (lout_drives-in nets) fabric.lcs in'.lcs)
+      (All-then _ _ (gives-in nets (IsCellIn nets) carry_drives (carry_drives-in nets) _ (All-filter (λ lc. lc.carry) (IsCellIn nets) fabric.lcs in'.lcs))
+      (All-then _ _ (gives-in nets (IsSetIn nets) set_drives (set_drives-in nets) fabric.sets in'.sets)
+      (All-then _ _ (gives-in nets (λ (place : ℕ × RamCell). IsRamIn nets place.1) ram_drives (ram_drives-in nets) (numbered fabric.rams) (All-numbered (IsRamIn nets) 0 fabric.rams in'.rams))
+      (All-then _ _ (gives-in nets (IsGlobalIn nets) (global_drives (inputs_of fabric)) (global_drives-in nets (inputs_of fabric)) fabric.globals in'.globals)
+      (gives-in nets (IsBufferIn nets) buffer_drives (buffer_drives-in nets) fabric.buffers in'.buffers)))))))))
+
+  pub within-parts : IsWithin fabric
+  within-parts = record {
+    joins = λ a b there. let found = All-contains (IsJoinIn fabric.nets) fabric.joins (a, b) in'.joins there in (found.first, found.second);
+    drives = λ drive there. (All-contains (IsDriveIn fabric.nets) (drives_of fabric) drive drives-in there).net;
+    reads = λ drive there net reads.
+        has-All (Below fabric.nets) (nets_read drive.rule) net (All-contains (IsDriveIn fabric.nets) (drives_of fabric) drive drives-in there).reads reads;
+  }
+
+-- ---- the fabric of a database
+
+found-in : (chip : Chip) (test : NameLine → Bool) (lines : List NameLine) → All (IsNameLine chip) lines → IsNetIn chip.nets (option_map (λ line. line.net) (find test lines))
+found-in chip test [] all = tt
+found-in chip test (line ∷ lines) all =
+    elim (cases_Bool (test line)) [
+      | inl here ↦ rw here ((All-head (IsNameLine chip) line lines all).net_in)
+      | inr away ↦ rw away (found-in chip test lines (All-tail (IsNameLine chip) line lines all))
+    ]
+
+or_else-in : (nets : ℕ) (first other : Option ℕ) → IsNetIn nets first → IsNetIn nets other → IsNetIn nets (or_else first other)
+or_else-in nets None other of_first of_other = of_other
+or_else-in nets (Some net) other of_first of_other = of_first
+
+module _ (db : Database) (image : Configuration) (fit : IsFit db) where
+  named-in : (x y : ℕ) (name : List ℕ) → IsNetIn db.chip.nets (net_named db x y name)
+  unfolding net_at
+  named-in x y name = found-in db.chip _ db.names fit.names
+
+  port-in : (x y : ℕ) (name : List ℕ) → IsNetIn db.chip.nets (port_net db x y name)
+  port-in x y name = or_else-in db.chip.nets (net_named db x y name) (net_named db x (y + 1) name) (named-in x y name) (named-in x (y + 1) name)
+
+  each-in : (count : ℕ) (given : ℕ → Option ℕ) → ((k : ℕ) → IsNetIn db.chip.nets (given k)) → All (IsNetIn db.chip.nets) (each_below count given)
+  each-in count given all = All-gathered (IsNetIn db.chip.nets) count (λ k. given k ∷ []) (λ k below. All-single (IsNetIn db.chip.nets) (given k) (all k))
+
+  joins-in : All (IsJoinIn db.chip.nets) (joins_of db image)
+  unfolding joins_of
+  joins-in =
+      All-map (IsJoinIn db.chip.nets) (λ link. (link.src, link.dst)) (filter (is_link_on image) db.routings)
+      (All-filter (is_link_on image) (λ link. IsJoinIn db.chip.nets (link.src, link.dst)) db.routings
+      (All-weaker (IsLink db.chip) (λ link. IsJoinIn db.chip.nets (link.src, link.dst)) (λ link is. record { first = is.src_in; second = is.dst_in }) db.routings fit.routings))
+
+  buffers-in : All (IsBufferIn db.chip.nets) (buffers_of db image)
+  unfolding buffers_of
+  buffers-in =
+      All-map (IsBufferIn db.chip.nets) buffer_of (filter (λ place. is_link_on image place.1) (numbered db.buffers))
+      (All-filter (λ place. is_link_on image place.1) (λ place. IsBufferIn db.chip.nets (buffer_of place)) (numbered db.buffers)
+      (All-weaker (λ (place : ℕ × Link). IsLink db.chip place.1) (λ (place : ℕ × Link). IsBufferIn db.chip.nets (buffer_of place))
+      (λ place is. record { src = is.src_in; dst = is.dst_in }) (numbered db.buffers) (All-numbered (IsLink db.chip) 0 db.buffers fit.buffers)))
+
+  pin_with-in : (x y n pintype : ℕ) → IsPinIn db.chip.nets (pin_with db x y n pintype)
+  unfolding pin_with
+  pin_with-in x y n pintype = record { din = named-in x y _; dout = named-in x y _ }
+
+  pins-in : All (IsPinIn db.chip.nets) (pins_of db image)
+  unfolding pins_of
+  pins-in =
+      All-over_tiles (IsPinIn db.chip.nets) image.layout.device Io (λ x y. gathered_below 2 (port_at db image x y))
+      (λ x y left low. All-gathered (IsPinIn db.chip.nets) 2 (port_at db image x y)
+      (λ n below. All-item_if (IsPinIn db.chip.nets) _ (pin_with db x y n _) (pin_with-in x y n _)))
+
+  carry_in-in : (x y i : ℕ) → IsNetIn db.chip.nets (carry_in_net db x y i)
+  carry_in-in x y zero = named-in x y _
+  carry_in-in x y (suc i) = named-in x y _
+
+  cell_with-in : (x y i : ℕ) (bits : List Bool) → IsCellIn db.chip.nets (cell_with db image x y i bits)
+  unfolding cell_with
+  cell_with-in x y i bits = record {
+    ins = each-in 4 _ (λ k. named-in x y _);
+    out = named-in x y _;
+    lout = named-in x y _;
+    cout = named-in x y _;
+    cin = carry_in-in x y i;
+    clk = named-in x y _;
+    cen = named-in x y _;
+    sr = named-in x y _;
+  }
+
+  cells_at-in : (x y : ℕ) → All (IsCellIn db.chip.nets) (cells_at db image x y)
+  unfolding cells_at
+  cells_at-in x y =
+      All-gathered (IsCellIn db.chip.nets) 8 (used_cell db image x y)
+      (λ i below. All-item_if (IsCellIn db.chip.nets) _ (cell_with db image x y i (cell_bits db image x y i)) (cell_with-in x y i _))
+
+  cells-in : All (IsCellIn db.chip.nets) (cells_of db image)
+  unfolding cells_of
+  cells-in = All-over_tiles (IsCellIn db.chip.nets) image.layout.device Logic (cells_at db image) (λ x y left low. cells_at-in x y)
+
+  set_with-in : (x y : ℕ) (net : Option ℕ) → IsNetIn db.chip.nets net → All (IsSetIn db.chip.nets) (set_with x y net)
+  set_with-in x y None in' = All-nil (IsSetIn db.chip.nets)
+  set_with-in x y (Some net) in' = All-single (IsSetIn db.chip.nets) (record { x = x; y = y; net = net }) in'
+
+  sets-in : All (IsSetIn db.chip.nets) (sets_of db image)
+  unfolding sets_of
+  sets-in = All-over_tiles (IsSetIn db.chip.nets) image.layout.device Logic (sets_at db image)
+      (λ x y left low. All-if (IsSetIn db.chip.nets) _ (set_with x y (net_named db x y _)) (set_with-in x y _ (named-in x y _)))
+
+  ram_at-in : (x y : ℕ) → IsRamIn db.chip.nets (ram_at db image x y)
+  unfolding ram_at
+  ram_at-in x y = record {
+    rdata = each-in 16 _ (λ k. port-in x y _);
+    wdata = each-in 16 _ (λ k. port-in x y _);
+    mask = each-in 16 _ (λ k. port-in x y _);
+    waddr = each-in 8 _ (λ k. port-in x y _);
+    raddr = each-in 8 _ (λ k. port-in x y _);
+    wclk = port-in x y _;
+    wclke = port-in x y _;
+    we = port-in x y _;
+    rclk = port-in x y _;
+    rclke = port-in x y _;
+    re = port-in x y _;
+  }
+
+  rams-in : All (IsRamIn db.chip.nets) (rams_of db image)
+  unfolding rams_of
+  rams-in = All-over_tiles (IsRamIn db.chip.nets) image.layout.device RamB _
+      (λ x y left low. All-if (IsRamIn db.chip.nets) (is_ram_used db image x y) (ram_at db image x y ∷ []) (All-single (IsRamIn db.chip.nets) (ram_at db image x y) (ram_at-in x y)))
+
+  -- a source that may be missing
+  IsSourceIn : Option GlobalFrom → Type 0
+  IsSourceIn None = Unit {0}
+  IsSourceIn (Some from) = IsFromIn db.chip.nets from
+
+  fabout-in : (tile : Option TileXy8) (name : List ℕ) → IsNetIn db.chip.nets (option_and_then (λ (at : TileXy8). net_named db at.x at.y name) tile)
+  fabout-in None name = tt
+  fabout-in (Some tile) name = named-in tile.x tile.y name
+
+  source-in : (pad : Option PinXy) (fabout : Option ℕ) → IsNetIn db.chip.nets fabout → IsSourceIn (source_of_global pad fabout)
+  unfolding IsSourceIn
+  source-in (Some pad) fabout in' = tt
+  source-in None None in' = tt
+  source-in None (Some net) in' = in'
+
+  nets_from-in : (g : ℕ) (source : Option GlobalFrom) → IsSourceIn source → All (IsGlobalIn db.chip.nets) (nets_from db g source)
+  unfolding IsSourceIn global_nets
+  nets_from-in g None in' = All-nil (IsGlobalIn db.chip.nets)
+  nets_from-in g (Some from) in' =
+      All-map (IsGlobalIn db.chip.nets) (λ net. record { g = g; net = net; from = from }) (global_nets db g)
+      (All-gathered (λ net. IsGlobalIn db.chip.nets (record { g = g; net = net; from = from })) db.chip.nets (λ net. item_if (is_global_net db g net) net)
+      (λ net below. All-item_if (λ n. IsGlobalIn db.chip.nets (record { g = g; net = n; from = from })) (is_global_net db g net) net (record { net = below; from = in' })))
+
+  globals-in : All (IsGlobalIn db.chip.nets) (globals_of db image)
+  unfolding globals_of
+  globals-in =
+      All-gathered (IsGlobalIn db.chip.nets) 8 (λ g. nets_from db g (global_source db image g))
+      (λ g below. nets_from-in g (global_source db image g) (source-in (global_pad db image g) (global_fabout db g) (fabout-in (input_of g db.global_inputs) _)))
+
+  pub fabric-in : HasNetsIn (fabric_of db image)
+  unfolding fabric_of
+  fabric-in = record {
+    joins = joins-in;
+    buffers = buffers-in;
+    pins = pins-in;
+    globals = globals-in;
+    lcs = cells-in;
+    sets = sets-in;
+    rams = rams-in;
+  }
+
+  -- all nets of the fabric are nets of the device
+  pub fabric-within : IsWithin (fabric_of db image)
+  fabric-within = within-parts (fabric_of db image) fabric-in

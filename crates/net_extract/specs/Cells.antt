@@ -1,0 +1,125 @@
+-- Logic cells: the bits of each, the cells that are used, and carry inputs that are set.
+use Rattle.std.specs.Prelude.{ℕ, zero, suc, Bool, false, ◌&&◌, List, [], ◌∷◌, ◌++◌, map, get_or, codes, if◌then◌else◌, Option, Some, None}
+use Rattle.std.specs.List.{list_any}
+use Rattle.bit_plane.specs.BitList.{word_of}
+use Rattle.plane_map.specs.declared.tile.TileKind.TheVariants.{Logic}
+use Rattle.ice_image.specs.Configuration.{Configuration}
+use Rattle.chipdb_lines.specs.Items.{FunctionLine}
+use Rattle.chipdb_reader.specs.Database.{Database}
+use Rattle.place_search.specs.Places.{gathered_below}
+use Rattle.net_extract.specs.declared.cell.Lc.{Lc}
+use Rattle.net_extract.specs.declared.cell.CarrySet.{CarrySet}
+use Rattle.net_extract.specs.On.{bits_at, function_named, is_function_on}
+use Rattle.net_extract.specs.Tiles.{over_tiles, each_below, item_if}
+use Rattle.net_extract.specs.Nets.{net_named, with_number, ending_in}
+
+-- ---- the bits of a cell
+
+-- the bits of a function at a tile, and none where it isn't there
+abbrev pub bits_of_function : Configuration → ℕ → ℕ → Option FunctionLine → List Bool
+bits_of_function image x y None = []
+bits_of_function image x y (Some function) = bits_at image x y function.bits
+
+-- the 20 bits of cell i, which the function `LC_i` lists
+unfoldable pub cell_bits : Database → Configuration → ℕ → ℕ → ℕ → List Bool
+cell_bits db image x y i = bits_of_function image x y (function_named db Logic (ending_in (codes "LC_") i))
+
+-- one of them
+abbrev pub cell_bit : List Bool → ℕ → Bool
+cell_bit bits k = get_or bits k false
+
+-- the numbers of the bits that are entries 0 to 15 of the LUT
+unfoldable pub entry_bits : List ℕ
+entry_bits = 4 ∷ 14 ∷ 15 ∷ 5 ∷ 6 ∷ 16 ∷ 17 ∷ 7 ∷ 3 ∷ 13 ∷ 12 ∷ 2 ∷ 1 ∷ 11 ∷ 10 ∷ 0 ∷ []
+
+-- the entries of the LUT as a number, whose bit k is entry k
+abbrev pub lut_of : List Bool → ℕ
+lut_of bits = word_of (map (cell_bit bits) entry_bits)
+
+abbrev pub has_carry : List Bool → Bool
+has_carry bits = cell_bit bits 8
+
+abbrev pub has_flip : List Bool → Bool
+has_flip bits = cell_bit bits 9
+
+-- whether a reset sets
+abbrev pub is_setting : List Bool → Bool
+is_setting bits = cell_bit bits 18
+
+-- whether a reset acts without a clock
+abbrev pub is_asynchronous : List Bool → Bool
+is_asynchronous bits = cell_bit bits 19
+
+-- a cell is used where one of its bits is 1
+abbrev pub is_used : List Bool → Bool
+is_used bits = list_any (λ bit. bit) bits
+
+-- a flip-flop whose reset acts without a clock
+abbrev pub is_async_flip : List Bool → Bool
+is_async_flip bits = has_flip bits && is_asynchronous bits
+
+-- ---- the nets of a cell
+
+-- the net of cell i that has the name `lutff_i/` and so on
+abbrev pub lutff_net : Database → ℕ → ℕ → ℕ → List ℕ → Option ℕ
+lutff_net db x y i port = net_named db x y (with_number (codes "lutff_") i port)
+
+-- the net of a name `lutff_global/` and so on, which the cells of a tile share
+abbrev pub shared_net : Database → ℕ → ℕ → List ℕ → Option ℕ
+shared_net db x y port = net_named db x y (codes "lutff_global/" ++ port)
+
+-- the carry in: that of cell 0 is the tile's, and that of any other cell is the carry out of the cell before
+abbrev pub carry_in_net : Database → ℕ → ℕ → ℕ → Option ℕ
+carry_in_net db x y zero = net_named db x y (codes "carry_in_mux")
+carry_in_net db x y (suc i) = lutff_net db x y i (codes "/cout")
+
+-- ---- cells
+
+-- cell i of the tile at (x, y), which has these bits
+unfoldable pub cell_with : Database → Configuration → ℕ → ℕ → ℕ → List Bool → Lc
+cell_with db image x y i bits = record {
+  x = x;
+  y = y;
+  i = i;
+  lut = lut_of bits;
+  carry = has_carry bits;
+  flip = has_flip bits;
+  «set» = is_setting bits;
+  neg = is_function_on db image Logic x y (codes "NegClk");
+  ins = each_below 4 (λ k. lutff_net db x y i (ending_in (codes "/in_") k));
+  out = lutff_net db x y i (codes "/out");
+  lout = lutff_net db x y i (codes "/lout");
+  cout = lutff_net db x y i (codes "/cout");
+  cin = carry_in_net db x y i;
+  clk = shared_net db x y (codes "clk");
+  cen = shared_net db x y (codes "cen");
+  sr = shared_net db x y (codes "s_r");
+}
+
+-- cell i where it is used
+abbrev pub used_cell : Database → Configuration → ℕ → ℕ → ℕ → List Lc
+used_cell db image x y i =
+    let bits = cell_bits db image x y i in
+    item_if (is_used bits) (cell_with db image x y i bits)
+
+-- the used cells of a tile, by index
+unfoldable pub cells_at : Database → Configuration → ℕ → ℕ → List Lc
+cells_at db image x y = gathered_below 8 (used_cell db image x y)
+
+-- the used cells, by tile and index
+unfoldable pub cells_of : Database → Configuration → List Lc
+cells_of db image = over_tiles image.layout.device Logic (cells_at db image)
+
+-- ---- carry inputs that are set
+
+abbrev pub set_with : ℕ → ℕ → Option ℕ → List CarrySet
+set_with x y None = []
+set_with x y (Some net) = record { x = x; y = y; net = net } ∷ []
+
+-- the net `carry_in_mux` of a tile where `CarryInSet` is on
+abbrev pub sets_at : Database → Configuration → ℕ → ℕ → List CarrySet
+sets_at db image x y = if is_function_on db image Logic x y (codes "CarryInSet") then set_with x y (net_named db x y (codes "carry_in_mux")) else []
+
+-- all of them, by tile
+unfoldable pub sets_of : Database → Configuration → List CarrySet
+sets_of db image = over_tiles image.layout.device Logic (sets_at db image)

@@ -1,0 +1,89 @@
+-- Where clocks come from, and what uses them.
+use Rattle.std.specs.Prelude.{◌≡◌, ℕ, zero, suc, ◌&&◌, List, [], ◌∷◌, ◌++◌, map, flat_map, filter, ◌==◌, Option}
+use Rattle.plane_map.specs.declared.device.DeviceName.{DeviceName}
+use Rattle.net_extract.specs.declared.cell.Lc.{Lc}
+use Rattle.net_extract.specs.declared.ram.RamCell.{RamCell}
+use Rattle.net_extract.specs.declared.driver.ClockUser.{ClockUser}
+use Rattle.net_extract.specs.declared.driver.ClockUser.TheVariants.{Cell, Read, Write}
+use Rattle.net_extract.specs.Tiles.{over_grid}
+use Rattle.net_extract.specs.Joins.{class_of}
+use Rattle.net_extract.specs.Fabric.{Fabric, flips_of}
+use Rattle.net_extract.specs.Drivers.{Rule, Drive, drivers_of}
+use Rattle.net_extract.specs.Drivers.Rule.{pin_bit, copied}
+
+-- ---- chains
+
+-- where a chain ends: at the input pin of that place, at a class without a driver, or at any other driver
+pub data ClockEnd : Type 0 where
+  at_pin : ℕ → ClockEnd
+  still : ClockEnd
+  other : ClockEnd
+
+-- what a chain does at a class: it ends, or goes on to the class of another net
+pub data Turn : Type 0 where
+  ends : ClockEnd → Turn
+  goes_to : ℕ → Turn
+
+-- A chain goes on from a buffer, and from a global that a net `fabout` drives, to the source. An input pin and a pad end it.
+abbrev pub turn_by : Rule → Turn
+turn_by (pin_bit place) = ends (at_pin place)
+turn_by (copied net) = goes_to net
+turn_by rule = ends other
+
+abbrev pub turn_of : List Drive → Turn
+turn_of [] = ends still
+turn_of (drive ∷ drives) = turn_by drive.rule
+
+-- what a chain does at a class
+unfoldable pub turn_at : Fabric → ℕ → Turn
+turn_at fabric class = turn_of (drivers_of fabric class)
+
+-- the chain from a class comes to an end
+pub data LeadsTo (fabric : Fabric) : ℕ → ClockEnd → Type 0 where
+  ends_here : {class : ℕ} {end : ClockEnd} → turn_at fabric class ≡ ends end → LeadsTo fabric class end
+  goes_on : {class : ℕ} {end : ClockEnd} (net : ℕ) → turn_at fabric class ≡ goes_to net
+      → LeadsTo fabric (class_of fabric.joins net) end → LeadsTo fabric class end
+
+-- where a chain ends, by what it does at a class and where it ends from another class on
+abbrev pub end_by : (ℕ → ClockEnd) → Turn → ClockEnd
+end_by later (ends end) = end
+end_by later (goes_to net) = later net
+
+-- Where the chain from a class ends that comes to so many classes at most. One that comes to more classes than there are nets
+-- comes back to a class, and counts as another end: a fabric with such a cycle isn't taken.
+unfoldable pub end_within : Fabric → ℕ → ℕ → ClockEnd
+end_within fabric zero class = other
+end_within fabric (suc more) class = end_by (λ net. end_within fabric more (class_of fabric.joins net)) (turn_at fabric class)
+
+-- where the clock of a net comes from
+unfoldable pub clock_end : Fabric → ℕ → ClockEnd
+clock_end fabric net = end_within fabric (suc fabric.nets) (class_of fabric.joins net)
+
+-- ---- users
+
+-- what takes its value at edges of a clock, and the net of the clock
+pub record User : Type 0 where
+  pub x : ℕ
+  pub y : ℕ
+  pub user : ClockUser
+  pub net : Option ℕ
+
+-- a cell with flip-flop
+abbrev pub cell_user : Lc → User
+cell_user lc = record { x = lc.x; y = lc.y; user = Cell lc.i; net = lc.clk }
+
+-- the ports of a RAM: the read port goes first
+abbrev pub ram_users : RamCell → List User
+ram_users ram =
+    record { x = ram.x; y = ram.y; user = Read; net = ram.rclk }
+    ∷ record { x = ram.x; y = ram.y; user = Write; net = ram.wclk } ∷ []
+
+-- the users at a tile: cells by index
+abbrev pub users_at : Fabric → ℕ → ℕ → List User
+users_at fabric x y =
+    map cell_user (filter (λ lc. (lc.x == x) && (lc.y == y)) (flips_of fabric))
+    ++ flat_map ram_users (filter (λ ram. (ram.x == x) && (ram.y == y)) fabric.rams)
+
+-- all users, by tile
+unfoldable pub users_of : DeviceName → Fabric → List User
+users_of device fabric = over_grid device (users_at fabric)

@@ -1,2 +1,0 @@
-pub mod Tiles
-pub mod Reads

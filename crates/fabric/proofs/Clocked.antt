@@ -11,7 +11,7 @@ use Rattle.net_extract.specs.Values.{bit_in}
 use Rattle.net_extract.specs.Wiring.{wiring_of, IsWriteOrder}
 use Rattle.net_extract.specs.Steps.{Event, Entry, IsEntry, FollowEach, IsRun}
 use Rattle.net_extract.specs.Clocks.{ClockEnd, LeadsTo, clock_end}
-use Rattle.net_extract.specs.Clocks.ClockEnd.{at_pin, still, other}
+use Rattle.net_extract.specs.Clocks.ClockEnd.{at_pin, undriven, logic}
 use Rattle.net_extract.specs.Faults.{design_fault}
 use Rattle.net_extract.proofs.Chains.{HasEndValue, clock-value, clock_end-leads}
 use Rattle.net_extract.proofs.Taken.{design-taken, taken-order}
@@ -21,8 +21,8 @@ use Rattle.fabric.specs.Clocks.{HasEndBit, HasClock, HasClocks}
 
 end-bit : (pins : List Bool) (end : ClockEnd) (bit : Bool) → IsClockEnd end → HasEndValue pins end bit → HasEndBit pins end bit
 end-bit pins (at_pin place) bit good has = has
-end-bit pins still bit good has = has
-end-bit pins other bit good has = absurd good
+end-bit pins undriven bit good has = has
+end-bit pins logic bit good has = absurd good
 
 module _ (db : Database) (image : Configuration) (fit : IsFit db) (none : design_fault db image ≡ None) where
   abbrev fabric : Fabric

@@ -14,7 +14,7 @@ use Rattle.net_extract.specs.Wiring.{Wiring, wiring_of, is_on_cycle, IsCycle}
 use Rattle.net_extract.proofs.Cycles.{IsBounded, is_on_cycle-whole}
 use Rattle.fabric_wiring.specs.Rows.{is_marked, ReadsByDriven, wiring_of as rows_wiring}
 use Rattle.net_extract.specs.Clocks.{ClockEnd, User, users_of, clock_end}
-use Rattle.net_extract.specs.Clocks.ClockEnd.{at_pin, still, other}
+use Rattle.net_extract.specs.Clocks.ClockEnd.{at_pin, undriven, logic}
 use Rattle.net_extract.specs.Faults.{Fault, drivers_fault, driver_faults, loop_faults, end_fault, user_fault, clock_faults, fabric_fault}
 use Rattle.fabric_wiring.specs.declared.fault.DriverFault.{DriverFault}
 use Rattle.fabric_wiring.specs.declared.fault.DriverFault.TheVariants as drivers
@@ -102,12 +102,12 @@ user-ends device fabric one (Some source) has there x y user net is = by-end (cl
   where
     by-end : (end : ClockEnd) → clock_end fabric source ≡ end → first_of (end_fault one source end) ≡ Some (Fault.clock x y user net) → IsUnclocked device fabric x y user net
     by-end (at_pin place) ends told = absurd cc
-    by-end still ends told = absurd cc
-    by-end other ends told =
+    by-end undriven ends told = absurd cc
+    by-end logic ends told =
         let same : user_of one source ≡ user_of (record { x = x; y = y; user = user; net = Some net }) net = cc in
         let is_one : one ≡ user_of one source = ap (λ n. record { x = one.x; y = one.y; user = one.user; net = n }) has in
         let is_net : source ≡ net = cc in
-        record { there = subst (Contains (users_of device fabric)) (is_one ∙ same) there; ends = subst (λ n. clock_end fabric n ≡ other) is_net ends }
+        record { there = subst (Contains (users_of device fabric)) (is_one ∙ same) there; ends = subst (λ n. clock_end fabric n ≡ logic) is_net ends }
 
 pub clocks-evidence : (device : DeviceName) (fabric : Fabric) (x y : ℕ) (user : ClockUser) (net : ℕ) → first_of (clock_faults device fabric) ≡ Some (Fault.clock x y user net)
     → IsUnclocked device fabric x y user net

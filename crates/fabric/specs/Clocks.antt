@@ -6,13 +6,13 @@ use Rattle.net_extract.specs.Fabric.{Fabric, flips_of}
 use Rattle.net_extract.specs.Values.{bit_in}
 use Rattle.net_extract.specs.Steps.{Entry}
 use Rattle.net_extract.specs.Clocks.{ClockEnd, clock_end}
-use Rattle.net_extract.specs.Clocks.ClockEnd.{at_pin, still, other}
+use Rattle.net_extract.specs.Clocks.ClockEnd.{at_pin, undriven, logic}
 
 -- a clock has the value of the pin at which its chain ends, or is 0 where it ends at a class without a driver
 abbrev pub HasEndBit : List Bool → ClockEnd → Bool → Type 0
 HasEndBit pins (at_pin place) bit = bit ≡ get_or pins place false
-HasEndBit pins still bit = bit ≡ false
-HasEndBit pins other bit = ⊥
+HasEndBit pins undriven bit = bit ≡ false
+HasEndBit pins logic bit = ⊥
 
 -- the same of a clock net that may be missing
 abbrev pub HasClock : Fabric → Entry → Option ℕ → Type 0

@@ -7,7 +7,7 @@ use Rattle.chipdb_reader.specs.declared.items.PinXy.{PinXy}
 use Rattle.net_extract.specs.declared.pin.Pin.{Pin}
 use Rattle.net_extract.specs.Fabric.{fabric_of}
 use Rattle.net_extract.specs.Clocks.{ClockEnd}
-use Rattle.net_extract.specs.Clocks.ClockEnd.{at_pin, still, other}
+use Rattle.net_extract.specs.Clocks.ClockEnd.{at_pin, undriven, logic}
 use Rattle.net_extract.specs.Faults.{design_fault}
 use Rattle.fabric_wiring.specs.declared.parts.Buffer.{Buffer}
 use Rattle.fabric.specs.declared.kept.LinkEnds.{LinkEnds}
@@ -27,8 +27,8 @@ IsDesign design = (db : Database) × (image : Configuration) × IsDesignOf db im
 -- the pin at which a chain ends
 abbrev pub end_pin : List Pin → ClockEnd → Option PinXy
 end_pin inputs (at_pin place) = option_map (λ pin. record { x = pin.x; y = pin.y; n = pin.n }) (slice_get inputs place)
-end_pin inputs still = None
-end_pin inputs other = None
+end_pin inputs undriven = None
+end_pin inputs logic = None
 
 -- the two nets of a buffer
 abbrev pub ends_of : Buffer → LinkEnds

@@ -182,7 +182,7 @@ impl Design {
         self.ends
             .get(class as usize)
             .copied()
-            .unwrap_or(ClockEnd::Still)
+            .unwrap_or(ClockEnd::Undriven)
     }
 
     /// The pin that is the clock of a net of the database, where its chain ends at one.
@@ -196,7 +196,7 @@ impl Design {
                 y: pin.y,
                 n: pin.n,
             }),
-            ClockEnd::Still | ClockEnd::Other => None,
+            ClockEnd::Undriven | ClockEnd::Logic => None,
         }
     }
 

@@ -16,7 +16,7 @@ use Rattle.net_extract.specs.Fabric.{Fabric, flips_of}
 use Rattle.net_extract.specs.Tiles.{over_grid, item_if, first_of}
 use Rattle.net_extract.specs.Within.{IsNetIn}
 use Rattle.net_extract.specs.Clocks.{ClockEnd, User, cell_user, ram_users, users_at, users_of, clock_end}
-use Rattle.net_extract.specs.Clocks.ClockEnd.{at_pin, still, other}
+use Rattle.net_extract.specs.Clocks.ClockEnd.{at_pin, undriven, logic}
 use Rattle.net_extract.specs.Faults.{Fault, end_fault, user_fault, clock_faults}
 use Rattle.net_extract.specs.Faults.Fault.{clock}
 use Rattle.net_extract.specs.Links.{LinkSet, class_in}
@@ -93,10 +93,10 @@ module _ (x y : ℕ) where
   unfolding fault
   tile-end input net (at_pin place) true is = refl
   tile-end input net (at_pin place) false is = refl
-  tile-end input net still true is = refl
-  tile-end input net still false is = refl
-  tile-end input net other true is = rw is refl
-  tile-end input net other false is = rw is refl
+  tile-end input net undriven true is = refl
+  tile-end input net undriven false is = refl
+  tile-end input net logic true is = rw is refl
+  tile-end input net logic false is = rw is refl
 
   module _ (fabric : Fabric) (links : LinkSet) (ends : List KeptEnd) (same : (net : ℕ) → net < fabric.nets → end_in ends (class_in links net) ≡ clock_end fabric net) where
     tile-with : (input : ClockInput) (net : Option ℕ) → IsNetIn fabric.nets net → (here : Bool) → ((input.x == x) && (input.y == y)) ≡ here

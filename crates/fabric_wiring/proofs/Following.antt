@@ -7,7 +7,7 @@ use Rattle.net_extract.specs.Fabric.{Fabric}
 use Rattle.net_extract.specs.Drivers.{is_driven}
 use Rattle.net_extract.specs.Wiring.{wiring_of, has, IsReady, IsWriteOrder}
 use Rattle.net_extract.specs.Clocks.{ClockEnd, Turn, LeadsTo, turn_at, end_by}
-use Rattle.net_extract.specs.Clocks.ClockEnd.{still}
+use Rattle.net_extract.specs.Clocks.ClockEnd.{undriven}
 use Rattle.net_extract.specs.Clocks.Turn.{ends, goes_to}
 use Rattle.net_extract.specs.Clocks.LeadsTo.{ends_here, goes_on}
 use Rattle.net_extract.proofs.Joins.{class_of-le}
@@ -16,7 +16,7 @@ use Rattle.net_extract.proofs.OneValue.{IsWithin, driven-is, count-is}
 use Rattle.net_extract.proofs.Chains.{leads-one, clock_end-leads, goes-reads, turn-still}
 use Rattle.fabric_wiring.proofs.Lists.{has-split}
 use Rattle.fabric_wiring.specs.declared.ends.ClockEnd.{ClockEnd as KeptEnd}
-use Rattle.fabric_wiring.specs.declared.ends.ClockEnd.TheVariants.{Still}
+use Rattle.fabric_wiring.specs.declared.ends.ClockEnd.TheVariants.{Undriven}
 use Rattle.fabric_wiring.specs.Ends.{end_of, end_in, AreEndsOf}
 
 -- the ends of the chains from listed classes, and from classes without a driver, are found
@@ -26,7 +26,7 @@ AreFound fabric listed kept =
 
 module _ (fabric : Fabric) where
   -- at first those from classes without a driver are
-  pub still-found : (kept : List KeptEnd) → ((class : ℕ) → end_in kept class ≡ still) → AreFound fabric [] kept
+  pub still-found : (kept : List KeptEnd) → ((class : ℕ) → end_in kept class ≡ undriven) → AreFound fabric [] kept
   still-found kept all class (inl listed) = absurd (has-none class listed)
   still-found kept all class (inr away) = subst (λ end. LeadsTo fabric class end) (sym (all class)) (ends_here (turn-still fabric class away))
 
@@ -59,13 +59,13 @@ module _ (fabric : Fabric) where
           | inl at ↦
               let within : get_or order place 0 < length kept = omega (arith, next-below, classes) in
               let now : end_in (set kept (get_or order place 0) end) (get_or order place 0) ≡ end_of end =
-              ap end_of (get_or-set_same kept (get_or order place 0) end Still within) in
+              ap end_of (get_or-set_same kept (get_or order place 0) end Undriven within) in
               let leads = next-leads (turn_at fabric (get_or order place 0)) refl here in
               subst (λ c. LeadsTo fabric c (end_in (set kept (get_or order place 0) end) c)) (sym at)
               (subst (λ e. LeadsTo fabric (get_or order place 0) e) (sym now) leads)
           | inr apart ↦
               let same_end : end_in (set kept (get_or order place 0) end) k ≡ end_in kept k =
-              ap end_of (get_or-set_other kept (get_or order place 0) k end Still apart) in
+              ap end_of (get_or-set_other kept (get_or order place 0) k end Undriven apart) in
               let before : (has (take place order) k ≡ true) ⊎ (is_driven fabric k ≡ false) = elim listed [
                 | inl has_it ↦ elim (has-split (take place order) (get_or order place 0) k (ap (λ l. has l k) (sym (take_more order place 0 there)) ∙ has_it)) [
                   | inl first ↦ inl first

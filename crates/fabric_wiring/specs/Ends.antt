@@ -3,19 +3,19 @@ use Rattle.std.specs.Prelude.{◌≡◌, ℕ, ◌<◌, List, length, get_or}
 use Rattle.net_extract.specs.Joins.{class_of}
 use Rattle.net_extract.specs.Fabric.{Fabric}
 use Rattle.net_extract.specs.Clocks.{ClockEnd, clock_end}
-use Rattle.net_extract.specs.Clocks.ClockEnd.{at_pin, still, other}
+use Rattle.net_extract.specs.Clocks.ClockEnd.{at_pin, undriven, logic}
 use Rattle.fabric_wiring.specs.declared.ends.ClockEnd.{ClockEnd as KeptEnd}
-use Rattle.fabric_wiring.specs.declared.ends.ClockEnd.TheVariants.{Pin, Still, Other}
+use Rattle.fabric_wiring.specs.declared.ends.ClockEnd.TheVariants.{Pin, Undriven, Logic}
 
 -- what a kept end says
 abbrev pub end_of : KeptEnd → ClockEnd
 end_of (Pin place) = at_pin place
-end_of Still = still
-end_of Other = other
+end_of Undriven = undriven
+end_of Logic = logic
 
 -- the end that is kept for a class
 abbrev pub end_in : List KeptEnd → ℕ → ClockEnd
-end_in ends class = end_of (get_or ends class Still)
+end_in ends class = end_of (get_or ends class Undriven)
 
 -- ends are those of a fabric where the clock of each net comes from the end that is kept for its class
 pub record AreEndsOf (fabric : Fabric) (ends : List KeptEnd) : Type 0 where

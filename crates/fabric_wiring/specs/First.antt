@@ -7,7 +7,7 @@ use Rattle.net_extract.specs.declared.ram.RamCell.{RamCell}
 use Rattle.net_extract.specs.declared.driver.ClockUser.TheVariants.{Cell, Read, Write}
 use Rattle.net_extract.specs.Tiles.{over_grid, item_if, first_of}
 use Rattle.net_extract.specs.Clocks.{ClockEnd}
-use Rattle.net_extract.specs.Clocks.ClockEnd.{at_pin, still, other}
+use Rattle.net_extract.specs.Clocks.ClockEnd.{at_pin, undriven, logic}
 use Rattle.net_extract.specs.Links.{LinkSet, class_in}
 use Rattle.fabric_wiring.specs.declared.ends.ClockEnd.{ClockEnd as KeptEnd}
 use Rattle.fabric_wiring.specs.declared.users.Unclocked.{Unclocked}
@@ -29,8 +29,8 @@ ram_inputs ram =
 -- whether a chain ends at another driver than a pin
 abbrev pub is_other : ClockEnd → Bool
 is_other (at_pin place) = false
-is_other still = false
-is_other other = true
+is_other undriven = false
+is_other logic = true
 
 -- an input with that net, where its clock comes from another driver than a pin
 abbrev pub unclocked_with : LinkSet → List KeptEnd → ClockInput → Option ℕ → List Unclocked

@@ -4,7 +4,7 @@ ghost use Rattle.net_extract.specs.Fabric.{Fabric};
 ghost use Rattle.net_extract.specs.Wiring.{wiring_of, IsWriteOrder};
 ghost use Rattle.net_extract.specs.Clocks.{turn_by, turn_of, end_by};
 ghost use Rattle.net_extract.specs.Clocks.Turn.{goes_to};
-ghost use Rattle.net_extract.specs.Clocks.ClockEnd.{still};
+ghost use Rattle.net_extract.specs.Clocks.ClockEnd.{undriven};
 ghost use Rattle.net_extract.specs.Links.{class_in};
 ghost use Rattle.fabric_wiring.specs.Drives.{rule_of, drive_of};
 ghost use Rattle.fabric_wiring.specs.Parts.{ArePartsOf};
@@ -21,9 +21,9 @@ pub enum ClockEnd {
     /// At the input pin of that place among the input pins.
     Pin(u32),
     /// At a class without a driver.
-    Still,
+    Undriven,
     /// At any other driver.
-    Other,
+    Logic,
 }
 
 /// Finds where the chain from each class ends, along the write order: an end for each class, from the least on.
@@ -50,9 +50,9 @@ pub fn clock_ends(
 /// As many ends of chains without a driver.
 fn all_still(alloc: Global, count: usize) -> Result<Vec<ClockEnd>, AllocError>
     ensures length { IfOk result (λ ends. length ends.items ≡ count) }
-    ensures still { IfOk result (λ ends. (class : ℕ) → end_in ends.items class ≡ still) }
+    ensures undriven { IfOk result (λ ends. (class : ℕ) → end_in ends.items class ≡ undriven) }
 {
-    vec![in alloc; ClockEnd::Still; count]
+    vec![in alloc; ClockEnd::Undriven; count]
 }
 
 /// Sets the ends of the chains from all classes with a driver, where those of all others are set.
@@ -62,7 +62,7 @@ fn follow(parts: &Parts, drivers: &Drivers, order: &[u32], ends: &mut [ClockEnd]
     requires drivers { AreDriversOf fabric drivers.now }
     requires order { IsWriteOrder (wiring_of fabric) order.now }
     requires classes { length ends.old ≡ fabric.nets }
-    requires still { (class : ℕ) → end_in ends.old class ≡ still }
+    requires undriven { (class : ℕ) → end_in ends.old class ≡ undriven }
     ensures { AreEndsOf fabric ends.new }
 {
     for class in order {
@@ -77,7 +77,7 @@ fn end_from(links: &Links, drivers: &Drivers, ends: &[ClockEnd], class: u32) -> 
     ensures { end_of result ≡ end_by (λ net. end_in ends.now (class_in links.now net)) (turn_of (map drive_of (option_to_list (driver_in drivers.now class)))) }
 {
     match drivers.of_class(class) {
-        None => ClockEnd::Still,
+        None => ClockEnd::Undriven,
         Some(drive) => end_along(links, ends, drive.rule),
     }
 }
@@ -90,7 +90,7 @@ fn end_along(links: &Links, ends: &[ClockEnd], rule: Rule) -> ClockEnd
     match rule {
         Rule::PinBit(place) => ClockEnd::Pin(place),
         Rule::Copied(net) => end_at(ends, links.class_of(net)),
-        _ => ClockEnd::Other,
+        _ => ClockEnd::Logic,
     }
 }
 
@@ -99,7 +99,7 @@ pub(crate) fn end_at(ends: &[ClockEnd], class: u32) -> ClockEnd
     ensures { end_of result ≡ end_in ends.now class }
 {
     match ends.get(class as usize) {
-        None => ClockEnd::Still,
+        None => ClockEnd::Undriven,
         Some(end) => *end,
     }
 }

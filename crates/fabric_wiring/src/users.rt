@@ -167,7 +167,7 @@ fn without_pin(links: &Links, ends: &[ClockEnd], input: ClockInput) -> Option<Un
 fn ends_otherwise(ends: &[ClockEnd], class: u32) -> bool
     ensures { result ≡ is_other (end_in ends.now class) }
 {
-    matches!(end_at(ends, class), ClockEnd::Other)
+    matches!(end_at(ends, class), ClockEnd::Logic)
 }
 
 /// The one of two whose tile goes first, which is what was found where both stand at one tile. One off the grid doesn't count.

@@ -9,7 +9,7 @@ use Rattle.net_extract.specs.Drivers.Rule.{pin_bit, sent_back, lut_entry, flip_b
 use Rattle.net_extract.specs.Values.{State, value_of, bit_in, is_connected, IsConsistent}
 use Rattle.net_extract.specs.Wiring.{Wiring, wiring_of, has, depends, IsReady, IsWriteOrder}
 use Rattle.net_extract.specs.Clocks.{ClockEnd, Turn, LeadsTo, turn_by, turn_of, turn_at, end_by, end_within, clock_end}
-use Rattle.net_extract.specs.Clocks.ClockEnd.{at_pin, still, other}
+use Rattle.net_extract.specs.Clocks.ClockEnd.{at_pin, undriven, logic}
 use Rattle.net_extract.specs.Clocks.Turn.{ends, goes_to}
 use Rattle.net_extract.specs.Clocks.LeadsTo.{ends_here, goes_on}
 use Rattle.net_extract.proofs.Order.{has-none, has-first, has-cases, Continues, order-continues}
@@ -57,7 +57,7 @@ module _ (wiring : Wiring) where
 
 module _ (fabric : Fabric) where
   -- a class without a driver is still
-  pub turn-still : (class : ℕ) → is_driven fabric class ≡ false → turn_at fabric class ≡ ends still
+  pub turn-still : (class : ℕ) → is_driven fabric class ≡ false → turn_at fabric class ≡ ends undriven
   unfolding turn_at
   turn-still class away = ap turn_of (none-driven fabric class away)
 
@@ -101,7 +101,7 @@ module _ (fabric : Fabric) where
   leads-here more class end is = ends_here (is ∙ ap ends (sym (search-ends more class end is)))
 
   leads-still : (more class : ℕ) → is_driven fabric class ≡ false → LeadsTo fabric class (end_within fabric (suc more) class)
-  leads-still more class away = leads-here more class still (turn-still class away)
+  leads-still more class away = leads-here more class undriven (turn-still class away)
 
   leads-on : (more class net : ℕ) → turn_at fabric class ≡ goes_to net → LeadsTo fabric (class_of fabric.joins net) (end_within fabric more (class_of fabric.joins net))
       → LeadsTo fabric class (end_within fabric (suc more) class)
@@ -169,8 +169,8 @@ module _ (fabric : Fabric) where
 -- the value of the end of a chain: that of its pin, and 0 where it is still
 abbrev pub HasEndValue : List Bool → ClockEnd → Bool → Type 0
 HasEndValue pins (at_pin place) bit = bit ≡ get_or pins place false
-HasEndValue pins still bit = bit ≡ false
-HasEndValue pins other bit = Unit {0}
+HasEndValue pins undriven bit = bit ≡ false
+HasEndValue pins logic bit = Unit {0}
 
 module _ (fabric : Fabric) (within : IsWithin fabric) (state : State) (pins v : List Bool) (is : IsConsistent fabric state pins v) where
   -- a driver at which a chain ends
@@ -179,12 +179,12 @@ module _ (fabric : Fabric) (within : IsWithin fabric) (state : State) (pins v : 
   unfolding value_of
   rule-end (pin_bit place) end bit turn value =
       let at : at_pin place ≡ end = cc in subst (λ e. HasEndValue pins e bit) at value
-  rule-end (sent_back source) end bit turn value = let at : other ≡ end = cc in subst (λ e. HasEndValue pins e bit) at tt
-  rule-end (lut_entry lc) end bit turn value = let at : other ≡ end = cc in subst (λ e. HasEndValue pins e bit) at tt
-  rule-end (flip_bit place) end bit turn value = let at : other ≡ end = cc in subst (λ e. HasEndValue pins e bit) at tt
-  rule-end (carry_out lc) end bit turn value = let at : other ≡ end = cc in subst (λ e. HasEndValue pins e bit) at tt
-  rule-end one end bit turn value = let at : other ≡ end = cc in subst (λ e. HasEndValue pins e bit) at tt
-  rule-end (register_bit ram place) end bit turn value = let at : other ≡ end = cc in subst (λ e. HasEndValue pins e bit) at tt
+  rule-end (sent_back source) end bit turn value = let at : logic ≡ end = cc in subst (λ e. HasEndValue pins e bit) at tt
+  rule-end (lut_entry lc) end bit turn value = let at : logic ≡ end = cc in subst (λ e. HasEndValue pins e bit) at tt
+  rule-end (flip_bit place) end bit turn value = let at : logic ≡ end = cc in subst (λ e. HasEndValue pins e bit) at tt
+  rule-end (carry_out lc) end bit turn value = let at : logic ≡ end = cc in subst (λ e. HasEndValue pins e bit) at tt
+  rule-end one end bit turn value = let at : logic ≡ end = cc in subst (λ e. HasEndValue pins e bit) at tt
+  rule-end (register_bit ram place) end bit turn value = let at : logic ≡ end = cc in subst (λ e. HasEndValue pins e bit) at tt
   rule-end (copied source) end bit turn value = absurd cc
 
   copied-value : (rule : Rule) (net : ℕ) → rule ≡ copied net → value_of (is_connected fabric) state pins (bit_in v) rule ≡ bit_in v net
@@ -207,8 +207,8 @@ module _ (fabric : Fabric) (within : IsWithin fabric) (state : State) (pins v : 
             let rule : turn_by found.0.rule ≡ ends end = sym (turn-first fabric class found.0 found.1 (first-is fabric class found.0 found.1 found.2)) ∙ turn in
             rule-end found.0.rule end (class_bit fabric within state pins v class) rule (first-value class driven)
         | inr away ↦
-            let turns : ends still ≡ ends end = sym (turn-still fabric class away) ∙ turn in
-            let at : still ≡ end = cc in
+            let turns : ends undriven ≡ ends end = sym (turn-still fabric class away) ∙ turn in
+            let at : undriven ≡ end = cc in
             subst (λ e. HasEndValue pins e (class_bit fabric within state pins v class)) at (class-still fabric within state pins v class away)
       ]
   chain-value {class} {end} (goes_on net turn rest) =
@@ -220,7 +220,7 @@ module _ (fabric : Fabric) (within : IsWithin fabric) (state : State) (pins v : 
             let same : class_bit fabric within state pins v class ≡ class_bit fabric within state pins v (class_of fabric.joins net) =
             first-value class driven ∙ (copied-value found.0.rule net rule ∙ net-bit fabric within state pins v is net) in
             subst (HasEndValue pins end) (sym same) (chain-value rest)
-        | inr away ↦ let never : ends still ≡ goes_to net = sym (turn-still fabric class away) ∙ turn in absurd cc
+        | inr away ↦ let never : ends undriven ≡ goes_to net = sym (turn-still fabric class away) ∙ turn in absurd cc
       ]
 
   -- a net has the value of the end of its chain

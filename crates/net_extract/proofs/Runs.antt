@@ -24,7 +24,7 @@ use Rattle.net_extract.specs.Fabric.{Fabric, numbered, inputs_of, flips_of, fabr
 use Rattle.net_extract.specs.Values.{State, bit_in, is_connected, IsConsistent}
 use Rattle.net_extract.specs.Steps.{has_edge, flip_after, words_after, register_after, state_after, Event, Entry, output_values, IsEntry, Follows, start_state, IsFirst, FollowEach, IsRun}
 use Rattle.net_extract.specs.Clocks.{ClockEnd, User, cell_user, ram_users, users_at, users_of, clock_end}
-use Rattle.net_extract.specs.Clocks.ClockEnd.{at_pin, still, other}
+use Rattle.net_extract.specs.Clocks.ClockEnd.{at_pin, undriven, logic}
 use Rattle.net_extract.specs.Faults.{end_fault, user_fault, clock_faults, fabric_fault, design_fault}
 use Rattle.net_extract.proofs.OneValue.{IsWithin, filter-has}
 use Rattle.net_extract.proofs.Taken.{design-taken, taken-order, taken-value, taken-clocks}
@@ -180,8 +180,8 @@ module _ (before one two : ℕ → Bool) where
 -- the bit of the end of a chain
 abbrev pub end_bit : List Bool → ClockEnd → Bool
 end_bit pins (at_pin place) = get_or pins place false
-end_bit pins still = false
-end_bit pins other = false
+end_bit pins undriven = false
+end_bit pins logic = false
 
 -- the bit that the pins give a clock net
 pub clock_bit : Fabric → List Bool → ℕ → Bool
@@ -194,18 +194,18 @@ clock_bit-is fabric pins net = refl
 -- an end that a clock of a user may have
 abbrev pub IsClockEnd : ClockEnd → Type 0
 IsClockEnd (at_pin place) = Unit {0}
-IsClockEnd still = Unit {0}
-IsClockEnd other = ⊥
+IsClockEnd undriven = Unit {0}
+IsClockEnd logic = ⊥
 
 end-value : (pins : List Bool) (end : ClockEnd) (bit : Bool) → IsClockEnd end → HasEndValue pins end bit → bit ≡ end_bit pins end
 end-value pins (at_pin place) bit good has = has
-end-value pins still bit good has = has
-end-value pins other bit good has = absurd good
+end-value pins undriven bit good has = has
+end-value pins logic bit good has = absurd good
 
 end-good : (user : User) (net : ℕ) (end : ClockEnd) → end_fault user net end ≡ [] → IsClockEnd end
 end-good user net (at_pin place) none = tt
-end-good user net still none = tt
-end-good user net other none = absurd cc
+end-good user net undriven none = tt
+end-good user net logic none = absurd cc
 
 -- a clock net that may be missing has such an end
 abbrev pub IsClocked : Fabric → Option ℕ → Type 0

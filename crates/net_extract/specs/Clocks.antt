@@ -16,8 +16,8 @@ use Rattle.net_extract.specs.Drivers.Rule.{pin_bit, copied}
 -- where a chain ends: at the input pin of that place, at a class without a driver, or at any other driver
 pub data ClockEnd : Type 0 where
   at_pin : ℕ → ClockEnd
-  still : ClockEnd
-  other : ClockEnd
+  undriven : ClockEnd
+  logic : ClockEnd
 
 -- what a chain does at a class: it ends, or goes on to the class of another net
 pub data Turn : Type 0 where
@@ -28,10 +28,10 @@ pub data Turn : Type 0 where
 abbrev pub turn_by : Rule → Turn
 turn_by (pin_bit place) = ends (at_pin place)
 turn_by (copied net) = goes_to net
-turn_by rule = ends other
+turn_by rule = ends logic
 
 abbrev pub turn_of : List Drive → Turn
-turn_of [] = ends still
+turn_of [] = ends undriven
 turn_of (drive ∷ drives) = turn_by drive.rule
 
 -- what a chain does at a class
@@ -52,7 +52,7 @@ end_by later (goes_to net) = later net
 -- Where the chain from a class ends that comes to so many classes at most. One that comes to more classes than there are nets
 -- comes back to a class, and counts as another end: a fabric with such a cycle isn't taken.
 unfoldable pub end_within : Fabric → ℕ → ℕ → ClockEnd
-end_within fabric zero class = other
+end_within fabric zero class = logic
 end_within fabric (suc more) class = end_by (λ net. end_within fabric more (class_of fabric.joins net)) (turn_at fabric class)
 
 -- where the clock of a net comes from

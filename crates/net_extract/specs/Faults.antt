@@ -17,7 +17,7 @@ use Rattle.net_extract.specs.Fabric.{Fabric, fabric_of}
 use Rattle.net_extract.specs.Drivers.{Drive, drivers_of}
 use Rattle.net_extract.specs.Wiring.{Wiring, wiring_of, is_on_cycle}
 use Rattle.net_extract.specs.Clocks.{ClockEnd, User, users_of, clock_end}
-use Rattle.net_extract.specs.Clocks.ClockEnd.{at_pin, still, other}
+use Rattle.net_extract.specs.Clocks.ClockEnd.{at_pin, undriven, logic}
 
 -- a cause with what has it
 pub data Fault : Type 0 where
@@ -96,8 +96,8 @@ loop_faults wiring = gathered_below wiring.count (λ class. item_if (is_on_cycle
 
 abbrev pub end_fault : User → ℕ → ClockEnd → List Fault
 end_fault user net (at_pin place) = []
-end_fault user net still = []
-end_fault user net other = clock user.x user.y user.user net ∷ []
+end_fault user net undriven = []
+end_fault user net logic = clock user.x user.y user.user net ∷ []
 
 -- a user without a net has no clock
 abbrev pub user_fault : Fabric → User → Option ℕ → List Fault

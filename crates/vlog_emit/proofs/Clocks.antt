@@ -13,7 +13,7 @@ use Rattle.net_extract.specs.Joins.{class_of}
 use Rattle.net_extract.specs.Fabric.{Fabric, outputs_of, flips_of}
 use Rattle.net_extract.specs.Drivers.{is_driven}
 use Rattle.net_extract.specs.Clocks.{ClockEnd, LeadsTo, clock_end}
-use Rattle.net_extract.specs.Clocks.ClockEnd.{at_pin, still, other}
+use Rattle.net_extract.specs.Clocks.ClockEnd.{at_pin, undriven, logic}
 use Rattle.net_extract.specs.Wiring.{wiring_of, IsWriteOrder}
 use Rattle.net_extract.proofs.Chains.{clock_end-leads}
 use Rattle.net_extract.proofs.OneValue.{IsWithin}
@@ -86,8 +86,8 @@ module _ (fabric : Fabric) (within : IsWithin fabric) (writable : IsWritable fab
       let same : Some (input_name fabric place) ≡ Some name = is in
       let named : input_name fabric place ≡ name = cc in
       subst (λ n. IsThere scope n sort.Input) named (knows.input place (leads-place fabric writable leads place refl))
-  end-there class still name leads is = absurd cc
-  end-there class other name leads is = absurd cc
+  end-there class undriven name leads is = absurd cc
+  end-there class logic name leads is = absurd cc
 
   pub clock-there : (clock : Option ℕ) (name : List ℕ) → clock_name fabric clock ≡ Some name → IsThere scope name sort.Input
   unfolding clock_name

@@ -16,7 +16,7 @@ use Rattle.net_extract.specs.Drivers.Rule.{pin_bit, sent_back, lut_entry, flip_b
 use Rattle.net_extract.specs.Values.{bit_in}
 use Rattle.net_extract.specs.Steps.{has_edge, Event, Entry, IsEntry, Follows}
 use Rattle.net_extract.specs.Clocks.{ClockEnd, LeadsTo, turn_by, clock_end}
-use Rattle.net_extract.specs.Clocks.ClockEnd.{at_pin, still, other}
+use Rattle.net_extract.specs.Clocks.ClockEnd.{at_pin, undriven, logic}
 use Rattle.net_extract.specs.Clocks.Turn.{ends}
 use Rattle.net_extract.specs.Clocks.LeadsTo.{ends_here, goes_on}
 use Rattle.net_extract.specs.Faults.{fabric_fault}
@@ -101,7 +101,7 @@ leads-place fabric writable {class} (ends_here turn) place at =
           let turned : turn_by found.0.rule ≡ ends (at_pin place) =
           sym (turn-first fabric class found.0 found.1 (first-is fabric class found.0 found.1 found.2)) ∙ (turn ∙ ap ends at) in
           subst (IsPlaceIn fabric) (rule-pin found.0.rule place turned) (writable.places found.0 found.2.there)
-      | inr away ↦ let never : ends still ≡ ends (at_pin place) = sym (turn-still fabric class away) ∙ (turn ∙ ap ends at) in absurd cc
+      | inr away ↦ let never : ends undriven ≡ ends (at_pin place) = sym (turn-still fabric class away) ∙ (turn ∙ ap ends at) in absurd cc
     ]
 leads-place fabric writable (goes_on net turn rest) place at = leads-place fabric writable rest place at
 
@@ -153,11 +153,11 @@ module _ (device : DeviceName) (fabric : Fabric) (taken : fabric_fault device fa
   tick-end : (inverted : Bool) (net : ℕ) (end : ClockEnd) → clock_end fabric net ≡ end → IsClockEnd end
       → clock_test (map port_of fabric.pins) (module_event event) inverted (end_name fabric end) ≡ has_edge inverted (Some net) (bit_in before.v) (bit_in after.v)
   tick-end inverted net (at_pin place) is good = tick-pin inverted net place is
-  tick-end inverted net still is good =
-      let stays : bit_in before.v net ≡ bit_in after.v net = bit-before net still is tt ∙ sym (bit-after net still is tt) in
+  tick-end inverted net undriven is good =
+      let stays : bit_in before.v net ≡ bit_in after.v net = bit-before net undriven is tt ∙ sym (bit-after net undriven is tt) in
       let none : has_edge inverted (Some net) (bit_in before.v) (bit_in after.v) ≡ false = rw stays (no-edge inverted (bit_in after.v net)) in
       sym none
-  tick-end inverted net other is good = absurd good
+  tick-end inverted net logic is good = absurd good
 
   -- the module's clock ticks where the fabric's does
   pub tick : (inverted : Bool) (clock : Option ℕ) → IsClocked fabric clock

@@ -11,7 +11,7 @@ use Rattle.net_extract.specs.declared.pin.Pin.{Pin}
 use Rattle.net_extract.specs.Tiles.{each_below}
 use Rattle.net_extract.specs.Fabric.{Fabric, numbered, outputs_of, flips_of}
 use Rattle.net_extract.specs.Clocks.{ClockEnd, clock_end}
-use Rattle.net_extract.specs.Clocks.ClockEnd.{at_pin, still, other}
+use Rattle.net_extract.specs.Clocks.ClockEnd.{at_pin, undriven, logic}
 use Rattle.vlog_emit.specs.Names.{port_name, flip_name, register_name, memory_name, wire_name}
 use Rattle.vlog_emit.specs.Rights.{atom_or_0, atom_or_1, port_atoms, cell_lut, input_name, class_right}
 
@@ -20,8 +20,8 @@ use Rattle.vlog_emit.specs.Rights.{atom_or_0, atom_or_1, port_atoms, cell_lut, i
 -- the port of the pin at which a chain ends
 abbrev pub end_name : Fabric → ClockEnd → Option (List ℕ)
 end_name fabric (at_pin place) = Some (input_name fabric place)
-end_name fabric still = None
-end_name fabric other = None
+end_name fabric undriven = None
+end_name fabric logic = None
 
 -- the port that is the clock of a net; a clock that is no pin has none
 unfoldable pub clock_name : Fabric → Option ℕ → Option (List ℕ)

@@ -100,8 +100,8 @@ fn end_name(alloc: Global, design: &Design, net: u32) -> Result<Option<Name>, Al
             let name = input_name(alloc, design, place as usize)?;
             Ok(Some(name))
         }
-        ClockEnd::Still => Ok(None),
-        ClockEnd::Other => Ok(None),
+        ClockEnd::Undriven => Ok(None),
+        ClockEnd::Logic => Ok(None),
     }
 }
 

@@ -1,6 +1,6 @@
 use Rattle.std.proofs.Common.{sym, ap, ◌∙◌}
 use Rattle.std.specs.Prelude.{Some}
-use Rattle.net_extract.specs.Clocks.ClockEnd.{at_pin, still, other}
+use Rattle.net_extract.specs.Clocks.ClockEnd.{at_pin, undriven, logic}
 use Rattle.vlog_write.proofs.Kept.{clock-end}
 use Rattle.vlog_write.proofs.Within.{clock-within}
 use Rattle.vlog_write.proofs.items.end_name.Goals as goal
@@ -13,8 +13,8 @@ returns-in_ok-name-in-Pin c fabric kept =
     ap (λ name. Some name) (c.in_ok-name-in-Pin.ensures fabric kept)
     ∙ clock-end fabric c.args.design.now kept c.args.net c.requires.within (at_pin c.in-Pin.place) c.in-Pin.ensures
 
-pub returns-in-Still : goal.returns-in-Still
-returns-in-Still c fabric kept = clock-end fabric c.args.design.now kept c.args.net c.requires.within still c.in-Still.ensures
+pub returns-in-Undriven : goal.returns-in-Undriven
+returns-in-Undriven c fabric kept = clock-end fabric c.args.design.now kept c.args.net c.requires.within undriven c.in-Undriven.ensures
 
-pub returns-in-Other : goal.returns-in-Other
-returns-in-Other c fabric kept = clock-end fabric c.args.design.now kept c.args.net c.requires.within other c.in-Other.ensures
+pub returns-in-Logic : goal.returns-in-Logic
+returns-in-Logic c fabric kept = clock-end fabric c.args.design.now kept c.args.net c.requires.within logic c.in-Logic.ensures

@@ -2,6 +2,7 @@
 
 mod command;
 mod decoder;
+mod decoding;
 mod edge;
 mod front;
 mod head;
@@ -9,7 +10,6 @@ mod machine;
 mod registers;
 mod stage;
 mod taking;
-mod whole;
 
 pub use decoder::Decoder;
-pub use whole::{decode, decode_with};
+pub use decoding::{decode, decode_with};

@@ -16,12 +16,10 @@ use crate::modes::{first_cascaded, first_narrow};
 use crate::ram::ram;
 use crate::used::used_rams;
 use chipdb_reader::{ChipDb, TileXy8};
-use net_extract::RamCell;
 use ice_image::AnyImage;
-use net_extract::Links;
+use net_extract::{Links, RamCell, tiles_of_image};
 use plane_map::TileKind;
 use std::alloc::{AllocError, Global};
-use net_extract::tiles_of_image;
 
 /// Finds the RAMs that an image uses, by rows, then by columns.
 ///

@@ -13,8 +13,8 @@ ghost use Rattle.block_ram.specs.Faults.{cascade_at, cascade_fault, is_narrow_by
 
 use chipdb_reader::{ChipDb, TileXy8};
 use ice_image::AnyImage;
-use plane_map::TileKind;
 use net_extract::{Name, is_any_on, is_on};
+use plane_map::TileKind;
 
 /// The RAM at (x, y), and the modes of its ports.
 #[derive(Clone, Copy)]

@@ -7,10 +7,9 @@ ghost use Rattle.block_ram.specs.Rams.{HasRam};
 
 use crate::ports::{numbered_nets, port_net};
 use chipdb_reader::ChipDb;
-use net_extract::RamCell;
 use ice_image::AnyImage;
+use net_extract::{RamCell, is_on};
 use plane_map::TileKind;
-use net_extract::is_on;
 
 /// The RAM at (x, y).
 #[tactic(auto, unfolding(net_extract::specs::Rams::ram_at))]

@@ -8,9 +8,8 @@ ghost use Rattle.net_extract.specs.BelongTogether.{BelongTogether};
 use crate::ports::numbered_net;
 use chipdb_reader::{ChipDb, TileXy8};
 use ice_image::AnyImage;
-use net_extract::Links;
+use net_extract::{Links, is_some_read};
 use std::alloc::{AllocError, Global};
-use net_extract::is_some_read;
 
 /// Those of the lower tiles whose RAMs are used.
 pub(crate) fn used_rams(

@@ -10,7 +10,7 @@ use Rattle.net_extract.specs.Clocks.{ClockEnd}
 use Rattle.net_extract.specs.Clocks.ClockEnd.{at_pin, undriven, logic}
 use Rattle.net_extract.specs.Faults.{design_fault}
 use Rattle.fabric_wiring.specs.declared.parts.Buffer.{Buffer}
-use Rattle.fabric.specs.declared.kept.LinkEnds.{LinkEnds}
+use Rattle.fabric.specs.declared.design_type.LinkEnds.{LinkEnds}
 use Rattle.fabric.specs.Kept.{Kept, IsKeptOf}
 
 -- A design is of a database and an image where they have no fault and it keeps what they configure.

@@ -4,10 +4,9 @@ ghost use Rattle.std.specs.Prelude.{◌≡◌};
 use crate::cycle::Cycle;
 use block_ram::RamFault;
 use fabric_wiring::DriverFault;
-use net_extract::{ClockUser, Driver};
 use io_cell::PinFault;
 use logic_cell::LcFault;
-use net_extract::LinkFault;
+use net_extract::{ClockUser, Driver, LinkFault};
 use std::alloc::AllocError;
 
 /// Why a database and an image aren't taken: the first cause that holds, in the order below, with the least that has it. Tiles go

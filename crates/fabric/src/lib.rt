@@ -5,15 +5,15 @@
 #![tactic(auto)]
 
 mod cycle;
+mod design_type;
 mod fault;
-mod find;
-mod kept;
+mod from_database;
 mod order;
 mod parts;
 mod wire;
 mod words;
 
 pub use cycle::Cycle;
+pub use design_type::{Design, LinkEnds};
 pub use fault::FabricFault;
-pub use find::design;
-pub use kept::{Design, LinkEnds};
+pub use from_database::design;

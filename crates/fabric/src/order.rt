@@ -13,9 +13,7 @@ ghost use Rattle.fabric.specs.Faults.{IsCause};
 
 use crate::cycle::Cycle;
 use crate::fault::FabricFault;
-use fabric_wiring::wires;
-use fabric_wiring::{Drivers, Parts};
-use fabric_wiring::{least_cycle, write_order};
+use fabric_wiring::{Drivers, Parts, least_cycle, wires, write_order};
 use std::alloc::Global;
 
 /// Finds the order in which the classes of a fabric are written, from what they read, or the least class that lies on a cycle.

@@ -25,7 +25,7 @@ use Rattle.fabric_wiring.specs.declared.parts.Parts.{Parts}
 use Rattle.fabric_wiring.specs.Drives.{drive_of}
 use Rattle.fabric_wiring.specs.Parts.{ArePartsOf}
 use Rattle.fabric_wiring.specs.DriverLists.{DriverSet, driver_in, AreDriversOf}
-use Rattle.fabric_wiring.specs.declared.found_wires.Wires.{Wires}
+use Rattle.fabric_wiring.specs.declared.wires_type.Wires.{Wires}
 use Rattle.fabric_wiring.specs.Reading.{row_in}
 use Rattle.fabric_wiring.specs.Wires.{AreAlike, AreWiresOf}
 use Rattle.fabric_wiring.proofs.Drives.{driven-some, driven-none, first-within, kept-within}

@@ -4,7 +4,7 @@ use Rattle.net_extract.specs.Fabric.{Fabric}
 use Rattle.net_extract.specs.Wiring.{Wiring, depends}
 use Rattle.net_extract.specs.Wiring.{wiring_of as wiring_of_fabric}
 use Rattle.fabric_wiring.specs.Rows.{wiring_of, ReadsWithin, ReadsByDriven}
-use Rattle.fabric_wiring.specs.declared.found_wires.Wires.{Wires}
+use Rattle.fabric_wiring.specs.declared.wires_type.Wires.{Wires}
 
 -- two wirings that say the same
 pub record AreAlike (one two : Wiring) : Type 0 where

@@ -7,9 +7,9 @@ ghost use Rattle.fabric_wiring.specs.Parts.{ArePartsOf};
 ghost use Rattle.fabric_wiring.specs.DriverLists.{AreDriversOf};
 ghost use Rattle.fabric_wiring.specs.Faults.{IsCause};
 
-use crate::all::all_drives;
+use crate::drivers_type::Drivers;
+use crate::every_driver::all_drives;
 use crate::fault::DriverFault;
-use crate::found_drivers::Drivers;
 use crate::parts::Parts;
 use crate::places::places;
 use std::alloc::Global;

@@ -6,14 +6,13 @@
 //! [`least_cycle`] finds the least class that lies on a cycle. The calls of [`Drivers`] take no memory.
 #![tactic(auto)]
 
-mod all;
 mod cells;
 mod cycle;
 mod drive;
+mod drivers_type;
 mod ends;
+mod every_driver;
 mod fault;
-mod found_drivers;
-mod found_wires;
 mod gather;
 mod levels;
 mod order;
@@ -28,15 +27,16 @@ mod ready;
 mod search;
 mod twice;
 mod users;
+mod wires_type;
 
 pub use cycle::least_cycle;
 pub use drive::{Drive, Rule};
+pub use drivers_type::Drivers;
 pub use ends::{ClockEnd, clock_ends};
 pub use fault::DriverFault;
-pub use found_drivers::Drivers;
-pub use found_wires::Wires;
 pub use gather::drivers;
 pub use order::write_order;
 pub use parts::{Buffer, Parts};
 pub use reading::wires;
 pub use users::{Unclocked, first_unclocked};
+pub use wires_type::Wires;

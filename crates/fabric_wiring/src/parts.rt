@@ -1,7 +1,6 @@
 // The parts of a fabric.
 
-use net_extract::{CarrySet, GlobalNet, Lc, Pin, RamCell};
-use net_extract::Links;
+use net_extract::{CarrySet, GlobalNet, Lc, Links, Pin, RamCell};
 
 /// A buffer that is on: the `.buffer` line of that place in the database, and its two nets.
 #[derive(Clone, Copy, Debug, PartialEq, Eq)]

@@ -11,7 +11,7 @@ ghost use Rattle.fabric_wiring.specs.DriverLists.{AreDriversOf, driver_in};
 ghost use Rattle.fabric_wiring.specs.Reading.{classes_read, row_in};
 ghost use Rattle.fabric_wiring.specs.Wires.{AreWiresOf};
 
-use crate::found_wires::Wires;
+use crate::wires_type::Wires;
 use crate::{Drive, Drivers, Parts, Rule};
 use net_extract::Links;
 use std::alloc::{AllocError, Global};

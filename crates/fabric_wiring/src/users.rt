@@ -10,10 +10,9 @@ ghost use Rattle.fabric_wiring.specs.Ends.{end_in, AreEndsOf};
 ghost use Rattle.fabric_wiring.specs.Users.{fault_of};
 ghost use Rattle.fabric_wiring.specs.First.{cell_inputs, ram_inputs, is_other, unclocked_by, unclocked_in, first_on, is_on_grid, is_before, is_before_any};
 
-use crate::ends::{ClockEnd, end_at};
 use crate::Parts;
-use net_extract::{ClockUser, Lc, RamCell};
-use net_extract::Links;
+use crate::ends::{ClockEnd, end_at};
+use net_extract::{ClockUser, Lc, Links, RamCell};
 use plane_map::DeviceName;
 
 /// A user of a clock at the tile at (x, y), and the net of its clock, which comes from another driver than a pin.

@@ -10,6 +10,7 @@ mod cells;
 mod database;
 mod draws;
 mod event;
+mod full_image;
 mod head;
 mod lines;
 mod names;
@@ -17,11 +18,10 @@ mod numbers;
 mod pins;
 mod rams;
 mod tiles;
-mod whole;
 
 pub use database::chipdb;
 pub use event::{PinEvent, events};
-pub use whole::image;
+pub use full_image::image;
 
 #[cfg(test)]
 mod tests;

@@ -18,12 +18,10 @@ use crate::pin::{PinSet, pin};
 use crate::pintype::{is_port, pintype};
 use crate::refused::{first_pll, first_refused};
 use chipdb_reader::{ChipDb, TileXy8};
-use net_extract::Pin;
 use ice_image::AnyImage;
-use net_extract::Links;
+use net_extract::{Links, Pin, tiles_of_image};
 use plane_map::TileKind;
 use std::alloc::{AllocError, Global};
-use net_extract::tiles_of_image;
 
 /// Finds the pins of an image that are ports, and its global nets.
 ///

@@ -11,10 +11,9 @@ ghost use Rattle.net_extract.specs.Tiles.{item_if};
 ghost use Rattle.io_cell.specs.Globals.{global_net, AreOneDevice};
 
 use chipdb_reader::{ChipDb, PinXy};
-use net_extract::{GlobalFrom, GlobalNet};
 use ice_image::AnyImage;
+use net_extract::{GlobalFrom, GlobalNet, Name};
 use std::alloc::{AllocError, Global};
-use net_extract::Name;
 
 /// The nets of globals 0 to 7 with what gives them their values.
 pub(crate) fn globals(

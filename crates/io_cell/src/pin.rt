@@ -5,8 +5,7 @@ ghost use Rattle.net_extract.specs.Pins.{io_net, pin_with};
 
 use crate::pintype::{has_plain_input, has_plain_output};
 use chipdb_reader::ChipDb;
-use net_extract::{GlobalNet, Pin};
-use net_extract::Name;
+use net_extract::{GlobalNet, Name, Pin};
 
 /// The pins that are ports, by tile and number, and the nets of the globals 0 to 7, by global and net. Tiles go by rows, then by
 /// columns.

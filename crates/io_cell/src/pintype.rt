@@ -8,8 +8,8 @@ ghost use Rattle.net_extract.specs.TilesOfKind.{HasTile};
 
 use chipdb_reader::ChipDb;
 use ice_image::AnyImage;
-use plane_map::TileKind;
 use net_extract::{Name, is_on};
+use plane_map::TileKind;
 
 /// The type of pin `n` of the io tile at (x, y): a number of six bits.
 pub(crate) fn pintype(db: &ChipDb, image: &AnyImage, x: u8, y: u8, n: u8) -> u8

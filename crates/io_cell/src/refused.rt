@@ -20,9 +20,8 @@ use crate::pintype::{
 };
 use chipdb_reader::{ChipDb, PinXy, TileXy8};
 use ice_image::AnyImage;
-use net_extract::Links;
+use net_extract::{Links, is_any_on, is_on, is_some_read};
 use plane_map::TileKind;
-use net_extract::{is_any_on, is_on, is_some_read};
 
 /// Pin `n` of the tile at (x, y), and its type.
 #[derive(Clone, Copy)]

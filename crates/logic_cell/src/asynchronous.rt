@@ -12,8 +12,8 @@ ghost use Rattle.logic_cell.specs.Faults.{async_at, async_faults_in, fault_at};
 use crate::bits::cell_bits;
 use chipdb_reader::{ChipDb, TileXy8};
 use ice_image::AnyImage;
-use plane_map::TileKind;
 use net_extract::listed_bit;
+use plane_map::TileKind;
 
 /// Cell `i` of the tile at (x, y).
 #[derive(Clone, Copy)]

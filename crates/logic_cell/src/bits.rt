@@ -11,8 +11,8 @@ ghost use Rattle.net_extract.specs.TilesOfKind.{HasTile};
 
 use chipdb_reader::ChipDb;
 use ice_image::AnyImage;
-use plane_map::{RowCol, TileKind};
 use net_extract::{Name, function_bits, listed_bit};
+use plane_map::{RowCol, TileKind};
 
 /// Which bits of a cell are entries 0 to 15 of its LUT.
 const ENTRY_BITS: [usize; 16] = [4, 14, 15, 5, 6, 16, 17, 7, 3, 13, 12, 2, 1, 11, 10, 0];

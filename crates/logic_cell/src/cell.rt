@@ -11,10 +11,9 @@ ghost use Rattle.net_extract.specs.TilesOfKind.{HasTile};
 use crate::bits::lut;
 use crate::ports::{carry_in_net, input_nets, lutff_net};
 use chipdb_reader::ChipDb;
-use net_extract::{CarrySet, Lc};
 use ice_image::AnyImage;
+use net_extract::{CarrySet, Lc, is_on, listed_bit};
 use plane_map::{RowCol, TileKind};
-use net_extract::{is_on, listed_bit};
 
 /// The used logic cells by tile and index, and the carry inputs that are set by tile. Tiles go by rows, then by columns.
 #[derive(Drop)]

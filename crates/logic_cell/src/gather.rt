@@ -14,11 +14,10 @@ use crate::bits::{cell_bits, is_used};
 use crate::cell::{Cells, cell};
 use crate::fault::LcFault;
 use chipdb_reader::{ChipDb, TileXy8};
-use net_extract::{CarrySet, Lc};
 use ice_image::AnyImage;
+use net_extract::{CarrySet, Lc, is_on, tiles_of_image};
 use plane_map::TileKind;
 use std::alloc::{AllocError, Global};
-use net_extract::{is_on, tiles_of_image};
 
 /// Finds the logic cells that an image uses.
 pub fn cells(alloc: Global, db: &ChipDb, image: &AnyImage) -> Result<Cells, LcFault>

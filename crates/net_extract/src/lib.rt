@@ -11,10 +11,10 @@
 mod cell;
 mod classes;
 mod driver;
-mod extract;
 mod fault;
+mod found_links;
 mod functions;
-mod kept;
+mod links_type;
 mod name;
 mod on;
 mod pin;
@@ -25,10 +25,10 @@ mod tiles;
 
 pub use cell::{CarrySet, Lc};
 pub use driver::{ClockUser, Driver};
-pub use extract::links;
 pub use fault::LinkFault;
+pub use found_links::links;
 pub use functions::{function_bits, is_any_on, is_on, listed_bit};
-pub use kept::Links;
+pub use links_type::Links;
 pub use name::Name;
 pub use pin::{GlobalFrom, GlobalNet, Pin};
 pub use ram::RamCell;

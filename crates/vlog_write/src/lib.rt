@@ -2,14 +2,14 @@
 #![tactic(auto)]
 
 mod atoms;
+mod emitting;
 mod items;
 mod names;
 mod rights;
 mod sections;
 mod text;
-mod whole;
 
-pub use whole::emit;
+pub use emitting::emit;
 
 #[cfg(test)]
 mod runs;

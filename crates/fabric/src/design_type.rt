@@ -1,0 +1,216 @@
+// Designs.
+ghost use Rattle.std.specs.Prelude.{find, true, ◌==◌, ◌≡◌, ℕ, ◌<◌, ◌*◌, length, List};
+ghost use Rattle.std.specs.Option.{option_map};
+ghost use Rattle.std.specs.List.{list_any};
+ghost use Rattle.ice_image.specs.Configuration.{Configuration};
+ghost use Rattle.chipdb_reader.specs.Database.{Database};
+ghost use Rattle.net_extract.specs.Links.{class_in};
+ghost use Rattle.fabric_wiring.specs.DriverLists.{driver_in};
+ghost use Rattle.fabric_wiring.specs.Ends.{end_in, end_of};
+ghost use Rattle.fabric.specs.Kept.{word_in, IsKeptOf};
+ghost use Rattle.fabric.specs.Design.{IsDesign, end_pin, ends_of};
+
+use chipdb_reader::PinXy;
+use fabric_wiring::{Buffer, ClockEnd, Drive, Drivers, Parts, Rule};
+use net_extract::{CarrySet, Driver, GlobalNet, Lc, Pin, RamCell};
+use std::marker::Model;
+
+/// The two nets of a buffer.
+#[derive(Clone, Copy, Debug, PartialEq, Eq)]
+pub struct LinkEnds {
+    pub src: u32,
+    pub dst: u32,
+}
+
+/// What a database and an image configure, where they have no fault.
+///
+/// Contracts see what is kept. It is the design of a database and an image where `IsDesignOf` says so, and each design is one of at
+/// least one database and image. No call takes memory.
+#[derive(Drop)]
+pub struct Design {
+    parts: Parts,
+    inputs: Vec<Pin>,
+    drivers: Drivers,
+    order: Vec<u32>,
+    ends: Vec<ClockEnd>,
+    words: Vec<u16>,
+}
+
+impl Model for Design {
+    ghost use Rattle.fabric.specs.Kept.{Kept};
+    ghost use Rattle.fabric.specs.Design.{IsDesign};
+
+    ghost Value = { Kept };
+
+    ghost view = { λ design. record { parts = design.parts; inputs = design.inputs.items; drivers = design.drivers; order = design.order.items; ends = design.ends.items; words = design.words.items } };
+
+    ghost invariant = { λ design. IsDesign (record { parts = design.parts; inputs = design.inputs.items; drivers = design.drivers; order = design.order.items; ends = design.ends.items; words = design.words.items }) };
+}
+
+/// The two nets of the buffer of a line, where there is one.
+fn ends_of_line(buffers: &[Buffer], line: u32) -> Option<LinkEnds>
+    ensures { result ≡ option_map ends_of (find (λ buffer. buffer.line == line) buffers.now) }
+{
+    match buffers.iter().find(|buffer| buffer.line == line) {
+        None => None,
+        Some(buffer) => Some(LinkEnds {
+            src: buffer.src,
+            dst: buffer.dst,
+        }),
+    }
+}
+
+impl Design {
+    /// The design of these parts.
+    pub(crate) fn of(
+        parts: Parts,
+        inputs: Vec<Pin>,
+        drivers: Drivers,
+        order: Vec<u32>,
+        ends: Vec<ClockEnd>,
+        words: Vec<u16>,
+    ) -> Design
+        requires { IsDesign (record { parts = parts; inputs = inputs.items; drivers = drivers; order = order.items; ends = ends.items; words = words.items }) }
+        ensures { result ≡ record { parts = parts; inputs = inputs.items; drivers = drivers; order = order.items; ends = ends.items; words = words.items } }
+    {
+        Design {
+            parts,
+            inputs,
+            drivers,
+            order,
+            ends,
+            words,
+        }
+    }
+
+    /// The pins that are ports, by tile and number.
+    pub fn pins(&self) -> &[Pin]
+        ensures pins { result.now ≡ self.now.parts.pins.items }
+        ensures design { IsDesign self.now }
+    {
+        &self.parts.pins
+    }
+
+    /// The input pins, by tile and number.
+    pub fn inputs(&self) -> &[Pin]
+        ensures inputs { result.now ≡ self.now.inputs }
+        ensures design { IsDesign self.now }
+    {
+        &self.inputs
+    }
+
+    /// The used logic cells, by tile and index.
+    pub fn lcs(&self) -> &[Lc]
+        ensures lcs { result.now ≡ self.now.parts.lcs.items }
+        ensures design { IsDesign self.now }
+    {
+        &self.parts.lcs
+    }
+
+    /// The carry inputs that are set, by tile.
+    pub fn sets(&self) -> &[CarrySet]
+        ensures { result.now ≡ self.now.parts.sets.items }
+    {
+        &self.parts.sets
+    }
+
+    /// The used RAMs, by tile.
+    pub fn rams(&self) -> &[RamCell]
+        ensures rams { result.now ≡ self.now.parts.rams.items }
+        ensures design { IsDesign self.now }
+    {
+        &self.parts.rams
+    }
+
+    /// The nets of globals, by global and net.
+    pub fn globals(&self) -> &[GlobalNet]
+        ensures { result.now ≡ self.now.parts.globals.items }
+    {
+        &self.parts.globals
+    }
+
+    /// How many nets there are.
+    pub fn net_count(&self) -> usize
+        ensures count { result ≡ length self.now.drivers.places }
+        ensures design { IsDesign self.now }
+    {
+        self.drivers.len()
+    }
+
+    /// The class of a net of the database: the least of the nets that are joined to it.
+    pub fn class_of(&self, net: u32) -> u32
+        requires { net < length self.now.drivers.places }
+        ensures { result ≡ class_in self.now.parts.links net }
+    {
+        self.parts.links.class_of(net)
+    }
+
+    /// The driver of a class and how it makes its value. A number that names no class has none.
+    pub fn drive(&self, class: u32) -> Option<Drive>
+        ensures { result ≡ driver_in self.now.drivers class }
+    {
+        if (class as usize) < self.drivers.len() {
+            self.drivers.of_class(class)
+        } else {
+            None
+        }
+    }
+
+    /// The driver of a class. A number that names no class has none.
+    pub fn driver(&self, class: u32) -> Option<Driver>
+        ensures { result ≡ option_map (λ drive. drive.driver) (driver_in self.now.drivers class) }
+    {
+        self.drive(class).map(|drive| drive.driver)
+    }
+
+    /// The order in which classes with a driver are written: the next one is the least class whose read classes with a driver are
+    /// all written.
+    pub fn order(&self) -> &[u32]
+        ensures order { result.now ≡ self.now.order }
+        ensures design { IsDesign self.now }
+    {
+        &self.order
+    }
+
+    /// Where the chain of a clock net of the database ends.
+    pub fn clock_end(&self, net: u32) -> ClockEnd
+        requires { net < length self.now.drivers.places }
+        ensures { end_of result ≡ end_in self.now.ends (class_in self.now.parts.links net) }
+    {
+        let class = self.class_of(net);
+        self.ends
+            .get(class as usize)
+            .copied()
+            .unwrap_or(ClockEnd::Undriven)
+    }
+
+    /// The pin that is the clock of a net of the database, where its chain ends at one.
+    pub fn clock(&self, net: u32) -> Option<PinXy>
+        requires { net < length self.now.drivers.places }
+        ensures { result ≡ end_pin self.now.inputs (end_in self.now.ends (class_in self.now.parts.links net)) }
+    {
+        match self.clock_end(net) {
+            ClockEnd::Pin(place) => self.inputs.get(place as usize).map(|pin| PinXy {
+                x: pin.x,
+                y: pin.y,
+                n: pin.n,
+            }),
+            ClockEnd::Undriven | ClockEnd::Logic => None,
+        }
+    }
+
+    /// The two nets of the buffer of a line, where it is on.
+    pub fn link(&self, line: u32) -> Option<LinkEnds>
+        ensures { result ≡ option_map ends_of (find (λ buffer. buffer.line == line) self.now.parts.buffers.items) }
+    {
+        ends_of_line(&self.parts.buffers, line)
+    }
+
+    /// A start word of the used RAM at a place.
+    pub fn start_word(&self, ram: usize, word: u8) -> u16
+        requires { ram < length self.now.parts.rams.items }
+        ensures { result ≡ word_in self.now.words ram word }
+    {
+        self.words[ram * 256 + word as usize]
+    }
+}

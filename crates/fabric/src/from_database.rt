@@ -1,0 +1,64 @@
+// The design of a database and an image.
+ghost use Rattle.std.specs.Prelude.{◌≡◌, ℕ, All, Bool, List, IfOk, IfErr, OnOk, None, filter, not};
+ghost use Rattle.ice_image.specs.Either.{configuration_of};
+ghost use Rattle.chipdb_reader.specs.Kept.{database_in};
+ghost use Rattle.net_extract.specs.Fabric.{fabric_of};
+ghost use Rattle.net_extract.specs.Values.{State, IsConsistent};
+ghost use Rattle.net_extract.specs.Joins.{class_of};
+ghost use Rattle.net_extract.specs.Clocks.{LeadsTo, clock_end};
+ghost use Rattle.net_extract.specs.Steps.{Event, Entry, IsRun};
+ghost use Rattle.net_extract.specs.Unique.{ExactlyOne};
+ghost use Rattle.net_extract.specs.Faults.{design_fault};
+ghost use Rattle.fabric.specs.Clocks.{HasClocks};
+ghost use Rattle.fabric.specs.Design.{IsDesignOf};
+ghost use Rattle.fabric.specs.Faults.{IsCause};
+
+use crate::design_type::Design;
+use crate::fault::FabricFault;
+use crate::parts::parts;
+use crate::wire::wire;
+use chipdb_reader::ChipDb;
+use ice_image::AnyImage;
+use net_extract::Pin;
+use std::alloc::{AllocError, Global};
+
+/// The input pins among pins.
+fn inputs(alloc: Global, pins: &[Pin]) -> Result<Vec<Pin>, AllocError>
+    ensures { IfOk result (λ inputs. inputs.items ≡ filter (λ pin. not pin.output) pins.now) }
+{
+    pins.iter()
+        .filter(|pin| !pin.output)
+        .copied()
+        .collect(alloc)
+}
+
+/// Finds the design of a database and an image.
+///
+/// For each state and all values of the input pins there is exactly one list of net values that is consistent with them, and for each
+/// list of events exactly one run, in each entry of which the clock of a flip-flop or RAM port has the value of its pin, or is 0 where
+/// no driver gives it one.
+///
+/// # Errors
+/// The first cause why the two aren't taken, in the order of [`FabricFault`], with the least that has it.
+pub fn design(alloc: Global, db: &ChipDb, image: &AnyImage) -> Result<Design, FabricFault>
+    ensures design { IfOk result (IsDesignOf (database_in db.now) (configuration_of image.now)) }
+    ensures taken { OnOk result (design_fault (database_in db.now) (configuration_of image.now) ≡ None) }
+    ensures refused { IfErr result (IsCause (configuration_of image.now).layout.device (fabric_of (database_in db.now) (configuration_of image.now)) (design_fault (database_in db.now) (configuration_of image.now))) }
+    ensures one_value { OnOk result ((state : State) (pins : List Bool) → ExactlyOne (IsConsistent (fabric_of (database_in db.now) (configuration_of image.now)) state pins)) }
+    ensures chains { OnOk result ((net : ℕ) → LeadsTo (fabric_of (database_in db.now) (configuration_of image.now)) (class_of (fabric_of (database_in db.now) (configuration_of image.now)).joins net) (clock_end (fabric_of (database_in db.now) (configuration_of image.now)) net)) }
+    ensures clocks { OnOk result ((events : List Event) (entries : List Entry) → IsRun (fabric_of (database_in db.now) (configuration_of image.now)) events entries → All (HasClocks (fabric_of (database_in db.now) (configuration_of image.now))) entries) }
+    ensures one_run { OnOk result ((events : List Event) → ExactlyOne (IsRun (fabric_of (database_in db.now) (configuration_of image.now)) events)) }
+{
+    let parts = parts(alloc, db, image)?;
+    prove!(db.device() == image.device());
+    let wired = wire(alloc, db, image, &parts)?;
+    let inputs = inputs(alloc, &parts.pins)?;
+    Ok(Design::of(
+        parts,
+        inputs,
+        wired.drivers,
+        wired.order,
+        wired.ends,
+        wired.words,
+    ))
+}

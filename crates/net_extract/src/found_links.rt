@@ -1,0 +1,55 @@
+// Finds the links that an image sets.
+ghost use Rattle.std.specs.Prelude.{◌≡◌, ◌↔◌, ℕ, map, IfOk, IfErr, OnOk};
+ghost use Rattle.ice_image.specs.Either.{configuration_of};
+ghost use Rattle.chipdb_reader.specs.Kept.{database_in};
+ghost use Rattle.net_extract.specs.Fabric.{joins_of};
+ghost use Rattle.net_extract.specs.Joins.{IsClassOf};
+ghost use Rattle.net_extract.specs.Links.{AreLinks, class_in};
+
+use crate::classes::classes;
+use crate::fault::LinkFault;
+use crate::links_type::Links;
+use crate::on::{OnLink, all_on};
+use crate::reads::reads;
+use chipdb_reader::ChipDb;
+use ice_image::AnyImage;
+use std::alloc::{AllocError, Global};
+
+/// Finds the links of a database that an image sets.
+pub fn links(alloc: Global, db: &ChipDb, image: &AnyImage) -> Result<Links, LinkFault>
+    ensures links { IfOk result (AreLinks (database_in db.now) (configuration_of image.now)) }
+    ensures classes { IfOk result (λ links. (net : ℕ) → IsClassOf (joins_of (database_in db.now) (configuration_of image.now)) net (class_in links net)) }
+    ensures taken { OnOk result (db.now.chip.device ≡ (configuration_of image.now).layout.device) }
+    ensures refused { IfErr result (λ fault. (fault ≡ LinkFault.Device) ↔ ¬ (db.now.chip.device ≡ (configuration_of image.now).layout.device)) }
+{
+    if db.device() == image.device() {
+        Ok(found(alloc, db, image)?)
+    } else {
+        Err(LinkFault::Device)
+    }
+}
+
+/// The same for a database of the image's device.
+fn found(alloc: Global, db: &ChipDb, image: &AnyImage) -> Result<Links, AllocError>
+    requires { db.now.chip.device ≡ (configuration_of image.now).layout.device }
+    ensures { IfOk result (AreLinks (database_in db.now) (configuration_of image.now)) }
+{
+    let buffers = all_on(alloc, db, image, db.buffers())?;
+    let routings = all_on(alloc, db, image, db.routings())?;
+    let nets = db.net_count();
+    let classes = classes(alloc, nets, &routings)?;
+    let reads = reads(alloc, nets, &buffers, &routings)?;
+    Ok(Links {
+        buffers: places(alloc, &buffers)?,
+        routings: places(alloc, &routings)?,
+        classes,
+        reads,
+    })
+}
+
+/// The places of links.
+fn places(alloc: Global, links: &[OnLink]) -> Result<Vec<u32>, AllocError>
+    ensures { IfOk result (λ places. places.items ≡ map (λ link. link.place) links.now) }
+{
+    links.iter().map(|link| link.place).collect(alloc)
+}

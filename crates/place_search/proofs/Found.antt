@@ -1,8 +1,8 @@
 -- What the search of places below a bound tells where it finds nothing, or something.
-use Rattle.std.proofs.Common.{◌≡◌, ℕ, zero, suc, ◌+◌, ◌*◌, ◌<◌, ◌≤◌, Bool, true, false, ◌||◌, List, [], ◌∷◌, ◌++◌, length, refl, sym, ap, ◌∙◌, subst, inl, inr, arith, length-append}
+use Rattle.std.proofs.Common.{◌≡◌, ℕ, zero, suc, ◌<◌, Bool, true, false, refl, ap, ◌∙◌, subst, inl, inr, arith}
 use Rattle.std.specs.Prelude.{Option, Some, None}
-use Rattle.std.proofs.lemmas.Bool.{cases_lt, cases_Bool, false≢true}
-use Rattle.place_search.specs.Places.{least_below, first_below, gathered_below, any_below, or_else, or_here}
+use Rattle.std.proofs.lemmas.Bool.{cases_lt, or_parts}
+use Rattle.place_search.specs.Places.{least_below, first_below, any_below, or_else, or_here}
 
 -- ---- the first that gives something
 
@@ -13,6 +13,10 @@ or_else-first None other none = refl
 pub or_else-other : {A : Type 0} (first other : Option A) → or_else first other ≡ None → other ≡ None
 or_else-other (Some value) other none = absurd cc
 or_else-other None other none = none
+
+-- neither of two values
+pub or_else-neither : {A : Type 0} (first other : Option A) → or_else first other ≡ None → (first ≡ None) × (other ≡ None)
+or_else-neither first other none = (or_else-first first other none, or_else-other first other none)
 
 -- where nothing is found no place gives anything
 pub first_below-clear : {A : Type 0} (n k : ℕ) (given : ℕ → Option A) → first_below n given ≡ None → k < n → given k ≡ None
@@ -25,10 +29,6 @@ first_below-clear (suc n) k given none within =
     ]
 
 -- ---- whether any place passes
-
-or_parts : (a b : Bool) → (a || b) ≡ false → (a ≡ false) × (b ≡ false)
-or_parts true b never = absurd (false≢true (sym never))
-or_parts false b never = (refl, never)
 
 -- where none is said to pass none does
 pub any_below-clear : (n k : ℕ) (test : ℕ → Bool) → any_below n test ≡ false → k < n → test k ≡ false
@@ -83,12 +83,3 @@ pub least_below-place : (n : ℕ) (test : ℕ → Bool) (place : ℕ) → least_
 unfolding least_below
 least_below-place zero test place found = absurd cc
 least_below-place (suc n) test place found = or_here-place n test (least_below n test) (test n) place refl refl (λ k. least_below-place n test k) found
-
--- ---- what places give
-
--- at most so much a place
-pub length-gathered_below : {A : Type 0} (n most : ℕ) (given : ℕ → List A) → ((k : ℕ) → length (given k) ≤ most) → length (gathered_below n given) ≤ n * most
-unfolding gathered_below
-length-gathered_below zero most given few = omega arith
-length-gathered_below (suc n) most given few =
-    omega (arith, length-append (gathered_below n given) (given n), length-gathered_below n most given few, few n)

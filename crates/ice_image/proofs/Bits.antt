@@ -3,6 +3,7 @@ use Rattle.std.proofs.Common.{◌≡◌, ◌≢◌, ℕ, ◌<◌, Bool, true, fa
 use Rattle.std.specs.Prelude.{nat_lt}
 use Rattle.std.proofs.lemmas.Bool.{cases_Bool, and_parts, and_from, both_ways, ltb-true, not-true}
 use Rattle.std.proofs.lemmas.Bool.Decides.{nat_tests}
+use Rattle.shared_lemmas.proofs.Tests.{same_test}
 use Rattle.place_search.specs.Places.{any_below}
 use Rattle.place_search.proofs.Places.{any_below-at, any_below-place}
 use Rattle.bit_plane.specs.Rows.{Rows}
@@ -39,12 +40,6 @@ pub extra_from : (layout : Layout) (at : Place) → IsInCram layout.device at �
 extra_from layout at inside free = grind (arith, nat_tests, inside.bank_in, inside.px_in, inside.py_in, free)
 
 -- ---- the image that has given bits
-
--- tests that pass together are one
-same_test : (a b : Bool) → (a ≡ true → b ≡ true) → (b ≡ true → a ≡ true) → a ≡ b
-same_test true b there back = sym (there refl)
-same_test false true there back = back refl
-same_test false false there back = refl
 
 module _ (layout : Layout) (sound : IsLayout layout) (bits : Bit → Bool) where
   -- a bit of a tile

@@ -1,6 +1,6 @@
 -- Images that gain the bits of a number.
 use Rattle.std.proofs.Common.{◌≡◌, ℕ, zero, suc, ◌/◌, ◌%◌, ◌^◌, ◌<◌, Bool, false, ◌&&◌, ◌||◌, ◌==◌, List, get_or, bit_or, max, refl, sym, ap, ◌∙◌, subst, inl, inr, arith}
-use Rattle.std.proofs.lemmas.Bool.{cases_Bool, eq-eqb, eqb-true, and_parts, and_from, both_ways}
+use Rattle.std.proofs.lemmas.Bool.{cases_Bool, eq-eqb, eqb-true, and_parts, and_from, both_ways, and_left}
 use Rattle.std.proofs.lemmas.Nat.Bits.{bit_at_or, bit_at-lt}
 use Rattle.std.proofs.Math.Bool.{or-false}
 use Rattle.bit_plane.proofs.Made.{get_or-row_from}
@@ -48,9 +48,6 @@ stays a b same test off = same ∙ sym (or-false b) ∙ ap (λ t. b || t) (sym o
 
 -- ---- images
 
-off-and : (a b : Bool) → a ≡ false → (a && b) ≡ false
-off-and a b off = ap (λ a. a && b) off
-
 module _ (before : Configuration) (whole : IsWhole before) where
   -- an image whose configuration planes gained the bits of a row
   pub row_gains : (x y row ones : ℕ) (cram : List Rows) → row < 16
@@ -88,7 +85,7 @@ module _ (before : Configuration) (whole : IsWhole before) where
                 both_ways in_row out (and_from ((x == bit.x) && (y == bit.y)) (row == bit.row)
                 (and_from (x == bit.x) (y == bit.y) (eq-eqb x bit.x (ap (λ (b : TileBit). b.x) e)) (eq-eqb y bit.y (ap (λ (b : TileBit). b.y) e)))
                 (eq-eqb row bit.row (ap (λ (b : TileBit). b.row) e)))))
-                (in_row && number_bit ones bit.col) (off-and in_row (number_bit ones bit.col) out)
+                (in_row && number_bit ones bit.col) (and_left in_row (number_bit ones bit.col) out)
           ]
       bits (OfWord bit) is = sym (or-false (place_bit before.bram (word_place_of layout bit)))
       bits (Extra at) is =
@@ -132,7 +129,7 @@ module _ (before : Configuration) (whole : IsWhole before) where
                 both_ways in_word out (and_from ((x == bit.x) && (y == bit.y)) (word == bit.word)
                 (and_from (x == bit.x) (y == bit.y) (eq-eqb x bit.x (ap (λ (b : WordBit). b.x) e)) (eq-eqb y bit.y (ap (λ (b : WordBit). b.y) e)))
                 (eq-eqb word bit.word (ap (λ (b : WordBit). b.word) e)))))
-                (in_word && number_bit ones bit.bit) (off-and in_word (number_bit ones bit.bit) out)
+                (in_word && number_bit ones bit.bit) (and_left in_word (number_bit ones bit.bit) out)
           ]
       bits (OfTile bit) is = sym (or-false (place_bit before.cram (place_of layout bit)))
       bits (Extra at) is = sym (or-false (place_bit before.cram at))

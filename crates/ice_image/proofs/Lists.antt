@@ -1,42 +1,11 @@
--- Lists that places give, and lists in order.
-use Rattle.std.proofs.Common.{◌≡◌, ℕ, zero, suc, ◌-◌, ◌<◌, ◌⊎◌, List, [], ◌∷◌, ◌++◌, length, get_or, map, Contains, refl, sym, ap, ◌∙◌, subst, inl, inr, arith, length-append}
+-- Lists in order: what places give, and that two with the same items are one.
+use Rattle.std.proofs.Common.{◌≡◌, ℕ, zero, suc, ◌-◌, ◌<◌, ◌⊎◌, List, [], ◌∷◌, ◌++◌, length, get_or, Contains, refl, sym, ap, ◌∙◌, subst, inl, inr, arith, length-append}
 use Rattle.std.specs.List.{AllPairs}
 use Rattle.std.proofs.lemmas.Bool.{cases_lt}
-use Rattle.std.proofs.lemmas.List.{map-append, get_or_append_left, get_or-append_right}
+use Rattle.std.proofs.lemmas.List.{get_or_append_left, get_or-append_right}
 use Rattle.std.proofs.lemmas.List.Elements.{Contains-append_left, Contains-append_right, Contains-append_cases, Contains-get_or}
+use Rattle.place_search.proofs.Gathered.{gathered_below-place}
 use Rattle.place_search.specs.Places.{gathered_below}
-
--- ---- what places give
-
--- a map of what places give
-pub map-gathered : {A B : Type 0} (f : A → B) (n : ℕ) (given : ℕ → List A) → map f (gathered_below n given) ≡ gathered_below n (λ k. map f (given k))
-unfolding gathered_below
-map-gathered f zero given = refl
-map-gathered f (suc n) given = map-append f (gathered_below n given) (given n) ∙ ap (λ list. list ++ map f (given n)) (map-gathered f n given)
-
--- what is among them is what some place gives
-pub gathered-place : {A : Type 0} (n : ℕ) (given : ℕ → List A) (x : A) → Contains (gathered_below n given) x → (k : ℕ) × (k < n) × Contains (given k) x
-unfolding gathered_below
-gathered-place zero given x is = absurd (omega (arith, is.1))
-gathered-place (suc n) given x is =
-    elim (Contains-append_cases (gathered_below n given) (given n) x is) [
-      | inl earlier ↦
-          let found = gathered-place n given x earlier in
-          (found.0, omega (arith, found.1), found.2)
-      | inr last ↦ (n, omega arith, last)
-    ]
-
--- what a place gives is among them
-pub gathered-at : {A : Type 0} (n k : ℕ) (given : ℕ → List A) (x : A) → k < n → Contains (given k) x → Contains (gathered_below n given) x
-unfolding gathered_below
-gathered-at zero k given x below is = absurd (omega arith)
-gathered-at (suc n) k given x below is =
-    elim (cases_lt k n) [
-      | inl earlier ↦ Contains-append_left (gathered_below n given) (given n) x (gathered-at n k given x earlier is)
-      | inr last ↦
-          let e : k ≡ n = omega arith in
-          Contains-append_right (gathered_below n given) (given n) x (subst (λ (k : ℕ). Contains (given k) x) e is)
-    ]
 
 -- ---- order
 
@@ -63,7 +32,7 @@ module _ {A : Type 0} (R : A → A → Type 0) where
   unfolding gathered_below
   ordered-gathered zero given each across = λ i j d before inside. absurd (omega (arith, inside))
   ordered-gathered (suc n) given each across =
-      ordered-append (gathered_below n given) (given n) (ordered-gathered n given (λ k below. each k (omega arith)) (λ j k a b before below. across j k a b before (omega arith))) (each n (omega arith)) (λ a b is_a is_b. let found = gathered-place n given a is_a in across found.0 n a b found.1 (omega arith) found.2 is_b)
+      ordered-append (gathered_below n given) (given n) (ordered-gathered n given (λ k below. each k (omega arith)) (λ j k a b before below. across j k a b before (omega arith))) (each n (omega arith)) (λ a b is_a is_b. let found = gathered_below-place n given a is_a in across found.0 n a b found.1 (omega arith) found.2 is_b)
 
   -- the first of a list in order is before all others
   first-before : (x : A) (xs : List A) (y : A) → AllPairs R (x ∷ xs) → Contains xs y → R x y

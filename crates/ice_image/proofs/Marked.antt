@@ -5,6 +5,7 @@ use Rattle.std.specs.Int.{bit_not}
 use Rattle.std.proofs.lemmas.Bool.{cases_lt, both_ways}
 use Rattle.std.proofs.lemmas.Bool.Decides.{nat_tests}
 use Rattle.std.proofs.lemmas.Nat.Bits.{bit_at_and, bit_at_not, bit_at_ones, bit_at-lt, bit_at-zero}
+use Rattle.shared_lemmas.proofs.Tests.{same_test}
 use Rattle.place_search.specs.Places.{gathered_below}
 use Rattle.bit_plane.proofs.Words.{get_or-word_bits}
 use Rattle.bit_plane.specs.Rows.{Rows}
@@ -102,12 +103,6 @@ marked-more layout bank before now after so_far kept ends marks kept_then inner 
 }
 
 -- ---- what belongs to no tile
-
--- tests that pass together are one
-same_test : (a b : Bool) → (a ≡ true → b ≡ true) → (b ≡ true → a ≡ true) → a ≡ b
-same_test true b there back = sym (there refl)
-same_test false true there back = back refl
-same_test false false there back = refl
 
 -- planes have rows of inner tiles
 room : (device : DeviceName) → 16 < cram_height device

@@ -2,7 +2,8 @@
 use Rattle.std.proofs.Common.{◌≡◌, ℕ, ◌<◌, Bool, true, false, not, ◌&&◌, List, [], ◌∷◌, get_or, Contains, refl, sym, ap, ◌∙◌, subst, inl, inr, arith}
 use Rattle.std.specs.Prelude.{if◌then◌else◌}
 use Rattle.std.specs.List.{AllPairs}
-use Rattle.std.proofs.lemmas.Bool.{and_parts}
+use Rattle.std.proofs.lemmas.Bool.{and_parts, not-true}
+use Rattle.place_search.proofs.Gathered.{gathered_below-place, Contains-gathered_below}
 use Rattle.place_search.specs.Places.{gathered_below}
 use Rattle.plane_map.specs.Layout.{cram_width, cram_height}
 use Rattle.plane_map.specs.declared.tile.Place.{Place}
@@ -12,7 +13,7 @@ use Rattle.ice_image.specs.Bits.{Extra, bit_of, set_extras}
 use Rattle.ice_image.specs.Owned.{is_owned, is_extra}
 use Rattle.ice_image.proofs.Bits.{extra_in, extra_from}
 use Rattle.ice_image.proofs.Owned.{is_owned-extra, extra-is_owned}
-use Rattle.ice_image.proofs.Lists.{gathered-place, gathered-at, ordered-gathered, ordered-same}
+use Rattle.ice_image.proofs.Lists.{ordered-gathered, ordered-same}
 
 -- no place is before one that is before it
 before-strict : (a b : Place) → IsBefore a b → IsBefore b a → ⊥
@@ -36,10 +37,6 @@ place bank px py = record { bank = bank; px = px; py = py }
 alone_ordered : (test : Bool) (here : Place) → AllPairs IsBefore (if test then here ∷ [] else [])
 alone_ordered true here i j d before inside = absurd (omega (arith, before, inside))
 alone_ordered false here i j d before inside = absurd (omega (arith, inside))
-
-from_not : (test : Bool) → not test ≡ true → test ≡ false
-from_not true is = cc
-from_not false is = refl
 
 and_true : (a b : Bool) → a ≡ true → b ≡ false → (a && not b) ≡ true
 and_true a b is is_not = rw (is, is_not) refl
@@ -71,7 +68,7 @@ module _ (image : Configuration) where
 
   in_row : (bank py : ℕ) (at : Place) → Contains (extras_of_row bank py) at → (at.px < cram_width image.layout.device) × (place bank at.px py ≡ at) × (is_set_extra at ≡ true)
   in_row bank py at is =
-      let found = gathered-place (cram_width image.layout.device) (λ px. extra_at (place bank px py)) at is in
+      let found = gathered_below-place (cram_width image.layout.device) (λ px. extra_at (place bank px py)) at is in
       let test = at_test (is_set_extra (place bank found.0 py)) (place bank found.0 py) at found.2 in
       let column : found.0 ≡ at.px = ap (λ (at : Place). at.px) test.1 in (
         omega (arith, found.1, column),
@@ -81,7 +78,7 @@ module _ (image : Configuration) where
 
   in_bank : (bank : ℕ) (at : Place) → Contains (extras_of_bank bank) at → (at.py < cram_height image.layout.device) × (at.px < cram_width image.layout.device) × (bank ≡ at.bank) × (is_set_extra at ≡ true)
   in_bank bank at is =
-      let found = gathered-place (cram_height image.layout.device) (λ py. extras_of_row bank py) at is in
+      let found = gathered_below-place (cram_height image.layout.device) (λ py. extras_of_row bank py) at is in
       let row = in_row bank found.0 at found.2 in
       let py : found.0 ≡ at.py = ap (λ (at : Place). at.py) row.1 in
       (omega (arith, found.1, py), row.0, ap (λ (at : Place). at.bank) row.1, row.2)
@@ -89,13 +86,13 @@ module _ (image : Configuration) where
   -- each of them is a set bit that is no tile's
   in_all : (at : Place) → Contains all_extras at → IsSetExtra image.layout image.cram at
   in_all at is =
-      let found = gathered-place 4 extras_of_bank at is in
+      let found = gathered_below-place 4 extras_of_bank at is in
       let bank = in_bank found.0 at found.2 in
       let test = and_parts (place_bit image.cram at) (not (is_owned image.layout at)) bank.3 in
       record {
         inside = record { bank_in = omega (arith, found.1, bank.2); px_in = bank.1; py_in = bank.0 };
         is_set = test.0;
-        extra = extra-is_owned image.layout at (from_not (is_owned image.layout at) test.1);
+        extra = extra-is_owned image.layout at (not-true (is_owned image.layout at) test.1);
       }
 
   -- each such bit is among them
@@ -103,9 +100,9 @@ module _ (image : Configuration) where
   to_all at is =
       let test : is_set_extra at ≡ true = and_true (place_bit image.cram at) (is_owned image.layout at) is.is_set (is_owned-extra image.layout at is.extra) in
       let alone : Contains (extra_at at) at = subst (λ (test : Bool). Contains (if test then at ∷ [] else []) at) (sym test) (0, omega arith, refl) in
-      gathered-at 4 at.bank extras_of_bank at is.inside.bank_in
-      (gathered-at (cram_height image.layout.device) at.py (λ py. extras_of_row at.bank py) at is.inside.py_in
-      (gathered-at (cram_width image.layout.device) at.px (λ px. extra_at (place at.bank px at.py)) at is.inside.px_in alone))
+      Contains-gathered_below 4 at.bank extras_of_bank at is.inside.bank_in
+      (Contains-gathered_below (cram_height image.layout.device) at.py (λ py. extras_of_row at.bank py) at is.inside.py_in
+      (Contains-gathered_below (cram_width image.layout.device) at.px (λ px. extra_at (place at.bank px at.py)) at is.inside.px_in alone))
 
   -- ---- order
 

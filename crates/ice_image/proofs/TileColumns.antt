@@ -1,20 +1,11 @@
 -- How many columns tiles have, and that their bits lie apart.
-use Rattle.std.proofs.Common.{◌≡◌, ℕ, ◌<◌, ◌≤◌, ap, arith, Option, Some, None}
+use Rattle.std.proofs.Common.{◌≡◌, ℕ, ◌<◌, ◌≤◌, ap}
+use Rattle.plane_map.proofs.Grids.{columns_in-le}
 use Rattle.plane_map.proofs.Places.{place_is_only}
-use Rattle.plane_map.specs.Layout.{Layout, IsLayout, kind_of, columns_in, columns_at}
+use Rattle.plane_map.specs.Layout.{Layout, IsLayout, kind_of, columns_at}
 use Rattle.plane_map.specs.declared.device.DeviceName.{DeviceName}
-use Rattle.plane_map.specs.declared.tile.TileKind.{TileKind}
-use Rattle.plane_map.specs.declared.tile.TileKind.TheVariants.{Io, Logic, RamB, RamT}
 use Rattle.plane_map.specs.declared.tile.TileBit.{TileBit}
 use Rattle.ice_image.specs.Contents.{tile_place}
-
--- no kind has more columns than a word has bits
-columns_in-le : (kind : Option TileKind) → columns_in kind ≤ 54
-columns_in-le None = omega arith
-columns_in-le (Some Io) = omega arith
-columns_in-le (Some Logic) = omega arith
-columns_in-le (Some RamB) = omega arith
-columns_in-le (Some RamT) = omega arith
 
 pub columns_at-le : (device : DeviceName) (x y : ℕ) → columns_at device x y ≤ 54
 columns_at-le device x y = columns_in-le (kind_of device x y)

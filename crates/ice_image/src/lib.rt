@@ -18,3 +18,6 @@ pub use comment::{Comment, is_comment_line};
 pub use image::Image;
 pub use planes::PlaneKind;
 pub use settings::{Range, Settings};
+
+// What the signatures show.
+pub use plane_map::{Device, DeviceName, Layout, Place, RowCol, TileBit, TileRuns, WordBit};

@@ -1,13 +1,13 @@
 -- What is known of numbers that aren't refused.
 use Rattle.std.proofs.Common.{◌≡◌, ℕ, ◌<◌, ◌≤◌, Bool, true, false, List, [], ◌∷◌, ◌++◌, length, take, replicate, refl, arith}
 use Rattle.std.specs.Prelude.{None, All, not, nat_le, nat_lt, ◌==◌, ◌&&◌}
-use Rattle.std.proofs.lemmas.Bool.{and_parts, eqb-true, leb-true, ltb-true}
+use Rattle.std.proofs.lemmas.Bool.{and_parts, eqb-true, leb-true, ltb-true, not-false}
 use Rattle.std.proofs.lemmas.List.Elements.{All-nil, All-cons, All-from_get_or}
 use Rattle.std.proofs.Math.Seq.{take-append_seam}
+use Rattle.plane_map.proofs.Layouts.{cram_width-below}
 use Rattle.place_search.specs.Places.{or_else}
 use Rattle.place_search.proofs.Found.{or_else-first, or_else-other}
 use Rattle.plane_map.specs.declared.device.DeviceName.{DeviceName}
-use Rattle.plane_map.specs.declared.device.DeviceName.TheVariants.{K1, K8}
 use Rattle.plane_map.specs.Layout.{are_below, are_distinct, are_places, are_wide, are_widths, cram_width, half_width, start_in}
 use Rattle.layout_file.specs.declared.field.Numbers.{Numbers}
 use Rattle.layout_file.specs.declared.fault.LayoutCause.{LayoutCause}
@@ -22,12 +22,8 @@ pub no-cause : (test : Bool) (cause : LayoutCause) → cause_if test cause ≡ N
 no-cause true cause none = absurd cc
 no-cause false cause none = refl
 
-not-fails : (test : Bool) → not test ≡ false → test ≡ true
-not-fails true fails = refl
-not-fails false fails = absurd cc
-
 pub no-cause-not : (test : Bool) (cause : LayoutCause) → cause_if (not test) cause ≡ None → test ≡ true
-no-cause-not test cause none = not-fails test (no-cause (not test) cause none)
+no-cause-not test cause none = not-false test (no-cause (not test) cause none)
 
 pub record IsAccepted (section : Part) (field : Numbers) (numbers : List ℕ) : Type 0 where
   pub count : length numbers ≡ count_of section.layout.device field
@@ -58,10 +54,6 @@ pub places-bytes : (count bound : ℕ) (numbers : List ℕ) → are_places count
 places-bytes count bound numbers places small =
     below-bytes bound numbers (and_parts ((length numbers == count) && are_distinct numbers) (are_below bound numbers) places).1 small
 
-plane-small : (device : DeviceName) → cram_width device ≤ 872
-plane-small K1 = omega arith
-plane-small K8 = omega arith
-
 -- widths for which a plane has room
 pub widths-small : (device : DeviceName) (widths : List ℕ) → are_widths device widths ≡ true → All (λ width. width < 65536) widths
 widths-small device widths good =
@@ -71,7 +63,7 @@ widths-small device widths good =
     let room : start_in widths half ≤ cram_width device = leb-true (start_in widths half) (cram_width device) parts.1 in
     All-from_get_or (λ width. width < 65536) widths 0 (λ k within.
     let below : k < half = omega (arith, count) in
-    omega (arith, width-within widths half k below, room, plane-small device))
+    omega (arith, width-within widths half k below, room, cram_width-below device))
 
 -- widths that were padded, cut to their number
 pub widths-cut : (device : DeviceName) (widths padded : List ℕ) (zeros : ℕ) → are_widths device widths ≡ true → padded ≡ widths ++ replicate zeros 0

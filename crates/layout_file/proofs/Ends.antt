@@ -1,7 +1,8 @@
 -- The lines of a text, read one after the other, and the first that is faulty.
-use Rattle.std.proofs.Common.{◌≡◌, ℕ, zero, suc, ◌+◌, ◌<◌, ◌≤◌, List, [], ◌∷◌, length, drop, add-one, refl, sym, ap, ◌∙◌, inl, inr, arith, length-drop, subst}
+use Rattle.std.proofs.Common.{◌≡◌, ℕ, zero, suc, ◌+◌, ◌<◌, ◌≤◌, List, [], length, drop, add-one, refl, sym, ap, ◌∙◌, inl, inr, arith, subst}
 use Rattle.std.specs.Prelude.{Option, Some, None}
 use Rattle.std.proofs.lemmas.Bool.{cases_eq}
+use Rattle.shared_lemmas.proofs.Cuts.{drop_end}
 use Rattle.text_lines.specs.Lines.{lines_of, line_at}
 use Rattle.place_search.specs.Places.{first_below}
 use Rattle.layout_file.specs.declared.fault.LayoutFault.{LayoutFault}
@@ -13,24 +14,13 @@ use Rattle.layout_file.specs.inside.Reading.{layouts_of, refusal, taken}
 use Rattle.layout_file.proofs.LineSteps.{reader_before, refusal-is}
 use Rattle.layout_file.proofs.FieldSteps.{reader-next}
 
--- the first line of those that are left
-pub cut : (lines : List (List ℕ)) (k : ℕ) (line : List ℕ) (more : List (List ℕ)) → drop k lines ≡ line ∷ more
-    → (k < length lines) × (line_at lines k ≡ line) × (more ≡ drop (k + 1) lines)
-cut [] zero line more e = absurd cc
-cut [] (suc k) line more e = absurd cc
-cut (first ∷ lines) zero line more e = (omega arith, cc, cc)
-cut (first ∷ lines) (suc k) line more e =
-    let found = cut lines k line more e in
-    let later : suc k + 1 ≡ suc (k + 1) = omega arith in
-    (omega (arith, found.0), found.1, rw later found.2)
-
 none-left : (left : List ℕ) (lines : List (List ℕ)) → left ≡ [] → lines_of left ≡ lines → lines ≡ []
 unfolding lines_of
 none-left left lines none is = sym is ∙ ap lines_of none
 
 -- no line is left
 pub cut-end : (lines : List (List ℕ)) (k : ℕ) (left : List ℕ) → left ≡ [] → lines_of left ≡ drop k lines → k ≤ length lines → k ≡ length lines
-cut-end lines k left none is within = omega (arith, length-drop k lines, ap length (none-left left (drop k lines) none is))
+cut-end lines k left none is within = drop_end lines k (none-left left (drop k lines) none is) within
 
 -- the cause of a line is why the reader refuses it
 cause-is : (lines : List (List ℕ)) (k : ℕ) (line : List ℕ) (reader : Reader) → line_at lines k ≡ line → reader ≡ reader_before lines k

@@ -1,6 +1,7 @@
 -- What the reader keeps behind a line.
 use Rattle.std.proofs.Common.{◌≡◌, ℕ, suc, Bool, true, false, List, refl, ap, ◌∙◌}
 use Rattle.std.specs.Prelude.{Option, Some, None, is_some, not, length, ◌==◌}
+use Rattle.shared_lemmas.proofs.Options.{none_from_is_some}
 use Rattle.place_search.specs.Places.{first_below, last_below, or_else}
 use Rattle.place_search.proofs.Found.{or_else-first, or_else-other}
 use Rattle.plane_map.specs.declared.device.DeviceName.{DeviceName}
@@ -214,10 +215,6 @@ part-flag lines n device RamFlip value said here none =
 
 -- ---- a line of each kind
 
-no-value : {A : Type 0} (value : Option A) → is_some value ≡ false → value ≡ None
-no-value None none = refl
-no-value (Some value) none = absurd cc
-
 -- a line that changes nothing
 step-nothing : (lines : List (List ℕ)) (n : ℕ) (line : Line) → said_at lines n ≡ line
     → ((field : Numbers) → numbers_in field line ≡ None) → ((field : Flag) → flag_in field line ≡ None)
@@ -263,7 +260,7 @@ not-given lines n device field numbers none =
     let first = cause_if (not (length numbers == count_of device field)) Statement in
     let second = cause_if (is_some (numbers_before lines n device field)) Repeated in
     let third = numbers_cause device field numbers in
-    no-value (numbers_before lines n device field)
+    none_from_is_some (numbers_before lines n device field)
     (no-cause (is_some (numbers_before lines n device field)) Repeated (or_else-first second third (or_else-other first (or_else second third) none)))
 
 step-list : (lines : List (List ℕ)) (n : ℕ) (device : Option DeviceName) (field : Numbers) (numbers : List ℕ) → said_at lines n ≡ List_of field numbers
@@ -288,7 +285,7 @@ step-list lines n (Some K8) field numbers said current none =
 not-given_flag : (lines : List (List ℕ)) (n : ℕ) (device : DeviceName) (field : Flag)
     → flag_cause lines n (Some device) field ≡ None → flag_before lines n device field ≡ None
 not-given_flag lines n device field none =
-    no-value (flag_before lines n device field) (no-cause (is_some (flag_before lines n device field)) Repeated none)
+    none_from_is_some (flag_before lines n device field) (no-cause (is_some (flag_before lines n device field)) Repeated none)
 
 step-flag : (lines : List (List ℕ)) (n : ℕ) (device : Option DeviceName) (field : Flag) (value : Bool) → said_at lines n ≡ Flag_of field value
     → section_before lines n ≡ device → flag_cause lines n device field ≡ None

@@ -1,5 +1,5 @@
 -- The runs in which the rows of a tile lie.
-use Rattle.std.proofs.Common.{◌≡◌, ℕ, ◌+◌, ◌-◌, ◌<◌, ◌≤◌, Bool, true, false, if◌then◌else◌, Option, Some, None, ◌⊎◌, inl, inr, refl, sym, ◌∙◌, ap, subst, arith}
+use Rattle.std.proofs.Common.{◌≡◌, ℕ, ◌+◌, ◌-◌, ◌<◌, ◌≤◌, Bool, true, false, if◌then◌else◌, Option, Some, ◌⊎◌, inl, inr, refl, sym, ◌∙◌, ap, subst, arith}
 use Rattle.std.proofs.lemmas.Bool.Decides.{nat_tests}
 use Rattle.plane_map.specs.declared.device.DeviceName.{DeviceName}
 use Rattle.plane_map.specs.declared.tile.TileBit.{TileBit}
@@ -8,21 +8,16 @@ use Rattle.plane_map.specs.declared.tile.TileKind.TheVariants.{Io, Logic, RamB, 
 use Rattle.plane_map.specs.declared.tile.TileRuns.{TileRuns}
 use Rattle.plane_map.specs.Layout.{Layout, IsLayout, kind_of, columns_of, columns_in, columns_at, width_of, start_of, is_side, is_end, is_mirrored, from_side, px_of, py_of, column_of, place_of, cram_width, cram_height, IsTileBit}
 use Rattle.plane_map.specs.Runs.{AreRunsOf, IsRunIn, row_run, run_length, run_place}
+use Rattle.plane_map.proofs.Grids.{columns_of-some, columns_in-le}
 use Rattle.plane_map.proofs.Offsets.{FitsColumn, column, entry-below, turned}
 use Rattle.plane_map.proofs.Layouts.{are_columns, from_side-below, width_of-fits}
 use Rattle.plane_map.proofs.Places.{IsPlaced, tile_bit_is_placed, px_of-is, bank_of-below, place_is_in}
 
 -- ---- how long the runs are
 
--- each kind of tile has columns
-some-columns : (kind : TileKind) → 0 < columns_of kind
-some-columns Io = omega arith
-some-columns Logic = omega arith
-some-columns RamB = omega arith
-some-columns RamT = omega arith
-
+-- a tile that is there has columns
 pub there-some : (device : DeviceName) (x y : ℕ) (kind : TileKind) → kind_of device x y ≡ Some kind → 0 < columns_at device x y
-there-some device x y kind there = subst (λ (k : Option TileKind). 0 < columns_in k) (sym there) (some-columns kind)
+there-some device x y kind there = subst (λ (k : Option TileKind). 0 < columns_in k) (sym there) (columns_of-some kind)
 
 -- those of a tile that is no io tile have its columns alone
 logic-length : (device : DeviceName) (x y : ℕ) → kind_of device x y ≡ Some Logic → 54 ≡ run_length device x y
@@ -74,21 +69,14 @@ within_run layout sound true end width columns col fits within inner = (entry-be
 within_run layout sound false true width columns col fits within inner = (entry-below layout.pad_columns 18 42 (are_columns layout sound).pad_places col fits.0, fits.1)
 within_run layout sound false false width columns col fits within inner = (within, inner refl refl)
 
--- no tile has more columns than a word has bits
-columns-few : (kind : Option TileKind) → columns_in kind ≤ 54
-columns-few None = omega arith
-columns-few (Some Io) = omega arith
-columns-few (Some Logic) = omega arith
-columns-few (Some RamB) = omega arith
-columns-few (Some RamT) = omega arith
-
+-- no run is longer than a word
 length-few : (side end : Bool) (columns : ℕ) → columns ≤ 54 → (if side then 18 else if end then 42 else columns) ≤ 64
 length-few true end columns few = omega arith
 length-few false true columns few = omega arith
 length-few false false columns few = omega arith
 
 pub run_length-few : (device : DeviceName) (x y : ℕ) → run_length device x y ≤ 64
-run_length-few device x y = length-few (is_side device x) (is_end device y) (columns_at device x y) (columns-few (kind_of device x y))
+run_length-few device x y = length-few (is_side device x) (is_end device y) (columns_at device x y) (columns_in-le (kind_of device x y))
 
 -- ---- where they lie
 

@@ -1,4 +1,5 @@
 pub mod DeviceWords
+pub mod Devices
 pub mod Inside
 pub mod Layout
 pub mod Runs

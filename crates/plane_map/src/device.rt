@@ -2,6 +2,7 @@
 ghost use Rattle.std.specs.Prelude.{◌≡◌, ℕ, refl};
 ghost use Rattle.plane_map.specs.declared.device.DeviceName.{DeviceName as Name};
 ghost use Rattle.plane_map.specs.declared.device.DeviceName.TheVariants.{K1, K8};
+ghost use Rattle.plane_map.specs.Devices.{is_same_device};
 ghost use Rattle.plane_map.specs.Layout.{grid_width, grid_height, ram_column, cram_width, cram_height, bram_width, bram_height};
 
 use bit_plane::{Bits, Plane};
@@ -16,6 +17,13 @@ pub enum DeviceName {
 }
 
 impl DeviceName {
+    /// Whether it is the same device as another.
+    pub fn is_same(self, other: DeviceName) -> bool
+        ensures { result ≡ is_same_device self other }
+    {
+        self == other
+    }
+
     /// How many columns of tiles there are.
     pub fn columns(self) -> u32
         ensures { result ≡ grid_width self }

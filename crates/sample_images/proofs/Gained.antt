@@ -4,40 +4,14 @@ use Rattle.std.proofs.lemmas.Bool.{cases_eq, cases_Bool, eq-eqb, ne_eqb, both_wa
 use Rattle.std.proofs.lemmas.List.{take_all, take_more}
 use Rattle.std.proofs.lemmas.Nat.{one_shl}
 use Rattle.std.proofs.lemmas.Nat.Bits.{bit_at-pow_same, bit_at-pow_other}
-use Rattle.std.proofs.Math.Bool.{or-false, or-true, or_assoc}
-use Rattle.plane_map.specs.Layout.{Layout}
+use Rattle.std.proofs.Math.Bool.{or-false, or_assoc}
+use Rattle.ice_image.proofs.Gains.{Gains-none, Gains-more, Gains-set}
 use Rattle.plane_map.specs.declared.tile.Place.{Place}
-use Rattle.ice_image.specs.Bits.{Bit, OfTile, OfWord, Extra, IsBit, bit_of, number_bit, row_ones, IsSet, Gains}
+use Rattle.ice_image.specs.Bits.{Bit, OfTile, OfWord, Extra, IsBit, number_bit, row_ones, IsSet, Gains}
 use Rattle.ice_image.specs.Configuration.{Configuration, IsWhole}
 use Rattle.ice_image.specs.Owned.{is_extra, is_same_place}
 use Rattle.ice_image.proofs.Owned.{is_same_place-same, is_same_place-self}
 use Rattle.sample_images.specs.Samples.{is_sample, is_extra_at, is_of_one}
-
--- nothing is set
-pub Gains-none : (test : Bit → Bool) (before : Configuration) → IsWhole before → ((bit : Bit) → IsBit before.layout bit → test bit ≡ false) → Gains test before before
-Gains-none test before whole none = record { layout = refl; comment = refl; settings = refl; whole = whole; bits = λ bit is. sym (or-false (bit_of before bit)) ∙ ap (λ t. bit_of before bit || t) (sym (none bit is)) }
-
--- the same bits by another test
-pub Gains-same : (one other : Bit → Bool) (before after : Configuration) → Gains one before after → ((bit : Bit) → IsBit before.layout bit → one bit ≡ other bit) → Gains other before after
-Gains-same one other before after gains same = record {
-  layout = gains.layout;
-  comment = gains.comment;
-  settings = gains.settings;
-  whole = gains.whole;
-  bits = λ bit is. gains.bits bit is ∙ ap (λ t. bit_of before bit || t) (same bit is);
-}
-
--- one gain more
-Gains-more : (one more both : Bit → Bool) (before now after : Configuration) → Gains one before now → Gains more now after → ((bit : Bit) → (one bit || more bit) ≡ both bit) → Gains both before after
-Gains-more one more both before now after first next sum = record {
-  layout = next.layout ∙ first.layout;
-  comment = next.comment ∙ first.comment;
-  settings = next.settings ∙ first.settings;
-  whole = next.whole;
-  bits = λ bit is.
-      let P : Layout → Type 0 = λ layout. IsBit layout bit in
-      next.bits bit (subst P (sym first.layout) is) ∙ ap (λ b. b || more bit) (first.bits bit is) ∙ or_assoc (bit_of before bit) (one bit) (more bit) ∙ ap (λ t. bit_of before bit || t) (sum bit);
-}
 
 -- the bit of a number that is a power of 2
 number_bit-power : (col k : ℕ) → number_bit (2 ^ col) k ≡ (col == k)
@@ -53,23 +27,6 @@ row_ones-sample sample ones is within (OfWord bit) = refl
 row_ones-sample sample ones is within (Extra at) = refl
 
 -- ---- an extra bit
-
--- a test that only the bit passes that was set
-Gains-set : (bit : Bit) (test : Bit → Bool) (before after : Configuration) → ((other : Bit) → test other ≡ true → other ≡ bit) → test bit ≡ true → IsSet bit true before after → Gains test before after
-Gains-set bit test before after only passes set = record {
-  layout = set.others.layout;
-  comment = set.others.comment;
-  settings = set.others.settings;
-  whole = set.others.whole;
-  bits = λ other is. elim (cases_Bool (test other)) [
-    | inl here ↦
-        let same : other ≡ bit = only other here in
-        ap (bit_of after) same ∙ set.set ∙ sym (or-true (bit_of before other)) ∙ ap (λ t. bit_of before other || t) (sym here)
-    | inr none ↦
-        set.others.bits other is (λ same. both_ways (test other) none (ap test same ∙ passes))
-        ∙ sym (or-false (bit_of before other)) ∙ ap (λ t. bit_of before other || t) (sym none)
-  ];
-}
 
 is_extra_at-only : (at : Place) (bit : Bit) → is_extra_at at bit ≡ true → bit ≡ Extra at
 is_extra_at-only at (Extra other) is = ap (λ at. Extra at) (sym (is_same_place-same at other is))

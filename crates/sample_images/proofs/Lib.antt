@@ -1,1 +1,2 @@
+-- bits that are set one after the other
 mod Gained

@@ -1,7 +1,8 @@
 use Rattle.std.proofs.Common.{refl}
+use Rattle.ice_image.proofs.Gains.{Gains-same}
 use Rattle.ice_image.specs.Either.{configuration_of}
 use Rattle.sample_images.specs.Samples.{is_sample}
-use Rattle.sample_images.proofs.Gained.{Gains-same, row_ones-sample}
+use Rattle.sample_images.proofs.Gained.{row_ones-sample}
 use Rattle.sample_images.proofs.images.set_bit.Goals as goal
 
 pub returns-then-col-lt64-clause-bits : goal.returns-then-col-lt64-clause-bits

@@ -1,9 +1,10 @@
-use Rattle.std.proofs.Common.{◌≡◌, ◌∷◌, drop, refl, sym, ◌∙◌, arith}
+use Rattle.std.proofs.Common.{◌≡◌, ◌∷◌, drop, refl, sym, ◌∙◌, arith, []}
 use Rattle.std.proofs.lemmas.Result.{err_from_is_err_and}
+use Rattle.shared_lemmas.proofs.Cuts.{drop_cons}
 use Rattle.text_lines.specs.Lines.{lines_of}
 use Rattle.place_search.specs.Places.{first_below}
 use Rattle.layout_file.proofs.LineSteps.{reader-first}
-use Rattle.layout_file.proofs.Ends.{accepted, answered, cut, cut-end, fit-next, read-next, refused}
+use Rattle.layout_file.proofs.Ends.{accepted, answered, cut-end, fit-next, read-next, refused}
 use Rattle.layout_file.proofs.layouts.Layouts.read.Goals as goal
 
 pub loop-line-init : goal.loop-line-init
@@ -21,7 +22,7 @@ returns-in_err-take_line-clause-refused c =
     let i = c.loop-line.invariant in
     let lines = lines_of c.args.bytes.now in
     let left : drop c.loop-line.count lines ≡ c.in-Some.line.content.now ∷ lines_of c.in-Some.line.rest.now = sym i.rest ∙ c.in-Some.ensures.lines in
-    let found = cut lines c.loop-line.count c.in-Some.line.content.now (lines_of c.in-Some.line.rest.now) left in
+    let found = drop_cons lines c.loop-line.count [] c.in-Some.line.content.now (lines_of c.in-Some.line.rest.now) left in
     let p = err_from_is_err_and c.from_residual.result c.from_residual.ensures.1 in
     rw (p.1, p.2) (refused c.args.bytes.now c.loop-line.count c.in-Some.line.content.now c.loop-line.reader c.in_err-take_line.field-0.0
     found.0 found.1 i.read i.fit c.in_err-take_line.ensures.refused)
@@ -31,7 +32,7 @@ loop-line-preserved c =
     let i = c.loop-line.invariant in
     let lines = lines_of c.args.bytes.now in
     let left : drop c.loop-line.count lines ≡ c.in-Some.line.content.now ∷ lines_of c.in-Some.line.rest.now = sym i.rest ∙ c.in-Some.ensures.lines in
-    let found = cut lines c.loop-line.count c.in-Some.line.content.now (lines_of c.in-Some.line.rest.now) left in
+    let found = drop_cons lines c.loop-line.count [] c.in-Some.line.content.now (lines_of c.in-Some.line.rest.now) left in
     record {
       rest = found.2;
       within = omega (arith, found.0);

@@ -1,6 +1,5 @@
-use Rattle.std.proofs.Common.{◌≡◌, ℕ, ◌<◌, ◌||◌, Bool, true, false, not, refl, sym, ◌∙◌, ap, subst, arith}
-use Rattle.plane_map.specs.Layout.{columns_at, is_end, is_side}
-use Rattle.plane_map.specs.declared.device.DeviceName.{DeviceName}
+use Rattle.std.proofs.Common.{◌≡◌, ◌||◌, Bool, true, false, not, refl, sym, ◌∙◌, subst, arith}
+use Rattle.plane_map.specs.Layout.{is_end, is_side}
 use Rattle.plane_map.proofs.Offsets.{entry-below, places-from}
 use Rattle.plane_map.proofs.RunPlaces.{end-columns, end-length, run_length-few, side-columns, side-length}
 use Rattle.plane_map.proofs.layout.Layout.io_columns.Goals as goal

@@ -1,0 +1,13 @@
+-- Which device is meant.
+use Rattle.std.specs.Prelude.{ℕ, Bool, ◌==◌}
+use Rattle.plane_map.specs.declared.device.DeviceName.{DeviceName}
+use Rattle.plane_map.specs.declared.device.DeviceName.TheVariants.{K1, K8}
+
+-- a number of its own for each device
+abbrev pub device_number : DeviceName → ℕ
+device_number K1 = 1
+device_number K8 = 8
+
+-- whether two are one device
+abbrev pub is_same_device : DeviceName → DeviceName → Bool
+is_same_device a b = device_number a == device_number b

@@ -8,7 +8,7 @@ use Rattle.std.proofs.lemmas.List.{take-append-drop}
 use Rattle.std.proofs.lemmas.List.Elements.{All-cons, All-nil, All-weaker}
 use Rattle.std.proofs.Math.Seq.{drop-cons}
 use Rattle.hex.specs.Hex.{is_hex_digit}
-use Rattle.text_lines.specs.Lines.{lines_of, line_at, with_byte, is_at_lf, trimmed}
+use Rattle.text_lines.specs.Lines.{lines_of, line_at, trimmed}
 use Rattle.text_lines.proofs.Written.{lines_of-plain}
 use Rattle.plane_map.specs.Layout.{columns_of}
 use Rattle.plane_map.specs.declared.tile.TileKind.{TileKind}
@@ -74,35 +74,6 @@ lines_of-lf_at text len at high =
     let cut : text ≡ take len text ++ (10 ∷ drop (len + 1) text) = sym (take-append-drop len text) ∙ ap (λ more. take len text ++ more) behind in
     let plain = All-weaker (λ byte. 33 ≤ byte) (λ byte. 32 ≤ byte) (λ byte some. omega arith) (take len text) high in
     (ap lines_of cut ∙ lines_of-plain (take len text) (drop (len + 1) text) plain, omega (arith, length-drop (len + 1) text))
-
-at_lf-some : (bytes : List ℕ) → is_at_lf bytes ≡ true → 0 < length bytes
-at_lf-some [] at = absurd cc
-at_lf-some (byte ∷ bytes) at = omega arith
-
-with_byte-some : (byte : ℕ) (lines : List (List ℕ)) → 0 < length (with_byte byte lines)
-with_byte-some byte [] = omega arith
-with_byte-some byte (line ∷ lines) = omega arith
-
--- a text that is not empty has a line
-has_lines : (text : List ℕ) → 0 < length text → 0 < length (lines_of text)
-unfolding lines_of
-has_lines [] some = absurd (omega arith)
-has_lines (byte ∷ bytes) some =
-    elim (cases_Bool (byte == 10)) [
-      | inl lf ↦ rw lf (omega arith)
-      | inr inner ↦ rw inner (elim (cases_Bool ((byte == 13) && is_at_lf bytes)) [
-        | inl end ↦ rw end (has_lines bytes (at_lf-some bytes (and_parts (byte == 13) (is_at_lf bytes) end).1))
-        | inr other ↦ rw other (with_byte-some byte (lines_of bytes))
-      ])
-    ]
-
--- its lines are the first and the others
-first-others : (lines : List (List ℕ)) → 0 < length lines → lines ≡ line_at lines 0 ∷ drop 1 lines
-first-others [] some = absurd (omega arith)
-first-others (line ∷ lines) some = refl
-
-pub has_first : (text : List ℕ) → 0 < length text → lines_of text ≡ first_line text ∷ drop 1 (lines_of text)
-has_first text some = first-others (lines_of text) (has_lines text some)
 
 -- an empty text
 pub is-empty : (text : List ℕ) → (length text == 0) ≡ true → text ≡ []

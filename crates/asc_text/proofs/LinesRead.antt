@@ -19,7 +19,7 @@ use Rattle.asc_text.specs.declared.reading.reader.Expected.TheVariants.{Statemen
 use Rattle.asc_text.specs.Faults.{Tells, fault_with, tile_named, asc_fault_of}
 use Rattle.asc_text.specs.inside.Reading.{ReaderState, HasKind, IsReady, TakesFirst, TakesLines, begun, first_line, line_refusal, statement_of}
 use Rattle.asc_text.specs.inside.LinesTaken.{TakesEach, StopsIn, IsReached}
-use Rattle.asc_text.proofs.FirstLines.{has_first}
+use Rattle.text_lines.proofs.WholeLines.{has_first}
 use Rattle.asc_text.proofs.HasRead.{HasRead, IsAt}
 use Rattle.asc_text.proofs.Ends.{HasRead-none, HasRead-more, cut, refused}
 

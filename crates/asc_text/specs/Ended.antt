@@ -1,12 +1,8 @@
 -- The lines of a text that have ended, where more may follow.
-use Rattle.std.specs.Prelude.{◌≡◌, ℕ, ◌+◌, ◌<◌, List, [], ◌∷◌, ◌++◌, ◌==◌, if◌then◌else◌, Some}
+use Rattle.std.specs.Prelude.{◌≡◌, ℕ, ◌<◌, List, ◌++◌, Some}
+use Rattle.text_lines.specs.Pieces.{ended_lines}
 use Rattle.layout_file.specs.declared.layouts.Layouts.{Layouts}
 use Rattle.asc_text.specs.Faults.{Fault, asc_fault_of}
-
--- how many lines LF has ended
-abbrev pub ended_lines : List ℕ → ℕ
-ended_lines [] = 0
-ended_lines (byte ∷ bytes) = (if byte == 10 then 1 else 0) + ended_lines bytes
 
 -- no line that has ended is faulty: whatever follows, the first faulty line comes after them
 abbrev pub IsFaultless : Layouts → List ℕ → Type 0

@@ -5,7 +5,7 @@ use Rattle.layout_file.specs.declared.layouts.Layouts.{Layouts}
 use Rattle.layout_file.specs.Layouts.{AreLayouts}
 use Rattle.asc_text.specs.declared.fault.AscFault.{AscFault}
 use Rattle.asc_text.specs.declared.reading.asc_reader.AscReader.{AscReader}
-use Rattle.asc_text.specs.inside.Feeding.{IsStage, fault_in}
+use Rattle.asc_text.specs.inside.Feeding.{HasFed}
 
 -- how many bytes were fed to a reader
 abbrev pub fed_to : AscReader → ℕ
@@ -13,10 +13,10 @@ fed_to reader = reader.fed
 
 -- the fault with which a reader refused, where it did
 abbrev pub refusal_of : AscReader → Option AscFault
-refusal_of reader = fault_in reader.stage
+refusal_of reader = reader.refusal
 
--- A reader stands for a text under layouts: so many bytes were fed to it, and it is at their stage.
+-- A reader stands for a text under layouts: so many bytes were fed to it, and it has read them or refused.
 pub record StandsFor (layouts : Layouts) (text : List ℕ) (reader : AscReader) : Type 0 where
   pub fed : fed_to reader ≡ length text
   pub laid : AreLayouts layouts
-  pub stage : IsStage layouts text reader.stage
+  pub has : HasFed layouts text reader.refusal reader.lines reader.count reader.kept.items

@@ -64,7 +64,7 @@ pub fn trimmed(line: &[u8]) -> &[u8]
 }
 
 /// Whether the byte is a space or a tab.
-pub(crate) fn is_blank(byte: u8) -> bool
+pub fn is_blank(byte: u8) -> bool
     ensures { result ≡ is_blank byte }
 {
     byte == b' ' || byte == b'\t'
@@ -113,7 +113,7 @@ fn has_lf(bytes: &[u8]) -> bool
 }
 
 /// The offset of the first LF.
-fn first_lf(text: &[u8]) -> Option<usize>
+pub fn first_lf(text: &[u8]) -> Option<usize>
     ensures { result ≡ position (λ byte. byte == 10) text.now }
 {
     text.iter().position(|byte| *byte == b'\n')

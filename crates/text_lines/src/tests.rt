@@ -102,3 +102,43 @@ fn reads_numbers_of_nine_digits_at_most(rt: HostRuntime) {
         assert_eq!(rt; number(word.as_bytes()), value, "of {word:?}");
     }
 }
+
+#[test]
+fn reads_a_number_before_a_byte(rt: HostRuntime) {
+    for (text, value, behind) in [
+        ("12 3", 12, "3"),
+        ("0  ", 0, " "),
+        ("999999999 ", 999_999_999, ""),
+    ] {
+        assert_eq!(rt;
+            number_before(b' ', text.as_bytes()),
+            Some((value, behind.as_bytes())),
+            "of {text:?}"
+        );
+    }
+    for text in ["", " 1", "12", "12\t", "1234567890 "] {
+        assert!(rt;
+            number_before(b' ', text.as_bytes()).is_none(),
+            "of {text:?}"
+        );
+    }
+}
+
+#[test]
+fn cuts_a_piece_where_lines_end(rt: HostRuntime) {
+    for (kept, piece, end, lines, unended) in [
+        ("", "a\nb\nc", "", "a\nb\n", "c"),
+        ("k", "a\nb\nc", "a\n", "b\n", "c"),
+        ("k", "\n", "\n", "", ""),
+        ("k", "ab", "", "", "ab"),
+        ("", "", "", "", ""),
+    ] {
+        let cut = cut_piece(kept.as_bytes(), piece.as_bytes());
+        let is = cut.end == end.as_bytes()
+            && cut.lines == lines.as_bytes()
+            && cut.unended == unended.as_bytes();
+        assert!(rt; is, "of {piece:?} behind {kept:?}");
+    }
+    assert!(rt; first_lf(b"a\n") == Some(1));
+    assert!(rt; is_blank(b'\t'));
+}

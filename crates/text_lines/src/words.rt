@@ -1,9 +1,9 @@
 // Words of a line, and the numbers that they write.
-ghost use Rattle.std.specs.Prelude.{◌≡◌, List, ◌∷◌, [], ℕ, ◌<◌, ◌^◌, ◌≢◌, not, length, position, true, IfSome, MatchOption};
-ghost use Rattle.std.specs.Char.{is_ascii_digit};
-ghost use Rattle.std.specs.List.{list_all, position_or_len};
-ghost use Rattle.text_lines.specs.Words.{behind_word, digits_value, first_word, from_word, is_number, is_separator, number_of, numbers_of, with_number, words_of};
+ghost use Rattle.std.specs.Prelude.{◌≡◌, List, ◌∷◌, [], ℕ, ◌<◌, ◌≢◌, not, length, position, IfSome, MatchOption};
+ghost use Rattle.std.specs.List.{position_or_len};
+ghost use Rattle.text_lines.specs.Words.{behind_word, first_word, from_word, is_separator, numbers_of, with_number, words_of};
 
+use crate::decimal::number;
 use crate::lines::is_blank;
 
 /// The bytes that part words; one or more of them stand between two words.
@@ -137,45 +137,4 @@ fn first_separator(separators: Separators, line: &[u8]) -> Option<usize>
     ensures { result ≡ position (is_separator separators) line.now }
 {
     line.iter().position(|byte| separators.has(*byte))
-}
-
-/// The number that a word of one to nine decimal digits writes, the most significant first: none of any other word.
-/// Leading zeros count as digits.
-#[tactic(auto, unfolding(crate::specs::Words::number_of))]
-pub fn number(word: &[u8]) -> Option<u32>
-    ensures is { result ≡ number_of word.now }
-    ensures small { IfSome result (λ value. value < 1000000000) }
-{
-    if is_number(word) {
-        Some(digits_value(word))
-    } else {
-        None
-    }
-}
-
-/// Whether a word is one to nine decimal digits.
-fn is_number(word: &[u8]) -> bool
-    ensures { result ≡ is_number word.now }
-{
-    0 < word.len() && word.len() <= 9 && are_digits(word)
-}
-
-/// Whether each byte is a decimal digit.
-fn are_digits(word: &[u8]) -> bool
-    ensures { result ≡ list_all is_ascii_digit word.now }
-{
-    word.iter().all(|byte| byte.is_ascii_digit())
-}
-
-/// The number that decimal digits write, the most significant first.
-fn digits_value(digits: &[u8]) -> u32
-    requires { is_number digits.now ≡ true }
-    ensures is { result ≡ digits_value digits.now }
-    ensures small { result < 10 ^ length digits.now }
-{
-    let mut value = 0;
-    for digit in digits {
-        value = 10 * value + u32::from(*digit - b'0');
-    }
-    value
 }

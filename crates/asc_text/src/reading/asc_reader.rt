@@ -1,22 +1,15 @@
 // A text that comes in pieces.
-ghost use Rattle.std.specs.Prelude.{◌≡◌, ◌+◌, ◌<◌, ◌≤◌, ◌^◌};
-ghost use Rattle.asc_text.specs.inside.Feeding.{stage_length, stage_of};
+ghost use Rattle.std.specs.Prelude.{◌≡◌, ◌+◌, ◌<◌, ◌≤◌, ◌^◌, vec_len};
+ghost use Rattle.std.specs.Option.{ForNone};
+ghost use Rattle.asc_text.specs.inside.Reading.{state_of};
+ghost use Rattle.asc_text.specs.inside.LinesTaken.{IsReached};
 
-use crate::fault::{AscCause, AscFault};
+use crate::fault::AscFault;
 use crate::file::AscFile;
-use crate::reading::progress::Progress;
+use crate::reading::piece::{finish_text, read_piece};
+use crate::reading::reader::Reader;
 use layout_file::Layouts;
 use std::alloc::Global;
-use std::mem;
-
-/// What is known of the text so far.
-#[derive(Drop)]
-pub(crate) enum Stage {
-    /// No line that has ended is faulty.
-    Reading(Progress),
-    /// The first faulty line, or that there was no memory.
-    Refused(AscFault),
-}
 
 /// A reader of a text that comes in pieces. It keeps what the lines so far have given, and the bytes of a line that hasn't
 /// ended yet.
@@ -24,8 +17,15 @@ pub(crate) enum Stage {
 pub struct AscReader {
     /// How many bytes were fed.
     fed: u64,
-    stage: Stage,
-    ghost room: { stage_length stage ≤ fed },
+    /// The first faulty line, or that there was no memory. Behind it nothing is read.
+    refusal: Option<AscFault>,
+    /// What the lines have given that LF has ended, and how many they are.
+    lines: Reader,
+    count: u64,
+    /// The bytes behind the last LF.
+    kept: Vec<u8>,
+    ghost reached: { ForNone refusal ∥ IsReached (state_of lines) ∥₁ },
+    ghost room: { ForNone refusal (count + vec_len kept ≤ fed) },
     ghost limit: { fed + 1 < 2 ^ 64 },
 }
 
@@ -48,7 +48,10 @@ impl AscReader {
     {
         AscReader {
             fed: 0,
-            stage: Stage::Reading(Progress::new(alloc, layouts)),
+            refusal: None,
+            lines: Reader::new(alloc, layouts),
+            count: 0,
+            kept: Vec::new(alloc),
         }
     }
 
@@ -64,15 +67,20 @@ impl AscReader {
         ensures kept { IfErr result (λ fault. refusal_of self.new ≡ Some fault) }
         ensures again { (fault : AscFault) → refusal_of self.old ≡ Some fault → result ≡ Err fault }
     {
-        let stage = mem::replace(
-            &mut self.stage,
-            Stage::Refused(AscCause::NoDevice.at(0, None)),
-        );
-        let stage = stage.taking(piece);
-        let answer = stage.answer();
         self.fed += piece.len() as u64;
-        self.stage = stage;
-        answer
+        if let Some(fault) = self.refusal {
+            return Err(fault);
+        }
+        match read_piece(&mut self.lines, self.count, &mut self.kept, piece) {
+            Ok(count) => {
+                self.count = count;
+                Ok(())
+            }
+            Err(fault) => {
+                self.refusal = Some(fault);
+                Err(fault)
+            }
+        }
     }
 
     /// The configuration and the names that the text gives, or its first faulty line.
@@ -84,53 +92,16 @@ impl AscReader {
         ensures refused { IfErr result (λ fault. (layouts : Layouts) (text : List ℕ) → StandsFor layouts text self → Tells (asc_fault_of layouts text) fault) }
         ensures again { (fault : AscFault) → refusal_of self ≡ Some fault → result ≡ Err fault }
     {
-        let AscReader { stage, .. } = self;
-        match stage {
-            Stage::Reading(progress) => progress.finish(),
-            Stage::Refused(fault) => Err(fault),
+        let AscReader {
+            refusal,
+            lines,
+            count,
+            kept,
+            ..
+        } = self;
+        match refusal {
+            None => finish_text(lines, count, &kept),
+            Some(fault) => Err(fault),
         }
-    }
-}
-
-impl Stage {
-    ghost use Rattle.std.specs.Prelude.{List, ℕ, [], Err, Some, None, ◌++◌, IfOk, IfErr, length};
-    ghost use Rattle.layout_file.specs.declared.layouts.Layouts.{Layouts as LayoutsOf};
-    ghost use Rattle.layout_file.specs.Layouts.{AreLayouts};
-    ghost use Rattle.asc_text.specs.inside.Feeding.{IsStage, fault_in};
-    ghost use Rattle.asc_text.specs.declared.fault.AscFault.{AscFault as Fault};
-
-    /// What is known with a piece more. After a refusal the piece is passed over.
-    fn taking(self, piece: &[u8]) -> Stage
-        requires { stage_length self + length piece.now < 2 ^ 64 }
-        ensures within { stage_length result ≤ stage_length self + length piece.now }
-        ensures stands { (layouts : LayoutsOf) (text : List ℕ) → IsStage layouts text self → IsStage layouts (text ++ piece.now) result }
-        ensures again { (fault : Fault) → fault_in self ≡ Some fault → fault_in result ≡ Some fault }
-    {
-        match self {
-            Stage::Reading(progress) => stage_of(progress.taking(piece)),
-            Stage::Refused(fault) => Stage::Refused(fault),
-        }
-    }
-
-    /// The fault of a refusal.
-    fn answer(&self) -> Result<(), AscFault>
-        ensures clear { IfOk result (λ _. fault_in self.now ≡ None) }
-        ensures refused { IfErr result (λ fault. fault_in self.now ≡ Some fault) }
-        ensures exact { (fault : Fault) → fault_in self.now ≡ Some fault → result ≡ Err fault }
-    {
-        match self {
-            Stage::Reading(_) => Ok(()),
-            Stage::Refused(fault) => Err(*fault),
-        }
-    }
-}
-
-/// What is known behind a piece, which is a refusal where there is a fault.
-fn stage_of(progress: Result<Progress, AscFault>) -> Stage
-    ensures { result ≡ stage_of progress }
-{
-    match progress {
-        Ok(progress) => Stage::Reading(progress),
-        Err(fault) => Stage::Refused(fault),
     }
 }

@@ -4,6 +4,7 @@ ghost use Rattle.ice_image.specs.Either.{configuration_of};
 ghost use Rattle.asc_text.specs.Statements.{begins_with_dot};
 
 mod blocks;
+mod lines;
 mod plain;
 mod statements;
 

@@ -1,9 +1,0 @@
-use Rattle.std.proofs.Common.{◌≡◌, ◌≤◌, length, drop}
-use Rattle.asc_text.specs.Ended.{ended_lines}
-use Rattle.asc_text.proofs.reading.line_ends.length_of_whole_lines.Given as goal
-
-abbrev pub invariant-loop-len : goal.invariant-loop-len
-invariant-loop-len l = (l.len ≤ length l.text) × (ended_lines (drop l.len l.text) ≡ 0)
-
-abbrev pub decreases-loop-len : goal.decreases-loop-len
-decreases-loop-len l = l.len

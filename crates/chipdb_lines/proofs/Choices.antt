@@ -3,19 +3,20 @@ use Rattle.std.proofs.Common.{◌≡◌, ℕ, ◌<◌, ◌≤◌, Bool, true, fa
 use Rattle.std.specs.Prelude.{All, Some, Ok, ◌==◌, nat_lt, nat_le}
 use Rattle.std.specs.List.{list_all}
 use Rattle.std.specs.Char.{is_ascii_digit}
-use Rattle.std.proofs.lemmas.Bool.{cases_Bool, ltb-true, lt-ltb, eq-eqb, ne_eqb}
+use Rattle.std.proofs.lemmas.Bool.{and_parts, cases_Bool, ltb-true, lt-ltb, eq-eqb, ne_eqb}
 use Rattle.std.proofs.lemmas.Bool.Decides.{nat_tests}
 use Rattle.std.proofs.lemmas.List.Elements.{All-append, All-cons, All-weaker}
 use Rattle.text_lines.specs.declared.words.Separators.TheVariants.{SpacesAndTabs}
 use Rattle.text_lines.specs.Lines.{is_blank, lines_of}
+use Rattle.text_lines.specs.Numbers.{StartsWithNumber}
 use Rattle.text_lines.specs.Words.{is_number, number_of, words_of, pieces_of, from_word}
 use Rattle.text_lines.proofs.Spaced.{IsWord, IsWord-high, words_of-two, words_of-separator, words_of-cut, from_word-inner}
 use Rattle.text_lines.proofs.Written.{lines_of-plain}
 use Rattle.chipdb_lines.specs.declared.links.Choice.{Choice}
 use Rattle.chipdb_lines.specs.Words.{has_none, own_words, words_in}
 use Rattle.chipdb_lines.specs.Items.{choice_of}
-use Rattle.chipdb_lines.specs.Kept.{choice_named, AreParted, BeginsWithPair, Chooses, StartsWithNumber, WritesValues}
-use Rattle.chipdb_lines.proofs.Values.{and-left, and-right, list_all-at, value-byte}
+use Rattle.chipdb_lines.specs.Kept.{choice_named, AreParted, BeginsWithPair, Chooses, WritesValues}
+use Rattle.chipdb_lines.proofs.Values.{list_all-at, value-byte}
 
 -- bytes all of which pass a test that no byte up to the space passes
 all-high : (test : ℕ → Bool) (word : List ℕ) → ((byte : ℕ) → test byte ≡ true → 32 < byte) → list_all test word ≡ true → All (λ byte. 32 < byte) word
@@ -40,18 +41,20 @@ number-is word number is =
       | inr none ↦ absurd (cc (rw none at is))
     ]
 
+pub number-digits : (word : List ℕ) (number : ℕ) → number_of word ≡ Some number → list_all is_ascii_digit word ≡ true
+number-digits word number is = (and_parts (nat_lt 0 (length word) && nat_le (length word) 9) (list_all is_ascii_digit word) (number-is word number is)).1
+
 number-high : (word : List ℕ) (number : ℕ) → number_of word ≡ Some number → All (λ byte. 32 < byte) word
-number-high word number is = all-high is_ascii_digit word digit-high (and-right (nat_lt 0 (length word) && nat_le (length word) 9) (list_all is_ascii_digit word) (number-is word number is))
+number-high word number is = all-high is_ascii_digit word digit-high (number-digits word number is)
 
 weaker : (word : List ℕ) → All (λ byte. 32 < byte) word → All (λ byte. 32 ≤ byte) word
 weaker word high = All-weaker (λ byte. 32 < byte) (λ byte. 32 ≤ byte) (λ byte lt. omega arith) word high
 
 pub number-word : (word : List ℕ) (number : ℕ) → number_of word ≡ Some number → IsWord SpacesAndTabs word
 number-word word number is =
-    let whole = number-is word number is in
-    let sizes : (nat_lt 0 (length word) && nat_le (length word) 9) ≡ true = and-left (nat_lt 0 (length word) && nat_le (length word) 9) (list_all is_ascii_digit word) whole in
-    let some : 0 < length word = ltb-true 0 (length word) (and-left (nat_lt 0 (length word)) (nat_le (length word) 9) sizes) in
-    IsWord-high SpacesAndTabs word some (all-high is_ascii_digit word digit-high (and-right (nat_lt 0 (length word) && nat_le (length word) 9) (list_all is_ascii_digit word) whole))
+    let sizes = (and_parts (nat_lt 0 (length word) && nat_le (length word) 9) (list_all is_ascii_digit word) (number-is word number is)).0 in
+    let some : 0 < length word = ltb-true 0 (length word) (and_parts (nat_lt 0 (length word)) (nat_le (length word) 9) sizes).0 in
+    IsWord-high SpacesAndTabs word some (number-high word number is)
 
 -- a choice of values and a net with one space between them
 pub choice_of-parted : (nets : ℕ) (values src : List ℕ) (choice : Choice) → 0 < length values → WritesValues values choice.values → number_of src ≡ Some choice.src → choice.src < nets
@@ -73,7 +76,7 @@ pub parted-words : (values src : List ℕ) (number : ℕ) → 0 < length values 
 unfolding own_words
 parted-words [] src number some all is = absurd (omega arith)
 parted-words (first ∷ values) src number some all is =
-    let begins = value-begins first (and-left ((first == 48) || (first == 49)) (list_all (λ byte. (byte == 48) || (byte == 49)) values) all) in
+    let begins = value-begins first (and_parts ((first == 48) || (first == 49)) (list_all (λ byte. (byte == 48) || (byte == 49)) values) all).0 in
     let one = values-word (first ∷ values) some all in
     let two = number-word src number is in
     let words = words_of-two SpacesAndTabs (first ∷ values) src one two in

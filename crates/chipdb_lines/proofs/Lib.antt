@@ -1,6 +1,12 @@
+-- bits that were added to a table one after another
 pub mod TableBits
+-- the number that values write, their first bit the lowest
 pub mod Values
+-- words that miss
 pub mod Heads
+-- values and a net with one space between them, and lines without a word
 pub mod Choices
-pub mod Leading
+-- texts that begin with the two words of a choice
+pub mod Missed
+-- a name with one space before it and one between its numbers
 pub mod Named

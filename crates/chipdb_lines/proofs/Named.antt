@@ -8,11 +8,11 @@ use Rattle.text_lines.specs.Lines.{is_blank}
 use Rattle.text_lines.proofs.Spaced.{IsWord, words_of-three}
 use Rattle.plane_map.specs.declared.device.DeviceName.{DeviceName}
 use Rattle.plane_map.specs.Layout.{grid_height, grid_width}
+use Rattle.text_lines.specs.Numbers.{StartsWithNumber}
 use Rattle.text_lines.specs.Words.{number_of}
 use Rattle.text_lines.proofs.Numbers.{numbers_of-two}
 use Rattle.chipdb_lines.specs.Items.{name_of}
 use Rattle.chipdb_lines.specs.Words.{words_in}
-use Rattle.chipdb_lines.specs.Kept.{StartsWithNumber}
 use Rattle.chipdb_lines.proofs.Values.{list_all-at}
 use Rattle.chipdb_lines.proofs.Choices.{number-word}
 

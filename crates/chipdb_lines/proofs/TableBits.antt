@@ -4,10 +4,11 @@ use Rattle.std.specs.Prelude.{Option, Some, None, Ok, Err, is_some, MatchOption}
 use Rattle.std.specs.Result.{result_err}
 use Rattle.std.proofs.lemmas.Bool.{le-ltb, lt-ltb}
 use Rattle.std.proofs.lemmas.List.{take_all}
+use Rattle.std.proofs.lemmas.List.Folds.{list_all-append}
 use Rattle.std.proofs.Math.Seq.{drop-append_seam}
 use Rattle.chipdb_lines.specs.declared.cause.Refusal.{Refusal}
 use Rattle.chipdb_lines.specs.declared.cause.Refusal.TheVariants.{Cause, Memory}
-use Rattle.chipdb_lines.specs.Kept.{bits_named, Reports}
+use Rattle.chipdb_lines.specs.Kept.{bits_named, AddsList, Reports}
 use Rattle.std.specs.List.{list_all}
 use Rattle.plane_map.specs.declared.tile.RowCol.{RowCol}
 use Rattle.chipdb_lines.specs.declared.cause.DbCause.{DbCause}
@@ -29,15 +30,6 @@ after_bits-nothing None = refl
 pub after_bits-push : (bits : List RowCol) (bit : RowCol) (more : Option (List RowCol)) → after_bits bits (with_bit (Some bit) more) ≡ after_bits (bits ++ bit ∷ []) more
 after_bits-push bits bit (Some more) = ap (λ all. Some all) (sym (append_assoc bits (bit ∷ []) more))
 after_bits-push bits bit None = refl
-
--- tests of two lists, one after the other
-pub list_all-joined : {A : Type 0} (test : A → Bool) (xs ys : List A) → list_all test (xs ++ ys) ≡ (list_all test xs && list_all test ys)
-list_all-joined test [] ys = refl
-list_all-joined test (x ∷ xs) ys = by (test x) (list_all test xs) (list_all test ys) (list_all test (xs ++ ys)) (list_all-joined test xs ys)
-  where
-    by : (b p q r : Bool) → r ≡ (p && q) → (b && r) ≡ ((b && p) && q)
-    by true p q r same = same
-    by false p q r same = refl
 
 -- What was added of the words' bits: those of the words before `left`, all of them bits of the tile.
 pub record Added (columns : ℕ) (old bits : List RowCol) (words left : List (List ℕ)) : Type 0 where
@@ -61,7 +53,7 @@ Added-push columns old bits new words left rest word bit added split named there
     record {
       more = more ++ bit ∷ [];
       table = pushed ∙ ap (λ xs. xs ++ bit ∷ []) added.table ∙ append_assoc old more (bit ∷ []);
-      inside = list_all-joined (is_in_columns columns) more (bit ∷ []) ∙ rw (added.inside, there) refl;
+      inside = list_all-append (is_in_columns columns) more (bit ∷ []) ∙ rw (added.inside, there) refl;
       all = added.all ∙ ap (after_bits more) next ∙ after_bits-push more bit (bits_of rest);
     }
 
@@ -77,7 +69,7 @@ outside_by : (columns : ℕ) (more : List RowCol) (bit : RowCol) (others : Optio
     → checked_bits columns (after_bits more (with_bit (Some bit) others)) ≡ Err (cond (is_some others) BitRange BitName)
 outside_by columns more bit None inside outside = refl
 outside_by columns more bit (Some others) inside outside =
-    let all : list_all (is_in_columns columns) (more ++ bit ∷ others) ≡ false = list_all-joined (is_in_columns columns) more (bit ∷ others) ∙ rw (inside, outside) refl in
+    let all : list_all (is_in_columns columns) (more ++ bit ∷ others) ≡ false = list_all-append (is_in_columns columns) more (bit ∷ others) ∙ rw (inside, outside) refl in
     rw all refl
 
 -- a bit outside of the tile was found
@@ -159,6 +151,13 @@ Added-list columns start count old bits words left added none start_is count_is 
     let inside : list_all (is_in_columns columns) more ≡ true = added.inside in
     let checked : checked_bits columns (Some more) ≡ Ok more = rw (inside, fits) refl in
     ap (checked_bits columns) all ∙ checked ∙ ap (λ bs. Ok bs) (sym (list-added start count old bits more table start_is count_is))
+
+-- what was added are the bits of a list
+pub Added-exact : (columns start count : ℕ) (old bits : List RowCol) (words left : List (List ℕ)) → Added columns old bits words left → start ≡ length old → count ≡ length bits - start → count ≤ 64
+    → AddsList old bits (record { start = start; count = count })
+Added-exact columns start count old bits words left added start_is count_is few =
+    let lengths : length bits ≡ length old + length added.more = ap length added.table ∙ length-append old added.more in
+    record { starts = start_is; ends = omega arith; few = few; grown = (added.more, added.table) }
 
 -- all words were taken, and there are many bits
 pub Added-many : (columns start count : ℕ) (old bits : List RowCol) (words left : List (List ℕ)) → Added columns old bits words left → left ≡ [] → start ≡ length old → count ≡ length bits - start → 64 < count

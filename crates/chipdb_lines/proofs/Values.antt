@@ -1,28 +1,21 @@
 -- The number that values write, their first bit the lowest.
-use Rattle.std.proofs.Common.{◌≡◌, ℕ, zero, suc, ◌+◌, ◌-◌, ◌*◌, ◌/◌, ◌%◌, ◌^◌, ◌<◌, ◌≤◌, Bool, true, false, ◌&&◌, ◌||◌, eqb, List, [], ◌∷◌, length, length-drop, drop, get_or, refl, sym, ap, ◌∙◌, inl, inr, arith, lit<, lit≤, true≢false}
-use Rattle.std.proofs.lemmas.Bool.{cases_Bool, cases_eq}
+use Rattle.std.proofs.Common.{◌≡◌, ℕ, zero, suc, ◌+◌, ◌-◌, ◌*◌, ◌/◌, ◌%◌, ◌^◌, ◌<◌, ◌≤◌, Bool, true, false, ◌||◌, eqb, List, [], ◌∷◌, length, length-drop, drop, get_or, refl, sym, ap, ◌∙◌, inl, inr, arith, lit<, lit≤, true≢false}
+use Rattle.std.proofs.lemmas.Bool.{and_parts, cases_Bool, cases_eq}
 use Rattle.std.proofs.Math.Nat.{pow-succ', pow-le-pow_right}
 use Rattle.std.proofs.Math.Seq.{drop-cons, drop-length}
 use Rattle.std.specs.Prelude.{◌==◌, ◌≢◌}
 use Rattle.std.specs.List.{list_all}
 use Rattle.std.proofs.lemmas.Bool.Decides.{nat_tests}
-use Rattle.chipdb_lines.specs.Kept.{low_bits, WritesValues}
+use Rattle.bit_plane.specs.BitList.{word_bits}
+use Rattle.chipdb_lines.specs.Kept.{WritesValues}
 
 -- one bit more, as the lowest
-pub low_bits-more : (count number bit : ℕ) → bit < 2 → low_bits (suc count) (2 * number + bit) ≡ eqb bit 1 ∷ low_bits count number
-low_bits-more count number bit small =
+pub word_bits-more : (count number bit : ℕ) → bit < 2 → word_bits (suc count) (2 * number + bit) ≡ eqb bit 1 ∷ word_bits count number
+unfolding word_bits
+word_bits-more count number bit small =
     let low : (2 * number + bit) % 2 ≡ bit = omega arith in
     let high : (2 * number + bit) / 2 ≡ number = omega arith in
     rw (low, high) refl
-
--- the parts of a test of both
-pub and-left : (a b : Bool) → (a && b) ≡ true → a ≡ true
-and-left true b is = refl
-and-left false b is = is
-
-pub and-right : (a b : Bool) → (a && b) ≡ true → b ≡ true
-and-right true b is = is
-and-right false b is = absurd (true≢false (sym is))
 
 -- a byte that is neither
 no_value : (byte : ℕ) → byte ≢ 48 → byte ≢ 49 → ((byte == 48) || (byte == 49)) ≡ true → ⊥
@@ -31,8 +24,8 @@ no_value byte other another is = grind (arith, nat_tests)
 -- each element passes where all do
 pub list_all-at : {A : Type 0} (test : A → Bool) (xs : List A) (i : ℕ) (d : A) → list_all test xs ≡ true → i < length xs → test (get_or xs i d) ≡ true
 list_all-at test [] i d all lt = absurd (omega arith)
-list_all-at test (x ∷ xs) zero d all lt = and-left (test x) (list_all test xs) all
-list_all-at test (x ∷ xs) (suc i) d all lt = list_all-at test xs i d (and-right (test x) (list_all test xs) all) (omega arith)
+list_all-at test (x ∷ xs) zero d all lt = (and_parts (test x) (list_all test xs) all).0
+list_all-at test (x ∷ xs) (suc i) d all lt = list_all-at test xs i d (and_parts (test x) (list_all test xs) all).1 (omega arith)
 
 -- a byte that is `0` or `1`
 pub value-byte : (byte : ℕ) → ((byte == 48) || (byte == 49)) ≡ true → (byte - 48 < 2) × (48 ≤ byte) × (eqb (byte - 48) 1 ≡ (byte == 49))
@@ -56,6 +49,7 @@ no-values word i lt is =
 
 -- no byte is written
 pub Writes-nothing : (word : List ℕ) → WritesValues (drop (length word) word) 0
+unfolding word_bits
 Writes-nothing word =
     let none : WritesValues [] 0 = record { all = refl; bits = refl; small = lit< tt } in
     rw (drop-length word) none
@@ -69,7 +63,7 @@ Writes-byte byte bytes values written is =
     let digit_small : byte - 48 < 2 = digit.0 in
     record {
       all = rw is written.all;
-      bits = low_bits-more count values (byte - 48) digit.0 ∙ ap (λ b. b ∷ low_bits count values) digit.2 ∙ ap (λ bs. (byte == 49) ∷ bs) written.bits;
+      bits = word_bits-more count values (byte - 48) digit.0 ∙ ap (λ b. b ∷ word_bits count values) digit.2 ∙ ap (λ bs. (byte == 49) ∷ bs) written.bits;
       small = rw (pow-succ' 2 count) (omega arith);
     }
 

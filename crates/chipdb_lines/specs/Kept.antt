@@ -1,6 +1,7 @@
 -- What is kept of lines: bits in one table, and lists of them by their places in it.
 use Rattle.std.specs.Prelude.{◌≡◌, ℕ, zero, suc, ◌+◌, ◌%◌, ◌/◌, ◌^◌, ◌<◌, ◌≤◌, Bool, true, false, ◌||◌, List, [], ◌∷◌, ◌++◌, length, take, drop, map, ◌==◌, Option, Some, Result, Ok, Err}
 use Rattle.std.specs.Result.{result_err, MatchResult}
+use Rattle.bit_plane.specs.BitList.{word_bits}
 use Rattle.plane_map.specs.declared.tile.RowCol.{RowCol}
 use Rattle.chipdb_lines.specs.declared.cause.DbCause.{DbCause}
 use Rattle.chipdb_lines.specs.declared.cause.Refusal.{Refusal}
@@ -17,9 +18,7 @@ use Rattle.chipdb_lines.specs.declared.statements.Below.{Below}
 use Rattle.chipdb_lines.specs.declared.statements.Below.TheVariants.{Passed, Device, GlobalInputs, GlobalPins, Functions, ExtraBits, Names, Buffers, Routings}
 use Rattle.chipdb_lines.specs.Statements.{Block, passed, of_device, global_inputs, global_pins, functions, extra_bits, names, buffers, routings, LinkHead}
 use Rattle.text_lines.specs.Lines.{lines_of}
-use Rattle.std.specs.Char.{is_ascii_digit}
 use Rattle.std.specs.List.{list_all}
-use Rattle.text_lines.specs.Words.{digits_value, number_of}
 use Rattle.text_lines.specs.Written.{IsPlain}
 use Rattle.chipdb_lines.specs.Words.{is_statement, own_words, words_in}
 use Rattle.chipdb_lines.specs.Items.{LinkChoice, choice_of, FunctionLine, ExtraLine, NameLine}
@@ -37,14 +36,16 @@ pub record IsListOf (count : ℕ) (list : BitList) : Type 0 where
 abbrev pub Extends : List RowCol → List RowCol → Type 0
 Extends old new = (more : List RowCol) × (new ≡ old ++ more)
 
--- the lowest bits of a number, as many as asked for, the lowest first
-abbrev pub low_bits : ℕ → ℕ → List Bool
-low_bits zero number = []
-low_bits (suc count) number = (number % 2 == 1) ∷ low_bits count (number / 2)
+-- a table to which the bits of a list were added, and no others
+pub record AddsList (old new : List RowCol) (list : BitList) : Type 0 where
+  pub starts : list.start ≡ length old
+  pub ends : length new ≡ list.start + list.count
+  pub few : list.count ≤ 64
+  pub grown : Extends old new
 
 -- a choice whose values are the lowest bits of a number
 abbrev pub choice_named : ℕ → Choice → LinkChoice
-choice_named count choice = record { values = low_bits count choice.values; src = choice.src }
+choice_named count choice = record { values = word_bits count choice.values; src = choice.src }
 
 -- a function with the bits of a list
 abbrev pub function_named : TileKind → List RowCol → FunctionItem → FunctionLine
@@ -72,11 +73,11 @@ block_named bits (Names net) = names net
 block_named bits (Buffers head) = buffers (head_named bits head)
 block_named bits (Routings head) = routings (head_named bits head)
 
--- the bits of a statement are in a table of so many
-abbrev pub IsBelowIn : ℕ → Below → Type 0
-IsBelowIn count (Buffers head) = IsListOf count head.bits
-IsBelowIn count (Routings head) = IsListOf count head.bits
-IsBelowIn count below = Unit {0}
+-- a table to which the bits of a statement were added, and no others
+abbrev pub AddsBelow : List RowCol → List RowCol → Below → Type 0
+AddsBelow old new (Buffers head) = AddsList old new head.bits
+AddsBelow old new (Routings head) = AddsList old new head.bits
+AddsBelow old new below = new ≡ old
 
 -- a cause that is told is that one
 abbrev pub Reports : Option DbCause → Refusal → Type 0
@@ -116,22 +117,18 @@ pub record Chooses (nets count : ℕ) (words : List (List ℕ)) (choice : Choice
 abbrev pub IsChoiceLine : ℕ → ℕ → List ℕ → ChoiceLine → Type 0
 IsChoiceLine nets count text found = BeginsWithPair text found.rest.now (λ words. Chooses nets count words found.choice)
 
--- a number at the front of a text, with that byte right behind its digits, and what stands behind the byte
-pub record StartsWithNumber (end : ℕ) (text : List ℕ) (number : ℕ) (rest : List ℕ) : Type 0 where
-  pub digits : List ℕ
-  pub number_is : number_of digits ≡ Some number
-  pub text_is : text ≡ digits ++ (end ∷ rest)
-
--- the number that the first digits write
-pub record Leads (text : List ℕ) (digits number : ℕ) : Type 0 where
-  pub within : digits ≤ length text
-  pub few : digits ≤ 9
-  pub all : list_all is_ascii_digit (take digits text) ≡ true
-  pub number_is : number ≡ digits_value (take digits text)
-  pub small : number < 10 ^ digits
+-- a text begins with the two words of a choice, with one space between them and LF right behind them
+pub record HasChoice (nets count : ℕ) (text : List ℕ) : Type 0 where
+  pub values : List ℕ
+  pub src : List ℕ
+  pub rest : List ℕ
+  pub text_is : text ≡ values ++ (32 ∷ (src ++ (10 ∷ rest)))
+  pub some : 0 < length values
+  pub choice : LinkChoice
+  pub says : choice_of nets count (values ∷ src ∷ []) ≡ Ok choice
 
 -- each byte of a word is `0` or `1`, and they write the lowest bits of a number, the lowest first
 pub record WritesValues (word : List ℕ) (values : ℕ) : Type 0 where
   pub all : list_all (λ byte. (byte == 48) || (byte == 49)) word ≡ true
-  pub bits : low_bits (length word) values ≡ map (λ byte. byte == 49) word
+  pub bits : word_bits (length word) values ≡ map (λ byte. byte == 49) word
   pub small : values < 2 ^ length word

@@ -1,11 +1,11 @@
 // Bits of tiles: words such as `B1[36]`, and lists of them in one table.
-ghost use Rattle.std.specs.Prelude.{◌≡◌, ◌≤◌, ◌++◌, ◌∷◌, [], ℕ, ◌&&◌, nat_lt, length, true, false, IfOk, MatchOption, MatchResult, position, Some, None, if◌then◌else◌, is_some};
+ghost use Rattle.std.specs.Prelude.{◌≡◌, ◌≤◌, ◌++◌, ◌∷◌, [], ℕ, ◌&&◌, nat_lt, length, true, false, IfOk, MatchOption, MatchResult, position, Some, None, if◌then◌else◌, is_some, OnErr};
 ghost use Rattle.std.specs.Bool.{MatchBool};
 ghost use Rattle.std.specs.List.{position_or_len, before_first, after_first};
 ghost use Rattle.std.specs.Result.{result_err};
 ghost use Rattle.chipdb_lines.specs.Words.{bit_by, bit_of, bits_of, is_bracket, words_in};
 ghost use Rattle.chipdb_lines.specs.Statements.{is_in_columns, tile_bits_of};
-ghost use Rattle.chipdb_lines.specs.Kept.{bits_named, Extends, IsListOf, Reports, Tells};
+ghost use Rattle.chipdb_lines.specs.Kept.{bits_named, AddsList, Extends, IsListOf, Reports, Tells};
 ghost use Rattle.text_lines.specs.Words.{number_of};
 ghost use Rattle.chipdb_lines.specs.declared.cause.DbCause.TheVariants.{BitName, BitRange};
 
@@ -30,9 +30,10 @@ impl BitList {
     }
 }
 
-/// The bits of a list: of a list of another table those that there are.
+/// The bits of a list, as many as its length: of a list of another table those that there are.
 pub fn bits_of(bits: &[RowCol], list: BitList) -> &[RowCol]
-    ensures { result.now ≡ bits_named bits.now list }
+    ensures bits { result.now ≡ bits_named bits.now list }
+    ensures all { IsListOf (length bits.now) list → length result.now ≡ list.count }
 {
     match bits.get(list.start..) {
         None => &[],
@@ -43,16 +44,32 @@ pub fn bits_of(bits: &[RowCol], list: BitList) -> &[RowCol]
     }
 }
 
-/// Adds the bits that words name to a table. They are bits of a tile with so many columns of bits, and at most 64.
-#[tactic(auto, unfolding(crate::specs::Statements::tile_bits_of))]
+/// Adds the bits that words name to a table. They are bits of a tile with so many columns of bits, and at most 64. After a
+/// refusal the table is as it was.
 pub(crate) fn push_bits(
     bits: &mut Vec<RowCol>,
     columns: usize,
     words: &[u8],
 ) -> Result<BitList, Refusal>
     requires { columns ≤ 256 }
-    ensures grown { IfOk result (λ _. Extends bits.old.items bits.new.items) }
-    ensures within { IfOk result (IsListOf (length bits.new.items)) }
+    ensures added { IfOk result (AddsList bits.old.items bits.new.items) }
+    ensures named { Tells (tile_bits_of columns (words_in words.now)) (bits_named bits.new.items) result }
+    ensures unchanged { OnErr result (bits.new.items ≡ bits.old.items) }
+{
+    let start = bits.len();
+    let list = push_each(bits, columns, words);
+    if list.is_err() {
+        bits.truncate(start);
+    }
+    list
+}
+
+/// The same, where some of the bits may have been added even though the words are refused.
+#[tactic(auto, unfolding(crate::specs::Statements::tile_bits_of))]
+fn push_each(bits: &mut Vec<RowCol>, columns: usize, words: &[u8]) -> Result<BitList, Refusal>
+    requires { columns ≤ 256 }
+    ensures grown { Extends bits.old.items bits.new.items }
+    ensures added { IfOk result (AddsList bits.old.items bits.new.items) }
     ensures named { Tells (tile_bits_of columns (words_in words.now)) (bits_named bits.new.items) result }
 {
     let start = bits.len();
@@ -80,8 +97,9 @@ fn push_bit(bits: &mut Vec<RowCol>, columns: usize, word: &[u8]) -> Result<bool,
     ensures named { MatchResult result
         (λ is_there. MatchBool is_there
         ((bit : RowCol) × (bit_of word.now ≡ Some bit) × (is_in_columns columns bit ≡ true) × (bits.new.items ≡ bits.old.items ++ bit ∷ []))
-        ((bit : RowCol) × (bit_of word.now ≡ Some bit) × (is_in_columns columns bit ≡ false)))
+        ((bit : RowCol) × (bit_of word.now ≡ Some bit) × (is_in_columns columns bit ≡ false) × (bits.new.items ≡ bits.old.items)))
         (λ refusal. Reports (if is_some (bit_of word.now) then None else Some BitName) refusal) }
+    ensures unchanged { OnErr result (bits.new.items ≡ bits.old.items) }
 {
     match bit_of(word) {
         None => Err(Refusal::Cause(DbCause::BitName)),

@@ -1,10 +1,10 @@
 // Lines of the statements `.io_tile_bits` and its like, and of `.extra_bits`.
-ghost use Rattle.std.specs.Prelude.{◌≡◌, ◌&&◌, ◌<◌, bytes_eq, length, IfOk};
+ghost use Rattle.std.specs.Prelude.{◌≡◌, ◌&&◌, ◌<◌, bytes_eq, IfOk, OnErr};
 ghost use Rattle.std.specs.Bool.{OnTrue};
 ghost use Rattle.std.specs.List.{list_any};
 ghost use Rattle.chipdb_lines.specs.Words.{words_in};
 ghost use Rattle.chipdb_lines.specs.Items.{cell_names, extra_of, function_of, function_of_bits, is_cell, is_in_planes};
-ghost use Rattle.chipdb_lines.specs.Kept.{extra_named, function_named, Extends, IsListOf, Reads, Tells};
+ghost use Rattle.chipdb_lines.specs.Kept.{extra_named, function_named, AddsList, Reads, Tells};
 
 use crate::bits::{BitList, push_bits};
 use crate::cause::{DbCause, Refusal};
@@ -26,15 +26,16 @@ pub struct ExtraItem<'a> {
     pub at: Place,
 }
 
-/// What the words `FUNCTION BIT BIT ...` say of tiles of a kind. The bits are added to a table.
+/// What the words `FUNCTION BIT BIT ...` say of tiles of a kind. The bits are added to a table, which is as it was after a
+/// refusal.
 #[tactic(auto, unfolding(crate::specs::Items::function_of))]
 pub fn function_item<'a>(
     kind: TileKind,
     words: &'a [u8],
     bits: &mut Vec<RowCol>,
 ) -> Result<FunctionItem<'a>, Refusal>
-    ensures grown { IfOk result (λ _. Extends bits.old.items bits.new.items) }
-    ensures within { IfOk result (λ item. IsListOf (length bits.new.items) item.bits) }
+    ensures unchanged { OnErr result (bits.new.items ≡ bits.old.items) }
+    ensures added { IfOk result (λ item. AddsList bits.old.items bits.new.items item.bits) }
     ensures says { Tells (function_of kind (words_in words.now)) (function_named kind bits.new.items) result }
 {
     match split_word(Separators::SpacesAndTabs, words) {
@@ -51,15 +52,17 @@ fn named_function<'a>(
     words: &[u8],
     bits: &mut Vec<RowCol>,
 ) -> Result<FunctionItem<'a>, Refusal>
-    ensures grown { IfOk result (λ _. Extends bits.old.items bits.new.items) }
-    ensures within { IfOk result (λ item. IsListOf (length bits.new.items) item.bits) }
+    ensures unchanged { OnErr result (bits.new.items ≡ bits.old.items) }
+    ensures added { IfOk result (λ item. AddsList bits.old.items bits.new.items item.bits) }
     ensures says { Tells (function_of_bits kind name.now (words_in words.now)) (function_named kind bits.new.items) result }
 {
     if has_no_word(words) {
         return Err(Refusal::Cause(DbCause::Number));
     }
+    let start = bits.len();
     let list = push_bits(bits, tile_width(kind), words)?;
     if is_cell(kind, name) && list.len() != 20 {
+        bits.truncate(start);
         Err(Refusal::Cause(DbCause::CellBits))
     } else {
         Ok(FunctionItem { name, bits: list })

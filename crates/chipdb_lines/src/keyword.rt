@@ -5,7 +5,7 @@ ghost use Rattle.chipdb_lines.specs.Statements.{keyword_of, tile_keyword_of};
 use plane_map::TileKind;
 
 /// Which statement a line is, by its first word.
-#[derive(Clone, Copy, Debug, PartialEq, Eq)]
+#[derive(Clone, Copy)]
 pub enum Keyword {
     /// `.device`
     Device,

@@ -13,7 +13,6 @@ mod keyword;
 mod kinds;
 mod links;
 mod names;
-mod numbers;
 mod statements;
 mod words;
 
@@ -24,5 +23,6 @@ pub use functions::{ExtraItem, FunctionItem, extra_item, function_item};
 pub use globals::{GlobalInput, GlobalPin, global_input, global_pin};
 pub use links::{Choice, ChoiceLine, LinkHead, choice_item, choice_line};
 pub use names::{NameItem, name_item};
+pub use plane_map::{DeviceName, Place, RowCol, TileKind};
 pub use statements::{Below, statement};
 pub use words::{is_statement, own_words};

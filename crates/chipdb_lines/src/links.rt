@@ -1,19 +1,19 @@
 // The statements `.buffer` and `.routing`, and their lines.
-ghost use Rattle.std.specs.Prelude.{◌≡◌, ◌≤◌, ◌<◌, ◌^◌, ◌∷◌, ◌++◌, ◌==◌, ◌||◌, length, IfOk, IfSome, MatchOption, false};
+ghost use Rattle.std.specs.Prelude.{◌≡◌, ◌≤◌, ◌<◌, ◌^◌, ◌∷◌, ◌++◌, ◌==◌, ◌&&◌, ◌||◌, get_or, length, nat_lt, IfOk, MatchOption, OnErr, false};
+ghost use Rattle.std.specs.Bool.{OnTrue};
 ghost use Rattle.std.specs.List.{list_all};
 ghost use Rattle.plane_map.specs.Layout.{kind_of};
 ghost use Rattle.chipdb_lines.specs.Words.{has_none, is_values, words_in};
 ghost use Rattle.chipdb_lines.specs.Statements.{link_at, link_of_words};
 ghost use Rattle.chipdb_lines.specs.Items.{choice_by, choice_of};
-ghost use Rattle.chipdb_lines.specs.Kept.{choice_named, head_named, Extends, IsChoiceLine, IsListOf, Reads, Tells, WritesValues};
+ghost use Rattle.chipdb_lines.specs.Kept.{choice_named, head_named, AddsList, HasChoice, IsChoiceLine, Reads, Tells, WritesValues};
 
 use crate::bits::{BitList, push_bits};
 use crate::cause::{DbCause, Refusal};
 use crate::chip::Chip;
-use crate::numbers::number_before;
 use crate::words::has_no_word;
 use plane_map::{RowCol, TileKind, kind_on, tile_width};
-use text_lines::{Separators, number, one_word, split_word};
+use text_lines::{Separators, number, number_before, one_word, split_word};
 
 /// The net to which links lead, in a tile, and the bits that choose among them.
 #[derive(Clone, Copy, Debug, PartialEq, Eq)]
@@ -38,8 +38,8 @@ pub(crate) fn link_head(
     words: &[u8],
     bits: &mut Vec<RowCol>,
 ) -> Result<LinkHead, Refusal>
-    ensures grown { IfOk result (λ _. Extends bits.old.items bits.new.items) }
-    ensures within { IfOk result (λ head. IsListOf (length bits.new.items) head.bits) }
+    ensures unchanged { OnErr result (bits.new.items ≡ bits.old.items) }
+    ensures added { IfOk result (λ head. AddsList bits.old.items bits.new.items head.bits) }
     ensures says { Tells (link_of_words chip (words_in words.now)) (head_named bits.new.items) result }
 {
     match head_words(words) {
@@ -88,8 +88,8 @@ fn link_into(
     words: &[u8],
     bits: &mut Vec<RowCol>,
 ) -> Result<LinkHead, Refusal>
-    ensures grown { IfOk result (λ _. Extends bits.old.items bits.new.items) }
-    ensures within { IfOk result (λ head. IsListOf (length bits.new.items) head.bits) }
+    ensures unchanged { OnErr result (bits.new.items ≡ bits.old.items) }
+    ensures added { IfOk result (λ head. AddsList bits.old.items bits.new.items head.bits) }
     ensures says { Tells (link_at chip.nets x y dst (kind_of chip.device x y) (words_in words.now)) (head_named bits.new.items) result }
 {
     match kind_on(chip.device, x, y) {
@@ -135,19 +135,29 @@ pub struct ChoiceLine<'a> {
 /// them: none of other lines, and none of a line with which something is wrong. It looks no further than the line.
 pub fn choice_line(nets: u32, count: usize, text: &[u8]) -> Option<ChoiceLine<'_>>
     requires { count ≤ 64 }
-    ensures { IfSome result (IsChoiceLine nets count text.now) }
+    ensures { MatchOption result (HasChoice nets count text.now → ⊥) (IsChoiceLine nets count text.now) }
 {
-    match text.get(count) {
-        Some(b' ') if 0 < count => behind_values(nets, &text[..count], &text[count + 1..]),
-        _ => None,
+    if has_space_behind(count, text) {
+        behind_values(nets, &text[..count], &text[count + 1..])
+    } else {
+        None
     }
+}
+
+/// Whether a space stands behind so many bytes, and at least one.
+fn has_space_behind(count: usize, text: &[u8]) -> bool
+    ensures is { result ≡ (nat_lt 0 count && nat_lt count (length text.now) && (get_or text.now count 0 == 32)) }
+    ensures inside { OnTrue result ((0 < count) × (count < length text.now) × (get_or text.now count 0 ≡ 32)) }
+{
+    0 < count && count < text.len() && text[count] == b' '
 }
 
 /// The same, where these values and a space stand before the text.
 fn behind_values<'a>(nets: u32, values: &[u8], text: &'a [u8]) -> Option<ChoiceLine<'a>>
     requires some { 0 < length values.now }
     requires few { length values.now ≤ 64 }
-    ensures { IfSome result (IsChoiceLine nets (length values.now) (values.now ++ (32 ∷ text.now))) }
+    ensures { MatchOption result (HasChoice nets (length values.now) (values.now ++ (32 ∷ text.now)) → ⊥)
+        (IsChoiceLine nets (length values.now) (values.now ++ (32 ∷ text.now))) }
 {
     let (src, rest) = number_before(b'\n', text)?;
     let values = values_in(values)?;

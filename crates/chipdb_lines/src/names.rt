@@ -8,10 +8,8 @@ ghost use Rattle.chipdb_lines.specs.Kept.{name_named, Reads};
 
 use crate::cause::DbCause;
 use crate::kinds::is_in_grid;
-use crate::numbers::number_before;
-use crate::words::parts_words;
 use plane_map::DeviceName;
-use text_lines::{Separators, number, one_word, split_word};
+use text_lines::{Separators, is_blank, number, number_before, one_word, split_word};
 
 /// A name at a place of the grid.
 #[derive(Clone, Copy, Debug)]
@@ -32,7 +30,7 @@ pub fn name_item(device: DeviceName, words: &[u8]) -> Result<NameItem<'_>, DbCau
 }
 
 /// The same, where one space stands between two words and none else: none of other words, and none of words with which
-/// something is wrong.
+/// something is wrong. It is there for speed alone.
 fn usual_name(device: DeviceName, words: &[u8]) -> Option<NameItem<'_>>
     ensures { IfSome result (λ item. (net : ℕ) → name_of device net (words_in words.now) ≡ Ok (name_named net item)) }
 {
@@ -60,7 +58,7 @@ fn is_one_word(name: &[u8]) -> bool
 fn has_no_blank(name: &[u8]) -> bool
     ensures { result ≡ list_all (λ byte. not (is_blank byte)) name.now }
 {
-    name.iter().all(|byte| !parts_words(*byte))
+    name.iter().all(|byte| !is_blank(*byte))
 }
 
 /// What the words `X Y NAME` say, whatever parts them.

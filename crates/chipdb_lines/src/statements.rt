@@ -1,10 +1,10 @@
 // Statements: lines that begin with a dot.
-ghost use Rattle.std.specs.Prelude.{◌≡◌, List, length, IfOk};
+ghost use Rattle.std.specs.Prelude.{◌≡◌, List, IfOk, OnErr};
 ghost use Rattle.text_lines.specs.Words.{numbers_of};
 ghost use Rattle.plane_map.specs.declared.tile.RowCol.{RowCol as Bit};
 ghost use Rattle.chipdb_lines.specs.Words.{words_in};
 ghost use Rattle.chipdb_lines.specs.Statements.{alone, block_by, block_of, block_without, device_block, chip_of_words, names_block, net_of_numbers, statement_of, tile_bits_of_numbers, tile_of_numbers};
-ghost use Rattle.chipdb_lines.specs.Kept.{block_named, Extends, IsBelowIn, Tells};
+ghost use Rattle.chipdb_lines.specs.Kept.{block_named, AddsBelow, Tells};
 
 use crate::cause::{DbCause, Refusal};
 use crate::chip::{Chip, chip_of};
@@ -39,11 +39,11 @@ pub enum Below {
 }
 
 /// What a statement says that stands behind that device or none; repeats of earlier statements aren't looked for. The bits
-/// of links are added to a table.
+/// of links are added to a table, which is as it was after a refusal.
 #[tactic(auto, unfolding(crate::specs::Statements::statement_of))]
 pub fn statement(chip: Option<Chip>, line: &[u8], bits: &mut Vec<RowCol>) -> Result<Below, Refusal>
-    ensures grown { IfOk result (λ _. Extends bits.old.items bits.new.items) }
-    ensures within { IfOk result (IsBelowIn (length bits.new.items)) }
+    ensures unchanged { OnErr result (bits.new.items ≡ bits.old.items) }
+    ensures added { IfOk result (AddsBelow bits.old.items bits.new.items) }
     ensures says { Tells (statement_of chip (words_in line.now)) (block_named bits.new.items) result }
 {
     match split_word(Separators::SpacesAndTabs, line) {
@@ -59,8 +59,8 @@ fn below_keyword(
     words: &[u8],
     bits: &mut Vec<RowCol>,
 ) -> Result<Below, Refusal>
-    ensures grown { IfOk result (λ _. Extends bits.old.items bits.new.items) }
-    ensures within { IfOk result (IsBelowIn (length bits.new.items)) }
+    ensures unchanged { OnErr result (bits.new.items ≡ bits.old.items) }
+    ensures added { IfOk result (AddsBelow bits.old.items bits.new.items) }
     ensures says { Tells (block_by chip keyword (words_in words.now)) (block_named bits.new.items) result }
 {
     match keyword {
@@ -74,7 +74,7 @@ fn below_keyword(
 
 /// What a statement says before which no device was given.
 fn below_none(keyword: Keyword, words: &[u8]) -> Result<Below, Refusal>
-    ensures within { IfOk result (IsBelowIn 0) }
+    ensures added { (bits : List Bit) → IfOk result (AddsBelow bits bits) }
     ensures says { (bits : List Bit) → Tells (block_without keyword (words_in words.now)) (block_named bits) result }
 {
     match keyword {
@@ -94,8 +94,8 @@ fn below_chip(
     words: &[u8],
     bits: &mut Vec<RowCol>,
 ) -> Result<Below, Refusal>
-    ensures grown { IfOk result (λ _. Extends bits.old.items bits.new.items) }
-    ensures within { IfOk result (IsBelowIn (length bits.new.items)) }
+    ensures unchanged { OnErr result (bits.new.items ≡ bits.old.items) }
+    ensures added { IfOk result (AddsBelow bits.old.items bits.new.items) }
     ensures says { Tells (block_of chip keyword (words_in words.now)) (block_named bits.new.items) result }
 {
     match keyword {
@@ -131,7 +131,7 @@ fn alone(below: Below, words: &[u8]) -> Result<Below, Refusal>
 
 /// `.io_tile X Y` and its like.
 fn tile(device: DeviceName, kind: TileKind, words: &[u8]) -> Result<Below, Refusal>
-    ensures within { IfOk result (IsBelowIn 0) }
+    ensures added { (bits : List Bit) → IfOk result (AddsBelow bits bits) }
     ensures says { (bits : List Bit) → Tells (tile_of_numbers device kind (numbers_of (words_in words.now))) (block_named bits) result }
 {
     match two_numbers(Separators::SpacesAndTabs, words) {
@@ -143,7 +143,7 @@ fn tile(device: DeviceName, kind: TileKind, words: &[u8]) -> Result<Below, Refus
 
 /// `.io_tile_bits COLUMNS ROWS` and its like.
 fn functions(kind: TileKind, words: &[u8]) -> Result<Below, Refusal>
-    ensures within { IfOk result (IsBelowIn 0) }
+    ensures added { (bits : List Bit) → IfOk result (AddsBelow bits bits) }
     ensures says { (bits : List Bit) → Tells (tile_bits_of_numbers kind (numbers_of (words_in words.now))) (block_named bits) result }
 {
     match two_numbers(Separators::SpacesAndTabs, words) {
@@ -157,7 +157,7 @@ fn functions(kind: TileKind, words: &[u8]) -> Result<Below, Refusal>
 
 /// `.net N`
 fn net(nets: u32, words: &[u8]) -> Result<Below, Refusal>
-    ensures within { IfOk result (IsBelowIn 0) }
+    ensures added { (bits : List Bit) → IfOk result (AddsBelow bits bits) }
     ensures says { (bits : List Bit) → Tells (names_block (net_of_numbers nets (numbers_of (words_in words.now)))) (block_named bits) result }
 {
     match one_number(Separators::SpacesAndTabs, words) {

@@ -4,6 +4,8 @@ ghost use Rattle.std.specs.List.{list_all};
 ghost use Rattle.text_lines.specs.Lines.{is_blank};
 ghost use Rattle.chipdb_lines.specs.Words.{has_none, is_remark, is_statement, own_words, words_in};
 
+use text_lines::is_blank;
+
 /// Whether the line is a statement.
 pub fn is_statement(line: &[u8]) -> bool
     ensures { result ≡ is_statement line.now }
@@ -43,12 +45,5 @@ pub(crate) fn has_no_word(words: &[u8]) -> bool
 fn are_blanks(words: &[u8]) -> bool
     ensures { result ≡ list_all is_blank words.now }
 {
-    words.iter().all(|byte| parts_words(*byte))
-}
-
-/// Whether the byte parts words, as a space and a tab do.
-pub(crate) fn parts_words(byte: u8) -> bool
-    ensures { result ≡ is_blank byte }
-{
-    byte == b' ' || byte == b'\t'
+    words.iter().all(|byte| is_blank(*byte))
 }

@@ -5,17 +5,13 @@ use Rattle.std.specs.Ordering.{nat_cmp, is_eq}
 use Rattle.std.specs.Cmp.{unsigned_ties}
 use Rattle.std.specs.Map.{lookup}
 use Rattle.std.proofs.lemmas.Bool.{eqb-true}
-use Rattle.std.proofs.lemmas.Bool.Decides.{nat_tests}
 use Rattle.std.proofs.lemmas.List.{drop-append-le, map-append}
+use Rattle.shared_lemmas.proofs.Numbers.{eqb-turned}
 use Rattle.chipdb_reader.specs.declared.items.LinkLine.{LinkLine}
 use Rattle.std.specs.BTreeMap.{Updates, get}
 use Rattle.chipdb_reader.specs.declared.buffers.Buffers.{Buffers}
 use Rattle.chipdb_reader.specs.Buffers.{AddsBuffer, IsChosen, choices_of, chosen_src, with_line}
 use Rattle.chipdb_reader.proofs.Searches.{index-push}
-
--- numbers are told apart alike from both sides
-nat_eq-sym : (a b : ℕ) → eqb a b ≡ eqb b a
-nat_eq-sym a b = grind (arith, nat_tests)
 
 -- the index has one line more
 pub chosen-push : (old new : ℕ → Option ℕ) (lines : List LinkLine) (start : ℕ) (line : LinkLine) → start ≤ length lines
@@ -23,7 +19,7 @@ pub chosen-push : (old new : ℕ → Option ℕ) (lines : List LinkLine) (start 
     → (q : ℕ) → new q ≡ lookup (nat_eq q) (choices_of (drop start (lines ++ line ∷ [])))
 chosen-push old new lines start line within updates found none q =
     let pushed = index-push nat_eq (λ key other. is_eq (nat_cmp key other)) old new (choices_of (drop start lines)) line.values line.src
-    (λ other. sym (unsigned_ties line.values other) ∙ nat_eq-sym line.values other) (λ other is. eqb-true other line.values is) updates found none q in
+    (λ other. sym (unsigned_ties line.values other) ∙ eqb-turned line.values other) (λ other is. eqb-true other line.values is) updates found none q in
     let more : choices_of (drop start (lines ++ line ∷ [])) ≡ choices_of (drop start lines) ++ (line.values, line.src) ∷ [] =
     ap choices_of (drop-append-le start lines (line ∷ []) within) ∙ map-append (λ (l : LinkLine). (l.values, l.src)) (drop start lines) (line ∷ []) in
     pushed ∙ ap (lookup (nat_eq q)) (sym more)
@@ -76,4 +72,4 @@ pub index-before : (line : LinkLine) (lines : List LinkLine) (old new : ℕ → 
     → ((q : ℕ) → new q ≡ cond (is_eq (nat_cmp line.values q)) (Some line.src) (old q)) → ((q : ℕ) → old q ≡ lookup (nat_eq q) (choices_of lines))
     → (q : ℕ) → new q ≡ lookup (nat_eq q) (choices_of (line ∷ lines))
 index-before line lines old new updates found q =
-    updates q ∙ ap (λ b. cond b (Some line.src) (old q)) (sym (unsigned_ties line.values q) ∙ nat_eq-sym line.values q) ∙ ap (λ o. cond (eqb q line.values) (Some line.src) o) (found q)
+    updates q ∙ ap (λ b. cond b (Some line.src) (old q)) (sym (unsigned_ties line.values q) ∙ eqb-turned line.values q) ∙ ap (λ o. cond (eqb q line.values) (Some line.src) o) (found q)

@@ -1,7 +1,7 @@
 -- The whole text: what is kept at its end, and its first faulty line.
-use Rattle.std.proofs.Common.{◌≡◌, ℕ, suc, ◌+◌, ◌<◌, ◌≤◌, true, List, [], ◌∷◌, length, length-drop, drop, get_or, refl, sym, ap, ◌∙◌, inl, inr, arith, subst}
+use Rattle.std.proofs.Common.{below_more, ◌≡◌, ℕ, suc, ◌+◌, ◌<◌, ◌≤◌, true, List, [], ◌∷◌, length, length-drop, drop, get_or, refl, sym, ap, ◌∙◌, arith, subst}
 use Rattle.std.specs.Prelude.{Option, Some, None, Result, Ok, Err, IfOk, IfErr, nat_le}
-use Rattle.std.proofs.lemmas.Bool.{cases_eq, le-leb}
+use Rattle.std.proofs.lemmas.Bool.{le-leb}
 use Rattle.std.proofs.lemmas.List.Elements.{All-nil}
 use Rattle.std.proofs.Math.Seq.{drop-cons}
 use Rattle.text_lines.specs.Lines.{line_at, lines_of}
@@ -20,8 +20,9 @@ use Rattle.chipdb_reader.specs.Faults.{Fault, DbMeans, Tells, cause_at, db_fault
 use Rattle.chipdb_reader.specs.Kept.{Kept, database_in, name_lines, link_lines, function_lines, extra_lines}
 use Rattle.chipdb_reader.specs.Reading.{EndsReading, FaultOf, FitsReader, IsOutOfMemory, IsUnread, RefusesFirst, RefusesLine, TakesFirst, TakesLine}
 use Rattle.chipdb_reader.specs.Fit.{IsFit}
+use Rattle.chipdb_reader.specs.Sound.{IsSound}
 use Rattle.chipdb_reader.proofs.FitPlaces.{means-fit}
-use Rattle.chipdb_reader.proofs.Holds.{Holds}
+use Rattle.chipdb_reader.proofs.Holds.{Holds, InRange}
 use Rattle.chipdb_reader.proofs.LineSteps.{line-taken, line-refused}
 
 -- ---- the lines so far
@@ -92,14 +93,6 @@ next-line lines count line more split =
       rest = sym rest ∙ ap (λ k. drop k lines) next;
     }
 
--- below the count, and at it
-below-next : (P : ℕ → Type 0) (count : ℕ) → ((k : ℕ) → k < count → P k) → P count → (k : ℕ) → k < count + 1 → P k
-below-next P count before here k lt =
-    elim (cases_eq k count) [
-      | inl same ↦ subst P (sym same) here
-      | inr other ↦ before k (omega arith)
-    ]
-
 -- one line more was taken
 pub SoFar-more : (bytes left line rest : List ℕ) (count : ℕ) (old new : Reader) → SoFar bytes left count old → lines_of left ≡ line ∷ lines_of rest → length rest < length left → TakesLine old line new
     → SoFar bytes rest (count + 1) new
@@ -114,7 +107,7 @@ SoFar-more bytes left line rest count old new before split shorter taken =
       within = omega arith;
       short = omega arith;
       holds = step.holds;
-      sound = below-next (λ k. cause_at lines k ≡ None) count before.sound step.sound;
+      sound = below_more (λ k. cause_at lines k ≡ None) count before.sound step.sound;
     }
 
 -- ---- faults
@@ -165,7 +158,7 @@ cause-end lines = let past : nat_le (length lines) (length lines) ≡ true = le-
 no-fault : (lines : List (List ℕ)) → ((k : ℕ) → k < length lines → cause_at lines k ≡ None) → cause_at lines (length lines) ≡ None → fault_of_lines lines ≡ None
 unfolding fault_of_lines
 no-fault lines sound end =
-    first_below-none (length lines + 1) (λ n. fault_with (n + 1) (cause_at lines n)) (λ k lt. ap (fault_with (k + 1)) (below-next (λ j. cause_at lines j ≡ None) (length lines) sound end k lt))
+    first_below-none (length lines + 1) (λ n. fault_with (n + 1) (cause_at lines n)) (λ k lt. ap (fault_with (k + 1)) (below_more (λ j. cause_at lines j ≡ None) (length lines) sound end k lt))
 
 -- what was read is what the lines give
 read-database : (reader : Reader) (lines : List (List ℕ)) (chip : Chip) (kept : Kept) → Holds reader lines (length lines) → FitsReader chip reader kept → database_in kept ≡ database_of chip lines
@@ -227,6 +220,17 @@ answered bytes left count reader answer before none ends = answered-by bytes lef
 
 pub refused : (bytes left : List ℕ) (count : ℕ) (reader : Reader) (answer : Result Kept DbFault) → SoFar bytes left count reader → left ≡ [] → EndsReading reader reader.chip (count + 1) answer → IfErr answer (Tells (db_fault_of bytes))
 refused bytes left count reader answer before none ends = refused-by bytes left count reader reader.chip answer before (all-read bytes left count reader before none) refl ends
+
+-- what is answered at the end is in order
+pub sound-kept : (chip : Chip) (reader : Reader) (kept : Kept) → InRange reader → FitsReader chip reader kept → IsSound kept
+sound-kept chip reader kept range fits = record {
+  names = rw (fits.names, fits.texts) range.names;
+  functions = rw (fits.functions, fits.texts) range.functions;
+  function_bits = rw (fits.functions, fits.bits) range.function_bits;
+  extras = rw (fits.extras, fits.texts) range.extras;
+  buffers = rw (fits.buffers, fits.bits) range.buffers;
+  routings = rw (fits.routings, fits.bits) range.routings;
+}
 
 -- what is answered at the end is fit
 pub fit-at_end : (bytes left : List ℕ) (count : ℕ) (reader : Reader) → SoFar bytes left count reader → left ≡ [] → (chip : Chip) (kept : Kept) → reader.chip ≡ Some chip → FitsReader chip reader kept → IsFit (database_in kept)

@@ -1,13 +1,14 @@
 -- What a text means names tiles, bits and nets that its device has.
 use Rattle.std.proofs.Common.{◌≡◌, ℕ, zero, suc, ◌<◌, ◌≤◌, Bool, true, false, ◌&&◌, cond, List, [], ◌∷◌, length, drop, get_or, map, refl, sym, ap, ◌∙◌, inl, inr, arith, subst}
+use Rattle.place_search.proofs.Gathered.{All-gathered_below}
 use Rattle.plane_map.specs.Layout.{kind_of, columns_of}
 use Rattle.std.specs.Prelude.{◌==◌, Option, Some, None, Result, Ok, Err, All}
 use Rattle.std.specs.Result.{result_unwrap_or}
 use Rattle.std.proofs.lemmas.Bool.{cases_lt}
-use Rattle.std.proofs.lemmas.List.Elements.{All-nil, All-cons, All-head, All-tail, All-append}
+use Rattle.std.proofs.lemmas.List.Elements.{All-nil, All-cons, All-head, All-tail}
 use Rattle.text_lines.specs.Lines.{line_at, lines_of}
 use Rattle.text_lines.specs.Words.{numbers_of}
-use Rattle.place_search.specs.Places.{first_below, gathered_below}
+use Rattle.place_search.specs.Places.{first_below}
 use Rattle.place_search.proofs.Places.{last_below-place}
 use Rattle.plane_map.specs.declared.tile.TileKind.{TileKind}
 use Rattle.chipdb_lines.specs.declared.cause.DbCause.{DbCause}
@@ -272,23 +273,18 @@ links-by lines k n chip (Some c) le is at =
 
 -- ---- the whole
 
-all-gathered : {A : Type 0} (P : A → Type 0) (n : ℕ) (given : ℕ → List A) → ((k : ℕ) → k < n → All P (given k)) → All P (gathered_below n given)
-unfolding gathered_below
-all-gathered P zero given each = All-nil P
-all-gathered P (suc n) given each = All-append P (gathered_below n given) (given n) (all-gathered P n given (λ k lt. each k (omega arith))) (each n (omega arith))
-
 database-fit : (chip : Chip) (lines : List (List ℕ)) → chip_before lines (length lines) ≡ Some chip → IsFit (database_of chip lines)
 unfolding database_of
 database-fit chip lines is =
     let n = length lines in
     record {
-      names = all-gathered (IsNameLine chip) n _ (λ k lt. (said-at-fit lines k n chip (omega arith) is).names_fit);
-      buffers = all-gathered (IsLink chip) n _ (λ k lt. (links-by lines k n chip (chip_before lines k) (omega arith) is refl).0);
-      routings = all-gathered (IsLink chip) n _ (λ k lt. (links-by lines k n chip (chip_before lines k) (omega arith) is refl).1);
-      functions = all-gathered IsFunctionLine n _ (λ k lt. (said-at-fit lines k n chip (omega arith) is).functions_fit);
-      extras = all-gathered (IsExtraLine chip) n _ (λ k lt. (said-at-fit lines k n chip (omega arith) is).extras_fit);
-      global_inputs = all-gathered (IsGlobalInput chip) n _ (λ k lt. (said-at-fit lines k n chip (omega arith) is).inputs_fit);
-      global_pins = all-gathered (IsGlobalPin chip) n _ (λ k lt. (said-at-fit lines k n chip (omega arith) is).pins_fit);
+      names = All-gathered_below (IsNameLine chip) n _ (λ k lt. (said-at-fit lines k n chip (omega arith) is).names_fit);
+      buffers = All-gathered_below (IsLink chip) n _ (λ k lt. (links-by lines k n chip (chip_before lines k) (omega arith) is refl).0);
+      routings = All-gathered_below (IsLink chip) n _ (λ k lt. (links-by lines k n chip (chip_before lines k) (omega arith) is refl).1);
+      functions = All-gathered_below IsFunctionLine n _ (λ k lt. (said-at-fit lines k n chip (omega arith) is).functions_fit);
+      extras = All-gathered_below (IsExtraLine chip) n _ (λ k lt. (said-at-fit lines k n chip (omega arith) is).extras_fit);
+      global_inputs = All-gathered_below (IsGlobalInput chip) n _ (λ k lt. (said-at-fit lines k n chip (omega arith) is).inputs_fit);
+      global_pins = All-gathered_below (IsGlobalPin chip) n _ (λ k lt. (said-at-fit lines k n chip (omega arith) is).pins_fit);
     }
 
 -- what a text means is fit

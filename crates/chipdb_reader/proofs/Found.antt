@@ -7,6 +7,10 @@ use Rattle.std.proofs.lemmas.List.{length-map, map-append}
 use Rattle.std.specs.Map.{lookup}
 use Rattle.std.proofs.lemmas.Bool.{cases_Bool, cases_eq, ne_eqb, eq-eqb, le-ltb}
 use Rattle.std.proofs.lemmas.List.Elements.{All-head, All-tail, filter-append}
+use Rattle.shared_lemmas.proofs.Bytes.{same_bytes}
+use Rattle.shared_lemmas.proofs.Numbers.{eqb-turned}
+use Rattle.shared_lemmas.proofs.Tests.{and_none}
+use Rattle.std.proofs.Math.Bool.{and-false}
 use Rattle.plane_map.specs.declared.tile.TileKind.{TileKind}
 use Rattle.plane_map.specs.declared.tile.RowCol.{RowCol}
 use Rattle.chipdb_lines.specs.Items.{NameLine, ExtraLine}
@@ -24,8 +28,7 @@ use Rattle.std.specs.declared.alloc.Global.{Global}
 use Rattle.chipdb_reader.specs.declared.nets.Nets.{Nets}
 use Rattle.chipdb_reader.specs.Nets.{IsNetIndex, earlier_names, is_name, last_names, names_with, net_names, items_of}
 use Rattle.chipdb_reader.specs.Texts.{IsIndexed, text_at}
-use Rattle.chipdb_reader.proofs.Searches.{bytes_eq-true}
-use Rattle.chipdb_reader.proofs.NameSteps.{text-tie, eqb-sym}
+use Rattle.chipdb_reader.proofs.NameSteps.{text-tie}
 
 -- ---- names by their ids
 
@@ -39,19 +42,11 @@ pub id-none : (texts : Texts) (name : List ℕ) (i : ℕ) → IsIndexed texts �
 id-none texts name i indexed none lt =
     elim (cases_Bool (bytes_eq name (text_at texts.arena i))) [
       | inl equal ↦
-          let place : position (bytes_eq name) texts.arena ≡ Some i = ap (λ t. position (bytes_eq t) texts.arena) (bytes_eq-true name (text_at texts.arena i) equal) ∙ indexed.apart i lt in
+          let place : position (bytes_eq name) texts.arena ≡ Some i = ap (λ t. position (bytes_eq t) texts.arena) (same_bytes name (text_at texts.arena i) equal) ∙ indexed.apart i lt in
           let both : None ≡ Some i = sym none ∙ place in
           absurd cc
       | inr apart ↦ apart
     ]
-
-and-no : (b : Bool) → (b && false) ≡ false
-and-no true = refl
-and-no false = refl
-
-and-none : (a b : Bool) → (a && (b && false)) ≡ false
-and-none true b = and-no b
-and-none false b = refl
 
 -- ---- the first that passes
 
@@ -103,7 +98,7 @@ pub net-none : (texts : Texts) (names : List (NetName × ℕ)) (x y : ℕ) (name
 unfolding net_at
 net-none texts names x y name indexed all none =
     let fails : (p : NetName × ℕ) → p.0.name < length texts.arena → is_name_at x y name (name_line texts.arena p) ≡ false =
-    λ p lt. ap (λ b. eqb p.0.x x && (eqb p.0.y y && b)) (id-none texts name p.0.name indexed none lt) ∙ and-none (eqb p.0.x x) (eqb p.0.y y) in
+    λ p lt. ap (λ b. eqb p.0.x x && (eqb p.0.y y && b)) (id-none texts name p.0.name indexed none lt) ∙ and_none (eqb p.0.x x) (eqb p.0.y y) in
     ap (option_map (λ (line : NameLine). line.net)) (find-none (λ (p : NetName × ℕ). p.0.name < length texts.arena) (name_line texts.arena) (is_name_at x y name) names fails all)
 
 -- ---- extra bits
@@ -161,7 +156,7 @@ pub function-none : (texts : Texts) (bits : List RowCol) (functions : List Funct
 unfolding function_place
 function-none texts bits functions kind name indexed all none =
     position-map (λ (f : Function). f.name < length texts.arena) (function_line texts.arena bits) (is_function kind name) (λ f. false) functions
-    (λ f lt. ap (λ b. is_same_kind f.kind kind && b) (id-none texts name f.name indexed none lt) ∙ and-no (is_same_kind f.kind kind)) all
+    (λ f lt. ap (λ b. is_same_kind f.kind kind && b) (id-none texts name f.name indexed none lt) ∙ and-false (is_same_kind f.kind kind)) all
     ∙ position-no functions
 
 -- ---- the names of a net
@@ -189,7 +184,7 @@ names-absent : (texts : List (List ℕ)) (net : ℕ) (entries : List (ℕ × Vec
 unfolding names_of_net
 names-absent texts net [] all = refl
 names-absent texts net (e ∷ entries) all =
-    let apart : eqb e.0 net ≡ false = eqb-sym e.0 net ∙ all.0 in
+    let apart : eqb e.0 net ≡ false = eqb-turned e.0 net ∙ all.0 in
     ap (names_of_net net) (map-append (name_line texts) (entry_names e) (flat_map entry_names entries))
     ∙ names_of_net-append net (name_lines texts (entry_names e)) (name_lines texts (flat_map entry_names entries))
     ∙ ap (λ ls. ls ++ names_of_net net (name_lines texts (flat_map entry_names entries))) (filter-no texts net e.0 e.1.items apart)

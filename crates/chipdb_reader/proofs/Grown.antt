@@ -1,16 +1,20 @@
 -- What is kept says the same where more names and more bits are kept.
-use Rattle.std.proofs.Common.{◌≡◌, ℕ, ◌+◌, ◌<◌, ◌≤◌, List, [], ◌∷◌, ◌++◌, length, length-append, length-drop, take, drop, map, get_or, refl, ap, ◌∙◌, arith}
+use Rattle.std.proofs.Common.{◌≡◌, ℕ, ◌+◌, ◌<◌, ◌≤◌, List, [], ◌∷◌, ◌++◌, length, length-append, length-drop, take, drop, map, append-nil, refl, sym, ap, ◌∙◌, arith}
 use Rattle.std.specs.Prelude.{All}
 use Rattle.std.proofs.lemmas.List.{get_or_append_left, take-append-le, drop-append-le, length-take-le}
 use Rattle.std.proofs.lemmas.List.Elements.{All-head, All-tail}
 use Rattle.plane_map.specs.declared.tile.RowCol.{RowCol}
 use Rattle.chipdb_lines.specs.declared.bits.BitList.{BitList}
 use Rattle.chipdb_lines.specs.declared.links.LinkHead.{LinkHead as KeptHead}
-use Rattle.chipdb_lines.specs.Kept.{bits_named, head_named, low_bits, IsListOf}
+use Rattle.chipdb_lines.specs.declared.statements.Below.{Below}
+use Rattle.chipdb_lines.specs.declared.statements.Below.TheVariants.{Passed, Device, GlobalInputs, GlobalPins, Functions, ExtraBits, Names, Buffers, Routings}
+use Rattle.bit_plane.specs.BitList.{word_bits}
+use Rattle.chipdb_lines.specs.Kept.{bits_named, head_named, AddsBelow, AddsList, Extends, IsListOf}
 use Rattle.chipdb_reader.specs.declared.items.NetName.{NetName}
 use Rattle.chipdb_reader.specs.declared.items.LinkLine.{LinkLine}
 use Rattle.chipdb_reader.specs.declared.items.Function.{Function}
 use Rattle.chipdb_reader.specs.declared.items.Extra.{Extra}
+use Rattle.chipdb_reader.specs.Sound.{IsLinkIn}
 use Rattle.chipdb_reader.specs.Texts.{text_at}
 use Rattle.chipdb_reader.specs.Kept.{name_line, name_lines, link_line, link_lines, function_line, function_lines, extra_line, extra_lines}
 
@@ -19,10 +23,6 @@ pub map-same : {A B : Type 0} (P : A → Type 0) (f g : A → B) (xs : List A) �
 map-same P f g [] same all = refl
 map-same P f g (x ∷ xs) same all =
     ap (λ y. y ∷ map f xs) (same x (All-head P x xs all)) ∙ ap (λ ys. g x ∷ ys) (map-same P f g xs same (All-tail P x xs all))
-
--- what holds of each element, by a weaker fact
-pub All-weaker : {A : Type 0} (P Q : A → Type 0) (xs : List A) → ((x : A) → P x → Q x) → All P xs → All Q xs
-All-weaker P Q xs weaker all = λ k d lt. weaker (get_or xs k d) (all k d lt)
 
 -- ---- one item
 
@@ -47,6 +47,25 @@ pub IsListOf-grown : (bits more : List RowCol) (list : BitList) → IsListOf (le
 IsListOf-grown bits more list is =
     let inside : list.start + list.count ≤ length bits = is.inside in
     record { inside = omega (arith, length-append bits more); few = is.few }
+
+pub IsLinkIn-grown : (bits more : List RowCol) (line : LinkLine) → IsLinkIn (length bits) line → IsLinkIn (length (bits ++ more)) line
+IsLinkIn-grown bits more line is = record { bits_in = IsListOf-grown bits more line.bits is.bits_in; values_few = is.values_few }
+
+-- a list whose bits were added is one of the table
+pub list-added : (old new : List RowCol) (list : BitList) → AddsList old new list → IsListOf (length new) list
+list-added old new list added = let ends : length new ≡ list.start + list.count = added.ends in record { inside = omega arith; few = added.few }
+
+-- a table to which the bits of a statement were added has them at its end
+pub below-grown : (old new : List RowCol) (below : Below) → AddsBelow old new below → Extends old new
+below-grown old new (Buffers head) added = added.grown
+below-grown old new (Routings head) added = added.grown
+below-grown old new Passed same = ([], same ∙ sym (append-nil old))
+below-grown old new (Device chip) same = ([], same ∙ sym (append-nil old))
+below-grown old new GlobalInputs same = ([], same ∙ sym (append-nil old))
+below-grown old new GlobalPins same = ([], same ∙ sym (append-nil old))
+below-grown old new (Functions kind) same = ([], same ∙ sym (append-nil old))
+below-grown old new ExtraBits same = ([], same ∙ sym (append-nil old))
+below-grown old new (Names net) same = ([], same ∙ sym (append-nil old))
 
 pub head-grown : (bits more : List RowCol) (head : KeptHead) → IsListOf (length bits) head.bits → head_named (bits ++ more) head ≡ head_named bits head
 head-grown bits more head is = let same = bits-grown bits more head.bits is in λ i. record { x = head.x; y = head.y; dst = head.dst; bits = same i }
@@ -73,10 +92,10 @@ functions-grown texts new_texts bits new_bits functions ids lists =
     λ i. record { kind = f.kind; name = name i; bits = named i })
     (λ k d lt. (ids k d lt, lists k d lt))
 
-pub links-grown : (bits more : List RowCol) (lines : List LinkLine) → All (λ l. IsListOf (length bits) l.bits) lines → link_lines (bits ++ more) lines ≡ link_lines bits lines
+pub links-grown : (bits more : List RowCol) (lines : List LinkLine) → All (IsLinkIn (length bits)) lines → link_lines (bits ++ more) lines ≡ link_lines bits lines
 links-grown bits more lines all =
-    map-same (λ (l : LinkLine). IsListOf (length bits) l.bits) (link_line (bits ++ more)) (link_line bits) lines
+    map-same (IsLinkIn (length bits)) (link_line (bits ++ more)) (link_line bits) lines
     (λ l is.
-    let named = bits-grown bits more l.bits is in
-    λ i. record { x = l.x; y = l.y; dst = l.dst; src = l.src; bits = named i; values = low_bits (length (named i)) l.values })
+    let named = bits-grown bits more l.bits is.bits_in in
+    λ i. record { x = l.x; y = l.y; dst = l.dst; src = l.src; bits = named i; values = word_bits (length (named i)) l.values })
     all

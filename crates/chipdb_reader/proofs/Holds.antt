@@ -4,6 +4,7 @@ use Rattle.std.specs.Prelude.{Option, Some, None, All, nat_lt}
 use Rattle.std.specs.List.{list_any}
 use Rattle.std.proofs.lemmas.Bool.{lt-ltb}
 use Rattle.std.proofs.Math.Bool.{or-false}
+use Rattle.shared_lemmas.proofs.Lists.{append-nothing}
 use Rattle.text_lines.specs.Lines.{line_at}
 use Rattle.place_search.specs.Places.{gathered_below}
 use Rattle.place_search.proofs.Places.{any_below-more, last_below-place, gathered_below-more}
@@ -13,7 +14,8 @@ use Rattle.chipdb_lines.specs.declared.links.LinkHead.{LinkHead as KeptHead}
 use Rattle.chipdb_lines.specs.Words.{is_statement}
 use Rattle.chipdb_lines.specs.Statements.{Block, passed, of_device, global_inputs, global_pins, functions, extra_bits, names, buffers, routings}
 use Rattle.chipdb_lines.specs.Items.{LinkChoice}
-use Rattle.chipdb_lines.specs.Kept.{block_named, low_bits, IsListOf}
+use Rattle.bit_plane.specs.BitList.{word_bits}
+use Rattle.chipdb_lines.specs.Kept.{block_named, IsListOf}
 use Rattle.chipdb_reader.specs.declared.items.LinkLine.{LinkLine}
 use Rattle.chipdb_reader.specs.declared.reading.Reader.{Reader}
 use Rattle.chipdb_reader.specs.Blocks.{chip_before, statement_over, block_over}
@@ -23,6 +25,7 @@ use Rattle.chipdb_reader.specs.Faults.{is_net_before}
 use Rattle.chipdb_reader.specs.Kept.{name_lines, link_lines, function_lines, extra_lines}
 use Rattle.chipdb_reader.specs.Nets.{net_names, has_net}
 use Rattle.chipdb_reader.specs.Reading.{IsReady}
+use Rattle.chipdb_reader.specs.Sound.{IsLinkIn}
 use Rattle.chipdb_reader.proofs.BlockSteps.{chip-own, over-own, block-own}
 
 -- ids and lists of bits are those of what is kept
@@ -31,15 +34,15 @@ pub record InRange (reader : Reader) : Type 0 where
   pub functions : All (λ f. f.name < length reader.texts.arena) reader.functions.items
   pub function_bits : All (λ f. IsListOf (length reader.bits.items) f.bits) reader.functions.items
   pub extras : All (λ e. e.name < length reader.texts.arena) reader.extras.items
-  pub buffers : All (λ l. IsListOf (length reader.bits.items) l.bits) reader.buffers.lines.items
-  pub routings : All (λ l. IsListOf (length reader.bits.items) l.bits) reader.routings.items
+  pub buffers : All (IsLinkIn (length reader.bits.items)) reader.buffers.lines.items
+  pub routings : All (IsLinkIn (length reader.bits.items)) reader.routings.items
 
 -- the lines of the last statement
 abbrev pub last_lines : Reader → List LinkLine
 last_lines reader = drop reader.buffers.start reader.buffers.lines.items
 
 abbrev pub kept_choice : ℕ → LinkLine → LinkChoice
-kept_choice count line = record { values = low_bits count line.values; src = line.src }
+kept_choice count line = record { values = word_bits count line.values; src = line.src }
 
 -- a line of the last statement
 pub record IsLastLine (reader : Reader) (head : KeptHead) (line : LinkLine) : Type 0 where
@@ -168,10 +171,6 @@ pub routings_at-nothing : (lines : List (List ℕ)) (n : ℕ) → (said_at lines
 unfolding routings_at
 routings_at-nothing lines n none = ap (routings_in (block_over lines n)) none ∙ routings_in-nothing (block_over lines n)
 
--- nothing is added
-pub kept-list : {A : Type 0} (xs more : List A) → more ≡ [] → xs ≡ xs ++ more
-kept-list xs more none = sym (append-nil xs) ∙ ap (λ ys. xs ++ ys) (sym none)
-
 -- the choices stay where the line has none
 pub choices-kept : (reader : Reader) (lines : List (List ℕ)) (n : ℕ) (below : Below) → is_statement (line_at lines n) ≡ false → (said_at lines n).choices ≡ []
     → ChoicesHold reader lines n below → ChoicesHold reader lines (n + 1) below
@@ -194,4 +193,4 @@ nothing-step reader lines n own says holds =
     let none : (said_at lines n).choices ≡ [] = ap (λ s. s.choices) says in
     let few : length reader.texts.arena ≤ n = holds.few in
     own-step reader reader lines n nothing own says holds holds.ready holds.in_range (choices-kept reader lines n reader.below own none holds.choices) refl refl (λ net. refl)
-    (sym (append-nil _)) (kept-list _ _ (buffers_at-nothing lines n none)) (kept-list _ _ (routings_at-nothing lines n none)) (sym (append-nil _)) (sym (append-nil _)) (sym (append-nil _)) (sym (append-nil _)) (omega arith)
+    (sym (append-nil _)) (append-nothing _ _ (buffers_at-nothing lines n none)) (append-nothing _ _ (routings_at-nothing lines n none)) (sym (append-nil _)) (sym (append-nil _)) (sym (append-nil _)) (sym (append-nil _)) (omega arith)

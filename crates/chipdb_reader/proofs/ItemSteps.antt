@@ -5,7 +5,8 @@ use Rattle.std.specs.declared.vec.Vec.{Vec}
 use Rattle.std.specs.declared.alloc.Global.{Global}
 use Rattle.std.proofs.lemmas.Bool.{lt-leb}
 use Rattle.std.proofs.lemmas.List.{map-append}
-use Rattle.std.proofs.lemmas.List.Elements.{All-push}
+use Rattle.std.proofs.lemmas.List.Elements.{All-push, All-weaker}
+use Rattle.shared_lemmas.proofs.Lists.{append-nothing}
 use Rattle.text_lines.specs.Lines.{line_at}
 use Rattle.plane_map.specs.declared.tile.TileKind.{TileKind}
 use Rattle.plane_map.specs.declared.tile.RowCol.{RowCol}
@@ -32,9 +33,10 @@ use Rattle.chipdb_reader.specs.Kept.{name_lines, link_lines, function_line, func
 use Rattle.chipdb_reader.specs.Nets.{net_names}
 use Rattle.chipdb_reader.specs.Texts.{Interns}
 use Rattle.chipdb_reader.specs.Reading.{Pushes, PushesFunction, PushesExtra}
-use Rattle.chipdb_reader.proofs.Grown.{names-grown, extras-grown, functions-grown, links-grown, IsListOf-grown, All-weaker}
+use Rattle.chipdb_reader.specs.Sound.{IsLinkIn}
+use Rattle.chipdb_reader.proofs.Grown.{names-grown, extras-grown, functions-grown, links-grown, list-added, IsLinkIn-grown, IsListOf-grown}
 use Rattle.chipdb_reader.proofs.TextSteps.{text-found}
-use Rattle.chipdb_reader.proofs.Holds.{Holds, InRange, own-step, kept-list, buffers_at-nothing, routings_at-nothing}
+use Rattle.chipdb_reader.proofs.Holds.{Holds, InRange, own-step, buffers_at-nothing, routings_at-nothing}
 
 -- what the words of a line say
 pub said-is : (lines : List (List ℕ)) (n : ℕ) (word : List ℕ) (words : List (List ℕ)) (chip : Chip) (block : Block)
@@ -75,10 +77,6 @@ pub cause-at : (old : Reader) (lines : List (List ℕ)) (n : ℕ) (chip : Chip) 
 cause-at old lines n chip below word words at =
     cause-is lines n word words chip (block_named old.bits.items below) at.inside at.own at.is (sym at.holds.chip ∙ at.given) (block-at old lines n chip below word words at)
 
--- nothing is kept more
-same : {A : Type 0} (xs : List A) → xs ≡ xs ++ []
-same xs = sym (append-nil xs)
-
 pub few-more : (n count : ℕ) → count ≤ n → count ≤ n + 1
 few-more n count le = omega arith
 
@@ -93,7 +91,7 @@ input-step old inputs lines n chip word words at pushed =
     own-step old (record old { global_inputs = inputs }) lines n said at.own says at.holds
     (record { texts = at.holds.ready.texts; nets = at.holds.ready.nets; buffers = at.holds.ready.buffers; below = at.holds.ready.below })
     (record { names = at.holds.in_range.names; functions = at.holds.in_range.functions; function_bits = at.holds.in_range.function_bits; extras = at.holds.in_range.extras; buffers = at.holds.in_range.buffers; routings = at.holds.in_range.routings })
-    (rw under tt) refl refl (λ net. refl) (same _) (kept-list _ _ (buffers_at-nothing lines n none)) (kept-list _ _ (routings_at-nothing lines n none)) (same _) (same _) pushed.added (same _)
+    (rw under tt) refl refl (λ net. refl) (sym (append-nil _)) (append-nothing _ _ (buffers_at-nothing lines n none)) (append-nothing _ _ (routings_at-nothing lines n none)) (sym (append-nil _)) (sym (append-nil _)) pushed.added (sym (append-nil _))
     (few-more n _ at.holds.few)
 
 -- a `.gbufpin` line
@@ -107,7 +105,7 @@ pin-step old pins lines n chip word words at pushed =
     own-step old (record old { global_pins = pins }) lines n said at.own says at.holds
     (record { texts = at.holds.ready.texts; nets = at.holds.ready.nets; buffers = at.holds.ready.buffers; below = at.holds.ready.below })
     (record { names = at.holds.in_range.names; functions = at.holds.in_range.functions; function_bits = at.holds.in_range.function_bits; extras = at.holds.in_range.extras; buffers = at.holds.in_range.buffers; routings = at.holds.in_range.routings })
-    (rw under tt) refl refl (λ net. refl) (same _) (kept-list _ _ (buffers_at-nothing lines n none)) (kept-list _ _ (routings_at-nothing lines n none)) (same _) (same _) (same _) pushed.added
+    (rw under tt) refl refl (λ net. refl) (sym (append-nil _)) (append-nothing _ _ (buffers_at-nothing lines n none)) (append-nothing _ _ (routings_at-nothing lines n none)) (sym (append-nil _)) (sym (append-nil _)) (sym (append-nil _)) pushed.added
     (few-more n _ at.holds.few)
 
 -- ---- names and bits that grow
@@ -131,13 +129,15 @@ in_range-grown old texts bits more_texts more_bits texts_grown bits_grown range 
     let count : length texts.arena ≡ length old.texts.arena + length more_texts = ap length texts_grown ∙ length-append old.texts.arena more_texts in
     let listed : (list : BitList) → IsListOf (length old.bits.items) list → IsListOf (length bits.items) list =
     λ list is. let longer = IsListOf-grown old.bits.items more_bits list is in rw bits_grown longer in
+    let linked : (line : LinkLine) → IsLinkIn (length old.bits.items) line → IsLinkIn (length bits.items) line =
+    λ line is. let longer = IsLinkIn-grown old.bits.items more_bits line is in rw bits_grown longer in
     record {
-      names = All-weaker (λ (p : NetName × ℕ). p.0.name < length old.texts.arena) (λ (p : NetName × ℕ). p.0.name < length texts.arena) (net_names old.nets) (λ p lt. omega arith) range.names;
-      functions = All-weaker (λ (f : Function). f.name < length old.texts.arena) (λ (f : Function). f.name < length texts.arena) old.functions.items (λ f lt. omega arith) range.functions;
-      function_bits = All-weaker (λ (f : Function). IsListOf (length old.bits.items) f.bits) (λ (f : Function). IsListOf (length bits.items) f.bits) old.functions.items (λ f is. listed f.bits is) range.function_bits;
-      extras = All-weaker (λ (e : Extra). e.name < length old.texts.arena) (λ (e : Extra). e.name < length texts.arena) old.extras.items (λ e lt. omega arith) range.extras;
-      buffers = All-weaker (λ (l : LinkLine). IsListOf (length old.bits.items) l.bits) (λ (l : LinkLine). IsListOf (length bits.items) l.bits) old.buffers.lines.items (λ l is. listed l.bits is) range.buffers;
-      routings = All-weaker (λ (l : LinkLine). IsListOf (length old.bits.items) l.bits) (λ (l : LinkLine). IsListOf (length bits.items) l.bits) old.routings.items (λ l is. listed l.bits is) range.routings;
+      names = All-weaker (λ (p : NetName × ℕ). p.0.name < length old.texts.arena) (λ (p : NetName × ℕ). p.0.name < length texts.arena) (λ p lt. omega arith) (net_names old.nets) range.names;
+      functions = All-weaker (λ (f : Function). f.name < length old.texts.arena) (λ (f : Function). f.name < length texts.arena) (λ f lt. omega arith) old.functions.items range.functions;
+      function_bits = All-weaker (λ (f : Function). IsListOf (length old.bits.items) f.bits) (λ (f : Function). IsListOf (length bits.items) f.bits) (λ f is. listed f.bits is) old.functions.items range.function_bits;
+      extras = All-weaker (λ (e : Extra). e.name < length old.texts.arena) (λ (e : Extra). e.name < length texts.arena) (λ e lt. omega arith) old.extras.items range.extras;
+      buffers = All-weaker (IsLinkIn (length old.bits.items)) (IsLinkIn (length bits.items)) linked old.buffers.lines.items range.buffers;
+      routings = All-weaker (IsLinkIn (length old.bits.items)) (IsLinkIn (length bits.items)) linked old.routings.items range.routings;
     }
 
 -- lists that say the same
@@ -152,7 +152,7 @@ pub functions-kept : (old : Reader) (texts : Texts) (bits : List RowCol) (more_t
 functions-kept old texts bits more_texts more_bits texts_grown bits_grown range =
     (λ i. function_lines (texts_grown i) (bits_grown i) old.functions.items) ∙ functions-grown old.texts.arena more_texts old.bits.items more_bits old.functions.items range.functions range.function_bits
 
-pub links-kept : (bits new_bits more : List RowCol) (lines : List LinkLine) → new_bits ≡ bits ++ more → All (λ l. IsListOf (length bits) l.bits) lines → link_lines new_bits lines ≡ link_lines bits lines
+pub links-kept : (bits new_bits more : List RowCol) (lines : List LinkLine) → new_bits ≡ bits ++ more → All (IsLinkIn (length bits)) lines → link_lines new_bits lines ≡ link_lines bits lines
 links-kept bits new_bits more lines grown all = ap (λ b. link_lines b lines) grown ∙ links-grown bits more lines all
 
 -- a line of functions
@@ -160,6 +160,7 @@ pub function-step : (old new : Reader) (lines : List (List ℕ)) (n : ℕ) (chip
     → PushesFunction kind (word ∷ words) old new → Holds new lines (n + 1)
 function-step old new lines n chip kind word words at pushed =
     let function = pushed.function in
+    let grown = pushed.listed.grown in
     let line : FunctionLine = record { kind = kind; name = pushed.name; bits = bits_named new.bits.items function.bits } in
     let said : Said = record nothing { functions = line ∷ [] } in
     let says : said_at lines n ≡ said = said-at old lines n chip (Functions kind) word words at ∙ ap (λ r. record nothing { functions = item r }) pushed.says in
@@ -167,18 +168,18 @@ function-step old new lines n chip kind word words at pushed =
     let counts = interned-counts old.texts new.texts pushed.name function.name pushed.interned in
     let under = at.under in
     let range = at.holds.in_range in
-    let after = in_range-grown old new.texts new.bits pushed.interned.more pushed.grown.0 pushed.interned.grown pushed.grown.1 range in
+    let after = in_range-grown old new.texts new.bits pushed.interned.more grown.0 pushed.interned.grown grown.1 range in
     let found = (text-found new.texts.arena pushed.name function.name pushed.interned.here).1 in
     let read : function_line new.texts.arena new.bits.items function ≡ line = λ i. record { kind = pushed.same i; name = found i; bits = bits_named new.bits.items function.bits } in
     let listed : function_lines new.texts.arena new.bits.items new.functions.items ≡ function_lines old.texts.arena old.bits.items old.functions.items ++ line ∷ [] =
     ap (function_lines new.texts.arena new.bits.items) pushed.added
     ∙ map-append (function_line new.texts.arena new.bits.items) old.functions.items (function ∷ [])
-    ∙ ap (λ fs. fs ++ function_line new.texts.arena new.bits.items function ∷ []) (functions-kept old new.texts new.bits.items pushed.interned.more pushed.grown.0 pushed.interned.grown pushed.grown.1 range)
+    ∙ ap (λ fs. fs ++ function_line new.texts.arena new.bits.items function ∷ []) (functions-kept old new.texts new.bits.items pushed.interned.more grown.0 pushed.interned.grown grown.1 range)
     ∙ ap (λ f. function_lines old.texts.arena old.bits.items old.functions.items ++ f ∷ []) read in
     let ids : All (λ f. f.name < length new.texts.arena) new.functions.items =
     rw pushed.added (All-push (λ (f : Function). f.name < length new.texts.arena) old.functions.items function after.functions counts.inside) in
     let lists : All (λ f. IsListOf (length new.bits.items) f.bits) new.functions.items =
-    rw pushed.added (All-push (λ (f : Function). IsListOf (length new.bits.items) f.bits) old.functions.items function after.function_bits pushed.within) in
+    rw pushed.added (All-push (λ (f : Function). IsListOf (length new.bits.items) f.bits) old.functions.items function after.function_bits (list-added old.bits.items new.bits.items function.bits pushed.listed)) in
     let count : length new.texts.arena ≤ length old.texts.arena + 1 = counts.few in
     let before : length old.texts.arena ≤ n = at.holds.few in
     subst (λ r. Holds r lines (n + 1)) (sym pushed.rest)
@@ -186,12 +187,12 @@ function-step old new lines n chip kind word words at pushed =
     (record { texts = pushed.interned.indexed; nets = at.holds.ready.nets; buffers = at.holds.ready.buffers; below = rw under tt })
     (record { names = after.names; functions = ids; function_bits = lists; extras = after.extras; buffers = after.buffers; routings = after.routings })
     (rw under tt) refl (rw under refl) (λ net. refl)
-    (names-kept old new.texts pushed.interned.more pushed.interned.grown range ∙ same _)
-    (links-kept old.bits.items new.bits.items pushed.grown.0 old.buffers.lines.items pushed.grown.1 range.buffers ∙ kept-list _ _ (buffers_at-nothing lines n none))
-    (links-kept old.bits.items new.bits.items pushed.grown.0 old.routings.items pushed.grown.1 range.routings ∙ kept-list _ _ (routings_at-nothing lines n none))
+    (names-kept old new.texts pushed.interned.more pushed.interned.grown range ∙ sym (append-nil _))
+    (links-kept old.bits.items new.bits.items grown.0 old.buffers.lines.items grown.1 range.buffers ∙ append-nothing _ _ (buffers_at-nothing lines n none))
+    (links-kept old.bits.items new.bits.items grown.0 old.routings.items grown.1 range.routings ∙ append-nothing _ _ (routings_at-nothing lines n none))
     listed
-    (extras-kept old new.texts pushed.interned.more pushed.interned.grown range ∙ same _)
-    (same _) (same _) (omega arith))
+    (extras-kept old new.texts pushed.interned.more pushed.interned.grown range ∙ sym (append-nil _))
+    (sym (append-nil _)) (sym (append-nil _)) (omega arith))
 
 -- a line of extra bits
 pub extra-step : (old new : Reader) (lines : List (List ℕ)) (n : ℕ) (chip : Chip) (word : List ℕ) (words : List (List ℕ)) → At old lines n chip ExtraBits word words
@@ -205,7 +206,7 @@ extra-step old new lines n chip word words at pushed =
     let counts = interned-counts old.texts new.texts pushed.name extra.name pushed.interned in
     let under = at.under in
     let range = at.holds.in_range in
-    let after = in_range-grown old new.texts old.bits pushed.interned.more [] pushed.interned.grown (same old.bits.items) range in
+    let after = in_range-grown old new.texts old.bits pushed.interned.more [] pushed.interned.grown (sym (append-nil old.bits.items)) range in
     let found = (text-found new.texts.arena pushed.name extra.name pushed.interned.here).1 in
     let read : extra_line new.texts.arena extra ≡ line = λ i. record { name = found i; at = extra.at } in
     let listed : extra_lines new.texts.arena new.extras.items ≡ extra_lines old.texts.arena old.extras.items ++ line ∷ [] =
@@ -222,7 +223,7 @@ extra-step old new lines n chip word words at pushed =
     (record { texts = pushed.interned.indexed; nets = at.holds.ready.nets; buffers = at.holds.ready.buffers; below = rw under tt })
     (record { names = after.names; functions = after.functions; function_bits = after.function_bits; extras = ids; buffers = after.buffers; routings = after.routings })
     (rw under tt) refl refl (λ net. refl)
-    (names-kept old new.texts pushed.interned.more pushed.interned.grown range ∙ same _)
-    (kept-list _ _ (buffers_at-nothing lines n none)) (kept-list _ _ (routings_at-nothing lines n none))
-    (functions-kept old new.texts old.bits.items pushed.interned.more [] pushed.interned.grown (same old.bits.items) range ∙ same _)
-    listed (same _) (same _) (omega arith))
+    (names-kept old new.texts pushed.interned.more pushed.interned.grown range ∙ sym (append-nil _))
+    (append-nothing _ _ (buffers_at-nothing lines n none)) (append-nothing _ _ (routings_at-nothing lines n none))
+    (functions-kept old new.texts old.bits.items pushed.interned.more [] pushed.interned.grown (sym (append-nil old.bits.items)) range ∙ sym (append-nil _))
+    listed (sym (append-nil _)) (sym (append-nil _)) (omega arith))

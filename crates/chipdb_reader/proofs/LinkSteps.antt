@@ -1,5 +1,5 @@
 -- Lines of `.routing` and `.buffer`: what is kept after each, and which are faulty.
-use Rattle.std.proofs.Common.{◌≡◌, ℕ, zero, suc, ◌+◌, ◌*◌, ◌/◌, ◌%◌, ◌^◌, ◌<◌, Bool, true, false, not, ◌&&◌, ◌||◌, cond, eqb, List, [], ◌∷◌, ◌++◌, length, drop, map, append-nil, refl, sym, ap, ◌∙◌, inl, inr, arith, subst, true≢false}
+use Rattle.std.proofs.Common.{◌≡◌, ℕ, zero, suc, ◌+◌, ◌*◌, ◌/◌, ◌%◌, ◌^◌, ◌<◌, Bool, true, false, not, ◌||◌, cond, eqb, List, [], ◌∷◌, ◌++◌, length, drop, map, append-nil, refl, sym, ap, ◌∙◌, inl, inr, arith, subst}
 use Rattle.std.specs.Prelude.{◌==◌, Option, Some, None, Ok, All, nat_eq}
 use Rattle.std.specs.Bool.{beq}
 use Rattle.std.specs.Cmp.Lexicographic.{pointwise}
@@ -7,11 +7,13 @@ use Rattle.std.specs.List.{list_any}
 use Rattle.std.specs.Map.{lookup}
 use Rattle.std.specs.declared.vec.Vec.{Vec}
 use Rattle.std.specs.declared.alloc.Global.{Global}
-use Rattle.std.proofs.lemmas.Bool.{cases_Bool, cases_eq, eqb-true, eqb-false, eq-eqb, ne_eqb, or_left, or_right, or_from, and_parts}
+use Rattle.std.proofs.lemmas.Bool.{cases_Bool, cases_eq, eqb-true, eqb-false, eq-eqb, ne_eqb, or_left, or_right, or_from}
 use Rattle.std.proofs.lemmas.List.{map-append, drop-append-le}
-use Rattle.std.proofs.lemmas.List.Elements.{All-head, All-tail, All-push}
-use Rattle.std.proofs.Math.Bool.{or-false}
+use Rattle.std.proofs.lemmas.List.Elements.{All-head, All-tail, All-push, All-weaker}
+use Rattle.std.proofs.Math.Bool.{and-false, or-false}
 use Rattle.std.proofs.Math.Nat.{pow-succ'}
+use Rattle.shared_lemmas.proofs.Bits.{pointwise-same, same_bits}
+use Rattle.shared_lemmas.proofs.Lists.{append-nothing}
 use Rattle.plane_map.specs.declared.tile.RowCol.{RowCol}
 use Rattle.chipdb_lines.specs.declared.cause.DbCause.TheVariants.{ValuesTwice}
 use Rattle.chipdb_lines.specs.declared.chip.Chip.{Chip}
@@ -19,7 +21,8 @@ use Rattle.chipdb_lines.specs.declared.links.LinkHead.{LinkHead as KeptHead}
 use Rattle.chipdb_lines.specs.declared.links.Choice.{Choice}
 use Rattle.chipdb_lines.specs.declared.statements.Below.TheVariants.{Buffers, Routings}
 use Rattle.chipdb_lines.specs.Items.{LinkChoice, choice_of}
-use Rattle.chipdb_lines.specs.Kept.{block_named, bits_named, choice_named, head_named, low_bits, IsListOf, Chooses}
+use Rattle.bit_plane.specs.BitList.{word_bits}
+use Rattle.chipdb_lines.specs.Kept.{block_named, bits_named, choice_named, head_named, IsListOf, Chooses}
 use Rattle.chipdb_reader.specs.declared.items.LinkLine.{LinkLine}
 use Rattle.chipdb_reader.specs.declared.reading.Reader.{Reader}
 use Rattle.chipdb_reader.specs.Blocks.{block_over}
@@ -28,37 +31,15 @@ use Rattle.chipdb_reader.specs.Database.{Said, nothing, item, said_at, link_of, 
 use Rattle.chipdb_reader.specs.Faults.{cause_at, cause_if, choice_cause}
 use Rattle.chipdb_reader.specs.Kept.{link_line, link_lines}
 use Rattle.chipdb_reader.specs.Reading.{PushesRouting, PushesBuffer, link_with}
+use Rattle.chipdb_reader.specs.Sound.{IsLinkIn}
 use Rattle.std.proofs.lemmas.List.Folds.{list_any-append}
 use Rattle.place_search.specs.Places.{or_else}
-use Rattle.chipdb_reader.proofs.Grown.{length-bits_named, All-weaker}
-use Rattle.chipdb_reader.proofs.Holds.{Holds, ChoicesHold, LastHolds, IsLastLine, kept_choice, last_lines, chosen-own, own-step, kept-list}
+use Rattle.chipdb_reader.proofs.Grown.{length-bits_named}
+use Rattle.chipdb_reader.proofs.Holds.{Holds, ChoicesHold, LastHolds, IsLastLine, kept_choice, last_lines, chosen-own, own-step}
 use Rattle.chipdb_reader.proofs.ItemSteps.{At, block-at, said-at, cause-at, few-more}
 use Rattle.chipdb_reader.proofs.Searches.{lookup-push}
 
 -- ---- values by their numbers
-
--- bits that are found equal
-beq-true : (a b : Bool) → beq a b ≡ true → a ≡ b
-beq-true true true is = refl
-beq-true true false is = sym is
-beq-true false true is = is
-beq-true false false is = refl
-
-beq-same : (a : Bool) → beq a a ≡ true
-beq-same true = refl
-beq-same false = refl
-
-pointwise-true : (xs ys : List Bool) → pointwise beq xs ys ≡ true → xs ≡ ys
-pointwise-true [] [] is = refl
-pointwise-true [] (y ∷ ys) is = absurd (true≢false (sym is))
-pointwise-true (x ∷ xs) [] is = absurd (true≢false (sym is))
-pointwise-true (x ∷ xs) (y ∷ ys) is =
-    let parts = and_parts (beq x y) (pointwise beq xs ys) is in
-    ap (λ b. b ∷ xs) (beq-true x y parts.0) ∙ ap (λ bs. y ∷ bs) (pointwise-true xs ys parts.1)
-
-pub pointwise-same : (xs : List Bool) → pointwise beq xs xs ≡ true
-pointwise-same [] = refl
-pointwise-same (x ∷ xs) = rw (beq-same x) (pointwise-same xs)
 
 -- the first bit tells whether a number is odd
 odd-same : (a b : ℕ) → (a % 2 == 1) ≡ (b % 2 == 1) → a % 2 ≡ b % 2
@@ -74,25 +55,26 @@ odd-same a b same =
     ]
 
 -- numbers of so many bits are equal where their bits are
-low_bits-same : (count a b : ℕ) → a < 2 ^ count → b < 2 ^ count → low_bits count a ≡ low_bits count b → a ≡ b
-low_bits-same zero a b small_a small_b same = omega arith
-low_bits-same (suc count) a b small_a small_b same =
+word_bits-same : (count a b : ℕ) → a < 2 ^ count → b < 2 ^ count → word_bits count a ≡ word_bits count b → a ≡ b
+unfolding word_bits
+word_bits-same zero a b small_a small_b same = omega arith
+word_bits-same (suc count) a b small_a small_b same =
     let first : (a % 2 == 1) ≡ (b % 2 == 1) = cc in
-    let rest : low_bits count (a / 2) ≡ low_bits count (b / 2) = cc in
+    let rest : word_bits count (a / 2) ≡ word_bits count (b / 2) = cc in
     let odd : a % 2 ≡ b % 2 = odd-same a b first in
     let wide_a : a < 2 * 2 ^ count = rw pow-succ' at small_a in
     let wide_b : b < 2 * 2 ^ count = rw pow-succ' at small_b in
-    let half : a / 2 ≡ b / 2 = low_bits-same count (a / 2) (b / 2) (omega arith) (omega arith) rest in
+    let half : a / 2 ≡ b / 2 = word_bits-same count (a / 2) (b / 2) (omega arith) (omega arith) rest in
     omega arith
 
 -- equal values are equal numbers
-pub values-same : (count a b : ℕ) → a < 2 ^ count → b < 2 ^ count → pointwise beq (low_bits count a) (low_bits count b) ≡ eqb a b
+pub values-same : (count a b : ℕ) → a < 2 ^ count → b < 2 ^ count → pointwise beq (word_bits count a) (word_bits count b) ≡ eqb a b
 values-same count a b small_a small_b =
     elim (cases_eq a b) [
-      | inl same ↦ rw (same, pointwise-same (low_bits count b)) (sym (eq-eqb b b refl))
+      | inl same ↦ rw (same, pointwise-same (word_bits count b)) (sym (eq-eqb b b refl))
       | inr other ↦
-          elim (cases_Bool (pointwise beq (low_bits count a) (low_bits count b))) [
-            | inl equal ↦ absurd (other (low_bits-same count a b small_a small_b (pointwise-true _ _ equal)))
+          elim (cases_Bool (pointwise beq (word_bits count a) (word_bits count b))) [
+            | inl equal ↦ absurd (other (word_bits-same count a b small_a small_b (same_bits _ _ equal)))
             | inr apart ↦ apart ∙ sym (ne_eqb a b other)
           ]
     ]
@@ -103,15 +85,12 @@ values-same count a b small_a small_b =
 link-read : (bits : List RowCol) (head : KeptHead) (choice : Choice) → IsListOf (length bits) head.bits → link_of (head_named bits head) (choice_named head.bits.count choice) ≡ link_line bits (link_with head choice)
 link-read bits head choice is =
     let count = length-bits_named bits head.bits is in
-    λ i. record { x = head.x; y = head.y; dst = head.dst; src = choice.src; bits = bits_named bits head.bits; values = low_bits (sym count i) choice.values }
+    λ i. record { x = head.x; y = head.y; dst = head.dst; src = choice.src; bits = bits_named bits head.bits; values = word_bits (sym count i) choice.values }
 
 -- what the words of a line say below a statement of links
 choice-read : (nets : ℕ) (bits : List RowCol) (head : KeptHead) (words : List (List ℕ)) (choice : Choice) → IsListOf (length bits) head.bits → Chooses nets head.bits.count words choice
     → choice_of nets (length (bits_named bits head.bits)) words ≡ Ok (choice_named head.bits.count choice)
 choice-read nets bits head words choice is chosen = ap (λ count. choice_of nets count words) (length-bits_named bits head.bits is) ∙ chosen.says
-
-same : {A : Type 0} (xs : List A) → xs ≡ xs ++ []
-same xs = sym (append-nil xs)
 
 -- a line of a `.routing`
 pub routing-step : (old : Reader) (lines_kept : Vec LinkLine Global) (lines : List (List ℕ)) (n : ℕ) (chip : Chip) (head : KeptHead) (word : List ℕ) (words : List (List ℕ)) → At old lines n chip (Routings head) word words
@@ -130,12 +109,12 @@ routing-step old lines_kept lines n chip head word words at is pushed =
     let added : link_lines old.bits.items lines_kept.items ≡ link_lines old.bits.items old.routings.items ++ routings_at lines n =
     ap (link_lines old.bits.items) pushed.added ∙ map-append (link_line old.bits.items) old.routings.items (link_with head choice ∷ []) ∙ ap (λ ls. link_lines old.bits.items old.routings.items ++ ls) (sym link) in
     let range = at.holds.in_range in
-    let lists : All (λ l. IsListOf (length old.bits.items) l.bits) lines_kept.items =
-    rw pushed.added (All-push (λ (l : LinkLine). IsListOf (length old.bits.items) l.bits) old.routings.items (link_with head choice) range.routings is) in
+    let lists : All (IsLinkIn (length old.bits.items)) lines_kept.items =
+    rw pushed.added (All-push (IsLinkIn (length old.bits.items)) old.routings.items (link_with head choice) range.routings (record { bits_in = is; values_few = pushed.chosen.small })) in
     own-step old (record old { routings = lines_kept }) lines n said at.own says at.holds
     (record { texts = at.holds.ready.texts; nets = at.holds.ready.nets; buffers = at.holds.ready.buffers; below = at.holds.ready.below })
     (record { names = range.names; functions = range.functions; function_bits = range.function_bits; extras = range.extras; buffers = range.buffers; routings = lists })
-    (rw under tt) refl refl (λ net. refl) (same _) (kept-list _ _ none) added (same _) (same _) (same _) (same _)
+    (rw under tt) refl refl (λ net. refl) (sym (append-nil _)) (append-nothing _ _ none) added (sym (append-nil _)) (sym (append-nil _)) (sym (append-nil _)) (sym (append-nil _))
     (few-more n _ at.holds.few)
 
 -- ---- buffers
@@ -183,10 +162,6 @@ fails-unchosen reader head choice l small none is =
 src-is : (reader : Reader) (head : KeptHead) (values src : ℕ) (l : LinkLine) → chosen_src reader.buffers values ≡ Some src → IsLastLine reader head l → values ≡ l.values → l.src ≡ src
 src-is reader head values src l chosen is same =
     let both : Some l.src ≡ Some src = sym is.chosen ∙ ap (chosen_src reader.buffers) (sym same) ∙ chosen in cc
-
-and-false : (b : Bool) → (b && false) ≡ false
-and-false true = refl
-and-false false = refl
 
 -- whether the index has that net, or another one
 abbrev pub is_equal : Option ℕ → ℕ → Bool
@@ -306,7 +281,7 @@ is_equal-fits found src fits =
 -- what the lines of the statement are then
 pub record Grows (old new : Reader) (lines : List (List ℕ)) (n : ℕ) (head : KeptHead) (choice : Choice) : Type 0 where
   pub links : link_lines old.bits.items new.buffers.lines.items ≡ link_lines old.bits.items old.buffers.lines.items ++ buffers_at lines n
-  pub lists : All (λ l. IsListOf (length old.bits.items) l.bits) new.buffers.lines.items
+  pub lists : All (IsLinkIn (length old.bits.items)) new.buffers.lines.items
   pub last : LastHolds new lines (n + 1) head
 
 grows-new : (old new : Reader) (lines : List (List ℕ)) (n : ℕ) (chip : Chip) (head : KeptHead) (word : List ℕ) (words : List (List ℕ)) (choice : Choice) → At old lines n chip (Buffers head) word words
@@ -338,9 +313,9 @@ grows-new old new lines n chip head word words choice at is chosen added none =
     record { bits = refl; small = chosen.small; chosen = found choice.values ∙ rw (none, here) refl } in
     record {
       links = ap (link_lines old.bits.items) pushed ∙ map-append (link_line old.bits.items) old.buffers.lines.items (line ∷ []) ∙ ap (λ ls. link_lines old.bits.items old.buffers.lines.items ++ ls) (sym link);
-      lists = rw pushed (All-push (λ (l : LinkLine). IsListOf (length old.bits.items) l.bits) old.buffers.lines.items line range.buffers is);
+      lists = rw pushed (All-push (IsLinkIn (length old.bits.items)) old.buffers.lines.items line range.buffers (record { bits_in = is; values_few = chosen.small }));
       last = record {
-        own = rw last (All-push (IsLastLine new head) (last_lines old) line (All-weaker (IsLastLine old head) (IsLastLine new head) (last_lines old) older holds.own) newest);
+        own = rw last (All-push (IsLastLine new head) (last_lines old) line (All-weaker (IsLastLine old head) (IsLastLine new head) older (last_lines old) holds.own) newest);
         seen = λ test.
             chosen-own lines n test at.own ∙ (λ i. holds.seen test i || list_any test (says i).choices)
             ∙ sym (list_any-append test (map (kept_choice head.bits.count) (last_lines old)) (lc ∷ []))
@@ -377,17 +352,17 @@ grows-equal old new lines n chip head word words choice src at is chosen added s
           (λ l before here at_src.
           let values : l.values ≡ choice.values = sym (eqb-true choice.values l.values here) in
           let net : l.src ≡ choice.src = at_src ∙ eqb-true src choice.src same_src in
-          let one : kept_choice head.bits.count l ≡ lc = λ i. record { values = low_bits head.bits.count (values i); src = net i } in
+          let one : kept_choice head.bits.count l ≡ lc = λ i. record { values = word_bits head.bits.count (values i); src = net i } in
           ap test one ∙ held)
           holds.own looked in
           ap (λ b. b || (test lc || false)) there ∙ sym there
       | inr not_yet ↦ ap (λ b. list_any test (map (kept_choice head.bits.count) (last_lines old)) || (b || false)) not_yet ∙ or-false _
     ] in
     record {
-      links = ap (link_lines old.bits.items) kept ∙ kept-list (link_lines old.bits.items old.buffers.lines.items) (buffers_at lines n) link;
+      links = ap (link_lines old.bits.items) kept ∙ append-nothing (link_lines old.bits.items old.buffers.lines.items) (buffers_at lines n) link;
       lists = rw kept range.buffers;
       last = record {
-        own = rw last (All-weaker (IsLastLine old head) (IsLastLine new head) (last_lines old) older holds.own);
+        own = rw last (All-weaker (IsLastLine old head) (IsLastLine new head) older (last_lines old) holds.own);
         seen = λ test.
             chosen-own lines n test at.own ∙ (λ i. holds.seen test i || list_any test (says i).choices) ∙ again test
             ∙ ap (λ ls. list_any test (map (kept_choice head.bits.count) ls)) (sym last);
@@ -422,5 +397,5 @@ buffer-step old new lines n chip head word words at is pushed =
     (record { texts = at.holds.ready.texts; nets = at.holds.ready.nets; buffers = pushed.added.indexed; below = at.holds.ready.below })
     (record { names = range.names; functions = range.functions; function_bits = range.function_bits; extras = range.extras; buffers = grown.lists; routings = range.routings })
     (subst (ChoicesHold (record old { buffers = new.buffers }) lines (n + 1)) (sym under) last)
-    refl refl (λ net. refl) (same _) grown.links (kept-list _ _ none) (same _) (same _) (same _) (same _)
+    refl refl (λ net. refl) (sym (append-nil _)) grown.links (append-nothing _ _ none) (sym (append-nil _)) (sym (append-nil _)) (sym (append-nil _)) (sym (append-nil _))
     (few-more n _ at.holds.few))

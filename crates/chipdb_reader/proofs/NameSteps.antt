@@ -4,10 +4,12 @@ use Rattle.std.specs.Prelude.{Option, Some, Ok, All, bytes_eq, is_some, position
 use Rattle.std.specs.List.{list_any}
 use Rattle.std.specs.Map.{lookup}
 use Rattle.std.proofs.lemmas.Bool.{cases_Bool, cases_eq, eq-eqb, ne_eqb}
-use Rattle.std.proofs.lemmas.Bool.Decides.{nat_tests}
 use Rattle.std.proofs.lemmas.List.{map-append}
 use Rattle.std.proofs.lemmas.List.Elements.{All-head, All-tail, All-push}
 use Rattle.std.proofs.lemmas.List.Folds.{list_any-append}
+use Rattle.shared_lemmas.proofs.Bytes.{same_bytes}
+use Rattle.shared_lemmas.proofs.Numbers.{eqb-turned}
+use Rattle.shared_lemmas.proofs.Lists.{append-nothing}
 use Rattle.place_search.specs.Places.{any_below, gathered_below}
 use Rattle.chipdb_lines.specs.declared.cause.DbCause.TheVariants.{NameTwice}
 use Rattle.chipdb_lines.specs.declared.chip.Chip.{Chip}
@@ -23,9 +25,9 @@ use Rattle.chipdb_reader.specs.Nets.{is_name, named_net, net_names}
 use Rattle.chipdb_reader.specs.Texts.{Interns, text_at}
 use Rattle.chipdb_reader.specs.Reading.{PushesName}
 use Rattle.chipdb_reader.proofs.Grown.{text-grown}
-use Rattle.chipdb_reader.proofs.Holds.{Holds, own-step, kept-list, buffers_at-nothing, routings_at-nothing}
+use Rattle.chipdb_reader.proofs.Holds.{Holds, own-step, buffers_at-nothing, routings_at-nothing}
 use Rattle.chipdb_reader.proofs.ItemSteps.{At, said-at, cause-at, interned-counts, in_range-grown, names-kept, extras-kept, functions-kept}
-use Rattle.chipdb_reader.proofs.Searches.{bytes_eq-same, bytes_eq-true}
+use Rattle.chipdb_reader.proofs.Searches.{bytes_eq-same}
 use Rattle.chipdb_reader.proofs.TextSteps.{text-found}
 
 -- ---- names before a line
@@ -58,16 +60,13 @@ text-tie old new text id i interned lt =
       | inr other ↦
           elim (cases_Bool (bytes_eq text (text_at old.arena i))) [
             | inl equal ↦
-                let text_is : text ≡ text_at new.arena i = bytes_eq-true text (text_at old.arena i) equal ∙ sym grown in
+                let text_is : text ≡ text_at new.arena i = same_bytes text (text_at old.arena i) equal ∙ sym grown in
                 let place : Some id ≡ Some i = sym interned.here ∙ ap (λ t. position (bytes_eq t) new.arena) text_is ∙ interned.indexed.apart i (omega arith) in
                 let same : i ≡ id = cc in
                 absurd (other same)
             | inr apart ↦ apart ∙ sym (ne_eqb i id other)
           ]
     ]
-
-pub eqb-sym : (a b : ℕ) → eqb a b ≡ eqb b a
-eqb-sym a b = grind (arith, nat_tests)
 
 and-assoc : (a b c : Bool) → ((a && b) && c) ≡ (a && (b && c))
 and-assoc true b c = refl
@@ -78,7 +77,7 @@ name-tie : (old new : Texts) (net x y : ℕ) (text : List ℕ) (id : ℕ) (entry
     → is_same_name (record { net = net; x = x; y = y; name = text }) (name_line old.arena entry) ≡ is_name (record { x = x; y = y; name = id }) entry.0
 name-tie old new net x y text id entry interned lt =
     let tie = text-tie old new text id entry.0.name interned lt in
-    (λ i. (eqb-sym x entry.0.x i && eqb-sym y entry.0.y i) && tie i) ∙ and-assoc (eqb entry.0.x x) (eqb entry.0.y y) (eqb entry.0.name id)
+    (λ i. (eqb-turned x entry.0.x i && eqb-turned y entry.0.y i) && tie i) ∙ and-assoc (eqb entry.0.x x) (eqb entry.0.y y) (eqb entry.0.name id)
 
 any-tie : (old new : Texts) (net x y : ℕ) (text : List ℕ) (id : ℕ) (entries : List (NetName × ℕ)) → Interns old new text id → All (λ p. p.0.name < length old.arena) entries
     → list_any (is_same_name (record { net = net; x = x; y = y; name = text })) (name_lines old.arena entries) ≡ list_any (λ p. is_name (record { x = x; y = y; name = id }) p.0) entries
@@ -112,9 +111,6 @@ name-cause old texts lines n chip net x y text id word words at says interned =
 
 -- ---- one name more
 
-same : {A : Type 0} (xs : List A) → xs ≡ xs ++ []
-same xs = sym (append-nil xs)
-
 -- a line that gives a name
 pub name-step : (old new : Reader) (lines : List (List ℕ)) (n : ℕ) (chip : Chip) (net : ℕ) (word : List ℕ) (words : List (List ℕ)) → At old lines n chip (Names net) word words
     → PushesName chip.device net (word ∷ words) old new → Holds new lines (n + 1)
@@ -127,7 +123,7 @@ name-step old new lines n chip net word words at pushed =
     let counts = interned-counts old.texts new.texts pushed.text pushed.id pushed.interned in
     let under = at.under in
     let range = at.holds.in_range in
-    let after = in_range-grown old new.texts old.bits pushed.interned.more [] pushed.interned.grown (same old.bits.items) range in
+    let after = in_range-grown old new.texts old.bits pushed.interned.more [] pushed.interned.grown (sym (append-nil old.bits.items)) range in
     let found = (text-found new.texts.arena pushed.text pushed.id pushed.interned.here).1 in
     let read : name_line new.texts.arena (name, net) ≡ line = λ i. record { net = net; x = pushed.x; y = pushed.y; name = found i } in
     let listed : name_lines new.texts.arena (net_names new.nets) ≡ name_lines old.texts.arena (net_names old.nets) ++ line ∷ [] =
@@ -145,7 +141,7 @@ name-step old new lines n chip net word words at pushed =
     (record { names = ids; functions = after.functions; function_bits = after.function_bits; extras = after.extras; buffers = after.buffers; routings = after.routings })
     (rw under tt) refl refl pushed.added.nets
     listed
-    (kept-list _ _ (buffers_at-nothing lines n none)) (kept-list _ _ (routings_at-nothing lines n none))
-    (functions-kept old new.texts old.bits.items pushed.interned.more [] pushed.interned.grown (same old.bits.items) range ∙ same _)
-    (extras-kept old new.texts pushed.interned.more pushed.interned.grown range ∙ same _)
-    (same _) (same _) (omega arith))
+    (append-nothing _ _ (buffers_at-nothing lines n none)) (append-nothing _ _ (routings_at-nothing lines n none))
+    (functions-kept old new.texts old.bits.items pushed.interned.more [] pushed.interned.grown (sym (append-nil old.bits.items)) range ∙ sym (append-nil _))
+    (extras-kept old new.texts pushed.interned.more pushed.interned.grown range ∙ sym (append-nil _))
+    (sym (append-nil _)) (sym (append-nil _)) (omega arith))

@@ -1,29 +1,22 @@
 -- Nets with one more, or with one name more.
-use Rattle.std.proofs.Common.{◌≡◌, ℕ, true, ◌&&◌, cond, eqb, List, [], ◌∷◌, ◌++◌, append_assoc, refl, sym, ap, ◌∙◌}
+use Rattle.std.proofs.Common.{◌≡◌, ℕ, true, ◌&&◌, cond, eqb, List, [], ◌∷◌, ◌++◌, append_assoc, sym, ap, ◌∙◌}
 use Rattle.std.specs.Prelude.{Option, Some, None}
-use Rattle.std.specs.declared.cmp.Ordering.{Ordering}
-use Rattle.std.specs.declared.cmp.Ordering.TheVariants.{Less, Equal, Greater}
 use Rattle.std.specs.Ordering.{nat_cmp, is_eq, ordering_then}
 use Rattle.std.specs.Cmp.{unsigned_ties}
 use Rattle.std.specs.Map.{lookup}
 use Rattle.std.proofs.lemmas.Bool.{and_parts, eqb-true}
 use Rattle.std.proofs.lemmas.List.{map-append}
+use Rattle.std.specs.Cmp.{tied_then}
 use Rattle.chipdb_reader.specs.declared.items.NetName.{NetName}
 use Rattle.chipdb_reader.specs.NameIndex.{name_cmp}
 use Rattle.chipdb_reader.specs.Nets.{is_name, names_with, last_names}
 use Rattle.chipdb_reader.proofs.Searches.{index-push}
 
--- two comparisons, one after the other
-is_eq-then : (a b : Ordering) → is_eq (ordering_then a b) ≡ (is_eq a && is_eq b)
-is_eq-then Less b = refl
-is_eq-then Equal b = refl
-is_eq-then Greater b = refl
-
 -- the index takes names to be the same where all their parts are
 pub name-ties : (name other : NetName) → is_eq (name_cmp name other) ≡ is_name other name
 name-ties name other =
-    is_eq-then (nat_cmp name.x other.x) (ordering_then (nat_cmp name.y other.y) (nat_cmp name.name other.name))
-    ∙ ap (λ b. is_eq (nat_cmp name.x other.x) && b) (is_eq-then (nat_cmp name.y other.y) (nat_cmp name.name other.name))
+    sym (tied_then (nat_cmp name.x other.x) (ordering_then (nat_cmp name.y other.y) (nat_cmp name.name other.name)))
+    ∙ ap (λ b. is_eq (nat_cmp name.x other.x) && b) (sym (tied_then (nat_cmp name.y other.y) (nat_cmp name.name other.name)))
     ∙ (λ i. sym (unsigned_ties name.x other.x) i && (sym (unsigned_ties name.y other.y) i && sym (unsigned_ties name.name other.name) i))
 
 -- and names with the same parts are equal

@@ -1,6 +1,6 @@
 -- What a call says that didn't fail, by the result that was made of its own.
-use Rattle.std.proofs.Common.{◌≡◌, true, false, refl, sym, ap, ◌∙◌, true≢false}
-use Rattle.std.specs.Prelude.{Option, Some, None, Result, Ok, Err, is_ok, is_some, OnOk, IfOk}
+use Rattle.std.proofs.Common.{◌≡◌, true, sym, ap, ◌∙◌, true≢false}
+use Rattle.std.specs.Prelude.{Result, Ok, Err, is_ok, OnOk, IfOk}
 
 -- a fact of a call that didn't fail
 pub ok-fact : {A B C : Type 0} (called : Result A B) (made : Result A C) (x : A) (P : Type 0) → is_ok made ≡ is_ok called → made ≡ Ok x → OnOk called P → P
@@ -15,8 +15,3 @@ ok-test called made x same is = sym same ∙ ap (λ (r : Result _ _). is_ok r) i
 pub ok-both : {A B : Type 0} (answer : Result A B) (P : Type 0) (Q R : A → Type 0) → OnOk answer P → IfOk answer Q → ((x : A) → P → Q x → R x) → IfOk answer R
 ok-both (Ok x) P Q R here there both = both x here there
 ok-both (Err e) P Q R here there both = tt
-
--- an option that is none
-pub none-of : {A : Type 0} (o : Option A) → is_some o ≡ false → o ≡ None
-none-of None is = refl
-none-of (Some x) is = absurd (true≢false is)

@@ -7,6 +7,7 @@ use Rattle.std.proofs.lemmas.Bool.{cases_eq, cases_Bool, lt-ltb, le-ltb, eq-eqb,
 use Rattle.std.proofs.lemmas.List.Folds.{position_or_len_push}
 use Rattle.std.proofs.lemmas.List.Sums.{prefix_len-le-length}
 use Rattle.std.proofs.lemmas.Slice.Eq.{bytes_eq-Decides}
+use Rattle.place_search.proofs.Places.{or_else-none}
 use Rattle.place_search.specs.Places.{or_else}
 
 -- the value of the first key that passes, with one entry more
@@ -62,10 +63,6 @@ position-push test xs x =
 pub bytes_eq-same : (text : List ℕ) → bytes_eq text text ≡ true
 bytes_eq-same text = (bytes_eq-Decides text text).1 refl
 
--- texts that are found equal
-pub bytes_eq-true : (text other : List ℕ) → bytes_eq text other ≡ true → text ≡ other
-bytes_eq-true text other = (bytes_eq-Decides text other).0
-
 -- a value that is found is that of an entry that passes
 pub lookup-passes : {K X : Type 0} (test : K → Bool) (both : K × X → Bool) (entries : List (K × X)) (x : X)
     → ((e : K × X) → test e.0 ≡ true → e.1 ≡ x → both e ≡ true) → lookup test entries ≡ Some x → list_any both entries ≡ true
@@ -92,11 +89,6 @@ lookup-none_passes test both (e ∷ entries) fails none =
           or_from (both e) (list_any both entries) (fails e other) (lookup-none_passes test both entries fails rest)
     ]
 
--- no other value
-or_else-nothing : {A : Type 0} (value : Option A) → or_else value None ≡ value
-or_else-nothing (Some value) = refl
-or_else-nothing None = refl
-
 -- An index that has the first value of each key of a list, with one key more that it hadn't.
 pub index-push : {K X : Type 0} (same at : K → K → Bool) (old new : K → Option X) (entries : List (K × X)) (key : K) (x : X)
     → ((q : K) → at key q ≡ same q key) → ((q : K) → same q key ≡ true → q ≡ key)
@@ -113,6 +105,6 @@ index-push same at old new entries key x ties equal updates found none q =
           left ∙ sym right
       | inr other ↦
           let left : new q ≡ old q = rw other at here in
-          let right : lookup (same q) (entries ++ (key, x) ∷ []) ≡ lookup (same q) entries = pushed ∙ rw other (or_else-nothing (lookup (same q) entries)) in
+          let right : lookup (same q) (entries ++ (key, x) ∷ []) ≡ lookup (same q) entries = pushed ∙ rw other (or_else-none (lookup (same q) entries)) in
           left ∙ found q ∙ sym right
     ]

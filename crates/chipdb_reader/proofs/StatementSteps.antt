@@ -1,5 +1,5 @@
 -- Statements: what is kept after each, and which are faulty.
-use Rattle.std.proofs.Common.{◌≡◌, ℕ, ◌+◌, ◌<◌, ◌≤◌, Bool, true, false, ◌&&◌, ◌||◌, cond, List, [], ◌++◌, length, drop, append-nil, refl, sym, ap, ◌∙◌, arith, subst}
+use Rattle.std.proofs.Common.{◌≡◌, ℕ, ◌+◌, ◌<◌, ◌≤◌, Bool, true, false, ◌&&◌, ◌||◌, cond, List, [], length, drop, append-nil, refl, sym, ap, ◌∙◌, arith, subst}
 use Rattle.std.specs.Prelude.{Option, Some, None, Result, Ok, Err, nat_le, nat_lt}
 use Rattle.std.specs.Result.{result_err}
 use Rattle.std.specs.List.{list_any}
@@ -21,7 +21,7 @@ use Rattle.chipdb_lines.specs.declared.statements.Below.TheVariants.{Passed, Dev
 use Rattle.chipdb_lines.specs.Words.{is_statement, own_words, words_in}
 use Rattle.chipdb_lines.specs.Statements.{Block, statement_of}
 use Rattle.chipdb_lines.specs.Items.{LinkChoice}
-use Rattle.chipdb_lines.specs.Kept.{block_named, Extends, IsBelowIn}
+use Rattle.chipdb_lines.specs.Kept.{block_named, AddsBelow, Extends}
 use Rattle.chipdb_reader.specs.declared.nets.Nets.{Nets}
 use Rattle.chipdb_reader.specs.declared.buffers.Buffers.{Buffers as KeptBuffers}
 use Rattle.chipdb_reader.specs.declared.reading.Reader.{Reader}
@@ -33,6 +33,7 @@ use Rattle.chipdb_reader.specs.Kept.{name_lines, link_lines}
 use Rattle.chipdb_reader.specs.Nets.{IsNetIndex, has_net, net_names}
 use Rattle.chipdb_reader.specs.Reading.{IsBelowReady, ChangesAt, begin_cause, TakesStatement, StatementRefusal, statement_own, statement_twice}
 use Rattle.chipdb_reader.proofs.BlockSteps.{chip-statement, chip-given, over-statement, block-statement, device_of}
+use Rattle.chipdb_reader.proofs.Grown.{below-grown, list-added}
 use Rattle.chipdb_reader.proofs.Holds.{Holds, ChoicesHold, last_lines, list-step, buffers_at-nothing, routings_at-nothing}
 use Rattle.chipdb_reader.proofs.ItemSteps.{in_range-grown, functions-kept, links-kept}
 
@@ -127,9 +128,6 @@ choices-begun reader lines n ExtraBits dot none = tt
 choices-begun reader lines n (Names net) dot none = tt
 choices-begun reader lines n (Routings head) dot none = tt
 
-same : {A : Type 0} (xs : List A) → xs ≡ xs ++ []
-same xs = sym (append-nil xs)
-
 begun-step : (old : Reader) (lines : List (List ℕ)) (n : ℕ) (bits : Vec RowCol Global) (chip : Option Chip) (below : Below) (nets : Nets) (buffers : KeptBuffers)
     → Begun old lines n bits chip below nets buffers → Holds (record old { chip = chip; below = below; bits = bits; nets = nets; buffers = buffers }) lines (n + 1)
 unfolding is_net_before
@@ -141,7 +139,7 @@ begun-step old lines n bits chip below nets buffers begun =
     let none : (said_at lines n).choices ≡ [] = ap (λ s. s.choices) said in
     let at : statement_at lines n ≡ Ok block = statement-is old lines n holds ∙ begun.says in
     let range = holds.in_range in
-    let after = in_range-grown old old.texts bits [] begun.grown.0 (same old.texts.arena) begun.grown.1 range in
+    let after = in_range-grown old old.texts bits [] begun.grown.0 (sym (append-nil old.texts.arena)) begun.grown.1 range in
     let lines_same = begun.buffers_begin.lines in
     let last : drop buffers.start buffers.lines.items ≡ [] = ap (λ k. drop k buffers.lines.items) begun.buffers_begin.start ∙ drop-length buffers.lines.items in
     let few : length old.texts.arena ≤ n = holds.few in
@@ -162,27 +160,27 @@ begun-step old lines n bits chip below nets buffers begun =
       nets = λ net.
           begun.nets_are net ∙ ap (λ b. b || is_net net (net_in (Ok block))) (holds.nets net)
           ∙ sym (any_below-more n _ ∙ (λ i. is_net_before lines n net || (begun.dot i && is_net net (net_in (at i)))));
-      names = list-step _ _ [] n (λ k. (said_at lines k).names) (ap (name_lines old.texts.arena) begun.names ∙ same _) holds.names (ap (λ s. s.names) said);
-      buffers = list-step _ _ [] n (buffers_at lines) (ap (link_lines bits.items) lines_same ∙ links-kept old.bits.items bits.items begun.grown.0 old.buffers.lines.items begun.grown.1 range.buffers ∙ same _) holds.buffers (buffers_at-nothing lines n none);
-      routings = list-step _ _ [] n (routings_at lines) (links-kept old.bits.items bits.items begun.grown.0 old.routings.items begun.grown.1 range.routings ∙ same _) holds.routings (routings_at-nothing lines n none);
-      functions = list-step _ _ [] n (λ k. (said_at lines k).functions) (functions-kept old old.texts bits.items [] begun.grown.0 (same old.texts.arena) begun.grown.1 range ∙ same _) holds.functions (ap (λ s. s.functions) said);
-      extras = list-step _ _ [] n (λ k. (said_at lines k).extras) (same _) holds.extras (ap (λ s. s.extras) said);
-      global_inputs = list-step _ _ [] n (λ k. (said_at lines k).global_inputs) (same _) holds.global_inputs (ap (λ s. s.global_inputs) said);
-      global_pins = list-step _ _ [] n (λ k. (said_at lines k).global_pins) (same _) holds.global_pins (ap (λ s. s.global_pins) said);
+      names = list-step _ _ [] n (λ k. (said_at lines k).names) (ap (name_lines old.texts.arena) begun.names ∙ sym (append-nil _)) holds.names (ap (λ s. s.names) said);
+      buffers = list-step _ _ [] n (buffers_at lines) (ap (link_lines bits.items) lines_same ∙ links-kept old.bits.items bits.items begun.grown.0 old.buffers.lines.items begun.grown.1 range.buffers ∙ sym (append-nil _)) holds.buffers (buffers_at-nothing lines n none);
+      routings = list-step _ _ [] n (routings_at lines) (links-kept old.bits.items bits.items begun.grown.0 old.routings.items begun.grown.1 range.routings ∙ sym (append-nil _)) holds.routings (routings_at-nothing lines n none);
+      functions = list-step _ _ [] n (λ k. (said_at lines k).functions) (functions-kept old old.texts bits.items [] begun.grown.0 (sym (append-nil old.texts.arena)) begun.grown.1 range ∙ sym (append-nil _)) holds.functions (ap (λ s. s.functions) said);
+      extras = list-step _ _ [] n (λ k. (said_at lines k).extras) (sym (append-nil _)) holds.extras (ap (λ s. s.extras) said);
+      global_inputs = list-step _ _ [] n (λ k. (said_at lines k).global_inputs) (sym (append-nil _)) holds.global_inputs (ap (λ s. s.global_inputs) said);
+      global_pins = list-step _ _ [] n (λ k. (said_at lines k).global_pins) (sym (append-nil _)) holds.global_pins (ap (λ s. s.global_pins) said);
       few = omega arith;
     }
 
 -- a statement by which neither the device nor the nets change
 plain-begun : (old : Reader) (lines : List (List ℕ)) (n : ℕ) (bits : Vec RowCol Global) (below : Below) (buffers : KeptBuffers)
-    → is_statement (line_at lines n) ≡ true → Holds old lines n → statement_of old.chip (words_in (line_at lines n)) ≡ Ok (block_named bits.items below) → Extends old.bits.items bits.items
+    → is_statement (line_at lines n) ≡ true → Holds old lines n → statement_of old.chip (words_in (line_at lines n)) ≡ Ok (block_named bits.items below) → AddsBelow old.bits.items bits.items below
     → BeginsBuffers old.buffers buffers → device_of (block_named bits.items below) ≡ None → net_in (Ok (block_named bits.items below)) ≡ None → IsBelowReady (length bits.items) old.nets.last below
     → Holds (record old { below = below; bits = bits; buffers = buffers }) lines (n + 1)
-plain-begun old lines n bits below buffers dot holds says grown begin no_device no_net ready =
+plain-begun old lines n bits below buffers dot holds says added begin no_device no_net ready =
     begun-step old lines n bits old.chip below old.nets buffers (record {
       dot = dot;
       holds = holds;
       says = says;
-      grown = grown;
+      grown = below-grown old.bits.items bits.items below added;
       buffers_begin = begin;
       chip_is = sym (ap (or_else old.chip) no_device ∙ or_else-none old.chip);
       nets_are = λ net. sym (ap (λ o. has_net old.nets net || is_net net o) no_net ∙ or-false (has_net old.nets net));
@@ -192,14 +190,14 @@ plain-begun old lines n bits below buffers dot holds says grown begin no_device 
     })
 
 begun-by : (old new : Reader) (lines : List (List ℕ)) (n : ℕ) (bits : Vec RowCol Global) (below : Below)
-    → is_statement (line_at lines n) ≡ true → Holds old lines n → statement_of old.chip (words_in (line_at lines n)) ≡ Ok (block_named bits.items below) → Extends old.bits.items bits.items → IsBelowIn (length bits.items) below
+    → is_statement (line_at lines n) ≡ true → Holds old lines n → statement_of old.chip (words_in (line_at lines n)) ≡ Ok (block_named bits.items below) → AddsBelow old.bits.items bits.items below
     → BeginsBuffers old.buffers new.buffers → ChangesAt (record old { bits = bits }) below new → Holds new lines (n + 1)
-begun-by old new lines n bits (Device chip) dot holds says grown within begin changes =
+begun-by old new lines n bits (Device chip) dot holds says added begin changes =
     subst (λ r. Holds r lines (n + 1)) (sym changes) (begun-step old lines n bits (or_else old.chip (Some chip)) (Device chip) old.nets new.buffers (record {
       dot = dot;
       holds = holds;
       says = says;
-      grown = grown;
+      grown = below-grown old.bits.items bits.items (Device chip) added;
       buffers_begin = begin;
       chip_is = refl;
       nets_are = λ net. sym (or-false (has_net old.nets net));
@@ -207,12 +205,12 @@ begun-by old new lines n bits (Device chip) dot holds says grown within begin ch
       indexed = holds.ready.nets;
       ready = tt;
     }))
-begun-by old new lines n bits (Names net) dot holds says grown within begin changes =
+begun-by old new lines n bits (Names net) dot holds says added begin changes =
     subst (λ r. Holds r lines (n + 1)) (sym changes.1) (begun-step old lines n bits old.chip (Names net) new.nets new.buffers (record {
       dot = dot;
       holds = holds;
       says = says;
-      grown = grown;
+      grown = below-grown old.bits.items bits.items (Names net) added;
       buffers_begin = begin;
       chip_is = sym (or_else-none old.chip);
       nets_are = changes.0.nets;
@@ -220,14 +218,14 @@ begun-by old new lines n bits (Names net) dot holds says grown within begin chan
       indexed = changes.0.indexed;
       ready = changes.0.last;
     }))
-begun-by old new lines n bits Passed dot holds says grown within begin changes = subst (λ r. Holds r lines (n + 1)) (sym changes) (plain-begun old lines n bits Passed new.buffers dot holds says grown begin refl refl tt)
-begun-by old new lines n bits GlobalInputs dot holds says grown within begin changes = subst (λ r. Holds r lines (n + 1)) (sym changes) (plain-begun old lines n bits GlobalInputs new.buffers dot holds says grown begin refl refl tt)
-begun-by old new lines n bits GlobalPins dot holds says grown within begin changes = subst (λ r. Holds r lines (n + 1)) (sym changes) (plain-begun old lines n bits GlobalPins new.buffers dot holds says grown begin refl refl tt)
-begun-by old new lines n bits (Functions kind) dot holds says grown within begin changes = subst (λ r. Holds r lines (n + 1)) (sym changes) (plain-begun old lines n bits (Functions kind) new.buffers dot holds says grown begin refl refl tt)
-begun-by old new lines n bits ExtraBits dot holds says grown within begin changes = subst (λ r. Holds r lines (n + 1)) (sym changes) (plain-begun old lines n bits ExtraBits new.buffers dot holds says grown begin refl refl tt)
-begun-by old new lines n bits (Buffers head) dot holds says grown within begin changes = subst (λ r. Holds r lines (n + 1)) (sym changes) (plain-begun old lines n bits (Buffers head) new.buffers dot holds says grown begin refl refl within)
-begun-by old new lines n bits (Routings head) dot holds says grown within begin changes = subst (λ r. Holds r lines (n + 1)) (sym changes) (plain-begun old lines n bits (Routings head) new.buffers dot holds says grown begin refl refl within)
+begun-by old new lines n bits Passed dot holds says added begin changes = subst (λ r. Holds r lines (n + 1)) (sym changes) (plain-begun old lines n bits Passed new.buffers dot holds says added begin refl refl tt)
+begun-by old new lines n bits GlobalInputs dot holds says added begin changes = subst (λ r. Holds r lines (n + 1)) (sym changes) (plain-begun old lines n bits GlobalInputs new.buffers dot holds says added begin refl refl tt)
+begun-by old new lines n bits GlobalPins dot holds says added begin changes = subst (λ r. Holds r lines (n + 1)) (sym changes) (plain-begun old lines n bits GlobalPins new.buffers dot holds says added begin refl refl tt)
+begun-by old new lines n bits (Functions kind) dot holds says added begin changes = subst (λ r. Holds r lines (n + 1)) (sym changes) (plain-begun old lines n bits (Functions kind) new.buffers dot holds says added begin refl refl tt)
+begun-by old new lines n bits ExtraBits dot holds says added begin changes = subst (λ r. Holds r lines (n + 1)) (sym changes) (plain-begun old lines n bits ExtraBits new.buffers dot holds says added begin refl refl tt)
+begun-by old new lines n bits (Buffers head) dot holds says added begin changes = subst (λ r. Holds r lines (n + 1)) (sym changes) (plain-begun old lines n bits (Buffers head) new.buffers dot holds says added begin refl refl (list-added old.bits.items bits.items head.bits added))
+begun-by old new lines n bits (Routings head) dot holds says added begin changes = subst (λ r. Holds r lines (n + 1)) (sym changes) (plain-begun old lines n bits (Routings head) new.buffers dot holds says added begin refl refl (list-added old.bits.items bits.items head.bits added))
 
 -- what holds after a statement
 pub statement-step : (old new : Reader) (lines : List (List ℕ)) (n : ℕ) → is_statement (line_at lines n) ≡ true → Holds old lines n → TakesStatement old (line_at lines n) new → Holds new lines (n + 1)
-statement-step old new lines n dot holds taken = begun-by old new lines n taken.bits taken.below dot holds taken.says taken.grown taken.within taken.begun.buffers taken.begun.changes
+statement-step old new lines n dot holds taken = begun-by old new lines n taken.bits taken.below dot holds taken.says taken.added taken.begun.buffers taken.begun.changes

@@ -5,9 +5,10 @@ use Rattle.std.specs.Map.{lookup}
 use Rattle.std.proofs.lemmas.Bool.{cases_lt}
 use Rattle.std.proofs.lemmas.List.{get_or_append_left, get_or-append_right}
 use Rattle.std.proofs.lemmas.List.Quantifiers.{position-Some}
+use Rattle.shared_lemmas.proofs.Bytes.{same_bytes}
 use Rattle.place_search.specs.Places.{or_else}
 use Rattle.chipdb_reader.specs.Texts.{text_at}
-use Rattle.chipdb_reader.proofs.Searches.{lookup-push, position-push, bytes_eq-same, bytes_eq-true}
+use Rattle.chipdb_reader.proofs.Searches.{lookup-push, position-push, bytes_eq-same}
 
 -- the index finds one name more
 pub found-push : {K : Type 0} (bytes : K → List ℕ) (entries : List (K × ℕ)) (texts : List (List ℕ)) (key : K) (id : ℕ)
@@ -43,4 +44,4 @@ apart-push texts text apart none i lt =
 pub text-found : (texts : List (List ℕ)) (text : List ℕ) (id : ℕ) → position (bytes_eq text) texts ≡ Some id → (id < length texts) × (text_at texts id ≡ text)
 text-found texts text id here =
     let facts = position-Some (bytes_eq text) texts id [] here in
-    (facts.0, sym (bytes_eq-true text (text_at texts id) facts.1))
+    (facts.0, sym (same_bytes text (text_at texts id) facts.1))

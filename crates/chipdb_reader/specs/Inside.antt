@@ -3,7 +3,7 @@ use Rattle.chipdb_reader.specs.declared.chip_db.ChipDb.TheInside.{Inside}
 use Rattle.chipdb_reader.specs.Fit.{IsFit}
 use Rattle.chipdb_reader.specs.Kept.{Kept, database_in}
 use Rattle.chipdb_reader.specs.Nets.{net_names}
-use Rattle.chipdb_reader.specs.Sound.{IsSound}
+use Rattle.chipdb_reader.specs.Sound.{AreIndexed, IsSound}
 
 -- the lists that are kept
 abbrev pub kept_of : Inside → Kept
@@ -20,7 +20,8 @@ kept_of db = record {
   global_pins = db.global_pins.items;
 }
 
--- the indexes are those of the lists, and the lists name what the device has
+-- what is kept is in order, and the lists name what the device has
 pub record IsDatabase (db : Inside) : Type 0 where
-  pub sound : IsSound db.texts db.nets db.functions.items db.extras.items
+  pub indexed : AreIndexed db.texts db.nets
+  pub sound : IsSound (kept_of db)
   pub fit : IsFit (database_in (kept_of db))

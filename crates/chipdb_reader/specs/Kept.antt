@@ -5,7 +5,8 @@ use Rattle.chipdb_lines.specs.declared.chip.Chip.{Chip}
 use Rattle.chipdb_lines.specs.declared.globals.GlobalInput.{GlobalInput}
 use Rattle.chipdb_lines.specs.declared.globals.GlobalPin.{GlobalPin}
 use Rattle.chipdb_lines.specs.Items.{NameLine, FunctionLine, ExtraLine}
-use Rattle.chipdb_lines.specs.Kept.{bits_named, low_bits}
+use Rattle.bit_plane.specs.BitList.{word_bits}
+use Rattle.chipdb_lines.specs.Kept.{bits_named}
 use Rattle.chipdb_reader.specs.declared.items.NetName.{NetName}
 use Rattle.chipdb_reader.specs.declared.items.LinkLine.{LinkLine}
 use Rattle.chipdb_reader.specs.declared.items.Function.{Function}
@@ -41,7 +42,7 @@ link_line bits line = record {
   dst = line.dst;
   src = line.src;
   bits = bits_named bits line.bits;
-  values = low_bits (length (bits_named bits line.bits)) line.values;
+  values = word_bits (length (bits_named bits line.bits)) line.values;
 }
 
 abbrev pub link_lines : List RowCol → List LinkLine → List Link

@@ -20,7 +20,7 @@ use Rattle.chipdb_lines.specs.declared.statements.Below.{Below}
 use Rattle.chipdb_lines.specs.declared.statements.Below.TheVariants.{Passed, Device, GlobalInputs, GlobalPins, Functions, ExtraBits, Names, Buffers, Routings}
 use Rattle.chipdb_lines.specs.Items.{name_of, function_of, extra_of, global_input_of, global_pin_of, choice_of}
 use Rattle.text_lines.specs.Lines.{lines_of}
-use Rattle.chipdb_lines.specs.Kept.{bits_named, block_named, Chooses, Extends, IsBelowIn, IsListOf}
+use Rattle.chipdb_lines.specs.Kept.{bits_named, block_named, AddsBelow, AddsList, Chooses, IsListOf}
 use Rattle.chipdb_lines.specs.Statements.{statement_of}
 use Rattle.chipdb_lines.specs.Words.{is_statement, own_words, words_in}
 use Rattle.chipdb_reader.specs.declared.items.LinkLine.{LinkLine}
@@ -87,8 +87,7 @@ pub record PushesFunction (kind : TileKind) (words : List (List ℕ)) (old new :
   pub function : Function
   pub name : List ℕ
   pub same : function.kind ≡ kind
-  pub grown : Extends old.bits.items new.bits.items
-  pub within : IsListOf (length new.bits.items) function.bits
+  pub listed : AddsList old.bits.items new.bits.items function.bits
   pub says : function_of kind words ≡ Ok (record { kind = kind; name = name; bits = bits_named new.bits.items function.bits })
   pub interned : Interns old.texts new.texts name function.name
   pub added : new.functions.items ≡ old.functions.items ++ function ∷ []
@@ -191,8 +190,7 @@ pub record TakesStatement (old : Reader) (line : List ℕ) (new : Reader) : Type
   pub bits : Vec RowCol Global
   pub below : Below
   pub says : statement_of old.chip (words_in line) ≡ Ok (block_named bits.items below)
-  pub grown : Extends old.bits.items bits.items
-  pub within : IsBelowIn (length bits.items) below
+  pub added : AddsBelow old.bits.items bits.items below
   pub fits : begin_cause old.nets below ≡ None
   pub begun : BeginsBlock (record old { bits = bits }) below new
 

@@ -1,17 +1,29 @@
--- What is kept is in order.
-use Rattle.std.specs.Prelude.{◌≡◌, ◌<◌, List, length, All, None}
-use Rattle.chipdb_reader.specs.declared.items.Function.{Function}
-use Rattle.chipdb_reader.specs.declared.items.Extra.{Extra}
+-- What is kept is in order: names and lists of bits are some of what is kept, and indexes are those of the lists.
+use Rattle.std.specs.Prelude.{◌≡◌, ℕ, ◌<◌, ◌^◌, length, All, None}
+use Rattle.chipdb_lines.specs.Kept.{IsListOf}
+use Rattle.chipdb_reader.specs.declared.items.LinkLine.{LinkLine}
 use Rattle.chipdb_reader.specs.declared.texts.Texts.{Texts}
 use Rattle.chipdb_reader.specs.declared.nets.Nets.{Nets}
-use Rattle.chipdb_reader.specs.Nets.{IsNetIndex, net_names}
+use Rattle.chipdb_reader.specs.Kept.{Kept}
+use Rattle.chipdb_reader.specs.Nets.{IsNetIndex}
 use Rattle.chipdb_reader.specs.Texts.{IsIndexed}
 
--- the indexes are those of the lists, all nets are earlier ones, and the ids are those of the names
-pub record IsSound (texts : Texts) (nets : Nets) (functions : List Function) (extras : List Extra) : Type 0 where
+-- a link by a list of a table of so many bits, with one value for each bit of the list
+pub record IsLinkIn (count : ℕ) (line : LinkLine) : Type 0 where
+  pub bits_in : IsListOf count line.bits
+  pub values_few : line.values < 2 ^ line.bits.count
+
+-- each name is one of the names that are kept, and each list of bits a list of the bits that are kept
+pub record IsSound (kept : Kept) : Type 0 where
+  pub names : All (λ p. p.0.name < length kept.texts) kept.names
+  pub functions : All (λ f. f.name < length kept.texts) kept.functions
+  pub function_bits : All (λ f. IsListOf (length kept.bits) f.bits) kept.functions
+  pub extras : All (λ e. e.name < length kept.texts) kept.extras
+  pub buffers : All (IsLinkIn (length kept.bits)) kept.buffers
+  pub routings : All (IsLinkIn (length kept.bits)) kept.routings
+
+-- the indexes are those of the lists, and all nets are earlier ones
+pub record AreIndexed (texts : Texts) (nets : Nets) : Type 0 where
   pub texts_indexed : IsIndexed texts
   pub nets_indexed : IsNetIndex nets
   pub closed : nets.last ≡ None
-  pub name_ids : All (λ p. p.0.name < length texts.arena) (net_names nets)
-  pub function_ids : All (λ f. f.name < length texts.arena) functions
-  pub extra_ids : All (λ e. e.name < length texts.arena) extras

@@ -11,7 +11,7 @@ use chipdb_lines::{DbCause, Refusal};
 use std::alloc::{AllocError, Global};
 use std::collections::BTreeMap;
 
-/// How many lines of a statement are looked through; where it has more, they are looked up in an index.
+/// How many lines of a statement are looked through; where it has more, they are looked up in an index, for speed alone.
 const FEW: usize = 16;
 
 /// Lines of `.buffer` statements, and the choices of the statement that came last.

@@ -1,5 +1,5 @@
 // A database as it is kept.
-ghost use Rattle.std.specs.Prelude.{◌≡◌, ◌<◌, length, All, Some, IfOk, IfErr};
+ghost use Rattle.std.specs.Prelude.{◌≡◌, IfOk, IfErr};
 
 use crate::fault::DbFault;
 use crate::items::{Extra, Function, LinkLine};
@@ -41,15 +41,13 @@ impl Model for ChipDb {
 impl ChipDb {
     ghost use Rattle.chipdb_reader.specs.Fit.{IsFit};
     ghost use Rattle.chipdb_reader.specs.Kept.{Kept, database_in};
-    ghost use Rattle.chipdb_reader.specs.Nets.{net_names};
     ghost use Rattle.chipdb_reader.specs.Reading.{FitsReader, IsReady, IsOutOfMemory};
+    ghost use Rattle.chipdb_reader.specs.Sound.{IsSound};
 
     /// What the lines of a text have given.
     pub(crate) fn of(chip: Chip, reader: Reader) -> Result<ChipDb, DbFault>
         requires ready { IsReady reader }
-        requires names { All (λ p. p.0.name < length reader.texts.arena) (net_names reader.nets) }
-        requires functions { All (λ f. f.name < length reader.texts.arena) reader.functions.items }
-        requires extras { All (λ e. e.name < length reader.texts.arena) reader.extras.items }
+        requires sound { (kept : Kept) → FitsReader chip reader kept → IsSound kept }
         requires fit { (kept : Kept) → FitsReader chip reader kept → IsFit (database_in kept) }
         ensures kept { IfOk result (FitsReader chip reader) }
         ensures refused { IfErr result IsOutOfMemory }

@@ -19,4 +19,6 @@ pub use chip_db::ChipDb;
 pub use chipdb_lines::{BitList, DbCause};
 pub use fault::DbFault;
 pub use items::{Extra, Function, LinkLine, NetName, PinXy, TileXy8};
+pub use name_arena::NameId;
+pub use plane_map::{DeviceName, Place, RowCol, TileKind};
 pub use reader::read;

@@ -1,12 +1,13 @@
 // Look-ups in a database. They take no memory.
-ghost use Rattle.std.specs.Prelude.{◌≡◌, ◌&&◌, ◌==◌, position, find};
+ghost use Rattle.std.specs.Prelude.{◌≡◌, ◌&&◌, ◌==◌, length, position, find};
 ghost use Rattle.std.specs.Option.{option_map};
-ghost use Rattle.chipdb_lines.specs.Kept.{bits_named};
+ghost use Rattle.chipdb_lines.specs.Kept.{bits_named, IsListOf};
 ghost use Rattle.chipdb_lines.specs.Statements.{is_same_kind};
 ghost use Rattle.chipdb_reader.specs.Fit.{IsFit};
 ghost use Rattle.chipdb_reader.specs.Kept.{database_in, name_lines};
 ghost use Rattle.chipdb_reader.specs.Lookups.{extra_place, function_place, input_of, names_of_net, net_at, pad_of};
 ghost use Rattle.chipdb_reader.specs.Nets.{names_with};
+ghost use Rattle.chipdb_reader.specs.Sound.{IsSound};
 ghost use Rattle.chipdb_reader.specs.Texts.{text_at};
 
 use crate::chip_db::ChipDb;
@@ -19,6 +20,7 @@ impl ChipDb {
     /// The device.
     pub fn device(&self) -> DeviceName
         ensures device { result ≡ self.now.chip.device }
+        ensures sound { IsSound self.now }
         ensures fit { IsFit (database_in self.now) }
     {
         self.chip.device
@@ -58,6 +60,7 @@ impl ChipDb {
     /// The links of `.buffer` statements, in the order of the text.
     pub fn buffers(&self) -> &[LinkLine]
         ensures buffers { result.now ≡ self.now.buffers }
+        ensures sound { IsSound self.now }
         ensures fit { IsFit (database_in self.now) }
     {
         &self.buffers
@@ -66,14 +69,16 @@ impl ChipDb {
     /// The links of `.routing` statements, in the order of the text.
     pub fn routings(&self) -> &[LinkLine]
         ensures routings { result.now ≡ self.now.routings }
+        ensures sound { IsSound self.now }
         ensures fit { IsFit (database_in self.now) }
     {
         &self.routings
     }
 
-    /// The bits of a list of this database.
+    /// The bits of a list of this database, as many as the list's length.
     pub fn bits(&self, list: BitList) -> &[RowCol]
-        ensures { result.now ≡ bits_named self.now.bits list }
+        ensures bits { result.now ≡ bits_named self.now.bits list }
+        ensures all { IsListOf (length self.now.bits) list → length result.now ≡ list.count }
     {
         bits_of(&self.bits, list)
     }
@@ -81,6 +86,7 @@ impl ChipDb {
     /// The functions of tiles, in the order of the text.
     pub fn functions(&self) -> &[Function]
         ensures functions { result.now ≡ self.now.functions }
+        ensures sound { IsSound self.now }
         ensures fit { IsFit (database_in self.now) }
     {
         &self.functions
@@ -99,6 +105,7 @@ impl ChipDb {
     /// The extra bits, in the order of the text.
     pub fn extras(&self) -> &[Extra]
         ensures extras { result.now ≡ self.now.extras }
+        ensures sound { IsSound self.now }
         ensures fit { IsFit (database_in self.now) }
     {
         &self.extras

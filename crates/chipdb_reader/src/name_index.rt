@@ -1,5 +1,5 @@
 // The index from a name at a place to its net.
-ghost use Rattle.std.specs.Prelude.{◌≡◌, ◌≢◌, ◌<◌, ℕ, None, Some, cond, get_or, vec_len, IfSome, OnOk};
+ghost use Rattle.std.specs.Prelude.{◌≡◌, ◌≢◌, ◌+◌, ◌<◌, ℕ, None, Some, cond, get_or, max, vec_len, IfSome, OnErr, OnOk};
 ghost use Rattle.std.specs.BTreeMap.{get, is_at};
 ghost use Rattle.chipdb_reader.specs.NameIndex.{cell_of, held_at, name_cmp, net_held, net_in};
 
@@ -19,7 +19,8 @@ const CELLS: usize = NAMES * SIDE * SIDE;
 /// What stands in a cell whose name no net has.
 const NO_NET: u32 = u32::MAX;
 
-/// The net of each name at a place: of the first names in a table, of all others in a map.
+/// The net of each name at a place: of the first names in a table, of all others in a map. The table is there for speed
+/// alone.
 #[derive(Drop)]
 pub(crate) struct NameIndex {
     /// The nets that have the first name, tile by tile, then those that have the second one, and so on.
@@ -94,27 +95,30 @@ fn net_held(net: u32) -> Option<u32>
     if net == NO_NET { None } else { Some(net) }
 }
 
-/// Puts a net into a cell.
+/// Puts a net into a cell. The table becomes no longer than it has to be; after a refusal it is as it was.
 fn put_cell(table: &mut Vec<u32>, cell: usize, net: u32) -> Result<(), AllocError>
     requires { cell < CELLS }
     ensures here { OnOk result (get_or table.new.items cell NO_NET ≡ net) }
     ensures others { OnOk result ((c : ℕ) → c ≢ cell → get_or table.new.items c NO_NET ≡ get_or table.old.items c NO_NET) }
+    ensures length { OnOk result (vec_len table.new ≡ max (vec_len table.old) (cell + 1)) }
+    ensures unchanged { OnErr result (table.new.items ≡ table.old.items) }
 {
     grow(table, cell)?;
     table[cell] = net;
     Ok(())
 }
 
-/// Makes the table long enough to have a cell.
+/// Makes the table long enough to have a cell, and no longer.
 fn grow(table: &mut Vec<u32>, cell: usize) -> Result<(), AllocError>
     requires { cell < CELLS }
-    ensures within { OnOk result (cell < vec_len table.new) }
+    ensures length { OnOk result (vec_len table.new ≡ max (vec_len table.old) (cell + 1)) }
     ensures same { OnOk result ((c : ℕ) → get_or table.new.items c NO_NET ≡ get_or table.old.items c NO_NET) }
+    ensures unchanged { OnErr result (table.new.items ≡ table.old.items) }
 {
     if cell < table.len() {
         Ok(())
     } else {
-        table.resize(cell + SIDE * SIDE, NO_NET)
+        table.resize(cell + 1, NO_NET)
     }
 }
 

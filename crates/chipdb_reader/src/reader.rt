@@ -83,19 +83,17 @@ fn fault_at(line: u64, refusal: Refusal) -> DbFault
     }
 }
 
-ghost use Rattle.std.specs.Prelude.{All, Some};
+ghost use Rattle.std.specs.Prelude.{Some};
 ghost use Rattle.chipdb_lines.specs.declared.chip.Chip.{Chip};
 ghost use Rattle.chipdb_reader.specs.Fit.{IsFit};
 ghost use Rattle.chipdb_reader.specs.Kept.{Kept};
-ghost use Rattle.chipdb_reader.specs.Nets.{net_names};
 ghost use Rattle.chipdb_reader.specs.Reading.{FitsReader};
+ghost use Rattle.chipdb_reader.specs.Sound.{IsSound};
 
 /// What the lines have given, all of them being read; the line behind the last has that number.
 fn finish(reader: Reader, number: u64) -> Result<ChipDb, DbFault>
     requires ready { IsReady reader }
-    requires names { All (λ p. p.0.name < length reader.texts.arena) (net_names reader.nets) }
-    requires functions { All (λ f. f.name < length reader.texts.arena) reader.functions.items }
-    requires extras { All (λ e. e.name < length reader.texts.arena) reader.extras.items }
+    requires sound { (chip : Chip) (kept : Kept) → reader.chip ≡ Some chip → FitsReader chip reader kept → IsSound kept }
     requires fit { (chip : Chip) (kept : Kept) → reader.chip ≡ Some chip → FitsReader chip reader kept → IsFit (database_in kept) }
     ensures ended { EndsReading reader reader.chip number result }
 {

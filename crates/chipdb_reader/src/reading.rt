@@ -1,5 +1,5 @@
 // What is kept between the lines of a database, and how a line is taken.
-ghost use Rattle.std.specs.Prelude.{◌≡◌, ◌-◌, ◌^◌, ◌<◌, ◌≤◌, ℕ, List, length, IfOk, IfErr, OnOk, MatchOption, MatchResult, None, false};
+ghost use Rattle.std.specs.Prelude.{◌≡◌, ◌-◌, ◌^◌, ◌<◌, ◌≤◌, ℕ, List, length, IfOk, IfErr, OnErr, OnOk, MatchOption, MatchResult, None, false};
 ghost use Rattle.std.specs.Result.{result_err};
 ghost use Rattle.chipdb_lines.specs.Words.{has_none, own_words, words_in};
 ghost use Rattle.chipdb_lines.specs.Items.{choice_of, global_input_of, global_pin_of};
@@ -75,7 +75,8 @@ impl Reader {
         }
     }
 
-    /// Takes the first line of a text where it is one of links in their usual form, and tells what stands behind it.
+    /// Takes the first line of a text where it is one of links in their usual form, and tells what stands behind it. It is
+    /// there for speed alone: `accept` takes such lines too.
     pub(crate) fn accept_choice<'a>(&mut self, text: &'a [u8]) -> Result<Option<&'a [u8]>, Refusal>
         requires { IsReady self.old }
         ensures taken { IfOk result (λ rest. MatchOption rest (self.new ≡ self.old) (λ rest. TakesFirst self.old text.now rest.now self.new)) }
@@ -305,9 +306,10 @@ fn push_routing(
     words: &[u8],
 ) -> Result<(), Refusal>
     requires { head.bits.count ≤ 64 }
-    ensures { MatchResult result
+    ensures taken { MatchResult result
         (λ _. PushesRouting nets head (words_in words.now) routings.old.items routings.new.items)
         (Reports (result_err (choice_of nets head.bits.count (words_in words.now)))) }
+    ensures unchanged { OnErr result (routings.new.items ≡ routings.old.items) }
 {
     match choice_item(nets, head.bits.len(), words) {
         Err(cause) => Err(Refusal::Cause(cause)),
@@ -324,9 +326,10 @@ fn push_global_input(
     device: DeviceName,
     words: &[u8],
 ) -> Result<(), Refusal>
-    ensures { MatchResult result
+    ensures taken { MatchResult result
         (λ _. Pushes (global_input_of device (words_in words.now)) inputs.old.items inputs.new.items)
         (Reports (result_err (global_input_of device (words_in words.now)))) }
+    ensures unchanged { OnErr result (inputs.new.items ≡ inputs.old.items) }
 {
     match global_input(device, words) {
         Err(cause) => Err(Refusal::Cause(cause)),
@@ -343,9 +346,10 @@ fn push_global_pin(
     device: DeviceName,
     words: &[u8],
 ) -> Result<(), Refusal>
-    ensures { MatchResult result
+    ensures taken { MatchResult result
         (λ _. Pushes (global_pin_of device (words_in words.now)) pins.old.items pins.new.items)
         (Reports (result_err (global_pin_of device (words_in words.now)))) }
+    ensures unchanged { OnErr result (pins.new.items ≡ pins.old.items) }
 {
     match global_pin(device, words) {
         Err(cause) => Err(Refusal::Cause(cause)),

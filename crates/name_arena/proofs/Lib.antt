@@ -1,1 +1,2 @@
+-- names after more bytes were added
 pub mod Pushed

@@ -1,6 +1,9 @@
 use Rattle.std.proofs.Common.{◌-◌, ◌<◌, ◌∙◌, get_or, sym, arith}
-use Rattle.chipdb_lines.proofs.Values.{value-byte, Writes-more, Writes-room}
+use Rattle.chipdb_lines.proofs.Values.{value-byte, Writes-more, Writes-nothing, Writes-room}
 use Rattle.chipdb_lines.proofs.links.values_in.Goals as goal
+
+pub loop-left-init : goal.loop-left-init
+loop-left-init c = record { within = omega arith; written = Writes-nothing c.args.word.now }
 
 pub overflow_mul-values : goal.overflow_mul-values
 overflow_mul-values c =

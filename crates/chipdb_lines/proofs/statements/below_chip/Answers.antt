@@ -24,3 +24,12 @@ returns-in-ExtraBits-clause-says c = rw c.in-ExtraBits.is (c.alone-in-ExtraBits.
 pub returns-in-Net-clause-says : goal.returns-in-Net-clause-says
 unfolding block_of
 returns-in-Net-clause-says c = rw c.in-Net.is (c.net.ensures.says c.args.bits.now.items)
+
+pub returns-in-Tile-clause-added : goal.returns-in-Tile-clause-added
+returns-in-Tile-clause-added c = c.tile.ensures.added c.args.bits.now.items
+
+pub returns-in-TileBits-clause-added : goal.returns-in-TileBits-clause-added
+returns-in-TileBits-clause-added c = c.functions.ensures.added c.args.bits.now.items
+
+pub returns-in-Net-clause-added : goal.returns-in-Net-clause-added
+returns-in-Net-clause-added c = c.net.ensures.added c.args.bits.now.items

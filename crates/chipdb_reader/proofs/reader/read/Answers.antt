@@ -2,7 +2,7 @@ use Rattle.std.proofs.Common.{◌≡◌, [], length, sym, ◌∙◌}
 use Rattle.std.proofs.lemmas.Bool.{eqb-true}
 use Rattle.std.proofs.lemmas.Result.{err_from_is_err_and}
 use Rattle.text_lines.proofs.Spaced.{empty}
-use Rattle.chipdb_reader.proofs.Ends.{SoFar-nothing, SoFar-first, told-first, answered, fit-at_end, refused}
+use Rattle.chipdb_reader.proofs.Ends.{SoFar-nothing, SoFar-first, told-first, answered, fit-at_end, refused, sound-kept}
 use Rattle.chipdb_reader.proofs.reader.read.Goals as goal
 
 pub loop-left-init : goal.loop-left-init
@@ -22,6 +22,9 @@ pub finish-requires-clause-fit : goal.finish-requires-clause-fit
 finish-requires-clause-fit c =
     let none : c.loop-left.left.now ≡ [] = empty c.loop-left.left.now (eqb-true (length c.loop-left.left.now) 0 (sym c.is_empty.ensures ∙ c.loop-left-test.false)) in
     fit-at_end c.args.bytes.now c.loop-left.left.now c.loop-left.count c.loop-left.reader c.loop-left.invariant none
+
+pub finish-requires-clause-sound : goal.finish-requires-clause-sound
+finish-requires-clause-sound c = λ chip kept given fits. sound-kept chip c.loop-left.reader kept c.loop-left.invariant.holds.in_range fits
 
 pub returns-clause-means : goal.returns-clause-means
 returns-clause-means c =

@@ -7,4 +7,4 @@ use Rattle.chipdb_reader.proofs.chip_db.ChipDb.names_of.Goals as goal
 pub returns : goal.returns
 returns c =
     rw (← c.self.view_is) (ap (λ names. name_lines c.self.inside.texts.arena (names_with c.args.net names)) c.names_of.ensures
-    ∙ net-names-found c.self.inside.texts.arena c.self.inside.nets c.args.net c.self.invariant.sound.nets_indexed c.self.invariant.sound.closed)
+    ∙ net-names-found c.self.inside.texts.arena c.self.inside.nets c.args.net c.self.invariant.indexed.nets_indexed c.self.invariant.indexed.closed)

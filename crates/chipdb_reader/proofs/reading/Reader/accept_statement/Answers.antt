@@ -7,8 +7,7 @@ returns-clause-taken c =
       bits = c.statement.new.bits;
       below = c.in_ok-below.below;
       says = c.in_ok-below.ensures.says;
-      grown = c.in_ok-below.ensures.grown;
-      within = c.in_ok-below.ensures.within;
+      added = c.in_ok-below.ensures.added;
       fits = fits;
       begun = begun;
     })

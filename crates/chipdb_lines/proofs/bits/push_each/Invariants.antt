@@ -1,7 +1,7 @@
 use Rattle.std.proofs.Common.{◌≡◌, length}
 use Rattle.chipdb_lines.specs.Words.{words_in}
 use Rattle.chipdb_lines.proofs.TableBits.{Added}
-use Rattle.chipdb_lines.proofs.bits.push_bits.Given as goal
+use Rattle.chipdb_lines.proofs.bits.push_each.Given as goal
 
 abbrev pub invariant-loop-word : goal.invariant-loop-word
 invariant-loop-word l = record {

@@ -4,8 +4,8 @@ use Rattle.std.specs.Prelude.{Some}
 use Rattle.std.proofs.lemmas.Result.{err_from_is_err_and}
 use Rattle.std.specs.Result.{result_err}
 use Rattle.chipdb_lines.specs.Words.{words_in}
-use Rattle.chipdb_lines.proofs.TableBits.{Added-push, Added-outside, Added-list, Added-many, told-unnamed}
-use Rattle.chipdb_lines.proofs.bits.push_bits.Goals as goal
+use Rattle.chipdb_lines.proofs.TableBits.{Added-exact, Added-push, Added-outside, Added-list, Added-many, told-unnamed}
+use Rattle.chipdb_lines.proofs.bits.push_each.Goals as goal
 
 pub returns-in_err-push_bit-clause-named : goal.returns-in_err-push_bit-clause-named
 returns-in_err-push_bit-clause-named c =
@@ -37,3 +37,8 @@ pub returns-else-count-le64-clause-named : goal.returns-else-count-le64-clause-n
 returns-else-count-le64-clause-named c =
     Added-many c.args.columns c.len-start.result (c.len.result - c.len-start.result) c.args.bits.now.items c.loop-word.bits.items (words_in c.args.words.now) (words_in c.loop-word.left.now)
     c.loop-word.invariant.added c.in_default.ensures.words c.loop-word.invariant.start_is (omega (arith, c.len.ensures, c.loop-word.bits.ok.0)) c.if-count-le64.false
+
+pub returns-then-count-le64-clause-added : goal.returns-then-count-le64-clause-added
+returns-then-count-le64-clause-added c =
+    Added-exact c.args.columns c.len-start.result (c.len.result - c.len-start.result) c.args.bits.now.items c.loop-word.bits.items (words_in c.args.words.now) (words_in c.loop-word.left.now)
+    c.loop-word.invariant.added c.loop-word.invariant.start_is (omega (arith, c.len.ensures, c.loop-word.bits.ok.0)) c.if-count-le64.true

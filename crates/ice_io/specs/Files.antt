@@ -1,8 +1,9 @@
 -- Files by their names, where they are known, and what loading and storing do to them.
-use Rattle.std.specs.Prelude.{◌≡◌, ℕ, ◌<◌, List, Option, Some, None, ⊤, length, take, true, false, option_map, IsSomeAnd}
+use Rattle.std.specs.Prelude.{◌≡◌, ℕ, ◌<◌, List, [], ◌++◌, Option, Some, None, ⊤, MatchOption, length, take, true, false, option_map, IsSomeAnd}
 use Rattle.std.specs.Ordering.{nat_cmp}
 use Rattle.std.specs.Cmp.Lexicographic.{slice_cmp}
 use Rattle.std.specs.FinMap.{FinMap, get, insert}
+use Rattle.ice_io.specs.Takers.{TakesMore}
 use Rattle.ice_io.specs.declared.files.StoreFault.{StoreFault}
 use Rattle.ice_io.specs.declared.files.StoreFault.TheVariants.{Failed}
 
@@ -19,6 +20,15 @@ HasFile (Some files) name bytes = get files name ≡ Some bytes
 abbrev pub HasMore : Option FileMap → List ℕ → ℕ → Type 0
 HasMore None name limit = ⊤
 HasMore (Some files) name limit = IsSomeAnd (get files name) (λ bytes. limit < length bytes)
+
+-- where the files are known, these are the first bytes of the name, or none where there is no such file
+abbrev pub HasFront : Option FileMap → List ℕ → List ℕ → Type 0
+HasFront None name bytes = ⊤
+HasFront (Some files) name bytes = MatchOption (get files name) (bytes ≡ []) (λ all. (rest : List ℕ) × (all ≡ bytes ++ rest))
+
+-- of a file, the first bytes were taken
+abbrev pub TakesFrontOf : {Setting T : Type 0} → Option FileMap → List ℕ → (Setting → T → List ℕ → Type 0) → T → T → Type 0
+TakesFrontOf files name has_taken old new = (bytes : List ℕ) × HasFront files name bytes × TakesMore has_taken old new bytes
 
 -- where the files are known, there is none of that name
 abbrev pub LacksFile : Option FileMap → List ℕ → Type 0

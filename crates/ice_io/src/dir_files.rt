@@ -1,19 +1,23 @@
-// The real files. A load returns or gives all that was left in a file of the system, and a store adds all its bytes to one.
-// That the file is the one of that name, and was emptied before, is the system's part.
+// The real files. What is read from a file that was opened, and what is written to one, is exact. That the file is the one of
+// that name, and was emptied before, is the system's part.
 ghost use Rattle.std.specs.Prelude.{◌≡◌, ◌+◌, ◌<◌, ◌≤◌, ◌^◌, ℕ, List, None, true, false, length, vec_len, IfOk, IfErr, OnOk, OnErr, IsErrOf};
-ghost use Rattle.ice_io.specs.DirFiles.{after_load_fault, after_store_fault, WereInFile, WereTaken, WereWritten, WerePartWritten};
+ghost use Rattle.std.specs.Io.KnownBytes.{Appends};
+ghost use Rattle.ice_io.specs.DirFiles.{after_load_fault, after_store_fault, AppendsPart, WereInFile, WereTaken, WereFront, WereWritten, WerePartWritten};
+ghost use Rattle.ice_io.specs.Faults.{Rose};
 ghost use Rattle.ice_io.specs.Files.{LeavesPart};
-ghost use Rattle.ice_io.specs.Put.{written_before};
+ghost use Rattle.ice_io.specs.Real.{read_faults, reader_of};
+ghost use Rattle.ice_io.specs.Taken.{TakesAll, TakesAtMost, TakesCount};
 ghost use Rattle.ice_io.specs.Takers.{TakesMore};
 
 use crate::content::Content;
 use crate::files::{Files, StoreFault};
 use crate::real::{StdSink, StdSource};
-use crate::sink::PutFault;
+use crate::sink::{PutFault, Sink};
 use crate::source::{TakeFault, read_expected};
 use crate::taker::{Taker, feed_all};
 use std::alloc::Global;
 use std::fs::OpenFile;
+use std::io::Read;
 use std::marker::Model;
 use std::{fs, rt};
 
@@ -93,6 +97,7 @@ impl<R: rt::Files> Files for DirFiles<'_, R> {
         // `Ok` has given all bytes of a file, and `TooLong` comes only where more than the limit were read from one.
         ensures whole { OnOk result ((bytes : List ℕ) × WereInFile R.File.remaining bytes
             × (length bytes ≤ limit) × TakesMore T.has_taken taker.old taker.new bytes) }
+        ensures front { OnErr result (WereFront R.File.remaining T.has_taken taker.old taker.new) }
         ensures longer { IsErrOf result TakeFault.TooLong → WereTaken R.File.remaining (limit + 1) }
     {
         let loaded = feed_from(self.rt, alloc, name, limit, taker);
@@ -137,7 +142,7 @@ impl<R: rt::Files> Files for DirFiles<'_, R> {
     }
 }
 
-// Opens a file and reads it to its end.
+// Opens a file and reads it.
 fn load_from<R: rt::Files>(
     rt: &R,
     alloc: Global,
@@ -149,14 +154,33 @@ fn load_from<R: rt::Files>(
     ensures whole { IfOk result (λ bytes. WereInFile R.File.remaining bytes.items) }
     ensures longer { IsErrOf result TakeFault.TooLong → WereTaken R.File.remaining (limit + 1) }
 {
-    let Ok(file) = fs::open(rt, name) else {
-        return Err(TakeFault::Failed);
-    };
-    let expected = length_of(&file);
-    read_expected(alloc, &mut StdSource::new(file), limit, expected)
+    match fs::open(rt, name) {
+        Ok(file) => load_opened(alloc, &mut StdSource::new(file), limit),
+        Err(_) => Err(TakeFault::Failed),
+    }
 }
 
-// Opens a file and gives its bytes to a taker, to its end.
+// Reads an open file to its end. Memory for as many bytes as the system says that there are is taken at once.
+fn load_opened<F: Read + OpenFile>(
+    alloc: Global,
+    file: &mut StdSource<F>,
+    limit: usize,
+) -> Result<Vec<u8>, TakeFault>
+    requires { limit < 2 ^ 32 }
+    ensures whole { IfOk result (λ bytes. TakesAll (F.remaining (reader_of file.old)) (F.remaining (reader_of file.new)) bytes.items) }
+    ensures within { IfOk result (λ bytes. vec_len bytes ≤ limit) }
+    ensures too_long { IsErrOf result TakeFault.TooLong
+        → TakesCount (F.remaining (reader_of file.old)) (F.remaining (reader_of file.new)) (limit + 1) }
+    ensures not_too_long { (IsErrOf result TakeFault.TooLong → ⊥)
+        → TakesAtMost (F.remaining (reader_of file.old)) (F.remaining (reader_of file.new)) limit }
+    ensures never_falls { read_faults file.old ≤ read_faults file.new }
+    ensures failed { IsErrOf result TakeFault.Failed → Rose (read_faults file.old) (read_faults file.new) }
+{
+    let told = file.told_length();
+    read_expected(alloc, file, limit, told)
+}
+
+// Opens a file and gives its bytes to a taker.
 fn feed_from<R: rt::Files, T: Taker>(
     rt: &R,
     alloc: Global,
@@ -168,19 +192,12 @@ fn feed_from<R: rt::Files, T: Taker>(
     requires none { T.fed taker.old ≡ 0 }
     ensures whole { OnOk result ((bytes : List ℕ) × WereInFile R.File.remaining bytes
         × (length bytes ≤ limit) × TakesMore T.has_taken taker.old taker.new bytes) }
+    ensures front { OnErr result (WereFront R.File.remaining T.has_taken taker.old taker.new) }
     ensures longer { IsErrOf result TakeFault.TooLong → WereTaken R.File.remaining (limit + 1) }
 {
     match fs::open(rt, name) {
         Ok(file) => feed_all(alloc, &mut StdSource::new(file), limit, taker),
         Err(_) => Err(TakeFault::Failed),
-    }
-}
-
-// How many bytes the system says that a file has. It may say too many or too few.
-fn length_of<F: OpenFile>(file: &F) -> usize {
-    match file.metadata() {
-        Ok(metadata) => metadata.len() as usize,
-        Err(_) => 0,
     }
 }
 
@@ -190,25 +207,27 @@ fn store_to<R: rt::Files, C: Content>(rt: &R, name: &str, content: C) -> Result<
     ensures whole { OnOk result (WereWritten R.File.contents (C.bytes content)) }
     ensures first { IfErr result (WerePartWritten R.File.contents (C.bytes content)) }
 {
-    let Ok(file) = fs::create(rt, name) else {
-        return Err(StoreFault::Failed {
+    match fs::create(rt, name) {
+        Ok(file) => store_opened(content, &mut StdSink::new(file)),
+        Err(_) => Err(StoreFault::Failed {
             opened: false,
             written: 0,
-        });
-    };
-    match content.write_to(&mut StdSink::new(file)) {
-        Ok(()) => Ok(()),
-        Err(fault) => Err(fault_of_opened(fault)),
+        }),
     }
 }
 
-// The fault where the file was opened and a write failed.
-fn fault_of_opened(fault: PutFault) -> StoreFault
-    ensures { result ≡ StoreFault.Failed true (written_before fault) }
+// Writes the content to a file that was opened for it.
+fn store_opened<C: Content, K: Sink>(content: C, file: &mut K) -> Result<(), StoreFault>
+    ensures whole { OnOk result (Appends (K.held file.old) (K.held file.new) (C.bytes content)) }
+    ensures part { IfErr result (AppendsPart (K.held file.old) (K.held file.new) (C.bytes content)) }
+    ensures never_falls { K.faults file.old ≤ K.faults file.new }
+    ensures failed { OnErr result (Rose (K.faults file.old) (K.faults file.new)) }
 {
-    let PutFault::Failed { written } = fault;
-    StoreFault::Failed {
-        opened: true,
-        written,
+    match content.write_to(file) {
+        Ok(()) => Ok(()),
+        Err(PutFault::Failed { written }) => Err(StoreFault::Failed {
+            opened: true,
+            written,
+        }),
     }
 }

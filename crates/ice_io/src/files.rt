@@ -1,7 +1,7 @@
 // Files, loaded whole or piece by piece, and stored.
 ghost use Rattle.std.specs.Prelude.{◌≡◌, ◌+◌, ◌<◌, ◌≤◌, ◌^◌, ℕ, List, Bool, Option, length, vec_len, IfOk, IfErr, OnOk, OnErr, IsErrOf, IsTrue};
 ghost use Rattle.ice_io.specs.Faults.{Rose};
-ghost use Rattle.ice_io.specs.Files.{FileMap, HasFile, HasMore, LacksFile, with_file, LeavesPart};
+ghost use Rattle.ice_io.specs.Files.{FileMap, HasFile, HasMore, LacksFile, TakesFrontOf, with_file, LeavesPart};
 ghost use Rattle.ice_io.specs.Takers.{TakesMore};
 
 use crate::content::Content;
@@ -45,7 +45,8 @@ pub trait Files {
         ensures never_falls { load_faults self.old ≤ load_faults self.new }
         ensures same_store_faults { store_faults self.new ≡ store_faults self.old };
 
-    /// Gives all bytes of a file to a taker, in pieces, if there are at most `limit`.
+    /// Gives all bytes of a file to a taker, in pieces, if there are at most `limit`. After a refusal the taker may have taken
+    /// some of the first bytes.
     fn load_into<T: Taker>(
         &mut self,
         alloc: Global,
@@ -58,6 +59,7 @@ pub trait Files {
 
         ensures bytes { OnOk result ((bytes : List ℕ) × HasFile (contents self.old) name.now bytes
             × (length bytes ≤ limit) × TakesMore T.has_taken taker.old taker.new bytes) }
+        ensures part { OnErr result (TakesFrontOf (contents self.old) name.now T.has_taken taker.old taker.new) }
         ensures too_long { IsErrOf result TakeFault.TooLong → HasMore (contents self.old) name.now limit }
         ensures lacks { IsErrOf result TakeFault.Failed → IsTrue (steady self.old) → LacksFile (contents self.old) name.now }
         ensures failed { IsErrOf result TakeFault.Failed → Rose (load_faults self.old) (load_faults self.new) }

@@ -1,15 +1,16 @@
 // Files in memory. They know their bytes, and fail at the calls that were chosen.
-ghost use Rattle.std.specs.Prelude.{◌≡◌, ◌⊎◌, ◌↔◌, ◌+◌, ◌<◌, ◌≤◌, ◌^◌, ℕ, List, Bool, true, false, Option, Some, None, map, nat_eq, length, take, vec_len, IfOk, IfErr, OnOk, OnErr, IfSome, IsSomeAnd, IsErrOf, IsTrue, option_copied};
+ghost use Rattle.std.specs.Prelude.{◌≡◌, ◌⊎◌, ◌↔◌, ◌+◌, ◌<◌, ◌≤◌, ◌^◌, ℕ, List, Bool, true, false, Option, Some, None, map, nat_eq, length, min, take, vec_len, IfOk, IfErr, OnOk, OnErr, IsSomeAnd, IsErrOf, IsTrue, option_copied, Contains};
 ghost use Rattle.std.specs.Ordering.{nat_cmp};
 ghost use Rattle.std.specs.Cmp.Lexicographic.{slice_cmp};
 ghost use Rattle.std.specs.FinMap.{get, find};
 ghost use Rattle.ice_io.specs.MemFiles.{entry_of, files_of, LoadFails, StoreFails, after_load, after_failed_load, after_store, after_part_store, after_failed_store};
-ghost use Rattle.ice_io.specs.Takers.{TakesMore};
+ghost use Rattle.ice_io.specs.Takers.{TakesMore, TakesPieces};
+ghost use Rattle.ice_io.specs.Files.{TakesFrontOf};
 
 use crate::content::Content;
 use crate::files::{Files, StoreFault};
 use crate::named_file::NamedFile;
-use crate::pieces::{copy_whole, give_whole, is_listed};
+use crate::pieces::{give_whole, is_listed};
 use crate::room::Room;
 use crate::source::TakeFault;
 use crate::taker::Taker;
@@ -53,7 +54,7 @@ impl Model for MemFiles {
 }
 
 impl MemFiles {
-    /// Files in memory, whose bytes are copied and given at most `most` at a time. Only `target` may be stored, with at most
+    /// Files in memory, whose bytes are given and stored at most `most` at a time. Only `target` may be stored, with at most
     /// `room` bytes. `failing` lists the calls that fail: loads and stores are counted together, from 1. The memory for `target`
     /// is allocated here.
     pub fn new(
@@ -89,6 +90,18 @@ impl MemFiles {
         }
         find_file(&self.files, name)
     }
+
+    // The bytes of a file for the call that was counted last, if there is one of that name and the call is none of those that
+    // fail.
+    fn file_to_load(&self, name: &str) -> Option<&[u8]>
+        ensures none { (option_copied result ≡ None) ↔ (Contains self.now.failing self.now.calls ⊎ (get self.now.files name.now ≡ None)) }
+        ensures found { (bytes : List ℕ) → option_copied result ≡ Some bytes → get self.now.files name.now ≡ Some bytes }
+    {
+        if is_listed(&self.failing, self.calls) {
+            return None;
+        }
+        self.bytes_of(name)
+    }
 }
 
 impl Files for MemFiles {
@@ -111,15 +124,14 @@ impl Files for MemFiles {
         ensures after_failed { IsErrOf result TakeFault.Failed → self.new ≡ after_failed_load self.old }
     {
         self.calls = self.calls.saturating_add(1);
-        let loaded = if is_listed(&self.failing, self.calls) {
-            Err(TakeFault::Failed)
-        } else {
-            copied(alloc, self.bytes_of(name), limit, self.most)
-        };
-        if let Err(TakeFault::Failed) = loaded {
-            self.load_faults = self.load_faults.saturating_add(1);
+        match copied(alloc, self.file_to_load(name), limit) {
+            Ok(bytes) => Ok(bytes),
+            Err(TakeFault::Failed) => {
+                self.load_faults = self.load_faults.saturating_add(1);
+                Err(TakeFault::Failed)
+            }
+            Err(fault) => Err(fault),
         }
-        loaded
     }
 
     fn load_into<T: Taker>(
@@ -137,20 +149,23 @@ impl Files for MemFiles {
         ensures too_long { IsErrOf result TakeFault.TooLong → IsSomeAnd (get self.old.files name.now) (λ bytes. limit < length bytes) }
         ensures bytes { OnOk result ((bytes : List ℕ) × (get self.old.files name.now ≡ Some bytes)
             × (length bytes ≤ limit) × TakesMore T.has_taken taker.old taker.new bytes) }
-        ensures none { OnErr result (taker.new ≡ taker.old) }
+        ensures pieces { OnOk result ((bytes : List ℕ) × (get self.old.files name.now ≡ Some bytes)
+            × TakesPieces T.has_taken (min self.old.most 65536) taker.old taker.new bytes) }
+        ensures part { OnErr result (TakesFrontOf (Some self.old.files) name.now T.has_taken taker.old taker.new) }
+        ensures untaken { OnErr result (taker.new ≡ taker.old) }
+        ensures fault { IfErr result (λ fault. (fault ≡ TakeFault.Failed) ⊎ (fault ≡ TakeFault.TooLong)) }
         ensures after { (IsErrOf result TakeFault.Failed → ⊥) → self.new ≡ after_load self.old }
         ensures after_failed { IsErrOf result TakeFault.Failed → self.new ≡ after_failed_load self.old }
     {
         self.calls = self.calls.saturating_add(1);
-        let loaded = if is_listed(&self.failing, self.calls) {
-            Err(TakeFault::Failed)
-        } else {
-            given(self.bytes_of(name), limit, self.most, taker)
-        };
-        if let Err(TakeFault::Failed) = loaded {
-            self.load_faults = self.load_faults.saturating_add(1);
+        match given(self.file_to_load(name), limit, self.most, taker) {
+            Ok(()) => Ok(()),
+            Err(TakeFault::Failed) => {
+                self.load_faults = self.load_faults.saturating_add(1);
+                Err(TakeFault::Failed)
+            }
+            Err(fault) => Err(fault),
         }
-        loaded
     }
 
     fn store(&mut self, name: &str, bytes: &[u8]) -> Result<(), StoreFault>
@@ -210,26 +225,32 @@ fn find_file<'a>(files: &'a [NamedFile], name: &str) -> Option<&'a [u8]>
     None
 }
 
+// The bytes of a file that is there and has at most `limit` bytes.
+fn within(file: Option<&[u8]>, limit: usize) -> Result<&[u8], TakeFault>
+    ensures failed { IsErrOf result TakeFault.Failed ↔ (option_copied file.entry ≡ None) }
+    ensures too_long { IsErrOf result TakeFault.TooLong → IsSomeAnd (option_copied file.entry) (λ bytes. limit < length bytes) }
+    ensures bytes { IfOk result (λ bytes. option_copied file.entry ≡ Some bytes.now) }
+    ensures within { IfOk result (λ bytes. length bytes.now ≤ limit) }
+    ensures fault { IfErr result (λ fault. (fault ≡ TakeFault.Failed) ⊎ (fault ≡ TakeFault.TooLong)) }
+{
+    match file {
+        None => Err(TakeFault::Failed),
+        Some(bytes) if bytes.len() > limit => Err(TakeFault::TooLong),
+        Some(bytes) => Ok(bytes),
+    }
+}
+
 // A copy of a file that is there and has at most `limit` bytes.
-fn copied(
-    alloc: Global,
-    file: Option<&[u8]>,
-    limit: usize,
-    most: usize,
-) -> Result<Vec<u8>, TakeFault>
-    requires { 1 ≤ most }
+fn copied(alloc: Global, file: Option<&[u8]>, limit: usize) -> Result<Vec<u8>, TakeFault>
     ensures failed { IsErrOf result TakeFault.Failed ↔ (option_copied file.entry ≡ None) }
     ensures too_long { IsErrOf result TakeFault.TooLong → IsSomeAnd (option_copied file.entry) (λ bytes. limit < length bytes) }
     ensures bytes { IfOk result (λ copy. option_copied file.entry ≡ Some copy.items) }
     ensures within { IfOk result (λ copy. vec_len copy ≤ limit) }
 {
-    let file = file.ok_or(TakeFault::Failed)?;
-    if file.len() > limit {
-        return Err(TakeFault::TooLong);
+    match within(file, limit) {
+        Ok(bytes) => Ok(bytes.to_vec(alloc)?),
+        Err(fault) => Err(fault),
     }
-    let mut copy = vec![in alloc; 0u8; file.len()]?;
-    copy_whole(file, most, &mut copy);
-    Ok(copy)
 }
 
 // Gives a taker a file that is there and has at most `limit` bytes, at most `most` bytes at a time.
@@ -246,12 +267,16 @@ fn given<T: Taker>(
     ensures too_long { IsErrOf result TakeFault.TooLong → IsSomeAnd (option_copied file.entry) (λ bytes. limit < length bytes) }
     ensures bytes { OnOk result ((bytes : List ℕ) × (option_copied file.entry ≡ Some bytes)
         × (length bytes ≤ limit) × TakesMore T.has_taken taker.old taker.new bytes) }
-    ensures none { OnErr result (taker.new ≡ taker.old) }
+    ensures pieces { OnOk result ((bytes : List ℕ) × (option_copied file.entry ≡ Some bytes)
+        × TakesPieces T.has_taken (min most 65536) taker.old taker.new bytes) }
+    ensures fault { IfErr result (λ fault. (fault ≡ TakeFault.Failed) ⊎ (fault ≡ TakeFault.TooLong)) }
+    ensures untaken { OnErr result (taker.new ≡ taker.old) }
 {
-    let file = file.ok_or(TakeFault::Failed)?;
-    if file.len() > limit {
-        return Err(TakeFault::TooLong);
+    match within(file, limit) {
+        Ok(bytes) => {
+            give_whole(bytes, most, taker);
+            Ok(())
+        }
+        Err(fault) => Err(fault),
     }
-    give_whole(file, most, taker);
-    Ok(())
 }

@@ -1,12 +1,14 @@
 // Sources and sinks over the readers and writers of the standard library. They know the bytes where those do: in memory, but
 // not in a file, at a terminal or in a pipe.
 ghost use Rattle.std.specs.Prelude.{◌≡◌, ◌≢◌, ◌<◌, ◌≤◌, ℕ, length, IfOk, IfErr, OnOk, OnErr};
+ghost use Rattle.std.specs.Fs.{metadata_len};
 ghost use Rattle.std.specs.IoError.{error_kind};
 ghost use Rattle.std.specs.Io.KnownBytes.{ReadConsumes, WriteAppends};
 ghost use Rattle.ice_io.specs.Faults.{counted};
 
 use crate::sink::Sink;
 use crate::source::{Failed, Source};
+use std::fs::{Metadata, OpenFile};
 use std::io;
 use std::io::{Error, ErrorKind, Read, Write};
 
@@ -26,6 +28,24 @@ impl<R: Read> StdSource<R> {
         ensures faults { read_faults result ≡ 0 }
     {
         StdSource { inner, faults: 0 }
+    }
+}
+
+impl<R: Read + OpenFile> StdSource<R> {
+    // How many bytes the system says that the file has. There may be more or fewer.
+    pub(crate) fn told_length(&self) -> usize {
+        length_in(self.inner.metadata())
+    }
+}
+
+// The length that the system tells, or 0 where it tells none.
+fn length_in(told: io::Result<Metadata>) -> usize
+    ensures told { IfOk told (λ metadata. result ≡ metadata_len metadata) }
+    ensures untold { OnErr told (result ≡ 0) }
+{
+    match told {
+        Ok(metadata) => metadata.len() as usize,
+        Err(_) => 0,
     }
 }
 

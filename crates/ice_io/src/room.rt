@@ -1,5 +1,7 @@
 // The memory for the one of the files in memory that may be stored.
-ghost use Rattle.std.specs.Prelude.{◌≡◌, ◌↔◌, ◌≤◌, ◌∷◌, [], Some, length, take, IfOk, IsTrue};
+ghost use Rattle.std.specs.Prelude.{◌≡◌, ◌↔◌, ◌-◌, ◌<◌, ◌≤◌, ◌∷◌, [], Some, length, min, take, IfOk, OnErr, IsTrue};
+ghost use Rattle.std.specs.Io.KnownBytes.{WriteAppends};
+ghost use Rattle.ice_io.specs.Faults.{Rose};
 
 use crate::content::Content;
 use crate::pieces::copy_front;
@@ -23,7 +25,7 @@ impl Model for Room {
 
     ghost Value = { RoomState };
 
-    ghost view = { λ s. record { held = take s.len s.bytes.items; size = vec_len s.bytes; faults = s.faults } };
+    ghost view = { λ s. record { held = take s.len s.bytes.items; size = vec_len s.bytes; most = s.most; faults = s.faults } };
 
     ghost invariant = { λ s. (s.len ≤ vec_len s.bytes) × (1 ≤ s.most) × (0 < s.faults → s.len ≡ vec_len s.bytes) };
 }
@@ -32,7 +34,7 @@ impl Room {
     // Room for so many bytes, of which one write takes at most `most`.
     pub(crate) fn new(alloc: Global, size: usize, most: usize) -> Result<Room, AllocError>
         requires { 1 ≤ most }
-        ensures { IfOk result (λ room. room ≡ record { held = []; size = size; faults = 0 }) }
+        ensures { IfOk result (λ room. room ≡ record { held = []; size = size; most = most; faults = 0 }) }
     {
         Ok(Room {
             bytes: vec![in alloc; 0u8; size]?,
@@ -76,7 +78,13 @@ impl Sink for Room {
 
     ghost faults = { λ s. s.faults };
 
-    fn write(&mut self, piece: &[u8]) -> Result<usize, Failed> {
+    fn write(&mut self, piece: &[u8]) -> Result<usize, Failed>
+        ensures count { IfOk result (λ n. n ≡ min self.old.most (min (length piece.now) (self.old.size - length self.old.held))) }
+        ensures progress { IfOk result (λ n. 0 < length piece.now → 0 < n) }
+        ensures bytes { WriteAppends (Some (self.old.size ∷ self.old.held)) (Some (self.new.size ∷ self.new.held)) result piece.now }
+        ensures never_falls { self.old.faults ≤ self.new.faults }
+        ensures failed { OnErr result (Rose self.old.faults self.new.faults) }
+    {
         if self.len == self.bytes.len() && !piece.is_empty() {
             self.faults = self.faults.saturating_add(1);
             return Err(Failed);

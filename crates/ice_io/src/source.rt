@@ -1,5 +1,5 @@
 // Reading bytes.
-ghost use Rattle.std.specs.Prelude.{◌≡◌, ◌≢◌, ◌+◌, ◌<◌, ◌≤◌, ◌^◌, ℕ, List, Option, length, vec_len, take, drop, IfOk, OnOk, OnErr, IsErrOf};
+ghost use Rattle.std.specs.Prelude.{◌≡◌, ◌≢◌, ◌+◌, ◌<◌, ◌≤◌, ◌^◌, ℕ, List, [], Option, length, min, vec_len, vec_capacity, take, drop, IfOk, OnOk, OnErr, IsErrOf};
 ghost use Rattle.std.specs.Io.KnownBytes.{Consumes, IsAtEnd, Keeps, ReadConsumes};
 ghost use Rattle.ice_io.specs.Faults.{Rose};
 ghost use Rattle.ice_io.specs.Taken.{TakesCount, TakesAtMost, TakesAll};
@@ -98,7 +98,7 @@ pub(crate) fn read_expected<S: Source>(
     ensures never_falls { S.faults source.old ≤ S.faults source.new }
     ensures failed { IsErrOf result TakeFault.Failed → Rose (S.faults source.old) (S.faults source.new) }
 {
-    let mut bytes = Vec::with_capacity(alloc, expected.min(limit) + 1)?;
+    let mut bytes = first_room(alloc, expected, limit)?;
     let mut filled = 0;
     loop {
         make_room(&mut bytes, filled, limit)?;
@@ -114,7 +114,16 @@ pub(crate) fn read_expected<S: Source>(
     }
 }
 
-// Makes room behind the first bytes, where there is none.
+// No bytes yet, with room for those that are expected and for one more, which finds the end.
+fn first_room(alloc: Global, expected: usize, limit: usize) -> Result<Vec<u8>, AllocError>
+    requires { limit < 2 ^ 32 }
+    ensures empty { IfOk result (λ bytes. bytes.items ≡ []) }
+    ensures room { IfOk result (λ bytes. vec_capacity bytes ≡ min expected limit + 1) }
+{
+    Vec::with_capacity(alloc, expected.min(limit) + 1)
+}
+
+// Makes room behind the first bytes, where there is none. After a refusal the bytes are as before.
 fn make_room(bytes: &mut Vec<u8>, filled: usize, limit: usize) -> Result<(), AllocError>
     requires small { limit < 2 ^ 32 }
     requires below { filled ≤ limit }
@@ -122,7 +131,9 @@ fn make_room(bytes: &mut Vec<u8>, filled: usize, limit: usize) -> Result<(), All
     requires most { vec_len bytes.old ≤ limit + 1 }
     ensures room { OnOk result (filled < vec_len bytes.new) }
     ensures most { vec_len bytes.new ≤ limit + 1 }
+    ensures turn { vec_len bytes.new ≤ vec_len bytes.old + 65536 }
     ensures kept { take filled bytes.new.items ≡ take filled bytes.old.items }
+    ensures refused { OnErr result (bytes.new.items ≡ bytes.old.items) }
 {
     if filled < bytes.len() {
         return Ok(());

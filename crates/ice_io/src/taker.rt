@@ -1,11 +1,11 @@
 // Taking bytes piece by piece.
-ghost use Rattle.std.specs.Prelude.{◌≡◌, ◌+◌, ◌<◌, ◌≤◌, ◌^◌, ℕ, List, length, OnOk, IsErrOf};
+ghost use Rattle.std.specs.Prelude.{◌≡◌, ◌+◌, ◌<◌, ◌≤◌, ◌^◌, ℕ, List, length, min, vec_len, IfOk, OnOk, OnErr, IsErrOf};
 ghost use Rattle.ice_io.specs.Faults.{Rose};
 ghost use Rattle.ice_io.specs.Taken.{TakesAll, TakesAtMost, TakesCount};
-ghost use Rattle.ice_io.specs.Takers.{TakesMore};
+ghost use Rattle.ice_io.specs.Takers.{TakesMore, TakesRead, TakesFront};
 
 use crate::source::{Source, TakeFault};
-use std::alloc::Global;
+use std::alloc::{AllocError, Global};
 
 /// What takes bytes piece by piece.
 pub trait Taker {
@@ -18,18 +18,20 @@ pub trait Taker {
     /// How many bytes count towards the most that it takes.
     ghost fed: { Self → ℕ };
 
-    /// Takes a piece behind those before.
+    /// Takes a piece, of at most 65,536 bytes, behind those before.
     fn take(&mut self, piece: &[u8])
-        requires { fed self.old + length piece.now < 2 ^ 32 }
+        requires few { fed self.old + length piece.now < 2 ^ 32 }
+        requires short { length piece.now ≤ 65536 }
         ensures taken { TakesMore has_taken self.old self.new piece.now }
         ensures bound { fed self.new ≤ fed self.old + length piece.now };
 }
 
-// How many bytes a piece has, at most.
-const PIECE: usize = 65536;
+/// How many bytes a piece has, at most.
+pub(crate) const PIECE: usize = 65536;
 
 /// Gives all bytes up to the end of the source to a taker, in pieces of at most 65,536 bytes, if there are at most `limit`.
-/// `TooLong` leaves `limit + 1` bytes read.
+/// `TooLong` leaves `limit + 1` bytes read. A taker that was given some bytes before a refusal has taken the first that were
+/// read, and where a read failed all of them.
 pub fn feed_all<S: Source, T: Taker>(
     alloc: Global,
     source: &mut S,
@@ -44,10 +46,13 @@ pub fn feed_all<S: Source, T: Taker>(
         → TakesCount (S.left source.old) (S.left source.new) (limit + 1) }
     ensures not_too_long { (IsErrOf result TakeFault.TooLong → ⊥)
         → TakesAtMost (S.left source.old) (S.left source.new) limit }
+    ensures part { OnErr result (TakesFront (S.left source.old) (S.left source.new) T.has_taken taker.old taker.new) }
+    ensures given { IsErrOf result TakeFault.Failed
+        → TakesRead (S.left source.old) (S.left source.new) T.has_taken taker.old taker.new }
     ensures never_falls { S.faults source.old ≤ S.faults source.new }
     ensures failed { IsErrOf result TakeFault.Failed → Rose (S.faults source.old) (S.faults source.new) }
 {
-    let mut buffer = vec![in alloc; 0u8; PIECE.min(limit + 1)]?;
+    let mut buffer = piece_room(alloc, limit)?;
     let mut taken = 0;
     loop {
         let room = buffer.len().min(limit + 1 - taken);
@@ -62,4 +67,12 @@ pub fn feed_all<S: Source, T: Taker>(
         taker.take(&piece[..count]);
         taken += count;
     }
+}
+
+// Room for one piece, and for no more than one byte past the limit.
+fn piece_room(alloc: Global, limit: usize) -> Result<Vec<u8>, AllocError>
+    requires { limit < 2 ^ 32 }
+    ensures { IfOk result (λ room. vec_len room ≡ min 65536 (limit + 1)) }
+{
+    vec![in alloc; 0u8; PIECE.min(limit + 1)]
 }

@@ -1,2 +1,4 @@
 mod files;
+mod orders;
 mod pieces;
+mod real;

@@ -67,7 +67,7 @@ fn an_interrupted_write_is_tried_again(rt: HostRuntime) {
 }
 
 /// Stores the bytes and loads them again, and answers whether they are the same.
-fn is_kept<F: Files>(
+pub(super) fn is_kept<F: Files>(
     alloc: Global,
     files: &mut F,
     name: &str,
@@ -106,7 +106,7 @@ impl Taker for Compared<'_> {
 }
 
 /// Stores the bytes and loads them again in pieces, and answers whether they are the same.
-fn is_kept_in_pieces<F: Files>(
+pub(super) fn is_kept_in_pieces<F: Files>(
     alloc: Global,
     files: &mut F,
     name: &str,
@@ -126,7 +126,7 @@ fn is_kept_in_pieces<F: Files>(
 }
 
 /// 100,000 bytes, with a period that divides no power of two.
-fn many_bytes(alloc: Global) -> Result<Vec<u8>, AllocError> {
+pub(super) fn many_bytes(alloc: Global) -> Result<Vec<u8>, AllocError> {
     (0..100_000u32).map(|i| (i % 251) as u8).collect(alloc)
 }
 

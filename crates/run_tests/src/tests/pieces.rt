@@ -109,7 +109,7 @@ fn is_counted(
         limit: 8,
     }];
     let job = Job {
-        speaker: "count",
+        tool_name: "count",
         loads: &loads,
         target: way.to,
     };

@@ -1,4 +1,4 @@
-use Rattle.std.proofs.Common.{◌≡◌, ◌∙◌, arith, ℕ, ◌+◌, List, Option, ◌++◌, append_assoc, length, length-append, subst, take}
+use Rattle.std.proofs.Common.{◌≡◌, ◌∙◌, arith, ℕ, ◌+◌, List, Option, ◌++◌, append_assoc, length, length-append, length-take, subst, take}
 use Rattle.std.proofs.KnownBytes.{Consumes-trans}
 use Rattle.std.proofs.lemmas.Grind.{common_steps}
 use Rattle.std.specs.Io.KnownBytes.{Consumes}
@@ -15,6 +15,15 @@ returns-then-taken-count-clause-too_long g c =
     λ _. TakesCount_more (g.S.Source.left c.args.source.now) (g.S.Source.left c.loop-buffer.source) (g.S.Source.left c.read.new.self) taken.0 (take c.in_ok-count.count c.read.new.into) (c.args.limit + 1)
     taken.1 c.in_ok-count.ensures.bytes.0 (grind (arith, common_steps, taken.2))
 
+pub returns-then-taken-count-clause-part : goal.returns-then-taken-count-clause-part
+returns-then-taken-count-clause-part g c =
+    let taken = c.loop-buffer.invariant.taken in
+    let piece = take c.in_ok-count.count c.read.new.into in
+    (taken.0, piece, Consumes-trans (g.S.Source.left c.args.source.now) (g.S.Source.left c.loop-buffer.source) (g.S.Source.left c.read.new.self) taken.0 piece taken.1 c.in_ok-count.ensures.bytes.0, taken.3)
+
+pub take-requires-clause-short : goal.take-requires-clause-short
+take-requires-clause-short g c = omega (arith, c.loop-buffer.invariant.most, length-take {A = ℕ})
+
 pub loop-buffer-preserved : goal.loop-buffer-preserved
 loop-buffer-preserved g c =
     let i = c.loop-buffer.invariant in
@@ -30,5 +39,6 @@ loop-buffer-preserved g c =
       fed = grind (arith, common_steps, i.fed, c.take.ensures.bound);
       within = omega (arith, c.if-taken-count.false);
       room = i.room;
+      most = i.most;
       faults = omega (arith, i.faults, c.in_ok-count.ensures.never_falls);
     }

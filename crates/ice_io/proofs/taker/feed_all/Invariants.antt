@@ -11,6 +11,7 @@ invariant-loop-buffer g l = record {
   fed : g.T.Taker.fed l.taker ≤ l.taken;
   within : l.taken ≤ l.limit;
   room : 1 ≤ vec_len l.buffer;
+  most : vec_len l.buffer ≤ 65536;
   faults : g.S.Source.faults l.initial.source ≤ g.S.Source.faults l.source;
 }
 

@@ -1,6 +1,9 @@
-use Rattle.std.proofs.Common.{arith, ap, refl, Ok, Err, IfOk, OnOk, OnErr, Result}
+use Rattle.std.proofs.Common.{ℕ, List, [], Option, None, arith, ap, inl, inr, refl, subst, sym, Ok, Err, IfOk, OnOk, OnErr, Result}
 use Rattle.std.specs.Prelude.{⊤}
-use Rattle.ice_io.specs.DirFiles.{FileFaults}
+use Rattle.ice_io.specs.DirFiles.{FileFaults, WereFront}
+use Rattle.ice_io.specs.Files.{TakesFrontOf}
+use Rattle.ice_io.specs.Takers.{TakesMore}
+use Rattle.ice_io.proofs.Takers.{TakesMore-none}
 use Rattle.ice_io.proofs.dir_files.DirFilesFiles.TheImpl.Goals as goal
 
 -- a fact that always holds, where the call succeeded
@@ -23,6 +26,12 @@ on_err : {T E P Q : Type 0} (r : Result T E) → (P → Q) → OnErr r P → OnE
 on_err (Ok x) f p = tt
 on_err (Err e) f p = f p
 
+-- of a file whose bytes aren't known, the first were taken
+front_of : {File Setting T : Type 0} (remaining : File → Option (List ℕ)) (has_taken : Setting → T → List ℕ → Type 0) (name : List ℕ) (old new : T)
+    → WereFront remaining has_taken old new → TakesFrontOf None name has_taken old new
+front_of remaining has_taken name old new (inl same) = ([], tt, subst (λ t. TakesMore has_taken old t []) (sym same) (TakesMore-none has_taken old))
+front_of remaining has_taken name old new (inr were) = (were.2.0, tt, were.2.3)
+
 pub load-tells : goal.load-tells
 load-tells g c = record {
   bytes = always c.result;
@@ -39,6 +48,7 @@ load-tells g c = record {
 pub load_into-tells : goal.load_into-tells
 load_into-tells g c = record {
   bytes = on_ok_then c.result (λ h. (h.0, tt, h.2, h.3)) c.ensures.whole;
+  part = on_err c.result (front_of _ g.T.Taker.has_taken c.args.name.now c.args.taker.now c.new.taker.now) c.ensures.front;
   too_long = λ _. tt;
   lacks = λ _ _. tt;
   failed = λ h. omega (arith, ap (λ (s : FileFaults). s.load_faults) (c.ensures.failed h));

@@ -1,0 +1,238 @@
+// In which order a run loads and stores files, and how often.
+ghost use Rattle.std.specs.Prelude.{◌≡◌, ◌∷◌, [], codes, if◌then◌else◌, IfOk, IfErr};
+ghost use Rattle.tool_run.specs.Tasks.{Done, Refused};
+ghost use Rattle.tool_run.specs.Stops.{StopsWith};
+
+use ice_io::{
+    Content, Files, MemFiles, MemSink, MemSource, NamedFile, StoreFault, TakeFault, Taker,
+};
+use std::alloc::{AllocError, Global};
+use std::test::Fail;
+use tool_run::{Job, Load, PieceTool, Refusal, Stop, Tool, perform, perform_in_pieces, text};
+
+/// Files that note each call: `l` for a load, `p` for one in pieces and `s` for a store, and the name.
+#[derive(Drop)]
+struct Watched<F: Files> {
+    files: F,
+    calls: Vec<u8>,
+}
+
+impl<F: Files> Watched<F> {
+    // What isn't noted, for want of memory, is missing in the end.
+    fn note(&mut self, call: &str, name: &str)
+        ensures { self.new.files ≡ self.old.files }
+    {
+        let _ = self.calls.extend_from_slice(call.as_bytes());
+        let _ = self.calls.extend_from_slice(name.as_bytes());
+    }
+}
+
+impl<F: Files> Files for Watched<F> {
+    ghost contents = { λ watched. F.contents watched.files };
+
+    ghost steady = { λ watched. F.steady watched.files };
+
+    ghost load_faults = { λ watched. F.load_faults watched.files };
+
+    ghost store_faults = { λ watched. F.store_faults watched.files };
+
+    fn load(&mut self, alloc: Global, name: &str, limit: usize) -> Result<Vec<u8>, TakeFault> {
+        self.note(" l ", name);
+        self.files.load(alloc, name, limit)
+    }
+
+    fn load_into<T: Taker>(
+        &mut self,
+        alloc: Global,
+        name: &str,
+        limit: usize,
+        taker: &mut T,
+    ) -> Result<(), TakeFault> {
+        self.note(" p ", name);
+        self.files.load_into(alloc, name, limit, taker)
+    }
+
+    fn store(&mut self, name: &str, bytes: &[u8]) -> Result<(), StoreFault> {
+        self.note(" s ", name);
+        self.files.store(name, bytes)
+    }
+
+    fn store_content<C: Content>(&mut self, name: &str, content: C) -> Result<(), StoreFault> {
+        self.note(" s ", name);
+        self.files.store_content(name, content)
+    }
+}
+
+/// Makes one byte of whatever it loads, or refuses that.
+#[derive(Clone, Copy)]
+struct Stamp {
+    refuses: bool,
+}
+
+/// The answer of a stamp.
+fn stamp_answer(alloc: Global, refuses: bool) -> Result<Vec<u8>, Stop>
+    ensures bytes { IfOk result (λ made. (if refuses then Refused (codes "no") else Done (33 ∷ [])) ≡ Done made.items) }
+    ensures stops { IfErr result (StopsWith (if refuses then Refused (codes "no") else Done (33 ∷ []))) }
+{
+    if refuses {
+        return Err(Stop::Refused(Refusal {
+            first: text("no"),
+            second: text(""),
+            third: text(""),
+            fourth: text(""),
+        }));
+    }
+    Ok(Vec::from_slice(alloc, b"!")?)
+}
+
+impl Tool for Stamp {
+    ghost use Rattle.std.specs.Prelude.{◌∷◌, [], codes, if◌then◌else◌};
+    ghost use Rattle.tool_run.specs.Tasks.{Done, Refused};
+
+    ghost answer_of = { λ tool texts. if tool.refuses then Refused (codes "no") else Done (33 ∷ []) };
+
+    fn answer(&self, alloc: Global, _loaded: &Vec<Vec<u8>>) -> Result<Vec<u8>, Stop> {
+        stamp_answer(alloc, self.refuses)
+    }
+}
+
+impl PieceTool for Stamp {
+    ghost use Rattle.std.specs.Prelude.{◌∷◌, [], codes, if◌then◌else◌};
+    ghost use Rattle.tool_run.specs.Tasks.{Done, Refused};
+
+    type Intake = bool;
+
+    type Made = Vec<u8>;
+
+    ghost answer_of = { λ tool texts. if tool.refuses then Refused (codes "no") else Done (33 ∷ []) };
+
+    ghost before = { λ tool. 1 };
+
+    ghost takes = { λ tool texts intake bytes. Unit {0} };
+
+    ghost fed = { λ intake. 0 };
+
+    fn begin(&self, _alloc: Global, _loaded: &Vec<Vec<u8>>) -> bool {
+        false
+    }
+
+    fn feed(&self, intake: &mut bool, piece: &[u8]) {
+        *intake |= !piece.is_empty();
+    }
+
+    fn finish(&self, alloc: Global, _intake: bool) -> Result<Vec<u8>, Stop> {
+        stamp_answer(alloc, self.refuses)
+    }
+}
+
+/// A file with this name, of two bytes.
+fn file(alloc: Global, name: &str) -> Result<NamedFile, AllocError> {
+    Ok(NamedFile {
+        name: String::from_str(alloc, name)?,
+        bytes: b"ab".to_vec(alloc)?,
+    })
+}
+
+/// The files `a` and `b`, and room for a file `out`.
+fn watched_files(alloc: Global, room: usize) -> Result<Watched<MemFiles>, AllocError> {
+    let mut files = Vec::new(alloc);
+    files.push(file(alloc, "a")?)?;
+    files.push(file(alloc, "b")?)?;
+    Ok(Watched {
+        files: MemFiles::new(alloc, files, "out", room, 9, Vec::new(alloc))?,
+        calls: Vec::new(alloc),
+    })
+}
+
+/// A run over two files, the second with this limit, into a file.
+#[derive(Clone, Copy)]
+struct Run {
+    first: &'static str,
+    second: &'static str,
+    limit: u32,
+    target: &'static str,
+    refuses: bool,
+    room: usize,
+}
+
+/// Whether the run has this status, and makes these calls and no others.
+fn calls_are(
+    alloc: Global,
+    run: Run,
+    in_pieces: bool,
+    status: u8,
+    calls: &str,
+) -> Result<bool, AllocError> {
+    let mut files = watched_files(alloc, run.room)?;
+    let mut input = MemSource::new(Vec::new(alloc), 1, Vec::new(alloc));
+    let mut output = MemSink::new(alloc, 0, 1, Vec::new(alloc))?;
+    let mut errors = MemSink::new(alloc, 80, 80, Vec::new(alloc))?;
+    let loads = [
+        Load {
+            name: Some(run.first),
+            limit: 9,
+        },
+        Load {
+            name: Some(run.second),
+            limit: run.limit as usize,
+        },
+    ];
+    let job = Job {
+        tool_name: "stamp",
+        loads: &loads,
+        target: Some(run.target),
+    };
+    let tool = Stamp {
+        refuses: run.refuses,
+    };
+    let done = if in_pieces {
+        perform_in_pieces(
+            alloc,
+            &tool,
+            &job,
+            &mut files,
+            &mut input,
+            &mut output,
+            &mut errors,
+        )
+    } else {
+        perform(
+            alloc,
+            &tool,
+            &job,
+            &mut files,
+            &mut input,
+            &mut output,
+            &mut errors,
+        )
+    };
+    Ok(done == status && files.calls.as_slice() == calls.as_bytes())
+}
+
+#[test]
+fn files_are_loaded_in_their_order_and_stored_once(rt: HostRuntime) -> Result<(), Fail> {
+    for (first, second, limit, refuses, room, status, whole, in_pieces) in [
+        ("a", "b", 9, false, 9, 0, " l a l b s out", " l a p b s out"),
+        ("b", "a", 9, false, 9, 0, " l b l a s out", " l b p a s out"),
+        ("a", "a", 9, false, 9, 0, " l a l a s out", " l a p a s out"),
+        ("x", "b", 9, false, 9, 3, " l x", " l x"),
+        ("a", "x", 9, false, 9, 3, " l a l x", " l a p x"),
+        ("a", "b", 1, false, 9, 6, " l a l b", " l a p b"),
+        ("a", "b", 9, true, 9, 1, " l a l b", " l a p b"),
+        ("a", "b", 9, false, 0, 4, " l a l b s out", " l a p b s out"),
+    ] {
+        let run = Run {
+            first,
+            second,
+            limit,
+            target: "out",
+            refuses,
+            room,
+        };
+        let are = calls_are(rt.alloc(), run, false, status, whole);
+        assert_eq!(rt; are, Ok(true), "{whole}");
+        let are = calls_are(rt.alloc(), run, true, status, in_pieces);
+        assert_eq!(rt; are, Ok(true), "{in_pieces}");
+    }
+    Ok(())
+}

@@ -10,7 +10,7 @@ pub text_of-map : (text : Option (Bor (List ℕ))) → option_map (λ t. t.now) 
 text_of-map None = refl
 text_of-map (Some text) = refl
 
--- where words are taken, the task is what was found
+-- where arguments are taken, the task is what was found
 pub taken_task : (taken : Bool) (found other : Task) → true ≡ taken → (if taken then found else other) ≡ found
 taken_task true found other e = refl
 taken_task false found other e = absurd cc
@@ -21,9 +21,9 @@ missed_task true found other e = absurd cc
 missed_task false found other e = refl
 
 -- a task with its help speaks as the task
-pub helped-speaker : (name help : List ℕ) (words : List (List ℕ)) (task : Task) → task.speaker ≡ name → (helped name help words task).speaker ≡ name
-helped-speaker name help words task speaks = by_case (asks_for_help words)
+pub helped-tool_name : (name help : List ℕ) (args : List (List ℕ)) (task : Task) → task.tool_name ≡ name → (helped name help args task).tool_name ≡ name
+helped-tool_name name help args task speaks = by_case (asks_for_help args)
   where
-    by_case : (asks : Bool) → (if asks then at_once name None (Done help) else task).speaker ≡ name
+    by_case : (asks : Bool) → (if asks then at_once name None (Done help) else task).tool_name ≡ name
     by_case true = refl
     by_case false = speaks

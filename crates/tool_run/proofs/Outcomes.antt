@@ -1,26 +1,27 @@
 -- From loading and delivering to what a run does.
-use Rattle.std.proofs.Common.{◌≡◌, ◌⊎◌, ◌≤◌, ℕ, Bool, true, false, not, ◌||◌, List, [], ◌∷◌, ◌++◌, refl, sym, ap, subst, ◌∙◌, inl, inr, arith}
-use Rattle.std.specs.Prelude.{Option, None, Some, Result, Ok, Err, IfOk, IfErr, IsOkAnd, MatchOption}
-use Rattle.std.proofs.lemmas.Bool.{cases_Bool}
+use Rattle.std.proofs.Common.{◌≡◌, ◌⊎◌, ◌≤◌, ℕ, Bool, true, false, not, List, [], ◌∷◌, ◌++◌, refl, sym, ap, subst, ◌∙◌, inl, inr, arith}
+use Rattle.std.specs.Prelude.{Option, None, Some, Result, Ok, Err, IfOk, IfErr, MatchOption}
+use Rattle.std.proofs.lemmas.Bool.{cases_Bool, or_left, or_right}
 use Rattle.ice_io.specs.Faults.{Rose}
 use Rattle.ice_io.specs.Files.{FileMap}
 use Rattle.tool_run.specs.Needs.{Need, is_stream, reads_files, reads_input}
 use Rattle.tool_run.specs.Lines.{line_of, read_failed}
-use Rattle.tool_run.specs.Tasks.{Answer, Done, Refused, NotTaken, LoadFault, Missing, TooLong, Outcome, Task, answered, bytes_of, ended, loaded, outcome_of, reached, reached_after}
+use Rattle.tool_run.specs.Tasks.{Answer, Done, Refused, UsageError, LoadFault, Missing, TooLong, Outcome, Task, answered, bytes_of, ended, loaded, outcome_of, reached, reached_after}
 use Rattle.tool_run.specs.Effects.{Foretells, SourceRose, Tells}
-use Rattle.tool_run.specs.Loads.{AreTold, FailsToLoad, NameIsTold, WhereTold}
+use Rattle.tool_run.specs.Loads.{AreTextsOf, FailsToLoad, IsReached}
 use Rattle.tool_run.specs.Stops.{StopsWith}
 use Rattle.tool_run.specs.Answering.{Gives}
 use Rattle.tool_run.specs.declared.tool.Stop.{Stop}
 use Rattle.tool_run.specs.Jobs.{RefusesWith}
 use Rattle.tool_run.specs.Runs.{HasBytes, IsRefusal, IsStatusFor}
+use Rattle.tool_run.proofs.Reaching.{AreTold, NameIsTold, WhereTold, input-reached, missing-loaded, texts-loaded}
 
 -- ---- what the outcome reads is what is reached
 
 answered-reads_files : (task : Task) (needs : List Need) (answer : Answer) → (answered task needs answer).reads_files ≡ reads_files needs
 answered-reads_files task needs (Done bytes) = refl
 answered-reads_files task needs (Refused text) = refl
-answered-reads_files task needs (NotTaken text) = refl
+answered-reads_files task needs (UsageError text) = refl
 
 ended-reads_files : (task : Task) (needs : List Need) (result : Result (List (List ℕ)) LoadFault) → (ended task needs result).reads_files ≡ reads_files needs
 ended-reads_files task needs (Ok texts) = answered-reads_files task needs (task.answer texts)
@@ -30,30 +31,22 @@ ended-reads_files task needs (Err (TooLong need)) = refl
 answered-reads_input : (task : Task) (needs : List Need) (answer : Answer) → (answered task needs answer).reads_input ≡ reads_input needs
 answered-reads_input task needs (Done bytes) = refl
 answered-reads_input task needs (Refused text) = refl
-answered-reads_input task needs (NotTaken text) = refl
+answered-reads_input task needs (UsageError text) = refl
 
 ended-reads_input : (task : Task) (needs : List Need) (result : Result (List (List ℕ)) LoadFault) → (ended task needs result).reads_input ≡ reads_input needs
 ended-reads_input task needs (Ok texts) = answered-reads_input task needs (task.answer texts)
 ended-reads_input task needs (Err (Missing need)) = refl
 ended-reads_input task needs (Err (TooLong need)) = refl
 
-pub or-left : (b c : Bool) → b ≡ true → (b || c) ≡ true
-or-left true c e = refl
-or-left false c e = absurd cc
-
-pub or-right : (b c : Bool) → c ≡ true → (b || c) ≡ true
-or-right true c e = refl
-or-right false c e = e
-
 -- what is told as far as it is reached is told one need after the other
 told_each : (contents : Option FileMap) (left : Option (List ℕ)) (known : FileMap) (text : List ℕ) (needs : List Need)
     → (reads_files (reached known text needs) ≡ true → contents ≡ Some known) → (reads_input (reached known text needs) ≡ true → left ≡ Some text) → AreTold contents left known text needs
 told_each contents left known text [] files input = tt
 told_each contents left known text (need ∷ needs) files input = (
-  side need.name (λ file. files (or-left (not (is_stream need.name)) (reads_files rest) (ap not file))) (λ stream. input (or-left (is_stream need.name) (reads_input rest) stream)),
+  side need.name (λ file. files (or_left (not (is_stream need.name)) (reads_files rest) (ap not file))) (λ stream. input (or_left (is_stream need.name) (reads_input rest) stream)),
   λ bytes gives. told_each contents left known text needs
-      (λ reads. files (or-right (not (is_stream need.name)) (reads_files rest) (ap (λ (one : Result (List ℕ) LoadFault). reads_files (reached_after one (reached known text needs))) gives ∙ reads)))
-      (λ reads. input (or-right (is_stream need.name) (reads_input rest) (ap (λ (one : Result (List ℕ) LoadFault). reads_input (reached_after one (reached known text needs))) gives ∙ reads))),
+      (λ reads. files (or_right (not (is_stream need.name)) (reads_files rest) (ap (λ (one : Result (List ℕ) LoadFault). reads_files (reached_after one (reached known text needs))) gives ∙ reads)))
+      (λ reads. input (or_right (is_stream need.name) (reads_input rest) (ap (λ (one : Result (List ℕ) LoadFault). reads_input (reached_after one (reached known text needs))) gives ∙ reads))),
 )
   where
     rest : List Need
@@ -80,21 +73,26 @@ foretold task contents left result P gives holds = λ known text tells.
     let ends : Result (List (List ℕ)) LoadFault → Type 0 = λ r. P (ended task needs r) in
     subst ends (sym same) (holds needs)
 
--- what was loaded
-pub loaded-is : (result : Result (List (List ℕ)) LoadFault) (old texts : List (List ℕ)) → old ≡ [] → IsOkAnd result (λ bytes. texts ≡ old ++ bytes) → result ≡ Ok texts
-loaded-is (Ok bytes) old texts empty e = ap (λ (t : List (List ℕ)). Ok t) (sym (e ∙ ap (λ o. o ++ bytes) empty))
-loaded-is (Err fault) old texts empty e = absurd e
+-- the outcome, where the needs have texts
+pub foretold-texts : (task : Task) (contents : Option FileMap) (left : Option (List ℕ)) (texts : List (List ℕ)) (P : Outcome → Type 0)
+    → AreTextsOf contents left task.needs texts → ((needs : List Need) → P (answered task needs (task.answer texts))) → Foretells task contents left P
+foretold-texts task contents left texts P are holds = foretold task contents left (Ok texts) P (λ known text told. texts-loaded contents left known text task.needs texts are told) holds
 
--- what holds where standard input is or isn't reached
-pub foretold_reached : {Q : Type 0} (task : Task) (contents : Option FileMap) (left : Option (List ℕ)) (b : Bool)
-    → WhereTold contents left task.needs (λ known text. reads_input (reached known text task.needs) ≡ b → Q) → Foretells task contents left (λ o. o.reads_input ≡ b → Q)
-foretold_reached task contents left b holds = λ known text tells unread.
-    holds known text (told task contents left known text tells) (sym (ended-reads_input task (reached known text task.needs) (loaded known text task.needs)) ∙ unread)
-
+-- what is read
 pub foretold_input : (task : Task) (contents : Option FileMap) (left : Option (List ℕ))
     → WhereTold contents left task.needs (λ known text. reads_input (reached known text task.needs) ≡ true) → Foretells task contents left (λ o. o.reads_input ≡ true)
 foretold_input task contents left holds = λ known text tells.
     ended-reads_input task (reached known text task.needs) (loaded known text task.needs) ∙ holds known text (told task contents left known text tells)
+
+-- standard input stays as it was where it isn't read
+pub foretold_unread : {I : Type 0} (task : Task) (contents : Option FileMap) (left : I → Option (List ℕ)) (input new_input : I) → IsReached contents left task.needs input new_input
+    → Foretells task contents (left input) (λ o. o.reads_input ≡ false → new_input ≡ input)
+foretold_unread task contents left input new_input is = λ known text tells unread. elim is [
+  | inl same ↦ same
+  | inr (need, stream, reaches) ↦
+      let both : true ≡ false = sym (foretold_input task contents (left input) (input-reached contents (left input) task.needs need reaches stream) known text tells) ∙ unread in
+      absurd cc
+]
 
 -- ---- the answer's outcome
 
@@ -116,17 +114,23 @@ pub gives_taken : {M : Type 0} (bytes : M → List ℕ) (made : Result M Stop) (
 gives_taken bytes (Ok content) answer takes texts taken done stops has = done texts taken has
 gives_taken bytes (Err stop) answer takes texts taken done stops has = stops texts taken has
 
-pub refuses : (task : Task) (needs : List Need) (answer : Answer) (status : ℕ) (said : List ℕ) (S : List ℕ → Type 0) → RefusesWith answer status said → S (line_of task.speaker said)
+pub refuses : (task : Task) (needs : List Need) (answer : Answer) (status : ℕ) (said : List ℕ) (S : List ℕ → Type 0) → RefusesWith answer status said → S (line_of task.tool_name said)
     → ((answered task needs answer).status ≡ status) × S (answered task needs answer).message
 refuses task needs (Done bytes) status said S none says = absurd none
-refuses task needs (Refused text) status said S with says = (sym with.0, subst (λ t. S (line_of task.speaker t)) (sym with.1) says)
-refuses task needs (NotTaken text) status said S with says = (sym with.0, subst (λ t. S (line_of task.speaker t)) (sym with.1) says)
+refuses task needs (Refused text) status said S with says = (sym with.0, subst (λ t. S (line_of task.tool_name t)) (sym with.1) says)
+refuses task needs (UsageError text) status said S with says = (sym with.0, subst (λ t. S (line_of task.tool_name t)) (sym with.1) says)
+
+-- the tool's refusal
+pub refuses-so : (answer : Answer) (status : ℕ) (said : List ℕ) → status ≡ 1 → RefusesWith answer status said → answer ≡ Refused said
+refuses-so (Done bytes) status said one_is none = absurd none
+refuses-so (Refused text) status said one_is with = ap Refused with.1
+refuses-so (UsageError text) status said one_is with = absurd (omega (arith, with.0))
 
 -- a command line that isn't taken
-pub takes-not : (answer : Answer) (status : ℕ) (said : List ℕ) → status ≡ 2 → RefusesWith answer status said → answer ≡ NotTaken said
+pub takes-not : (answer : Answer) (status : ℕ) (said : List ℕ) → status ≡ 2 → RefusesWith answer status said → answer ≡ UsageError said
 takes-not (Done bytes) status said two_is none = absurd none
 takes-not (Refused text) status said two_is with = absurd (omega (arith, with.0))
-takes-not (NotTaken text) status said two_is with = ap NotTaken with.1
+takes-not (UsageError text) status said two_is with = ap UsageError with.1
 
 -- the statuses of a conclusion
 abbrev pub IsConcluded : ℕ → Type 0
@@ -140,6 +144,9 @@ refused-one status concluded refusal = grind arith
 
 pub not-read : {P : Type 0} (status : ℕ) → IsConcluded status → status ≡ 3 → P
 not-read status concluded read = absurd (grind arith)
+
+pub not-long : {P : Type 0} (status : ℕ) → IsConcluded status → status ≡ 6 → P
+not-long status concluded long = absurd (grind arith)
 
 pub exact-answer : (task : Task) (needs : List Need) (answer : Answer) (status : ℕ) → IsConcluded status → ((status ≡ 0) → (bytes : List ℕ) × (answer ≡ Done bytes)) → ((status ≡ 4) → (bytes : List ℕ) × (answer ≡ Done bytes))
     → ((status ≡ 1) ⊎ (status ≡ 2) → (said : List ℕ) × RefusesWith answer status said) → IsStatusFor status (answered task needs answer)
@@ -160,12 +167,13 @@ input-rose need loads new_loads inputs new_inputs stream rose = by_name need.nam
     by_name (Some name) stream rose = absurd cc
 
 -- over steady files a failure is the outcome's, unless standard input failed that the outcome reads
-pub foretold_failure : (task : Task) (contents : Option FileMap) (steady : Bool) (left : Option (List ℕ)) (loads new_loads inputs new_inputs : ℕ) (need : Need) (S : List ℕ → Type 0)
-    → FailsToLoad contents steady left task.needs loads new_loads inputs new_inputs need → S (line_of task.speaker (read_failed need)) → steady ≡ true
-    → Foretells task contents left (λ o. (o.reads_input ≡ true → Rose inputs new_inputs → ⊥) → (o.status ≡ 3) × S o.message)
-foretold_failure task contents steady left loads new_loads inputs new_inputs need S fails says is_steady = λ known text tells.
-    let failed : Outcome → Type 0 = λ o. (o.reads_input ≡ true → Rose inputs new_inputs → ⊥) → (o.status ≡ 3) × S o.message in
+pub foretold_failure : {I : Type 0} (task : Task) (contents : Option FileMap) (steady : Bool) (left : I → Option (List ℕ)) (input_faults : I → ℕ) (loads new_loads : ℕ) (input new_input : I) (need : Need) (S : List ℕ → Type 0)
+    → FailsToLoad contents steady left input_faults task.needs loads new_loads input new_input need → S (line_of task.tool_name (read_failed need)) → steady ≡ true
+    → Foretells task contents (left input) (λ o. (o.reads_input ≡ true → Rose (input_faults input) (input_faults new_input) → ⊥) → (o.status ≡ 3) × S o.message)
+foretold_failure task contents steady left input_faults loads new_loads input new_input need S fails says is_steady = λ known text tells.
+    let failed : Outcome → Type 0 = λ o. (o.reads_input ≡ true → Rose (input_faults input) (input_faults new_input) → ⊥) → (o.status ≡ 3) × S o.message in
     elim (cases_Bool (is_stream need.name)) [
-      | inl stream ↦ λ unread. absurd (unread (foretold_input task contents left (fails.input stream) known text tells) (input-rose need loads new_loads inputs new_inputs stream fails.rose))
-      | inr file ↦ foretold task contents left (Err (Missing need)) failed (fails.missing is_steady file) (λ needs unread. (refl, says)) known text tells
+      | inl stream ↦ λ unread. absurd (unread (foretold_input task contents (left input) (input-reached contents (left input) task.needs need fails.reached stream) known text tells)
+          (input-rose need loads new_loads (input_faults input) (input_faults new_input) stream fails.rose))
+      | inr file ↦ foretold task contents (left input) (Err (Missing need)) failed (missing-loaded contents (left input) task.needs need fails.reached file (fails.lacks is_steady)) (λ needs unread. (refl, says)) known text tells
     ]

@@ -1,19 +1,13 @@
 -- Pieces that are written one after the other, up to one that is cut.
-use Rattle.std.proofs.Common.{◌≡◌, ℕ, zero, suc, ◌+◌, ◌<◌, ◌≤◌, List, [], ◌∷◌, ◌++◌, length, get_or, take, refl, sym, ap, subst, ◌∙◌, inr, arith, append_assoc}
+use Rattle.std.proofs.Common.{◌≡◌, ℕ, zero, suc, ◌+◌, ◌<◌, ◌≤◌, List, [], ◌∷◌, ◌++◌, length, get_or, take, sym, ap, subst, ◌∙◌, inr, arith, append_assoc}
 use Rattle.std.specs.Prelude.{Option}
 use Rattle.std.specs.List.{flat_map}
 use Rattle.std.specs.Io.KnownBytes.{Appends}
 use Rattle.std.proofs.KnownBytes.{Appends-trans}
+use Rattle.std.proofs.Math.Seq.{take-append-add}
 use Rattle.std.proofs.lemmas.List.{take-append-le, length-append}
 use Rattle.ice_io.specs.Faults.{Rose}
 use Rattle.tool_run.specs.Effects.{Writes}
-
--- a front whole, and some of what follows
-take_front : (front back : List ℕ) (n : ℕ) → take (length front + n) (front ++ back) ≡ front ++ take n back
-take_front [] back n = let none : 0 + n ≡ n = omega arith in rw none refl
-take_front (x ∷ front) back n =
-    let more : suc (length front) + n ≡ suc (length front + n) = omega arith in
-    rw more (ap (λ xs. x ∷ xs) (take_front front back n))
 
 -- the pieces before one, and some of that one
 pub pieces_until : {X : Type 0} (f : X → List ℕ) (xs : List X) (k : ℕ) (d : X) (n : ℕ) → k < length xs → n ≤ length (f (get_or xs k d))
@@ -25,7 +19,7 @@ pieces_until f (x ∷ xs) (suc k) d n lt short =
     let long : length (f x ++ front) + n ≡ length (f x) + (length front + n) = omega (arith, length-append (f x) front) in
     append_assoc (f x) front (take n (f (get_or xs k d)))
     ∙ ap (λ more. f x ++ more) (pieces_until f xs k d n (omega arith) short)
-    ∙ sym (take_front (f x) (flat_map f xs) (length front + n))
+    ∙ sym (take-append-add (f x) (flat_map f xs) (length front + n))
     ∙ ap (λ m. take m (f x ++ flat_map f xs)) (sym long)
 
 -- a line that was cut at a piece

@@ -7,24 +7,24 @@ use Rattle.tool_run.specs.Effects.{Delivers, DeliversPart, TargetRose, Writes}
 use Rattle.tool_run.specs.declared.load.LoadStop.{LoadStop}
 use Rattle.tool_run.specs.declared.load.LoadStop.TheVariants as load_stop
 use Rattle.tool_run.specs.declared.tool.Stop.{Stop}
-use Rattle.tool_run.specs.declared.tool.Stop.TheVariants.{Refused, NotTaken, Memory}
+use Rattle.tool_run.specs.declared.tool.Stop.TheVariants.{Refused, UsageError, Memory}
 
 -- a tool stops with this status, and S holds of what it says
 abbrev pub Refuses : ℕ → (List ℕ → Type 0) → Stop → Type 0
 Refuses status S (Refused refusal) = (status ≡ 1) × S (refusal_text refusal)
-Refuses status S (NotTaken refusal) = (status ≡ 2) × S (refusal_text refusal)
+Refuses status S (UsageError refusal) = (status ≡ 2) × S (refusal_text refusal)
 Refuses status S Memory = ⊥
 
 -- what became of what a tool made, by its bytes, or of why it gives none
-pub record Concludes {F O E M : Type 0} (contents : F → Option FileMap) (store_faults : F → ℕ) (held : O → Option (List ℕ)) (output_faults : O → ℕ) (told : E → Option (List ℕ)) (error_faults : E → ℕ) (speaker : List ℕ) (target : Option (List ℕ)) (bytes : M → List ℕ) (made : Result M Stop) (status : ℕ) (files new_files : F) (output new_output : O) (errors new_errors : E) : Type 0 where
+pub record Concludes {F O E M : Type 0} (contents : F → Option FileMap) (store_faults : F → ℕ) (held : O → Option (List ℕ)) (output_faults : O → ℕ) (told : E → Option (List ℕ)) (error_faults : E → ℕ) (tool_name : List ℕ) (target : Option (List ℕ)) (bytes : M → List ℕ) (made : Result M Stop) (status : ℕ) (files new_files : F) (output new_output : O) (errors new_errors : E) : Type 0 where
   pub statuses : (status ≡ 0) ⊎ (status ≡ 1) ⊎ (status ≡ 2) ⊎ (status ≡ 4) ⊎ (status ≡ 5)
   pub whole : status ≡ 0 → IsOkAnd made (λ content. Delivers target (bytes content) (contents files) (contents new_files) (held output) (held new_output))
   pub silent : status ≡ 0 → new_errors ≡ errors
-  pub refused : (status ≡ 1) ⊎ (status ≡ 2) → IsErrAnd made (Refuses status (λ text. Writes (line_of speaker text) (told errors) (told new_errors) (error_faults errors) (error_faults new_errors)))
+  pub refused : (status ≡ 1) ⊎ (status ≡ 2) → IsErrAnd made (Refuses status (λ text. Writes (line_of tool_name text) (told errors) (told new_errors) (error_faults errors) (error_faults new_errors)))
   pub part : status ≡ 4 → IsOkAnd made (λ content. DeliversPart target (bytes content) (contents files) (contents new_files) (held output) (held new_output))
   pub rose : status ≡ 4 → TargetRose target (store_faults files) (store_faults new_files) (output_faults output) (output_faults new_output)
-  pub target_line : status ≡ 4 → Writes (line_of speaker (write_failed target)) (told errors) (told new_errors) (error_faults errors) (error_faults new_errors)
-  pub memory : status ≡ 5 → Writes (line_of speaker out_of_memory) (told errors) (told new_errors) (error_faults errors) (error_faults new_errors)
+  pub target_line : status ≡ 4 → Writes (line_of tool_name (write_failed target)) (told errors) (told new_errors) (error_faults errors) (error_faults new_errors)
+  pub memory : status ≡ 5 → Writes (line_of tool_name out_of_memory) (told errors) (told new_errors) (error_faults errors) (error_faults new_errors)
   pub untouched : status ≢ 0 → status ≢ 4 → new_output ≡ output
   pub kept : status ≢ 0 → status ≢ 4 → new_files ≡ files
   pub aside : target ≢ None → new_output ≡ output

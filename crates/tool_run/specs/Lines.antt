@@ -50,7 +50,7 @@ parts_text parts = flat_map part_text parts
 
 -- a line: who speaks, a text, and LF
 abbrev pub line_of : List ℕ → List ℕ → List ℕ
-line_of speaker text = speaker ++ codes ": " ++ text ++ 10 ∷ []
+line_of tool_name text = tool_name ++ codes ": " ++ text ++ 10 ∷ []
 
 -- a file by its name, and standard input
 abbrev pub source_name : Option (List ℕ) → List ℕ

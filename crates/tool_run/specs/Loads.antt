@@ -1,41 +1,61 @@
 -- Loading one need after the other.
-use Rattle.std.specs.Prelude.{◌≡◌, ℕ, Bool, true, false, List, [], ◌∷◌, Option, None, Some, Ok, Err, MatchOption, Contains}
-use Rattle.ice_io.specs.Files.{FileMap, LacksFile}
-use Rattle.tool_run.specs.Needs.{Need, is_stream, need_of, reads_input}
-use Rattle.tool_run.specs.Tasks.{LoadFault, Missing, TooLong as MissesLimit, bytes_of, loaded, reached}
+use Rattle.std.specs.Prelude.{◌≡◌, ◌⊎◌, ℕ, ◌<◌, ◌≤◌, Bool, true, false, List, ◌∷◌, ◌++◌, length, Option, None, Some, MatchOption, ⊤}
+use Rattle.std.specs.List.{AllZip}
+use Rattle.ice_io.specs.Files.{FileMap, HasFile, LacksFile}
+use Rattle.tool_run.specs.Needs.{Need, is_stream, need_of}
 use Rattle.tool_run.specs.Effects.{SourceRose}
 use Rattle.tool_run.specs.declared.load.LoadStop.{LoadStop}
 use Rattle.tool_run.specs.declared.load.LoadStop.TheVariants.{Failed, TooLong, Memory}
 
--- the side of a need is told: the input, or the files
-abbrev pub NameIsTold : Option FileMap → Option (List ℕ) → FileMap → List ℕ → Option (List ℕ) → Type 0
-NameIsTold contents left files input None = left ≡ Some input
-NameIsTold contents left files input (Some name) = contents ≡ Some files
+-- where standard input is told, it has these bytes
+abbrev pub HasInput : Option (List ℕ) → List ℕ → Type 0
+HasInput None bytes = ⊤
+HasInput (Some input) bytes = input ≡ bytes
 
--- the side of the first need is told, and of the others where the first could be read
-abbrev pub AreTold : Option FileMap → Option (List ℕ) → FileMap → List ℕ → List Need → Type 0
-AreTold contents left files input [] = Unit {0}
-AreTold contents left files input (need ∷ needs) =
-    NameIsTold contents left files input need.name
-    × ((bytes : List ℕ) → bytes_of files input need ≡ Ok bytes → AreTold contents left files input needs)
+-- where it is told, standard input has these bytes, or the file of that name
+abbrev pub SourceHas : Option FileMap → Option (List ℕ) → Option (List ℕ) → List ℕ → Type 0
+SourceHas contents left None bytes = HasInput left bytes
+SourceHas contents left (Some name) bytes = HasFile contents name bytes
 
--- where the needs are told as far as they are read, P holds of files and input
-abbrev pub WhereTold : Option FileMap → Option (List ℕ) → List Need → (FileMap → List ℕ → Type 0) → Type 0
-WhereTold contents left needs P = (files : FileMap) (input : List ℕ) → AreTold contents left files input needs → P files input
+-- bytes that a need may have: no more than its limit, and those that are told where they are told
+abbrev pub IsTextOf : Option FileMap → Option (List ℕ) → Need → List ℕ → Type 0
+IsTextOf contents left need bytes = (length bytes ≤ need.limit) × SourceHas contents left need.name bytes
 
--- a need failed to be read: the count of its side rose, over steady files there is no such file, and standard input is among
--- what is read if it is the one
-pub record FailsToLoad (contents : Option FileMap) (steady : Bool) (left : Option (List ℕ)) (needs : List Need) (load_faults new_load_faults input_faults new_input_faults : ℕ) (need : Need) : Type 0 where
-  pub needed : Contains needs need
-  pub rose : SourceRose need load_faults new_load_faults input_faults new_input_faults
+-- texts that needs may have: one for each, in their order
+abbrev pub AreTextsOf : Option FileMap → Option (List ℕ) → List Need → List (List ℕ) → Type 0
+AreTextsOf contents left needs texts = AllZip (IsTextOf contents left) needs texts
+
+-- a need comes after others that have texts
+pub record Reaches (contents : Option FileMap) (left : Option (List ℕ)) (needs : List Need) (need : Need) : Type 0 where
+  pub before : List Need
+  pub behind : List Need
+  pub texts : List (List ℕ)
+  pub order : needs ≡ before ++ need ∷ behind
+  pub read : AreTextsOf contents left before texts
+
+-- a need failed to be read: it was reached, the count of its side rose, and over steady files there is no such file. Where it is
+-- a file, standard input wasn't tried
+pub record FailsToLoad {I : Type 0} (contents : Option FileMap) (steady : Bool) (left : I → Option (List ℕ)) (input_faults : I → ℕ) (needs : List Need) (load_faults new_load_faults : ℕ) (input new_input : I) (need : Need) : Type 0 where
+  pub reached : Reaches contents (left input) needs need
+  pub rose : SourceRose need load_faults new_load_faults (input_faults input) (input_faults new_input)
   pub lacks : steady ≡ true → MatchOption need.name (Unit {0}) (λ name. LacksFile contents name)
-  pub missing : steady ≡ true → is_stream need.name ≡ false → WhereTold contents left needs (λ files input. loaded files input needs ≡ Err (Missing need))
-  pub input : is_stream need.name ≡ true → WhereTold contents left needs (λ files input. reads_input (reached files input needs) ≡ true)
+  pub untried : is_stream need.name ≡ false → new_input ≡ input
+
+-- a need passes its limit: it was reached, and has more bytes. Where it is a file, standard input wasn't tried
+pub record PassesLimit {I : Type 0} (contents : Option FileMap) (left : I → Option (List ℕ)) (needs : List Need) (input new_input : I) (need : Need) : Type 0 where
+  pub reached : Reaches contents (left input) needs need
+  pub longer : (bytes : List ℕ) × SourceHas contents (left input) need.name bytes × (need.limit < length bytes)
+  pub untried : is_stream need.name ≡ false → new_input ≡ input
 
 -- why loading stopped
-abbrev pub StopsLoading : Option FileMap → Bool → Option (List ℕ) → List Need → ℕ → ℕ → ℕ → ℕ → LoadStop → Type 0
-StopsLoading contents steady left needs load_faults new_load_faults input_faults new_input_faults (Failed load) =
-    FailsToLoad contents steady left needs load_faults new_load_faults input_faults new_input_faults (need_of load)
-StopsLoading contents steady left needs load_faults new_load_faults input_faults new_input_faults (TooLong load) =
-    WhereTold contents left needs (λ files input. loaded files input needs ≡ Err (MissesLimit (need_of load)))
-StopsLoading contents steady left needs load_faults new_load_faults input_faults new_input_faults Memory = Unit {0}
+abbrev pub StopsLoading : {I : Type 0} → Option FileMap → Bool → (I → Option (List ℕ)) → (I → ℕ) → List Need → ℕ → ℕ → I → I → LoadStop → Type 0
+StopsLoading contents steady left input_faults needs load_faults new_load_faults input new_input (Failed load) =
+    FailsToLoad contents steady left input_faults needs load_faults new_load_faults input new_input (need_of load)
+StopsLoading contents steady left input_faults needs load_faults new_load_faults input new_input (TooLong load) =
+    PassesLimit contents left needs input new_input (need_of load)
+StopsLoading contents steady left input_faults needs load_faults new_load_faults input new_input Memory = Unit {0}
+
+-- standard input stays as it was, unless it was reached
+abbrev pub IsReached : {I : Type 0} → Option FileMap → (I → Option (List ℕ)) → List Need → I → I → Type 0
+IsReached contents left needs input new_input =
+    (new_input ≡ input) ⊎ ((need : Need) × (is_stream need.name ≡ true) × Reaches contents (left input) needs need)

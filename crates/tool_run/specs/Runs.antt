@@ -1,12 +1,13 @@
 -- What a run of a task does, whatever the task is.
-use Rattle.std.specs.Prelude.{◌≡◌, ◌≢◌, ◌⊎◌, ℕ, ◌≤◌, Bool, true, false, List, Option, None, Some, MatchOption, Contains}
+use Rattle.std.specs.Prelude.{◌≡◌, ◌≢◌, ◌⊎◌, ℕ, ◌≤◌, Bool, true, false, List, Option, None}
 use Rattle.std.specs.Io.KnownBytes.{IsAtEnd}
 use Rattle.ice_io.specs.Faults.{Rose}
-use Rattle.ice_io.specs.Files.{FileMap, LacksFile}
+use Rattle.ice_io.specs.Files.{FileMap}
 use Rattle.tool_run.specs.Needs.{Need, is_stream, reads_files, reads_input}
-use Rattle.tool_run.specs.Lines.{line_of, out_of_memory, read_failed, write_failed}
-use Rattle.tool_run.specs.Tasks.{NotTaken, Outcome, Task}
-use Rattle.tool_run.specs.Effects.{Delivers, DeliversPart, Foretells, SourceRose, TargetRose, Writes}
+use Rattle.tool_run.specs.Lines.{line_of, out_of_memory, read_failed, too_long, write_failed}
+use Rattle.tool_run.specs.Tasks.{Answer, Done, UsageError, Outcome, Refused, Task}
+use Rattle.tool_run.specs.Effects.{Delivers, DeliversPart, Foretells, TargetRose, Writes}
+use Rattle.tool_run.specs.Loads.{AreTextsOf, FailsToLoad, PassesLimit}
 
 -- how clauses read the files, the input, the output and the errors of a run
 pub record Outside (F I O E : Type 0) : Type 0 where
@@ -66,27 +67,37 @@ module _ {F I O E : Type 0} where
   abbrev pub Foresees : Outside F I O E → Task → Scene F I O E → (Outcome → Type 0) → Type 0
   Foresees by task old P = Foretells task (by.contents old.files) (by.left old.input) P
 
-  -- a need of the task failed to be read: the count of its side rose, over steady files there is no such file, its line is
-  -- written, and standard input is among what the outcome reads if it is the one
+  -- the task makes this answer of texts that its needs may have: one for each, within its limit, and the told ones where they are told
+  abbrev pub Makes : Outside F I O E → Task → Scene F I O E → Answer → Type 0
+  Makes by task old answer = (texts : List (List ℕ)) × AreTextsOf (by.contents old.files) (by.left old.input) task.needs texts × (task.answer texts ≡ answer)
+
+  -- a need of the task failed to be read, and its line is written. It is standard input only where the outcome reads it
   pub record FailsToRead (by : Outside F I O E) (task : Task) (old new : Scene F I O E) (need : Need) : Type 0 where
-    pub needed : Contains task.needs need
-    pub rose : SourceRose need (by.load_faults old.files) (by.load_faults new.files) (by.input_faults old.input) (by.input_faults new.input)
-    pub missing : by.steady old.files ≡ true → MatchOption need.name (Unit {0}) (λ name. LacksFile (by.contents old.files) name)
-    pub line : Says by old new (line_of task.speaker (read_failed need))
+    pub fails : FailsToLoad (by.contents old.files) (by.steady old.files) by.left by.input_faults task.needs (by.load_faults old.files) (by.load_faults new.files) old.input new.input need
+    pub line : Says by old new (line_of task.tool_name (read_failed need))
     pub input : is_stream need.name ≡ true → Foresees by task old (λ o. o.reads_input ≡ true)
 
-  -- the run of a task with this status
+  -- the run of a task with this status. What files and input tell foresees its outcome; what they don't tell may be any texts, and the
+  -- status has its cause in these
   pub record Does (by : Outside F I O E) (task : Task) (status : ℕ) (old new : Scene F I O E) : Type 0 where
     pub statuses : status ≤ 6
-    -- 0: the outcome was delivered whole, its input was read to the end, and nothing was said
+    -- 0: the outcome was delivered whole, that is, what the tool makes of texts; the input was read to the end, and nothing was said
     pub whole : status ≡ 0 → (bytes : List ℕ)
         × Delivers task.target bytes (by.contents old.files) (by.contents new.files) (by.held old.output) (by.held new.output)
         × Foresees by task old (HasBytes bytes)
+        × Makes by task old (Done bytes)
     pub end : status ≡ 0 → reads_input task.needs ≡ true → IsAtEnd (by.left new.input)
     pub silent : status ≡ 0 → new.errors ≡ old.errors
-    -- 1, 2 and 6: the outcome's status, and its line; 2 only where the tool doesn't take the command line
-    pub usage : status ≡ 2 → (texts : List (List ℕ)) × (said : List ℕ) × (task.answer texts ≡ NotTaken said) × Says by old new (line_of task.speaker said)
+    -- 1, 2 and 6: the outcome's status, and its line
     pub refused : IsRefusal status → Foresees by task old (λ o. (o.status ≡ status) × Says by old new o.message)
+    -- 1: the tool refuses texts, and its line says so
+    pub refusal : status ≡ 1 → (said : List ℕ) × Makes by task old (Refused said) × Says by old new (line_of task.tool_name said)
+    -- 2: the tool doesn't take the command line, and its line says so
+    pub usage : status ≡ 2 → (said : List ℕ) × Makes by task old (UsageError said) × Says by old new (line_of task.tool_name said)
+    -- 6: a need passes its limit, and its line says so
+    pub longer : status ≡ 6 → (need : Need)
+        × PassesLimit (by.contents old.files) by.left task.needs old.input new.input need
+        × Says by old new (line_of task.tool_name (too_long need))
     -- 3: a read failed. Over steady files it is the outcome's, unless standard input failed that the outcome reads
     pub read : status ≡ 3 → (need : Need) × FailsToRead by task old new need
     pub steady : status ≡ 3 → by.steady old.files ≡ true → Foresees by task old (λ o.
@@ -96,15 +107,17 @@ module _ {F I O E : Type 0} where
     pub part : status ≡ 4 → (bytes : List ℕ)
         × DeliversPart task.target bytes (by.contents old.files) (by.contents new.files) (by.held old.output) (by.held new.output)
         × Foresees by task old (HasBytes bytes)
+        × Makes by task old (Done bytes)
     pub rose : status ≡ 4 → TargetRose task.target (by.store_faults old.files) (by.store_faults new.files) (by.output_faults old.output) (by.output_faults new.output)
-    pub target_line : status ≡ 4 → Says by old new (line_of task.speaker (write_failed task.target))
+    pub target_line : status ≡ 4 → Says by old new (line_of task.tool_name (write_failed task.target))
     -- 5: out of memory
-    pub memory : status ≡ 5 → Says by old new (line_of task.speaker out_of_memory)
+    pub memory : status ≡ 5 → Says by old new (line_of task.tool_name out_of_memory)
     -- whatever it is, it is the outcome's status, or 3, 4 or 5 came in its place
     pub exact : Foresees by task old (IsStatusFor status)
     -- only 0 and 4 deliver anything, and what isn't asked for stays as it was
     pub untouched : status ≢ 0 → status ≢ 4 → new.output ≡ old.output
     pub kept : status ≢ 0 → status ≢ 4 → by.contents new.files ≡ by.contents old.files
+    pub unstored : (task.target ≡ None) ⊎ ((status ≢ 0) × (status ≢ 4)) → by.store_faults new.files ≡ by.store_faults old.files
     pub aside : task.target ≢ None → new.output ≡ old.output
     pub unread : reads_input task.needs ≡ false → new.input ≡ old.input
     pub unreached : Foresees by task old (λ o. o.reads_input ≡ false → new.input ≡ old.input)

@@ -9,33 +9,33 @@ use Rattle.tool_run.specs.Lines.{line_of, read_failed, too_long, usage_text}
 pub data Answer : Type 0 where
   Done : List ℕ → Answer
   Refused : List ℕ → Answer
-  NotTaken : List ℕ → Answer
+  UsageError : List ℕ → Answer
 
 -- who speaks, what is read, in order, the file that is stored, or none for standard output, and what is made of what was read
 pub record Task : Type 0 where
-  pub speaker : List ℕ
+  pub tool_name : List ℕ
   pub needs : List Need
   pub target : Option (List ℕ)
   pub answer : List (List ℕ) → Answer
 
 -- a task that reads nothing
 abbrev pub at_once : List ℕ → Option (List ℕ) → Answer → Task
-at_once speaker target answer = record { speaker = speaker; needs = []; target = target; answer = λ texts. answer }
+at_once tool_name target answer = record { tool_name = tool_name; needs = []; target = target; answer = λ texts. answer }
 
 -- a command line that isn't taken: the one that would be is told
-abbrev pub not_taken : List ℕ → List ℕ → Task
-not_taken speaker usage = at_once speaker None (NotTaken (usage_text usage))
+abbrev pub usage_error : List ℕ → List ℕ → Task
+usage_error tool_name usage = at_once tool_name None (UsageError (usage_text usage))
 
 -- whether a tool is asked for its help: by the word `--help` alone behind its name
 abbrev pub asks_for_help : List (List ℕ) → Bool
 asks_for_help [] = false
 asks_for_help (tool ∷ []) = false
 asks_for_help (tool ∷ word ∷ []) = bytes_eq word (codes "--help")
-asks_for_help (tool ∷ word ∷ next ∷ words) = false
+asks_for_help (tool ∷ word ∷ next ∷ args) = false
 
 -- the help of a tool where it is asked for, and else a task
 abbrev pub helped : List ℕ → List ℕ → List (List ℕ) → Task → Task
-helped speaker help words task = if asks_for_help words then at_once speaker None (Done help) else task
+helped tool_name help args task = if asks_for_help args then at_once tool_name None (Done help) else task
 
 -- why a need couldn't be read: there is no such file, or it has more bytes than its limit
 pub data LoadFault : Type 0 where
@@ -107,13 +107,13 @@ ending task needs status bytes message = record {
 
 abbrev pub answered : Task → List Need → Answer → Outcome
 answered task needs (Done bytes) = ending task needs 0 bytes []
-answered task needs (Refused text) = ending task needs 1 [] (line_of task.speaker text)
-answered task needs (NotTaken text) = ending task needs 2 [] (line_of task.speaker text)
+answered task needs (Refused text) = ending task needs 1 [] (line_of task.tool_name text)
+answered task needs (UsageError text) = ending task needs 2 [] (line_of task.tool_name text)
 
 abbrev pub ended : Task → List Need → Result (List (List ℕ)) LoadFault → Outcome
 ended task needs (Ok texts) = answered task needs (task.answer texts)
-ended task needs (Err (Missing need)) = ending task needs 3 [] (line_of task.speaker (read_failed need))
-ended task needs (Err (TooLong need)) = ending task needs 6 [] (line_of task.speaker (too_long need))
+ended task needs (Err (Missing need)) = ending task needs 3 [] (line_of task.tool_name (read_failed need))
+ended task needs (Err (TooLong need)) = ending task needs 6 [] (line_of task.tool_name (too_long need))
 
 -- the outcome of a task, on files and an input
 abbrev pub outcome_of : Task → FileMap → List ℕ → Outcome

@@ -18,7 +18,7 @@ pub enum AtOnce {
     /// A refusal.
     Refuses(Refusal),
     /// The command line isn't taken; this one would be.
-    NotTaken(&'static str),
+    UsageError(&'static str),
 }
 
 impl Tool for AtOnce {
@@ -30,7 +30,7 @@ impl Tool for AtOnce {
         match *self {
             AtOnce::Tells(text) => Ok(Vec::from_slice(alloc, text.as_bytes())?),
             AtOnce::Refuses(refusal) => Err(Stop::Refused(refusal)),
-            AtOnce::NotTaken(usage) => Err(Stop::NotTaken(Refusal {
+            AtOnce::UsageError(usage) => Err(Stop::UsageError(Refusal {
                 first: text("usage: "),
                 second: text(usage),
                 third: text(""),
@@ -43,7 +43,7 @@ impl Tool for AtOnce {
 /// Delivers an answer that is known from the command line alone.
 pub fn answer_at_once<F: Files, I: Source, O: Sink, E: Sink>(
     alloc: Global,
-    speaker: &'static str,
+    tool_name: &'static str,
     answer: AtOnce,
     files: &mut F,
     input: &mut I,
@@ -51,11 +51,11 @@ pub fn answer_at_once<F: Files, I: Source, O: Sink, E: Sink>(
     errors: &mut E,
 ) -> u8
     ensures { Does (outside F.contents F.steady F.load_faults F.store_faults I.left I.faults O.held O.faults E.held E.faults)
-        (at_once speaker.now None (at_once_answer answer)) result
+        (at_once tool_name.now None (at_once_answer answer)) result
         (scene files.old input.old output.old errors.old) (scene files.new input.new output.new errors.new) }
 {
     let job = Job {
-        speaker,
+        tool_name,
         loads: &[],
         target: None,
     };

@@ -2,11 +2,11 @@
 ghost use Rattle.std.specs.Prelude.{◌≡◌, map, string_bytes};
 ghost use Rattle.tool_run.specs.Tasks.{asks_for_help};
 
-/// Whether the words ask a tool for its help: its name and `--help`, and no other word.
-pub fn asks_for_help(words: &[String]) -> bool
-    ensures { result ≡ asks_for_help (map string_bytes words.now) }
+/// Whether the arguments ask a tool for its help: its name and `--help`, and no other word.
+pub fn asks_for_help(args: &[String]) -> bool
+    ensures { result ≡ asks_for_help (map string_bytes args.now) }
 {
-    match words {
+    match args {
         [_, word] => word.as_str() == "--help",
         _ => false,
     }

@@ -5,8 +5,8 @@
 //! takes its last need in pieces, and its answer is made while it is written.
 //!
 //! `Task` (in `specs/Tasks.antt`) says what a command line asks for, and `outcome_of` what comes of it where nothing fails
-//! from outside. `Does` (in `specs/Runs.antt`) says what a run of a task does to files and streams, by its status. Each
-//! function here that answers a status has it as its one clause.
+//! from outside. `Does` (in `specs/Runs.antt`) says what a run of a task does to files and streams, by its status, whether or not
+//! these tell what they hold. Each function here that answers a status has it as its one clause.
 #![tactic(auto)]
 
 mod answering;

@@ -139,12 +139,12 @@ fn write_parts<E: Sink>(errors: &mut E, parts: &[Part<'_>])
     }
 }
 
-/// Writes the line of a speaker who refuses.
-pub(crate) fn write_refusal<E: Sink>(errors: &mut E, speaker: &str, refusal: Refusal)
-    ensures { Writes (line_of speaker.now (refusal_text refusal)) (E.held errors.old) (E.held errors.new) (E.faults errors.old) (E.faults errors.new) }
+/// Writes the line of a tool_name who refuses.
+pub(crate) fn write_refusal<E: Sink>(errors: &mut E, tool_name: &str, refusal: Refusal)
+    ensures { Writes (line_of tool_name.now (refusal_text refusal)) (E.held errors.old) (E.held errors.new) (E.faults errors.old) (E.faults errors.new) }
 {
     let parts = [
-        Part::Text(speaker),
+        Part::Text(tool_name),
         Part::Text(": "),
         Part::Text(refusal.first.text),
         Part::Number(refusal.first.number),
@@ -159,18 +159,18 @@ pub(crate) fn write_refusal<E: Sink>(errors: &mut E, speaker: &str, refusal: Ref
     write_parts(errors, &parts);
 }
 
-/// Writes the line of a speaker: a text, a name, and a phrase behind it.
+/// Writes the line of a tool_name: a text, a name, and a phrase behind it.
 pub(crate) fn write_named<'a, E: Sink>(
     errors: &mut E,
-    speaker: &'a str,
+    tool_name: &'a str,
     what: &'a str,
     name: &'a str,
     behind: Phrase,
 )
-    ensures { Writes (line_of speaker.now (what.now ++ name.now ++ phrase_text behind)) (E.held errors.old) (E.held errors.new) (E.faults errors.old) (E.faults errors.new) }
+    ensures { Writes (line_of tool_name.now (what.now ++ name.now ++ phrase_text behind)) (E.held errors.old) (E.held errors.new) (E.faults errors.old) (E.faults errors.new) }
 {
     let parts = [
-        Part::Text(speaker),
+        Part::Text(tool_name),
         Part::Text(": "),
         Part::Text(what),
         Part::Text(name),

@@ -1,11 +1,10 @@
 // The bytes that a tool needs, loaded in order.
-ghost use Rattle.std.specs.Prelude.{◌≡◌, ◌∷◌, [], ◌+◌, ◌++◌, ℕ, List, length, ◌<◌, ◌≤◌, ◌^◌, true, false, Ok, map, vec_items, IfOk, IfErr, OnOk, IsOkAnd};
+ghost use Rattle.std.specs.Prelude.{◌≡◌, ◌∷◌, [], ◌+◌, ◌++◌, ℕ, List, length, ◌<◌, ◌≤◌, ◌^◌, true, false, map, vec_items, IfOk, IfErr, OnOk};
 ghost use Rattle.std.specs.declared.alloc.AllocError.{AllocError};
 ghost use Rattle.std.specs.Io.KnownBytes.{IsAtEnd};
 ghost use Rattle.ice_io.specs.Takers.{TakesMore};
 ghost use Rattle.tool_run.specs.Needs.{IsSound, is_stream, need_of, reads_files, reads_input};
-ghost use Rattle.tool_run.specs.Tasks.{bytes_of, loaded, reached};
-ghost use Rattle.tool_run.specs.Loads.{StopsLoading, WhereTold};
+ghost use Rattle.tool_run.specs.Loads.{AreTextsOf, IsReached, IsTextOf, StopsLoading};
 
 use ice_io::{Files, Source, TakeFault, Taker, feed_all, read_all};
 use std::alloc::{AllocError, AllocFailed, Global};
@@ -60,17 +59,15 @@ fn load_one<'a, F: Files, I: Source>(
     input: &mut I,
 ) -> Result<Vec<u8>, LoadStop<'a>>
     requires { load.limit < 2 ^ 32 }
-    ensures bytes { IfOk result (λ bytes. WhereTold (F.contents files.old) (I.left input.old) (need_of load.entry ∷ [])
-        (λ known text. bytes_of known text (need_of load.entry) ≡ Ok bytes.items)) }
-    ensures stops { IfErr result (StopsLoading (F.contents files.old) (F.steady files.old) (I.left input.old) (need_of load.entry ∷ [])
-        (F.load_faults files.old) (F.load_faults files.new) (I.faults input.old) (I.faults input.new)) }
+    ensures text { IfOk result (λ bytes. IsTextOf (F.contents files.old) (I.left input.old) (need_of load.entry) bytes.items) }
+    ensures stops { IfErr result (StopsLoading (F.contents files.old) (F.steady files.old) I.left I.faults (need_of load.entry ∷ [])
+        (F.load_faults files.old) (F.load_faults files.new) input.old input.new) }
     ensures end { OnOk result (is_stream (need_of load.entry).name ≡ true → IsAtEnd (I.left input.new)) }
 
     ensures same_contents { F.contents files.new ≡ F.contents files.old }
     ensures same_steady { F.steady files.new ≡ F.steady files.old }
     ensures same_store_faults { F.store_faults files.new ≡ F.store_faults files.old }
     ensures load_faults { F.load_faults files.old ≤ F.load_faults files.new }
-    ensures input_faults { I.faults input.old ≤ I.faults input.new }
     ensures unread { is_stream (need_of load.entry).name ≡ false → input.new ≡ input.old }
     ensures unasked { is_stream (need_of load.entry).name ≡ true → files.new ≡ files.old }
 {
@@ -95,21 +92,19 @@ pub(crate) fn load_all<'a, F: Files, I: Source>(
     texts: &mut Vec<Vec<u8>>,
 ) -> Result<(), LoadStop<'a>>
     requires { IsSound (map need_of loads.now) }
-    ensures bytes { OnOk result (WhereTold (F.contents files.old) (I.left input.old) (map need_of loads.now)
-        (λ known text. IsOkAnd (loaded known text (map need_of loads.now)) (λ bytes. map vec_items texts.new.items ≡ map vec_items texts.old.items ++ bytes))) }
+    ensures texts { OnOk result ((read : List (List ℕ)) × AreTextsOf (F.contents files.old) (I.left input.old) (map need_of loads.now) read
+        × (map vec_items texts.new.items ≡ map vec_items texts.old.items ++ read)) }
     ensures count { OnOk result (length texts.new.items ≡ length texts.old.items + length loads.now) }
-    ensures stops { IfErr result (StopsLoading (F.contents files.old) (F.steady files.old) (I.left input.old) (map need_of loads.now)
-        (F.load_faults files.old) (F.load_faults files.new) (I.faults input.old) (I.faults input.new)) }
+    ensures stops { IfErr result (StopsLoading (F.contents files.old) (F.steady files.old) I.left I.faults (map need_of loads.now)
+        (F.load_faults files.old) (F.load_faults files.new) input.old input.new) }
     ensures end { OnOk result (reads_input (map need_of loads.now) ≡ true → IsAtEnd (I.left input.new)) }
 
     ensures same_contents { F.contents files.new ≡ F.contents files.old }
     ensures same_steady { F.steady files.new ≡ F.steady files.old }
     ensures same_store_faults { F.store_faults files.new ≡ F.store_faults files.old }
     ensures load_faults { F.load_faults files.old ≤ F.load_faults files.new }
-    ensures input_faults { I.faults input.old ≤ I.faults input.new }
     ensures unread { reads_input (map need_of loads.now) ≡ false → input.new ≡ input.old }
-    ensures unreached { WhereTold (F.contents files.old) (I.left input.old) (map need_of loads.now)
-        (λ known text. reads_input (reached known text (map need_of loads.now)) ≡ false → input.new ≡ input.old) }
+    ensures unreached { IsReached (F.contents files.old) I.left (map need_of loads.now) input.old input.new }
     ensures unasked { reads_files (map need_of loads.now) ≡ false → files.new ≡ files.old }
 {
     for load in loads {
@@ -131,10 +126,10 @@ pub(crate) fn load_into<'a, K: Taker, F: Files, I: Source>(
 ) -> Result<(), LoadStop<'a>>
     requires limit { load.limit < 2 ^ 32 }
     requires none { K.fed taker.old ≡ 0 }
-    ensures bytes { OnOk result ((bytes : List ℕ) × WhereTold (F.contents files.old) (I.left input.old) (need_of load.entry ∷ [])
-        (λ known text. bytes_of known text (need_of load.entry) ≡ Ok bytes) × TakesMore K.has_taken taker.old taker.new bytes) }
-    ensures stops { IfErr result (StopsLoading (F.contents files.old) (F.steady files.old) (I.left input.old) (need_of load.entry ∷ [])
-        (F.load_faults files.old) (F.load_faults files.new) (I.faults input.old) (I.faults input.new)) }
+    ensures text { OnOk result ((bytes : List ℕ) × IsTextOf (F.contents files.old) (I.left input.old) (need_of load.entry) bytes
+        × TakesMore K.has_taken taker.old taker.new bytes) }
+    ensures stops { IfErr result (StopsLoading (F.contents files.old) (F.steady files.old) I.left I.faults (need_of load.entry ∷ [])
+        (F.load_faults files.old) (F.load_faults files.new) input.old input.new) }
     ensures end { OnOk result (is_stream (need_of load.entry).name ≡ true → IsAtEnd (I.left input.new)) }
 
     ensures same_contents { F.contents files.new ≡ F.contents files.old }

@@ -21,7 +21,7 @@ use std::alloc::Global;
 #[derive(Clone, Copy, Debug, PartialEq, Eq)]
 pub struct Job<'a> {
     /// The name that begins each of its lines.
-    pub speaker: &'static str,
+    pub tool_name: &'static str,
     /// What is loaded, in order.
     pub loads: &'a [Load<'a>],
     /// The file that is stored, or none where the bytes go to standard output.
@@ -49,10 +49,10 @@ fn target_name<'a>(target: Option<&'a str>) -> &'a str
 }
 
 // Writes that there is no memory.
-fn write_out_of_memory<E: Sink>(errors: &mut E, speaker: &str)
-    ensures { Writes (line_of speaker.now out_of_memory) (E.held errors.old) (E.held errors.new) (E.faults errors.old) (E.faults errors.new) }
+fn write_out_of_memory<E: Sink>(errors: &mut E, tool_name: &str)
+    ensures { Writes (line_of tool_name.now out_of_memory) (E.held errors.old) (E.held errors.new) (E.faults errors.old) (E.faults errors.new) }
 {
-    write_named(errors, speaker, "out of memory", "", text(""));
+    write_named(errors, tool_name, "out of memory", "", text(""));
 }
 
 // Delivers what the tool made, or says why there is nothing.
@@ -63,7 +63,7 @@ fn conclude<C: Content, F: Files, O: Sink, E: Sink>(
     output: &mut O,
     errors: &mut E,
 ) -> u8
-    ensures { Concludes F.contents F.store_faults O.held O.faults E.held E.faults job.now.speaker.now (text_of job.now.target) C.bytes made result
+    ensures { Concludes F.contents F.store_faults O.held O.faults E.held E.faults job.now.tool_name.now (text_of job.now.target) C.bytes made result
         files.old files.new output.old output.new errors.old errors.new }
 {
     match made {
@@ -71,42 +71,42 @@ fn conclude<C: Content, F: Files, O: Sink, E: Sink>(
             Ok(()) => 0,
             Err(_) => {
                 let name = target_name(job.target);
-                write_named(errors, job.speaker, "write failed: ", name, text(""));
+                write_named(errors, job.tool_name, "write failed: ", name, text(""));
                 4
             }
         },
         Err(Stop::Refused(refusal)) => {
-            write_refusal(errors, job.speaker, refusal);
+            write_refusal(errors, job.tool_name, refusal);
             1
         }
-        Err(Stop::NotTaken(refusal)) => {
-            write_refusal(errors, job.speaker, refusal);
+        Err(Stop::UsageError(refusal)) => {
+            write_refusal(errors, job.tool_name, refusal);
             2
         }
         Err(Stop::Memory) => {
-            write_out_of_memory(errors, job.speaker);
+            write_out_of_memory(errors, job.tool_name);
             5
         }
     }
 }
 
 // Says why loading stopped.
-fn tell_stop<E: Sink>(errors: &mut E, speaker: &str, stop: LoadStop<'_>) -> u8
-    ensures { TellsStop result (λ said. Writes (line_of speaker.now said) (E.held errors.old) (E.held errors.new) (E.faults errors.old) (E.faults errors.new)) stop.entry }
+fn tell_stop<E: Sink>(errors: &mut E, tool_name: &str, stop: LoadStop<'_>) -> u8
+    ensures { TellsStop result (λ said. Writes (line_of tool_name.now said) (E.held errors.old) (E.held errors.new) (E.faults errors.old) (E.faults errors.new)) stop.entry }
 {
     match stop {
         LoadStop::Failed(load) => {
             let name = source_name(load);
-            write_named(errors, speaker, "read failed: ", name, text(""));
+            write_named(errors, tool_name, "read failed: ", name, text(""));
             3
         }
         LoadStop::TooLong(load) => {
             let limit = decimal(" limit ", load.limit as u64);
-            write_named(errors, speaker, "too long: ", source_name(load), limit);
+            write_named(errors, tool_name, "too long: ", source_name(load), limit);
             6
         }
         LoadStop::Memory => {
-            write_out_of_memory(errors, speaker);
+            write_out_of_memory(errors, tool_name);
             5
         }
     }
@@ -132,7 +132,7 @@ pub fn perform<T: Tool, F: Files, I: Source, O: Sink, E: Sink>(
 {
     match answer_whole(alloc, tool, job.loads, files, input) {
         Ok(made) => conclude(job, made, files, output, errors),
-        Err(stop) => tell_stop(errors, job.speaker, stop),
+        Err(stop) => tell_stop(errors, job.tool_name, stop),
     }
 }
 
@@ -156,23 +156,23 @@ pub fn perform_in_pieces<T: PieceTool, F: Files, I: Source, O: Sink, E: Sink>(
 {
     match answer_in_pieces(alloc, tool, job.loads, files, input) {
         Ok(made) => conclude(job, made, files, output, errors),
-        Err(stop) => tell_stop(errors, job.speaker, stop),
+        Err(stop) => tell_stop(errors, job.tool_name, stop),
     }
 }
 
 /// Says that memory ran out before the command line could be read, whatever it asks for.
 pub fn give_up<F: Files, I: Source, O: Sink, E: Sink>(
-    speaker: &'static str,
+    tool_name: &'static str,
     files: &mut F,
     input: &mut I,
     output: &mut O,
     errors: &mut E,
 ) -> u8
     ensures status { result ≡ 5 }
-    ensures does { (task : Task) → task.speaker ≡ speaker.now
+    ensures does { (task : Task) → task.tool_name ≡ tool_name.now
         → Does (outside F.contents F.steady F.load_faults F.store_faults I.left I.faults O.held O.faults E.held E.faults) task result
         (scene files.old input.old output.old errors.old) (scene files.new input.new output.new errors.new) }
 {
-    write_out_of_memory(errors, speaker);
+    write_out_of_memory(errors, tool_name);
     5
 }

@@ -12,7 +12,7 @@ pub enum Stop {
     /// The tool refuses what it was given.
     Refused(Refusal),
     /// The command line isn't taken.
-    NotTaken(Refusal),
+    UsageError(Refusal),
     /// Out of memory.
     Memory,
 }

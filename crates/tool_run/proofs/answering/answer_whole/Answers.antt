@@ -1,25 +1,27 @@
-use Rattle.std.proofs.Common.{ap}
+use Rattle.std.proofs.Common.{◌≡◌, ◌∙◌, ◌++◌, ℕ, List, ap, subst, sym}
 use Rattle.std.specs.Prelude.{map, vec_items}
 use Rattle.tool_run.specs.Needs.{need_of}
-use Rattle.tool_run.specs.Tasks.{loaded}
-use Rattle.tool_run.proofs.Outcomes.{gives_of, loaded-is}
+use Rattle.tool_run.specs.Loads.{AreTextsOf}
+use Rattle.tool_run.proofs.Outcomes.{gives_of}
 use Rattle.tool_run.proofs.answering.answer_whole.Goals as goal
 
 pub returns-in-Ok : goal.returns-in-Ok
 returns-in-Ok g c =
     let needs = map need_of c.args.loads.now in
     let texts = map vec_items c.load_all.new.texts.items in
+    let l = c.in-Ok.ensures in
+    let read : texts ≡ l.texts.0 = l.texts.2 ∙ ap (λ old. map vec_items old ++ l.texts.0) c.new-loaded.ensures.items in
     record {
       made = (
         texts,
-        λ known text told. loaded-is (loaded known text needs) (map vec_items c.new-loaded.result.items) texts (ap (map vec_items) c.new-loaded.ensures.items) (c.in-Ok.ensures.bytes known text told),
+        subst (λ (all : List (List ℕ)). AreTextsOf (g.F.Files.contents c.args.files.now) (g.I.Source.left c.args.input.now) needs all) (sym read) l.texts.1,
         gives_of vec_items c.answer.result (g.T.Tool.answer_of c.args.tool.now texts) c.answer.ensures.bytes c.answer.ensures.stops,
       );
       stops = tt;
-      end = λ reads. c.in-Ok.ensures.end reads;
-      same_contents = c.in-Ok.ensures.same_contents;
-      same_store_faults = c.in-Ok.ensures.same_store_faults;
-      unread = c.in-Ok.ensures.unread;
-      unreached = c.in-Ok.ensures.unreached;
-      unasked = c.in-Ok.ensures.unasked;
+      end = λ reads. l.end reads;
+      same_contents = l.same_contents;
+      same_store_faults = l.same_store_faults;
+      unread = l.unread;
+      unreached = l.unreached;
+      unasked = l.unasked;
     }

@@ -1,13 +1,14 @@
-use Rattle.std.proofs.Common.{◌≡◌, ◌+◌, length, length-append, ◌++◌, ◌∷◌, [], ◌||◌, ℕ, List, Bool, true, false, not, drop, get_or, refl, sym, ap, subst, ◌∙◌, arith}
-use Rattle.std.specs.Prelude.{None, map, vec_items, IsOkAnd}
+use Rattle.std.proofs.Common.{◌≡◌, ◌+◌, length, length-append, ◌++◌, ◌∷◌, [], List, false, drop, take, get_or, sym, ap, subst, ◌∙◌, arith, append_assoc}
+use Rattle.std.specs.Prelude.{None, map, vec_items}
 use Rattle.std.specs.Io.KnownBytes.{IsAtEnd}
-use Rattle.std.proofs.lemmas.List.{map_push, append-nil}
+use Rattle.std.proofs.lemmas.List.{map_push}
+use Rattle.std.proofs.lemmas.List.Folds.{list_any-append}
 use Rattle.tool_run.specs.declared.load.Load.{Load}
-use Rattle.tool_run.specs.declared.load.LoadStop.{LoadStop}
-use Rattle.tool_run.specs.Needs.{Need, IsSound, is_stream, need_of, reads_input, reads_files}
-use Rattle.tool_run.specs.Tasks.{bytes_of, loaded, reached}
-use Rattle.tool_run.specs.Loads.{StopsLoading, WhereTold}
-use Rattle.tool_run.proofs.Loading.{Between, IsSound-rest, drop-all, drop-need, end-here, loads_all, not-first, not-others, stops_first, stops_later, stream-not, unreached-first, unreached-rest}
+use Rattle.tool_run.specs.Needs.{Need, is_stream, need_of, reads_input}
+use Rattle.tool_run.specs.Loads.{AreTextsOf, IsReached, IsTextOf, StopsLoading}
+use Rattle.std.proofs.Math.Bool.{or-false}
+use Rattle.std.proofs.lemmas.Bool.{or_parts}
+use Rattle.tool_run.proofs.Loading.{end-here, file-at, file-before, limit-at, one-reached, split-need, stops_behind, stops_now, stream-at, take-need, take-needs, texts-append}
 use Rattle.tool_run.proofs.load.load_all.Goals as goal
 
 -- where there is no load
@@ -16,71 +17,53 @@ none = record { name = None; limit = 0 }
 
 pub load_one-requires : goal.load_one-requires
 unfolding none
-load_one-requires g c =
-    let k = c.loop-load.load-index in
-    let needs = map need_of c.args.loads.now in
-    let sound : IsSound (need_of (get_or c.args.loads.now k none) ∷ drop (k + 1) needs) = subst (λ (left : List Need). IsSound left) (drop-need c.args.loads.now k none c.loop-load-test.true) c.loop-load.invariant.sound in
-    sound.limits 0 (need_of none) (omega arith)
+load_one-requires g c = limit-at c.args.loads.now c.loop-load.load-index none c.loop-load-test.true c.requires
 
 pub returns-in_err-push-in-Ok-clause-unread : goal.returns-in_err-push-in-Ok-clause-unread
 unfolding none
 returns-in_err-push-in-Ok-clause-unread g c = λ unread.
-    let k = c.loop-load.load-index in
-    let needs = map need_of c.args.loads.now in
-    let need = need_of (get_or c.args.loads.now k none) in
-    let i = c.loop-load.invariant.unread unread in
-    let left : reads_input (need ∷ drop (k + 1) needs) ≡ false = sym (ap reads_input (drop-need c.args.loads.now k none c.loop-load-test.true)) ∙ i.0 in
-    c.in-Ok.ensures.unread (not-first (is_stream need.name) (reads_input (drop (k + 1) needs)) left) ∙ i.1
+    c.in-Ok.ensures.unread (file-at c.args.loads.now c.loop-load.load-index none c.loop-load-test.true unread) ∙ c.loop-load.invariant.unread unread
 
 pub returns-in-Err-clause-unread : goal.returns-in-Err-clause-unread
 unfolding none
 returns-in-Err-clause-unread g c = λ unread.
-    let k = c.loop-load.load-index in
-    let needs = map need_of c.args.loads.now in
-    let need = need_of (get_or c.args.loads.now k none) in
-    let i = c.loop-load.invariant.unread unread in
-    let left : reads_input (need ∷ drop (k + 1) needs) ≡ false = sym (ap reads_input (drop-need c.args.loads.now k none c.loop-load-test.true)) ∙ i.0 in
-    c.in-Err.ensures.unread (not-first (is_stream need.name) (reads_input (drop (k + 1) needs)) left) ∙ i.1
+    c.in-Err.ensures.unread (file-at c.args.loads.now c.loop-load.load-index none c.loop-load-test.true unread) ∙ c.loop-load.invariant.unread unread
 
 pub returns-in_err-push-in-Ok-clause-unasked : goal.returns-in_err-push-in-Ok-clause-unasked
 unfolding none
 returns-in_err-push-in-Ok-clause-unasked g c = λ unasked.
-    let k = c.loop-load.load-index in
-    let needs = map need_of c.args.loads.now in
-    let need = need_of (get_or c.args.loads.now k none) in
-    let i = c.loop-load.invariant.unasked unasked in
-    let left : reads_files (need ∷ drop (k + 1) needs) ≡ false = sym (ap reads_files (drop-need c.args.loads.now k none c.loop-load-test.true)) ∙ i.0 in
-    c.in-Ok.ensures.unasked (stream-not (is_stream need.name) (not-first (not (is_stream need.name)) (reads_files (drop (k + 1) needs)) left)) ∙ i.1
+    c.in-Ok.ensures.unasked (stream-at c.args.loads.now c.loop-load.load-index none c.loop-load-test.true unasked) ∙ c.loop-load.invariant.unasked unasked
 
 pub returns-in-Err-clause-unasked : goal.returns-in-Err-clause-unasked
 unfolding none
 returns-in-Err-clause-unasked g c = λ unasked.
-    let k = c.loop-load.load-index in
-    let needs = map need_of c.args.loads.now in
-    let need = need_of (get_or c.args.loads.now k none) in
-    let i = c.loop-load.invariant.unasked unasked in
-    let left : reads_files (need ∷ drop (k + 1) needs) ≡ false = sym (ap reads_files (drop-need c.args.loads.now k none c.loop-load-test.true)) ∙ i.0 in
-    c.in-Err.ensures.unasked (stream-not (is_stream need.name) (not-first (not (is_stream need.name)) (reads_files (drop (k + 1) needs)) left)) ∙ i.1
+    c.in-Err.ensures.unasked (stream-at c.args.loads.now c.loop-load.load-index none c.loop-load-test.true unasked) ∙ c.loop-load.invariant.unasked unasked
 
 pub returns-in_err-push-in-Ok-clause-unreached : goal.returns-in_err-push-in-Ok-clause-unreached
 unfolding none
 returns-in_err-push-in-Ok-clause-unreached g c =
+    let F = g.F.Files in
+    let I = g.I.Source in
     let k = c.loop-load.load-index in
     let needs = map need_of c.args.loads.now in
     let need = need_of (get_or c.args.loads.now k none) in
-    c.loop-load.invariant.unreached c.load_one.new.input (λ known text told unread.
-    let left : reads_input (reached known text (need ∷ drop (k + 1) needs)) ≡ false = sym (ap (λ (l : List Need). reads_input (reached known text l)) (drop-need c.args.loads.now k none c.loop-load-test.true)) ∙ unread in
-    unreached-first need (drop (k + 1) needs) known text c.loop-load.input c.load_one.new.input c.in-Ok.ensures.unread left)
+    let i = c.loop-load.invariant in
+    let same = i.untried c.loop-load-test.true in
+    subst (λ (all : List Need). IsReached (F.contents c.args.files.now) I.left all c.args.input.now c.load_one.new.input) (sym (split-need c.args.loads.now k none c.loop-load-test.true))
+    (one-reached (F.contents c.args.files.now) I.left (take k needs) (drop (k + 1) needs) need i.texts.0 c.args.input.now c.load_one.new.input i.texts.1 (λ file. c.in-Ok.ensures.unread file ∙ same))
 
 pub returns-in-Err-clause-unreached : goal.returns-in-Err-clause-unreached
 unfolding none
 returns-in-Err-clause-unreached g c =
+    let F = g.F.Files in
+    let I = g.I.Source in
     let k = c.loop-load.load-index in
     let needs = map need_of c.args.loads.now in
     let need = need_of (get_or c.args.loads.now k none) in
-    c.loop-load.invariant.unreached c.load_one.new.input (λ known text told unread.
-    let left : reads_input (reached known text (need ∷ drop (k + 1) needs)) ≡ false = sym (ap (λ (l : List Need). reads_input (reached known text l)) (drop-need c.args.loads.now k none c.loop-load-test.true)) ∙ unread in
-    unreached-first need (drop (k + 1) needs) known text c.loop-load.input c.load_one.new.input c.in-Err.ensures.unread left)
+    let i = c.loop-load.invariant in
+    let same = i.untried c.loop-load-test.true in
+    subst (λ (all : List Need). IsReached (F.contents c.args.files.now) I.left all c.args.input.now c.load_one.new.input) (sym (split-need c.args.loads.now k none c.loop-load-test.true))
+    (one-reached (F.contents c.args.files.now) I.left (take k needs) (drop (k + 1) needs) need i.texts.0 c.args.input.now c.load_one.new.input i.texts.1 (λ file. c.in-Err.ensures.unread file ∙ same))
 
 pub returns-in-Err-clause-stops : goal.returns-in-Err-clause-stops
 unfolding none
@@ -90,10 +73,14 @@ returns-in-Err-clause-stops g c =
     let k = c.loop-load.load-index in
     let needs = map need_of c.args.loads.now in
     let need = need_of (get_or c.args.loads.now k none) in
-    let stops : List Need → Type 0 = λ left. StopsLoading (F.contents c.loop-load.files) (F.steady c.loop-load.files) (I.left c.loop-load.input) left (F.load_faults c.loop-load.files) (F.load_faults c.load_one.new.files) (I.faults c.loop-load.input) (I.faults c.load_one.new.input) c.in-Err.stop in
-    c.loop-load.invariant.stops (F.load_faults c.load_one.new.files) (I.faults c.load_one.new.input) c.in-Err.stop
-    (subst stops (sym (drop-need c.args.loads.now k none c.loop-load-test.true))
-    (stops_first (F.contents c.loop-load.files) (F.steady c.loop-load.files) (I.left c.loop-load.input) need (drop (k + 1) needs) (F.load_faults c.loop-load.files) (F.load_faults c.load_one.new.files) (I.faults c.loop-load.input) (I.faults c.load_one.new.input) c.in-Err.stop c.in-Err.ensures.stops))
+    let old = c.loop-load in
+    let new = c.load_one.new in
+    let i = c.loop-load.invariant in
+    let stops : List Need → Type 0 = λ all. StopsLoading (F.contents c.args.files.now) (F.steady c.args.files.now) I.left I.faults all (F.load_faults c.args.files.now) (F.load_faults new.files) c.args.input.now new.input c.in-Err.stop in
+    subst stops (sym (split-need c.args.loads.now k none c.loop-load-test.true))
+    (stops_behind (F.contents c.args.files.now) (F.steady c.args.files.now) I.left I.faults (take k needs) (drop (k + 1) needs) need i.texts.0 (F.load_faults c.args.files.now) (F.load_faults old.files) (F.load_faults new.files) c.args.input.now new.input c.in-Err.stop i.texts.1 i.load_faults
+    (stops_now (F.contents c.args.files.now) (F.contents old.files) (F.steady c.args.files.now) (F.steady old.files) I.left I.faults (need ∷ []) (F.load_faults old.files) (F.load_faults new.files) c.args.input.now old.input new.input c.in-Err.stop
+    i.same_contents i.same_steady (i.untried c.loop-load-test.true) c.in-Err.ensures.stops))
 
 pub loop-load-preserved : goal.loop-load-preserved
 unfolding none
@@ -101,70 +88,54 @@ loop-load-preserved g c =
     let F = g.F.Files in
     let I = g.I.Source in
     let k = c.loop-load.load-index in
-    let needs = map need_of c.args.loads.now in
-    let need = need_of (get_or c.args.loads.now k none) in
-    let rest = drop (k + 1) needs in
-    let here = drop-need c.args.loads.now k none c.loop-load-test.true in
+    let loads = c.args.loads.now in
+    let lt = c.loop-load-test.true in
+    let needs = map need_of loads in
+    let need = need_of (get_or loads k none) in
+    let before = take k needs in
     let i = c.loop-load.invariant in
     let e = c.in-Ok.ensures in
-    let sound : IsSound (need ∷ rest) = subst (λ (left : List Need). IsSound left) here i.sound in
     let old = c.loop-load in
     let new = c.load_one.new in
     let bytes = c.in-Ok.bytes.items in
-    let between : Between (F.contents old.files) (F.contents new.files) (F.steady old.files) (F.steady new.files) (I.left old.input) (I.left new.input) need bytes (F.load_faults old.files) (F.load_faults new.files) (I.faults old.input) (I.faults new.input) = record {
-      same_contents = e.same_contents;
-      same_steady = e.same_steady;
-      same_left = λ file. ap (λ source. I.left source) (e.unread file);
-      gives = e.bytes;
-      load_faults = e.load_faults;
-      input_faults = e.input_faults;
-    } in
+    let contents = F.contents c.args.files.now in
+    let left = I.left c.args.input.now in
+    let same = i.untried lt in
+    let here : IsTextOf contents left need bytes = subst (λ known. IsTextOf known left need bytes) i.same_contents (subst (λ source. IsTextOf (F.contents old.files) (I.left source) need bytes) same e.text) in
     let pushed : map vec_items c.push.new.self.items ≡ map vec_items old.texts.items ++ bytes ∷ [] = rw c.in_ok-push-in-Ok.ensures.items (map_push vec_items old.texts.items c.in-Ok.bytes) in
     let one_more : length c.push.new.self.items ≡ length old.texts.items + 1 = ap length c.in_ok-push-in-Ok.ensures.items ∙ length-append old.texts.items (c.in-Ok.bytes ∷ []) in
     record {
-      sound = IsSound-rest need rest sound;
+      texts = (
+        i.texts.0 ++ bytes ∷ [],
+        subst (λ (all : List Need). AreTextsOf contents left all (i.texts.0 ++ bytes ∷ [])) (sym (take-need loads k none lt)) (texts-append contents left before (need ∷ []) i.texts.0 (bytes ∷ []) i.texts.1 (here, tt)),
+        pushed ∙ ap (λ front. front ++ bytes ∷ []) i.texts.2 ∙ append_assoc (map vec_items c.args.texts.now.items) i.texts.0 (bytes ∷ []),
+      );
       count = omega (arith, i.count, one_more);
-      stops = λ new_loads new_inputs stop stopped.
-          let stops : List Need → Type 0 = λ left. StopsLoading (F.contents old.files) (F.steady old.files) (I.left old.input) left (F.load_faults old.files) new_loads (I.faults old.input) new_inputs stop in
-          i.stops new_loads new_inputs stop (subst stops (sym here)
-          (stops_later (F.contents old.files) (F.contents new.files) (F.steady old.files) (F.steady new.files) (I.left old.input) (I.left new.input) need rest bytes (F.load_faults old.files) (F.load_faults new.files) new_loads (I.faults old.input) (I.faults new.input) new_inputs stop sound between stopped));
-      bytes = λ back given.
-          let gives : List Need → Type 0 = λ left. WhereTold (F.contents old.files) (I.left old.input) left (λ known text. IsOkAnd (loaded known text left) (λ more. back ≡ map vec_items old.texts.items ++ more)) in
-          i.bytes back (subst gives (sym here)
-          (loads_all (F.contents old.files) (F.contents new.files) (F.steady old.files) (F.steady new.files) (I.left old.input) (I.left new.input) need rest bytes (F.load_faults old.files) (F.load_faults new.files) (I.faults old.input) (I.faults new.input) (map vec_items old.texts.items) (map vec_items c.push.new.self.items) back sound between pushed given));
-      unreached = λ last given.
-          let same : List Need → Type 0 = λ left. WhereTold (F.contents old.files) (I.left old.input) left (λ known text. reads_input (reached known text left) ≡ false → last ≡ old.input) in
-          i.unreached last (subst same (sym here)
-          (unreached-rest (F.contents old.files) (F.contents new.files) (F.steady old.files) (F.steady new.files) (I.left old.input) (I.left new.input) need rest bytes (F.load_faults old.files) (F.load_faults new.files) (I.faults old.input) (I.faults new.input) old.input new.input last sound between e.unread given));
-      unread = λ unread.
-          let was = i.unread unread in
-          let left : reads_input (need ∷ rest) ≡ false = sym (ap reads_input here) ∙ was.0 in
-          (not-others (is_stream need.name) (reads_input rest) left, e.unread (not-first (is_stream need.name) (reads_input rest) left) ∙ was.1);
-      unasked = λ unasked.
-          let was = i.unasked unasked in
-          let left : reads_files (need ∷ rest) ≡ false = sym (ap reads_files here) ∙ was.0 in
-          (not-others (not (is_stream need.name)) (reads_files rest) left, e.unasked (stream-not (is_stream need.name) (not-first (not (is_stream need.name)) (reads_files rest) left)) ∙ was.1);
-      end = λ unread reads. end-here (is_stream need.name) (reads_input rest) (λ stream. e.end stream)
-          (λ file none_left. subst (λ source. IsAtEnd (I.left source)) (sym (e.unread file)) (i.end (ap reads_input here ∙ none_left) reads)) unread;
+      untried = λ more. e.unread (file-before loads k none c.requires (omega (arith, more))) ∙ same;
+      unread = λ unread. e.unread (file-at loads k none lt unread) ∙ i.unread unread;
+      unreached = subst (λ (all : List Need). IsReached contents I.left all c.args.input.now new.input) (sym (split-need loads k none lt))
+          (one-reached contents I.left before (drop (k + 1) needs) need i.texts.0 c.args.input.now new.input i.texts.1 (λ file. e.unread file ∙ same));
+      unasked = λ unasked. e.unasked (stream-at loads k none lt unasked) ∙ i.unasked unasked;
+      end = λ reads. end-here (reads_input before) (reads_input (need ∷ []))
+          (λ was file. subst (λ source. IsAtEnd (I.left source)) (sym (e.unread (or_parts (is_stream need.name) false file).0)) (i.end was))
+          (λ stream. e.end (sym (or-false (is_stream need.name)) ∙ stream))
+          (sym (ap reads_input (take-need loads k none lt) ∙ list_any-append (λ (n : Need). is_stream n.name) before (need ∷ [])) ∙ reads);
       same_contents = e.same_contents ∙ i.same_contents;
       same_steady = e.same_steady ∙ i.same_steady;
       same_store_faults = e.same_store_faults ∙ i.same_store_faults;
       load_faults = omega (arith, i.load_faults, e.load_faults);
-      input_faults = omega (arith, i.input_faults, e.input_faults);
     }
 
-pub returns-clause-bytes : goal.returns-clause-bytes
-returns-clause-bytes g c =
-    let F = g.F.Files in
-    let I = g.I.Source in
-    let old = c.loop-load in
-    let texts = map vec_items old.texts.items in
-    let gives : List Need → Type 0 = λ left. WhereTold (F.contents old.files) (I.left old.input) left (λ known text. IsOkAnd (loaded known text left) (λ more. texts ≡ texts ++ more)) in
-    old.invariant.bytes texts (subst gives (sym (drop-all c.args.loads.now old.load-index (omega (arith, c.loop-load-test.false)))) (λ known text told. sym (append-nil texts)))
+pub returns-clause-texts : goal.returns-clause-texts
+returns-clause-texts g c =
+    let i = c.loop-load.invariant in
+    let contents = g.F.Files.contents c.args.files.now in
+    let left = g.I.Source.left c.args.input.now in (
+      i.texts.0,
+      subst (λ (all : List Need). AreTextsOf contents left all i.texts.0) (take-needs c.args.loads.now c.loop-load.load-index (omega (arith, c.loop-load-test.false))) i.texts.1,
+      i.texts.2,
+    )
 
-pub returns-clause-unreached : goal.returns-clause-unreached
-returns-clause-unreached g c =
-    let F = g.F.Files in
-    let I = g.I.Source in
-    let old = c.loop-load in
-    old.invariant.unreached old.input (λ known text told unread. refl)
+pub returns-clause-end : goal.returns-clause-end
+returns-clause-end g c = λ reads.
+    c.loop-load.invariant.end (ap reads_input (take-needs c.args.loads.now c.loop-load.load-index (omega (arith, c.loop-load-test.false))) ∙ reads)

@@ -7,7 +7,7 @@ use Rattle.tool_run.proofs.performing.conclude.Goals as goal
 pub returns-in-Err : goal.returns-in-Err
 returns-in-Err g c =
     let e = c.in-Err.ensures in
-    let writes : List ℕ → Type 0 = λ said. Writes (line_of c.args.job.now.speaker.now said) (g.E.Sink.held c.args.errors.now) (g.E.Sink.held c.write_named.new.errors) (g.E.Sink.faults c.args.errors.now) (g.E.Sink.faults c.write_named.new.errors) in
+    let writes : List ℕ → Type 0 = λ said. Writes (line_of c.args.job.now.tool_name.now said) (g.E.Sink.held c.args.errors.now) (g.E.Sink.held c.write_named.new.errors) (g.E.Sink.faults c.args.errors.now) (g.E.Sink.faults c.write_named.new.errors) in
     let said = codes "write failed: " ++ c.target_name-name.result.now in
     record {
       statuses = inr (inr (inr (inl refl)));

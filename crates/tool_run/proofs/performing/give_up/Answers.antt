@@ -1,4 +1,4 @@
-use Rattle.std.proofs.Common.{◌≡◌, ℕ, List, refl, ap, subst, sym, inl, inr, arith}
+use Rattle.std.proofs.Common.{ℕ, List, refl, subst, sym, inl, inr, arith}
 use Rattle.tool_run.specs.Lines.{line_of, out_of_memory}
 use Rattle.tool_run.specs.Effects.{Writes}
 use Rattle.tool_run.proofs.performing.give_up.Goals as goal
@@ -11,7 +11,9 @@ returns-clause-does g c = λ task speaks.
       whole = λ zero_is. absurd (omega arith);
       end = λ zero_is. absurd (omega arith);
       silent = λ zero_is. absurd (omega arith);
+      refusal = λ one_is. absurd (omega arith);
       usage = λ two_is. absurd (omega arith);
+      longer = λ six_is. absurd (omega arith);
       refused = λ refusal. absurd (grind arith);
       read = λ three_is. absurd (omega arith);
       steady = λ three_is. absurd (omega arith);
@@ -22,6 +24,7 @@ returns-clause-does g c = λ task speaks.
       exact = λ known text tells. inr (inl refl);
       untouched = λ not_zero not_four. refl;
       kept = λ not_zero not_four. refl;
+      unstored = λ why. refl;
       aside = λ no_stream. refl;
       unread = λ none. refl;
       unreached = λ known text tells none. refl;

@@ -5,5 +5,5 @@ use Rattle.tool_run.proofs.performing.write_out_of_memory.Goals as goal
 
 pub returns : goal.returns
 returns g c =
-    let writes : List ℕ → Type 0 = λ said. Writes (line_of c.args.speaker.now said) (g.E.Sink.held c.args.errors.now) (g.E.Sink.held c.write_named.new.errors) (g.E.Sink.faults c.args.errors.now) (g.E.Sink.faults c.write_named.new.errors) in
+    let writes : List ℕ → Type 0 = λ said. Writes (line_of c.args.tool_name.now said) (g.E.Sink.held c.args.errors.now) (g.E.Sink.held c.write_named.new.errors) (g.E.Sink.faults c.args.errors.now) (g.E.Sink.faults c.write_named.new.errors) in
     subst writes (ap (λ phrase. codes "out of memory" ++ [] ++ phrase_text phrase) c.text.ensures) c.write_named.ensures

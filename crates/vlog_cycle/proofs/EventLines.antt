@@ -1,12 +1,12 @@
 -- Lists of events, line by line.
-use Rattle.std.proofs.Common.{◌≡◌, ℕ, zero, suc, ◌+◌, ◌<◌, ◌≤◌, Bool, true, false, cond, List, [], ◌∷◌, ◌++◌, Option, Some, None, Ok, Err, drop, flat_map, length, get_or, take, refl, sym, ap, ◌∙◌, arith, below_more, length-drop}
+use Rattle.std.proofs.Common.{◌≡◌, ℕ, zero, suc, ◌+◌, ◌<◌, ◌≤◌, Bool, true, false, cond, List, [], ◌∷◌, ◌++◌, Option, Some, None, Ok, Err, drop, flat_map, length, get_or, map, take, refl, sym, ap, ◌∙◌, arith, below_more, length-drop}
 use Rattle.std.specs.Prelude.{All, bytes_eq}
 use Rattle.std.specs.Option.{option_to_list}
 use Rattle.std.specs.Result.{result_err, result_ok}
 use Rattle.std.proofs.lemmas.List.{get_or_default}
 use Rattle.vlog_cycle.proofs.Filling.{flat_map-more}
 use Rattle.place_search.proofs.Places.{first_below-first, first_below-none}
-use Rattle.text_lines.specs.Lines.{line_at, lines_of}
+use Rattle.text_lines.specs.Lines.{line_at, lines_of, trimmed}
 use Rattle.std.proofs.lemmas.List.Elements.{All-append, All-cons, All-nil}
 use Rattle.vlog_module.specs.declared.modules.Port.{Port}
 use Rattle.vlog_module.specs.Maps.{value_in}
@@ -16,25 +16,13 @@ use Rattle.vlog_cycle.specs.Run.{input_names, pin_of}
 use Rattle.vlog_cycle.specs.declared.event.Event.{Event}
 use Rattle.vlog_cycle.specs.declared.event.EventFault.{EventFault}
 use Rattle.vlog_cycle.specs.declared.event.EventFault.TheVariants.{Form, Pin, Memory}
-use Rattle.vlog_cycle.specs.Events.{TellsEvent, bit_event, bit_part, bit_written, event_of, events_of, first_fault, line_event, line_fault, name_part, pin_event}
+use Rattle.vlog_cycle.specs.Events.{TellsEvent, bit_event, bit_part, bit_written, cut_lines, event_of, events_of, first_fault, line_event, line_fault, name_part, pin_event}
 
--- ---- lines by their index
+-- ---- lines
 
-pub cut : (lines : List (List ℕ)) (k : ℕ) (line : List ℕ) (more : List (List ℕ)) → drop k lines ≡ line ∷ more → (k < length lines) × (line_at lines k ≡ line) × (more ≡ drop (k + 1) lines)
-cut [] zero line more e = absurd cc
-cut [] (suc k) line more e = absurd cc
-cut (first ∷ lines) zero line more e = (omega arith, cc, cc)
-cut (first ∷ lines) (suc k) line more e =
-    let found = cut lines k line more e in
-    let later : suc k + 1 ≡ suc (k + 1) = omega arith in
-    (omega (arith, found.0), found.1, rw later found.2)
-
--- no line is left
-pub cut-end : (text left : List ℕ) (k : ℕ) → lines_of left ≡ drop k (lines_of text) → left ≡ [] → k ≤ length (lines_of text) → k ≡ length (lines_of text)
-unfolding lines_of
-cut-end text left k rest none within =
-    let over : drop k (lines_of text) ≡ [] = sym rest ∙ ap lines_of none in
-    omega (arith, length-drop k (lines_of text), ap length over)
+-- the first line, without the blanks at its end, and those behind it
+pub one-line : (text first content rest : List ℕ) → lines_of text ≡ first ∷ lines_of rest → content ≡ trimmed first → cut_lines text ≡ content ∷ cut_lines rest
+one-line text first content rest lines is = ap (map trimmed) lines ∙ ap (λ line. line ∷ cut_lines rest) (sym is)
 
 -- ---- a line
 
@@ -150,4 +138,4 @@ lines-within count pins (line ∷ lines) below = All-append (IsWithin count) (li
 
 -- events that were read name inputs
 pub events-within : (ports : List Port) (bytes : List ℕ) → All (λ event. event.pin < length (input_names ports)) (events_of ports bytes)
-events-within ports bytes = lines-within (length (input_names ports)) (pin_of ports) (lines_of bytes) (λ name place found. omega (arith, numbered-below 0 (input_names ports) name place found))
+events-within ports bytes = lines-within (length (input_names ports)) (pin_of ports) (cut_lines bytes) (λ name place found. omega (arith, numbered-below 0 (input_names ports) name place found))

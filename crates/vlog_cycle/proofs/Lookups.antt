@@ -5,6 +5,10 @@ use Rattle.std.specs.Option.{option_map, option_map_or}
 use Rattle.std.specs.Map.{lookup}
 use Rattle.std.proofs.lemmas.List.{get_or_at, set_at, length_push}
 use Rattle.std.proofs.lemmas.Slice.Eq.{bytes_eq-Decides}
+use Rattle.place_search.proofs.Places.{or_else-none}
+use Rattle.shared_lemmas.proofs.Options.{none_from_is_some}
+use Rattle.shared_lemmas.proofs.Bytes.{bytes_eq-turned}
+use Rattle.shared_lemmas.proofs.Tests.{same_test}
 use Rattle.place_search.specs.Places.{or_else}
 use Rattle.vlog_module.specs.Maps.{value_in}
 use Rattle.vlog_cycle.specs.Entries.{put}
@@ -34,10 +38,6 @@ or_else-known : {A : Type 0} (found other : Option A) → is_some found ≡ true
 or_else-known (Some value) other is = refl
 or_else-known None other is = cc
 
-or_else-none : {A : Type 0} (found : Option A) → or_else found None ≡ found
-or_else-none (Some value) = refl
-or_else-none None = refl
-
 -- a name that is there already keeps its value
 pub value_in-known : {A : Type 0} (entries : List (List ℕ × A)) (name : List ℕ) (value : A) (q : List ℕ) → is_some (value_in entries name) ≡ true
     → value_in (entries ++ (name, value) ∷ []) q ≡ value_in entries q
@@ -48,16 +48,6 @@ value_in-known {A = A} entries name value q is =
       | false ↦ λ other. ap (λ v. or_else (value_in entries q) (cond v (Some value) None)) other ∙ or_else-none (value_in entries q)
     ] in
     value_in-push entries name value q ∙ here (bytes_eq name q) refl
-
-same_truth : (a b : Bool) → (a ≡ true → b ≡ true) → (b ≡ true → a ≡ true) → a ≡ b
-same_truth true b f g = sym (f refl)
-same_truth false true f g = g refl
-same_truth false false f g = refl
-
-pub bytes_eq-turned : (xs ys : List ℕ) → bytes_eq xs ys ≡ bytes_eq ys xs
-bytes_eq-turned xs ys =
-    same_truth (bytes_eq xs ys) (bytes_eq ys xs) (λ same. (bytes_eq-Decides ys xs).1 (sym ((bytes_eq-Decides xs ys).0 same)))
-    (λ same. (bytes_eq-Decides xs ys).1 (sym ((bytes_eq-Decides ys xs).0 same)))
 
 -- ---- values by slots, with other values before and behind
 
@@ -102,10 +92,6 @@ names-put {A = A} (entry ∷ entries) name value =
       | true ↦ refl
       | false ↦ ap (λ rest. entry.0 ∷ rest) (names-put entries name value)
     ]
-
-pub none-from_is_some : {A : Type 0} (found : Option A) → is_some found ≡ false → found ≡ None
-none-from_is_some (Some value) is = cc
-none-from_is_some None is = refl
 
 -- ---- all names
 

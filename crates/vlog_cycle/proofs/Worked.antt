@@ -1,5 +1,5 @@
 -- Worked values of the definitions.
-use Rattle.std.proofs.Common.{◌≡◌, ℕ, Bool, true, false, List, [], ◌∷◌, Some, refl}
+use Rattle.std.proofs.Common.{◌≡◌, ℕ, Bool, true, false, List, [], ◌∷◌, None, Some, refl}
 use Rattle.std.specs.Prelude.{codes, map}
 use Rattle.vlog_module.specs.declared.atoms.Atom.{Atom}
 use Rattle.vlog_module.specs.declared.atoms.Atom.TheVariants.{Bit, Whole}
@@ -8,7 +8,7 @@ use Rattle.vlog_module.specs.declared.item.Lut.{Lut}
 use Rattle.vlog_module.specs.declared.item.Right.TheVariants.{Whole as RightWhole, Lut as RightLut}
 use Rattle.vlog_module.specs.declared.modules.Port.{Port}
 use Rattle.vlog_module.specs.Parts.{Parts}
-use Rattle.text_lines.specs.Lines.{lines_of}
+use Rattle.text_lines.specs.Lines.{lines_of, trimmed}
 use Rattle.place_search.specs.Places.{first_below}
 use Rattle.vlog_cycle.specs.declared.event.Event.{Event}
 use Rattle.vlog_cycle.specs.declared.event.EventFault.TheVariants.{Form, Pin}
@@ -43,16 +43,52 @@ unfolding run_text module_run run_from followed changed start settled entry_line
 inverts = refl
 
 reads_lines : events_of chip.ports (codes "io_0_1_0 1\n\nio_0_1_0 0\r\n") ≡ event 0 true ∷ event 0 false ∷ []
-unfolding event_of lines_of chip input output event
+unfolding event_of lines_of trimmed chip input output event
 reads_lines = refl
 
 refuses_outputs : event_fault chip.ports (codes "io_0_2_0 1\n") ≡ Some (Pin 1)
-unfolding event_of lines_of first_fault first_below chip input output
+unfolding event_of lines_of trimmed first_fault first_below chip input output
 refuses_outputs = refl
 
 refuses_forms : event_fault chip.ports (codes "\nio_0_1_0 1\nio_0_1_0  1\nmodule 1\n") ≡ Some (Form 3)
-unfolding event_of lines_of first_fault first_below chip input output
+unfolding event_of lines_of trimmed first_fault first_below chip input output
 refuses_forms = refl
+
+-- blanks at a line's end don't count, before CR LF either, and a line that is then empty is passed over
+cuts_lines : events_of chip.ports (codes " \t\nio_0_1_0 1 \t\n\n \r\nio_0_1_0 0\t\r\n  ") ≡ event 0 true ∷ event 0 false ∷ []
+unfolding event_of lines_of trimmed chip input output event
+cuts_lines = refl
+
+fine_lines : event_fault chip.ports (codes " \t\nio_0_1_0 1 \t\n\n \r\nio_0_1_0 0\t\r\n  ") ≡ None
+unfolding event_of lines_of trimmed first_fault first_below chip input output
+fine_lines = refl
+
+-- lines that are passed over count
+counts_lines : event_fault chip.ports (codes "\n \nio_0_1_0 1\n\t\nio_0_3_0 1 \n") ≡ Some (Pin 5)
+unfolding event_of lines_of trimmed first_fault first_below chip input output
+counts_lines = refl
+
+-- a blank before the name, or a second one behind it
+refuses_blanks : event_fault chip.ports (codes "io_0_1_0 1\n io_0_1_0 1\n") ≡ Some (Form 2)
+unfolding event_of lines_of trimmed first_fault first_below chip input output
+refuses_blanks = refl
+
+refuses_two_blanks : event_fault chip.ports (codes "io_0_1_0  1 \n") ≡ Some (Form 1)
+unfolding event_of lines_of trimmed first_fault first_below chip input output
+refuses_two_blanks = refl
+
+refuses_tabs : event_fault chip.ports (codes "io_0_1_0\t1\n") ≡ Some (Form 1)
+unfolding event_of lines_of trimmed first_fault first_below chip input output
+refuses_tabs = refl
+
+-- a CR that no LF follows is a byte of its line
+refuses_lone_cr : event_fault chip.ports (codes "io_0_1_0 1\r") ≡ Some (Form 1)
+unfolding event_of lines_of trimmed first_fault first_below chip input output
+refuses_lone_cr = refl
+
+refuses_cr_before_blank : event_fault chip.ports (codes "io_0_1_0 1\r \n") ≡ Some (Form 1)
+unfolding event_of lines_of trimmed first_fault first_below chip input output
+refuses_cr_before_blank = refl
 
 -- ---- a flip-flop at falling edges
 

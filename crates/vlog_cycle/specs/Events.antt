@@ -1,15 +1,20 @@
--- Lists of events: a line for each, the name of an input, one space, and the bit.
-use Rattle.std.specs.Prelude.{◌≡◌, ℕ, ◌+◌, ◌-◌, Bool, true, false, List, [], ◌∷◌, Option, Some, None, Result, Ok, Err, bytes_eq, drop, flat_map, length, take, if◌then◌else◌}
+-- Lists of events: a line for each, the name of an input, one space, and the bit. Spaces and tabs at a line's end don't
+-- count, and a line that is then empty is passed over.
+use Rattle.std.specs.Prelude.{◌≡◌, ℕ, ◌+◌, ◌-◌, Bool, true, false, List, [], ◌∷◌, Option, Some, None, Result, Ok, Err, bytes_eq, drop, flat_map, length, map, take, if◌then◌else◌}
 use Rattle.std.specs.Option.{option_to_list}
 use Rattle.std.specs.Result.{result_err, result_ok}
 use Rattle.place_search.specs.Places.{first_below}
-use Rattle.text_lines.specs.Lines.{line_at, lines_of}
+use Rattle.text_lines.specs.Lines.{line_at, lines_of, trimmed}
 use Rattle.vlog_module.specs.declared.modules.Port.{Port}
 use Rattle.vlog_module.specs.Names.{is_word}
 use Rattle.vlog_cycle.specs.declared.event.Event.{Event}
 use Rattle.vlog_cycle.specs.declared.event.EventFault.{EventFault}
 use Rattle.vlog_cycle.specs.declared.event.EventFault.TheVariants.{Form, Pin, Memory}
 use Rattle.vlog_cycle.specs.Run.{pin_of}
+
+-- the lines of a text, each without the blanks at its end
+abbrev pub cut_lines : List ℕ → List (List ℕ)
+cut_lines bytes = map trimmed (lines_of bytes)
 
 -- the line without its last two bytes, which are to be a space and the bit
 abbrev pub name_part : List ℕ → List ℕ
@@ -51,11 +56,11 @@ first_fault pins lines = first_below (length lines) (λ place. line_fault pins (
 
 -- the fault of a text
 abbrev pub event_fault : List Port → List ℕ → Option EventFault
-event_fault ports bytes = first_fault (pin_of ports) (lines_of bytes)
+event_fault ports bytes = first_fault (pin_of ports) (cut_lines bytes)
 
 -- the events of a text without faults
 abbrev pub events_of : List Port → List ℕ → List Event
-events_of ports bytes = flat_map (line_event (pin_of ports)) (lines_of bytes)
+events_of ports bytes = flat_map (line_event (pin_of ports)) (cut_lines bytes)
 
 -- a refusal for another cause than memory tells the fault
 abbrev pub TellsEvent : Option EventFault → EventFault → Type 0

@@ -177,3 +177,8 @@ run_from m entry (event ∷ events) = entry ∷ run_from m (followed m entry eve
 -- the entries after the start and after each event
 unfoldable pub module_run : Parts → List Event → List Entry
 module_run m events = run_from m (start m) events
+
+-- the last one of entries, and this one where there is none
+unfoldable pub last_of : Entry → List Entry → Entry
+last_of entry [] = entry
+last_of entry (next ∷ entries) = last_of next entries

@@ -1,5 +1,5 @@
 -- When a runner shows an entry of a module.
-use Rattle.std.specs.Prelude.{◌≡◌, length, map, ◌++◌}
+use Rattle.std.specs.Prelude.{◌≡◌, ℕ, length, map, ◌++◌}
 use Rattle.vlog_module.specs.Parts.{Parts}
 use Rattle.vlog_cycle.specs.declared.runner.Runner.{Runner}
 use Rattle.vlog_cycle.specs.Cells.{gate_of}
@@ -21,3 +21,7 @@ pub record Shows (runner : Runner) (m : Parts) (entry : Entry) : Type 0 where
   pub words : runner.words.items ≡ values_of entry.words
   pub memories : runner.memories.items ≡ values_of entry.memories
   pub outputs : runner.outputs.items ≡ values_of entry.outputs
+
+-- how many inputs a runner has
+abbrev pub input_count : Runner → ℕ
+input_count runner = runner.input_count

@@ -1,8 +1,7 @@
 // Lists of events, line by line.
 ghost use Rattle.std.specs.Prelude.{◌≡◌, ◌<◌, ◌++◌, ◌∷◌, [], All, Option, None, flat_map, length, IfErr, IfOk, OnOk};
-ghost use Rattle.vlog_cycle.specs.Events.{bit_written, event_fault, pin_event, event_of, events_of, first_fault, line_event, line_fault, TellsEvent};
+ghost use Rattle.vlog_cycle.specs.Events.{bit_written, cut_lines, event_fault, pin_event, event_of, events_of, first_fault, line_event, line_fault, TellsEvent};
 ghost use Rattle.vlog_cycle.specs.declared.event.EventFault.{EventFault as fault_of};
-ghost use Rattle.text_lines.specs.Lines.{lines_of};
 ghost use Rattle.vlog_cycle.specs.Run.{input_names};
 ghost use Rattle.vlog_cycle.specs.Slots.{slot_of};
 
@@ -10,10 +9,11 @@ use crate::build::inputs_of;
 use crate::event::{Event, EventFault};
 use crate::slots::Slots;
 use std::alloc::{AllocError, Global};
-use text_lines::first_line;
+use text_lines::{first_line, trimmed};
 use vlog_module::{Module, is_word};
 
-/// The events of a text: on each line the name of an input, one space, and `0` or `1`. Empty lines are passed over.
+/// The events of a text: on each line the name of an input, one space, and `0` or `1`. Spaces and tabs at a line's end
+/// don't count, and a line that is then empty is passed over.
 pub fn read_events(alloc: Global, module: &Module, bytes: &[u8]) -> Result<Vec<Event>, EventFault>
     ensures read { IfOk result (λ events. events.items ≡ events_of «module».now.ports bytes.now) }
     ensures inputs { IfOk result (λ events. All (λ event. event.pin < length (input_names «module».now.ports)) events.items) }
@@ -30,22 +30,22 @@ pub(crate) fn read_lines(
     pins: &Slots,
     bytes: &[u8],
 ) -> Result<Vec<Event>, EventFault>
-    ensures read { IfOk result (λ events. events.items ≡ flat_map (line_event (slot_of pins.now)) (lines_of bytes.now)) }
-    ensures accepted { OnOk result (first_fault (slot_of pins.now) (lines_of bytes.now) ≡ None) }
-    ensures refused { IfErr result (TellsEvent (first_fault (slot_of pins.now) (lines_of bytes.now))) }
+    ensures read { IfOk result (λ events. events.items ≡ flat_map (line_event (slot_of pins.now)) (cut_lines bytes.now)) }
+    ensures accepted { OnOk result (first_fault (slot_of pins.now) (cut_lines bytes.now) ≡ None) }
+    ensures refused { IfErr result (TellsEvent (first_fault (slot_of pins.now) (cut_lines bytes.now))) }
 {
     let mut events = Vec::new(alloc);
     let mut left = bytes;
     let mut count = 0;
     while let Some(line) = first_line(left) {
-        take_line(&mut events, pins, count + 1, line.content)?;
+        take_line(&mut events, pins, count + 1, trimmed(line.content))?;
         count += 1;
         left = line.rest;
     }
     Ok(events)
 }
 
-/// Adds the event of a line.
+/// Adds the event of a line without blanks at its end.
 fn take_line(
     events: &mut Vec<Event>,
     pins: &Slots,

@@ -1,5 +1,5 @@
 // A module that runs.
-ghost use Rattle.std.specs.Prelude.{◌≡◌, ◌<◌, ◌≤◌, ◌+◌, ◌*◌, IfOk, drop, is_some, length, get_or, take, vec_len};
+ghost use Rattle.std.specs.Prelude.{◌≡◌, ◌<◌, ◌≤◌, ◌+◌, ◌*◌, All, IfOk, drop, is_some, length, get_or, take, vec_len};
 ghost use Rattle.std.specs.Option.{option_map};
 
 use crate::event::Event;
@@ -46,8 +46,8 @@ impl Runner {
     ghost use Rattle.vlog_cycle.specs.Entries.{Entry};
     ghost use Rattle.vlog_cycle.specs.ModuleSlots.{memory_names, register_names, word_names};
     ghost use Rattle.vlog_cycle.specs.Named.{has_name, values_of};
-    ghost use Rattle.vlog_cycle.specs.Run.{followed, input_names, start};
-    ghost use Rattle.vlog_cycle.specs.Showing.{Shows};
+    ghost use Rattle.vlog_cycle.specs.Run.{followed, input_names, last_of, module_run, run_from, start};
+    ghost use Rattle.vlog_cycle.specs.Showing.{Shows, input_count};
 
     /// The module after the start: inputs are 0, registers and memories have their start values.
     pub fn new(alloc: Global, module: &Module) -> Result<Runner, AllocError>
@@ -89,8 +89,10 @@ impl Runner {
 
     /// Gives an input a bit. The input is named by its place among the inputs, in the order of the ports, from 0.
     pub fn event(&mut self, pin: usize, bit: bool)
-        ensures { (m : Parts) (entry : Entry) → Shows self.old m entry → pin < length (input_names m.ports)
+        requires { pin < input_count self.old }
+        ensures shows { (m : Parts) (entry : Entry) → Shows self.old m entry
             → Shows self.new m (followed m entry (record { pin = pin; bit = bit })) }
+        ensures inputs { input_count self.new ≡ input_count self.old }
     {
         if is_same_bit(bit, bit_at(&self.bits, pin)) {
             return;
@@ -109,9 +111,22 @@ impl Runner {
         );
     }
 
+    /// Gives inputs their bits, one event after another.
+    pub fn run(&mut self, events: &[Event])
+        requires { All (λ event. event.pin < input_count self.old) events.now }
+        ensures from_start { (m : Parts) → Shows self.old m (start m) → Shows self.new m (last_of (start m) (module_run m events.now)) }
+        ensures shows { (m : Parts) (entry : Entry) → Shows self.old m entry → Shows self.new m (last_of entry (run_from m entry events.now)) }
+        ensures inputs { input_count self.new ≡ input_count self.old }
+    {
+        for event in events {
+            self.event(event.pin, event.bit);
+        }
+    }
+
     /// How many inputs there are.
     pub fn inputs(&self) -> usize
-        ensures { (m : Parts) (entry : Entry) → Shows self.now m entry → result ≡ length (input_names m.ports) }
+        ensures is { result ≡ input_count self.now }
+        ensures shown { (m : Parts) (entry : Entry) → Shows self.now m entry → result ≡ length (input_names m.ports) }
     {
         self.input_count
     }

@@ -1,6 +1,6 @@
 -- An item without a fault is allowed.
 use Rattle.std.proofs.Common.{◌≡◌, ℕ, zero, suc, ◌<◌, ◌≤◌, Bool, true, false, not, ◌&&◌, List, [], ◌∷◌, length, drop, reverse, refl, ap, sym, ◌∙◌, subst, arith, inl, inr}
-use Rattle.std.proofs.lemmas.Bool.{leb-true, cases_lt, lt-ltb}
+use Rattle.std.proofs.lemmas.Bool.{leb-true, cases_lt, lt-ltb, and_parts, ltb-false}
 use Rattle.std.proofs.lemmas.List.{length-reverse}
 use Rattle.std.proofs.lemmas.List.Elements.{All-nil, All-cons, All-append}
 use Rattle.std.specs.Prelude.{Option, Some, None, if◌then◌else◌, nat_le, nat_lt, All, IsTrue}
@@ -112,10 +112,6 @@ role-ranged ReadsBit name k limit within limited = let top : limit ≤ 15 = leb-
 role-ranged (Takes sort) name k limit within limited = tt
 role-ranged (Assigns sort) name k limit within limited = tt
 role-ranged Starts name k limit within limited = let top : limit ≤ 255 = leb-true limit 255 limited in omega arith
-
-and_parts : (a b : Bool) → (a && b) ≡ true → (a ≡ true) × (b ≡ true)
-and_parts true b both = (refl, both)
-and_parts false b both = absurd cc
 
 uses-ranged : (slots : List Slot) (values : List Value) → FitAll slots values → are_limited slots ≡ true → All IsInRange (uses_in values)
 unfolding FitAll are_limited
@@ -237,13 +233,6 @@ fault_case : (b : Bool) (offset : ℕ) (rest : Option Fault) → (if b then Some
 fault_case true offset rest none = absurd cc
 fault_case false offset rest none = (refl, none)
 
-not_below : (a b : ℕ) → nat_lt a b ≡ false → b ≤ a
-not_below a b none =
-    elim (cases_lt a b) [
-      | inl lt ↦ let both : nat_lt a b ≡ true = lt-ltb a b lt in absurd cc
-      | inr le ↦ le
-    ]
-
 pub item-allowed : (scope : Scope) (offset : ℕ) (one : Form) (found : List Found) → is_item one ≡ true → FitAll (slots_of one) (values_of found) → AreSoundValues (values_of found)
     → item_fault scope offset (item_of one (values_of found)) found ≡ None → IsAllowed scope (item_of one (values_of found))
 item-allowed scope offset one found is fit sound none =
@@ -254,7 +243,7 @@ item-allowed scope offset one found is fit sound none =
     let names = names-allowed scope found parts.1 in
     record {
       shaped = item-shaped one v sound;
-      ordered = not_below (section_of made) scope.section parts.0;
+      ordered = ltb-false (section_of made) scope.section parts.0;
       named = subst (All Named) uses (uses-named v sound);
       in_range = subst (All IsInRange) uses (uses-ranged (slots_of one) v fit (form-limited one));
       known = subst (All (Known scope)) uses names.0;

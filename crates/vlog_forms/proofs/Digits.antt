@@ -1,6 +1,6 @@
 -- The tokens of written bits, words and numbers.
 use Rattle.std.proofs.Common.{◌≡◌, ℕ, ◌<◌, ◌+◌, ◌*◌, ◌/◌, ◌%◌, ◌==◌, Bool, true, false, not, ◌&&◌, ◌||◌, List, [], ◌∷◌, take, refl, ap, ◌∙◌, arith}
-use Rattle.std.proofs.lemmas.Bool.{ltb-true}
+use Rattle.std.proofs.lemmas.Bool.{ltb-true, and_left, and_right}
 use Rattle.std.proofs.lemmas.Bool.Decides.{nat_tests}
 use Rattle.std.specs.Prelude.{if◌then◌else◌, nat_lt}
 use Rattle.vlog_tokens.specs.Bytes.{is_blank, is_letter, is_digit, digit_value, is_name_byte, byte_at, is_hex_digit, hex_value, is_bit_text, is_word_text, word_value, number_length, number_value}
@@ -117,14 +117,6 @@ number_is bytes digit quote six =
           ∙ ap (λ b. if b then 4 else if is_word_text bytes then 8 else number_length bytes) bit
           ∙ ap (λ b. if b then 8 else number_length bytes) word,
     )
-
-and_left : (a b : Bool) → a ≡ false → (a && b) ≡ false
-and_left true b none = absurd cc
-and_left false b none = refl
-
-and_right : (a b : Bool) → b ≡ false → (a && b) ≡ false
-and_right true b none = none
-and_right false b none = refl
 
 one_digit : (n : ℕ) (rest : List ℕ) → n < 10 → closes rest ≡ true → FrontIs ((48 + n) ∷ []) rest (token.number n)
 one_digit n rest small shut =

@@ -1,6 +1,6 @@
 -- The items of a well-formed module are read without a fault.
 use Rattle.std.proofs.Common.{◌≡◌, ℕ, zero, suc, ◌<◌, ◌≤◌, Bool, true, false, not, List, [], ◌∷◌, ◌++◌, length, refl, ap, sym, ◌∙◌, subst, append_assoc, arith}
-use Rattle.std.proofs.lemmas.Bool.{le-leb, ltb-true}
+use Rattle.std.proofs.lemmas.Bool.{le-leb, ltb-true, le-ltb}
 use Rattle.std.proofs.lemmas.List.{append-nil}
 use Rattle.std.proofs.lemmas.List.Elements.{All-head, All-tail}
 use Rattle.std.specs.Prelude.{Ok, Err, Some, None, if◌then◌else◌, nat_le, nat_lt, All, flat_map, IsTrue}
@@ -98,18 +98,11 @@ name-none scope (one ∷ found) known first =
     let f = All-front (λ used. IsTrue (is_first scope used)) uses (uses_in (values_of found)) first in
     ap (λ one. or_fault one (name_fault scope found)) (use-none scope one.offset uses k.0 f.0) ∙ name-none scope found k.1 f.1
 
-ordered : (a b : ℕ) → b ≤ a → nat_lt a b ≡ false
-ordered a b le = by (nat_lt a b) refl
-  where
-    by : (t : Bool) → nat_lt a b ≡ t → t ≡ false
-    by true lt = absurd (omega (arith, ltb-true a b lt))
-    by false lt = refl
-
 -- an item that is allowed has no fault
 pub item-none : (scope : Scope) (offset : ℕ) (one : Item) (found : List Found) → IsAllowed scope one → values_of found ≡ item_values one → item_fault scope offset one found ≡ None
 item-none scope offset one found allowed is =
     let uses : uses_in (values_of found) ≡ uses_of one = ap uses_in is ∙ uses-of-values one in
-    ap (λ b. if b then Some (fault offset Order) else name_fault scope found) (ordered (section_of one) scope.section allowed.ordered)
+    ap (λ b. if b then Some (fault offset Order) else name_fault scope found) (le-ltb (section_of one) scope.section allowed.ordered)
     ∙ name-none scope found (subst (All (λ used. IsTrue (is_known scope used))) (sym uses) allowed.known) (subst (All (λ used. IsTrue (is_first scope used))) (sym uses) allowed.first)
 
 -- ---- items one after another

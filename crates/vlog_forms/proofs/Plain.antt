@@ -5,6 +5,9 @@ use Rattle.std.proofs.lemmas.List.{take_at, drop_at, length-append}
 use Rattle.std.specs.Prelude.{if◌then◌else◌, codes, bytes_eq, Option, Some, None}
 use Rattle.std.specs.List.{list_all, list_any}
 use Rattle.std.proofs.lemmas.Slice.Eq.{bytes_eq-Decides}
+use Rattle.std.proofs.lemmas.Bool.{and_parts, not-true, or_left, or_parts}
+use Rattle.vlog_tokens.proofs.Spelled.{all_words, among}
+use Rattle.shared_lemmas.proofs.Bytes.{apart_turned}
 use Rattle.vlog_tokens.specs.declared.fixed.Fixed.{Fixed}
 use Rattle.vlog_tokens.specs.declared.fixed.Fixed.TheVariants as sign
 use Rattle.vlog_tokens.specs.Bytes.{is_blank, is_letter, is_digit, is_name_byte, byte_at}
@@ -66,19 +69,11 @@ plain-front text rest one front =
 abbrev pub closes : List ℕ → Bool
 closes rest = not (is_name_byte (byte_at rest 0)) && not (byte_at rest 0 == 39)
 
-and_parts : (a b : Bool) → (a && b) ≡ true → (a ≡ true) × (b ≡ true)
-and_parts true b both = (refl, both)
-and_parts false b both = absurd cc
-
-not_true : (b : Bool) → not b ≡ true → b ≡ false
-not_true true h = absurd cc
-not_true false h = refl
-
 pub no_name : (rest : List ℕ) → closes rest ≡ true → is_name_byte (byte_at rest 0) ≡ false
-no_name rest shut = not_true (is_name_byte (byte_at rest 0)) (and_parts (not (is_name_byte (byte_at rest 0))) (not (byte_at rest 0 == 39)) shut).0
+no_name rest shut = not-true (is_name_byte (byte_at rest 0)) (and_parts (not (is_name_byte (byte_at rest 0))) (not (byte_at rest 0 == 39)) shut).0
 
 pub no_quote : (rest : List ℕ) → closes rest ≡ true → (byte_at rest 0 == 39) ≡ false
-no_quote rest shut = not_true (byte_at rest 0 == 39) (and_parts (not (is_name_byte (byte_at rest 0))) (not (byte_at rest 0 == 39)) shut).1
+no_quote rest shut = not-true (byte_at rest 0 == 39) (and_parts (not (is_name_byte (byte_at rest 0))) (not (byte_at rest 0 == 39)) shut).1
 
 -- ---- names and reserved words
 
@@ -93,10 +88,6 @@ name_length-closed (byte ∷ text) rest all shut =
 
 letter-unblank : (byte : ℕ) → is_letter byte ≡ true → is_blank byte ≡ false
 letter-unblank byte letter = grind (arith, nat_tests)
-
-or_true : (a b : Bool) → a ≡ true → (a || b) ≡ true
-or_true true b h = refl
-or_true false b h = absurd cc
 
 pub word-front : (text rest : List ℕ) → is_letter (byte_at text 0) ≡ true → list_all is_name_byte text ≡ true → closes rest ≡ true → FrontIs text rest (name_or_word text)
 unfolding front_token front_length
@@ -166,53 +157,18 @@ fixed-front sign.End rest shut = word-front (codes "end") rest refl refl (shut r
 fixed-front sign.Else rest shut = word-front (codes "else") rest refl refl (shut refl)
 fixed-front sign.Initial rest shut = word-front (codes "initial") rest refl refl (shut refl)
 
-or_parts : (a b : Bool) → (a || b) ≡ false → (a ≡ false) × (b ≡ false)
-or_parts true b none = absurd cc
-or_parts false b none = (refl, none)
-
-same_false : (text word : List ℕ) → bytes_eq word text ≡ false → bytes_eq text word ≡ false
-same_false text word apart = by (bytes_eq text word) refl
-  where
-    by : (b : Bool) → bytes_eq text word ≡ b → b ≡ false
-    by true same = let back : bytes_eq word text ≡ true = (bytes_eq-Decides word text).1 (sym ((bytes_eq-Decides text word).0 same)) in absurd cc
-    by false same = refl
-
--- a name is no reserved word
-unfoldable pub among_words : List (List ℕ × Fixed) → List ℕ → Option Fixed
-among_words [] text = None
-among_words (word ∷ words) text = if bytes_eq text word.0 then Some word.1 else among_words words text
-
 abbrev first_of : (List ℕ × Fixed) → List ℕ
 first_of word = word.0
 
-among_words-none : (words : List (List ℕ × Fixed)) (text : List ℕ) → list_any (λ word. bytes_eq word text) (map first_of words) ≡ false → among_words words text ≡ None
-unfolding among_words
+among_words-none : (words : List (List ℕ × Fixed)) (text : List ℕ) → list_any (λ word. bytes_eq word text) (map first_of words) ≡ false → among (bytes_eq text) words ≡ None
+unfolding among
 among_words-none [] text none = refl
 among_words-none (word ∷ words) text none =
     let parts = or_parts (bytes_eq word.0 text) (list_any (λ other. bytes_eq other text) (map first_of words)) none in
-    ap (λ b. if b then Some word.1 else among_words words text) (same_false text word.0 parts.0) ∙ among_words-none words text parts.1
-
-abbrev all_words : List (List ℕ × Fixed)
-all_words =
-    (codes "module", sign.Module) ∷
-    (codes "endmodule", sign.Endmodule) ∷
-    (codes "input", sign.Input) ∷
-    (codes "output", sign.Output) ∷
-    (codes "reg", sign.Reg) ∷
-    (codes "wire", sign.Wire) ∷
-    (codes "assign", sign.Assign) ∷
-    (codes "always", sign.Always) ∷
-    (codes "posedge", sign.Posedge) ∷
-    (codes "negedge", sign.Negedge) ∷
-    (codes "if", sign.If) ∷
-    (codes "begin", sign.Begin) ∷
-    (codes "end", sign.End) ∷
-    (codes "else", sign.Else) ∷
-    (codes "initial", sign.Initial) ∷
-    []
+    ap (λ b. if b then Some word.1 else among (bytes_eq text) words) (apart_turned word.0 text parts.0) ∙ among_words-none words text parts.1
 
 reserved-none : (text : List ℕ) → is_reserved text ≡ false → word_of text ≡ None
-unfolding word_of reserved_words among_words
+unfolding word_of reserved_words among
 reserved-none text none = among_words-none all_words text none
 
 -- the parts of a name
@@ -225,7 +181,7 @@ word-parts : (text : List ℕ) → is_word text ≡ true → (is_letter (byte_at
 word-parts [] word = absurd cc
 word-parts (byte ∷ text) word =
     let parts = and_parts (is_letter byte) (list_all is_name_byte text) word in
-    (parts.0, both (is_letter byte || is_digit byte) (list_all is_name_byte text) (or_true (is_letter byte) (is_digit byte) parts.0) parts.1)
+    (parts.0, both (is_letter byte || is_digit byte) (list_all is_name_byte text) (or_left (is_letter byte) (is_digit byte) parts.0) parts.1)
   where
     both : (a b : Bool) → a ≡ true → b ≡ true → (a && b) ≡ true
     both true b h k = k
@@ -236,7 +192,7 @@ unfolding is_name
 name-parts text named =
     let parts = and_parts (is_word text) (not (is_reserved text)) named in
     let word = word-parts text parts.0 in
-    record { letter = word.0; bytes = word.1; free = not_true (is_reserved text) parts.1 }
+    record { letter = word.0; bytes = word.1; free = not-true (is_reserved text) parts.1 }
 
 pub name-front : (text rest : List ℕ) → IsName text → closes rest ≡ true → FrontIs text rest (token.name text)
 unfolding name_or_word

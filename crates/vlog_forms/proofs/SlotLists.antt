@@ -3,6 +3,7 @@ use Rattle.std.proofs.Common.{◌≡◌, ℕ, zero, suc, ◌<◌, Bool, true, fa
 use Rattle.std.proofs.lemmas.Bool.{ltb-true}
 use Rattle.std.proofs.lemmas.List.{append-nil, map-append, length-append, length-map}
 use Rattle.std.specs.Prelude.{Result, Ok, Err, Option, Some, None, if◌then◌else◌, nat_lt}
+use Rattle.shared_lemmas.proofs.Tests.{if_both}
 use Rattle.vlog_tokens.specs.declared.fixed.Fixed.TheVariants as sign
 use Rattle.vlog_tokens.specs.Tokens.{TokenValue, Spot}
 use Rattle.vlog_tokens.specs.Tokens.{TokenValue as token}
@@ -293,10 +294,6 @@ slot_passed end wanted found spots tail takes real stands = absurd cc
 pub record IsSound (n : ℕ) (slots : List Slot) : Type 0 where
   pub closed : are_closed slots ≡ true
   pub before : are_before n slots ≡ true
-
-if_both : (a b : Bool) → (if a then b else false) ≡ true → (a ≡ true) × (b ≡ true)
-if_both true b both = (refl, both)
-if_both false b both = absurd cc
 
 if_either : (a b c : Bool) → (if a then (if b then c else false) else c) ≡ true → (a ≡ true → b ≡ true) × (c ≡ true)
 if_either true b c both = let parts = if_both b c both in ((λ _. parts.0), parts.1)

@@ -4,6 +4,9 @@ use Rattle.std.proofs.lemmas.Bool.Decides.{nat_tests}
 use Rattle.std.proofs.lemmas.Slice.Eq.{bytes_eq-Decides}
 use Rattle.std.specs.Prelude.{Ok, Option, Some, None, if◌then◌else◌, codes, bytes_eq}
 use Rattle.std.specs.List.{list_all, list_any}
+use Rattle.std.proofs.lemmas.Bool.{and_from, or_from, or_left}
+use Rattle.vlog_tokens.proofs.Spelled.{all_words, among}
+use Rattle.shared_lemmas.proofs.Bytes.{apart_turned}
 use Rattle.vlog_tokens.specs.declared.fixed.Fixed.{Fixed}
 use Rattle.vlog_tokens.specs.declared.fixed.Fixed.TheVariants as sign
 use Rattle.vlog_tokens.specs.Bytes.{is_blank, is_letter, is_digit, is_name_byte, byte_at, hex_value, is_bit_text, is_word_text, word_value, number_value}
@@ -19,7 +22,6 @@ use Rattle.vlog_forms.specs.Layout.{takes_value, exact_tokens, filled}
 use Rattle.vlog_forms.specs.Items.{tokens_in}
 use Rattle.vlog_forms.specs.Reading.{Found, values_of, read_slots}
 use Rattle.vlog_forms.proofs.SlotLists.{FitAll, FitsFirst, slots-stand, filled-took, filled-passed}
-use Rattle.vlog_forms.proofs.Plain.{among_words}
 
 -- ---- tokens
 
@@ -33,29 +35,17 @@ abbrev pub AreSoundTokens : List TokenValue → Type 0
 AreSoundTokens [] = Unit {0}
 AreSoundTokens (one ∷ more) = IsSoundToken one × AreSoundTokens more
 
-both_true : (a b : Bool) → a ≡ true → b ≡ true → (a && b) ≡ true
-both_true true b h k = k
-both_true false b h k = absurd cc
-
-neither : (a b : Bool) → a ≡ false → b ≡ false → (a || b) ≡ false
-neither true b h k = absurd cc
-neither false b h k = k
-
 -- the bytes at the front that a name may have
 all_step : (b : Bool) (byte : ℕ) (bytes : List ℕ) → is_name_byte byte ≡ b → list_all is_name_byte (take (name_length bytes) bytes) ≡ true
     → list_all is_name_byte (take (cond (not (not b)) (1 + name_length bytes) 0) (byte ∷ bytes)) ≡ true
 all_step true byte bytes is more =
     let one : 1 + name_length bytes ≡ suc (name_length bytes) = omega arith in
-    ap (λ n. list_all is_name_byte (take n (byte ∷ bytes))) one ∙ both_true (is_name_byte byte) (list_all is_name_byte (take (name_length bytes) bytes)) is more
+    ap (λ n. list_all is_name_byte (take n (byte ∷ bytes))) one ∙ and_from (is_name_byte byte) (list_all is_name_byte (take (name_length bytes) bytes)) is more
 all_step false byte bytes is more = refl
 
 front-all : (bytes : List ℕ) → list_all is_name_byte (take (name_length bytes) bytes) ≡ true
 front-all [] = refl
 front-all (byte ∷ bytes) = all_step (is_name_byte byte) byte bytes refl (front-all bytes)
-
-or_left : (a b : Bool) → a ≡ true → (a || b) ≡ true
-or_left true b h = refl
-or_left false b h = absurd cc
 
 front-word : (bytes : List ℕ) → is_letter (byte_at bytes 0) ≡ true → is_word (take (name_length bytes) bytes) ≡ true
 front-word [] letter = absurd cc
@@ -63,56 +53,30 @@ front-word (byte ∷ bytes) letter =
     let named : is_name_byte byte ≡ true = or_left (is_letter byte) (is_digit byte) letter in
     let one : 1 + name_length bytes ≡ suc (name_length bytes) = omega arith in
     let long : name_length (byte ∷ bytes) ≡ suc (name_length bytes) = ap (λ b. cond (not (not b)) (1 + name_length bytes) 0) named ∙ one in
-    ap (λ n. is_word (take n (byte ∷ bytes))) long ∙ both_true (is_letter byte) (list_all is_name_byte (take (name_length bytes) bytes)) letter (front-all bytes)
+    ap (λ n. is_word (take n (byte ∷ bytes))) long ∙ and_from (is_letter byte) (list_all is_name_byte (take (name_length bytes) bytes)) letter (front-all bytes)
 
 -- a word that isn't reserved is among none of the reserved words
 words_step : (b : Bool) (word : List ℕ × Fixed) (rest : Option Fixed) → (if b then Some word.1 else rest) ≡ None → (b ≡ false) × (rest ≡ None)
 words_step true word rest none = absurd cc
 words_step false word rest none = (refl, none)
 
-apart-turned : (text word : List ℕ) → bytes_eq text word ≡ false → bytes_eq word text ≡ false
-apart-turned text word apart = by (bytes_eq word text) refl
-  where
-    by : (b : Bool) → bytes_eq word text ≡ b → b ≡ false
-    by true same = let back : bytes_eq text word ≡ true = (bytes_eq-Decides text word).1 (sym ((bytes_eq-Decides word text).0 same)) in absurd cc
-    by false same = refl
-
 abbrev first_of : (List ℕ × Fixed) → List ℕ
 first_of word = word.0
 
-none-among_words : (words : List (List ℕ × Fixed)) (text : List ℕ) → among_words words text ≡ None → list_any (λ word. bytes_eq word text) (map first_of words) ≡ false
-unfolding among_words
+none-among_words : (words : List (List ℕ × Fixed)) (text : List ℕ) → among (bytes_eq text) words ≡ None → list_any (λ word. bytes_eq word text) (map first_of words) ≡ false
+unfolding among
 none-among_words [] text none = refl
 none-among_words (word ∷ words) text none =
-    let parts = words_step (bytes_eq text word.0) word (among_words words text) none in
-    neither (bytes_eq word.0 text) (list_any (λ other. bytes_eq other text) (map first_of words)) (apart-turned text word.0 parts.0) (none-among_words words text parts.1)
-
-abbrev each_word : List (List ℕ × Fixed)
-each_word =
-    (codes "module", sign.Module) ∷
-    (codes "endmodule", sign.Endmodule) ∷
-    (codes "input", sign.Input) ∷
-    (codes "output", sign.Output) ∷
-    (codes "reg", sign.Reg) ∷
-    (codes "wire", sign.Wire) ∷
-    (codes "assign", sign.Assign) ∷
-    (codes "always", sign.Always) ∷
-    (codes "posedge", sign.Posedge) ∷
-    (codes "negedge", sign.Negedge) ∷
-    (codes "if", sign.If) ∷
-    (codes "begin", sign.Begin) ∷
-    (codes "end", sign.End) ∷
-    (codes "else", sign.Else) ∷
-    (codes "initial", sign.Initial) ∷
-    []
+    let parts = words_step (bytes_eq text word.0) word (among (bytes_eq text) words) none in
+    or_from (bytes_eq word.0 text) (list_any (λ other. bytes_eq other text) (map first_of words)) (apart_turned text word.0 parts.0) (none-among_words words text parts.1)
 
 none-reserved : (text : List ℕ) → word_of text ≡ None → is_reserved text ≡ false
-unfolding word_of reserved_words among_words
-none-reserved text none = none-among_words each_word text none
+unfolding word_of reserved_words among
+none-reserved text none = none-among_words all_words text none
 
 named : (text : List ℕ) → is_word text ≡ true → is_reserved text ≡ false → IsName text
 unfolding is_name
-named text word free = both_true (is_word text) (not (is_reserved text)) word (ap not free)
+named text word free = and_from (is_word text) (not (is_reserved text)) word (ap not free)
 
 word_case : (reserved : Option Fixed) (text : List ℕ) → word_of text ≡ reserved → is_word text ≡ true → IsSoundToken (word_or_name reserved text)
 word_case (Some fixed) text is word = tt

@@ -6,6 +6,7 @@ use Rattle.std.proofs.lemmas.List.Elements.{All-nil, All-cons}
 use Rattle.std.proofs.lemmas.Map.Keys.{IsDistinct-push}
 use Rattle.std.specs.Prelude.{Result, Ok, Err, Option, Some, None, if◌then◌else◌, flat_map, slice_get, bytes_eq, All, IsTrue}
 use Rattle.std.specs.List.{list_any, IsDistinct}
+use Rattle.std.proofs.lemmas.Bool.{and_parts}
 use Rattle.vlog_tokens.specs.declared.fixed.Fixed.TheVariants as sign
 use Rattle.vlog_tokens.specs.Tokens.{TokenValue, Spot, spots_of}
 use Rattle.vlog_tokens.specs.Tokens.{TokenValue as token}
@@ -505,10 +506,6 @@ allowed-at ports before (first ∷ items) follow zero one at =
     subst (λ (list : List Item). IsAllowed (scope_of ports list) one) (sym (append-nil before)) (subst (λ (each : Item). IsAllowed (scope_of ports before) each) same follow.0)
 allowed-at ports before (first ∷ items) follow (suc i) one at =
     subst (λ (list : List Item). IsAllowed (scope_of ports list) one) (append_assoc before (first ∷ []) (take i items)) (allowed-at ports (before ++ first ∷ []) items follow.1 i one at)
-
-and_parts : (a b : Bool) → (a && b) ≡ true → (a ≡ true) × (b ≡ true)
-and_parts true b both = (refl, both)
-and_parts false b both = absurd cc
 
 either_given : (a b : Bool) → (not a || b) ≡ true → a ≡ true → b ≡ true
 either_given true b either given = either

@@ -1,8 +1,9 @@
 -- The tokens of what slots and values write are the tokens that they make.
 use Rattle.std.proofs.Common.{◌≡◌, ℕ, zero, suc, ◌<◌, Bool, true, false, not, ◌&&◌, List, [], ◌∷◌, ◌++◌, length, take, drop, refl, ap, sym, ◌∙◌, subst, append_assoc, arith}
-use Rattle.std.proofs.lemmas.Bool.{ltb-true}
+use Rattle.std.proofs.lemmas.Bool.{ltb-true, and_parts}
 use Rattle.std.proofs.lemmas.List.{append-nil, length-append}
 use Rattle.std.specs.Prelude.{if◌then◌else◌, nat_lt}
+use Rattle.shared_lemmas.proofs.Tests.{if_both}
 use Rattle.vlog_tokens.specs.declared.fixed.Fixed.{Fixed}
 use Rattle.vlog_tokens.specs.declared.fixed.Fixed.TheVariants as sign
 use Rattle.vlog_tokens.specs.Fixed.{fixed_text}
@@ -180,10 +181,6 @@ written-closes (slot.Fixed fixed ∷ slots) before after rest shut closed =
     ap closes flat ∙ sign-closes fixed (text ++ rest) shut
 written-closes (one ∷ slots) before after rest shut closed = absurd cc
 
-and_parts : (a b : Bool) → (a && b) ≡ true → (a ≡ true) × (b ≡ true)
-and_parts true b both = (refl, both)
-and_parts false b both = absurd cc
-
 takes-needs : (one : Slot) → takes_value one ≡ true → needs_close one ≡ true
 takes-needs (slot.Name role) takes = refl
 takes-needs slot.Edge takes = refl
@@ -226,16 +223,12 @@ if_true : (a b : Bool) → (if a then b else true) ≡ true → a ≡ true → b
 if_true true b h k = h
 if_true false b h k = absurd cc
 
-if_false : (a b : Bool) → (if a then b else false) ≡ true → (a ≡ true) × (b ≡ true)
-if_false true b h = (refl, h)
-if_false false b h = absurd cc
-
 shut-parts : (one : Slot) (slots : List Slot) (n : ℕ) → are_shut (one ∷ slots) ≡ true → are_before n (one ∷ slots) ≡ true → ShutParts one slots n
 unfolding are_shut are_before
 shut-parts one slots n shut known =
     let parts = and_parts ((if needs_close one then begins_shut slots else true) && small_literal one) (are_shut slots) shut in
     let first = and_parts (if needs_close one then begins_shut slots else true) (small_literal one) parts.0 in
-    let places = if_false (is_before n one) (are_before (if takes_value one then suc n else n) slots) known in
+    let places = if_both (is_before n one) (are_before (if takes_value one then suc n else n) slots) known in
     record { next = if_true (needs_close one) (begins_shut slots) first.0; small = first.1; known = places.0; before = places.1 }
 
 took_case : (one : Slot) (slots : List Slot) (before : List Value) (value : Value) (after : List Value) (rest : List ℕ) → takes_value one ≡ true → ShutParts one slots (length before)

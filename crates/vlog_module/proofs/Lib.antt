@@ -1,1 +1,2 @@
+-- modules that grow item by item
 pub mod Begun

@@ -1,9 +1,12 @@
 -- Names that are entered stand for the scope with what they declare and assign.
 use Rattle.std.proofs.Common.{◌≡◌, ℕ, Bool, true, false, ◌&&◌, ◌||◌, ◌==◌, List, [], ◌∷◌, ◌++◌, refl, ap, sym, ◌∙◌, append_assoc}
-use Rattle.std.proofs.lemmas.Bool.{eqb-true}
+use Rattle.std.proofs.lemmas.Bool.{eqb-true, and_parts}
 use Rattle.std.proofs.lemmas.Slice.Eq.{bytes_eq-Decides}
 use Rattle.std.specs.Prelude.{Option, Some, None, is_some, bytes_eq, flat_map, if◌then◌else◌}
 use Rattle.std.specs.List.{list_any}
+use Rattle.std.proofs.lemmas.List.Concat.{flat_map-append}
+use Rattle.std.proofs.Math.Bool.{or-false}
+use Rattle.shared_lemmas.proofs.Searches.{list_any-push}
 use Rattle.vlog_module.specs.declared.sort.Sort.{Sort}
 use Rattle.vlog_module.specs.Uses.{Use}
 use Rattle.vlog_module.specs.Uses.Use.{Declares, Assigns, Starts}
@@ -11,33 +14,17 @@ use Rattle.vlog_module.specs.WellFormed.{Scope, sort_in, declared_by, assigned_b
 use Rattle.vlog_names.specs.Kept.{has_name, with_name, has_word, with_word, with_sort}
 use Rattle.vlog_names.specs.Scopes.{Known, Holds, entered}
 
-or_none : (b : Bool) → (b || false) ≡ b
-or_none true = refl
-or_none false = refl
-
-or_assoc : (a b c : Bool) → (a || (b || c)) ≡ ((a || b) || c)
-or_assoc true b c = refl
-or_assoc false b c = refl
-
-any-push : {K : Type 0} (test : K → Bool) (xs : List K) (x : K) → list_any test (xs ++ x ∷ []) ≡ (list_any test xs || test x)
-any-push test [] x = or_none (test x)
-any-push test (first ∷ xs) x = ap (λ b. test first || b) (any-push test xs x) ∙ or_assoc (test first) (list_any test xs) (test x)
-
-and_parts : (a b : Bool) → (a && b) ≡ true → (a ≡ true) × (b ≡ true)
-and_parts true b both = (refl, both)
-and_parts false b both = absurd cc
-
 -- ---- names that are assigned
 
 absorbed : (b : Bool) (names : List (List ℕ)) (name other : List ℕ) → bytes_eq name other ≡ b → has_name names name ≡ true → has_name names other ≡ (has_name names other || b)
 absorbed true names name other same there =
     let here : has_name names other ≡ true = ap (has_name names) (sym ((bytes_eq-Decides name other).0 same)) ∙ there in
     here ∙ ap (λ b. b || true) (sym here)
-absorbed false names name other same there = sym (or_none (has_name names other))
+absorbed false names name other same there = sym (or-false (has_name names other))
 
 with_case : (b : Bool) (names : List (List ℕ)) (name other : List ℕ) → has_name names name ≡ b → has_name (if b then names else names ++ name ∷ []) other ≡ (has_name names other || bytes_eq name other)
 with_case true names name other there = absorbed (bytes_eq name other) names name other refl there
-with_case false names name other there = any-push (λ each. bytes_eq each other) names name
+with_case false names name other there = list_any-push (λ each. bytes_eq each other) names name
 
 has-with : (names : List (List ℕ)) (name other : List ℕ) → has_name (with_name names name) other ≡ (has_name names other || bytes_eq name other)
 has-with names name other = with_case (has_name names name) names name other refl
@@ -50,12 +37,12 @@ word_absorbed true words memory other place k same there =
     let parts = and_parts (bytes_eq memory other) (place == k) same in
     let here : has_word words other k ≡ true = ap (λ name. has_word words name k) (sym ((bytes_eq-Decides memory other).0 parts.0)) ∙ ap (has_word words memory) (sym (eqb-true place k parts.1)) ∙ there in
     here ∙ ap (λ b. b || true) (sym here)
-word_absorbed false words memory other place k same there = sym (or_none (has_word words other k))
+word_absorbed false words memory other place k same there = sym (or-false (has_word words other k))
 
 word_case : (b : Bool) (words : List (List ℕ × ℕ)) (memory other : List ℕ) (place k : ℕ) → has_word words memory place ≡ b
     → has_word (if b then words else words ++ (memory, place) ∷ []) other k ≡ (has_word words other k || (bytes_eq memory other && (place == k)))
 word_case true words memory other place k there = word_absorbed (bytes_eq memory other && (place == k)) words memory other place k refl there
-word_case false words memory other place k there = any-push (λ (each : List ℕ × ℕ). bytes_eq each.0 other && (each.1 == k)) words (memory, place)
+word_case false words memory other place k there = list_any-push (λ (each : List ℕ × ℕ). bytes_eq each.0 other && (each.1 == k)) words (memory, place)
 
 word-with : (words : List (List ℕ × ℕ)) (memory other : List ℕ) (place k : ℕ) → has_word (with_word words memory place) other k ≡ (has_word words other k || (bytes_eq memory other && (place == k)))
 word-with words memory other place k = word_case (has_word words memory place) words memory other place k refl
@@ -124,7 +111,7 @@ holds-assigned known scope sort name assigned is holds = record {
   declared = λ other. holds.declared other ∙ sym (kept_sort scope.declared other);
   assigned = λ other. ap (λ list. has_name list other) is ∙ has-with known.assigned name other
       ∙ ap (λ b. b || bytes_eq name other) (holds.assigned other)
-      ∙ sym (any-push (λ each. bytes_eq each other) scope.assigned name);
+      ∙ sym (list_any-push (λ each. bytes_eq each other) scope.assigned name);
   started = λ other k. holds.started other k ∙ sym (kept_any (λ (each : List ℕ × ℕ). bytes_eq each.0 other && (each.1 == k)) scope.started);
 }
 
@@ -135,7 +122,7 @@ holds-started known scope memory place started is holds = record {
   assigned = λ other. holds.assigned other ∙ sym (kept_any (λ each. bytes_eq each other) scope.assigned);
   started = λ other k. ap (λ list. has_word list other k) is ∙ word-with known.started memory other place k
       ∙ ap (λ b. b || (bytes_eq memory other && (place == k))) (holds.started other k)
-      ∙ sym (any-push (λ (each : List ℕ × ℕ). bytes_eq each.0 other && (each.1 == k)) scope.started (memory, place));
+      ∙ sym (list_any-push (λ (each : List ℕ × ℕ). bytes_eq each.0 other && (each.1 == k)) scope.started (memory, place));
 }
 
 pub holds-kept : (known : Known) (scope : Scope) (uses : List Use) → flat_map declared_by uses ≡ [] → flat_map assigned_by uses ≡ [] → flat_map started_by uses ≡ [] → Holds known scope → Holds known (entered scope uses)
@@ -145,17 +132,13 @@ holds-kept known scope uses a b d holds = record {
   started = λ other k. holds.started other k ∙ sym (kept_any (λ (each : List ℕ × ℕ). bytes_eq each.0 other && (each.1 == k)) scope.started) ∙ ap (λ list. has_word (scope.started ++ list) other k) (sym d);
 }
 
-flat-append : {A B : Type 0} (f : A → List B) (xs ys : List A) → flat_map f (xs ++ ys) ≡ flat_map f xs ++ flat_map f ys
-flat-append f [] ys = refl
-flat-append f (x ∷ xs) ys = ap (λ more. f x ++ more) (flat-append f xs ys) ∙ sym (append_assoc (f x) (flat_map f xs) (flat_map f ys))
-
 -- names entered one after another
 pub entered-append : (scope : Scope) (uses more : List Use) → entered (entered scope uses) more ≡ entered scope (uses ++ more)
 entered-append scope uses more =
     let a : (scope.declared ++ flat_map declared_by uses) ++ flat_map declared_by more ≡ scope.declared ++ flat_map declared_by (uses ++ more)
-    = append_assoc scope.declared (flat_map declared_by uses) (flat_map declared_by more) ∙ ap (λ list. scope.declared ++ list) (sym (flat-append declared_by uses more)) in
+    = append_assoc scope.declared (flat_map declared_by uses) (flat_map declared_by more) ∙ ap (λ list. scope.declared ++ list) (sym (flat_map-append declared_by uses more)) in
     let b : (scope.assigned ++ flat_map assigned_by uses) ++ flat_map assigned_by more ≡ scope.assigned ++ flat_map assigned_by (uses ++ more)
-    = append_assoc scope.assigned (flat_map assigned_by uses) (flat_map assigned_by more) ∙ ap (λ list. scope.assigned ++ list) (sym (flat-append assigned_by uses more)) in
+    = append_assoc scope.assigned (flat_map assigned_by uses) (flat_map assigned_by more) ∙ ap (λ list. scope.assigned ++ list) (sym (flat_map-append assigned_by uses more)) in
     let d : (scope.started ++ flat_map started_by uses) ++ flat_map started_by more ≡ scope.started ++ flat_map started_by (uses ++ more)
-    = append_assoc scope.started (flat_map started_by uses) (flat_map started_by more) ∙ ap (λ list. scope.started ++ list) (sym (flat-append started_by uses more)) in
+    = append_assoc scope.started (flat_map started_by uses) (flat_map started_by more) ∙ ap (λ list. scope.started ++ list) (sym (flat_map-append started_by uses more)) in
     cc

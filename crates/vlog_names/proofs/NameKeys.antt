@@ -4,17 +4,15 @@ use Rattle.std.proofs.lemmas.Cmp.{nat_eq_equiv, nat_list_eq_equiv}
 use Rattle.std.proofs.lemmas.List.{map-append}
 use Rattle.std.specs.Prelude.{Option, Some, None, bytes_eq, if◌then◌else◌}
 use Rattle.std.specs.List.{list_any}
+use Rattle.shared_lemmas.proofs.Bytes.{bytes_eq-turned}
 use Rattle.vlog_module.specs.Maps.{value_in}
 use Rattle.vlog_names.specs.Kept.{has_name, with_name, has_word, with_word}
-
-same-turned : (a b : List ℕ) → bytes_eq a b ≡ bytes_eq b a
-same-turned a b = nat_list_eq_equiv.symm a b
 
 -- whether a name is among the names of keys
 pub any-keys : {K : Type 0} (bytes : K → List ℕ) (name : List ℕ) (keys : List K) → list_any (λ key. bytes_eq name (bytes key)) keys ≡ has_name (map bytes keys) name
 any-keys bytes name [] = refl
 any-keys bytes name (key ∷ keys) =
-    ap (λ b. b || list_any (λ other. bytes_eq name (bytes other)) keys) (same-turned name (bytes key))
+    ap (λ b. b || list_any (λ other. bytes_eq name (bytes other)) keys) (bytes_eq-turned name (bytes key))
     ∙ ap (λ b. bytes_eq (bytes key) name || b) (any-keys bytes name keys)
 
 if_map : {A B : Type 0} (f : A → B) (b : Bool) (xs ys : List A) → map f (if b then xs else ys) ≡ (if b then map f xs else map f ys)
@@ -68,7 +66,7 @@ pub value-keys : {K X : Type 0} (bytes : K → List ℕ) (name : List ℕ) (entr
     → looked_up (λ key. bytes_eq name (bytes key)) entries ≡ value_in (map (entry_in bytes) entries) name
 value-keys bytes name [] = refl
 value-keys bytes name (entry ∷ entries) =
-    ap (λ b. cond b (Some entry.1) (looked_up (λ key. bytes_eq name (bytes key)) entries)) (same-turned name (bytes entry.0))
+    ap (λ b. cond b (Some entry.1) (looked_up (λ key. bytes_eq name (bytes key)) entries)) (bytes_eq-turned name (bytes entry.0))
     ∙ ap (λ more. cond (bytes_eq (bytes entry.0) name) (Some entry.1) more) (value-keys bytes name entries)
 
 pub entries-push : {K X : Type 0} (bytes : K → List ℕ) (entries after : List (K × X)) (key : K) (value : X) (declared : List (List ℕ × X)) (name : List ℕ)
@@ -78,4 +76,4 @@ entries-push bytes entries after key value declared name is are named =
 
 -- the same word, from either side
 pub word-turned : (a b : List ℕ) (j k : ℕ) → (bytes_eq a b && (j == k)) ≡ (bytes_eq b a && (k == j))
-word-turned a b j k = ap (λ same. same && (j == k)) (same-turned a b) ∙ ap (λ same. bytes_eq b a && same) (nat_eq_equiv.symm j k)
+word-turned a b j k = ap (λ same. same && (j == k)) (bytes_eq-turned a b) ∙ ap (λ same. bytes_eq b a && same) (nat_eq_equiv.symm j k)

@@ -174,13 +174,3 @@ atoms-step values more atoms place one inside is pushed =
 pub line-is : (out text : List ℕ) → ((out ++ 32 ∷ 32 ∷ []) ++ text) ++ 10 ∷ [] ≡ out ++ line_of text
 line-is out text =
     append_assoc (out ++ 32 ∷ 32 ∷ []) text (10 ∷ []) ∙ append_assoc out (32 ∷ 32 ∷ []) (text ++ 10 ∷ [])
-
--- ---- answers
-
-pub on_ok : {A E : Type 0} (result : Result A E) (P Q : Type 0) → (P → Q) → OnOk result P → OnOk result Q
-on_ok (Ok given) P Q step holds = step holds
-on_ok (Err refused) P Q step holds = tt
-
-pub if_ok : {A E : Type 0} (result : Result A E) (P Q : A → Type 0) → ((given : A) → P given → Q given) → IfOk result P → IfOk result Q
-if_ok (Ok given) P Q step holds = step given holds
-if_ok (Err refused) P Q step holds = tt

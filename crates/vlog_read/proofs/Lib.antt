@@ -1,2 +1,2 @@
+-- readings one after another
 pub mod Steps
-pub mod Results

@@ -1,3 +1,4 @@
 mod events;
+mod runs;
 mod texts;
 mod words;

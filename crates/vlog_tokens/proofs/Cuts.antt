@@ -1,10 +1,10 @@
 -- The tokens from an offset on.
-use Rattle.std.proofs.Common.{◌≡◌, ℕ, zero, suc, ◌<◌, ◌≤◌, ◌+◌, ◌-◌, Bool, true, false, not, List, [], ◌∷◌, length, get_or, take, drop, refl, ap, sym, ◌∙◌, arith, inl, inr, cond}
+use Rattle.std.proofs.Common.{◌≡◌, ℕ, zero, suc, ◌<◌, ◌≤◌, ◌+◌, ◌-◌, Bool, true, false, not, List, [], ◌∷◌, length, get_or, drop, refl, ap, sym, ◌∙◌, arith, cond}
 use Rattle.std.proofs.lemmas.List.{drop-drop, length-drop, drop_all, get_or-drop}
 use Rattle.std.proofs.lemmas.List.Sums.{passes_at_first}
 use Rattle.std.specs.List.{position_or_len}
 use Rattle.vlog_tokens.specs.Bytes.{is_blank, byte_at}
-use Rattle.vlog_tokens.specs.Tokens.{Spot, spot, spots_from, spots_at, front_token, front_length}
+use Rattle.vlog_tokens.specs.Tokens.{spot, spots_from, spots_at, front_token, front_length}
 use Rattle.vlog_tokens.proofs.Lengths.{front_within}
 
 -- bytes that belong to an earlier token may be left out

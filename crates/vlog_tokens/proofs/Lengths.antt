@@ -1,11 +1,12 @@
 -- Every token has a byte at least, and stands within the text.
-use Rattle.std.proofs.Common.{◌≡◌, ℕ, zero, suc, ◌<◌, ◌≤◌, ◌+◌, ◌==◌, Bool, true, false, not, List, [], ◌∷◌, length, get_or, refl, ap, arith, inl, inr, cond, ◌&&◌, ◌||◌}
+use Rattle.std.proofs.Common.{◌≡◌, ℕ, ◌<◌, ◌≤◌, ◌==◌, Bool, true, false, not, List, [], ◌∷◌, length, refl, arith, ◌&&◌, ◌||◌}
 use Rattle.std.proofs.lemmas.Bool.Decides.{nat_tests}
 use Rattle.std.proofs.lemmas.List.Sums.{prefix_len-le-length}
-use Rattle.std.specs.Prelude.{None, Some, Option, if◌then◌else◌}
+use Rattle.std.specs.Prelude.{if◌then◌else◌}
+use Rattle.shared_lemmas.proofs.Tests.{second_true}
 use Rattle.vlog_tokens.specs.Bytes.{byte_at, is_letter, is_digit, is_hex_digit, is_name_byte, is_bit_text, is_word_text, number_length}
-use Rattle.vlog_tokens.specs.Fixed.{pair_of, sign_of}
-use Rattle.vlog_tokens.specs.Tokens.{name_length, digits_length, sign_length, first_length, front_length}
+use Rattle.vlog_tokens.specs.Fixed.{pair_of}
+use Rattle.vlog_tokens.specs.Tokens.{name_length, digits_length, sign_length, front_length}
 use Rattle.vlog_tokens.proofs.Places.{present}
 
 -- a number of bytes at the front that are there
@@ -16,11 +17,6 @@ pub name_within : (byte : ℕ) (bytes : List ℕ) → is_letter byte ≡ true �
 name_within byte bytes letter =
     (rw letter (omega arith), prefix_len-le-length (λ byte. not (not (is_name_byte byte))) (byte ∷ bytes))
 
--- the second of two tests that pass
-pub and_right : (a b : Bool) → (a && b) ≡ true → b ≡ true
-and_right true b both = both
-and_right false b both = absurd cc
-
 bit_nonzero : (byte : ℕ) → ((byte == 48) || (byte == 49)) ≡ true → 0 < byte
 bit_nonzero byte passes = grind (arith, nat_tests)
 
@@ -30,13 +26,13 @@ hex_nonzero byte passes = grind (arith, nat_tests)
 digit_nonzero : (byte : ℕ) → is_digit byte ≡ true → 0 < byte
 digit_nonzero byte passes = grind (arith, nat_tests)
 
-bit_within : (bytes : List ℕ) → is_bit_text bytes ≡ true → 4 ≤ length bytes
+pub bit_within : (bytes : List ℕ) → is_bit_text bytes ≡ true → 4 ≤ length bytes
 bit_within bytes passes =
-    present bytes 3 (bit_nonzero (byte_at bytes 3) (and_right ((byte_at bytes 0 == 49) && (byte_at bytes 1 == 39) && (byte_at bytes 2 == 98)) ((byte_at bytes 3 == 48) || (byte_at bytes 3 == 49)) passes))
+    present bytes 3 (bit_nonzero (byte_at bytes 3) (second_true ((byte_at bytes 0 == 49) && (byte_at bytes 1 == 39) && (byte_at bytes 2 == 98)) ((byte_at bytes 3 == 48) || (byte_at bytes 3 == 49)) passes))
 
-word_within : (bytes : List ℕ) → is_word_text bytes ≡ true → 8 ≤ length bytes
+pub word_within : (bytes : List ℕ) → is_word_text bytes ≡ true → 8 ≤ length bytes
 word_within bytes passes =
-    present bytes 7 (hex_nonzero (byte_at bytes 7) (and_right ((byte_at bytes 0 == 49) && (byte_at bytes 1 == 54) && (byte_at bytes 2 == 39) && (byte_at bytes 3 == 104)
+    present bytes 7 (hex_nonzero (byte_at bytes 7) (second_true ((byte_at bytes 0 == 49) && (byte_at bytes 1 == 54) && (byte_at bytes 2 == 39) && (byte_at bytes 3 == 104)
     && is_hex_digit (byte_at bytes 4) && is_hex_digit (byte_at bytes 5) && is_hex_digit (byte_at bytes 6)) (is_hex_digit (byte_at bytes 7)) passes))
 
 number_case : (a b : Bool) (n : ℕ) → 0 < n → (a ≡ true → 1 < n) → (b ≡ true → 2 < n) → (0 < (if not a then 1 else if not b then 2 else 3)) × ((if not a then 1 else if not b then 2 else 3) ≤ n)

@@ -1,5 +1,5 @@
 -- Signs and reserved words: the tokens of which there is one spelling.
-use Rattle.std.specs.Prelude.{ℕ, Bool, ◌&&◌, List, ◌==◌, if◌then◌else◌, Option, Some, None, codes}
+use Rattle.std.specs.Prelude.{ℕ, ◌&&◌, List, ◌==◌, if◌then◌else◌, Option, Some, None, codes}
 use Rattle.std.specs.Str.{bytes_eq}
 use Rattle.vlog_tokens.specs.declared.fixed.Fixed.{Fixed}
 use Rattle.vlog_tokens.specs.declared.fixed.Fixed.TheVariants.{OpenParen, CloseParen, OpenBracket, CloseBracket, OpenBrace, CloseBrace, Comma, Semicolon, Colon, Equals, LessEquals, And, Or, Not, ShiftRight, At, Module, Endmodule, Input, Output, Reg, Wire, Assign, Always, Posedge, Negedge, If, Begin, End, Else, Initial}

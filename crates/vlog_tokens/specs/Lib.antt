@@ -1,3 +1,4 @@
 pub mod Bytes
 pub mod Fixed
+pub mod Spellings
 pub mod Tokens

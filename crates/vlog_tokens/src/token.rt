@@ -1,6 +1,7 @@
 // Tokens one after another.
-ghost use Rattle.std.specs.Prelude.{◌≡◌, ◌+◌, ◌<◌, ◌≤◌, [], ◌∷◌, length, drop, false, MatchOption, IfSome};
+ghost use Rattle.std.specs.Prelude.{◌≡◌, ◌+◌, ◌-◌, ◌<◌, ◌≤◌, [], ◌∷◌, length, drop, false, MatchOption, IfSome};
 ghost use Rattle.vlog_tokens.specs.Bytes.{is_blank, is_bit_text, is_word_text, word_value, number_length, number_value, byte_at};
+ghost use Rattle.vlog_tokens.specs.Spellings.{IsLongest};
 ghost use Rattle.vlog_tokens.specs.Tokens.{seen, spot, spots_at, front_token, front_length, name_or_word, sign_token, sign_length, digits_token, digits_length};
 
 use crate::bytes::{
@@ -34,13 +35,14 @@ pub struct Spot<'a> {
     pub end: usize,
 }
 
-/// The first token from an offset on: none where only blanks follow.
+/// The first token from an offset on, the longest that begins there: none where only blanks follow.
 pub fn next_token(bytes: &[u8], from: usize) -> Option<Spot<'_>>
     requires { from ≤ length bytes.now }
     ensures spots { MatchOption result (spots_at bytes.now from ≡ [])
         (λ found. spots_at bytes.now from ≡ spot found.at (seen found.token) ∷ spots_at bytes.now found.end) }
     ensures within { IfSome result (λ found. (from ≤ found.at) × (found.at < found.end) × (found.end ≤ length bytes.now)) }
     ensures end { IfSome result (λ found. found.end ≡ found.at + front_length (drop found.at bytes.now)) }
+    ensures longest { IfSome result (λ found. IsLongest (drop found.at bytes.now) (seen found.token) (found.end - found.at)) }
 {
     let at = skip_blanks(bytes, from);
     if at == bytes.len() {

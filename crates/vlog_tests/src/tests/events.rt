@@ -11,24 +11,28 @@ const FORM: Option<EventFault> = Some(EventFault::Form { line: 1 });
 const PIN: Option<EventFault> = Some(EventFault::Pin { line: 1 });
 
 /// Lines, and why they aren't read; none where they are.
-const FAULTS: [(&str, Option<EventFault>); 17] = [
+const FAULTS: [(&str, Option<EventFault>); 21] = [
     ("", None),
     ("a 1", None),
     ("\n\r\nb 0\r\na 1\n", None),
+    ("a 1 ", None),
+    ("a 1\t \r\nb 0 ", None),
+    (" \t\n \r\n\t", None),
     ("a", FORM),
     ("a 2", FORM),
     ("a  1", FORM),
-    ("a 1 ", FORM),
     (" a 1", FORM),
     ("a\t1", FORM),
     ("1 1", FORM),
     (" 1", FORM),
     ("a 1\r", FORM),
+    ("a 1\r \n", FORM),
     ("c 1", PIN),
     ("module 1", PIN),
     ("c 1\na\n", PIN),
     ("a 1\n\nc 1", Some(EventFault::Pin { line: 3 })),
     ("a 1\n\nc  1", Some(EventFault::Form { line: 3 })),
+    (" \n\t\na 1 \n\r\nc 1 \n", Some(EventFault::Pin { line: 5 })),
 ];
 
 /// Why lines aren't read.
@@ -76,7 +80,7 @@ fn tells_the_first_faulty_line(rt: HostRuntime) {
 fn has_events(alloc: Global) -> bool {
     let events = [Event { pin: 1, bit: true }, Event { pin: 0, bit: false }];
     match inputs(alloc) {
-        Some(module) => gives(alloc, &module, "b 1\n\na 0\r\n", &events),
+        Some(module) => gives(alloc, &module, "b 1 \n \t\n\na 0\t\r\n", &events),
         None => false,
     }
 }

@@ -1,9 +1,9 @@
 use Rattle.std.proofs.Common.{ap, sym, ◌∙◌}
+use Rattle.std.proofs.lemmas.Result.{IfOk-weaker}
 use Rattle.vlog_forms.specs.Items.{atom_in}
 use Rattle.vlog_forms.specs.Reading.{values_of}
 use Rattle.vlog_read.specs.Found.{all_found}
 use Rattle.vlog_build.proofs.ValuesAt.{named-first}
-use Rattle.vlog_read.proofs.Results.{if_ok}
 use Rattle.vlog_build.proofs.values.atom_at.Goals as goal
 
 pub atom_of-requires : goal.atom_of-requires
@@ -13,7 +13,7 @@ atom_of-requires c =
 pub returns-in-Some : goal.returns-in-Some
 returns-in-Some c =
     let there = c.in-Some.ensures in
-    if_ok c.atom_of.result _ _ (λ atom is. is there.0 ∙ ap atom_in (sym there.1)) c.atom_of.ensures
+    IfOk-weaker c.atom_of.result _ _ (λ atom is. is there.0 ∙ ap atom_in (sym there.1)) c.atom_of.ensures
 
 pub returns-in-None : goal.returns-in-None
 returns-in-None c = sym (ap atom_in c.in-None.ensures)

@@ -1,23 +1,24 @@
 use Rattle.std.proofs.Common.{◌≡◌, ◌≤◌, ◌+◌, ◌-◌, ◌++◌, ◌∷◌, [], take, length, ap, sym, ◌∙◌, subst, arith, ℕ, List, refl, ◌<◌}
 use Rattle.std.specs.Prelude.{OnOk, IfOk}
+use Rattle.std.proofs.lemmas.Result.{on_ok_weaker}
 use Rattle.vlog_forms.specs.Layout.{again_slots}
 use Rattle.vlog_forms.specs.Printed.{tokens_text}
 use Rattle.vlog_forms.specs.Values.{tokens_at}
 use Rattle.vlog_forms.specs.declared.slot.Slot.{Slot}
 use Rattle.vlog_forms.specs.declared.slot.Slot.TheVariants as slot
 use Rattle.vlog_print.specs.Rest.{all_seen, with_rest}
-use Rattle.vlog_print.proofs.Steps.{again-none, again-some, on_ok}
+use Rattle.vlog_print.proofs.Steps.{again-none, again-some}
 use Rattle.vlog_print.proofs.slots.+write_more_again.Goals as goal
 
 pub returns-then-count-eq0 : goal.returns-then-count-eq0
 returns-then-count-eq0 t c = λ more.
-    on_ok c.push_text.result _ _ (λ pushed.
+    on_ok_weaker c.push_text.result (λ pushed.
     again-none c.args.out.now.items c.args.first c.args.count more c.args.values.now c.args.next c.if-count-eq0.true
     ∙ ap (λ text. with_rest text more c.args.values.now c.args.next) (sym pushed)) c.push_text.ensures
 
 pub returns : goal.returns
 returns t c = λ more.
-    on_ok c.write_more_again.result _ _ (λ rest.
+    on_ok_weaker c.write_more_again.result (λ rest.
     again-some c.args.out.now.items c.args.first c.args.count more c.args.values.now c.args.next (omega arith)
     ∙ ap (λ text. with_rest (text ++ tokens_text (tokens_at (take c.args.next (all_seen c.args.values.now)) c.args.first)) (again_slots (c.args.first + 1) (c.args.count - 1) ++ more) c.args.values.now c.args.next) (sym c.in_ok-push_text.ensures)
     ∙ ap (λ text. with_rest text (again_slots (c.args.first + 1) (c.args.count - 1) ++ more) c.args.values.now c.args.next) (sym c.in_ok-write_again.ensures)

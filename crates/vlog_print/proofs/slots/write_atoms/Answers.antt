@@ -1,9 +1,10 @@
 use Rattle.std.proofs.Common.{◌≡◌, ◌≤◌, ◌+◌, ◌-◌, ◌++◌, ◌∷◌, [], take, length, ap, sym, ◌∙◌, subst, arith, ℕ, List, refl, ◌<◌}
 use Rattle.std.specs.Prelude.{OnOk, IfOk}
+use Rattle.std.proofs.lemmas.Result.{IfOk-weaker}
 use Rattle.vlog_forms.specs.declared.slot.Slot.{Slot}
 use Rattle.vlog_forms.specs.declared.slot.Slot.TheVariants as slot
 use Rattle.vlog_print.specs.Rest.{all_seen, with_rest}
-use Rattle.vlog_print.proofs.Steps.{atoms-none, atoms-some, if_ok}
+use Rattle.vlog_print.proofs.Steps.{atoms-none, atoms-some}
 use Rattle.vlog_forms.specs.Layout.{more_slots}
 use Rattle.vlog_print.proofs.slots.write_atoms.Goals as goal
 
@@ -15,7 +16,7 @@ returns-then-count-eq0-clause-text c = λ more.
 
 pub returns-clause-text : goal.returns-clause-text
 returns-clause-text c =
-    if_ok c.write_more.result _ _ (λ behind rest more.
+    IfOk-weaker c.write_more.result _ _ (λ behind rest more.
     atoms-some c.args.out.now.items c.args.count more c.args.values.now c.args.next (omega arith)
     ∙ ap (λ text. with_rest text (slot.Atom ∷ (more_slots (c.args.count - 1) ++ more)) c.args.values.now c.args.next) (sym c.in_ok-push_text.ensures)
     ∙ c.in_ok-next.ensures.text slot.Atom (more_slots (c.args.count - 1) ++ more) refl

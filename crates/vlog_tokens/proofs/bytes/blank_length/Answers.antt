@@ -1,5 +1,5 @@
 use Rattle.std.proofs.Common.{sym}
-use Rattle.vlog_tokens.proofs.Places.{position_or_len-none, position_or_len-within}
+use Rattle.shared_lemmas.proofs.Searches.{position_or_len-none}
 use Rattle.vlog_tokens.proofs.bytes.blank_length.Goals as goal
 
 pub returns-in-None-clause-place : goal.returns-in-None-clause-place

@@ -1,5 +1,5 @@
 use Rattle.std.proofs.Common.{sym}
-use Rattle.vlog_tokens.proofs.Places.{position_or_len-none}
+use Rattle.shared_lemmas.proofs.Searches.{position_or_len-none}
 use Rattle.vlog_tokens.proofs.bytes.name_length.Goals as goal
 
 pub returns-in-None : goal.returns-in-None

@@ -1,4 +1,3 @@
-use Rattle.std.proofs.Common.{sym}
 use Rattle.vlog_tokens.proofs.Lengths.{digits_within, sign_within}
 use Rattle.vlog_tokens.proofs.token.front_token.Goals as goal
 

@@ -1,8 +1,3 @@
-use Rattle.std.proofs.Common.{◌≡◌, ◌∙◌, ap, sym, ◌+◌, drop, arith}
-use Rattle.std.specs.List.{position_or_len}
-use Rattle.std.specs.Prelude.{not}
-use Rattle.vlog_tokens.specs.Bytes.{is_blank, byte_at}
-use Rattle.vlog_tokens.specs.Tokens.{spots_at}
 use Rattle.vlog_tokens.proofs.Cuts.{spots_at-blanks, unblank_behind}
 use Rattle.vlog_tokens.proofs.token.skip_blanks.Goals as goal
 

@@ -1,19 +1,20 @@
-use Rattle.std.proofs.Common.{ℕ, Bool, List, false, ap, ap₂, arith, get_or, length, sym, ◌∙◌}
+use Rattle.std.proofs.Common.{◌<◌, ℕ, Bool, List, false, ap, ap₂, arith, get_or, length, sym, ◌∙◌}
 use Rattle.std.proofs.lemmas.List.{with_items_is}
 use Rattle.vlog_cycle.specs.declared.event.Event.{Event}
 use Rattle.vlog_cycle.specs.declared.gates.Gate.{Gate}
 use Rattle.vlog_cycle.specs.declared.plan.Wire.{Wire}
 use Rattle.vlog_cycle.specs.Cells.{gate_of}
 use Rattle.vlog_cycle.specs.ModuleSlots.{module_wires}
-use Rattle.vlog_cycle.specs.Run.{changed, followed, is_same_bit}
+use Rattle.vlog_cycle.specs.Run.{changed, followed, input_names, is_same_bit}
 use Rattle.vlog_cycle.specs.Steps.{operand_value}
 use Rattle.std.specs.Prelude.{map}
 use Rattle.vlog_cycle.proofs.Entering.{Changed, changed-values, followed-changed, followed-same, input-slot}
 use Rattle.vlog_cycle.proofs.Reading.{shows-next}
 use Rattle.vlog_cycle.proofs.runner.Runner.event.Goals as goal
 
-pub returns-then-is_same_bit : goal.returns-then-is_same_bit
-returns-then-is_same_bit c m entry shows within =
+pub returns-then-is_same_bit-clause-shows : goal.returns-then-is_same_bit-clause-shows
+returns-then-is_same_bit-clause-shows c m entry shows =
+    let within : c.args.pin < length (input_names m.ports) = omega (arith, c.requires, shows.input_count) in
     let event : Event = record { pin = c.args.pin; bit = c.args.bit } in
     let bit = c.bit_at.ensures ∙ ap (λ bits. get_or bits c.args.pin false) (c.deref.ensures.value ∙ shows.bits) ∙ input-slot m entry c.args.pin shows.named within in
     let same = ap (is_same_bit c.args.bit) (sym bit) ∙ sym c.is_same_bit.ensures ∙ c.if-is_same_bit.true in
@@ -31,8 +32,9 @@ returns-then-is_same_bit c m entry shows within =
       outputs = shows.outputs;
     })
 
-pub returns : goal.returns
-returns c m entry shows within =
+pub returns-clause-shows : goal.returns-clause-shows
+returns-clause-shows c m entry shows =
+    let within : c.args.pin < length (input_names m.ports) = omega (arith, c.requires, shows.input_count) in
     let event : Event = record { pin = c.args.pin; bit = c.args.bit } in
     let r = c.args.self.now in
     let wires : List Wire = module_wires m in

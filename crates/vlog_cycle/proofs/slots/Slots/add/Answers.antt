@@ -2,10 +2,12 @@ use Rattle.std.proofs.Common.{ℕ, cond, List, Some, None, Vec, Global, sym, ap,
 use Rattle.std.specs.Prelude.{bytes_eq, is_some}
 use Rattle.std.specs.Map.{lookup}
 use Rattle.std.proofs.lemmas.Result.{on_ok_weaker}
+use Rattle.shared_lemmas.proofs.Options.{none_from_is_some}
+use Rattle.shared_lemmas.proofs.Bytes.{bytes_eq-turned}
 use Rattle.place_search.specs.Places.{or_else}
 use Rattle.vlog_module.specs.Maps.{value_in}
 use Rattle.vlog_cycle.specs.Slots.{Finds, slot_of}
-use Rattle.vlog_cycle.proofs.Lookups.{lookup-push, value_in-push, value_in-known, bytes_eq-turned, none-from_is_some}
+use Rattle.vlog_cycle.proofs.Lookups.{lookup-push, value_in-push, value_in-known}
 use Rattle.vlog_cycle.proofs.slots.Slots.add.Goals as goal
 
 pub returns-then-is_some : goal.returns-then-is_some
@@ -16,7 +18,7 @@ returns-then-is_some c entries finds name =
 
 pub insert-requires : goal.insert-requires
 insert-requires c =
-    let none = none-from_is_some (slot_of c.args.self.now c.args.name.now) (ap is_some (sym c.slot.ensures) ∙ sym c.is_some.ensures ∙ c.if-is_some.false) in
+    let none = none_from_is_some (slot_of c.args.self.now c.args.name.now) (ap is_some (sym c.slot.ensures) ∙ sym c.is_some.ensures ∙ c.if-is_some.false) in
     ap (λ (bytes : List ℕ). lookup (λ (key : Vec ℕ Global). bytes_eq bytes key.items) c.args.self.now.by_name.entries) c.in_ok-name.ensures.items ∙ none
 
 pub returns : goal.returns

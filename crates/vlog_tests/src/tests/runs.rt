@@ -1,0 +1,64 @@
+// Runs of a register that keeps its input at rising edges.
+
+ghost use Rattle.std.specs.Prelude.{◌<◌, All, length};
+ghost use Rattle.vlog_cycle.specs.Run.{input_names};
+ghost use Rattle.vlog_cycle.specs.Showing.{input_count};
+
+use std::alloc::Global;
+use vlog_cycle::{Event, Runner, read_events};
+use vlog_text::{Module, parse};
+
+const REGISTER: &[u8] =
+    b"module m (c, d, q);\n  input c;\n  input d;\n  output q;\n  reg r = 1'b0;\n  assign q = r;\n  \
+always @(posedge c) if (1'b1) begin if (1'b0) r <= 1'b0; else r <= 16'haaaa >> {1'b0, 1'b0, 1'b0, d}; end\nendmodule\n";
+
+/// Whether the output is 1 after some events.
+fn is_set_by(runner: &mut Runner, events: &[Event]) -> bool
+    requires { All (λ event. event.pin < input_count runner.old) events.now }
+{
+    runner.run(events);
+    runner.outputs() == [true].as_slice()
+}
+
+/// Whether the output is 1 after some events, each of an input of the module.
+fn is_set_after(alloc: Global, module: &Module, events: &[Event]) -> Option<bool>
+    requires { All (λ event. event.pin < length (input_names «module».now.ports)) events.now }
+{
+    match Runner::new(alloc, module) {
+        Ok(mut runner) => Some(is_set_by(&mut runner, events)),
+        Err(_) => None,
+    }
+}
+
+/// Whether the output is 1 after the events of a text.
+fn is_set(alloc: Global, module: &Module, text: &[u8]) -> Option<bool> {
+    match read_events(alloc, module, text) {
+        Ok(events) => is_set_after(alloc, module, events.as_slice()),
+        Err(_) => None,
+    }
+}
+
+fn register(alloc: Global) -> Option<Module> {
+    parse(alloc, REGISTER).ok()
+}
+
+/// Whether the register is set after each text, the first in the highest bit.
+fn sets(alloc: Global) -> Option<u8> {
+    let module = register(alloc)?;
+    let mut sets = 0_u8;
+    for text in [
+        "",
+        "d 1\nc 1\n",
+        "c 1\nd 1\n",
+        "c 1\nd 1\nc 1\n",
+        "c 1\nd 1\nc 0\nc 1\nd 0\n",
+    ] {
+        sets = sets << 1 | u8::from(is_set(alloc, &module, text.as_bytes())?);
+    }
+    Some(sets)
+}
+
+#[test]
+fn shows_what_a_list_of_events_gives(rt: HostRuntime) {
+    assert_eq!(rt; sets(rt.alloc()), Some(0b01001));
+}

@@ -1,11 +1,10 @@
 -- The canonical comment reads back as itself, and no preamble begins in it.
-use Rattle.std.proofs.Common.{◌≡◌, ◌≢◌, ℕ, true, false, ◌&&◌, ◌||◌, List, [], ◌∷◌, ◌++◌, length, get_or, ◌==◌, refl, sym, ap, ◌∙◌, arith, length-append, append_assoc}
-use Rattle.std.specs.Prelude.{All, Option, Some, None, flat_map, nat_le, filter, IfSome}
-use Rattle.std.specs.List.{list_all}
-use Rattle.std.proofs.lemmas.Bool.{ne_eqb, and_from, or_from, lt-ltb, le-leb}
+use Rattle.std.proofs.Common.{◌≡◌, ◌≢◌, ℕ, false, ◌||◌, List, [], ◌∷◌, ◌++◌, length, get_or, ◌==◌, refl, sym, ap, ◌∙◌, arith, length-append, append_assoc}
+use Rattle.std.specs.Prelude.{All, Option, Some, None, flat_map, filter, IfSome}
+use Rattle.std.proofs.lemmas.Bool.{ne_eqb, or_from}
 use Rattle.std.proofs.lemmas.List.Elements.{All-head, All-tail, All-nil, All-cons, All-push, All-append, All-weaker}
 use Rattle.std.proofs.lemmas.List.{get_or_push}
-use Rattle.std.proofs.lemmas.List.Sums.{list_all-from_AllPass}
+use Rattle.bin_stream.proofs.Fronts.{line_passes}
 use Rattle.ice_image.specs.CommentLines.{IsPrintable, IsCommentLine}
 use Rattle.bin_stream.specs.Front.{pieces_of, is_comment_line, comment_of}
 use Rattle.bin_stream.specs.CanonicalBytes.{comment_bytes}
@@ -39,20 +38,11 @@ pieces_of-lines (line ∷ lines) are =
     ∙ pieces_of-line line behind here.printable
     ∙ ap (λ more. line ∷ more) (pieces_of-lines lines (All-tail IsCommentLine line lines are))
 
--- the test of a line
-comment_line-passes : (line : List ℕ) → IsCommentLine line → is_comment_line line ≡ true
-comment_line-passes line is =
-    let printable : list_all (λ byte. nat_le 0x20 byte && nat_le byte 0x7E) line ≡ true = list_all-from_AllPass (λ byte. nat_le 0x20 byte && nat_le byte 0x7E) line (λ k d lt.
-    let byte = get_or line k d in
-    let here = is.printable k d lt in
-    and_from (nat_le 0x20 byte) (nat_le byte 0x7E) (le-leb 0x20 byte here.from_space) (le-leb byte 0x7E here.to_tilde)) in
-    rw (lt-ltb 0 (length line) is.some_byte, printable, ne_eqb (get_or line 0 0) 0x2E is.no_dot) refl
-
 -- lines pass, and the empty pieces behind them don't
 kept-lines : (lines : List (List ℕ)) → All IsCommentLine lines → filter is_comment_line (lines ++ [] ∷ [] ∷ [] ∷ []) ≡ lines
 kept-lines [] are = refl
 kept-lines (line ∷ lines) are =
-    rw (comment_line-passes line (All-head IsCommentLine line lines are)) (ap (λ more. line ∷ more) (kept-lines lines (All-tail IsCommentLine line lines are)))
+    rw (line_passes line (All-head IsCommentLine line lines are)) (ap (λ more. line ∷ more) (kept-lines lines (All-tail IsCommentLine line lines are)))
 
 -- the comment that was written is read
 pub comment_of-bytes : (comment : Option (List (List ℕ))) → HasCommentLines comment → comment_of (comment_bytes comment) ≡ comment

@@ -2,8 +2,9 @@
 use Rattle.std.proofs.Common.{◌≡◌, ℕ, zero, suc, ◌<◌, Bool, true, false, not, List, [], ◌∷◌, ◌++◌, length, take, slice_get, Option, Some, None, ◌==◌, ◌⊎◌, refl, sym, ap, ap₂, ◌∙◌, inl, inr, arith}
 use Rattle.std.proofs.lemmas.Bool.{cases_eq, and_parts, eqb-true, ne_eqb}
 use Rattle.std.proofs.lemmas.List.{take-append-le, length_push}
+use Rattle.shared_lemmas.proofs.Pushes.{slice_get-append, slice_get-behind}
 use Rattle.place_search.specs.Places.{first_below, any_below, or_else}
-use Rattle.place_search.proofs.Places.{first_below-more, first_below-same, any_below-place}
+use Rattle.place_search.proofs.Places.{first_below-more, first_below-same, any_below-place, or_else-none}
 use Rattle.plane_map.specs.declared.device.DeviceName.{DeviceName}
 use Rattle.ice_image.specs.declared.planes.PlaneKind.TheVariants.{Cram, Bram}
 use Rattle.bin_stream.specs.Commands.{Command, Short, Data, number_of, is_wake_up}
@@ -12,25 +13,7 @@ use Rattle.bin_stream.specs.Refusals.{IsAllowedAfter, cause_if, gives_last_row, 
 use Rattle.bin_stream.specs.declared.fault.BinCause.{BinCause}
 use Rattle.bin_stream.specs.declared.fault.BinCause.TheVariants.{NoDevice}
 
--- ---- lists
-
--- the elements of a list with others behind it
-slice_get-append_left : {A : Type 0} (xs ys : List A) (k : ℕ) → k < length xs → slice_get (xs ++ ys) k ≡ slice_get xs k
-slice_get-append_left [] ys k within = absurd (omega arith)
-slice_get-append_left (x ∷ xs) ys zero within = refl
-slice_get-append_left (x ∷ xs) ys (suc k) within = slice_get-append_left xs ys k (omega arith)
-
--- the element behind a list
-slice_get-at : {A : Type 0} (xs : List A) (y : A) (ys : List A) → slice_get (xs ++ y ∷ ys) (length xs) ≡ Some y
-slice_get-at [] y ys = refl
-slice_get-at (x ∷ xs) y ys = slice_get-at xs y ys
-
 -- ---- the first value
-
--- a value before none
-or_else-nothing : {A : Type 0} (value : Option A) → or_else value None ≡ value
-or_else-nothing None = refl
-or_else-nothing (Some value) = refl
 
 -- the first of two values
 or_else-some : {A : Type 0} (first : Option A) (value : A) → (found : A) × (or_else first (Some value) ≡ Some found)
@@ -66,12 +49,12 @@ device_after-woken commands wake_up wakes =
     let all = commands ++ wake_up ∷ [] in
     let given : ℕ → Option DeviceName = λ k. device_in (take k all) (slice_get all k) in
     let earlier : ℕ → Option DeviceName = λ k. device_in (take k commands) (slice_get commands k) in
-    let last : given n ≡ None = ap (device_in (take n all)) (slice_get-at commands wake_up []) ∙ device_in-wake_up (take n all) wake_up wakes in
-    let same = λ (k : ℕ) (within : k < n). ap₂ device_in (take-append-le k commands (wake_up ∷ []) (omega arith)) (slice_get-append_left commands (wake_up ∷ []) k within) in
+    let last : given n ≡ None = ap (device_in (take n all)) (slice_get-behind commands wake_up []) ∙ device_in-wake_up (take n all) wake_up wakes in
+    let same = λ (k : ℕ) (within : k < n). ap₂ device_in (take-append-le k commands (wake_up ∷ []) (omega arith)) (slice_get-append commands (wake_up ∷ []) k within) in
     ap (λ m. first_below m given) (length_push commands wake_up)
     ∙ first_below-more n given
     ∙ ap (or_else (first_below n given)) last
-    ∙ or_else-nothing (first_below n given)
+    ∙ or_else-none (first_below n given)
     ∙ first_below-same n given earlier same
 
 -- no cause where a test has to pass

@@ -2,6 +2,7 @@
 use Rattle.std.proofs.Common.{◌≡◌, ℕ, suc, ◌+◌, ◌*◌, ◌/◌, ◌%◌, ◌≤◌, Bool, true, false, not, ◌&&◌, List, [], ◌∷◌, ◌++◌, length, take, drop, refl, sym, ap, ap₂, subst, ◌∙◌, arith, inl, inr, append_assoc, length-append, length-take-le, take_at, take-append-drop, drop-drop}
 use Rattle.std.specs.Prelude.{Option, Some, None, ◌==◌}
 use Rattle.std.proofs.lemmas.Bool.{cases_Bool, eqb-true, and_parts}
+use Rattle.place_search.proofs.Found.{or_else-neither}
 use Rattle.place_search.specs.Places.{or_else}
 use Rattle.layout_file.specs.declared.layouts.Layouts.{Layouts}
 use Rattle.layout_file.specs.Layouts.{AreLayouts}
@@ -21,7 +22,7 @@ use Rattle.bin_stream.specs.inside.Step.{device_if, Refuses, IsDrawnOn, Stands, 
 use Rattle.bin_stream.specs.declared.fault.BinCause.{BinCause}
 use Rattle.bin_stream.specs.declared.fault.BinFault.{BinFault}
 use Rattle.bin_stream.specs.declared.fault.BinCause.TheVariants.{NoDevice}
-use Rattle.bin_stream.proofs.OneCommand.{neither, kind-from, body-ends}
+use Rattle.bin_stream.proofs.OneCommand.{kind-from, body-ends}
 use Rattle.bin_stream.proofs.Steps.{behind_payload, with_payload, read_fault, read_command, length-payload, spelled_short, short_cause-is, after_short-is, held_after-short, held_after-data}
 use Rattle.bin_stream.proofs.Drawn.{device_if-is, Holds-short, Holds-data}
 
@@ -154,7 +155,7 @@ module _ (layouts : Layouts) (commands : List Command) (place size : ℕ) (bytes
       ended : (size_after commands ≤ length (behind_payload bytes)) × (drop (size_after commands) (behind_payload bytes) ≡ 0 ∷ 0 ∷ drop 2 (drop (size_after commands) (behind_payload bytes)))
       ended =
           let none : data_fault commands kind place (place + 1 + length payload) (behind_payload bytes) ≡ None = ap (λ kind. payload_fault commands place opcode payload kind (behind_payload bytes)) (sym is_data) ∙ sym (read_fault commands place bytes fine) ∙ allowed in
-          body-ends (size_after commands) (place + 1 + length payload) (behind_payload bytes) (neither (fault_where place (data_cause commands kind)) (body_fault (size_after commands) (place + 1 + length payload) (behind_payload bytes)) none).1
+          body-ends (size_after commands) (place + 1 + length payload) (behind_payload bytes) (or_else-neither (fault_where place (data_cause commands kind)) (body_fault (size_after commands) (place + 1 + length payload) (behind_payload bytes)) none).1
 
       length-spelling : length (spelling command) ≡ size + size_after commands + 2
       length-spelling =

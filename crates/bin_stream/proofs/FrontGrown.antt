@@ -4,11 +4,11 @@ use Rattle.std.specs.Prelude.{bytes_eq, ◌==◌, IfSome}
 use Rattle.std.proofs.lemmas.Bool.{cases_lt, cases_eq, and_right}
 use Rattle.std.proofs.lemmas.List.{take-append-le, drop-append-le, length-take, length-take-le, drop_at}
 use Rattle.std.proofs.lemmas.Slice.Eq.{bytes_eq-Decides}
+use Rattle.place_search.proofs.Found.{least_below-place}
 use Rattle.place_search.specs.Places.{least_below, or_here}
 use Rattle.place_search.proofs.Places.{least_below-first, least_below-none}
 use Rattle.bin_stream.specs.Front.{preamble, preamble_offset, is_preamble_at, comment_of}
 use Rattle.bin_stream.specs.inside.Stages.{begins_comment, IsPlain, KeepsFront, KeepsPlain}
-use Rattle.bin_stream.proofs.PreamblePlace.{least_below-place}
 
 -- ---- places before the least one
 
@@ -62,11 +62,11 @@ at-grown bytes more place within =
 pub preamble_offset-grown : (bytes more : List ℕ) (place : ℕ) → preamble_offset bytes ≡ Some place → preamble_offset (bytes ++ more) ≡ Some place
 unfolding preamble_offset
 preamble_offset-grown bytes more place is =
-    let facts = least_below-place (length bytes) place (is_preamble_at bytes) is in
-    let room = preamble-room bytes place facts.1 in
+    let facts = least_below-place (length bytes) (is_preamble_at bytes) place is in
+    let room = preamble-room bytes place facts.passes in
     least_below-first (length (bytes ++ more)) place (is_preamble_at (bytes ++ more)) (omega (arith, length-append bytes more))
     (λ j lt. at-grown bytes more j (omega arith) ∙ none-before bytes place j is lt)
-    (at-grown bytes more place room ∙ facts.1)
+    (at-grown bytes more place room ∙ facts.passes)
 
 -- ---- a search from a place on
 
@@ -79,7 +79,7 @@ found-behind : (bytes : List ℕ) (start k : ℕ) → ((j : ℕ) → j < start �
 unfolding preamble_offset
 found-behind bytes start k before is =
     let rest = drop start bytes in
-    let facts = least_below-place (length rest) k (is_preamble_at rest) is in
+    let facts = least_below-place (length rest) (is_preamble_at rest) k is in
     least_below-first (length bytes) (start + k) (is_preamble_at bytes) (omega (arith, length-drop start bytes))
     (λ j lt. elim (cases_lt j start) [
       | inl early ↦ before j early
@@ -87,7 +87,7 @@ found-behind bytes start k before is =
           let e : start + (j - start) ≡ j = omega arith in
           ap (is_preamble_at bytes) (sym e) ∙ sym (at-behind bytes start (j - start)) ∙ none-before rest k (j - start) is (omega arith)
     ])
-    (sym (at-behind bytes start k) ∙ facts.1)
+    (sym (at-behind bytes start k) ∙ facts.passes)
 
 none-behind : (bytes : List ℕ) (start : ℕ) → ((j : ℕ) → j < start → is_preamble_at bytes j ≡ false) → preamble_offset (drop start bytes) ≡ None → preamble_offset bytes ≡ None
 unfolding preamble_offset

@@ -2,7 +2,7 @@
 use Rattle.std.proofs.Common.{◌≡◌, ℕ, suc, ◌+◌, ◌<◌, ◌≤◌, Bool, true, false, not, ◌&&◌, List, [], ◌∷◌, ◌++◌, length, take, drop, get_or, refl, sym, ap, ◌∙◌, arith, inl, inr, subst, drop-drop, take_all}
 use Rattle.std.specs.Prelude.{filter, nat_le, nat_lt, ◌==◌}
 use Rattle.std.specs.List.{position_or_len, list_all}
-use Rattle.std.proofs.lemmas.Bool.{cases_Bool, lt-ltb, ltb-true, le-leb, leb-true, ne_eqb, eqb-false, and_from, and_parts}
+use Rattle.std.proofs.lemmas.Bool.{cases_Bool, lt-ltb, ltb-true, le-leb, leb-true, ne_eqb, eqb-false, and_from, and_parts, not-true}
 use Rattle.std.proofs.lemmas.List.Sums.{AllPass-from_list_all, list_all-from_AllPass}
 use Rattle.text_lines.specs.Lines.{with_byte}
 use Rattle.ice_image.specs.CommentLines.{IsCommentLine}
@@ -49,10 +49,6 @@ filter-first line pieces =
 
 -- ---- which pieces are lines
 
-not_true : (b : Bool) → not b ≡ true → b ≡ false
-not_true true is = sym is
-not_true false is = refl
-
 abbrev is_seen : ℕ → Bool
 is_seen byte = nat_le 0x20 byte && nat_le byte 0x7E
 
@@ -76,7 +72,7 @@ line_from line passes =
       printable = λ k d lt.
           let both = and_parts (nat_le 0x20 (get_or line k d)) (nat_le (get_or line k d) 0x7E) (AllPass-from_list_all is_seen line firsts.1 k d lt) in
           record { from_space = leb-true 0x20 (get_or line k d) both.0; to_tilde = leb-true (get_or line k d) 0x7E both.1 };
-      no_dot = eqb-false (get_or line 0 0) 0x2E (not_true (get_or line 0 0 == 0x2E) parts.1);
+      no_dot = eqb-false (get_or line 0 0) 0x2E (not-true (get_or line 0 0 == 0x2E) parts.1);
     }
 
 -- what isn't a line doesn't

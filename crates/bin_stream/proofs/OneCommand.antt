@@ -2,6 +2,7 @@
 use Rattle.std.proofs.Common.{◌≡◌, ℕ, ◌+◌, ◌*◌, ◌/◌, ◌%◌, ◌<◌, ◌≤◌, List, [], ◌∷◌, ◌++◌, length, take, drop, Option, Some, None, length-append, append_assoc, take-append-drop, refl, sym, ap, ap₂, ◌∙◌, subst, inl, inr, arith}
 use Rattle.std.proofs.lemmas.Bool.{cases_lt, cases_eq, lt-ltb, le-ltb, ne_eqb}
 use Rattle.std.proofs.lemmas.List.{take_at, drop_at, length-take-le}
+use Rattle.place_search.proofs.Found.{or_else-neither}
 use Rattle.place_search.specs.Places.{or_else}
 use Rattle.ice_image.specs.declared.planes.PlaneKind.{PlaneKind}
 use Rattle.ice_image.specs.declared.planes.PlaneKind.TheVariants.{Cram, Bram}
@@ -81,11 +82,6 @@ no_cause : (place : ℕ) (cause : Option BinCause) → fault_where place cause �
 no_cause place None is = refl
 no_cause place (Some cause) is = absurd cc
 
--- neither of two values
-pub neither : {A : Type 0} (first second : Option A) → or_else first second ≡ None → (first ≡ None) × (second ≡ None)
-neither None second is = (refl, is)
-neither (Some value) second is = absurd cc
-
 -- data begin with the number of their kind
 number-from : (n : ℕ) (kind : PlaneKind) → data_kind 0 n ≡ Some kind → n ≡ kind_number kind
 number-from n kind is =
@@ -147,7 +143,7 @@ payload-begins before place opcode payload behind None begun short clear = recor
 payload-begins before place opcode payload behind (Some kind) begun short clear =
     let start = place + 1 + length payload in
     let size = size_after before in
-    let parts = neither (fault_where place (data_cause before kind)) (body_fault size start behind) clear in
+    let parts = or_else-neither (fault_where place (data_cause before kind)) (body_fault size start behind) clear in
     let begins = kind-from opcode (number_of payload) kind begun in
     let body = body-ends size start behind parts.1 in
     let whole : behind ≡ take size behind ++ 0 ∷ 0 ∷ drop 2 (drop size behind) = sym (take-append-drop size behind) ∙ ap (λ tail. take size behind ++ tail) body.1 in

@@ -1,8 +1,10 @@
 -- What holds behind one command more.
-use Rattle.std.proofs.Common.{◌≡◌, ℕ, zero, suc, ◌+◌, ◌<◌, ◌≤◌, Bool, true, false, ◌||◌, cond, List, [], ◌∷◌, ◌++◌, length, take, refl, ap, ◌∙◌, arith, length-append, append-nil}
+use Rattle.std.proofs.Common.{◌≡◌, ℕ, ◌+◌, ◌<◌, Bool, true, false, ◌||◌, cond, List, [], ◌∷◌, ◌++◌, length, take, refl, ap, ◌∙◌, arith}
 use Rattle.std.specs.Prelude.{Option, Some, None, slice_get}
-use Rattle.std.proofs.lemmas.List.{take-append-le, drop-append-le, drop_all}
-use Rattle.std.proofs.lemmas.List.Concat.{flat_map-append}
+use Rattle.std.proofs.lemmas.List.{take-append-le, drop-append-le, drop_all, length_push}
+use Rattle.std.proofs.Math.Seq.{take-append_seam}
+use Rattle.bin_stream.proofs.ManyCommands.{spelled-push}
+use Rattle.shared_lemmas.proofs.Pushes.{slice_get-append, slice_get-behind}
 use Rattle.place_search.specs.Places.{any_below, last_below, first_below, or_else}
 use Rattle.place_search.proofs.Places.{any_below-more, any_below-same, last_below-more, last_below-same, last_below-place, first_below-more, first_below-same}
 use Rattle.plane_map.specs.declared.device.DeviceName.{DeviceName}
@@ -13,30 +15,6 @@ use Rattle.bin_stream.specs.State.{has_opcode, number_in, last_index, given_or, 
 use Rattle.bin_stream.specs.Refusals.{gives_last_row, reached_in}
 use Rattle.bin_stream.specs.Meaning.{gives, bit_given, bit_where, plane_bit}
 
--- ---- lists
-
-pub length-more : {A : Type 0} (xs : List A) (x : A) → length (xs ++ x ∷ []) ≡ length xs + 1
-length-more xs x = length-append xs (x ∷ [])
-
--- the elements before the last one
-pub slice_get-before : {A : Type 0} (xs : List A) (x : A) (k : ℕ) → k < length xs → slice_get (xs ++ x ∷ []) k ≡ slice_get xs k
-slice_get-before [] x k lt = absurd (omega arith)
-slice_get-before (first ∷ xs) x zero lt = refl
-slice_get-before (first ∷ xs) x (suc k) lt = slice_get-before xs x k (omega arith)
-
--- the last one
-pub slice_get-last : {A : Type 0} (xs : List A) (x : A) → slice_get (xs ++ x ∷ []) (length xs) ≡ Some x
-slice_get-last [] x = refl
-slice_get-last (first ∷ xs) x = slice_get-last xs x
-
--- what stands before an element
-pub take-before : {A : Type 0} (xs : List A) (x : A) (k : ℕ) → k ≤ length xs → take k (xs ++ x ∷ []) ≡ take k xs
-take-before xs x k le = take-append-le k xs (x ∷ []) le
-
-pub take-all_before : {A : Type 0} (xs : List A) (x : A) → take (length xs) (xs ++ x ∷ []) ≡ xs
-take-all_before [] x = refl
-take-all_before (first ∷ xs) x = ap (λ rest. first ∷ rest) (take-all_before xs x)
-
 -- ---- the last place of a test on an element and those before it
 
 module _ (test : List Command → Option Command → Bool) where
@@ -45,17 +23,17 @@ module _ (test : List Command → Option Command → Bool) where
 
   at-before : (commands : List Command) (command : Command) (k : ℕ) → k < length commands → at (commands ++ command ∷ []) k ≡ at commands k
   at-before commands command k lt =
-      ap (λ before. test before (slice_get (commands ++ command ∷ []) k)) (take-before commands command k (omega arith)) ∙ ap (test (take k commands)) (slice_get-before commands command k lt)
+      ap (λ before. test before (slice_get (commands ++ command ∷ []) k)) (take-append-le k commands (command ∷ []) (omega arith)) ∙ ap (test (take k commands)) (slice_get-append commands (command ∷ []) k lt)
 
   at-last : (commands : List Command) (command : Command) → at (commands ++ command ∷ []) (length commands) ≡ test commands (Some command)
   at-last commands command =
-      ap (λ before. test before (slice_get (commands ++ command ∷ []) (length commands))) (take-all_before commands command) ∙ ap (test commands) (slice_get-last commands command)
+      ap (λ before. test before (slice_get (commands ++ command ∷ []) (length commands))) (take-append_seam commands (command ∷ [])) ∙ ap (test commands) (slice_get-behind commands command [])
 
   pub last-more : (commands : List Command) (command : Command) → last_below (length (commands ++ command ∷ [])) (λ k. test (take k (commands ++ command ∷ [])) (slice_get (commands ++ command ∷ []) k)) ≡ cond (test commands (Some command)) (Some (length commands)) (last_below (length commands) (λ k. test (take k commands) (slice_get commands k)))
   last-more commands command =
       let all = commands ++ command ∷ [] in
       let n = length commands in
-      ap (λ n. last_below n (at all)) (length-more commands command)
+      ap (λ n. last_below n (at all)) (length_push commands command)
       ∙ last_below-more n (at all)
       ∙ ap (λ b. cond b (Some n) (last_below n (at all))) (at-last commands command)
       ∙ ap (cond (test commands (Some command)) (Some n)) (last_below-same n (at all) (at commands) (at-before commands command))
@@ -64,7 +42,7 @@ module _ (test : List Command → Option Command → Bool) where
   any-more commands command =
       let all = commands ++ command ∷ [] in
       let n = length commands in
-      ap (λ n. any_below n (at all)) (length-more commands command)
+      ap (λ n. any_below n (at all)) (length_push commands command)
       ∙ any_below-more n (at all)
       ∙ ap (λ b. any_below n (at all) || b) (at-last commands command)
       ∙ ap (λ b. b || test commands (Some command)) (any_below-same n (at all) (at commands) (at-before commands command))
@@ -81,10 +59,10 @@ last_index-within commands opcode k is = (last_below-place (length commands) k (
 
 given_or-before : (commands : List Command) (command : Command) (start : ℕ) (place : Option ℕ) → ((k : ℕ) → place ≡ Some k → k < length commands) → given_or (commands ++ command ∷ []) place start ≡ given_or commands place start
 given_or-before commands command start None within = refl
-given_or-before commands command start (Some k) within = ap number_in (slice_get-before commands command k (within k refl))
+given_or-before commands command start (Some k) within = ap number_in (slice_get-append commands (command ∷ []) k (within k refl))
 
 chosen : (commands : List Command) (command : Command) (start : ℕ) (here : Bool) (place : Option ℕ) → ((k : ℕ) → place ≡ Some k → k < length commands) → given_or (commands ++ command ∷ []) (cond here (Some (length commands)) place) start ≡ cond here (number_in (Some command)) (given_or commands place start)
-chosen commands command start true place within = ap number_in (slice_get-last commands command)
+chosen commands command start true place within = ap number_in (slice_get-behind commands command [])
 chosen commands command start false place within = given_or-before commands command start place within
 
 -- the number that it gives, where it has that opcode
@@ -98,10 +76,10 @@ last_of-more commands command opcode start =
 
 width_given-before : (commands : List Command) (command : Command) (place : Option ℕ) → ((k : ℕ) → place ≡ Some k → k < length commands) → width_given (commands ++ command ∷ []) place ≡ width_given commands place
 width_given-before commands command None within = refl
-width_given-before commands command (Some k) within = ap (λ here. number_in here + 1) (slice_get-before commands command k (within k refl))
+width_given-before commands command (Some k) within = ap (λ here. number_in here + 1) (slice_get-append commands (command ∷ []) k (within k refl))
 
 width_chosen : (commands : List Command) (command : Command) (here : Bool) (place : Option ℕ) → ((k : ℕ) → place ≡ Some k → k < length commands) → width_given (commands ++ command ∷ []) (cond here (Some (length commands)) place) ≡ cond here (number_in (Some command) + 1) (width_given commands place)
-width_chosen commands command true place within = ap (λ here. number_in here + 1) (slice_get-last commands command)
+width_chosen commands command true place within = ap (λ here. number_in here + 1) (slice_get-behind commands command [])
 width_chosen commands command false place within = width_given-before commands command place within
 
 pub width_after-more : (commands : List Command) (command : Command) → width_after (commands ++ command ∷ []) ≡ cond (has_opcode width_opcode (Some command)) (number_in (Some command) + 1) (width_after commands)
@@ -119,10 +97,10 @@ device_after-more commands command =
     let n = length commands in
     let given : List Command → ℕ → Option DeviceName = λ commands k. device_in (take k commands) (slice_get commands k) in
     let last : given all n ≡ device_in commands (Some command) =
-    ap (λ before. device_in before (slice_get all n)) (take-all_before commands command) ∙ ap (device_in commands) (slice_get-last commands command) in
+    ap (λ before. device_in before (slice_get all n)) (take-append_seam commands (command ∷ [])) ∙ ap (device_in commands) (slice_get-behind commands command []) in
     let before : (k : ℕ) → k < n → given all k ≡ given commands k =
-    λ k lt. ap (λ before. device_in before (slice_get all k)) (take-before commands command k (omega arith)) ∙ ap (device_in (take k commands)) (slice_get-before commands command k lt) in
-    ap (λ n. first_below n (given all)) (length-more commands command)
+    λ k lt. ap (λ before. device_in before (slice_get all k)) (take-append-le k commands (command ∷ []) (omega arith)) ∙ ap (device_in (take k commands)) (slice_get-append commands (command ∷ []) k lt) in
+    ap (λ n. first_below n (given all)) (length_push commands command)
     ∙ first_below-more n (given all)
     ∙ ap (or_else (first_below n (given all))) last
     ∙ ap (λ found. or_else found (device_in commands (Some command))) (first_below-same n (given all) (given commands) before)
@@ -134,10 +112,6 @@ reached_in-more commands command = any-more gives_last_row commands command
 
 -- ---- what the check value covers
 
-pub spelled-more : (commands : List Command) (command : Command) → spelled (commands ++ command ∷ []) ≡ spelled commands ++ spelling command
-unfolding spelled
-spelled-more commands command = flat_map-append spelling commands (command ∷ []) ∙ ap (λ bytes. spelled commands ++ bytes) (append-nil (spelling command))
-
 behind_reset-more : (commands : List Command) (command : Command) (place : Option ℕ) → ((k : ℕ) → place ≡ Some k → k < length commands) → behind_reset (commands ++ command ∷ []) place ≡ behind_reset commands place ++ command ∷ []
 behind_reset-more commands command None within = refl
 behind_reset-more commands command (Some k) within =
@@ -147,9 +121,9 @@ behind_reset-more commands command (Some k) within =
 covered_chosen : (commands : List Command) (command : Command) (here : Bool) (place : Option ℕ) → ((k : ℕ) → place ≡ Some k → k < length commands) → spelled (behind_reset (commands ++ command ∷ []) (cond here (Some (length commands)) place)) ≡ cond here [] (spelled (behind_reset commands place) ++ spelling command)
 unfolding spelled
 covered_chosen commands command true place within =
-    ap spelled (drop_all (length commands + 1) (commands ++ command ∷ []) (omega (arith, length-more commands command)))
+    ap spelled (drop_all (length commands + 1) (commands ++ command ∷ []) (omega (arith, length_push commands command)))
 covered_chosen commands command false place within =
-    ap spelled (behind_reset-more commands command place within) ∙ spelled-more (behind_reset commands place) command
+    ap spelled (behind_reset-more commands command place within) ∙ spelled-push (behind_reset commands place) command
 
 pub covered-more : (commands : List Command) (command : Command) → covered (commands ++ command ∷ []) ≡ cond (is_reset (Some command)) [] (covered commands ++ spelling command)
 unfolding covered
@@ -164,11 +138,11 @@ bit_where-before : (at : Place) (commands : List Command) (command : Command) (p
 bit_where-before at commands command None within = refl
 bit_where-before at commands command (Some k) within =
     let lt : k < length commands = within k refl in
-    ap (λ before. bit_given at before (slice_get (commands ++ command ∷ []) k)) (take-before commands command k (omega arith)) ∙ ap (bit_given at (take k commands)) (slice_get-before commands command k lt)
+    ap (λ before. bit_given at before (slice_get (commands ++ command ∷ []) k)) (take-append-le k commands (command ∷ []) (omega arith)) ∙ ap (bit_given at (take k commands)) (slice_get-append commands (command ∷ []) k lt)
 
 bit_chosen : (at : Place) (commands : List Command) (command : Command) (here : Bool) (place : Option ℕ) → ((k : ℕ) → place ≡ Some k → k < length commands) → bit_where at (commands ++ command ∷ []) (cond here (Some (length commands)) place) ≡ cond here (bit_given at commands (Some command)) (bit_where at commands place)
 bit_chosen at commands command true place within =
-    ap (λ before. bit_given at before (slice_get (commands ++ command ∷ []) (length commands))) (take-all_before commands command) ∙ ap (bit_given at commands) (slice_get-last commands command)
+    ap (λ before. bit_given at before (slice_get (commands ++ command ∷ []) (length commands))) (take-append_seam commands (command ∷ [])) ∙ ap (bit_given at commands) (slice_get-behind commands command [])
 bit_chosen at commands command false place within = bit_where-before at commands command place within
 
 -- the bit at a place is that of the new command where it gives one

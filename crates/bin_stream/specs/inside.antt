@@ -7,3 +7,4 @@ pub mod Registers
 pub mod Step
 pub mod Pieces
 pub mod Stages
+pub mod Room

@@ -11,3 +11,7 @@ mod writing;
 pub use fault::{BinCause, BinFault};
 pub use reading::{Decoder, decode, decode_with};
 pub use writing::encode;
+
+// What the signatures show.
+pub use ice_image::AnyImage;
+pub use layout_file::Layouts;

@@ -2,6 +2,7 @@
 use Rattle.std.proofs.Common.{◌≡◌, ℕ, zero, suc, ◌+◌, ◌-◌, ◌*◌, ◌<◌, ◌≤◌, Bool, true, false, ◌&&◌, ◌==◌, cond, List, [], ◌∷◌, ◌++◌, length, get_or, take, take_while, drop, refl, sym, ap, ◌∙◌, subst, inl, inr, arith, length-drop, length-append}
 use Rattle.std.specs.Prelude.{Option, Some, None, map, if◌then◌else◌}
 use Rattle.std.proofs.lemmas.Bool.{cases_lt, cases_Bool}
+use Rattle.shared_lemmas.proofs.Cuts.{drop_end}
 use Rattle.place_search.specs.Places.{or_else}
 use Rattle.place_search.proofs.Places.{first_below-none, first_below-first, gathered_below-more, gathered_below-none}
 use Rattle.text_lines.specs.Lines.{lines_of, whole_lines_of, line_at, with_byte, is_at_lf}
@@ -58,21 +59,10 @@ room-more text content whole rest lines wholes old new all is are parts room mor
 
 -- ---- lines by their index
 
-pub cut : (lines : List (List ℕ)) (k : ℕ) (line : List ℕ) (more : List (List ℕ)) → drop k lines ≡ line ∷ more → (k < length lines) × (line_at lines k ≡ line) × (more ≡ drop (k + 1) lines)
-cut [] zero line more e = absurd cc
-cut [] (suc k) line more e = absurd cc
-cut (first ∷ lines) zero line more e = (omega arith, cc, cc)
-cut (first ∷ lines) (suc k) line more e =
-    let found = cut lines k line more e in
-    let later : suc k + 1 ≡ suc (k + 1) = omega arith in
-    (omega (arith, found.0), found.1, rw later found.2)
-
 -- no line is left
 pub cut-end : (text left : List ℕ) (k : ℕ) → lines_of left ≡ drop k (lines_of text) → left ≡ [] → k ≤ length (lines_of text) → k ≡ length (lines_of text)
 unfolding lines_of
-cut-end text left k rest none within =
-    let over : drop k (lines_of text) ≡ [] = sym rest ∙ ap lines_of none in
-    omega (arith, length-drop k (lines_of text), ap length over)
+cut-end text left k rest none within = drop_end (lines_of text) k (sym rest ∙ ap lines_of none) within
 
 -- ---- what was read
 

@@ -2,7 +2,7 @@
 use Rattle.std.proofs.Common.{◌≡◌, ◌≢◌, ℕ, zero, suc, ◌+◌, ◌-◌, ◌*◌, ◌<◌, ◌≤◌, Bool, true, false, not, ◌&&◌, ◌||◌, ◌==◌, cond, List, [], ◌∷◌, ◌++◌, length, get_or, take, drop, refl, sym, ap, ap₂, ◌∙◌, subst, inl, inr, arith, take_while, append-nil, append_assoc, length-append, length-drop, add-one}
 use Rattle.std.specs.Prelude.{Option, Some, None, Result, Ok, Err, filter, flat_map, reverse, nat_lt, nat_le, unwrap_or, is_some, if◌then◌else◌, OnOk, IfErr}
 use Rattle.std.specs.List.{list_all, list_any}
-use Rattle.std.proofs.lemmas.Bool.{cases_lt, cases_Bool, and_parts, false≢true, eqb-true, ltb-false, lt-ltb, le-ltb, lt-leb, le-leb, or_right}
+use Rattle.std.proofs.lemmas.Bool.{cases_lt, cases_Bool, and_parts, false≢true, eqb-true, ltb-false, lt-ltb, le-ltb, lt-leb, le-leb, or_right, or_parts, not-false}
 use Rattle.std.proofs.Math.Bool.{or-true, or-false}
 use Rattle.std.proofs.lemmas.Bool.Decides.{nat_tests}
 use Rattle.std.proofs.lemmas.List.{take_more, take_all, drop_all, drop_more, reverse-append}
@@ -116,18 +116,10 @@ digits_set-more : (words : List (List ℕ)) (word : List ℕ) (others : List (Li
 digits_set-more [] word others = refl
 digits_set-more (first ∷ words) word others = refl
 
-pub or_parts : (a b : Bool) → (a || b) ≡ false → (a ≡ false) × (b ≡ false)
-or_parts true b never = absurd (false≢true (sym never))
-or_parts false b never = (refl, never)
-
-not_false : (a : Bool) → not a ≡ false → a ≡ true
-not_false true never = refl
-not_false false never = absurd (false≢true (sym never))
-
 -- a word that fits has as many digits as the others
 pub misfit-parts : (digits : ℕ) (word : List ℕ) → is_misfit digits word ≡ false → (length (digits_in word) ≡ digits) × (length (digits_in word) ≤ 64)
 misfit-parts digits word fits = let parts = or_parts (not (length (digits_in word) == digits)) (nat_lt 64 (length (digits_in word))) fits in
-    (eqb-true (length (digits_in word)) digits (not_false (length (digits_in word) == digits) parts.0), ltb-false 64 (length (digits_in word)) parts.1)
+    (eqb-true (length (digits_in word)) digits (not-false (length (digits_in word) == digits) parts.0), ltb-false 64 (length (digits_in word)) parts.1)
 
 Holds-fit : (words : List (List ℕ)) (word : List ℕ) → list_any (is_misfit (digits_set words)) words ≡ false → is_misfit (digits_set (words ++ word ∷ [])) word ≡ false
     → list_any (is_misfit (digits_set (words ++ word ∷ []))) (words ++ word ∷ []) ≡ false

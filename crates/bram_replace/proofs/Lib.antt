@@ -1,11 +1,24 @@
+-- the definitions at texts that are known from outside
+mod Worked
+-- lists made from a function of the place
 pub mod Made
+-- columns that are equal, and columns that are all different
 pub mod Same
+-- columns as four numbers are equal exactly where their bits are
 pub mod Packing
+-- words of hexadecimal digits, one after the other
 pub mod HexWords
+-- the lines of a file of memory words, one after the other
 pub mod HexLines
+-- words kept as one list of bits
 pub mod Memory
+-- the columns of a file, one after the other: where each was first, and which are repeated
 pub mod Repeats
+-- the lines and the bits of a RAM
 pub mod Rows
+-- how often a column is found: there is room for the count of each
 pub mod Rams
+-- the bits of a RAM, written one after the other
 pub mod Putting
+-- a text that can be read, with its RAMs replaced line by line
 pub mod Steps

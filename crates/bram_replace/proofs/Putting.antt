@@ -5,6 +5,7 @@ use Rattle.std.specs.List.{range_with_len}
 use Rattle.std.proofs.Math.Nat.{div-div-eq-div-mul, two-pow-succ}
 use Rattle.std.proofs.lemmas.Bool.{cases_lt, cases_eq, cases_Bool, false≢true, eq-eqb, ne_eqb, lt-ltb, le-ltb, and_parts, eqb-true}
 use Rattle.std.proofs.lemmas.List.{get_or_past, get_or-set_same, get_or-set_other, drop_all}
+use Rattle.shared_lemmas.proofs.Cuts.{drop_cons, drop_none}
 use Rattle.place_search.specs.Places.{gathered_below}
 use Rattle.place_search.proofs.Places.{gathered_below-more}
 use Rattle.text_lines.specs.Lines.{lines_of, whole_lines_of, line_at, trimmed, before_rest, is_blank}
@@ -16,7 +17,7 @@ use Rattle.bram_replace.specs.Packed.{word_from, packed}
 use Rattle.bram_replace.specs.Replaced.{RamBits, ram_bits, ram_column, bit_from, bits_after, bit_found, word_with}
 use Rattle.asc_text.specs.Rams.{BeginsWithRam}
 use Rattle.bram_replace.specs.Rams.{AreAlike, listed}
-use Rattle.bram_replace.proofs.HexLines.{cut, content-within}
+use Rattle.bram_replace.proofs.HexLines.{content-within}
 use Rattle.bram_replace.proofs.Made.{column_from-same}
 use Rattle.bram_replace.proofs.Packing.{word_from-same}
 use Rattle.bram_replace.proofs.Rows.{listed-set}
@@ -70,15 +71,12 @@ alike-chain words bits others last first second word bit below low = first word 
 
 -- ---- all lines
 
-past-end : (lines : List (List ℕ)) (row : ℕ) → drop row lines ≡ [] → length lines ≤ row
-past-end lines row none = omega (arith, length-drop row lines, ap length none)
-
 -- the next line is there
 pub not_ended : (text left : List ℕ) (row : ℕ) → BeginsWithRam (lines_of text) → lines_of left ≡ drop row (lines_of text) → row < 16 → left ≢ []
 unfolding lines_of
 not_ended text left row begins lines few end =
     let none : drop row (lines_of text) ≡ [] = sym lines ∙ ap lines_of end in
-    let past : length (lines_of text) ≤ row = past-end (lines_of text) row none in
+    let past : length (lines_of text) ≤ row = drop_none (lines_of text) row none in
     let empty : line_at (lines_of text) row ≡ [] = get_or_past (lines_of text) row [] past in
     let clash : is_memory_line (trimmed []) ≡ true = subst (λ l. is_memory_line (trimmed l) ≡ true) empty (begins row few) in
     false≢true (sym no_empty ∙ clash)
@@ -87,22 +85,22 @@ not_ended text left row begins lines few end =
 pub next-digits : (text left content rest : List ℕ) (row : ℕ) → BeginsWithRam (lines_of text) → lines_of left ≡ drop row (lines_of text) → lines_of left ≡ content ∷ lines_of rest → row < 16
     → is_memory_line (trimmed content) ≡ true
 next-digits text left content rest row begins lines is few =
-    let at = cut (lines_of text) row content (lines_of rest) (sym lines ∙ is) in
+    let at = drop_cons (lines_of text) row [] content (lines_of rest) (sym lines ∙ is) in
     subst (λ l. is_memory_line (trimmed l) ≡ true) at.1 (begins row few)
 
 pub next-content : (text left content rest : List ℕ) (row : ℕ) → lines_of left ≡ drop row (lines_of text) → lines_of left ≡ content ∷ lines_of rest → line_at (lines_of text) row ≡ content
-next-content text left content rest row lines is = (cut (lines_of text) row content (lines_of rest) (sym lines ∙ is)).1
+next-content text left content rest row lines is = (drop_cons (lines_of text) row [] content (lines_of rest) (sym lines ∙ is)).1
 
 pub next-lines : (text left content rest : List ℕ) (row : ℕ) → lines_of left ≡ drop row (lines_of text) → lines_of left ≡ content ∷ lines_of rest → lines_of rest ≡ drop (row + 1) (lines_of text)
-next-lines text left content rest row lines is = (cut (lines_of text) row content (lines_of rest) (sym lines ∙ is)).2
+next-lines text left content rest row lines is = (drop_cons (lines_of text) row [] content (lines_of rest) (sym lines ∙ is)).2
 
 pub next-wholes : (text left whole rest : List ℕ) (row : ℕ) → whole_lines_of left ≡ drop row (whole_lines_of text) → whole_lines_of left ≡ whole ∷ whole_lines_of rest
     → whole_lines_of rest ≡ drop (row + 1) (whole_lines_of text)
-next-wholes text left whole rest row lines is = (cut (whole_lines_of text) row whole (whole_lines_of rest) (sym lines ∙ is)).2
+next-wholes text left whole rest row lines is = (drop_cons (whole_lines_of text) row [] whole (whole_lines_of rest) (sym lines ∙ is)).2
 
 pub next-whole : (text left whole rest : List ℕ) (row : ℕ) → whole_lines_of left ≡ drop row (whole_lines_of text) → whole_lines_of left ≡ whole ∷ whole_lines_of rest
     → line_at (whole_lines_of text) row ≡ whole
-next-whole text left whole rest row lines is = (cut (whole_lines_of text) row whole (whole_lines_of rest) (sym lines ∙ is)).1
+next-whole text left whole rest row lines is = (drop_cons (whole_lines_of text) row [] whole (whole_lines_of rest) (sym lines ∙ is)).1
 
 before-few : (byte : ℕ) (rest : List ℕ) (size : ℕ) → length rest ≤ size → length (before_rest byte rest) ≤ suc size
 before-few byte [] size few = elim (is_blank byte) as (λ is. length (if is then [] else byte ∷ []) ≤ suc size) [ true ↦ omega arith | false ↦ omega arith ]

@@ -92,37 +92,6 @@ differ true false apart = refl
 differ false true apart = refl
 differ false false apart = absurd (false≢true apart)
 
--- ---- digits
-
-encode_with-none : (digits : List ℕ) → encode_with digits [] ≡ []
-unfolding encode_with
-encode_with-none digits = refl
-
-encode_with-append : (digits bytes more : List ℕ) → encode_with digits (bytes ++ more) ≡ encode_with digits bytes ++ encode_with digits more
-unfolding encode_with
-encode_with-append digits [] more = refl
-encode_with-append digits (byte ∷ bytes) more = cc (encode_with-append digits bytes more)
-
--- no digits yet
-pub digits-none : (text : List ℕ) (given : ℕ → List ℕ) → text ≡ text ++ encode_lower (gathered_below 0 given)
-digits-none text given =
-    sym (append-nil text) ∙ ap (λ digits. text ++ digits) (sym (encode_with-none lower_digits) ∙ ap encode_lower (sym (gathered_below-none 0 given (λ k below. absurd (omega arith)))))
-
--- the digits of one place more
-pub digits-more : (old now after : List ℕ) (n : ℕ) (given : ℕ → List ℕ) → now ≡ old ++ encode_lower (gathered_below n given) → after ≡ now ++ encode_lower (given n) → after ≡ old ++ encode_lower (gathered_below (n + 1) given)
-digits-more old now after n given so_far next =
-    next ∙ ap (λ text. text ++ encode_lower (given n)) so_far ∙ append_assoc old (encode_lower (gathered_below n given)) (encode_lower (given n))
-    ∙ ap (λ digits. old ++ digits) (sym (encode_with-append lower_digits (gathered_below n given) (given n)) ∙ ap encode_lower (sym (gathered_below-more n given)))
-
--- ---- what places give, appended
-
-pub appended-none : {A : Type 0} (text : List A) (given : ℕ → List A) → text ≡ text ++ gathered_below 0 given
-appended-none text given = sym (append-nil text) ∙ ap (λ more. text ++ more) (sym (gathered_below-none 0 given (λ k below. absurd (omega arith))))
-
-pub appended-more : {A : Type 0} (old now after : List A) (n : ℕ) (given : ℕ → List A) → now ≡ old ++ gathered_below n given → after ≡ now ++ given n → after ≡ old ++ gathered_below (n + 1) given
-appended-more old now after n given so_far next =
-    next ∙ ap (λ text. text ++ given n) so_far ∙ append_assoc old (gathered_below n given) (given n) ∙ ap (λ more. old ++ more) (sym (gathered_below-more n given))
-
 -- ---- bits of a list that are set
 
 -- a bit that is set, and any other one

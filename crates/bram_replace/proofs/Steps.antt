@@ -4,6 +4,7 @@ use Rattle.std.specs.Prelude.{Option, Some, None, if◌then◌else◌}
 use Rattle.std.proofs.lemmas.Bool.{cases_lt}
 use Rattle.std.proofs.lemmas.List.{get_or-drop, get_or_past, get_or-replicate, length-replicate}
 use Rattle.std.proofs.lemmas.List.FromFn.{fill_by_all}
+use Rattle.shared_lemmas.proofs.Cuts.{drop_cons}
 use Rattle.place_search.specs.Places.{gathered_below}
 use Rattle.place_search.proofs.Places.{gathered_below-more, gathered_below-none, gathered_below-same, gathered_below-sum}
 use Rattle.text_lines.specs.Lines.{lines_of, whole_lines_of, line_at}
@@ -15,7 +16,7 @@ use Rattle.bram_replace.specs.HexText.{Contents}
 use Rattle.bram_replace.specs.Columns.{column_count}
 use Rattle.bram_replace.specs.Replaced.{RamBits, ram_bits, bits_after, bits_found, memory_line_with, line_after, replaced, found_at, count_before, found_in}
 use Rattle.asc_text.specs.Rams.{BeginsWithRam, below_statement, is_ram_data, is_in_ram, is_ram_line}
-use Rattle.bram_replace.proofs.HexLines.{cut, cut-end}
+use Rattle.bram_replace.proofs.HexLines.{cut-end}
 use Rattle.asc_text.proofs.RamLines.{ram-begins, ram-not, ram-not-at, outside-more, at-flat, row-of, row-end, row-in, row-below, row-none, rows-within, begins}
 use Rattle.bram_replace.proofs.Rams.{count-few}
 
@@ -72,8 +73,8 @@ pub record FirstLine (text left content whole rest : List ℕ) (n : ℕ) : Type 
 pub first : (from to : Contents) (text left out found content whole rest : List ℕ) → (p : Progress from to text left out found)
     → lines_of left ≡ content ∷ lines_of rest → whole_lines_of left ≡ whole ∷ whole_lines_of rest → FirstLine text left content whole rest p.n
 first from to text left out found content whole rest p lines wholes =
-    let at = cut (lines_of text) p.n content (lines_of rest) (sym p.lines ∙ lines) in
-    let whole_at = cut (whole_lines_of text) p.n whole (whole_lines_of rest) (sym p.wholes ∙ wholes) in
+    let at = drop_cons (lines_of text) p.n [] content (lines_of rest) (sym p.lines ∙ lines) in
+    let whole_at = drop_cons (whole_lines_of text) p.n [] whole (whole_lines_of rest) (sym p.wholes ∙ wholes) in
     record { there = at.0; content_is = at.1; whole_is = whole_at.1; lines = at.2; wholes = whole_at.2 }
 
 pub Progress-line : (from to : Contents) (text left out found content whole rest new : List ℕ) → Progress from to text left out found

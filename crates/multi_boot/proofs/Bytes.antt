@@ -1,15 +1,15 @@
 -- What the bytes of a boot file are, one image after the other.
-use Rattle.std.proofs.Common.{◌≡◌, ℕ, zero, suc, ◌+◌, ◌-◌, ◌*◌, ◌/◌, ◌%◌, ◌==◌, ◌<◌, ◌≤◌, Bool, true, false, ◌&&◌, List, [], ◌∷◌, ◌++◌, length, get_or, take, replicate, refl, sym, ap, ◌∙◌, subst, inl, inr, arith, length-append, add-one}
+use Rattle.std.proofs.Common.{◌≡◌, ℕ, zero, suc, ◌+◌, ◌-◌, ◌*◌, ◌/◌, ◌%◌, ◌==◌, ◌<◌, ◌≤◌, true, false, ◌&&◌, List, [], ◌++◌, length, get_or, take, replicate, refl, sym, ap, ◌∙◌, inl, inr, arith, length-append, add-one}
 use Rattle.std.proofs.Math.Bool.{and-false}
-use Rattle.std.specs.Prelude.{Option, Some, None, Vec, find, map, nat_lt, nat_le, if◌then◌else◌}
+use Rattle.std.specs.Prelude.{Some, None, Vec, find}
 use Rattle.std.specs.declared.alloc.Global.{Global}
 use Rattle.std.specs.List.{range_with_len}
-use Rattle.std.proofs.lemmas.Bool.{cases_lt, lt-ltb, le-ltb, le-leb, lt-leb, and_from}
+use Rattle.std.proofs.lemmas.Bool.{cases_lt, lt-ltb, le-ltb, le-leb, lt-leb}
 use Rattle.std.proofs.lemmas.List.{get_or_append_left, get_or-append_right, get_or-map, get_or-replicate, length-map, take_all, length-replicate}
 use Rattle.std.proofs.lemmas.Bool.Decides.{nat_tests}
 use Rattle.std.proofs.lemmas.List.FromFn.{fill_by_all}
 use Rattle.multi_boot.specs.declared.options.Options.{Options}
-use Rattle.multi_boot.specs.BootFile.{HasBytes, boot_byte, boot_file, image_at, image_byte, lies_in, place_of, end_of, start_of, boot_length, bytes_of, header, header_at, header_byte, image_booted}
+use Rattle.multi_boot.specs.BootFile.{HasBytes, boot_byte, boot_file, image_at, lies_in, place_of, end_of, start_of, boot_length, bytes_of, header, header_at, header_byte, image_booted}
 use Rattle.multi_boot.proofs.Found.{find-none, find-first}
 use Rattle.multi_boot.proofs.Order.{place-start, place-later, place-rises, start-first}
 

@@ -1,10 +1,9 @@
 -- Images stand one behind the other, and behind the headers.
-use Rattle.std.proofs.Common.{◌≡◌, ℕ, zero, suc, ◌+◌, ◌-◌, ◌*◌, ◌%◌, ◌^◌, ◌<◌, ◌≤◌, Bool, true, false, List, length, refl, sym, ap, ◌∙◌, subst, inl, inr, arith}
+use Rattle.std.proofs.Common.{◌≡◌, ℕ, zero, suc, ◌<◌, ◌≤◌, Bool, true, false, List, subst, inl, inr, arith}
 use Rattle.std.specs.Prelude.{Option, Some, None, if◌then◌else◌}
-use Rattle.std.specs.Int.{next_multiple_of}
 use Rattle.std.proofs.lemmas.Bool.{cases_lt}
 use Rattle.multi_boot.specs.declared.options.Options.{Options}
-use Rattle.multi_boot.specs.BootFile.{aligned, first_place, place_of, end_of, start_of}
+use Rattle.multi_boot.specs.BootFile.{aligned, place_of, end_of, start_of}
 
 pub aligned-above : (align : Option ℕ) (offset : ℕ) → offset ≤ aligned align offset
 aligned-above None offset = omega arith

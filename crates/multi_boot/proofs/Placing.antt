@@ -1,13 +1,12 @@
 -- Places found one after the other, and what a check of numbers leaves.
 use Rattle.std.proofs.Common.{◌≡◌, ℕ, zero, suc, ◌+◌, ◌-◌, ◌^◌, ◌<◌, ◌≤◌, ◌==◌, Bool, true, false, List, [], ◌∷◌, ◌++◌, length, get_or, refl, sym, ap, ◌∙◌, subst, inl, inr, arith, add-one}
-use Rattle.std.specs.Prelude.{Option, Some, None, find, nat_lt, nat_le, if◌then◌else◌}
+use Rattle.std.specs.Prelude.{Option, Some, None, nat_lt, nat_le, if◌then◌else◌}
 use Rattle.std.specs.Option.{option_or, option_map}
-use Rattle.std.specs.List.{range_with_len}
-use Rattle.std.proofs.lemmas.Bool.{cases_lt, cases_Bool, lt-leb, le-leb, ltb-true, ltb-false, eqb-true}
+use Rattle.std.proofs.lemmas.Bool.{cases_lt, lt-leb, le-leb, ltb-true}
 use Rattle.std.proofs.lemmas.List.{get_or_append_left, get_or-append_right, get_or_past, length-append}
 use Rattle.multi_boot.specs.declared.options.Options.{Options}
 use Rattle.multi_boot.specs.declared.fault.MultiFault.{MultiFault}
-use Rattle.multi_boot.specs.declared.fault.MultiFault.TheVariants.{NoImage, TooMany, Align, PowerOn, Address, Memory}
+use Rattle.multi_boot.specs.declared.fault.MultiFault.TheVariants.{NoImage, TooMany, PowerOn, Address}
 use Rattle.multi_boot.specs.BootFile.{aligned, first_place, place_of, image_at}
 use Rattle.multi_boot.specs.Refusals.{address_fault, align_fault, check_fault}
 use Rattle.multi_boot.proofs.Found.{find-none, find-first}

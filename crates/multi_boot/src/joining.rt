@@ -1,7 +1,7 @@
 // Images joined to a boot file.
 ghost use Rattle.std.specs.Prelude.{◌≡◌, ◌<◌, ◌≤◌, ◌+◌, ◌*◌, ◌^◌, ◌&&◌, ◌==◌, ℕ, None, length, get_or, IfOk, OnOk, IfErr, unwrap_or};
 ghost use Rattle.std.specs.Result.{result_err};
-ghost use Rattle.multi_boot.specs.BootFile.{HasBytes, boot_byte, boot_file, bytes_of, header_byte, image_booted, place_of, start_of};
+ghost use Rattle.multi_boot.specs.BootFile.{HasBytes, boot_byte, boot_file, boot_length, bytes_of, header_byte, image_booted, place_of, start_of};
 ghost use Rattle.multi_boot.specs.Refusals.{Tells, check_fault, join_fault};
 
 use crate::fault::MultiFault;
@@ -62,8 +62,12 @@ pub fn join(alloc: Global, images: &Vec<Vec<u8>>, options: Options) -> Result<Ve
     Ok(file)
 }
 
-/// Where the last image ends, of images with those places.
-fn size(places: &[u32], images: &Vec<Vec<u8>>) -> usize {
+/// Where the last image ends, of images with those places: room for no more bytes than the file has.
+fn size(places: &[u32], images: &Vec<Vec<u8>>) -> usize
+    requires { length places.now ≡ length images.now.items }
+    ensures { (options : Options) → ((index : ℕ) → index < length images.now.items → get_or places.now index 0 ≡ place_of (bytes_of images.now) options index)
+        → result ≤ boot_length (bytes_of images.now) options }
+{
     match (places.last(), images.last()) {
         (Some(place), Some(image)) => image.len().saturating_add(*place as usize),
         _ => 0,

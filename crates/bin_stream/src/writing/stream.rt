@@ -1,5 +1,5 @@
 // Writing the bitstream of an image.
-ghost use Rattle.std.specs.Prelude.{◌≡◌, ◌≤◌, ◌++◌, length, drop, Ok, IfOk, OnOk};
+ghost use Rattle.std.specs.Prelude.{◌≡◌, ◌≤◌, ◌+◌, ◌++◌, length, drop, Ok, IfOk, OnOk};
 ghost use Rattle.bit_plane.specs.BitList.{bits_of};
 ghost use Rattle.layout_file.specs.declared.layouts.Layouts.{Layouts};
 ghost use Rattle.layout_file.specs.Layouts.{HasLayout};
@@ -7,6 +7,7 @@ ghost use Rattle.ice_image.specs.Either.{configuration_of};
 ghost use Rattle.bin_stream.specs.CanonicalBytes.{canonical_bytes, checked_bytes, range_number, mode_command, two_bytes};
 ghost use Rattle.bin_stream.specs.CheckValue.{check_value};
 ghost use Rattle.bin_stream.specs.Spelling.{Spells, bin_read_of};
+ghost use Rattle.bin_stream.specs.inside.Room.{planes_size};
 
 use super::command::{append_command, append_control, two_bytes};
 use super::comment::append_comment;
@@ -45,8 +46,11 @@ pub fn encode(alloc: Global, image: &AnyImage) -> Result<Vec<u8>, AllocError>
     Ok(out)
 }
 
-/// Room enough for the bitstream of an image with a short comment.
-fn usual_size(device: DeviceName) -> usize {
+/// Room enough for the bitstream of an image with a short comment: beside the rows of its planes, which are all written, no
+/// more than 1,024 bytes.
+fn usual_size(device: DeviceName) -> usize
+    ensures { result ≤ planes_size device + 1024 }
+{
     match device {
         DeviceName::K1 => 33_000,
         DeviceName::K8 => 136_000,

@@ -4,7 +4,7 @@ use Rattle.asc_text.specs.Canonical.{two_bytes}
 use Rattle.bram_replace.specs.Packed.{word_from}
 use Rattle.bram_replace.specs.Replaced.{word_with}
 use Rattle.bram_replace.specs.Rams.{listed}
-use Rattle.bram_replace.proofs.Rows.{digits-none, digits-more}
+use Rattle.asc_text.proofs.Pieces.{digits-none, digits-more}
 use Rattle.bram_replace.proofs.Putting.{word-listed}
 use Rattle.bram_replace.proofs.ram.append_digits.Goals as goal
 

@@ -1,5 +1,5 @@
-use Rattle.std.proofs.Common.{◌≡◌, ℕ, ◌+◌, ◌-◌, ◌<◌, ◌++◌, sym, ap, ap₂, ◌∙◌, subst, length, get_or, take, replicate, vec_len, arith}
-use Rattle.multi_boot.specs.BootFile.{HasBytes, boot_byte, bytes_of, end_of, image_at, place_of, start_of}
+use Rattle.std.proofs.Common.{◌≡◌, ◌<◌, sym, ap, ◌∙◌, subst, length, get_or, vec_len, arith}
+use Rattle.multi_boot.specs.BootFile.{HasBytes, boot_byte, bytes_of, end_of, image_at, place_of}
 use Rattle.multi_boot.proofs.Bytes.{HasBytes-headers, HasBytes-gap, HasBytes-image, boot_file-is, start-all, start-more, image_at-is, length-bytes_of}
 use Rattle.multi_boot.proofs.Placing.{checked}
 use Rattle.multi_boot.proofs.joining.join.Goals as goal

@@ -1,4 +1,4 @@
-use Rattle.std.proofs.Common.{◌≡◌, ℕ, ◌+◌, ◌^◌, ◌<◌, ◌≤◌, length, get_or, [], ◌∷◌, length-append, sym, ap, ap₂, ◌∙◌, subst, arith}
+use Rattle.std.proofs.Common.{◌≡◌, ◌+◌, ◌^◌, ◌<◌, ◌≤◌, length, get_or, [], ◌∷◌, length-append, sym, ap, ap₂, ◌∙◌, subst, arith}
 use Rattle.multi_boot.specs.BootFile.{aligned, bytes_of, place_of, image_at}
 use Rattle.multi_boot.proofs.Bytes.{image_at-is, length-bytes_of}
 use Rattle.multi_boot.proofs.Placing.{place-first, place-more, found-more, small-more, address-at, address-none}

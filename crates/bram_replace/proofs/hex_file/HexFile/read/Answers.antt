@@ -1,12 +1,13 @@
-use Rattle.std.proofs.Common.{◌≡◌, ◌+◌, ◌*◌, ◌≤◌, ◌++◌, ◌∷◌, length, drop, refl, sym, ap, ◌∙◌, subst, arith}
+use Rattle.std.proofs.Common.{◌≡◌, ◌+◌, ◌*◌, ◌≤◌, ◌++◌, ◌∷◌, length, drop, refl, sym, ap, ◌∙◌, subst, arith, []}
 use Rattle.std.specs.Prelude.{None, IfOk, OnOk, IfErr}
 use Rattle.std.proofs.lemmas.Result.{err_from_is_err_and}
+use Rattle.shared_lemmas.proofs.Cuts.{drop_cons}
 use Rattle.text_lines.specs.Lines.{lines_of, whole_lines_of, line_at}
 use Rattle.text_lines.specs.Words.{words_of}
 use Rattle.text_lines.specs.declared.words.Separators.TheVariants.{Whitespace}
 use Rattle.bram_replace.specs.HexText.{all_words, before_comment, contents_of, depth_cause, digits_set, hex_fault_of, words_cause, words_in, TellsHex}
 use Rattle.bram_replace.specs.Collected.{Holds}
-use Rattle.bram_replace.proofs.HexLines.{ReadSoFar, ReadSoFar-none, ReadSoFar-more, room-more, cut, cut-end, first_fault, end_fault, contents-is}
+use Rattle.bram_replace.proofs.HexLines.{ReadSoFar, ReadSoFar-none, ReadSoFar-more, room-more, cut-end, first_fault, end_fault, contents-is}
 use Rattle.bram_replace.proofs.hex_file.HexFile.read.Goals as goal
 
 pub loop-line-init : goal.loop-line-init
@@ -24,7 +25,7 @@ loop-line-preserved c =
     let i = c.loop-line.invariant in
     let line = c.in-Some.line in
     let count = c.loop-line.count in
-    let at = cut (lines_of text) count line.content.now (lines_of line.rest.now) (sym i.lines ∙ c.in-Some.ensures.lines) in
+    let at = drop_cons (lines_of text) count [] line.content.now (lines_of line.rest.now) (sym i.lines ∙ c.in-Some.ensures.lines) in
     let next = c.take_line.new.self.digits in
     let new = c.take_line.new.self.bits.items in
     record {
@@ -46,7 +47,7 @@ returns-in_err-take_line-clause-refused c =
     let line = c.in-Some.line in
     let count = c.loop-line.count in
     let told = c.in_err-take_line.field-0.0 in
-    let at = cut (lines_of text) count line.content.now (lines_of line.rest.now) (sym i.lines ∙ c.in-Some.ensures.lines) in
+    let at = drop_cons (lines_of text) count [] line.content.now (lines_of line.rest.now) (sym i.lines ∙ c.in-Some.ensures.lines) in
     let p = err_from_is_err_and c.from_residual.result c.from_residual.ensures.1 in
     rw (p.1, p.2) (first_fault text line.content.now count c.loop-line.words.digits c.loop-line.words.bits.items told i.read at.0 at.1
     (λ words holds. subst (λ l. TellsHex (words_cause (digits_set (words ++ words_of Whitespace l)) (words_of Whitespace l) (count + 1)) told) c.before_comment.ensures (c.in_err-take_line.ensures.refused words holds)))

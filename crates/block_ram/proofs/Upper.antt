@@ -1,7 +1,9 @@
 -- The upper tile of a RAM.
-use Rattle.std.proofs.Common.{◌≡◌, ◌≢◌, ℕ, ◌+◌, ◌-◌, ◌%◌, ◌<◌, ◌≤◌, Bool, true, false, ◌&&◌, ◌||◌, List, refl, sym, ap, ◌∙◌, subst, arith}
+use Rattle.std.proofs.Common.{◌≡◌, ◌≢◌, ℕ, ◌+◌, ◌-◌, ◌%◌, ◌<◌, Bool, true, false, ◌&&◌, ◌||◌, List, refl, arith}
 use Rattle.std.specs.Prelude.{Option, Some, None, if◌then◌else◌, nat_le, ◌==◌, All}
-use Rattle.std.proofs.lemmas.Bool.Decides.{nat_tests}
+use Rattle.std.proofs.lemmas.Bool.{eqb-true, eqb-false, ne_eqb, leb-false, lt-leb, or_from}
+use Rattle.plane_map.proofs.Grids.{grid_height-le}
+use Rattle.shared_lemmas.proofs.Tests.{second_false}
 use Rattle.plane_map.specs.Layout.{kind_of, is_side, is_end, grid_width, grid_height, ram_column, last_x, last_y}
 use Rattle.plane_map.specs.declared.device.DeviceName.{DeviceName}
 use Rattle.plane_map.specs.declared.device.DeviceName.TheVariants.{K1, K8}
@@ -41,30 +43,6 @@ is_lower false false false false false odd is = absurd cc
 is_lower false false false false true false is = absurd cc
 is_lower false false false false true true is = record { x_in = refl; y_in = refl; inner_x = refl; inner_y = refl; of_ram = refl; is_odd = refl }
 
--- the tests of the row above
-or-first : (a b : Bool) → a || b ≡ false → a ≡ false
-or-first true b is = absurd cc
-or-first false b is = refl
-
-or-second : (a b : Bool) → a || b ≡ false → b ≡ false
-or-second true b is = absurd cc
-or-second false b is = is
-
-eq-is : (a b : ℕ) → (a == b) ≡ true → a ≡ b
-eq-is a b is = grind (arith, nat_tests)
-
-eq-not : (a b : ℕ) → (a == b) ≡ false → a ≢ b
-eq-not a b is = grind (arith, nat_tests)
-
-not-eq : (a b : ℕ) → a ≢ b → (a == b) ≡ false
-not-eq a b other = grind (arith, nat_tests)
-
-le-not : (a b : ℕ) → nat_le a b ≡ false → b < a
-le-not a b is = grind (arith, nat_tests)
-
-not-le : (a b : ℕ) → b < a → nat_le a b ≡ false
-not-le a b less = grind (arith, nat_tests)
-
 record IsUpperRow (height y : ℕ) : Type 0 where
   inside : y + 1 < height
   not_bottom : y + 1 ≢ 0
@@ -74,10 +52,6 @@ record IsUpperRow (height y : ℕ) : Type 0 where
 upper_row : (device : DeviceName) (y : ℕ) → y < grid_height device → y ≢ last_y device → y % 2 ≡ 1 → IsUpperRow (grid_height device) y
 upper_row K1 y below not_last odd = record { inside = omega arith; not_bottom = omega arith; not_top = omega arith; even = omega arith }
 upper_row K8 y below not_last odd = record { inside = omega arith; not_bottom = omega arith; not_top = omega arith; even = omega arith }
-
-both_false : (a b : Bool) → a ≡ false → b ≡ false → a || b ≡ false
-both_false true b first second = absurd cc
-both_false false b first second = second
 
 upper_by : (past_x past_y side end ram odd : Bool) → past_x ≡ false → past_y ≡ false → side ≡ false → end ≡ false → ram ≡ true → odd ≡ false
     → kind_by past_x past_y side end ram odd ≡ Some RamT
@@ -89,29 +63,25 @@ unfolding kind_of
 upper_is device x y is =
     let lower = is_lower (nat_le (grid_width device) x) (nat_le (grid_height device) y) (is_side device x) (is_end device y)
     ((x == ram_column device) || (x + ram_column device == last_x device)) (y % 2 == 1) is in
-    let below : y < grid_height device = le-not (grid_height device) y lower.y_in in
-    let row = upper_row device y below (eq-not y (last_y device) (or-second (y == 0) (y == last_y device) lower.inner_y)) (eq-is (y % 2) 1 lower.is_odd) in
-    let past : nat_le (grid_height device) (y + 1) ≡ false = not-le (grid_height device) (y + 1) row.inside in
-    let bottom : (y + 1 == 0) ≡ false = not-eq (y + 1) 0 row.not_bottom in
-    let top : (y + 1 == last_y device) ≡ false = not-eq (y + 1) (last_y device) row.not_top in
-    let even : ((y + 1) % 2 == 1) ≡ false = not-eq ((y + 1) % 2) 1 row.even in (
+    let below : y < grid_height device = leb-false (grid_height device) y lower.y_in in
+    let row = upper_row device y below (eqb-false y (last_y device) (second_false (y == 0) (y == last_y device) lower.inner_y)) (eqb-true (y % 2) 1 lower.is_odd) in
+    let past : nat_le (grid_height device) (y + 1) ≡ false = lt-leb (grid_height device) (y + 1) row.inside in
+    let bottom : (y + 1 == 0) ≡ false = ne_eqb (y + 1) 0 row.not_bottom in
+    let top : (y + 1 == last_y device) ≡ false = ne_eqb (y + 1) (last_y device) row.not_top in
+    let even : ((y + 1) % 2 == 1) ≡ false = ne_eqb ((y + 1) % 2) 1 row.even in (
       upper_by (nat_le (grid_width device) x) (nat_le (grid_height device) (y + 1)) (is_side device x) (is_end device (y + 1))
           ((x == ram_column device) || (x + ram_column device == last_x device)) ((y + 1) % 2 == 1)
-          lower.x_in past lower.inner_x (both_false (y + 1 == 0) (y + 1 == last_y device) bottom top) lower.of_ram even,
+          lower.x_in past lower.inner_x (or_from (y + 1 == 0) (y + 1 == last_y device) bottom top) lower.of_ram even,
       below,
     )
-
-grid_height-le : (device : DeviceName) → grid_height device ≤ 34
-grid_height-le K1 = omega arith
-grid_height-le K8 = omega arith
 
 -- a lower tile of an image is that of a RAM
 pub has_ram : (image : AnyImage) (x y : ℕ) → HasTile image RamB x y → HasRam image x y
 has_ram image x y lower =
-    let upper = upper_is (device_of image) x y lower.stands in
+    let upper = upper_is (device_of image) x y lower in
     record {
       lower = lower;
-      upper = record { device = lower.device; stands = upper.0 };
+      upper = upper.0;
       room = omega (arith, upper.1, grid_height-le (device_of image));
     }
 

@@ -1,10 +1,11 @@
 -- The first user whose clock comes from no pin is the first fault of the clocks of a fabric.
-use Rattle.std.proofs.Common.{◌≡◌, ℕ, zero, suc, ◌+◌, ◌<◌, Bool, true, false, inl, inr, List, [], ◌∷◌, ◌++◌, length, map, take, get_or, refl, sym, ◌∙◌, ap}
+use Rattle.std.proofs.Common.{◌≡◌, ℕ, ◌+◌, ◌<◌, Bool, true, false, inl, inr, List, [], ◌∷◌, ◌++◌, length, map, take, get_or, refl, sym, ◌∙◌, ap}
 use Rattle.std.specs.Prelude.{Option, Some, None, All, filter, flat_map, ◌&&◌, ◌==◌, if◌then◌else◌}
 use Rattle.std.proofs.lemmas.Bool.{cases_Bool}
 use Rattle.std.proofs.lemmas.List.{take_more, map-append, append-nil}
 use Rattle.std.proofs.lemmas.List.Elements.{All-head, All-tail, filter-append}
 use Rattle.std.proofs.lemmas.Grind.{flat_map-append}
+use Rattle.place_search.proofs.Gathered.{map-gathered_below, flat_map-gathered_below}
 use Rattle.place_search.specs.Places.{gathered_below}
 use Rattle.place_search.proofs.Places.{gathered_below-none, gathered_below-same}
 use Rattle.plane_map.specs.Layout.{grid_width, grid_height}
@@ -52,30 +53,18 @@ unfolding fault
 fault_of-first [] = refl
 fault_of-first (found ∷ list) = refl
 
-map-gathered : {A B : Type 0} (change : A → B) (n : ℕ) (given : ℕ → List A) → map change (gathered_below n given) ≡ gathered_below n (λ k. map change (given k))
-unfolding gathered_below
-map-gathered change zero given = refl
-map-gathered change (suc n) given =
-    map-append change (gathered_below n given) (given n) ∙ ap (λ before. before ++ map change (given n)) (map-gathered change n given)
-
-flat_map-gathered : {A B : Type 0} (change : A → List B) (n : ℕ) (given : ℕ → List A) → flat_map change (gathered_below n given) ≡ gathered_below n (λ k. flat_map change (given k))
-unfolding gathered_below
-flat_map-gathered change zero given = refl
-flat_map-gathered change (suc n) given =
-    flat_map-append change (gathered_below n given) (given n) ∙ ap (λ before. before ++ flat_map change (given n)) (flat_map-gathered change n given)
-
 -- two ways to gather the same from all tiles
 over_grid-same : {A B C : Type 0} (device : DeviceName) (change : A → C) (gives : B → List C) (one : ℕ → ℕ → List A) (two : ℕ → ℕ → List B)
     → ((x y : ℕ) → map change (one x y) ≡ flat_map gives (two x y)) → map change (over_grid device one) ≡ flat_map gives (over_grid device two)
 unfolding over_grid
 over_grid-same device change gives one two same =
-    map-gathered change (grid_height device) (λ y. gathered_below (grid_width device) (λ x. one x y))
+    map-gathered_below change (grid_height device) (λ y. gathered_below (grid_width device) (λ x. one x y))
     ∙ (gathered_below-same (grid_height device) (λ y. map change (gathered_below (grid_width device) (λ x. one x y))) (λ y. flat_map gives (gathered_below (grid_width device) (λ x. two x y)))
     (λ y low.
-    map-gathered change (grid_width device) (λ x. one x y)
+    map-gathered_below change (grid_width device) (λ x. one x y)
     ∙ (gathered_below-same (grid_width device) (λ x. map change (one x y)) (λ x. flat_map gives (two x y)) (λ x left. same x y)
-    ∙ sym (flat_map-gathered gives (grid_width device) (λ x. two x y))))
-    ∙ sym (flat_map-gathered gives (grid_height device) (λ y. gathered_below (grid_width device) (λ x. two x y))))
+    ∙ sym (flat_map-gathered_below gives (grid_width device) (λ x. two x y))))
+    ∙ sym (flat_map-gathered_below gives (grid_height device) (λ y. gathered_below (grid_width device) (λ x. two x y))))
 
 -- ---- at a tile
 

@@ -1,11 +1,11 @@
 -- Numbers in lists.
-use Rattle.std.proofs.Common.{◌≡◌, ℕ, zero, suc, ◌<◌, ◌≤◌, true, ◌⊎◌, inl, inr, List, [], ◌∷◌, ◌++◌, length, set, get_or, sym, ap, ◌∙◌, subst, arith}
+use Rattle.std.proofs.Common.{◌≡◌, ℕ, zero, suc, ◌<◌, ◌≤◌, true, ◌⊎◌, inl, inr, List, [], ◌∷◌, ◌++◌, length, get_or, sym, ap, ◌∙◌, subst, arith}
 use Rattle.std.specs.declared.vec.Vec.{Vec}
 use Rattle.std.proofs.lemmas.Bool.{cases_lt}
-use Rattle.std.proofs.lemmas.List.{map-set, get_or-map}
+use Rattle.std.proofs.lemmas.List.{get_or-map}
 use Rattle.net_extract.specs.Wiring.{has}
 use Rattle.net_extract.proofs.Order.{has-none, has-first, has-behind, has-cases}
-use Rattle.fabric_wiring.specs.Rows.{lists_of, row_at}
+use Rattle.fabric_wiring.specs.Rows.{row_at}
 
 -- a list has what stands in it
 pub has-at : (list : List ℕ) (place : ℕ) → place < length list → has list (get_or list place 0) ≡ true
@@ -61,13 +61,6 @@ has-split (first ∷ rest) last n found =
       | inl here ↦ inl (subst (λ k. has (first ∷ rest) k ≡ true) here (has-first first rest))
       | inr behind ↦ elim (has-split rest last n behind) [ inl there ↦ inl (has-behind first rest n there) | inr here ↦ inr here ]
     ]
-
--- a number is added to one of the rows
-pub pushed : {Z : Type 0} (lists : List (Vec ℕ Z)) (at place : ℕ) (lent new : Vec ℕ Z) → at < length lists → lent ≡ get_or lists at lent → new.items ≡ lent.items ++ place ∷ []
-    → lists_of (set lists at new) ≡ set (lists_of lists) at (get_or (lists_of lists) at [] ++ place ∷ [])
-pushed {Z} lists at place lent new within lent_is more =
-    map-set (λ places. places.items) lists at new
-    ∙ ap (set (lists_of lists) at) (more ∙ ap (λ items. items ++ place ∷ []) (ap (λ (places : Vec ℕ Z). places.items) lent_is ∙ sym (get_or-map (λ places. places.items) lists at lent [] within)))
 
 -- what stands in a row is the row's part of the lists
 pub row-items : {Z : Type 0} (rows : List (Vec ℕ Z)) (at : ℕ) (row default : Vec ℕ Z) → at < length rows → row ≡ get_or rows at default → row_at rows at ≡ row.items

@@ -1,11 +1,11 @@
 -- One driver more that is entered, and what is told at the end.
-use Rattle.std.proofs.Common.{◌≡◌, ℕ, zero, suc, ◌+◌, ◌<◌, ◌≤◌, Bool, true, false, List, [], ◌∷◌, ◌++◌, append-nil, length, map, get_or, take, replicate, refl, sym, ap, ◌∙◌, subst, inl, inr, arith}
+use Rattle.std.proofs.Common.{◌≡◌, ℕ, ◌+◌, ◌<◌, ◌≤◌, Bool, true, false, List, [], ◌∷◌, ◌++◌, append-nil, length, map, get_or, take, replicate, refl, sym, ap, ◌∙◌, subst, inl, inr, arith}
 use Rattle.std.specs.Prelude.{All, Option, Some, None, slice_get, option_and_then, option_to_list, filter, nat_lt, ◌==◌, if◌then◌else◌}
 use Rattle.std.proofs.lemmas.Bool.{cases_Bool, cases_eq, eq-eqb, eqb-true, ltb-true, ltb-false}
 use Rattle.std.proofs.lemmas.List.{take_more, take_all, get_or-replicate, length-replicate}
 use Rattle.std.proofs.lemmas.List.Elements.{filter-append, All-get_or}
 use Rattle.std.proofs.lemmas.Option.{slice_get-get_or}
-use Rattle.place_search.specs.Places.{gathered_below}
+use Rattle.net_extract.proofs.Firsts.{first_of-append, first_of-alone}
 use Rattle.place_search.proofs.Places.{gathered_below-none}
 use Rattle.net_extract.specs.Links.{LinkSet, class_in}
 use Rattle.net_extract.specs.Tiles.{first_of}
@@ -27,10 +27,6 @@ added-here given drives place class drive is = rw (eq-eqb class class refl, is) 
 added-away : (given : ℕ → List KeptDrive) (drives : List KeptDrive) (place class other : ℕ) → (class == other) ≡ false
     → and_driver given drives place class other ≡ given other
 added-away given drives place class other away = rw away (append-nil (given other))
-
-first_of-kept : {A : Type 0} (list more : List A) (first : A) → first_of list ≡ Some first → first_of (list ++ more) ≡ Some first
-first_of-kept [] more first is = absurd cc
-first_of-kept (head ∷ list) more first is = is
 
 first_of-rest : {A : Type 0} (list : List A) (first : A) → first_of list ≡ Some first → (rest : List A) × (list ≡ first ∷ rest)
 first_of-rest [] first is = absurd cc
@@ -126,7 +122,7 @@ entered drives place class drive first places twice later given is within before
     record {
       firsts = λ other inside. elim (cases_eq class other) [
         | inl here ↦ subst (λ net. option_and_then (slice_get drives) (get_or places net None) ≡ first_of (more net)) here
-            (before ∙ sym (ap first_of grown.here ∙ first_of-kept (given class) (drive ∷ []) first has_first))
+            (before ∙ sym (ap first_of grown.here ∙ first_of-append (given class) (drive ∷ []) first has_first))
         | inr away ↦ passed.firsts other inside ∙ ap first_of (sym (grown.away other away))
       ];
       least = rw told (more-told (length places) class drive first parts.0 given more twice grown within parts.1 passed.least);
@@ -208,26 +204,9 @@ unfolding faults_in
 none-told links drives places passed same =
     ap first_of (gathered_below-none (length links.classes) (fault_in (drivers_in links drives)) (λ class below. passed.least class (omega (arith, below, same))))
 
-first_of-more : {A : Type 0} (list more : List A) → list ≡ [] → first_of (list ++ more) ≡ first_of more
-first_of-more [] more none = refl
-first_of-more (item ∷ list) more none = absurd cc
-
--- the first of lists of which the first ones are empty
-first-gathered : {A : Type 0} (n k : ℕ) (given : ℕ → List A) (item : A) → k < n → given k ≡ item ∷ [] → ((j : ℕ) → j < k → given j ≡ [])
-    → first_of (gathered_below n given) ≡ Some item
-unfolding gathered_below
-first-gathered zero k given item below here before = absurd (omega arith)
-first-gathered (suc n) k given item below here before =
-    elim (cases_eq k n) [
-      | inl last ↦
-          let none : gathered_below n given ≡ [] = gathered_below-none n given (λ j less. before j (omega (arith, last, less))) in
-          first_of-more (gathered_below n given) (given n) none ∙ ap (λ j. first_of (given j)) (sym last) ∙ ap first_of here
-      | inr earlier ↦ first_of-kept (gathered_below n given) (given n) item (first-gathered n k given item (omega arith) here before)
-    ]
-
 pub least-told : (links : LinkSet) (drives : List KeptDrive) (places : List (Option ℕ)) (twice : Twice) → ArePassed drives (drivers_in links drives) places (Some twice)
     → length places ≡ length links.classes → first_of (faults_in links drives) ≡ Some (two_drivers twice.net twice.first twice.second)
 unfolding faults_in
 least-told links drives places twice passed same =
-    first-gathered (length links.classes) twice.net (fault_in (drivers_in links drives)) (two_drivers twice.net twice.first twice.second)
+    first_of-alone (length links.classes) twice.net (fault_in (drivers_in links drives)) (two_drivers twice.net twice.first twice.second)
     (omega (arith, passed.least.within, same)) passed.least.here passed.least.before

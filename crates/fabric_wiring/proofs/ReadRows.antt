@@ -5,8 +5,8 @@ use Rattle.std.specs.Prelude.{flat_map, option_to_list, Option, Some, None, is_s
 use Rattle.std.specs.declared.vec.Vec.{Vec}
 use Rattle.std.proofs.Math.ListN.{get_or-append}
 use Rattle.std.proofs.lemmas.Bool.{cases_lt, cases_Bool}
-use Rattle.std.proofs.lemmas.List.{take_more, map-append, append-nil, get_or_past}
-use Rattle.std.proofs.lemmas.Grind.{flat_map-append}
+use Rattle.std.proofs.lemmas.List.{map-append, append-nil, get_or_past}
+use Rattle.shared_lemmas.proofs.Lists.{map-every, flat_map-more}
 use Rattle.net_extract.specs.declared.cell.Lc.{Lc}
 use Rattle.net_extract.specs.Joins.{class_of}
 use Rattle.net_extract.specs.Fabric.{Fabric}
@@ -54,10 +54,8 @@ rows-more {Z} rows row given n long known is k less =
 pub reads-more : (change : ℕ → ℕ) (nets : List (Option ℕ)) (i : ℕ) (d : Option ℕ) → i < length nets
     → map change (flat_map option_to_list (take (i + 1) nets)) ≡ map change (flat_map option_to_list (take i nets)) ++ map change (option_to_list (get_or nets i d))
 reads-more change nets i d there =
-    ap (λ l. map change (flat_map option_to_list l)) (take_more nets i d there)
-    ∙ ap (map change) (flat_map-append option_to_list (take i nets) (get_or nets i d ∷ []))
-    ∙ map-append change (flat_map option_to_list (take i nets)) (option_to_list (get_or nets i d) ++ [])
-    ∙ ap (λ l. map change (flat_map option_to_list (take i nets)) ++ map change l) (append-nil (option_to_list (get_or nets i d)))
+    ap (map change) (flat_map-more option_to_list nets i d there)
+    ∙ map-append change (flat_map option_to_list (take i nets)) (option_to_list (get_or nets i d))
 
 -- the nets that a rule reads, from a list of those that may be missing
 pub read-back : (net : Option ℕ) → option_to_list net ++ [] ≡ nets_read (sent_back net)
@@ -69,10 +67,6 @@ unfolding nets_read
 read-carry lc = ap (λ l. option_to_list (get_or lc.ins 1 None) ++ (option_to_list (get_or lc.ins 2 None) ++ l)) (append-nil (option_to_list lc.cin))
 
 -- ---- the wiring
-
-map-cong : (one two : ℕ → ℕ) → ((n : ℕ) → one n ≡ two n) → (list : List ℕ) → map one list ≡ map two list
-map-cong one two same [] = refl
-map-cong one two same (n ∷ list) = let first = same n in let rest = map-cong one two same list in cc
 
 -- a number in a changed list comes from one in the list
 has-changed : (change : ℕ → ℕ) (list : List ℕ) (n : ℕ) → has (map change list) n ≡ true → (m : ℕ) × (has list m ≡ true) × (change m ≡ n)
@@ -98,7 +92,7 @@ module _ (fabric : Fabric) where
       → drivers_of fabric class ≡ map drive_of (option_to_list drive) → row_in links drive ≡ (wiring_of_fabric fabric).reads class
   row-kept links same class None is = sym (reads-drivers class [] is)
   row-kept links same class (Some drive) is =
-      map-cong (class_in links) (class_of fabric.joins) same (nets_read (drive_of drive).rule)
+      map-every (class_in links) (class_of fabric.joins) same (nets_read (drive_of drive).rule)
       ∙ sym (append-nil (map (class_of fabric.joins) (nets_read (drive_of drive).rule)))
       ∙ sym (reads-drivers class (drive_of drive ∷ []) is)
 

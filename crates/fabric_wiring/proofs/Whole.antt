@@ -1,25 +1,15 @@
 -- Where classes are written one by one until none can be, all are written if there is a write order, and some class lies on a
 -- cycle if there is none.
-use Rattle.std.proofs.Common.{◌≡◌, ℕ, zero, suc, ◌<◌, ◌≤◌, Bool, true, false, ◌⊎◌, inl, inr, List, [], ◌∷◌, ◌++◌, length, take, get_or, refl, sym, ap, ◌∙◌, subst, arith}
+use Rattle.std.proofs.Common.{◌≡◌, ℕ, zero, suc, ◌<◌, ◌≤◌, Bool, true, inl, inr, List, [], ◌∷◌, ◌++◌, length, take, get_or, refl, sym, ap, ◌∙◌, subst, arith, take-suc, take_all}
 use Rattle.std.specs.declared.vec.Vec.{Vec}
-use Rattle.std.proofs.lemmas.Bool.{cases_lt, cases_Bool}
+use Rattle.std.proofs.lemmas.Bool.{cases_lt}
+use Rattle.shared_lemmas.proofs.Searches.{some_or_none}
 use Rattle.net_extract.specs.Wiring.{Wiring, has, is_on_cycle, IsReady, IsLeastReady, IsWriteOrder}
 use Rattle.net_extract.proofs.Cycles.{IsBounded}
 use Rattle.net_extract.proofs.Order.{has-none, least-one, ready-same}
 use Rattle.net_extract.proofs.Ordered.{write_order-there}
 use Rattle.fabric_wiring.specs.Rows.{is_marked, row_at, wiring_of}
 use Rattle.fabric_wiring.specs.Ready.{IsWritten}
-
-take-next : (list : List ℕ) (n : ℕ) → n < length list → take (suc n) list ≡ take n list ++ get_or list n 0 ∷ []
-take-next [] n within = absurd (omega arith)
-take-next (first ∷ rest) zero within = refl
-take-next (first ∷ rest) (suc n) within = ap (λ l. first ∷ l) (take-next rest n (omega arith))
-
-take-all : (list : List ℕ) (n : ℕ) → length list ≤ n → take n list ≡ list
-take-all [] zero over = refl
-take-all [] (suc n) over = refl
-take-all (first ∷ rest) zero over = absurd (omega arith)
-take-all (first ∷ rest) (suc n) over = ap (λ l. first ∷ l) (take-all rest n (omega arith))
 
 module _ (wiring : Wiring) (written : ℕ → Bool) (part order : List ℕ) (before : IsWritten wiring written part) (is : IsWriteOrder wiring order) where
   -- what was written stands first in the order
@@ -38,10 +28,10 @@ module _ (wiring : Wiring) (written : ℕ → Bool) (part order : List ℕ) (bef
             let one : get_or part n 0 ≡ get_or order n 0 = least-one wiring (has (take n part)) (get_or part n 0) (get_or order n 0) here there in
             record {
               few = less;
-              same = take-next part n (omega arith) ∙ ap (λ l. l ++ get_or part n 0 ∷ []) so_far.same ∙ ap (λ k. take n order ++ k ∷ []) one ∙ sym (take-next order n less);
+              same = take-suc part n 0 (omega arith) ∙ ap (λ l. l ++ get_or part n 0 ∷ []) so_far.same ∙ ap (λ k. take n order ++ k ∷ []) one ∙ sym (take-suc order n 0 less);
             }
         | inr more ↦
-            let all : take n part ≡ order = so_far.same ∙ take-all order n more in
+            let all : take n part ≡ order = so_far.same ∙ take_all n order more in
             let listed : has (take n part) (get_or part n 0) ≡ true = ap (λ l. has l (get_or part n 0)) all ∙ is.whole (get_or part n 0) here.ready.within here.ready.driven in
             absurd (cc (listed, here.ready.unlisted))
       ]
@@ -51,13 +41,13 @@ module _ (wiring : Wiring) (written : ℕ → Bool) (part order : List ℕ) (bef
   stuck-whole stuck class within driven =
       let n = length part in
       let so_far = stands-first n (omega arith) in
-      let first : part ≡ take n order = sym (take-all part n (omega arith)) ∙ so_far.same in
+      let first : part ≡ take n order = sym (take_all n part (omega arith)) ∙ so_far.same in
       elim (cases_lt n (length order)) [
         | inl less ↦
             let next = is.each n less in
             absurd (stuck (get_or order n 0) (ready-same wiring (has (take n order)) written (get_or order n 0) (λ k. ap (λ l. has l k) (sym first) ∙ sym (before.marks k)) next.ready))
         | inr more ↦
-            before.marks class ∙ ap (λ l. has l class) (first ∙ take-all order n more) ∙ is.whole class within driven
+            before.marks class ∙ ap (λ l. has l class) (first ∙ take_all n order more) ∙ is.whole class within driven
       ]
 
 -- where all are written, this is the order
@@ -68,31 +58,17 @@ whole-order wiring written order before all = record {
   whole = λ class within driven. sym (before.marks class) ∙ all class within driven;
 }
 
--- a number below a bound that passes, or none does
-some-or-none : (n : ℕ) (test : ℕ → Bool) → ((k : ℕ) × (k < n) × (test k ≡ true)) ⊎ ((k : ℕ) → k < n → test k ≡ false)
-some-or-none zero test = inr (λ k within. absurd (omega arith))
-some-or-none (suc n) test =
-    elim (cases_Bool (test n)) [
-      | inl here ↦ inl (n, omega arith, here)
-      | inr away ↦ elim (some-or-none n test) [
-        | inl some ↦ inl (some.0, omega (arith, some.1), some.2)
-        | inr none ↦ inr (λ k within. elim (cases_lt k n) [
-          | inl less ↦ none k less
-          | inr more ↦ let same : n ≡ k = omega arith in subst (λ j. test j ≡ false) same away
-        ])
-      ]
-    ]
-
 -- a wiring without a write order has a cycle
 pub cycle-there : (wiring : Wiring) → IsBounded wiring → ((order : List ℕ) → IsWriteOrder wiring order → ⊥)
     → (class : ℕ) × (class < wiring.count) × (is_on_cycle wiring class ≡ true)
 cycle-there wiring bounded none =
-    elim (some-or-none wiring.count (is_on_cycle wiring)) [
+    elim (some_or_none wiring.count (is_on_cycle wiring)) [
       | inl some ↦ some
       | inr open_ ↦ let there = write_order-there wiring bounded open_ in absurd (none there.0 there.1)
     ]
 
-marked-within : (marks : List Bool) (k : ℕ) → is_marked marks k ≡ true → k < length marks
+-- a class that is marked has a mark
+pub marked-within : (marks : List Bool) (k : ℕ) → is_marked marks k ≡ true → k < length marks
 marked-within [] k set = absurd cc
 marked-within (first ∷ rest) zero set = omega arith
 marked-within (first ∷ rest) (suc k) set = let less = marked-within rest k set in omega (arith, less)

@@ -1,5 +1,5 @@
 -- One class more is written.
-use Rattle.std.proofs.Common.{◌≡◌, ◌≢◌, ℕ, zero, suc, ◌<◌, ◌≤◌, Bool, true, false, not, inl, inr, List, [], ◌∷◌, ◌++◌, length, take, get_or, set, refl, sym, ap, ◌∙◌, subst, arith, get_or-set_same, get_or-set_other}
+use Rattle.std.proofs.Common.{◌≡◌, ◌≢◌, ℕ, ◌<◌, ◌≤◌, Bool, true, false, not, inl, inr, List, [], ◌∷◌, ◌++◌, length, take, get_or, set, refl, sym, ap, ◌∙◌, subst, arith, get_or-set_same, get_or-set_other}
 use Rattle.std.specs.Ordering.{nat_cmp}
 use Rattle.std.specs.Ordering.{is_eq, is_gt}
 use Rattle.std.specs.declared.cmp.Ordering.TheVariants.{Less, Greater}
@@ -7,7 +7,7 @@ use Rattle.std.specs.Cmp.{nat_cmp_is}
 use Rattle.std.specs.BTreeMap.{is_at}
 use Rattle.std.specs.BTreeSet.{BTreeSet, contains, Updates, IsLowerBound}
 use Rattle.std.proofs.lemmas.Bool.{cases_lt, cases_eq, cases_Bool, false_from_ne_true}
-use Rattle.std.proofs.lemmas.List.{take-append-le, length-append}
+use Rattle.std.proofs.lemmas.List.{take-append-le, length-append, get_or_append_left, get_or_push, take_at}
 use Rattle.net_extract.specs.Wiring.{Wiring, has, depends, IsReady, IsLeastReady}
 use Rattle.net_extract.proofs.Order.{has-none, least-same}
 use Rattle.net_extract.proofs.Ordered.{count_below, count_below-lt}
@@ -50,19 +50,6 @@ has-apart order class k apart =
       | inr missing ↦ missing ∙ sym (false_from_ne_true _ (λ found. elim (has-split order class k found) [ inl there ↦ absurd (cc (there, missing)) | inr here ↦ absurd (apart (sym here)) ]))
     ]
 
-get_or-before : (order : List ℕ) (class place : ℕ) → place < length order → get_or (order ++ class ∷ []) place 0 ≡ get_or order place 0
-get_or-before [] class place within = absurd (omega arith)
-get_or-before (first ∷ rest) class zero within = refl
-get_or-before (first ∷ rest) class (suc place) within = get_or-before rest class place (omega arith)
-
-get_or-end : (order : List ℕ) (class : ℕ) → get_or (order ++ class ∷ []) (length order) 0 ≡ class
-get_or-end [] class = refl
-get_or-end (first ∷ rest) class = get_or-end rest class
-
-take-whole : (order : List ℕ) (class : ℕ) → take (length order) (order ++ class ∷ []) ≡ order
-take-whole [] class = refl
-take-whole (first ∷ rest) class = ap (λ l. first ∷ l) (take-whole rest class)
-
 module _ (wiring : Wiring) (old new : ℕ → Bool) (class : ℕ) (marks : Marks old new class) where
   -- what can be written still can, but for the class itself
   pub ready-kept : (k : ℕ) → k ≢ class → IsReady wiring old k → IsReady wiring new k
@@ -99,14 +86,14 @@ module _ (wiring : Wiring) (old new : ℕ → Bool) (class : ℕ) (marks : Marks
       | inr apart ↦ marks.other k apart ∙ before.marks k ∙ has-apart order class k apart
     ];
     each = λ place within. elim (cases_lt place (length order)) [
-      | inl less ↦ subst (λ n. IsLeastReady wiring (has (take place (order ++ class ∷ []))) n) (sym (get_or-before order class place less))
+      | inl less ↦ subst (λ n. IsLeastReady wiring (has (take place (order ++ class ∷ []))) n) (sym (get_or_append_left order (class ∷ []) 0 place less))
           (subst (λ part. IsLeastReady wiring (has part) (get_or order place 0)) (sym (take-append-le place order (class ∷ []) (omega arith))) (before.each place less))
       | inr more ↦
           let long = length-append order (class ∷ []) in
           let same : length order ≡ place = omega (arith, long) in
           subst (λ n. IsLeastReady wiring (has (take n (order ++ class ∷ []))) (get_or (order ++ class ∷ []) n 0)) same
-          (subst (λ n. IsLeastReady wiring (has (take (length order) (order ++ class ∷ []))) n) (sym (get_or-end order class))
-          (subst (λ part. IsLeastReady wiring (has part) class) (sym (take-whole order class)) (least-same wiring old (has order) class before.marks least)))
+          (subst (λ n. IsLeastReady wiring (has (take (length order) (order ++ class ∷ []))) n) (sym (get_or_push order class 0 (length order) refl))
+          (subst (λ part. IsLeastReady wiring (has part) class) (sym (take_at order (class ∷ []) (length order) refl)) (least-same wiring old (has order) class before.marks least)))
     ];
   }
 

@@ -9,15 +9,12 @@ use Rattle.plane_map.specs.declared.tile.TileKind.TheVariants.{Io, Logic}
 use Rattle.ice_image.specs.Configuration.{Configuration, usual_settings}
 use Rattle.ice_image.specs.Owned.{is_same_place}
 use Rattle.ice_image.specs.Bits.{Bit, OfTile, OfWord, Extra, image_from}
+use Rattle.net_extract.specs.Cells.{entry_bits}
 use Rattle.ice_gen.specs.Draws.{draw, has_bit}
 use Rattle.ice_gen.specs.Numbers.{cells, rams, cell_number, ram_number}
 use Rattle.ice_gen.specs.Database.{pad_drive}
 
 -- ---- cells
-
--- where the entries of a cell's LUT stand among its twenty bits, entry 0 first
-abbrev pub entry_bits : List ℕ
-entry_bits = 4 ∷ 14 ∷ 15 ∷ 5 ∷ 6 ∷ 16 ∷ 17 ∷ 7 ∷ 3 ∷ 13 ∷ 12 ∷ 2 ∷ 1 ∷ 11 ∷ 10 ∷ 0 ∷ []
 
 -- Entry k of a LUT is bit k of a draw, and entry 0 is always 1, so that each cell is used.
 abbrev pub is_entry : ℕ → ℕ → Bool

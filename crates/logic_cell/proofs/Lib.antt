@@ -1,1 +1,2 @@
+-- nets that are set
 pub mod Found

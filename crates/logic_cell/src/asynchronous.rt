@@ -9,10 +9,9 @@ ghost use Rattle.net_extract.specs.Tiles.{first_of};
 ghost use Rattle.net_extract.specs.TilesOfKind.{HasTile};
 ghost use Rattle.logic_cell.specs.Faults.{async_at, async_faults_in, fault_at};
 
-use crate::bits::cell_bits;
 use chipdb_reader::{ChipDb, TileXy8};
 use ice_image::AnyImage;
-use net_extract::listed_bit;
+use net_extract::{cell_places, listed_bit};
 use plane_map::TileKind;
 
 /// Cell `i` of the tile at (x, y).
@@ -50,11 +49,12 @@ fn async_cell(db: &ChipDb, image: &AnyImage, x: u8, y: u8) -> Option<CellAt>
 }
 
 /// Whether a cell is such.
+#[tactic(auto, unfolding(net_extract::specs::Cells::cell_bits))]
 fn is_async(db: &ChipDb, image: &AnyImage, x: u8, y: u8, i: u8) -> bool
     requires { HasTile image.now Logic x y }
     ensures { result ≡ is_async_flip (cell_bits (database_in db.now) (configuration_of image.now) x y i) }
 {
-    let bits = cell_bits(db, i);
+    let bits = cell_places(db, i);
     listed_bit(image, TileKind::Logic, x, y, bits, 9)
         && listed_bit(image, TileKind::Logic, x, y, bits, 19)
 }

@@ -8,11 +8,10 @@ ghost use Rattle.net_extract.specs.Cells.{cell_with};
 ghost use Rattle.net_extract.specs.On.{bits_at};
 ghost use Rattle.net_extract.specs.TilesOfKind.{HasTile};
 
-use crate::bits::lut;
 use crate::ports::{carry_in_net, input_nets, lutff_net};
 use chipdb_reader::ChipDb;
 use ice_image::AnyImage;
-use net_extract::{CarrySet, Lc, is_on, listed_bit};
+use net_extract::{CarrySet, Lc, is_on, listed_bit, lut};
 use plane_map::{RowCol, TileKind};
 
 /// The used logic cells by tile and index, and the carry inputs that are set by tile. Tiles go by rows, then by columns.

@@ -10,12 +10,11 @@ ghost use Rattle.net_extract.specs.TilesOfKind.{HasTile, tiles_of};
 ghost use Rattle.logic_cell.specs.Faults.{IsCause};
 
 use crate::asynchronous::first_async;
-use crate::bits::{cell_bits, is_used};
 use crate::cell::{Cells, cell};
 use crate::fault::LcFault;
 use chipdb_reader::{ChipDb, TileXy8};
 use ice_image::AnyImage;
-use net_extract::{CarrySet, Lc, is_on, tiles_of_image};
+use net_extract::{CarrySet, Lc, cell_places, is_on, is_one_set, tiles_of_image};
 use plane_map::TileKind;
 use std::alloc::{AllocError, Global};
 
@@ -92,6 +91,7 @@ fn append_cells(
 }
 
 /// Appends a cell where it is used.
+#[tactic(auto, unfolding(net_extract::specs::Cells::cell_bits))]
 fn append_cell(
     lcs: &mut Vec<Lc>,
     db: &ChipDb,
@@ -103,8 +103,8 @@ fn append_cell(
     requires { HasTile image.now Logic x y }
     ensures { OnOk result (lcs.new.items ≡ lcs.old.items ++ used_cell (database_in db.now) (configuration_of image.now) x y i) }
 {
-    let bits = cell_bits(db, i);
-    if is_used(image, x, y, bits) {
+    let bits = cell_places(db, i);
+    if is_one_set(image, TileKind::Logic, x, y, bits) {
         lcs.push(cell(db, image, x, y, i, bits))?;
     }
     Ok(())

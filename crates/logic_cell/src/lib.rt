@@ -2,7 +2,6 @@
 #![tactic(auto)]
 
 mod asynchronous;
-mod bits;
 mod cell;
 mod fault;
 mod gather;

@@ -1,7 +1,7 @@
 -- Clock chains: where the search for the end of a chain comes to is its end, and a net has the value of the end of its chain.
 use Rattle.std.proofs.Common.{◌≡◌, ℕ, zero, suc, ◌+◌, ◌<◌, ◌≤◌, Bool, true, false, List, [], ◌∷◌, length, get_or, refl, sym, ap, ◌∙◌, subst, arith, inl, inr}
 use Rattle.std.proofs.lemmas.Bool.{cases_Bool}
-use Rattle.bit_plane.specs.BitList.{bit_value}
+use Rattle.bit_plane.proofs.Words.{bit_value-le}
 use Rattle.net_extract.specs.Joins.{class_of}
 use Rattle.net_extract.specs.Fabric.{Fabric}
 use Rattle.net_extract.specs.Drivers.{Rule, Drive, drivers_of, is_driven, nets_read}
@@ -29,14 +29,10 @@ leads-one {fabric} {class} {a} {b} (goes_on net p rest) (goes_on source q more) 
 
 -- ---- an order has at most as many classes as there are
 
-bit-small : (b : Bool) → bit_value b ≤ 1
-bit-small true = omega arith
-bit-small false = omega arith
-
 count_below-le_all : (n : ℕ) (test : ℕ → Bool) → count_below n test ≤ n
 unfolding count_below
 count_below-le_all zero test = omega arith
-count_below-le_all (suc n) test = omega (arith, count_below-le_all n test, bit-small (test n))
+count_below-le_all (suc n) test = omega (arith, count_below-le_all n test, bit_value-le (test n))
 
 module _ (wiring : Wiring) where
   continues-few : {before order : List ℕ} → Continues wiring before order → length order ≤ count_below wiring.count (is_left wiring (has before))

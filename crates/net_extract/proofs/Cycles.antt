@@ -1,8 +1,8 @@
 -- A class passes the test for cycles exactly where it lies on one.
 use Rattle.std.proofs.Common.{◌≡◌, ℕ, zero, suc, ◌<◌, true, inl, inr, List, [], ◌∷◌, ◌++◌, subst, arith}
-use Rattle.std.proofs.lemmas.Bool.{cases_lt}
+use Rattle.std.proofs.lemmas.Bool.{cases_lt, or_cases, or_left, or_right, and_from}
+use Rattle.shared_lemmas.proofs.Tests.{first_true, second_true}
 use Rattle.net_extract.specs.Wiring.{Wiring, depends, IsPath, IsCycle, leads_below, is_on_cycle}
-use Rattle.net_extract.proofs.Tests.{or-cases, or-left, or-right, and-left, and-right, and-both}
 
 -- classes that have a driver, or depend on any, are below the bound
 pub record IsBounded (wiring : Wiring) : Type 0 where
@@ -23,11 +23,11 @@ module _ (wiring : Wiring) where
   unfolding leads_below
   leads_below-path zero a b passes = ([], passes)
   leads_below-path (suc n) a b passes =
-      elim (or-cases (leads_below wiring n a b) _ passes) [
+      elim (or_cases (leads_below wiring n a b) _ passes) [
         | inl without ↦ leads_below-path n a b without
         | inr through ↦
-            let first = leads_below-path n a n (and-left _ _ through) in
-            let second = leads_below-path n n b (and-right _ _ through) in
+            let first = leads_below-path n a n (first_true _ _ through) in
+            let second = leads_below-path n n b (second_true _ _ through) in
             (first.0 ++ n ∷ second.0, path-then a n b first.0 second.0 first.1 second.1)
       ]
 
@@ -41,15 +41,15 @@ module _ (wiring : Wiring) where
   leads-how : (n a b : ℕ) → leads_below wiring (suc n) a b ≡ true → Leads n a b
   unfolding leads_below
   leads-how n a b passes =
-      elim (or-cases (leads_below wiring n a b) _ passes) [
+      elim (or_cases (leads_below wiring n a b) _ passes) [
         | inl this ↦ without this
-        | inr that ↦ through (and-left _ _ that) (and-right _ _ that)
+        | inr that ↦ through (first_true _ _ that) (second_true _ _ that)
       ]
 
   leads-so : (n a b : ℕ) → Leads n a b → leads_below wiring (suc n) a b ≡ true
   unfolding leads_below
-  leads-so n a b (without this) = or-left _ _ this
-  leads-so n a b (through first second) = or-right _ _ (and-both _ _ first second)
+  leads-so n a b (without this) = or_left _ _ this
+  leads-so n a b (through first second) = or_right _ _ (and_from _ _ first second)
 
   -- the parts at the class itself
   leads-to-last : (n a : ℕ) → Leads n a n → leads_below wiring n a n ≡ true
@@ -84,7 +84,7 @@ module _ (wiring : Wiring) where
   pub leads_below-step : (n a b : ℕ) → depends wiring a b ≡ true → leads_below wiring n a b ≡ true
   unfolding leads_below
   leads_below-step zero a b step = step
-  leads_below-step (suc n) a b step = or-left _ _ (leads_below-step n a b step)
+  leads_below-step (suc n) a b step = or_left _ _ (leads_below-step n a b step)
 
   module _ (bounded : IsBounded wiring) where
     path-bound : (a b : ℕ) (rest : List ℕ) → IsPath wiring a rest b → a < wiring.count

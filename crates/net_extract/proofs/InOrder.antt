@@ -1,31 +1,21 @@
 -- Lists over the tiles of a kind.
-use Rattle.std.proofs.Common.{◌≡◌, ℕ, zero, suc, ◌+◌, ◌<◌, ◌≤◌, Bool, true, false, List, [], ◌∷◌, ◌++◌, append-nil, append_assoc, take, take_all, length, get_or, refl, sym, ap, ◌∙◌, inl, inr, arith}
+use Rattle.std.proofs.Common.{◌≡◌, ℕ, zero, suc, ◌+◌, ◌<◌, ◌≤◌, Bool, true, false, List, [], ◌∷◌, ◌++◌, append-nil, take, take_all, length, get_or, refl, sym, ap, ◌∙◌, arith}
 use Rattle.std.specs.Prelude.{All, Option, Some, None, if◌then◌else◌}
 use Rattle.std.specs.List.{flat_map}
-use Rattle.std.proofs.lemmas.Grind.{flat_map-append}
-use Rattle.std.proofs.lemmas.List.{take_more}
-use Rattle.std.proofs.lemmas.Bool.{cases_eq}
 use Rattle.place_search.specs.Places.{gathered_below}
-use Rattle.std.proofs.lemmas.List.Elements.{All-append, All-nil, All-push}
+use Rattle.std.proofs.lemmas.List.Elements.{All-nil, All-push}
+use Rattle.net_extract.proofs.Firsts.{first_of-append}
+use Rattle.place_search.proofs.Gathered.{All-gathered_below, flat_map-gathered_below}
+use Rattle.shared_lemmas.proofs.Lists.{append_empty, flat_map-more}
 use Rattle.place_search.proofs.Places.{gathered_below-same, gathered_below-more}
 use Rattle.plane_map.specs.Layout.{kind_of, grid_width, grid_height}
 use Rattle.plane_map.specs.declared.device.DeviceName.{DeviceName}
-use Rattle.plane_map.specs.declared.device.DeviceName.TheVariants.{K1, K8}
 use Rattle.plane_map.specs.declared.tile.TileKind.{TileKind}
 use Rattle.plane_map.specs.declared.tile.TileKind.TheVariants.{Io, Logic, RamB, RamT}
 use Rattle.chipdb_lines.specs.Statements.{is_kind_there, is_same_kind}
 use Rattle.chipdb_reader.specs.declared.items.TileXy8.{TileXy8}
 use Rattle.net_extract.specs.Tiles.{over_tiles, over_grid, at_kind, first_of, item_if}
 use Rattle.net_extract.specs.TilesOfKind.{tiles_of, tile_if}
-
--- a grid is small
-pub grid_width-le : (device : DeviceName) → grid_width device ≤ 34
-grid_width-le K1 = omega arith
-grid_width-le K8 = omega arith
-
-pub grid_height-le : (device : DeviceName) → grid_height device ≤ 34
-grid_height-le K1 = omega arith
-grid_height-le K8 = omega arith
 
 -- a kind is the same as itself alone
 pub is_same_kind-is : (a b : TileKind) → is_same_kind a b ≡ true → a ≡ b
@@ -72,13 +62,6 @@ pub is_kind_there-here : (kind : TileKind) (there : Option TileKind) → there �
 is_kind_there-here kind None there = absurd cc
 is_kind_there-here kind (Some other) there = let same : other ≡ kind = cc in is_same_kind-itself other kind same
 
--- what lists of places give
-pub flat_map-gathered_below : {A B : Type 0} (n : ℕ) (f : A → List B) (given : ℕ → List A) → flat_map f (gathered_below n given) ≡ gathered_below n (λ k. flat_map f (given k))
-unfolding gathered_below
-flat_map-gathered_below zero f given = refl
-flat_map-gathered_below (suc n) f given =
-    flat_map-append f (gathered_below n given) (given n) ∙ ap (λ before. before ++ flat_map f (given n)) (flat_map-gathered_below n f given)
-
 -- what one tile gives
 tile_given : {A : Type 0} (there : Bool) (tile : TileXy8) (given : TileXy8 → List A)
     → flat_map given (if there then tile ∷ [] else []) ≡ (if there then given tile else [])
@@ -91,17 +74,11 @@ pub over_tiles-listed : {A : Type 0} (device : DeviceName) (kind : TileKind) (gi
 unfolding tiles_of over_grid
 over_tiles-listed device kind given =
     let each : TileXy8 → List _ = λ tile. given tile.x tile.y in
-    sym (flat_map-gathered_below (grid_height device) each (λ y. gathered_below (grid_width device) (λ x. tile_if device kind x y))
+    sym (flat_map-gathered_below each (grid_height device) (λ y. gathered_below (grid_width device) (λ x. tile_if device kind x y))
     ∙ gathered_below-same (grid_height device) (λ y. flat_map each (gathered_below (grid_width device) (λ x. tile_if device kind x y))) (λ y. gathered_below (grid_width device) (λ x. at_kind device kind given x y))
-    (λ y below. flat_map-gathered_below (grid_width device) each (λ x. tile_if device kind x y)
+    (λ y below. flat_map-gathered_below each (grid_width device) (λ x. tile_if device kind x y)
     ∙ gathered_below-same (grid_width device) (λ x. flat_map each (tile_if device kind x y)) (λ x. at_kind device kind given x y)
     (λ x inside. tile_given (is_kind_there kind (kind_of device x y)) (record { x = x; y = y }) each)))
-
--- all items of lists of places
-pub All-gathered_below : {A : Type 0} (P : A → Type 0) (n : ℕ) (given : ℕ → List A) → ((k : ℕ) → All P (given k)) → All P (gathered_below n given)
-unfolding gathered_below
-All-gathered_below P zero given each = All-nil P
-All-gathered_below P (suc n) given each = All-append P (gathered_below n given) (given n) (All-gathered_below P n given each) (each n)
 
 abbrev Stands : DeviceName → TileKind → TileXy8 → Type 0
 Stands device kind tile = kind_of device tile.x tile.y ≡ Some kind
@@ -116,19 +93,10 @@ pub tiles_of-stand : (device : DeviceName) (kind : TileKind) → All (λ (tile :
 unfolding tiles_of over_grid
 tiles_of-stand device kind =
     All-gathered_below (Stands device kind) (grid_height device) (λ y. gathered_below (grid_width device) (λ x. tile_if device kind x y))
-    (λ y. All-gathered_below (Stands device kind) (grid_width device) (λ x. tile_if device kind x y)
-    (λ x. stands_if device kind x y (is_kind_there kind (kind_of device x y)) refl))
+    (λ y low. All-gathered_below (Stands device kind) (grid_width device) (λ x. tile_if device kind x y)
+    (λ x left. stands_if device kind x y (is_kind_there kind (kind_of device x y)) refl))
 
 -- ---- lists that grow place by place
-
-pub grown-none : {A : Type 0} (before : List A) (given : ℕ → List A) → before ≡ before ++ gathered_below 0 given
-unfolding gathered_below
-grown-none before given = sym (append-nil before)
-
-pub grown-more : {A : Type 0} (before now later : List A) (n : ℕ) (given : ℕ → List A) → now ≡ before ++ gathered_below n given
-    → later ≡ now ++ given n → later ≡ before ++ gathered_below (n + 1) given
-grown-more before now later n given so_far more =
-    more ∙ ap (λ items. items ++ given n) so_far ∙ append_assoc before (gathered_below n given) (given n) ∙ ap (λ items. before ++ items) (sym (gathered_below-more n given))
 
 -- the same of a list that was empty
 pub grown_alone-more : {A : Type 0} (now later : List A) (n : ℕ) (given : ℕ → List A) → now ≡ gathered_below n given
@@ -143,11 +111,7 @@ gathered-none given items = refl
 pub gathered-more : {A B : Type 0} (given : A → List B) (items : List A) (k : ℕ) (d : A) (now later : List B) → k < length items
     → now ≡ flat_map given (take k items) → later ≡ now ++ given (get_or items k d) → later ≡ flat_map given (take (k + 1) items)
 gathered-more given items k d now later inside so_far more =
-    let item = get_or items k d in
-    more ∙ ap (λ before. before ++ given item) so_far
-    ∙ ap (λ one. flat_map given (take k items) ++ one) (sym (append-nil (given item)))
-    ∙ sym (flat_map-append given (take k items) (item ∷ []))
-    ∙ ap (flat_map given) (sym (take_more items k d inside))
+    more ∙ ap (λ before. before ++ given (get_or items k d)) so_far ∙ sym (flat_map-more given items k d inside)
 
 pub gathered-all : {A B : Type 0} (given : A → List B) (items : List A) (k : ℕ) (now : List B) → length items ≤ k
     → now ≡ flat_map given (take k items) → now ≡ flat_map given items
@@ -155,43 +119,16 @@ gathered-all given items k now past so_far = so_far ∙ ap (flat_map given) (tak
 
 -- ---- the first of such a list
 
-first_of-append : {A : Type 0} (first rest : List A) (item : A) → first_of first ≡ Some item → first_of (first ++ rest) ≡ Some item
-first_of-append [] rest item is = absurd cc
-first_of-append (other ∷ first) rest item is = is
-
--- what the first place gives that gives something
-pub first_of-gathered_below : {A : Type 0} (n k : ℕ) (given : ℕ → List A) (item : A) → k < n → gathered_below k given ≡ [] → first_of (given k) ≡ Some item
-    → first_of (gathered_below n given) ≡ Some item
-unfolding gathered_below
-first_of-gathered_below zero k given item below none is = absurd (omega arith)
-first_of-gathered_below (suc n) k given item below none is =
-    elim (cases_eq k n) [
-      | inl last ↦
-          let here : first_of (given n) ≡ Some item = ap (λ j. first_of (given j)) (sym last) ∙ is in
-          let none_before : gathered_below n given ≡ [] = ap (λ j. gathered_below j given) (sym last) ∙ none in
-          rw none_before here
-      | inr before ↦ first_of-append (gathered_below n given) (given n) item (first_of-gathered_below n k given item (omega arith) none is)
-    ]
-
--- a list of two parts that is empty
-append-empty : {A : Type 0} (first rest : List A) → first ++ rest ≡ [] → (first ≡ []) × (rest ≡ [])
-append-empty [] rest none = (refl, none)
-append-empty (item ∷ first) rest none = absurd cc
-
 -- what the first item of a list gives that gives something
 pub first_of-flat_map : {A B : Type 0} (given : A → List B) (items : List A) (k : ℕ) (d : A) (first : B) → k < length items
     → flat_map given (take k items) ≡ [] → first_of (given (get_or items k d)) ≡ Some first → first_of (flat_map given items) ≡ Some first
 first_of-flat_map given [] k d first inside none found = absurd (omega arith)
 first_of-flat_map given (head ∷ items) zero d first inside none found = first_of-append (given head) (flat_map given items) first found
 first_of-flat_map given (head ∷ items) (suc k) d first inside none found =
-    let parts = append-empty (given head) (flat_map given (take k items)) none in
+    let parts = append_empty (given head) (flat_map given (take k items)) none in
     rw parts.0 (first_of-flat_map given items k d first (omega arith) parts.1 found)
 
 -- ---- lists without items so far
-
-pub first_of-none : {A : Type 0} (items : List A) → first_of items ≡ None → items ≡ []
-first_of-none [] none = refl
-first_of-none (item ∷ items) none = absurd cc
 
 pub none-more : {A : Type 0} (k : ℕ) (given : ℕ → List A) → gathered_below k given ≡ [] → given k ≡ [] → gathered_below (k + 1) given ≡ []
 none-more k given none here = gathered_below-more k given ∙ rw (none, here) refl

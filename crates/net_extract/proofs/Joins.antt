@@ -1,12 +1,12 @@
 -- Joined nets and their classes.
 use Rattle.std.proofs.Common.{◌≡◌, ℕ, zero, suc, ◌≤◌, true, false, ◌&&◌, inl, inr, List, [], ◌∷◌, refl, sym, ap, ◌∙◌, subst, arith, eq-eqb}
 use Rattle.std.specs.Prelude.{Contains, unwrap_or, Option, Some, None}
-use Rattle.std.proofs.lemmas.Bool.{eqb-true, cases_lt}
+use Rattle.std.proofs.lemmas.Bool.{eqb-true, cases_lt, or_cases, or_left, or_right, and_from}
+use Rattle.shared_lemmas.proofs.Tests.{first_true, second_true}
 use Rattle.place_search.specs.Places.{least_below}
 use Rattle.place_search.proofs.Found.{least_below-place, least_below-clear}
 use Rattle.net_extract.specs.Joins.{IsJoin, AreJoined, IsClassOf, is_joined, class_of}
 use Rattle.net_extract.specs.Joins.AreJoined.{itself, further}
-use Rattle.net_extract.proofs.Tests.{or-cases, or-left, or-right, and-left, and-right, and-both}
 
 -- ---- chains
 
@@ -47,15 +47,15 @@ pub is_joined-sound : (joins : List (ℕ × ℕ)) (a b : ℕ) → is_joined join
 unfolding is_joined
 is_joined-sound [] a b passes = subst (λ net. AreJoined [] a net) (eqb-true a b passes) itself
 is_joined-sound (join ∷ joins) a b passes =
-    elim (or-cases (is_joined joins a b) _ passes) [
+    elim (or_cases (is_joined joins a b) _ passes) [
       | inl apart ↦ joined-behind join (is_joined-sound joins a b apart)
-      | inr through ↦ elim (or-cases (is_joined joins a join.0 && is_joined joins join.1 b) _ through) [
+      | inr through ↦ elim (or_cases (is_joined joins a join.0 && is_joined joins join.1 b) _ through) [
         | inl forth ↦
-            joined-then (joined-behind join (is_joined-sound joins a join.0 (and-left _ _ forth)))
-            (joined-then (head-joined join joins) (joined-behind join (is_joined-sound joins join.1 b (and-right _ _ forth))))
+            joined-then (joined-behind join (is_joined-sound joins a join.0 (first_true _ _ forth)))
+            (joined-then (head-joined join joins) (joined-behind join (is_joined-sound joins join.1 b (second_true _ _ forth))))
         | inr back ↦
-            joined-then (joined-behind join (is_joined-sound joins a join.1 (and-left _ _ back)))
-            (joined-then (joined-back (head-joined join joins)) (joined-behind join (is_joined-sound joins join.0 b (and-right _ _ back))))
+            joined-then (joined-behind join (is_joined-sound joins a join.1 (first_true _ _ back)))
+            (joined-then (joined-back (head-joined join joins)) (joined-behind join (is_joined-sound joins join.0 b (second_true _ _ back))))
       ]
     ]
 
@@ -70,24 +70,24 @@ data Passes (join : ℕ × ℕ) (joins : List (ℕ × ℕ)) (a b : ℕ) : Type 0
 passes-how : (join : ℕ × ℕ) (joins : List (ℕ × ℕ)) (a b : ℕ) → is_joined (join ∷ joins) a b ≡ true → Passes join joins a b
 unfolding is_joined
 passes-how join joins a b passes =
-    elim (or-cases (is_joined joins a b) _ passes) [
+    elim (or_cases (is_joined joins a b) _ passes) [
       | inl without ↦ apart without
-      | inr through ↦ elim (or-cases (is_joined joins a join.0 && is_joined joins join.1 b) _ through) [
-        | inl this ↦ forth (and-left _ _ this) (and-right _ _ this)
-        | inr that ↦ back (and-left _ _ that) (and-right _ _ that)
+      | inr through ↦ elim (or_cases (is_joined joins a join.0 && is_joined joins join.1 b) _ through) [
+        | inl this ↦ forth (first_true _ _ this) (second_true _ _ this)
+        | inr that ↦ back (first_true _ _ that) (second_true _ _ that)
       ]
     ]
 
 passes-so : (join : ℕ × ℕ) (joins : List (ℕ × ℕ)) (a b : ℕ) → Passes join joins a b → is_joined (join ∷ joins) a b ≡ true
 unfolding is_joined
-passes-so join joins a b (apart without) = or-left _ _ without
-passes-so join joins a b (forth first second) = or-right _ _ (or-left _ _ (and-both _ _ first second))
-passes-so join joins a b (back first second) = or-right _ _ (or-right _ _ (and-both _ _ first second))
+passes-so join joins a b (apart without) = or_left _ _ without
+passes-so join joins a b (forth first second) = or_right _ _ (or_left _ _ (and_from _ _ first second))
+passes-so join joins a b (back first second) = or_right _ _ (or_right _ _ (and_from _ _ first second))
 
 is_joined-itself : (joins : List (ℕ × ℕ)) (a : ℕ) → is_joined joins a a ≡ true
 unfolding is_joined
 is_joined-itself [] a = eq-eqb a a refl
-is_joined-itself (join ∷ joins) a = or-left _ _ (is_joined-itself joins a)
+is_joined-itself (join ∷ joins) a = or_left _ _ (is_joined-itself joins a)
 
 -- what holds for the routings behind the head
 record IsThen (joins : List (ℕ × ℕ)) : Type 0 where

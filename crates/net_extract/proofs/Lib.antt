@@ -1,21 +1,45 @@
-pub mod Tests
+-- the first item of a list, where lists are joined or given place by place
+pub mod Firsts
+-- lists that grow by what each item of another list gives with its place
+pub mod Numbered
+-- joined nets and their classes
 pub mod Joins
+-- a class passes the test for cycles exactly where it lies on one
 pub mod Cycles
+-- a wiring without a cycle has exactly one write order
 pub mod Order
+-- a wiring without a cycle has a write order
 pub mod Ordered
+-- where a wiring has a write order, its classes have exactly one value each, whatever their rules are
 pub mod Settled
+-- the value of each driver looks at no other nets than those that it reads
 pub mod Facts
+-- a fabric without two drivers of a class and without a cycle has, for each state and all values of its input pins, exactly one
+-- list of net values that is consistent
 pub mod OneValue
+-- what a fabric is that has no fault
 pub mod Taken
+-- clock chains: where the search for the end of a chain comes to is its end, and a net has the value of the end of its chain
 pub mod Chains
+-- the fabric of a database whose lines name nets of the device has no net past their number
 pub mod Within
+-- a fabric without a fault has exactly one run for each list of events
 pub mod Runs
+-- the definitions at small databases and images, worked out by hand
 pub mod Worked
+-- classes of joined nets, one routing after the other
 pub mod Joined
+-- parents after a write
 pub mod Trees
+-- links that are on: by their bits, and one after the other
 pub mod Setting
+-- what is kept of the links that are on
 pub mod Ending
+-- what the places of links that are on say
 pub mod Laws
+-- lists over the tiles of a kind
 pub mod InOrder
+-- what is found in lists that are made from others, and bits that are all set
 pub mod Listed
+-- nets and places that a database names are its device's
 pub mod Nets

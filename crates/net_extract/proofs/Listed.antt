@@ -1,12 +1,13 @@
 -- What is found in lists that are made from others, and bits that are all set.
-use Rattle.std.proofs.Common.{◌≡◌, ℕ, zero, suc, ◌<◌, ◌≤◌, Bool, true, false, cond, ◌&&◌, List, [], ◌∷◌, length, get_or, nat_lt, subst, refl, sym, ap, ◌∙◌, arith}
+use Rattle.std.proofs.Common.{◌≡◌, ℕ, zero, suc, ◌<◌, ◌≤◌, Bool, true, false, cond, List, [], ◌∷◌, length, get_or, nat_lt, subst, refl, sym, ap, ◌∙◌, arith}
 use Rattle.std.specs.Prelude.{Some, None, find, position, bytes_eq, All, slice_get}
 use Rattle.std.specs.List.{position_or_len, list_all, list_any}
-use Rattle.std.proofs.lemmas.Bool.Decides.{nat_tests}
 use Rattle.std.proofs.lemmas.List.{get_or-map, length-map}
 use Rattle.std.proofs.lemmas.List.Folds.{find_at, list_any_at}
 use Rattle.std.proofs.lemmas.List.Quantifiers.{position-Some}
 use Rattle.std.proofs.lemmas.Option.{slice_get-get_or, slice_get_past}
+use Rattle.std.proofs.lemmas.Bool.{ltb-false, ltb-true}
+use Rattle.shared_lemmas.proofs.Tests.{first_true}
 use Rattle.plane_map.specs.Layout.{columns_of}
 use Rattle.plane_map.specs.declared.tile.RowCol.{RowCol}
 use Rattle.plane_map.specs.declared.tile.TileKind.{TileKind}
@@ -32,32 +33,23 @@ cond-None : (passes : Bool) (n : ℕ) → cond passes (Some n) None ≡ None →
 cond-None true n found = absurd cc
 cond-None false n found = refl
 
-past : (n m : ℕ) → nat_lt n m ≡ false → m ≤ n
-past n m not_below = grind (arith, nat_tests)
+pub find-at_position : {X : Type 0} (p : X → Bool) (xs : List X) (place : ℕ) → position p xs ≡ Some place → find p xs ≡ slice_get xs place
+find-at_position p xs place found =
+    find_at p xs ∙ ap (λ n. slice_get xs n) (cond-Some (nat_lt (position_or_len p xs) (length xs)) (position_or_len p xs) place found)
 
 pub find-position : {X : Type 0} (p : X → Bool) (xs : List X) (place : ℕ) (d : X) → position p xs ≡ Some place → find p xs ≡ Some (get_or xs place d)
-find-position p xs place d found =
-    let same : position_or_len p xs ≡ place = cond-Some (nat_lt (position_or_len p xs) (length xs)) (position_or_len p xs) place found in
-    find_at p xs ∙ ap (λ n. slice_get xs n) same ∙ slice_get-get_or xs place d (position-Some p xs place d found).0
+find-position p xs place d found = find-at_position p xs place found ∙ slice_get-get_or xs place d (position-Some p xs place d found).0
 
 pub find-no_position : {X : Type 0} (p : X → Bool) (xs : List X) → position p xs ≡ None → find p xs ≡ None
 find-no_position p xs none =
-    find_at p xs ∙ slice_get_past xs (position_or_len p xs) (past (position_or_len p xs) (length xs) (cond-None (nat_lt (position_or_len p xs) (length xs)) (position_or_len p xs) none))
+    find_at p xs ∙ slice_get_past xs (position_or_len p xs) (ltb-false (position_or_len p xs) (length xs) (cond-None (nat_lt (position_or_len p xs) (length xs)) (position_or_len p xs) none))
 
 -- ---- functions
-
-and-first : (a b : Bool) → a && b ≡ true → a ≡ true
-and-first true b both = refl
-and-first false b both = absurd cc
 
 -- a function that was found by its place
 pub record IsFound (texts : List (List ℕ)) (bits : List RowCol) (functions : List Function) (kind : TileKind) (name : List ℕ) (function : Function) : Type 0 where
   pub named : find (is_function kind name) (function_lines texts bits functions) ≡ Some (function_line texts bits function)
   pub bits_in : All (IsBitIn (columns_of kind)) (bits_named bits function.bits)
-
--- it is inside of the list
-below : (n m : ℕ) → nat_lt n m ≡ true → n < m
-below n m is = grind (arith, nat_tests)
 
 cond-inside : (passes : Bool) (n m length : ℕ) → (passes ≡ true → n < length) → cond passes (Some n) None ≡ Some m → m < length
 cond-inside true n m length inside found = let same : n ≡ m = cc in omega (arith, inside refl)
@@ -68,7 +60,7 @@ pub place_inside : (texts : List (List ℕ)) (bits : List RowCol) (functions : L
 unfolding function_place
 place_inside texts bits functions kind name place found =
     let lines : List FunctionLine = function_lines texts bits functions in
-    omega (arith, cond-inside (nat_lt (position_or_len (is_function kind name) lines) (length lines)) (position_or_len (is_function kind name) lines) place (length lines) (below (position_or_len (is_function kind name) lines) (length lines)) found, length-map functions (function_line texts bits))
+    omega (arith, cond-inside (nat_lt (position_or_len (is_function kind name) lines) (length lines)) (position_or_len (is_function kind name) lines) place (length lines) (ltb-true (position_or_len (is_function kind name) lines) (length lines)) found, length-map functions (function_line texts bits))
 
 pub is_found : (texts : List (List ℕ)) (bits : List RowCol) (functions : List Function) (kind : TileKind) (name : List ℕ) (place : ℕ) (function : Function)
     → All IsFunctionLine (function_lines texts bits functions)
@@ -83,7 +75,7 @@ is_found texts bits functions kind name place function fit found is =
     let here : get_or lines place line ≡ line =
     get_or-map (function_line texts bits) functions place function line inside ∙ ap (function_line texts bits) (sym is) in
     let passes : is_function kind name line ≡ true = ap (is_function kind name) (sym here) ∙ facts.1 in
-    let kind_is : function.kind ≡ kind = is_same_kind-is function.kind kind (and-first (is_same_kind function.kind kind) (bytes_eq name line.name) passes) in
+    let kind_is : function.kind ≡ kind = is_same_kind-is function.kind kind (first_true (is_same_kind function.kind kind) (bytes_eq name line.name) passes) in
     let fits : IsFunctionLine line = subst IsFunctionLine here (fit place line facts.0) in
     let Fit : TileKind → Type 0 = λ k. All (IsBitIn (columns_of k)) (bits_named bits function.bits) in
     record {

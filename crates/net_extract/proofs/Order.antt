@@ -1,9 +1,8 @@
 -- A wiring without a cycle has exactly one write order.
 use Rattle.std.proofs.Common.{◌≡◌, ℕ, zero, suc, ◌<◌, Bool, true, false, cond, ◌||◌, ◌⊎◌, inl, inr, List, [], ◌∷◌, length, take, get_or, refl, sym, ◌∙◌, subst, arith, eq-eqb}
 use Rattle.std.specs.Prelude.{◌==◌}
-use Rattle.std.proofs.lemmas.Bool.{cases_Bool, eqb-true}
+use Rattle.std.proofs.lemmas.Bool.{cases_Bool, eqb-true, or_left, or_right}
 use Rattle.net_extract.specs.Wiring.{Wiring, has, IsReady, IsLeastReady, IsWriteOrder}
-use Rattle.net_extract.proofs.Tests.{or-left, or-right}
 
 -- ---- numbers in lists
 
@@ -68,7 +67,7 @@ continues-one {wiring} {before} (next {class = a} {rest = one} least rest) (next
     cc
 
 moved-test : (here before part : Bool) → (before || cond here true part) ≡ (cond here true before || part)
-moved-test true before part = or-right before true refl
+moved-test true before part = or_right before true refl
 moved-test false before part = refl
 
 -- listed before or in a part, by either way of adding a class
@@ -103,7 +102,7 @@ module _ (wiring : Wiring) where
 
   continues-whole : {before order : List ℕ} → Continues wiring before order
       → (class : ℕ) → class < wiring.count → wiring.driven class ≡ true → (has before class || has order class) ≡ true
-  continues-whole {before} (whole all) class within driven = or-left _ _ (all class within driven)
+  continues-whole {before} (whole all) class within driven = or_left _ _ (all class within driven)
   continues-whole {before} (next {class = first} {rest} least more) class within driven =
       moved-listed first before rest class ∙ continues-whole more class within driven
 

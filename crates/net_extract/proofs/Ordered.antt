@@ -1,12 +1,12 @@
 -- A wiring without a cycle has a write order.
 use Rattle.std.proofs.Common.{◌≡◌, ℕ, zero, suc, ◌+◌, ◌<◌, ◌≤◌, Bool, true, false, not, ◌&&◌, inl, inr, List, [], ◌∷◌, refl, sym, ap, ◌∙◌, subst, arith}
 use Rattle.std.specs.Prelude.{Option, Some, None}
-use Rattle.std.proofs.lemmas.Bool.{cases_lt, cases_Bool, false_from_ne_true}
+use Rattle.std.proofs.lemmas.Bool.{cases_lt, cases_Bool, false_from_ne_true, and_from, not-true}
+use Rattle.shared_lemmas.proofs.Tests.{first_true, second_true}
 use Rattle.bit_plane.specs.BitList.{bit_value}
 use Rattle.place_search.specs.Places.{least_below}
 use Rattle.place_search.proofs.Found.{least_below-place, least_below-clear}
 use Rattle.net_extract.specs.Wiring.{Wiring, has, leads_below, is_on_cycle, IsReady, IsLeastReady, IsWriteOrder}
-use Rattle.net_extract.proofs.Tests.{and-left, and-right, and-both}
 use Rattle.net_extract.proofs.Cycles.{IsBounded, leads_below-then, leads_below-step}
 use Rattle.net_extract.proofs.Order.{has-first, has-behind, has-cases, Continues, continues-order}
 use Rattle.net_extract.proofs.Order.Continues.{whole, next}
@@ -68,15 +68,15 @@ unfolding each has
 each-so [] test n all found = absurd cc
 each-so (first ∷ rest) test n all found =
     elim (has-cases first rest n found) [
-      | inl here ↦ ap test (sym here) ∙ and-left _ _ all
-      | inr behind ↦ each-so rest test n (and-right _ _ all) behind
+      | inl here ↦ ap test (sym here) ∙ first_true _ _ all
+      | inr behind ↦ each-so rest test n (second_true _ _ all) behind
     ]
 
 each-from : (list : List ℕ) (test : ℕ → Bool) → ((n : ℕ) → has list n ≡ true → test n ≡ true) → each list test ≡ true
 unfolding each
 each-from [] test all = refl
 each-from (first ∷ rest) test all =
-    and-both _ _ (all first (has-first first rest)) (each-from rest test (λ n found. all n (has-behind first rest n found)))
+    and_from _ _ (all first (has-first first rest)) (each-from rest test (λ n found. all n (has-behind first rest n found)))
 
 -- a class with a driver that isn't listed
 pub is_left : Wiring → (ℕ → Bool) → ℕ → Bool
@@ -84,19 +84,15 @@ is_left wiring listed class = wiring.driven class && not (listed class)
 
 pub left-from : (wiring : Wiring) (listed : ℕ → Bool) (class : ℕ) → wiring.driven class ≡ true → listed class ≡ false → is_left wiring listed class ≡ true
 unfolding is_left
-left-from wiring listed class driven fresh = and-both _ _ driven (ap not fresh)
-
-not-true : (b : Bool) → not b ≡ true → b ≡ false
-not-true true e = absurd cc
-not-true false e = refl
+left-from wiring listed class driven fresh = and_from _ _ driven (ap not fresh)
 
 left-driven : (wiring : Wiring) (listed : ℕ → Bool) (class : ℕ) → is_left wiring listed class ≡ true → wiring.driven class ≡ true
 unfolding is_left
-left-driven wiring listed class left = and-left _ _ left
+left-driven wiring listed class left = first_true _ _ left
 
 left-fresh : (wiring : Wiring) (listed : ℕ → Bool) (class : ℕ) → is_left wiring listed class ≡ true → listed class ≡ false
 unfolding is_left
-left-fresh wiring listed class left = not-true _ (and-right _ _ left)
+left-fresh wiring listed class left = not-true _ (second_true _ _ left)
 
 -- none of the classes that it reads is left
 is_ready : Wiring → (ℕ → Bool) → ℕ → Bool
@@ -106,12 +102,12 @@ ready-sound : (wiring : Wiring) (listed : ℕ → Bool) (class : ℕ) → class 
 unfolding is_ready
 ready-sound wiring listed class within passes = record {
   within = within;
-  driven = left-driven wiring listed class (and-left _ _ passes);
-  unlisted = left-fresh wiring listed class (and-left _ _ passes);
+  driven = left-driven wiring listed class (first_true _ _ passes);
+  unlisted = left-fresh wiring listed class (first_true _ _ passes);
   inputs = λ other reads drives. elim (cases_Bool (listed other)) [
     | inl done ↦ done
     | inr fresh ↦
-        let none_left : each (wiring.reads class) (λ k. not (is_left wiring listed k)) ≡ true = and-right (is_left wiring listed class) _ passes in
+        let none_left : each (wiring.reads class) (λ k. not (is_left wiring listed k)) ≡ true = second_true (is_left wiring listed class) _ passes in
         let kept : not (is_left wiring listed other) ≡ true = each-so (wiring.reads class) (λ k. not (is_left wiring listed k)) other none_left reads in
         absurd (cc (left-from wiring listed other drives fresh, not-true (is_left wiring listed other) kept))
   ];
@@ -120,7 +116,7 @@ ready-sound wiring listed class within passes = record {
 ready-whole : (wiring : Wiring) (listed : ℕ → Bool) (class : ℕ) → IsReady wiring listed class → is_ready wiring listed class ≡ true
 unfolding is_ready
 ready-whole wiring listed class ready =
-    and-both _ _ (left-from wiring listed class ready.driven ready.unlisted)
+    and_from _ _ (left-from wiring listed class ready.driven ready.unlisted)
     (each-from (wiring.reads class) (λ other. not (is_left wiring listed other)) (λ other reads.
     ap not (false_from_ne_true (is_left wiring listed other) (λ left.
     absurd (cc (ready.inputs other reads (left-driven wiring listed other left), left-fresh wiring listed other left))))))

@@ -1,11 +1,13 @@
 -- A fabric without a fault has exactly one run for each list of events. Whether a clock has an edge depends on the pins alone;
 -- so the next state is known before the values of the nets after the event are.
-use Rattle.std.proofs.Common.{◌≡◌, ℕ, zero, suc, ◌<◌, Bool, true, false, List, [], ◌∷◌, ◌++◌, length, map, get_or, set, replicate, refl, sym, ap, ◌∙◌, subst, arith, inl, inr}
+use Rattle.std.proofs.Common.{◌≡◌, ℕ, zero, suc, ◌<◌, Bool, true, false, List, [], ◌∷◌, length, map, get_or, set, replicate, refl, sym, ap, ◌∙◌, subst, arith}
 use Rattle.std.specs.Prelude.{All, Contains, Option, Some, None, filter, flat_map, ◌&&◌, ◌==◌}
 use Rattle.std.specs.List.{AllByRecursion}
-use Rattle.std.proofs.lemmas.Bool.{cases_lt}
+use Rattle.std.proofs.lemmas.Bool.{and_from}
 use Rattle.std.proofs.Common.{eq-eqb}
-use Rattle.std.proofs.lemmas.List.Elements.{All-head, All-tail, All-filter, All-contains, All-contains_itself, All-weaker, Contains-append_left, Contains-append_right}
+use Rattle.std.proofs.lemmas.List.Elements.{All-filter, All-contains, All-contains_itself, All-weaker, Contains-append_left, Contains-append_right}
+use Rattle.shared_lemmas.proofs.Lists.{append_empty, map-same}
+use Rattle.place_search.proofs.Gathered.{All-gathered_below, Contains-gathered_below}
 use Rattle.plane_map.specs.declared.device.DeviceName.{DeviceName}
 use Rattle.plane_map.specs.declared.tile.TileKind.TheVariants.{Logic, RamB}
 use Rattle.plane_map.specs.Layout.{grid_width, grid_height}
@@ -29,28 +31,16 @@ use Rattle.net_extract.specs.Faults.{end_fault, user_fault, clock_faults, fabric
 use Rattle.net_extract.proofs.OneValue.{IsWithin, filter-has}
 use Rattle.net_extract.proofs.Taken.{design-taken, taken-order, taken-value, taken-clocks}
 use Rattle.net_extract.proofs.Chains.{clock_end-leads, HasEndValue, clock-value}
-use Rattle.net_extract.proofs.Tests.{and-both}
-use Rattle.net_extract.proofs.Within.{fabric-within, All-gathered, All-item_if, All-if, All-single, All-over_tiles, All-numbered}
+use Rattle.net_extract.proofs.Within.{fabric-within, All-item_if, All-if, All-single, All-over_tiles, All-numbered}
 
 -- ---- lists
-
-pub contains-gathered : {A : Type 0} (n k : ℕ) (given : ℕ → List A) (item : A) → k < n → Contains (given k) item → Contains (gathered_below n given) item
-unfolding gathered_below
-contains-gathered zero k given item within there = absurd (omega arith)
-contains-gathered (suc n) k given item within there =
-    elim (cases_lt k n) [
-      | inl less ↦ Contains-append_left (gathered_below n given) (given n) item (contains-gathered n k given item less there)
-      | inr more ↦
-          let same : k ≡ n = omega arith in
-          Contains-append_right (gathered_below n given) (given n) item (subst (λ place. Contains (given place) item) same there)
-    ]
 
 pub contains-over_grid : {A : Type 0} (device : DeviceName) (given : ℕ → ℕ → List A) (x y : ℕ) (item : A)
     → x < grid_width device → y < grid_height device → Contains (given x y) item → Contains (over_grid device given) item
 unfolding over_grid
 contains-over_grid device given x y item left low there =
-    contains-gathered (grid_height device) y (λ row. gathered_below (grid_width device) (λ column. given column row)) item low
-    (contains-gathered (grid_width device) x (λ column. given column y) item left there)
+    Contains-gathered_below (grid_height device) y (λ row. gathered_below (grid_width device) (λ column. given column row)) item low
+    (Contains-gathered_below (grid_width device) x (λ column. given column y) item left there)
 
 contains-map : {A B : Type 0} (change : A → B) (list : List A) (item : A) → Contains list item → Contains (map change list) (change item)
 contains-map change [] item (k, within, here) = absurd (omega (arith, within))
@@ -66,27 +56,12 @@ contains-flat_map given (head ∷ list) item part (zero, within, here) there =
 contains-flat_map given (head ∷ list) item part (suc k, within, here) there =
     Contains-append_right (given head) (flat_map given list) part (contains-flat_map given list item part (k, omega (arith, within), here) there)
 
-empty-left : {A : Type 0} (first second : List A) → first ++ second ≡ [] → first ≡ []
-empty-left [] second none = refl
-empty-left (item ∷ first) second none = absurd cc
-
-empty-right : {A : Type 0} (first second : List A) → first ++ second ≡ [] → second ≡ []
-empty-right [] second none = none
-empty-right (item ∷ first) second none = absurd cc
-
 -- no item gives anything
 gives-none : {A B : Type 0} (given : A → List B) (list : List A) (item : A) → flat_map given list ≡ [] → Contains list item → given item ≡ []
 gives-none given [] item none (k, within, here) = absurd (omega (arith, within))
-gives-none given (head ∷ list) item none (zero, within, here) = ap given (sym here) ∙ empty-left (given head) (flat_map given list) none
+gives-none given (head ∷ list) item none (zero, within, here) = ap given (sym here) ∙ (append_empty (given head) (flat_map given list) none).0
 gives-none given (head ∷ list) item none (suc k, within, here) =
-    gives-none given list item (empty-right (given head) (flat_map given list) none) (k, omega (arith, within), here)
-
-map-same : {A B : Type 0} (one two : A → B) (list : List A) → All (λ item. one item ≡ two item) list → map one list ≡ map two list
-map-same one two [] same = refl
-map-same one two (item ∷ list) same =
-    let first : one item ≡ two item = All-head (λ i. one i ≡ two i) item list same in
-    let rest : map one list ≡ map two list = map-same one two list (All-tail (λ i. one i ≡ two i) item list same) in
-    cc
+    gives-none given list item (append_empty (given head) (flat_map given list) none).1 (k, omega (arith, within), here)
 
 -- ---- users stand at places of the grid
 
@@ -108,7 +83,7 @@ module _ (db : Database) (image : Configuration) where
   unfolding cells_of cells_at
   cells-placed =
       All-over_tiles (λ lc. IsAt image.layout.device lc.x lc.y) image.layout.device Logic (cells_at db image)
-      (λ x y left low. All-gathered (λ lc. IsAt image.layout.device lc.x lc.y) 8 (used_cell db image x y)
+      (λ x y left low. All-gathered_below (λ lc. IsAt image.layout.device lc.x lc.y) 8 (used_cell db image x y)
       (λ i below. All-item_if (λ lc. IsAt image.layout.device lc.x lc.y) _ (cell_with db image x y i (cell_bits db image x y i))
       (cell-placed x y i (cell_bits db image x y i) (record { left = left; low = low }))))
 
@@ -227,7 +202,7 @@ module _ (device : DeviceName) (fabric : Fabric) (taken : fabric_fault device fa
   there-good x y user at there = listed-good user (contains-over_grid device (users_at fabric) x y user at.left at.low there)
 
   same-place : (x y : ℕ) → ((x == x) && (y == y)) ≡ true
-  same-place x y = and-both (x == x) (y == y) (eq-eqb x x refl) (eq-eqb y y refl)
+  same-place x y = and_from (x == x) (y == y) (eq-eqb x x refl) (eq-eqb y y refl)
 
   pub flip-good : (lc : Lc) → Contains (flips_of fabric) lc → IsClocked fabric lc.clk
   flip-good lc there =

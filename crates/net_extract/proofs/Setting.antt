@@ -3,15 +3,15 @@ use Rattle.std.proofs.Common.{◌≡◌, ℕ, zero, suc, ◌+◌, ◌/◌, ◌%�
 use Rattle.std.specs.Prelude.{◌↔◌, IsTrue, filter, All, ◌==◌}
 use Rattle.std.specs.Bool.{beq}
 use Rattle.std.specs.Cmp.Lexicographic.{pointwise}
-use Rattle.std.proofs.lemmas.Bool.{cases_Bool, and_parts, false≢true}
+use Rattle.std.proofs.lemmas.Bool.{cases_Bool}
 use Rattle.std.proofs.lemmas.List.{map-append, take_more, length-take-le, length-map, get_or-map}
 use Rattle.std.proofs.lemmas.List.Elements.{filter-append}
+use Rattle.shared_lemmas.proofs.Bits.{pointwise-told}
 use Rattle.bit_plane.specs.BitList.{word_bits}
 use Rattle.plane_map.specs.declared.tile.RowCol.{RowCol}
 use Rattle.ice_image.specs.Configuration.{Configuration}
 use Rattle.ice_image.specs.Bits.{listed_bits}
 use Rattle.chipdb_lines.specs.declared.chip.Chip.{Chip}
-use Rattle.chipdb_lines.specs.Kept.{low_bits}
 use Rattle.chipdb_reader.specs.declared.items.LinkLine.{LinkLine}
 use Rattle.chipdb_reader.specs.Database.{Link}
 use Rattle.chipdb_reader.specs.Fit.{IsLink}
@@ -23,50 +23,11 @@ use Rattle.net_extract.specs.Found.{on_link, links_on}
 
 -- ---- one link by its bits
 
-low_bits-is : (count number : ℕ) → low_bits count number ≡ word_bits count number
-unfolding word_bits
-low_bits-is zero number = refl
-low_bits-is (suc count) number = ap (λ bits. (number % 2 == 1) ∷ bits) (low_bits-is count (number / 2))
-
-beq-same : (a : Bool) → beq a a ≡ true
-beq-same true = refl
-beq-same false = refl
-
-pointwise-same : (bits : List Bool) → pointwise beq bits bits ≡ true
-pointwise-same [] = refl
-pointwise-same (bit ∷ bits) = rw (beq-same bit) (pointwise-same bits)
-
-beq-true : (a b : Bool) → beq a b ≡ true → a ≡ b
-beq-true true true is = refl
-beq-true false false is = refl
-beq-true true false is = absurd cc
-beq-true false true is = absurd cc
-
-pointwise-true : (bits values : List Bool) → pointwise beq bits values ≡ true → bits ≡ values
-pointwise-true [] [] is = refl
-pointwise-true [] (value ∷ values) is = absurd cc
-pointwise-true (bit ∷ bits) [] is = absurd cc
-pointwise-true (bit ∷ bits) (value ∷ values) is =
-    let parts = and_parts (beq bit value) (pointwise beq bits values) is in
-    ap₂ (λ x xs. x ∷ xs) (beq-true bit value parts.0) (pointwise-true bits values parts.1)
-
-pointwise-tells : (result : Bool) (bits values : List Bool) → IsTrue result ↔ (bits ≡ values) → result ≡ pointwise beq bits values
-pointwise-tells result bits values tells =
-    elim (cases_Bool result) [
-      | inl passes ↦ passes ∙ sym (ap (λ other. pointwise beq bits other) (sym (tells.0 passes)) ∙ pointwise-same bits)
-      | inr fails ↦
-          elim (cases_Bool (pointwise beq bits values)) [
-            | inl equal ↦ absurd (false≢true (sym fails ∙ tells.1 (pointwise-true bits values equal)))
-            | inr apart ↦ fails ∙ sym apart
-          ]
-    ]
-
 -- bits have the values of a number where they are its lowest bits
 pub values-tell : (image : Configuration) (x y : ℕ) (bits : List RowCol) (values : ℕ) (result : Bool) → IsTrue result ↔ (listed_bits image x y bits ≡ word_bits (length bits) values)
-    → result ≡ pointwise beq (bits_at image x y bits) (low_bits (length bits) values)
+    → result ≡ pointwise beq (bits_at image x y bits) (word_bits (length bits) values)
 values-tell image x y bits values result tells =
-    pointwise-tells result (listed_bits image x y bits) (word_bits (length bits) values) tells
-    ∙ ap (pointwise beq (listed_bits image x y bits)) (sym (low_bits-is (length bits) values))
+    pointwise-told result (listed_bits image x y bits) (word_bits (length bits) values) tells
 
 -- ---- one link after the other
 

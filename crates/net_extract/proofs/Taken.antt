@@ -1,7 +1,9 @@
 -- What a fabric is that has no fault.
-use Rattle.std.proofs.Common.{◌≡◌, ℕ, zero, suc, ◌<◌, ◌≤◌, Bool, true, false, List, [], ◌∷◌, ◌++◌, length, refl, subst, arith, inl, inr}
+use Rattle.std.proofs.Common.{◌≡◌, ℕ, zero, suc, ◌<◌, ◌≤◌, Bool, true, false, List, [], ◌∷◌, length, refl, subst, arith, inl, inr}
 use Rattle.std.specs.Prelude.{None}
 use Rattle.std.proofs.lemmas.Bool.{cases_lt}
+use Rattle.net_extract.proofs.Firsts.{first_of-none}
+use Rattle.shared_lemmas.proofs.Lists.{append_empty}
 use Rattle.plane_map.specs.declared.device.DeviceName.{DeviceName}
 use Rattle.ice_image.specs.Configuration.{Configuration}
 use Rattle.chipdb_reader.specs.Database.{Database}
@@ -20,26 +22,14 @@ use Rattle.net_extract.proofs.OneValue.{IsWithin, HasSingleDrivers, wiring-bound
 
 -- ---- empty lists
 
-first_of-none : {A : Type 0} (list : List A) → first_of list ≡ None → list ≡ []
-first_of-none [] none = refl
-first_of-none (item ∷ list) none = absurd cc
-
-append-left : {A : Type 0} (first second : List A) → first ++ second ≡ [] → first ≡ []
-append-left [] second none = refl
-append-left (item ∷ first) second none = absurd cc
-
-append-right : {A : Type 0} (first second : List A) → first ++ second ≡ [] → second ≡ []
-append-right [] second none = none
-append-right (item ∷ first) second none = absurd cc
-
 -- no place gives anything
 pub gathered_below-empty : {A : Type 0} (n k : ℕ) (given : ℕ → List A) → gathered_below n given ≡ [] → k < n → given k ≡ []
 unfolding gathered_below
 gathered_below-empty zero k given none within = absurd (omega arith)
 gathered_below-empty (suc n) k given none within =
     elim (cases_lt k n) [
-      | inl less ↦ gathered_below-empty n k given (append-left (gathered_below n given) (given n) none) less
-      | inr more ↦ let same : n ≡ k = omega arith in subst (λ place. given place ≡ []) same (append-right (gathered_below n given) (given n) none)
+      | inl less ↦ gathered_below-empty n k given (append_empty (gathered_below n given) (given n) none).0 less
+      | inr more ↦ let same : n ≡ k = omega arith in subst (λ place. given place ≡ []) same (append_empty (gathered_below n given) (given n) none).1
     ]
 
 pub item_if-none : {A : Type 0} (passes : Bool) (item : A) → item_if passes item ≡ [] → passes ≡ false

@@ -1,8 +1,9 @@
 -- The fabric of a database whose lines name nets of the device has no net past their number.
-use Rattle.std.proofs.Common.{◌≡◌, ℕ, zero, suc, ◌+◌, ◌<◌, Bool, true, false, List, [], ◌∷◌, ◌++◌, subst, arith, inl, inr}
+use Rattle.std.proofs.Common.{◌≡◌, ℕ, zero, suc, ◌+◌, ◌<◌, Bool, true, false, List, [], ◌∷◌, ◌++◌, subst, inl, inr}
 use Rattle.std.specs.Prelude.{All, not, Option, Some, None, find, filter, flat_map, option_map, option_and_then, option_to_list, get_or, if◌then◌else◌}
 use Rattle.std.proofs.lemmas.Bool.{cases_Bool}
 use Rattle.std.proofs.lemmas.List.Elements.{All-nil, All-cons, All-head, All-tail, All-append, All-map, All-filter, All-weaker, All-contains}
+use Rattle.place_search.proofs.Gathered.{All-gathered_below}
 use Rattle.plane_map.specs.declared.device.DeviceName.{DeviceName}
 use Rattle.plane_map.specs.declared.tile.TileKind.{TileKind}
 use Rattle.plane_map.specs.declared.tile.TileKind.TheVariants.{Io, Logic, RamB}
@@ -49,12 +50,6 @@ All-flat_map P f (x ∷ xs) all =
 pub All-single : {X : Type 0} (P : X → Type 0) (x : X) → P x → All P (x ∷ [])
 All-single P x here = All-cons P x [] here (All-nil P)
 
-pub All-gathered : {A : Type 0} (P : A → Type 0) (n : ℕ) (given : ℕ → List A) → ((k : ℕ) → k < n → All P (given k)) → All P (gathered_below n given)
-unfolding gathered_below
-All-gathered P zero given all = All-nil P
-All-gathered P (suc n) given all =
-    All-append P (gathered_below n given) (given n) (All-gathered P n given (λ k less. all k (omega arith))) (all n (omega arith))
-
 pub All-item_if : {A : Type 0} (P : A → Type 0) (passes : Bool) (item : A) → P item → All P (item_if passes item)
 All-item_if P true item here = All-single P item here
 All-item_if P false item here = All-nil P
@@ -68,8 +63,8 @@ pub All-over_grid : {A : Type 0} (P : A → Type 0) (device : DeviceName) (given
     → ((x y : ℕ) → x < grid_width device → y < grid_height device → All P (given x y)) → All P (over_grid device given)
 unfolding over_grid
 All-over_grid P device given all =
-    All-gathered P (grid_height device) (λ y. gathered_below (grid_width device) (λ x. given x y))
-    (λ y low. All-gathered P (grid_width device) (λ x. given x y) (λ x left. all x y left low))
+    All-gathered_below P (grid_height device) (λ y. gathered_below (grid_width device) (λ x. given x y))
+    (λ y low. All-gathered_below P (grid_width device) (λ x. given x y) (λ x left. all x y left low))
 
 pub All-over_tiles : {A : Type 0} (P : A → Type 0) (device : DeviceName) (kind : TileKind) (given : ℕ → ℕ → List A)
     → ((x y : ℕ) → x < grid_width device → y < grid_height device → All P (given x y)) → All P (over_tiles device kind given)
@@ -234,7 +229,7 @@ module _ (db : Database) (image : Configuration) (fit : IsFit db) where
   port-in x y name = or_else-in db.chip.nets (net_named db x y name) (net_named db x (y + 1) name) (named-in x y name) (named-in x (y + 1) name)
 
   each-in : (count : ℕ) (given : ℕ → Option ℕ) → ((k : ℕ) → IsNetIn db.chip.nets (given k)) → All (IsNetIn db.chip.nets) (each_below count given)
-  each-in count given all = All-gathered (IsNetIn db.chip.nets) count (λ k. given k ∷ []) (λ k below. All-single (IsNetIn db.chip.nets) (given k) (all k))
+  each-in count given all = All-gathered_below (IsNetIn db.chip.nets) count (λ k. given k ∷ []) (λ k below. All-single (IsNetIn db.chip.nets) (given k) (all k))
 
   joins-in : All (IsJoinIn db.chip.nets) (joins_of db image)
   unfolding joins_of
@@ -259,7 +254,7 @@ module _ (db : Database) (image : Configuration) (fit : IsFit db) where
   unfolding pins_of
   pins-in =
       All-over_tiles (IsPinIn db.chip.nets) image.layout.device Io (λ x y. gathered_below 2 (port_at db image x y))
-      (λ x y left low. All-gathered (IsPinIn db.chip.nets) 2 (port_at db image x y)
+      (λ x y left low. All-gathered_below (IsPinIn db.chip.nets) 2 (port_at db image x y)
       (λ n below. All-item_if (IsPinIn db.chip.nets) _ (pin_with db x y n _) (pin_with-in x y n _)))
 
   carry_in-in : (x y i : ℕ) → IsNetIn db.chip.nets (carry_in_net db x y i)
@@ -282,7 +277,7 @@ module _ (db : Database) (image : Configuration) (fit : IsFit db) where
   cells_at-in : (x y : ℕ) → All (IsCellIn db.chip.nets) (cells_at db image x y)
   unfolding cells_at
   cells_at-in x y =
-      All-gathered (IsCellIn db.chip.nets) 8 (used_cell db image x y)
+      All-gathered_below (IsCellIn db.chip.nets) 8 (used_cell db image x y)
       (λ i below. All-item_if (IsCellIn db.chip.nets) _ (cell_with db image x y i (cell_bits db image x y i)) (cell_with-in x y i _))
 
   cells-in : All (IsCellIn db.chip.nets) (cells_of db image)
@@ -339,13 +334,13 @@ module _ (db : Database) (image : Configuration) (fit : IsFit db) where
   nets_from-in g None in' = All-nil (IsGlobalIn db.chip.nets)
   nets_from-in g (Some from) in' =
       All-map (IsGlobalIn db.chip.nets) (λ net. record { g = g; net = net; from = from }) (global_nets db g)
-      (All-gathered (λ net. IsGlobalIn db.chip.nets (record { g = g; net = net; from = from })) db.chip.nets (λ net. item_if (is_global_net db g net) net)
+      (All-gathered_below (λ net. IsGlobalIn db.chip.nets (record { g = g; net = net; from = from })) db.chip.nets (λ net. item_if (is_global_net db g net) net)
       (λ net below. All-item_if (λ n. IsGlobalIn db.chip.nets (record { g = g; net = n; from = from })) (is_global_net db g net) net (record { net = below; from = in' })))
 
   globals-in : All (IsGlobalIn db.chip.nets) (globals_of db image)
   unfolding globals_of
   globals-in =
-      All-gathered (IsGlobalIn db.chip.nets) 8 (λ g. nets_from db g (global_source db image g))
+      All-gathered_below (IsGlobalIn db.chip.nets) 8 (λ g. nets_from db g (global_source db image g))
       (λ g below. nets_from-in g (global_source db image g) (source-in (global_pad db image g) (global_fabout db g) (fabout-in (input_of g db.global_inputs) _)))
 
   pub fabric-in : HasNetsIn (fabric_of db image)

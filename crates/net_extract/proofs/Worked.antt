@@ -26,7 +26,7 @@ use Rattle.chipdb_reader.specs.Lookups.{net_at, names_of_net, function_place, ex
 use Rattle.net_extract.specs.On.{are_set, is_link_on, is_function_on, is_any_on, is_extra_on}
 use Rattle.net_extract.specs.Tiles.{over_grid}
 use Rattle.net_extract.specs.Nets.{is_read}
-use Rattle.net_extract.specs.Cells.{cell_bits, entry_bits, cell_with, cells_at, cells_of, sets_of}
+use Rattle.net_extract.specs.Cells.{cell_places, cell_bits, entry_bits, cell_with, cells_at, cells_of, sets_of}
 use Rattle.net_extract.specs.Rams.{is_ram_used, ram_at, rams_of, start_words}
 use Rattle.net_extract.specs.Pins.{pintype_of, pin_with, pins_of, global_nets, globals_of, is_refused_with}
 use Rattle.net_extract.specs.Joins.{is_joined, class_of}
@@ -205,180 +205,180 @@ inverter : fabric_of database_a (both (at 1 1 2 0 ∷ [])) ≡ record {
   rams = [];
   start = [];
 }
-unfolding database_a image_with digits word_bits word_of bytes_of blank flat rows_of row_from rows_from kind_of start_in standard_widths standard_side_columns standard_pad_columns standard_pad_rows standard_banks place_of word_place_of any_below least_below last_below first_below gathered_below net_at names_of_net function_place extra_place input_of pad_of are_set is_link_on is_function_on is_any_on is_extra_on over_grid is_read cell_bits entry_bits cell_with cells_at cells_of sets_of is_ram_used ram_at rams_of start_words pintype_of pin_with pins_of global_nets globals_of is_refused_with is_joined class_of numbered_from joins_of buffers_of fabric_of drives_of drivers_of is_driven nets_read lut_value carry_value value_of next_flip written shown next_words next_register state_after output_values wiring_of has leads_below is_on_cycle turn_at end_within clock_end users_of device_faults pll_faults pin_faults mode_faults cascade_faults async_faults driver_faults loop_faults clock_faults pins_fault rams_fault cells_fault fabric_fault design_fault
+unfolding database_a image_with digits word_bits word_of bytes_of blank flat rows_of row_from rows_from kind_of start_in standard_widths standard_side_columns standard_pad_columns standard_pad_rows standard_banks place_of word_place_of any_below least_below last_below first_below gathered_below net_at names_of_net function_place extra_place input_of pad_of are_set is_link_on is_function_on is_any_on is_extra_on over_grid is_read cell_places cell_bits entry_bits cell_with cells_at cells_of sets_of is_ram_used ram_at rams_of start_words pintype_of pin_with pins_of global_nets globals_of is_refused_with is_joined class_of numbered_from joins_of buffers_of fabric_of drives_of drivers_of is_driven nets_read lut_value carry_value value_of next_flip written shown next_words next_register state_after output_values wiring_of has leads_below is_on_cycle turn_at end_within clock_end users_of device_faults pll_faults pin_faults mode_faults cascade_faults async_faults driver_faults loop_faults clock_faults pins_fault rams_fault cells_fault fabric_fault design_fault
 inverter = refl
 
 -- nothing is wrong with it
 inverter_taken : design_fault database_a (both (at 1 1 2 0 ∷ [])) ≡ None
-unfolding database_a image_with digits word_bits word_of bytes_of blank flat rows_of row_from rows_from kind_of start_in standard_widths standard_side_columns standard_pad_columns standard_pad_rows standard_banks place_of word_place_of any_below least_below last_below first_below gathered_below net_at names_of_net function_place extra_place input_of pad_of are_set is_link_on is_function_on is_any_on is_extra_on over_grid is_read cell_bits entry_bits cell_with cells_at cells_of sets_of is_ram_used ram_at rams_of start_words pintype_of pin_with pins_of global_nets globals_of is_refused_with is_joined class_of numbered_from joins_of buffers_of fabric_of drives_of drivers_of is_driven nets_read lut_value carry_value value_of next_flip written shown next_words next_register state_after output_values wiring_of has leads_below is_on_cycle turn_at end_within clock_end users_of device_faults pll_faults pin_faults mode_faults cascade_faults async_faults driver_faults loop_faults clock_faults pins_fault rams_fault cells_fault fabric_fault design_fault
+unfolding database_a image_with digits word_bits word_of bytes_of blank flat rows_of row_from rows_from kind_of start_in standard_widths standard_side_columns standard_pad_columns standard_pad_rows standard_banks place_of word_place_of any_below least_below last_below first_below gathered_below net_at names_of_net function_place extra_place input_of pad_of are_set is_link_on is_function_on is_any_on is_extra_on over_grid is_read cell_places cell_bits entry_bits cell_with cells_at cells_of sets_of is_ram_used ram_at rams_of start_words pintype_of pin_with pins_of global_nets globals_of is_refused_with is_joined class_of numbered_from joins_of buffers_of fabric_of drives_of drivers_of is_driven nets_read lut_value carry_value value_of next_flip written shown next_words next_register state_after output_values wiring_of has leads_below is_on_cycle turn_at end_within clock_end users_of device_faults pll_faults pin_faults mode_faults cascade_faults async_faults driver_faults loop_faults clock_faults pins_fault rams_fault cells_fault fabric_fault design_fault
 inverter_taken = refl
 
 -- its drivers in their order
 inverter_drivers : map {B = Driver × ℕ} (λ drive. (drive.driver, drive.net)) (drives_of (fabric_of database_a (both (at 1 1 2 0 ∷ [])))) ≡ (driver.Pin 0 1 0, 0) ∷ (driver.Lut 1 1 0, 2) ∷ (driver.Link 0, 1) ∷ (driver.Link 1, 3) ∷ []
-unfolding database_a image_with digits word_bits word_of bytes_of blank flat rows_of row_from rows_from kind_of start_in standard_widths standard_side_columns standard_pad_columns standard_pad_rows standard_banks place_of word_place_of any_below least_below last_below first_below gathered_below net_at names_of_net function_place extra_place input_of pad_of are_set is_link_on is_function_on is_any_on is_extra_on over_grid is_read cell_bits entry_bits cell_with cells_at cells_of sets_of is_ram_used ram_at rams_of start_words pintype_of pin_with pins_of global_nets globals_of is_refused_with is_joined class_of numbered_from joins_of buffers_of fabric_of drives_of drivers_of is_driven nets_read lut_value carry_value value_of next_flip written shown next_words next_register state_after output_values wiring_of has leads_below is_on_cycle turn_at end_within clock_end users_of device_faults pll_faults pin_faults mode_faults cascade_faults async_faults driver_faults loop_faults clock_faults pins_fault rams_fault cells_fault fabric_fault design_fault
+unfolding database_a image_with digits word_bits word_of bytes_of blank flat rows_of row_from rows_from kind_of start_in standard_widths standard_side_columns standard_pad_columns standard_pad_rows standard_banks place_of word_place_of any_below least_below last_below first_below gathered_below net_at names_of_net function_place extra_place input_of pad_of are_set is_link_on is_function_on is_any_on is_extra_on over_grid is_read cell_places cell_bits entry_bits cell_with cells_at cells_of sets_of is_ram_used ram_at rams_of start_words pintype_of pin_with pins_of global_nets globals_of is_refused_with is_joined class_of numbered_from joins_of buffers_of fabric_of drives_of drivers_of is_driven nets_read lut_value carry_value value_of next_flip written shown next_words next_register state_after output_values wiring_of has leads_below is_on_cycle turn_at end_within clock_end users_of device_faults pll_faults pin_faults mode_faults cascade_faults async_faults driver_faults loop_faults clock_faults pins_fault rams_fault cells_fault fabric_fault design_fault
 inverter_drivers = refl
 
 -- an image without a set bit
 nothing_set : fabric_of database_a (image_with []) ≡ record { nets = 4; joins = []; buffers = []; pins = []; globals = []; lcs = []; sets = []; rams = []; start = [] }
-unfolding database_a image_with digits word_bits word_of bytes_of blank flat rows_of row_from rows_from kind_of start_in standard_widths standard_side_columns standard_pad_columns standard_pad_rows standard_banks place_of word_place_of any_below least_below last_below first_below gathered_below net_at names_of_net function_place extra_place input_of pad_of are_set is_link_on is_function_on is_any_on is_extra_on over_grid is_read cell_bits entry_bits cell_with cells_at cells_of sets_of is_ram_used ram_at rams_of start_words pintype_of pin_with pins_of global_nets globals_of is_refused_with is_joined class_of numbered_from joins_of buffers_of fabric_of drives_of drivers_of is_driven nets_read lut_value carry_value value_of next_flip written shown next_words next_register state_after output_values wiring_of has leads_below is_on_cycle turn_at end_within clock_end users_of device_faults pll_faults pin_faults mode_faults cascade_faults async_faults driver_faults loop_faults clock_faults pins_fault rams_fault cells_fault fabric_fault design_fault
+unfolding database_a image_with digits word_bits word_of bytes_of blank flat rows_of row_from rows_from kind_of start_in standard_widths standard_side_columns standard_pad_columns standard_pad_rows standard_banks place_of word_place_of any_below least_below last_below first_below gathered_below net_at names_of_net function_place extra_place input_of pad_of are_set is_link_on is_function_on is_any_on is_extra_on over_grid is_read cell_places cell_bits entry_bits cell_with cells_at cells_of sets_of is_ram_used ram_at rams_of start_words pintype_of pin_with pins_of global_nets globals_of is_refused_with is_joined class_of numbered_from joins_of buffers_of fabric_of drives_of drivers_of is_driven nets_read lut_value carry_value value_of next_flip written shown next_words next_register state_after output_values wiring_of has leads_below is_on_cycle turn_at end_within clock_end users_of device_faults pll_faults pin_faults mode_faults cascade_faults async_faults driver_faults loop_faults clock_faults pins_fault rams_fault cells_fault fabric_fault design_fault
 nothing_set = refl
 
 -- it is taken
 nothing_taken : design_fault database_a (image_with []) ≡ None
-unfolding database_a image_with digits word_bits word_of bytes_of blank flat rows_of row_from rows_from kind_of start_in standard_widths standard_side_columns standard_pad_columns standard_pad_rows standard_banks place_of word_place_of any_below least_below last_below first_below gathered_below net_at names_of_net function_place extra_place input_of pad_of are_set is_link_on is_function_on is_any_on is_extra_on over_grid is_read cell_bits entry_bits cell_with cells_at cells_of sets_of is_ram_used ram_at rams_of start_words pintype_of pin_with pins_of global_nets globals_of is_refused_with is_joined class_of numbered_from joins_of buffers_of fabric_of drives_of drivers_of is_driven nets_read lut_value carry_value value_of next_flip written shown next_words next_register state_after output_values wiring_of has leads_below is_on_cycle turn_at end_within clock_end users_of device_faults pll_faults pin_faults mode_faults cascade_faults async_faults driver_faults loop_faults clock_faults pins_fault rams_fault cells_fault fabric_fault design_fault
+unfolding database_a image_with digits word_bits word_of bytes_of blank flat rows_of row_from rows_from kind_of start_in standard_widths standard_side_columns standard_pad_columns standard_pad_rows standard_banks place_of word_place_of any_below least_below last_below first_below gathered_below net_at names_of_net function_place extra_place input_of pad_of are_set is_link_on is_function_on is_any_on is_extra_on over_grid is_read cell_places cell_bits entry_bits cell_with cells_at cells_of sets_of is_ram_used ram_at rams_of start_words pintype_of pin_with pins_of global_nets globals_of is_refused_with is_joined class_of numbered_from joins_of buffers_of fabric_of drives_of drivers_of is_driven nets_read lut_value carry_value value_of next_flip written shown next_words next_register state_after output_values wiring_of has leads_below is_on_cycle turn_at end_within clock_end users_of device_faults pll_faults pin_faults mode_faults cascade_faults async_faults driver_faults loop_faults clock_faults pins_fault rams_fault cells_fault fabric_fault design_fault
 nothing_taken = refl
 
 -- two buffers to one net
 two_buffers : design_fault database_b (both (at 1 1 2 0 ∷ at 1 1 3 0 ∷ [])) ≡ Some (fault.two_drivers 1 (driver.Link 0) (driver.Link 2))
-unfolding database_a database_b image_with digits word_bits word_of bytes_of blank flat rows_of row_from rows_from kind_of start_in standard_widths standard_side_columns standard_pad_columns standard_pad_rows standard_banks place_of word_place_of any_below least_below last_below first_below gathered_below net_at names_of_net function_place extra_place input_of pad_of are_set is_link_on is_function_on is_any_on is_extra_on over_grid is_read cell_bits entry_bits cell_with cells_at cells_of sets_of is_ram_used ram_at rams_of start_words pintype_of pin_with pins_of global_nets globals_of is_refused_with is_joined class_of numbered_from joins_of buffers_of fabric_of drives_of drivers_of is_driven nets_read lut_value carry_value value_of next_flip written shown next_words next_register state_after output_values wiring_of has leads_below is_on_cycle turn_at end_within clock_end users_of device_faults pll_faults pin_faults mode_faults cascade_faults async_faults driver_faults loop_faults clock_faults pins_fault rams_fault cells_fault fabric_fault design_fault
+unfolding database_a database_b image_with digits word_bits word_of bytes_of blank flat rows_of row_from rows_from kind_of start_in standard_widths standard_side_columns standard_pad_columns standard_pad_rows standard_banks place_of word_place_of any_below least_below last_below first_below gathered_below net_at names_of_net function_place extra_place input_of pad_of are_set is_link_on is_function_on is_any_on is_extra_on over_grid is_read cell_places cell_bits entry_bits cell_with cells_at cells_of sets_of is_ram_used ram_at rams_of start_words pintype_of pin_with pins_of global_nets globals_of is_refused_with is_joined class_of numbered_from joins_of buffers_of fabric_of drives_of drivers_of is_driven nets_read lut_value carry_value value_of next_flip written shown next_words next_register state_after output_values wiring_of has leads_below is_on_cycle turn_at end_within clock_end users_of device_faults pll_faults pin_faults mode_faults cascade_faults async_faults driver_faults loop_faults clock_faults pins_fault rams_fault cells_fault fabric_fault design_fault
 two_buffers = refl
 
 -- a LUT that reads itself
 loop : design_fault database_b (both (at 1 1 3 0 ∷ [])) ≡ Some (fault.loop 1)
-unfolding database_a database_b image_with digits word_bits word_of bytes_of blank flat rows_of row_from rows_from kind_of start_in standard_widths standard_side_columns standard_pad_columns standard_pad_rows standard_banks place_of word_place_of any_below least_below last_below first_below gathered_below net_at names_of_net function_place extra_place input_of pad_of are_set is_link_on is_function_on is_any_on is_extra_on over_grid is_read cell_bits entry_bits cell_with cells_at cells_of sets_of is_ram_used ram_at rams_of start_words pintype_of pin_with pins_of global_nets globals_of is_refused_with is_joined class_of numbered_from joins_of buffers_of fabric_of drives_of drivers_of is_driven nets_read lut_value carry_value value_of next_flip written shown next_words next_register state_after output_values wiring_of has leads_below is_on_cycle turn_at end_within clock_end users_of device_faults pll_faults pin_faults mode_faults cascade_faults async_faults driver_faults loop_faults clock_faults pins_fault rams_fault cells_fault fabric_fault design_fault
+unfolding database_a database_b image_with digits word_bits word_of bytes_of blank flat rows_of row_from rows_from kind_of start_in standard_widths standard_side_columns standard_pad_columns standard_pad_rows standard_banks place_of word_place_of any_below least_below last_below first_below gathered_below net_at names_of_net function_place extra_place input_of pad_of are_set is_link_on is_function_on is_any_on is_extra_on over_grid is_read cell_places cell_bits entry_bits cell_with cells_at cells_of sets_of is_ram_used ram_at rams_of start_words pintype_of pin_with pins_of global_nets globals_of is_refused_with is_joined class_of numbered_from joins_of buffers_of fabric_of drives_of drivers_of is_driven nets_read lut_value carry_value value_of next_flip written shown next_words next_register state_after output_values wiring_of has leads_below is_on_cycle turn_at end_within clock_end users_of device_faults pll_faults pin_faults mode_faults cascade_faults async_faults driver_faults loop_faults clock_faults pins_fault rams_fault cells_fault fabric_fault design_fault
 loop = refl
 
 -- a clock that a LUT makes
 made_clock : design_fault database_b (both (at 1 1 2 0 ∷ at 1 1 0 45 ∷ at 1 1 4 0 ∷ [])) ≡ Some (fault.clock 1 1 (Cell 0) 4)
-unfolding database_a database_b image_with digits word_bits word_of bytes_of blank flat rows_of row_from rows_from kind_of start_in standard_widths standard_side_columns standard_pad_columns standard_pad_rows standard_banks place_of word_place_of any_below least_below last_below first_below gathered_below net_at names_of_net function_place extra_place input_of pad_of are_set is_link_on is_function_on is_any_on is_extra_on over_grid is_read cell_bits entry_bits cell_with cells_at cells_of sets_of is_ram_used ram_at rams_of start_words pintype_of pin_with pins_of global_nets globals_of is_refused_with is_joined class_of numbered_from joins_of buffers_of fabric_of drives_of drivers_of is_driven nets_read lut_value carry_value value_of next_flip written shown next_words next_register state_after output_values wiring_of has leads_below is_on_cycle turn_at end_within clock_end users_of device_faults pll_faults pin_faults mode_faults cascade_faults async_faults driver_faults loop_faults clock_faults pins_fault rams_fault cells_fault fabric_fault design_fault
+unfolding database_a database_b image_with digits word_bits word_of bytes_of blank flat rows_of row_from rows_from kind_of start_in standard_widths standard_side_columns standard_pad_columns standard_pad_rows standard_banks place_of word_place_of any_below least_below last_below first_below gathered_below net_at names_of_net function_place extra_place input_of pad_of are_set is_link_on is_function_on is_any_on is_extra_on over_grid is_read cell_places cell_bits entry_bits cell_with cells_at cells_of sets_of is_ram_used ram_at rams_of start_words pintype_of pin_with pins_of global_nets globals_of is_refused_with is_joined class_of numbered_from joins_of buffers_of fabric_of drives_of drivers_of is_driven nets_read lut_value carry_value value_of next_flip written shown next_words next_register state_after output_values wiring_of has leads_below is_on_cycle turn_at end_within clock_end users_of device_faults pll_faults pin_faults mode_faults cascade_faults async_faults driver_faults loop_faults clock_faults pins_fault rams_fault cells_fault fabric_fault design_fault
 made_clock = refl
 
 -- a register that feeds itself, at falling edges: no loop
 toggle : design_fault database_b (both (at 1 1 0 45 ∷ at 1 1 3 0 ∷ at 1 1 5 0 ∷ at 1 1 6 0 ∷ [])) ≡ None
-unfolding database_a database_b image_with digits word_bits word_of bytes_of blank flat rows_of row_from rows_from kind_of start_in standard_widths standard_side_columns standard_pad_columns standard_pad_rows standard_banks place_of word_place_of any_below least_below last_below first_below gathered_below net_at names_of_net function_place extra_place input_of pad_of are_set is_link_on is_function_on is_any_on is_extra_on over_grid is_read cell_bits entry_bits cell_with cells_at cells_of sets_of is_ram_used ram_at rams_of start_words pintype_of pin_with pins_of global_nets globals_of is_refused_with is_joined class_of numbered_from joins_of buffers_of fabric_of drives_of drivers_of is_driven nets_read lut_value carry_value value_of next_flip written shown next_words next_register state_after output_values wiring_of has leads_below is_on_cycle turn_at end_within clock_end users_of device_faults pll_faults pin_faults mode_faults cascade_faults async_faults driver_faults loop_faults clock_faults pins_fault rams_fault cells_fault fabric_fault design_fault
+unfolding database_a database_b image_with digits word_bits word_of bytes_of blank flat rows_of row_from rows_from kind_of start_in standard_widths standard_side_columns standard_pad_columns standard_pad_rows standard_banks place_of word_place_of any_below least_below last_below first_below gathered_below net_at names_of_net function_place extra_place input_of pad_of are_set is_link_on is_function_on is_any_on is_extra_on over_grid is_read cell_places cell_bits entry_bits cell_with cells_at cells_of sets_of is_ram_used ram_at rams_of start_words pintype_of pin_with pins_of global_nets globals_of is_refused_with is_joined class_of numbered_from joins_of buffers_of fabric_of drives_of drivers_of is_driven nets_read lut_value carry_value value_of next_flip written shown next_words next_register state_after output_values wiring_of has leads_below is_on_cycle turn_at end_within clock_end users_of device_faults pll_faults pin_faults mode_faults cascade_faults async_faults driver_faults loop_faults clock_faults pins_fault rams_fault cells_fault fabric_fault design_fault
 toggle = refl
 
 -- its cell
 toggle_cell : cells_of database_b (both (at 1 1 0 45 ∷ at 1 1 3 0 ∷ at 1 1 5 0 ∷ at 1 1 6 0 ∷ [])) ≡ record { x = 1; y = 1; i = 0; lut = 21845; carry = false; flip = true; «set» = false; neg = true; ins = Some 1 ∷ None ∷ None ∷ None ∷ []; out = Some 2; lout = None; cout = None; cin = None; clk = Some 4; cen = None; sr = None } ∷ []
-unfolding database_a database_b image_with digits word_bits word_of bytes_of blank flat rows_of row_from rows_from kind_of start_in standard_widths standard_side_columns standard_pad_columns standard_pad_rows standard_banks place_of word_place_of any_below least_below last_below first_below gathered_below net_at names_of_net function_place extra_place input_of pad_of are_set is_link_on is_function_on is_any_on is_extra_on over_grid is_read cell_bits entry_bits cell_with cells_at cells_of sets_of is_ram_used ram_at rams_of start_words pintype_of pin_with pins_of global_nets globals_of is_refused_with is_joined class_of numbered_from joins_of buffers_of fabric_of drives_of drivers_of is_driven nets_read lut_value carry_value value_of next_flip written shown next_words next_register state_after output_values wiring_of has leads_below is_on_cycle turn_at end_within clock_end users_of device_faults pll_faults pin_faults mode_faults cascade_faults async_faults driver_faults loop_faults clock_faults pins_fault rams_fault cells_fault fabric_fault design_fault
+unfolding database_a database_b image_with digits word_bits word_of bytes_of blank flat rows_of row_from rows_from kind_of start_in standard_widths standard_side_columns standard_pad_columns standard_pad_rows standard_banks place_of word_place_of any_below least_below last_below first_below gathered_below net_at names_of_net function_place extra_place input_of pad_of are_set is_link_on is_function_on is_any_on is_extra_on over_grid is_read cell_places cell_bits entry_bits cell_with cells_at cells_of sets_of is_ram_used ram_at rams_of start_words pintype_of pin_with pins_of global_nets globals_of is_refused_with is_joined class_of numbered_from joins_of buffers_of fabric_of drives_of drivers_of is_driven nets_read lut_value carry_value value_of next_flip written shown next_words next_register state_after output_values wiring_of has leads_below is_on_cycle turn_at end_within clock_end users_of device_faults pll_faults pin_faults mode_faults cascade_faults async_faults driver_faults loop_faults clock_faults pins_fault rams_fault cells_fault fabric_fault design_fault
 toggle_cell = refl
 
 -- a reset that acts without a clock
 async : design_fault database_b (both (at 1 1 0 45 ∷ at 1 1 1 45 ∷ [])) ≡ Some (fault.async 1 1 0)
-unfolding database_a database_b image_with digits word_bits word_of bytes_of blank flat rows_of row_from rows_from kind_of start_in standard_widths standard_side_columns standard_pad_columns standard_pad_rows standard_banks place_of word_place_of any_below least_below last_below first_below gathered_below net_at names_of_net function_place extra_place input_of pad_of are_set is_link_on is_function_on is_any_on is_extra_on over_grid is_read cell_bits entry_bits cell_with cells_at cells_of sets_of is_ram_used ram_at rams_of start_words pintype_of pin_with pins_of global_nets globals_of is_refused_with is_joined class_of numbered_from joins_of buffers_of fabric_of drives_of drivers_of is_driven nets_read lut_value carry_value value_of next_flip written shown next_words next_register state_after output_values wiring_of has leads_below is_on_cycle turn_at end_within clock_end users_of device_faults pll_faults pin_faults mode_faults cascade_faults async_faults driver_faults loop_faults clock_faults pins_fault rams_fault cells_fault fabric_fault design_fault
+unfolding database_a database_b image_with digits word_bits word_of bytes_of blank flat rows_of row_from rows_from kind_of start_in standard_widths standard_side_columns standard_pad_columns standard_pad_rows standard_banks place_of word_place_of any_below least_below last_below first_below gathered_below net_at names_of_net function_place extra_place input_of pad_of are_set is_link_on is_function_on is_any_on is_extra_on over_grid is_read cell_places cell_bits entry_bits cell_with cells_at cells_of sets_of is_ram_used ram_at rams_of start_words pintype_of pin_with pins_of global_nets globals_of is_refused_with is_joined class_of numbered_from joins_of buffers_of fabric_of drives_of drivers_of is_driven nets_read lut_value carry_value value_of next_flip written shown next_words next_register state_after output_values wiring_of has leads_below is_on_cycle turn_at end_within clock_end users_of device_faults pll_faults pin_faults mode_faults cascade_faults async_faults driver_faults loop_faults clock_faults pins_fault rams_fault cells_fault fabric_fault design_fault
 async = refl
 
 -- one bit of two: the link isn't on, and its clock is still
 half_link : design_fault database_b (both (at 1 1 2 0 ∷ at 1 1 0 45 ∷ at 1 1 4 0 ∷ at 1 1 5 0 ∷ [])) ≡ None
-unfolding database_a database_b image_with digits word_bits word_of bytes_of blank flat rows_of row_from rows_from kind_of start_in standard_widths standard_side_columns standard_pad_columns standard_pad_rows standard_banks place_of word_place_of any_below least_below last_below first_below gathered_below net_at names_of_net function_place extra_place input_of pad_of are_set is_link_on is_function_on is_any_on is_extra_on over_grid is_read cell_bits entry_bits cell_with cells_at cells_of sets_of is_ram_used ram_at rams_of start_words pintype_of pin_with pins_of global_nets globals_of is_refused_with is_joined class_of numbered_from joins_of buffers_of fabric_of drives_of drivers_of is_driven nets_read lut_value carry_value value_of next_flip written shown next_words next_register state_after output_values wiring_of has leads_below is_on_cycle turn_at end_within clock_end users_of device_faults pll_faults pin_faults mode_faults cascade_faults async_faults driver_faults loop_faults clock_faults pins_fault rams_fault cells_fault fabric_fault design_fault
+unfolding database_a database_b image_with digits word_bits word_of bytes_of blank flat rows_of row_from rows_from kind_of start_in standard_widths standard_side_columns standard_pad_columns standard_pad_rows standard_banks place_of word_place_of any_below least_below last_below first_below gathered_below net_at names_of_net function_place extra_place input_of pad_of are_set is_link_on is_function_on is_any_on is_extra_on over_grid is_read cell_places cell_bits entry_bits cell_with cells_at cells_of sets_of is_ram_used ram_at rams_of start_words pintype_of pin_with pins_of global_nets globals_of is_refused_with is_joined class_of numbered_from joins_of buffers_of fabric_of drives_of drivers_of is_driven nets_read lut_value carry_value value_of next_flip written shown next_words next_register state_after output_values wiring_of has leads_below is_on_cycle turn_at end_within clock_end users_of device_faults pll_faults pin_faults mode_faults cascade_faults async_faults driver_faults loop_faults clock_faults pins_fault rams_fault cells_fault fabric_fault design_fault
 half_link = refl
 
 -- a pin with another output part
 pin_output : design_fault database_b (both (at 0 3 2 0 ∷ [])) ≡ Some (fault.pin_mode 0 3 0 4)
-unfolding database_a database_b image_with digits word_bits word_of bytes_of blank flat rows_of row_from rows_from kind_of start_in standard_widths standard_side_columns standard_pad_columns standard_pad_rows standard_banks place_of word_place_of any_below least_below last_below first_below gathered_below net_at names_of_net function_place extra_place input_of pad_of are_set is_link_on is_function_on is_any_on is_extra_on over_grid is_read cell_bits entry_bits cell_with cells_at cells_of sets_of is_ram_used ram_at rams_of start_words pintype_of pin_with pins_of global_nets globals_of is_refused_with is_joined class_of numbered_from joins_of buffers_of fabric_of drives_of drivers_of is_driven nets_read lut_value carry_value value_of next_flip written shown next_words next_register state_after output_values wiring_of has leads_below is_on_cycle turn_at end_within clock_end users_of device_faults pll_faults pin_faults mode_faults cascade_faults async_faults driver_faults loop_faults clock_faults pins_fault rams_fault cells_fault fabric_fault design_fault
+unfolding database_a database_b image_with digits word_bits word_of bytes_of blank flat rows_of row_from rows_from kind_of start_in standard_widths standard_side_columns standard_pad_columns standard_pad_rows standard_banks place_of word_place_of any_below least_below last_below first_below gathered_below net_at names_of_net function_place extra_place input_of pad_of are_set is_link_on is_function_on is_any_on is_extra_on over_grid is_read cell_places cell_bits entry_bits cell_with cells_at cells_of sets_of is_ram_used ram_at rams_of start_words pintype_of pin_with pins_of global_nets globals_of is_refused_with is_joined class_of numbered_from joins_of buffers_of fabric_of drives_of drivers_of is_driven nets_read lut_value carry_value value_of next_flip written shown next_words next_register state_after output_values wiring_of has leads_below is_on_cycle turn_at end_within clock_end users_of device_faults pll_faults pin_faults mode_faults cascade_faults async_faults driver_faults loop_faults clock_faults pins_fault rams_fault cells_fault fabric_fault design_fault
 pin_output = refl
 
 -- a pin without input whose net is read
 pin_input : design_fault database_b (image_with (at 1 1 2 0 ∷ [])) ≡ Some (fault.pin_mode 0 1 0 0)
-unfolding database_a database_b image_with digits word_bits word_of bytes_of blank flat rows_of row_from rows_from kind_of start_in standard_widths standard_side_columns standard_pad_columns standard_pad_rows standard_banks place_of word_place_of any_below least_below last_below first_below gathered_below net_at names_of_net function_place extra_place input_of pad_of are_set is_link_on is_function_on is_any_on is_extra_on over_grid is_read cell_bits entry_bits cell_with cells_at cells_of sets_of is_ram_used ram_at rams_of start_words pintype_of pin_with pins_of global_nets globals_of is_refused_with is_joined class_of numbered_from joins_of buffers_of fabric_of drives_of drivers_of is_driven nets_read lut_value carry_value value_of next_flip written shown next_words next_register state_after output_values wiring_of has leads_below is_on_cycle turn_at end_within clock_end users_of device_faults pll_faults pin_faults mode_faults cascade_faults async_faults driver_faults loop_faults clock_faults pins_fault rams_fault cells_fault fabric_fault design_fault
+unfolding database_a database_b image_with digits word_bits word_of bytes_of blank flat rows_of row_from rows_from kind_of start_in standard_widths standard_side_columns standard_pad_columns standard_pad_rows standard_banks place_of word_place_of any_below least_below last_below first_below gathered_below net_at names_of_net function_place extra_place input_of pad_of are_set is_link_on is_function_on is_any_on is_extra_on over_grid is_read cell_places cell_bits entry_bits cell_with cells_at cells_of sets_of is_ram_used ram_at rams_of start_words pintype_of pin_with pins_of global_nets globals_of is_refused_with is_joined class_of numbered_from joins_of buffers_of fabric_of drives_of drivers_of is_driven nets_read lut_value carry_value value_of next_flip written shown next_words next_register state_after output_values wiring_of has leads_below is_on_cycle turn_at end_within clock_end users_of device_faults pll_faults pin_faults mode_faults cascade_faults async_faults driver_faults loop_faults clock_faults pins_fault rams_fault cells_fault fabric_fault design_fault
 pin_input = refl
 
 -- the other device
 device : device_faults database_a (blank_image (standard_layout K8)) ≡ fault.other_device ∷ []
-unfolding database_a image_with digits word_bits word_of bytes_of blank flat rows_of row_from rows_from kind_of start_in standard_widths standard_side_columns standard_pad_columns standard_pad_rows standard_banks place_of word_place_of any_below least_below last_below first_below gathered_below net_at names_of_net function_place extra_place input_of pad_of are_set is_link_on is_function_on is_any_on is_extra_on over_grid is_read cell_bits entry_bits cell_with cells_at cells_of sets_of is_ram_used ram_at rams_of start_words pintype_of pin_with pins_of global_nets globals_of is_refused_with is_joined class_of numbered_from joins_of buffers_of fabric_of drives_of drivers_of is_driven nets_read lut_value carry_value value_of next_flip written shown next_words next_register state_after output_values wiring_of has leads_below is_on_cycle turn_at end_within clock_end users_of device_faults pll_faults pin_faults mode_faults cascade_faults async_faults driver_faults loop_faults clock_faults pins_fault rams_fault cells_fault fabric_fault design_fault
+unfolding database_a image_with digits word_bits word_of bytes_of blank flat rows_of row_from rows_from kind_of start_in standard_widths standard_side_columns standard_pad_columns standard_pad_rows standard_banks place_of word_place_of any_below least_below last_below first_below gathered_below net_at names_of_net function_place extra_place input_of pad_of are_set is_link_on is_function_on is_any_on is_extra_on over_grid is_read cell_places cell_bits entry_bits cell_with cells_at cells_of sets_of is_ram_used ram_at rams_of start_words pintype_of pin_with pins_of global_nets globals_of is_refused_with is_joined class_of numbered_from joins_of buffers_of fabric_of drives_of drivers_of is_driven nets_read lut_value carry_value value_of next_flip written shown next_words next_register state_after output_values wiring_of has leads_below is_on_cycle turn_at end_within clock_end users_of device_faults pll_faults pin_faults mode_faults cascade_faults async_faults driver_faults loop_faults clock_faults pins_fault rams_fault cells_fault fabric_fault design_fault
 device = refl
 
 -- a PLL
 pll : design_fault database_c (both (at 0 9 9 0 ∷ at 0 3 2 0 ∷ [])) ≡ Some (fault.pll 0 9)
-unfolding database_a database_b database_c image_with digits word_bits word_of bytes_of blank flat rows_of row_from rows_from kind_of start_in standard_widths standard_side_columns standard_pad_columns standard_pad_rows standard_banks place_of word_place_of any_below least_below last_below first_below gathered_below net_at names_of_net function_place extra_place input_of pad_of are_set is_link_on is_function_on is_any_on is_extra_on over_grid is_read cell_bits entry_bits cell_with cells_at cells_of sets_of is_ram_used ram_at rams_of start_words pintype_of pin_with pins_of global_nets globals_of is_refused_with is_joined class_of numbered_from joins_of buffers_of fabric_of drives_of drivers_of is_driven nets_read lut_value carry_value value_of next_flip written shown next_words next_register state_after output_values wiring_of has leads_below is_on_cycle turn_at end_within clock_end users_of device_faults pll_faults pin_faults mode_faults cascade_faults async_faults driver_faults loop_faults clock_faults pins_fault rams_fault cells_fault fabric_fault design_fault
+unfolding database_a database_b database_c image_with digits word_bits word_of bytes_of blank flat rows_of row_from rows_from kind_of start_in standard_widths standard_side_columns standard_pad_columns standard_pad_rows standard_banks place_of word_place_of any_below least_below last_below first_below gathered_below net_at names_of_net function_place extra_place input_of pad_of are_set is_link_on is_function_on is_any_on is_extra_on over_grid is_read cell_places cell_bits entry_bits cell_with cells_at cells_of sets_of is_ram_used ram_at rams_of start_words pintype_of pin_with pins_of global_nets globals_of is_refused_with is_joined class_of numbered_from joins_of buffers_of fabric_of drives_of drivers_of is_driven nets_read lut_value carry_value value_of next_flip written shown next_words next_register state_after output_values wiring_of has leads_below is_on_cycle turn_at end_within clock_end users_of device_faults pll_faults pin_faults mode_faults cascade_faults async_faults driver_faults loop_faults clock_faults pins_fault rams_fault cells_fault fabric_fault design_fault
 pll = refl
 
 -- a port beside a differential pair
 lvds : design_fault database_c (both (at 0 1 10 0 ∷ [])) ≡ Some (fault.pin_mode 0 1 0 1)
-unfolding database_a database_b database_c image_with digits word_bits word_of bytes_of blank flat rows_of row_from rows_from kind_of start_in standard_widths standard_side_columns standard_pad_columns standard_pad_rows standard_banks place_of word_place_of any_below least_below last_below first_below gathered_below net_at names_of_net function_place extra_place input_of pad_of are_set is_link_on is_function_on is_any_on is_extra_on over_grid is_read cell_bits entry_bits cell_with cells_at cells_of sets_of is_ram_used ram_at rams_of start_words pintype_of pin_with pins_of global_nets globals_of is_refused_with is_joined class_of numbered_from joins_of buffers_of fabric_of drives_of drivers_of is_driven nets_read lut_value carry_value value_of next_flip written shown next_words next_register state_after output_values wiring_of has leads_below is_on_cycle turn_at end_within clock_end users_of device_faults pll_faults pin_faults mode_faults cascade_faults async_faults driver_faults loop_faults clock_faults pins_fault rams_fault cells_fault fabric_fault design_fault
+unfolding database_a database_b database_c image_with digits word_bits word_of bytes_of blank flat rows_of row_from rows_from kind_of start_in standard_widths standard_side_columns standard_pad_columns standard_pad_rows standard_banks place_of word_place_of any_below least_below last_below first_below gathered_below net_at names_of_net function_place extra_place input_of pad_of are_set is_link_on is_function_on is_any_on is_extra_on over_grid is_read cell_places cell_bits entry_bits cell_with cells_at cells_of sets_of is_ram_used ram_at rams_of start_words pintype_of pin_with pins_of global_nets globals_of is_refused_with is_joined class_of numbered_from joins_of buffers_of fabric_of drives_of drivers_of is_driven nets_read lut_value carry_value value_of next_flip written shown next_words next_register state_after output_values wiring_of has leads_below is_on_cycle turn_at end_within clock_end users_of device_faults pll_faults pin_faults mode_faults cascade_faults async_faults driver_faults loop_faults clock_faults pins_fault rams_fault cells_fault fabric_fault design_fault
 lvds = refl
 
 -- a second input that a routing reads
 second_input : design_fault database_c (both (at 1 1 8 0 ∷ [])) ≡ Some (fault.pin_mode 0 1 0 1)
-unfolding database_a database_b database_c image_with digits word_bits word_of bytes_of blank flat rows_of row_from rows_from kind_of start_in standard_widths standard_side_columns standard_pad_columns standard_pad_rows standard_banks place_of word_place_of any_below least_below last_below first_below gathered_below net_at names_of_net function_place extra_place input_of pad_of are_set is_link_on is_function_on is_any_on is_extra_on over_grid is_read cell_bits entry_bits cell_with cells_at cells_of sets_of is_ram_used ram_at rams_of start_words pintype_of pin_with pins_of global_nets globals_of is_refused_with is_joined class_of numbered_from joins_of buffers_of fabric_of drives_of drivers_of is_driven nets_read lut_value carry_value value_of next_flip written shown next_words next_register state_after output_values wiring_of has leads_below is_on_cycle turn_at end_within clock_end users_of device_faults pll_faults pin_faults mode_faults cascade_faults async_faults driver_faults loop_faults clock_faults pins_fault rams_fault cells_fault fabric_fault design_fault
+unfolding database_a database_b database_c image_with digits word_bits word_of bytes_of blank flat rows_of row_from rows_from kind_of start_in standard_widths standard_side_columns standard_pad_columns standard_pad_rows standard_banks place_of word_place_of any_below least_below last_below first_below gathered_below net_at names_of_net function_place extra_place input_of pad_of are_set is_link_on is_function_on is_any_on is_extra_on over_grid is_read cell_places cell_bits entry_bits cell_with cells_at cells_of sets_of is_ram_used ram_at rams_of start_words pintype_of pin_with pins_of global_nets globals_of is_refused_with is_joined class_of numbered_from joins_of buffers_of fabric_of drives_of drivers_of is_driven nets_read lut_value carry_value value_of next_flip written shown next_words next_register state_after output_values wiring_of has leads_below is_on_cycle turn_at end_within clock_end users_of device_faults pll_faults pin_faults mode_faults cascade_faults async_faults driver_faults loop_faults clock_faults pins_fault rams_fault cells_fault fabric_fault design_fault
 second_input = refl
 
 -- a RAM whose words are narrow; it is used for its buffer is on
 narrow : design_fault database_c (both (at 3 1 0 0 ∷ at 3 2 1 0 ∷ at 3 2 2 0 ∷ at 3 1 3 0 ∷ [])) ≡ Some (fault.mode 3 1 2 1)
-unfolding database_a database_b database_c image_with digits word_bits word_of bytes_of blank flat rows_of row_from rows_from kind_of start_in standard_widths standard_side_columns standard_pad_columns standard_pad_rows standard_banks place_of word_place_of any_below least_below last_below first_below gathered_below net_at names_of_net function_place extra_place input_of pad_of are_set is_link_on is_function_on is_any_on is_extra_on over_grid is_read cell_bits entry_bits cell_with cells_at cells_of sets_of is_ram_used ram_at rams_of start_words pintype_of pin_with pins_of global_nets globals_of is_refused_with is_joined class_of numbered_from joins_of buffers_of fabric_of drives_of drivers_of is_driven nets_read lut_value carry_value value_of next_flip written shown next_words next_register state_after output_values wiring_of has leads_below is_on_cycle turn_at end_within clock_end users_of device_faults pll_faults pin_faults mode_faults cascade_faults async_faults driver_faults loop_faults clock_faults pins_fault rams_fault cells_fault fabric_fault design_fault
+unfolding database_a database_b database_c image_with digits word_bits word_of bytes_of blank flat rows_of row_from rows_from kind_of start_in standard_widths standard_side_columns standard_pad_columns standard_pad_rows standard_banks place_of word_place_of any_below least_below last_below first_below gathered_below net_at names_of_net function_place extra_place input_of pad_of are_set is_link_on is_function_on is_any_on is_extra_on over_grid is_read cell_places cell_bits entry_bits cell_with cells_at cells_of sets_of is_ram_used ram_at rams_of start_words pintype_of pin_with pins_of global_nets globals_of is_refused_with is_joined class_of numbered_from joins_of buffers_of fabric_of drives_of drivers_of is_driven nets_read lut_value carry_value value_of next_flip written shown next_words next_register state_after output_values wiring_of has leads_below is_on_cycle turn_at end_within clock_end users_of device_faults pll_faults pin_faults mode_faults cascade_faults async_faults driver_faults loop_faults clock_faults pins_fault rams_fault cells_fault fabric_fault design_fault
 narrow = refl
 
 -- a RAM that isn't used isn't asked
 unused_ram : design_fault database_c (both (at 3 2 1 0 ∷ at 3 1 3 0 ∷ [])) ≡ None
-unfolding database_a database_b database_c image_with digits word_bits word_of bytes_of blank flat rows_of row_from rows_from kind_of start_in standard_widths standard_side_columns standard_pad_columns standard_pad_rows standard_banks place_of word_place_of any_below least_below last_below first_below gathered_below net_at names_of_net function_place extra_place input_of pad_of are_set is_link_on is_function_on is_any_on is_extra_on over_grid is_read cell_bits entry_bits cell_with cells_at cells_of sets_of is_ram_used ram_at rams_of start_words pintype_of pin_with pins_of global_nets globals_of is_refused_with is_joined class_of numbered_from joins_of buffers_of fabric_of drives_of drivers_of is_driven nets_read lut_value carry_value value_of next_flip written shown next_words next_register state_after output_values wiring_of has leads_below is_on_cycle turn_at end_within clock_end users_of device_faults pll_faults pin_faults mode_faults cascade_faults async_faults driver_faults loop_faults clock_faults pins_fault rams_fault cells_fault fabric_fault design_fault
+unfolding database_a database_b database_c image_with digits word_bits word_of bytes_of blank flat rows_of row_from rows_from kind_of start_in standard_widths standard_side_columns standard_pad_columns standard_pad_rows standard_banks place_of word_place_of any_below least_below last_below first_below gathered_below net_at names_of_net function_place extra_place input_of pad_of are_set is_link_on is_function_on is_any_on is_extra_on over_grid is_read cell_places cell_bits entry_bits cell_with cells_at cells_of sets_of is_ram_used ram_at rams_of start_words pintype_of pin_with pins_of global_nets globals_of is_refused_with is_joined class_of numbered_from joins_of buffers_of fabric_of drives_of drivers_of is_driven nets_read lut_value carry_value value_of next_flip written shown next_words next_register state_after output_values wiring_of has leads_below is_on_cycle turn_at end_within clock_end users_of device_faults pll_faults pin_faults mode_faults cascade_faults async_faults driver_faults loop_faults clock_faults pins_fault rams_fault cells_fault fabric_fault design_fault
 unused_ram = refl
 
 -- a cascade
 cascade : design_fault database_c (both (at 3 1 0 0 ∷ at 3 1 3 0 ∷ [])) ≡ Some (fault.cascade 3 1)
-unfolding database_a database_b database_c image_with digits word_bits word_of bytes_of blank flat rows_of row_from rows_from kind_of start_in standard_widths standard_side_columns standard_pad_columns standard_pad_rows standard_banks place_of word_place_of any_below least_below last_below first_below gathered_below net_at names_of_net function_place extra_place input_of pad_of are_set is_link_on is_function_on is_any_on is_extra_on over_grid is_read cell_bits entry_bits cell_with cells_at cells_of sets_of is_ram_used ram_at rams_of start_words pintype_of pin_with pins_of global_nets globals_of is_refused_with is_joined class_of numbered_from joins_of buffers_of fabric_of drives_of drivers_of is_driven nets_read lut_value carry_value value_of next_flip written shown next_words next_register state_after output_values wiring_of has leads_below is_on_cycle turn_at end_within clock_end users_of device_faults pll_faults pin_faults mode_faults cascade_faults async_faults driver_faults loop_faults clock_faults pins_fault rams_fault cells_fault fabric_fault design_fault
+unfolding database_a database_b database_c image_with digits word_bits word_of bytes_of blank flat rows_of row_from rows_from kind_of start_in standard_widths standard_side_columns standard_pad_columns standard_pad_rows standard_banks place_of word_place_of any_below least_below last_below first_below gathered_below net_at names_of_net function_place extra_place input_of pad_of are_set is_link_on is_function_on is_any_on is_extra_on over_grid is_read cell_places cell_bits entry_bits cell_with cells_at cells_of sets_of is_ram_used ram_at rams_of start_words pintype_of pin_with pins_of global_nets globals_of is_refused_with is_joined class_of numbered_from joins_of buffers_of fabric_of drives_of drivers_of is_driven nets_read lut_value carry_value value_of next_flip written shown next_words next_register state_after output_values wiring_of has leads_below is_on_cycle turn_at end_within clock_end users_of device_faults pll_faults pin_faults mode_faults cascade_faults async_faults driver_faults loop_faults clock_faults pins_fault rams_fault cells_fault fabric_fault design_fault
 cascade = refl
 
 -- a pin and a RAM on one net
 pin_and_ram : design_fault database_c (both (at 3 1 0 0 ∷ [])) ≡ Some (fault.two_drivers 0 (driver.Pin 0 1 0) (driver.Link 5))
-unfolding database_a database_b database_c image_with digits word_bits word_of bytes_of blank flat rows_of row_from rows_from kind_of start_in standard_widths standard_side_columns standard_pad_columns standard_pad_rows standard_banks place_of word_place_of any_below least_below last_below first_below gathered_below net_at names_of_net function_place extra_place input_of pad_of are_set is_link_on is_function_on is_any_on is_extra_on over_grid is_read cell_bits entry_bits cell_with cells_at cells_of sets_of is_ram_used ram_at rams_of start_words pintype_of pin_with pins_of global_nets globals_of is_refused_with is_joined class_of numbered_from joins_of buffers_of fabric_of drives_of drivers_of is_driven nets_read lut_value carry_value value_of next_flip written shown next_words next_register state_after output_values wiring_of has leads_below is_on_cycle turn_at end_within clock_end users_of device_faults pll_faults pin_faults mode_faults cascade_faults async_faults driver_faults loop_faults clock_faults pins_fault rams_fault cells_fault fabric_fault design_fault
+unfolding database_a database_b database_c image_with digits word_bits word_of bytes_of blank flat rows_of row_from rows_from kind_of start_in standard_widths standard_side_columns standard_pad_columns standard_pad_rows standard_banks place_of word_place_of any_below least_below last_below first_below gathered_below net_at names_of_net function_place extra_place input_of pad_of are_set is_link_on is_function_on is_any_on is_extra_on over_grid is_read cell_places cell_bits entry_bits cell_with cells_at cells_of sets_of is_ram_used ram_at rams_of start_words pintype_of pin_with pins_of global_nets globals_of is_refused_with is_joined class_of numbered_from joins_of buffers_of fabric_of drives_of drivers_of is_driven nets_read lut_value carry_value value_of next_flip written shown next_words next_register state_after output_values wiring_of has leads_below is_on_cycle turn_at end_within clock_end users_of device_faults pll_faults pin_faults mode_faults cascade_faults async_faults driver_faults loop_faults clock_faults pins_fault rams_fault cells_fault fabric_fault design_fault
 pin_and_ram = refl
 
 -- the clock of a RAM is inverted in the upper tile, where its name stands
 ram_clock : map {B = Bool × Bool × Option ℕ} (λ ram. (ram.rneg, ram.wneg, ram.rclk)) (rams_of database_c (both (at 3 1 0 0 ∷ at 3 2 4 0 ∷ []))) ≡ (true, false, Some 4) ∷ []
-unfolding database_a database_b database_c image_with digits word_bits word_of bytes_of blank flat rows_of row_from rows_from kind_of start_in standard_widths standard_side_columns standard_pad_columns standard_pad_rows standard_banks place_of word_place_of any_below least_below last_below first_below gathered_below net_at names_of_net function_place extra_place input_of pad_of are_set is_link_on is_function_on is_any_on is_extra_on over_grid is_read cell_bits entry_bits cell_with cells_at cells_of sets_of is_ram_used ram_at rams_of start_words pintype_of pin_with pins_of global_nets globals_of is_refused_with is_joined class_of numbered_from joins_of buffers_of fabric_of drives_of drivers_of is_driven nets_read lut_value carry_value value_of next_flip written shown next_words next_register state_after output_values wiring_of has leads_below is_on_cycle turn_at end_within clock_end users_of device_faults pll_faults pin_faults mode_faults cascade_faults async_faults driver_faults loop_faults clock_faults pins_fault rams_fault cells_fault fabric_fault design_fault
+unfolding database_a database_b database_c image_with digits word_bits word_of bytes_of blank flat rows_of row_from rows_from kind_of start_in standard_widths standard_side_columns standard_pad_columns standard_pad_rows standard_banks place_of word_place_of any_below least_below last_below first_below gathered_below net_at names_of_net function_place extra_place input_of pad_of are_set is_link_on is_function_on is_any_on is_extra_on over_grid is_read cell_places cell_bits entry_bits cell_with cells_at cells_of sets_of is_ram_used ram_at rams_of start_words pintype_of pin_with pins_of global_nets globals_of is_refused_with is_joined class_of numbered_from joins_of buffers_of fabric_of drives_of drivers_of is_driven nets_read lut_value carry_value value_of next_flip written shown next_words next_register state_after output_values wiring_of has leads_below is_on_cycle turn_at end_within clock_end users_of device_faults pll_faults pin_faults mode_faults cascade_faults async_faults driver_faults loop_faults clock_faults pins_fault rams_fault cells_fault fabric_fault design_fault
 ram_clock = refl
 
 -- a global without its pad's bit has its net `fabout`
 global_fabout : globals_of database_c (image_with []) ≡ record { g = 2; net = 6; from = Fabout 7 } ∷ record { g = 2; net = 8; from = Fabout 7 } ∷ []
-unfolding database_a database_b database_c image_with digits word_bits word_of bytes_of blank flat rows_of row_from rows_from kind_of start_in standard_widths standard_side_columns standard_pad_columns standard_pad_rows standard_banks place_of word_place_of any_below least_below last_below first_below gathered_below net_at names_of_net function_place extra_place input_of pad_of are_set is_link_on is_function_on is_any_on is_extra_on over_grid is_read cell_bits entry_bits cell_with cells_at cells_of sets_of is_ram_used ram_at rams_of start_words pintype_of pin_with pins_of global_nets globals_of is_refused_with is_joined class_of numbered_from joins_of buffers_of fabric_of drives_of drivers_of is_driven nets_read lut_value carry_value value_of next_flip written shown next_words next_register state_after output_values wiring_of has leads_below is_on_cycle turn_at end_within clock_end users_of device_faults pll_faults pin_faults mode_faults cascade_faults async_faults driver_faults loop_faults clock_faults pins_fault rams_fault cells_fault fabric_fault design_fault
+unfolding database_a database_b database_c image_with digits word_bits word_of bytes_of blank flat rows_of row_from rows_from kind_of start_in standard_widths standard_side_columns standard_pad_columns standard_pad_rows standard_banks place_of word_place_of any_below least_below last_below first_below gathered_below net_at names_of_net function_place extra_place input_of pad_of are_set is_link_on is_function_on is_any_on is_extra_on over_grid is_read cell_places cell_bits entry_bits cell_with cells_at cells_of sets_of is_ram_used ram_at rams_of start_words pintype_of pin_with pins_of global_nets globals_of is_refused_with is_joined class_of numbered_from joins_of buffers_of fabric_of drives_of drivers_of is_driven nets_read lut_value carry_value value_of next_flip written shown next_words next_register state_after output_values wiring_of has leads_below is_on_cycle turn_at end_within clock_end users_of device_faults pll_faults pin_faults mode_faults cascade_faults async_faults driver_faults loop_faults clock_faults pins_fault rams_fault cells_fault fabric_fault design_fault
 global_fabout = refl
 
 -- and with it the pad
 global_pad : globals_of database_c (record (blank_image (standard_layout K1)) { cram = with_place_bit (blank_image (standard_layout K1)).cram (record { bank = 0; px = 330; py = 143 }) true }) ≡ record { g = 2; net = 6; from = Pad 0 1 0 } ∷ record { g = 2; net = 8; from = Pad 0 1 0 } ∷ []
-unfolding database_a database_b database_c image_with digits word_bits word_of bytes_of blank flat rows_of row_from rows_from kind_of start_in standard_widths standard_side_columns standard_pad_columns standard_pad_rows standard_banks place_of word_place_of any_below least_below last_below first_below gathered_below net_at names_of_net function_place extra_place input_of pad_of are_set is_link_on is_function_on is_any_on is_extra_on over_grid is_read cell_bits entry_bits cell_with cells_at cells_of sets_of is_ram_used ram_at rams_of start_words pintype_of pin_with pins_of global_nets globals_of is_refused_with is_joined class_of numbered_from joins_of buffers_of fabric_of drives_of drivers_of is_driven nets_read lut_value carry_value value_of next_flip written shown next_words next_register state_after output_values wiring_of has leads_below is_on_cycle turn_at end_within clock_end users_of device_faults pll_faults pin_faults mode_faults cascade_faults async_faults driver_faults loop_faults clock_faults pins_fault rams_fault cells_fault fabric_fault design_fault
+unfolding database_a database_b database_c image_with digits word_bits word_of bytes_of blank flat rows_of row_from rows_from kind_of start_in standard_widths standard_side_columns standard_pad_columns standard_pad_rows standard_banks place_of word_place_of any_below least_below last_below first_below gathered_below net_at names_of_net function_place extra_place input_of pad_of are_set is_link_on is_function_on is_any_on is_extra_on over_grid is_read cell_places cell_bits entry_bits cell_with cells_at cells_of sets_of is_ram_used ram_at rams_of start_words pintype_of pin_with pins_of global_nets globals_of is_refused_with is_joined class_of numbered_from joins_of buffers_of fabric_of drives_of drivers_of is_driven nets_read lut_value carry_value value_of next_flip written shown next_words next_register state_after output_values wiring_of has leads_below is_on_cycle turn_at end_within clock_end users_of device_faults pll_faults pin_faults mode_faults cascade_faults async_faults driver_faults loop_faults clock_faults pins_fault rams_fault cells_fault fabric_fault design_fault
 global_pad = refl
 
 -- a pad that isn't an input pin
 bad_pad : pins_fault database_c (record (blank_image (standard_layout K1)) { cram = with_place_bit (blank_image (standard_layout K1)).cram (record { bank = 0; px = 330; py = 143 }) true }) ≡ Some (fault.pin_mode 0 1 0 0)
-unfolding database_a database_b database_c image_with digits word_bits word_of bytes_of blank flat rows_of row_from rows_from kind_of start_in standard_widths standard_side_columns standard_pad_columns standard_pad_rows standard_banks place_of word_place_of any_below least_below last_below first_below gathered_below net_at names_of_net function_place extra_place input_of pad_of are_set is_link_on is_function_on is_any_on is_extra_on over_grid is_read cell_bits entry_bits cell_with cells_at cells_of sets_of is_ram_used ram_at rams_of start_words pintype_of pin_with pins_of global_nets globals_of is_refused_with is_joined class_of numbered_from joins_of buffers_of fabric_of drives_of drivers_of is_driven nets_read lut_value carry_value value_of next_flip written shown next_words next_register state_after output_values wiring_of has leads_below is_on_cycle turn_at end_within clock_end users_of device_faults pll_faults pin_faults mode_faults cascade_faults async_faults driver_faults loop_faults clock_faults pins_fault rams_fault cells_fault fabric_fault design_fault
+unfolding database_a database_b database_c image_with digits word_bits word_of bytes_of blank flat rows_of row_from rows_from kind_of start_in standard_widths standard_side_columns standard_pad_columns standard_pad_rows standard_banks place_of word_place_of any_below least_below last_below first_below gathered_below net_at names_of_net function_place extra_place input_of pad_of are_set is_link_on is_function_on is_any_on is_extra_on over_grid is_read cell_places cell_bits entry_bits cell_with cells_at cells_of sets_of is_ram_used ram_at rams_of start_words pintype_of pin_with pins_of global_nets globals_of is_refused_with is_joined class_of numbered_from joins_of buffers_of fabric_of drives_of drivers_of is_driven nets_read lut_value carry_value value_of next_flip written shown next_words next_register state_after output_values wiring_of has leads_below is_on_cycle turn_at end_within clock_end users_of device_faults pll_faults pin_faults mode_faults cascade_faults async_faults driver_faults loop_faults clock_faults pins_fault rams_fault cells_fault fabric_fault design_fault
 bad_pad = refl
 
 -- routings join both ways: 3, 7 and 8 are one class
 classes : map (class_of ((7, 3) ∷ (3, 8) ∷ [])) (0 ∷ 3 ∷ 7 ∷ 8 ∷ []) ≡ 0 ∷ 3 ∷ 3 ∷ 3 ∷ []
-unfolding image_with digits word_bits word_of bytes_of blank flat rows_of row_from rows_from kind_of start_in standard_widths standard_side_columns standard_pad_columns standard_pad_rows standard_banks place_of word_place_of any_below least_below last_below first_below gathered_below net_at names_of_net function_place extra_place input_of pad_of are_set is_link_on is_function_on is_any_on is_extra_on over_grid is_read cell_bits entry_bits cell_with cells_at cells_of sets_of is_ram_used ram_at rams_of start_words pintype_of pin_with pins_of global_nets globals_of is_refused_with is_joined class_of numbered_from joins_of buffers_of fabric_of drives_of drivers_of is_driven nets_read lut_value carry_value value_of next_flip written shown next_words next_register state_after output_values wiring_of has leads_below is_on_cycle turn_at end_within clock_end users_of device_faults pll_faults pin_faults mode_faults cascade_faults async_faults driver_faults loop_faults clock_faults pins_fault rams_fault cells_fault fabric_fault design_fault
+unfolding image_with digits word_bits word_of bytes_of blank flat rows_of row_from rows_from kind_of start_in standard_widths standard_side_columns standard_pad_columns standard_pad_rows standard_banks place_of word_place_of any_below least_below last_below first_below gathered_below net_at names_of_net function_place extra_place input_of pad_of are_set is_link_on is_function_on is_any_on is_extra_on over_grid is_read cell_places cell_bits entry_bits cell_with cells_at cells_of sets_of is_ram_used ram_at rams_of start_words pintype_of pin_with pins_of global_nets globals_of is_refused_with is_joined class_of numbered_from joins_of buffers_of fabric_of drives_of drivers_of is_driven nets_read lut_value carry_value value_of next_flip written shown next_words next_register state_after output_values wiring_of has leads_below is_on_cycle turn_at end_within clock_end users_of device_faults pll_faults pin_faults mode_faults cascade_faults async_faults driver_faults loop_faults clock_faults pins_fault rams_fault cells_fault fabric_fault design_fault
 classes = refl
 
 -- entry 1 of a LUT has in_0 alone
 entry_one : lut_value (λ net. true) (λ net. net == 0) (cell_with_lut 2) ≡ true
-unfolding image_with digits word_bits word_of bytes_of blank flat rows_of row_from rows_from kind_of start_in standard_widths standard_side_columns standard_pad_columns standard_pad_rows standard_banks place_of word_place_of any_below least_below last_below first_below gathered_below net_at names_of_net function_place extra_place input_of pad_of are_set is_link_on is_function_on is_any_on is_extra_on over_grid is_read cell_bits entry_bits cell_with cells_at cells_of sets_of is_ram_used ram_at rams_of start_words pintype_of pin_with pins_of global_nets globals_of is_refused_with is_joined class_of numbered_from joins_of buffers_of fabric_of drives_of drivers_of is_driven nets_read lut_value carry_value value_of next_flip written shown next_words next_register state_after output_values wiring_of has leads_below is_on_cycle turn_at end_within clock_end users_of device_faults pll_faults pin_faults mode_faults cascade_faults async_faults driver_faults loop_faults clock_faults pins_fault rams_fault cells_fault fabric_fault design_fault
+unfolding image_with digits word_bits word_of bytes_of blank flat rows_of row_from rows_from kind_of start_in standard_widths standard_side_columns standard_pad_columns standard_pad_rows standard_banks place_of word_place_of any_below least_below last_below first_below gathered_below net_at names_of_net function_place extra_place input_of pad_of are_set is_link_on is_function_on is_any_on is_extra_on over_grid is_read cell_places cell_bits entry_bits cell_with cells_at cells_of sets_of is_ram_used ram_at rams_of start_words pintype_of pin_with pins_of global_nets globals_of is_refused_with is_joined class_of numbered_from joins_of buffers_of fabric_of drives_of drivers_of is_driven nets_read lut_value carry_value value_of next_flip written shown next_words next_register state_after output_values wiring_of has leads_below is_on_cycle turn_at end_within clock_end users_of device_faults pll_faults pin_faults mode_faults cascade_faults async_faults driver_faults loop_faults clock_faults pins_fault rams_fault cells_fault fabric_fault design_fault
 entry_one = refl
 
 -- entry 8 has in_3 alone
 entry_eight : lut_value (λ net. true) (λ net. net == 3) (cell_with_lut 256) ≡ true
-unfolding image_with digits word_bits word_of bytes_of blank flat rows_of row_from rows_from kind_of start_in standard_widths standard_side_columns standard_pad_columns standard_pad_rows standard_banks place_of word_place_of any_below least_below last_below first_below gathered_below net_at names_of_net function_place extra_place input_of pad_of are_set is_link_on is_function_on is_any_on is_extra_on over_grid is_read cell_bits entry_bits cell_with cells_at cells_of sets_of is_ram_used ram_at rams_of start_words pintype_of pin_with pins_of global_nets globals_of is_refused_with is_joined class_of numbered_from joins_of buffers_of fabric_of drives_of drivers_of is_driven nets_read lut_value carry_value value_of next_flip written shown next_words next_register state_after output_values wiring_of has leads_below is_on_cycle turn_at end_within clock_end users_of device_faults pll_faults pin_faults mode_faults cascade_faults async_faults driver_faults loop_faults clock_faults pins_fault rams_fault cells_fault fabric_fault design_fault
+unfolding image_with digits word_bits word_of bytes_of blank flat rows_of row_from rows_from kind_of start_in standard_widths standard_side_columns standard_pad_columns standard_pad_rows standard_banks place_of word_place_of any_below least_below last_below first_below gathered_below net_at names_of_net function_place extra_place input_of pad_of are_set is_link_on is_function_on is_any_on is_extra_on over_grid is_read cell_places cell_bits entry_bits cell_with cells_at cells_of sets_of is_ram_used ram_at rams_of start_words pintype_of pin_with pins_of global_nets globals_of is_refused_with is_joined class_of numbered_from joins_of buffers_of fabric_of drives_of drivers_of is_driven nets_read lut_value carry_value value_of next_flip written shown next_words next_register state_after output_values wiring_of has leads_below is_on_cycle turn_at end_within clock_end users_of device_faults pll_faults pin_faults mode_faults cascade_faults async_faults driver_faults loop_faults clock_faults pins_fault rams_fault cells_fault fabric_fault design_fault
 entry_eight = refl
 
 -- an input without a driver counts as 0
 entry_none : lut_value (λ net. false) (λ net. true) (cell_with_lut 1) ≡ true
-unfolding image_with digits word_bits word_of bytes_of blank flat rows_of row_from rows_from kind_of start_in standard_widths standard_side_columns standard_pad_columns standard_pad_rows standard_banks place_of word_place_of any_below least_below last_below first_below gathered_below net_at names_of_net function_place extra_place input_of pad_of are_set is_link_on is_function_on is_any_on is_extra_on over_grid is_read cell_bits entry_bits cell_with cells_at cells_of sets_of is_ram_used ram_at rams_of start_words pintype_of pin_with pins_of global_nets globals_of is_refused_with is_joined class_of numbered_from joins_of buffers_of fabric_of drives_of drivers_of is_driven nets_read lut_value carry_value value_of next_flip written shown next_words next_register state_after output_values wiring_of has leads_below is_on_cycle turn_at end_within clock_end users_of device_faults pll_faults pin_faults mode_faults cascade_faults async_faults driver_faults loop_faults clock_faults pins_fault rams_fault cells_fault fabric_fault design_fault
+unfolding image_with digits word_bits word_of bytes_of blank flat rows_of row_from rows_from kind_of start_in standard_widths standard_side_columns standard_pad_columns standard_pad_rows standard_banks place_of word_place_of any_below least_below last_below first_below gathered_below net_at names_of_net function_place extra_place input_of pad_of are_set is_link_on is_function_on is_any_on is_extra_on over_grid is_read cell_places cell_bits entry_bits cell_with cells_at cells_of sets_of is_ram_used ram_at rams_of start_words pintype_of pin_with pins_of global_nets globals_of is_refused_with is_joined class_of numbered_from joins_of buffers_of fabric_of drives_of drivers_of is_driven nets_read lut_value carry_value value_of next_flip written shown next_words next_register state_after output_values wiring_of has leads_below is_on_cycle turn_at end_within clock_end users_of device_faults pll_faults pin_faults mode_faults cascade_faults async_faults driver_faults loop_faults clock_faults pins_fault rams_fault cells_fault fabric_fault design_fault
 entry_none = refl
 
 -- a reset doesn't act where the enable is 0
 reset_disabled : next_flip (λ net. true) (λ net. net == 6) (cell_with_lut 0) false ≡ false
-unfolding image_with digits word_bits word_of bytes_of blank flat rows_of row_from rows_from kind_of start_in standard_widths standard_side_columns standard_pad_columns standard_pad_rows standard_banks place_of word_place_of any_below least_below last_below first_below gathered_below net_at names_of_net function_place extra_place input_of pad_of are_set is_link_on is_function_on is_any_on is_extra_on over_grid is_read cell_bits entry_bits cell_with cells_at cells_of sets_of is_ram_used ram_at rams_of start_words pintype_of pin_with pins_of global_nets globals_of is_refused_with is_joined class_of numbered_from joins_of buffers_of fabric_of drives_of drivers_of is_driven nets_read lut_value carry_value value_of next_flip written shown next_words next_register state_after output_values wiring_of has leads_below is_on_cycle turn_at end_within clock_end users_of device_faults pll_faults pin_faults mode_faults cascade_faults async_faults driver_faults loop_faults clock_faults pins_fault rams_fault cells_fault fabric_fault design_fault
+unfolding image_with digits word_bits word_of bytes_of blank flat rows_of row_from rows_from kind_of start_in standard_widths standard_side_columns standard_pad_columns standard_pad_rows standard_banks place_of word_place_of any_below least_below last_below first_below gathered_below net_at names_of_net function_place extra_place input_of pad_of are_set is_link_on is_function_on is_any_on is_extra_on over_grid is_read cell_places cell_bits entry_bits cell_with cells_at cells_of sets_of is_ram_used ram_at rams_of start_words pintype_of pin_with pins_of global_nets globals_of is_refused_with is_joined class_of numbered_from joins_of buffers_of fabric_of drives_of drivers_of is_driven nets_read lut_value carry_value value_of next_flip written shown next_words next_register state_after output_values wiring_of has leads_below is_on_cycle turn_at end_within clock_end users_of device_faults pll_faults pin_faults mode_faults cascade_faults async_faults driver_faults loop_faults clock_faults pins_fault rams_fault cells_fault fabric_fault design_fault
 reset_disabled = refl
 
 -- it acts where the enable has no driver
 reset_enabled : next_flip (λ net. not (net == 5)) (λ net. net == 6) (cell_with_lut 0) false ≡ true
-unfolding image_with digits word_bits word_of bytes_of blank flat rows_of row_from rows_from kind_of start_in standard_widths standard_side_columns standard_pad_columns standard_pad_rows standard_banks place_of word_place_of any_below least_below last_below first_below gathered_below net_at names_of_net function_place extra_place input_of pad_of are_set is_link_on is_function_on is_any_on is_extra_on over_grid is_read cell_bits entry_bits cell_with cells_at cells_of sets_of is_ram_used ram_at rams_of start_words pintype_of pin_with pins_of global_nets globals_of is_refused_with is_joined class_of numbered_from joins_of buffers_of fabric_of drives_of drivers_of is_driven nets_read lut_value carry_value value_of next_flip written shown next_words next_register state_after output_values wiring_of has leads_below is_on_cycle turn_at end_within clock_end users_of device_faults pll_faults pin_faults mode_faults cascade_faults async_faults driver_faults loop_faults clock_faults pins_fault rams_fault cells_fault fabric_fault design_fault
+unfolding image_with digits word_bits word_of bytes_of blank flat rows_of row_from rows_from kind_of start_in standard_widths standard_side_columns standard_pad_columns standard_pad_rows standard_banks place_of word_place_of any_below least_below last_below first_below gathered_below net_at names_of_net function_place extra_place input_of pad_of are_set is_link_on is_function_on is_any_on is_extra_on over_grid is_read cell_places cell_bits entry_bits cell_with cells_at cells_of sets_of is_ram_used ram_at rams_of start_words pintype_of pin_with pins_of global_nets globals_of is_refused_with is_joined class_of numbered_from joins_of buffers_of fabric_of drives_of drivers_of is_driven nets_read lut_value carry_value value_of next_flip written shown next_words next_register state_after output_values wiring_of has leads_below is_on_cycle turn_at end_within clock_end users_of device_faults pll_faults pin_faults mode_faults cascade_faults async_faults driver_faults loop_faults clock_faults pins_fault rams_fault cells_fault fabric_fault design_fault
 reset_enabled = refl
 
 -- a toggle at a falling edge
 toggle_step : state_after (fabric_of database_b (both (at 1 1 0 45 ∷ at 1 1 3 0 ∷ at 1 1 5 0 ∷ at 1 1 6 0 ∷ []))) (record { flips = false ∷ []; registers = []; words = [] }) (bit_in (true ∷ false ∷ false ∷ false ∷ true ∷ [])) (bit_in (false ∷ false ∷ false ∷ false ∷ false ∷ [])) ≡ record { flips = true ∷ []; registers = []; words = [] }
-unfolding database_a database_b image_with digits word_bits word_of bytes_of blank flat rows_of row_from rows_from kind_of start_in standard_widths standard_side_columns standard_pad_columns standard_pad_rows standard_banks place_of word_place_of any_below least_below last_below first_below gathered_below net_at names_of_net function_place extra_place input_of pad_of are_set is_link_on is_function_on is_any_on is_extra_on over_grid is_read cell_bits entry_bits cell_with cells_at cells_of sets_of is_ram_used ram_at rams_of start_words pintype_of pin_with pins_of global_nets globals_of is_refused_with is_joined class_of numbered_from joins_of buffers_of fabric_of drives_of drivers_of is_driven nets_read lut_value carry_value value_of next_flip written shown next_words next_register state_after output_values wiring_of has leads_below is_on_cycle turn_at end_within clock_end users_of device_faults pll_faults pin_faults mode_faults cascade_faults async_faults driver_faults loop_faults clock_faults pins_fault rams_fault cells_fault fabric_fault design_fault
+unfolding database_a database_b image_with digits word_bits word_of bytes_of blank flat rows_of row_from rows_from kind_of start_in standard_widths standard_side_columns standard_pad_columns standard_pad_rows standard_banks place_of word_place_of any_below least_below last_below first_below gathered_below net_at names_of_net function_place extra_place input_of pad_of are_set is_link_on is_function_on is_any_on is_extra_on over_grid is_read cell_places cell_bits entry_bits cell_with cells_at cells_of sets_of is_ram_used ram_at rams_of start_words pintype_of pin_with pins_of global_nets globals_of is_refused_with is_joined class_of numbered_from joins_of buffers_of fabric_of drives_of drivers_of is_driven nets_read lut_value carry_value value_of next_flip written shown next_words next_register state_after output_values wiring_of has leads_below is_on_cycle turn_at end_within clock_end users_of device_faults pll_faults pin_faults mode_faults cascade_faults async_faults driver_faults loop_faults clock_faults pins_fault rams_fault cells_fault fabric_fault design_fault
 toggle_step = refl
 
 -- and none at a rising one
 toggle_stays : state_after (fabric_of database_b (both (at 1 1 0 45 ∷ at 1 1 3 0 ∷ at 1 1 5 0 ∷ at 1 1 6 0 ∷ []))) (record { flips = false ∷ []; registers = []; words = [] }) (bit_in (false ∷ false ∷ false ∷ false ∷ false ∷ [])) (bit_in (true ∷ false ∷ false ∷ false ∷ true ∷ [])) ≡ record { flips = false ∷ []; registers = []; words = [] }
-unfolding database_a database_b image_with digits word_bits word_of bytes_of blank flat rows_of row_from rows_from kind_of start_in standard_widths standard_side_columns standard_pad_columns standard_pad_rows standard_banks place_of word_place_of any_below least_below last_below first_below gathered_below net_at names_of_net function_place extra_place input_of pad_of are_set is_link_on is_function_on is_any_on is_extra_on over_grid is_read cell_bits entry_bits cell_with cells_at cells_of sets_of is_ram_used ram_at rams_of start_words pintype_of pin_with pins_of global_nets globals_of is_refused_with is_joined class_of numbered_from joins_of buffers_of fabric_of drives_of drivers_of is_driven nets_read lut_value carry_value value_of next_flip written shown next_words next_register state_after output_values wiring_of has leads_below is_on_cycle turn_at end_within clock_end users_of device_faults pll_faults pin_faults mode_faults cascade_faults async_faults driver_faults loop_faults clock_faults pins_fault rams_fault cells_fault fabric_fault design_fault
+unfolding database_a database_b image_with digits word_bits word_of bytes_of blank flat rows_of row_from rows_from kind_of start_in standard_widths standard_side_columns standard_pad_columns standard_pad_rows standard_banks place_of word_place_of any_below least_below last_below first_below gathered_below net_at names_of_net function_place extra_place input_of pad_of are_set is_link_on is_function_on is_any_on is_extra_on over_grid is_read cell_places cell_bits entry_bits cell_with cells_at cells_of sets_of is_ram_used ram_at rams_of start_words pintype_of pin_with pins_of global_nets globals_of is_refused_with is_joined class_of numbered_from joins_of buffers_of fabric_of drives_of drivers_of is_driven nets_read lut_value carry_value value_of next_flip written shown next_words next_register state_after output_values wiring_of has leads_below is_on_cycle turn_at end_within clock_end users_of device_faults pll_faults pin_faults mode_faults cascade_faults async_faults driver_faults loop_faults clock_faults pins_fault rams_fault cells_fault fabric_fault design_fault
 toggle_stays = refl
 
 -- a word 1234 written with ABCD under the mask 00FF is AB34: net 16 + b has bit b of the data, net 32 + b that of the mask
 masked_write : written (λ net. true) (bit_in (false ∷ false ∷ false ∷ false ∷ false ∷ false ∷ false ∷ false ∷ false ∷ false ∷ false ∷ false ∷ false ∷ false ∷ false ∷ false ∷ true ∷ false ∷ true ∷ true ∷ false ∷ false ∷ true ∷ true ∷ true ∷ true ∷ false ∷ true ∷ false ∷ true ∷ false ∷ true ∷ true ∷ true ∷ true ∷ true ∷ true ∷ true ∷ true ∷ true ∷ false ∷ false ∷ false ∷ false ∷ false ∷ false ∷ false ∷ false ∷ [])) ram_with_nets (false ∷ false ∷ true ∷ false ∷ true ∷ true ∷ false ∷ false ∷ false ∷ true ∷ false ∷ false ∷ true ∷ false ∷ false ∷ false ∷ []) ≡ false ∷ false ∷ true ∷ false ∷ true ∷ true ∷ false ∷ false ∷ true ∷ true ∷ false ∷ true ∷ false ∷ true ∷ false ∷ true ∷ []
-unfolding image_with digits word_bits word_of bytes_of blank flat rows_of row_from rows_from kind_of start_in standard_widths standard_side_columns standard_pad_columns standard_pad_rows standard_banks place_of word_place_of any_below least_below last_below first_below gathered_below net_at names_of_net function_place extra_place input_of pad_of are_set is_link_on is_function_on is_any_on is_extra_on over_grid is_read cell_bits entry_bits cell_with cells_at cells_of sets_of is_ram_used ram_at rams_of start_words pintype_of pin_with pins_of global_nets globals_of is_refused_with is_joined class_of numbered_from joins_of buffers_of fabric_of drives_of drivers_of is_driven nets_read lut_value carry_value value_of next_flip written shown next_words next_register state_after output_values wiring_of has leads_below is_on_cycle turn_at end_within clock_end users_of device_faults pll_faults pin_faults mode_faults cascade_faults async_faults driver_faults loop_faults clock_faults pins_fault rams_fault cells_fault fabric_fault design_fault
+unfolding image_with digits word_bits word_of bytes_of blank flat rows_of row_from rows_from kind_of start_in standard_widths standard_side_columns standard_pad_columns standard_pad_rows standard_banks place_of word_place_of any_below least_below last_below first_below gathered_below net_at names_of_net function_place extra_place input_of pad_of are_set is_link_on is_function_on is_any_on is_extra_on over_grid is_read cell_places cell_bits entry_bits cell_with cells_at cells_of sets_of is_ram_used ram_at rams_of start_words pintype_of pin_with pins_of global_nets globals_of is_refused_with is_joined class_of numbered_from joins_of buffers_of fabric_of drives_of drivers_of is_driven nets_read lut_value carry_value value_of next_flip written shown next_words next_register state_after output_values wiring_of has leads_below is_on_cycle turn_at end_within clock_end users_of device_faults pll_faults pin_faults mode_faults cascade_faults async_faults driver_faults loop_faults clock_faults pins_fault rams_fault cells_fault fabric_fault design_fault
 masked_write = refl
 
 -- a carry chain: the carry out of a cell whose inputs are 0 and 1 and whose carry in is set
 carried : carry_value (λ net. true) (λ net. not (net == 1)) (cell_with_lut 0) ≡ true
-unfolding image_with digits word_bits word_of bytes_of blank flat rows_of row_from rows_from kind_of start_in standard_widths standard_side_columns standard_pad_columns standard_pad_rows standard_banks place_of word_place_of any_below least_below last_below first_below gathered_below net_at names_of_net function_place extra_place input_of pad_of are_set is_link_on is_function_on is_any_on is_extra_on over_grid is_read cell_bits entry_bits cell_with cells_at cells_of sets_of is_ram_used ram_at rams_of start_words pintype_of pin_with pins_of global_nets globals_of is_refused_with is_joined class_of numbered_from joins_of buffers_of fabric_of drives_of drivers_of is_driven nets_read lut_value carry_value value_of next_flip written shown next_words next_register state_after output_values wiring_of has leads_below is_on_cycle turn_at end_within clock_end users_of device_faults pll_faults pin_faults mode_faults cascade_faults async_faults driver_faults loop_faults clock_faults pins_fault rams_fault cells_fault fabric_fault design_fault
+unfolding image_with digits word_bits word_of bytes_of blank flat rows_of row_from rows_from kind_of start_in standard_widths standard_side_columns standard_pad_columns standard_pad_rows standard_banks place_of word_place_of any_below least_below last_below first_below gathered_below net_at names_of_net function_place extra_place input_of pad_of are_set is_link_on is_function_on is_any_on is_extra_on over_grid is_read cell_places cell_bits entry_bits cell_with cells_at cells_of sets_of is_ram_used ram_at rams_of start_words pintype_of pin_with pins_of global_nets globals_of is_refused_with is_joined class_of numbered_from joins_of buffers_of fabric_of drives_of drivers_of is_driven nets_read lut_value carry_value value_of next_flip written shown next_words next_register state_after output_values wiring_of has leads_below is_on_cycle turn_at end_within clock_end users_of device_faults pll_faults pin_faults mode_faults cascade_faults async_faults driver_faults loop_faults clock_faults pins_fault rams_fault cells_fault fabric_fault design_fault
 carried = refl

@@ -2,6 +2,7 @@
 use Rattle.std.specs.Prelude.{ℕ, zero, suc, Bool, false, ◌&&◌, List, [], ◌∷◌, ◌++◌, map, get_or, codes, if◌then◌else◌, Option, Some, None}
 use Rattle.std.specs.List.{list_any}
 use Rattle.bit_plane.specs.BitList.{word_of}
+use Rattle.plane_map.specs.declared.tile.RowCol.{RowCol}
 use Rattle.plane_map.specs.declared.tile.TileKind.TheVariants.{Logic}
 use Rattle.ice_image.specs.Configuration.{Configuration}
 use Rattle.chipdb_lines.specs.Items.{FunctionLine}
@@ -15,14 +16,22 @@ use Rattle.net_extract.specs.Nets.{net_named, with_number, ending_in}
 
 -- ---- the bits of a cell
 
--- the bits of a function at a tile, and none where it isn't there
-abbrev pub bits_of_function : Configuration → ℕ → ℕ → Option FunctionLine → List Bool
-bits_of_function image x y None = []
-bits_of_function image x y (Some function) = bits_at image x y function.bits
+-- the name of the function that lists the bits of cell i
+abbrev pub cell_name : ℕ → List ℕ
+cell_name i = ending_in (codes "LC_") i
 
--- the 20 bits of cell i, which the function `LC_i` lists
+-- the rows and columns that a function lists, and none where it isn't there
+abbrev pub bits_of_line : Option FunctionLine → List RowCol
+bits_of_line None = []
+bits_of_line (Some function) = function.bits
+
+-- where the 20 bits of cell i lie in its tile
+unfoldable pub cell_places : Database → ℕ → List RowCol
+cell_places db i = bits_of_line (function_named db Logic (cell_name i))
+
+-- the 20 bits of cell i
 unfoldable pub cell_bits : Database → Configuration → ℕ → ℕ → ℕ → List Bool
-cell_bits db image x y i = bits_of_function image x y (function_named db Logic (ending_in (codes "LC_") i))
+cell_bits db image x y i = bits_at image x y (cell_places db i)
 
 -- one of them
 abbrev pub cell_bit : List Bool → ℕ → Bool
@@ -32,9 +41,21 @@ cell_bit bits k = get_or bits k false
 unfoldable pub entry_bits : List ℕ
 entry_bits = 4 ∷ 14 ∷ 15 ∷ 5 ∷ 6 ∷ 16 ∷ 17 ∷ 7 ∷ 3 ∷ 13 ∷ 12 ∷ 2 ∷ 1 ∷ 11 ∷ 10 ∷ 0 ∷ []
 
+-- the number that some of the bits of a cell make, the first of them the lowest
+abbrev pub number_of : List ℕ → List Bool → ℕ
+number_of numbers bits = word_of (map (cell_bit bits) numbers)
+
 -- the entries of the LUT as a number, whose bit k is entry k
 abbrev pub lut_of : List Bool → ℕ
-lut_of bits = word_of (map (cell_bit bits) entry_bits)
+lut_of bits = number_of entry_bits bits
+
+-- the numbers of the bits that enable the carry and the flip-flop, that let a reset set, and that let it act without a clock
+unfoldable pub flag_bits : List ℕ
+flag_bits = 8 ∷ 9 ∷ 18 ∷ 19 ∷ []
+
+-- these four as a number
+abbrev pub flags_of : List Bool → ℕ
+flags_of bits = number_of flag_bits bits
 
 abbrev pub has_carry : List Bool → Bool
 has_carry bits = cell_bit bits 8

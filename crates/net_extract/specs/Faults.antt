@@ -2,7 +2,7 @@
 -- the order of what has them.
 use Rattle.std.specs.Prelude.{ℕ, Bool, true, false, List, [], ◌∷◌, flat_map, if◌then◌else◌, Option, Some, None}
 use Rattle.plane_map.specs.declared.device.DeviceName.{DeviceName}
-use Rattle.plane_map.specs.declared.device.DeviceName.TheVariants.{K1, K8}
+use Rattle.plane_map.specs.Devices.{is_same_device}
 use Rattle.plane_map.specs.declared.tile.TileKind.TheVariants.{Io, Logic}
 use Rattle.ice_image.specs.Configuration.{Configuration}
 use Rattle.chipdb_reader.specs.Database.{Database}
@@ -41,11 +41,6 @@ pub data Fault : Type 0 where
   clock : (x y : ℕ) (user : ClockUser) (net : ℕ) → Fault
 
 -- ---- devices
-
-abbrev pub is_same_device : DeviceName → DeviceName → Bool
-is_same_device K1 K1 = true
-is_same_device K8 K8 = true
-is_same_device a b = false
 
 unfoldable pub device_faults : Database → Configuration → List Fault
 device_faults db image = if is_same_device db.chip.device image.layout.device then [] else other_device ∷ []

@@ -4,7 +4,7 @@ use Rattle.plane_map.specs.Layout.{kind_of}
 use Rattle.plane_map.specs.declared.device.DeviceName.{DeviceName}
 use Rattle.plane_map.specs.declared.tile.TileKind.{TileKind}
 use Rattle.ice_image.specs.declared.any.AnyImage.{AnyImage}
-use Rattle.ice_image.specs.Either.{configuration_of, device_of}
+use Rattle.ice_image.specs.Either.{device_of}
 use Rattle.ice_image.specs.Configuration.{Configuration}
 use Rattle.chipdb_lines.specs.Items.{FunctionLine}
 use Rattle.net_extract.specs.On.{begins_with, are_set}
@@ -20,9 +20,8 @@ unfoldable pub tiles_of : DeviceName → TileKind → List TileXy8
 tiles_of device kind = over_tiles device kind (λ x y. record { x = x; y = y } ∷ [])
 
 -- an image has a tile of that kind at (x, y)
-pub record HasTile (image : AnyImage) (kind : TileKind) (x y : ℕ) : Type 0 where
-  pub device : (configuration_of image).layout.device ≡ device_of image
-  pub stands : kind_of (device_of image) x y ≡ Some kind
+abbrev pub HasTile : AnyImage → TileKind → ℕ → ℕ → Type 0
+HasTile image kind x y = kind_of (device_of image) x y ≡ Some kind
 
 -- whether a function is of a kind, has a name that begins so, and is on at (x, y)
 abbrev pub begins_and_is_on : Configuration → TileKind → ℕ → ℕ → List ℕ → FunctionLine → Bool

@@ -45,7 +45,7 @@ pub fn listed_bit(image: &AnyImage, kind: TileKind, x: u8, y: u8, bits: &[RowCol
 }
 
 /// Whether all bits of a list are 1 at the tile at (x, y).
-fn are_set(image: &AnyImage, kind: TileKind, x: u8, y: u8, bits: &[RowCol]) -> bool
+pub fn are_set(image: &AnyImage, kind: TileKind, x: u8, y: u8, bits: &[RowCol]) -> bool
     requires tile { HasTile image.now kind x y }
     requires in_tile { All (IsBitIn (columns_of kind)) bits.now }
     ensures { result ≡ are_set (configuration_of image.now) x y bits.now }

@@ -9,6 +9,7 @@
 #![tactic(auto)]
 
 mod cell;
+mod cell_bits;
 mod classes;
 mod driver;
 mod fault;
@@ -24,12 +25,14 @@ mod some_read;
 mod tiles;
 
 pub use cell::{CarrySet, Lc};
+pub use cell_bits::{cell_name, cell_places, flags, is_one_set, lut};
 pub use driver::{ClockUser, Driver};
 pub use fault::LinkFault;
 pub use found_links::links;
-pub use functions::{function_bits, is_any_on, is_on, listed_bit};
+pub use functions::{are_set, function_bits, is_any_on, is_on, listed_bit};
 pub use links_type::Links;
 pub use name::Name;
+pub use on::is_link_on;
 pub use pin::{GlobalFrom, GlobalNet, Pin};
 pub use ram::RamCell;
 pub use some_read::is_some_read;

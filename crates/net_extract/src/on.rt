@@ -4,7 +4,7 @@ ghost use Rattle.std.specs.Bool.{beq};
 ghost use Rattle.std.specs.Cmp.Lexicographic.{pointwise};
 ghost use Rattle.ice_image.specs.Contents.{IsBitOfTile};
 ghost use Rattle.ice_image.specs.Either.{configuration_of};
-ghost use Rattle.chipdb_lines.specs.Kept.{low_bits};
+ghost use Rattle.bit_plane.specs.BitList.{word_bits};
 ghost use Rattle.chipdb_reader.specs.Fit.{IsLink};
 ghost use Rattle.chipdb_reader.specs.Kept.{link_line, link_lines};
 ghost use Rattle.net_extract.specs.On.{bits_at, is_link_on};
@@ -27,14 +27,14 @@ pub(crate) struct OnLink {
 fn have_values(image: &AnyImage, x: u8, y: u8, bits: &[RowCol], values: u64) -> bool
     requires few { length bits.now ≤ 64 }
     requires in_tile { All (IsBitOfTile (configuration_of image.now).layout x y) bits.now }
-    ensures { result ≡ pointwise beq (bits_at (configuration_of image.now) x y bits.now) (low_bits (length bits.now) values) }
+    ensures { result ≡ pointwise beq (bits_at (configuration_of image.now) x y bits.now) (word_bits (length bits.now) values) }
 {
     image.tile_equals(x, y, bits, values)
 }
 
-/// Whether each bit of a link has its value.
+/// Whether a link is on: each of its bits has its value.
 #[tactic(auto, unfolding(crate::specs::On::is_link_on))]
-fn is_on(db: &ChipDb, image: &AnyImage, link: LinkLine) -> bool
+pub fn is_link_on(db: &ChipDb, image: &AnyImage, link: LinkLine) -> bool
     requires device { db.now.chip.device ≡ (configuration_of image.now).layout.device }
     requires fit { IsLink db.now.chip (link_line db.now.bits link) }
     ensures { result ≡ is_link_on (configuration_of image.now) (link_line db.now.bits link) }
@@ -62,7 +62,7 @@ pub(crate) fn all_on(
 {
     let mut on = Vec::new(alloc);
     for (i, link) in links.iter().enumerate() {
-        if is_on(db, image, *link) {
+        if is_link_on(db, image, *link) {
             let place = place_of(i)?;
             on.push(OnLink {
                 place,

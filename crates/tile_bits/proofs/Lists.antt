@@ -8,7 +8,7 @@ use Rattle.place_search.specs.Places.{gathered_below}
 use Rattle.place_search.proofs.Places.{gathered_below-more, gathered_below-none}
 use Rattle.ice_image.specs.Configuration.{Configuration}
 use Rattle.chipdb_reader.specs.Database.{Link}
-use Rattle.tile_bits.specs.On.{is_link_on}
+use Rattle.net_extract.specs.On.{is_link_on}
 use Rattle.tile_bits.specs.Items.{link_here, is_on_at}
 use Rattle.tile_bits.specs.Inside.{AreLists, lists_of, with_place}
 

@@ -7,7 +7,6 @@ use Rattle.bit_plane.specs.Rows.{Rows, bit_at}
 use Rattle.bit_plane.proofs.Words.{word_bits-more}
 use Rattle.plane_map.specs.Layout.{kind_of}
 use Rattle.plane_map.specs.declared.device.DeviceName.{DeviceName}
-use Rattle.plane_map.specs.declared.device.DeviceName.TheVariants.{K1, K8}
 use Rattle.plane_map.specs.declared.tile.Place.{Place}
 use Rattle.plane_map.specs.declared.tile.TileKind.{TileKind}
 use Rattle.ice_image.specs.Configuration.{Configuration}
@@ -15,9 +14,9 @@ use Rattle.asc_text.specs.Canonical.{bit_character, row_line}
 use Rattle.chipdb_lines.specs.Items.{ExtraLine}
 use Rattle.chipdb_reader.specs.Database.{Database}
 use Rattle.tile_bits.specs.declared.item.Active.TheVariants.{Unknown}
-use Rattle.tile_bits.specs.On.{tile_bit}
+use Rattle.ice_image.specs.Bits.{tile_bit_of}
 use Rattle.tile_bits.specs.Items.{items_at, items_in, items_of_tile, unknown_here, unknown_in, unknown_items}
-use Rattle.tile_bits.specs.Explained.{extra_lines, extra_text, is_same_device}
+use Rattle.tile_bits.specs.Explained.{extra_lines, extra_text}
 use Rattle.tile_bits.specs.Inside.{Knows}
 
 -- the first bit of a number, and then the others
@@ -50,11 +49,4 @@ unfolding unknown_items
 unknown-same image x y width test other board narrow knows same =
     gathered_below-same 16 (unknown_in image x y (λ row col. bit_at board col row) width) (unknown_in image x y other width) (λ row row_in.
     gathered_below-same width (unknown_here image x y (λ row col. bit_at board col row) row) (unknown_here image x y other row) (λ col col_in.
-    ap (λ (known : Bool). if tile_bit image x y (record { row = row; col = col }) && not known then Unknown row col ∷ [] else []) (knows.bits row col row_in (omega arith) ∙ same row col)))
-
--- devices that a test finds the same
-pub same-device : (a b : DeviceName) → is_same_device a b ≡ true → a ≡ b
-same-device K1 K1 is = refl
-same-device K1 K8 is = absurd cc
-same-device K8 K1 is = absurd cc
-same-device K8 K8 is = refl
+    ap (λ (known : Bool). if tile_bit_of image x y row col && not known then Unknown row col ∷ [] else []) (knows.bits row col row_in (omega arith) ∙ same row col)))

@@ -5,9 +5,9 @@ use Rattle.text_lines.specs.Written.{text_of}
 use Rattle.bit_plane.specs.BitList.{word_bits}
 use Rattle.plane_map.specs.Layout.{kind_of, columns_of, grid_width, grid_height}
 use Rattle.plane_map.specs.declared.device.DeviceName.{DeviceName}
-use Rattle.plane_map.specs.declared.device.DeviceName.TheVariants.{K1, K8}
 use Rattle.plane_map.specs.declared.tile.TileKind.{TileKind}
 use Rattle.plane_map.specs.declared.tile.Place.{Place}
+use Rattle.ice_image.specs.Bits.{tile_bit_of}
 use Rattle.ice_image.specs.Configuration.{Configuration}
 use Rattle.asc_text.specs.declared.fault.TileXy.{TileXy}
 use Rattle.plane_map.specs.DeviceWords.{device_word}
@@ -22,8 +22,8 @@ use Rattle.tile_bits.specs.declared.item.Active.{Active}
 use Rattle.tile_bits.specs.declared.item.Active.TheVariants.{Lc, Function, Buffer, Routing, Unknown}
 use Rattle.tile_bits.specs.declared.fault.ExplainFault.{ExplainFault}
 use Rattle.tile_bits.specs.declared.fault.ExplainFault.TheVariants.{Device, NoTile, Memory}
-use Rattle.tile_bits.specs.On.{tile_bit}
-use Rattle.tile_bits.specs.Cells.{cell_name}
+use Rattle.net_extract.specs.Cells.{cell_name}
+use Rattle.plane_map.specs.Devices.{is_same_device}
 use Rattle.tile_bits.specs.Items.{items_of_tile}
 
 -- ---- nets
@@ -74,7 +74,7 @@ tile_lines database image x y kind = grid_line (tile_keyword kind) x y ∷ map (
 
 -- whether a tile has a set bit
 unfoldable pub is_set_tile : Configuration → ℕ → ℕ → TileKind → Bool
-is_set_tile image x y kind = any_below 16 (λ row. any_below (columns_of kind) (λ col. tile_bit image x y (record { row = row; col = col })))
+is_set_tile image x y kind = any_below 16 (λ row. any_below (columns_of kind) (λ col. tile_bit_of image x y row col))
 
 -- the tile at a place, where it has a set bit
 abbrev pub set_tile_lines : Database → Configuration → ℕ → ℕ → Option TileKind → List (List ℕ)
@@ -118,11 +118,6 @@ unfoldable pub explained : Database → Configuration → Option TileXy → List
 explained database image only = text_of (with_word device_keyword (device_word image.layout.device) ∷ lines_after database image only)
 
 -- ---- refusals
-
-abbrev pub is_same_device : DeviceName → DeviceName → Bool
-is_same_device K1 K1 = true
-is_same_device K8 K8 = true
-is_same_device a b = false
 
 -- a tile that isn't there
 abbrev pub tile_fault : ℕ → ℕ → Option TileKind → Option ExplainFault

@@ -7,24 +7,26 @@ use Rattle.plane_map.specs.declared.tile.RowCol.{RowCol}
 use Rattle.plane_map.specs.declared.tile.TileKind.{TileKind}
 use Rattle.plane_map.specs.declared.tile.TileKind.TheVariants.{Logic}
 use Rattle.ice_image.specs.Configuration.{Configuration}
+use Rattle.ice_image.specs.Bits.{tile_bit_of}
 use Rattle.chipdb_lines.specs.Items.{FunctionLine}
 use Rattle.chipdb_lines.specs.Statements.{is_same_kind}
 use Rattle.chipdb_reader.specs.Database.{Database, Link}
 use Rattle.tile_bits.specs.declared.item.Active.{Active}
 use Rattle.tile_bits.specs.declared.item.Active.TheVariants.{Lc, Function, Buffer, Routing, Unknown}
-use Rattle.tile_bits.specs.On.{tile_bit, is_function_on, is_link_on}
-use Rattle.tile_bits.specs.Cells.{bits_of_line, cell_bits, cell_places, lut_order, flag_order, picked}
+use Rattle.net_extract.specs.On.{are_set, is_link_on}
+use Rattle.net_extract.specs.Cells.{bits_of_line, cell_bits, cell_places, flags_of, is_used, lut_of}
+use Rattle.tile_bits.specs.Cells.{places_of_cells}
 
 -- ---- cells
 
 -- a cell with a set bit
 abbrev pub cell_item : ℕ → List Bool → List Active
-cell_item i bits = if list_any (λ bit. bit) bits then Lc i (picked lut_order bits) (picked flag_order bits) ∷ [] else []
+cell_item i bits = if is_used bits then Lc i (lut_of bits) (flags_of bits) ∷ [] else []
 
 -- only logic tiles have cells
-unfoldable pub cell_items : Configuration → ℕ → ℕ → TileKind → List FunctionLine → List Active
-cell_items image x y Logic functions = gathered_below 8 (λ i. cell_item i (map (tile_bit image x y) (cell_bits functions i)))
-cell_items image x y kind functions = []
+unfoldable pub cell_items : Database → Configuration → ℕ → ℕ → TileKind → List Active
+cell_items database image x y Logic = gathered_below 8 (λ i. cell_item i (cell_bits database image x y i))
+cell_items database image x y kind = []
 
 -- ---- functions and links that are on, by their places in the lists
 
@@ -35,7 +37,7 @@ is_place place (Some other) = other == place
 -- a function of the tile's kind that is on and no cell
 abbrev pub is_other_on : Configuration → ℕ → ℕ → TileKind → List FunctionLine → ℕ → FunctionLine → Bool
 is_other_on image x y kind functions place function =
-    is_same_kind function.kind kind && (is_function_on image x y function && not (list_any (is_place place) (cell_places functions)))
+    is_same_kind function.kind kind && (are_set image x y function.bits && not (list_any (is_place place) (places_of_cells functions)))
 
 abbrev pub function_here : Configuration → ℕ → ℕ → TileKind → List FunctionLine → ℕ → Option FunctionLine → List ℕ
 function_here image x y kind functions place None = []
@@ -74,9 +76,9 @@ abbrev pub is_one_in : ℕ → ℕ → Option Link → Bool
 is_one_in row col None = false
 is_one_in row col (Some link) = is_one_of row col link.bits link.values
 
-abbrev pub is_in_cells : TileKind → List FunctionLine → ℕ → ℕ → Bool
-is_in_cells Logic functions row col = any_below 8 (λ i. list_any (is_bit row col) (cell_bits functions i))
-is_in_cells kind functions row col = false
+abbrev pub is_in_cells : TileKind → Database → ℕ → ℕ → Bool
+is_in_cells Logic database row col = any_below 8 (λ i. list_any (is_bit row col) (cell_places database i))
+is_in_cells kind database row col = false
 
 abbrev pub is_in_functions : Configuration → ℕ → ℕ → TileKind → List FunctionLine → ℕ → ℕ → Bool
 is_in_functions image x y kind functions row col =
@@ -88,14 +90,14 @@ is_one_in_links image x y links row col = list_any (λ place. is_one_in row col 
 -- a bit of a cell, or of a function that is on, or with the value 1 in a link that is on
 abbrev pub is_explained : Database → Configuration → ℕ → ℕ → TileKind → ℕ → ℕ → Bool
 is_explained database image x y kind row col =
-    is_in_cells kind database.functions row col
+    is_in_cells kind database row col
     || is_in_functions image x y kind database.functions row col
     || is_one_in_links image x y database.buffers row col
     || is_one_in_links image x y database.routings row col
 
 abbrev pub unknown_here : Configuration → ℕ → ℕ → (ℕ → ℕ → Bool) → ℕ → ℕ → List Active
 unknown_here image x y is_known row col =
-    if tile_bit image x y (record { row = row; col = col }) && not (is_known row col) then Unknown row col ∷ [] else []
+    if tile_bit_of image x y row col && not (is_known row col) then Unknown row col ∷ [] else []
 
 abbrev pub unknown_in : Configuration → ℕ → ℕ → (ℕ → ℕ → Bool) → ℕ → ℕ → List Active
 unknown_in image x y is_known width row = gathered_below width (unknown_here image x y is_known row)
@@ -108,7 +110,7 @@ unknown_items image x y is_known width = gathered_below 16 (unknown_in image x y
 
 abbrev pub items_of_tile : Database → Configuration → ℕ → ℕ → TileKind → List Active
 items_of_tile database image x y kind =
-    cell_items image x y kind database.functions
+    cell_items database image x y kind
     ++ map Function (on_functions image x y kind database.functions)
     ++ map Buffer (on_links image x y database.buffers)
     ++ map Routing (on_links image x y database.routings)

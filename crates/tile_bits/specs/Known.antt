@@ -3,11 +3,11 @@ use Rattle.std.specs.Prelude.{◌≡◌, length}
 use Rattle.ice_image.specs.Configuration.{Configuration}
 use Rattle.chipdb_reader.specs.Database.{Database}
 use Rattle.tile_bits.specs.declared.explaining.Known.{Known}
-use Rattle.tile_bits.specs.Cells.{cell_places}
+use Rattle.tile_bits.specs.Cells.{places_of_cells}
 use Rattle.tile_bits.specs.Inside.{AreLists, lists_of}
 
 -- the cells of the database, and the links that are on in the image
 pub record IsKnown (database : Database) (image : Configuration) (known : Known) : Type 0 where
-  pub cells : known.cells.places ≡ cell_places database.functions
+  pub cells : known.cells.places ≡ places_of_cells database.functions
   pub buffers : AreLists image database.buffers (length database.buffers) (lists_of known.buffers.lists.items)
   pub routings : AreLists image database.routings (length database.routings) (lists_of known.routings.lists.items)

@@ -1,4 +1,3 @@
-pub mod On
 pub mod Cells
 pub mod Items
 pub mod Inside

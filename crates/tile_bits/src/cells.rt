@@ -1,29 +1,26 @@
 // The logic cells of a tile.
-ghost use Rattle.std.specs.Prelude.{◌≡◌, ◌++◌, ◌<◌, ◌≤◌, ◌^◌, All, Some, false, get_or, length, map, None, OnOk};
+ghost use Rattle.std.specs.Prelude.{◌≡◌, ◌++◌, ◌<◌, All, get_or, None, OnOk};
 ghost use Rattle.std.specs.List.{list_any};
 ghost use Rattle.place_search.specs.Places.{gathered_below};
-ghost use Rattle.plane_map.specs.Layout.{columns_of};
 ghost use Rattle.ice_image.specs.Either.{configuration_of};
 ghost use Rattle.chipdb_reader.specs.Fit.{IsBitIn};
 ghost use Rattle.chipdb_reader.specs.Kept.{database_in};
-ghost use Rattle.tile_bits.specs.Cells.{bits_at, cell_bits, cell_name as name_of, cell_places, picked};
+ghost use Rattle.chipdb_reader.specs.Lookups.{function_place};
+ghost use Rattle.net_extract.specs.Cells.{cell_bits, cell_name};
+ghost use Rattle.plane_map.specs.declared.tile.TileKind.TheVariants.{Logic};
+ghost use Rattle.net_extract.specs.On.{bits_at};
+ghost use Rattle.tile_bits.specs.Cells.{bits_at_place, places_of_cells};
 ghost use Rattle.tile_bits.specs.Inside.{IsTileAt};
 ghost use Rattle.tile_bits.specs.Items.{cell_item, cell_items, is_place};
-ghost use Rattle.tile_bits.specs.On.{tile_bit as bit_of};
 
 use crate::item::Active;
-use crate::on::{function_at, is_one_set, tile_bit};
+use crate::places::function_at;
 use crate::tile::TileAt;
 use chipdb_reader::ChipDb;
 use ice_image::AnyImage;
+use net_extract::{cell_name, flags, is_one_set, lut};
 use plane_map::{RowCol, TileKind};
 use std::alloc::AllocError;
-
-/// Where the entries of a cell's LUT stand among its bits, entry 0 first.
-const LUT_ORDER: [usize; 16] = [4, 14, 15, 5, 6, 16, 17, 7, 3, 13, 12, 2, 1, 11, 10, 0];
-
-/// Where a cell's carry enable, flip-flop enable, set and asynchronous bits stand.
-const FLAG_ORDER: [usize; 4] = [8, 9, 18, 19];
 
 /// The places of the eight cells among the functions of a database.
 #[derive(Clone, Copy)]
@@ -33,21 +30,20 @@ pub(crate) struct Cells {
 
 impl Cells {
     /// The cells of a database.
-    #[tactic(auto, unfolding(crate::specs::Cells::cell_places))]
+    #[tactic(auto, unfolding(crate::specs::Cells::places_of_cells))]
     pub(crate) fn of(db: &ChipDb) -> Cells
-        ensures { result.places ≡ cell_places (database_in db.now).functions }
+        ensures { result.places ≡ places_of_cells (database_in db.now).functions }
     {
-        let place = |name: &[u8]| db.function(TileKind::Logic, name);
         Cells {
             places: [
-                place(b"LC_0"),
-                place(b"LC_1"),
-                place(b"LC_2"),
-                place(b"LC_3"),
-                place(b"LC_4"),
-                place(b"LC_5"),
-                place(b"LC_6"),
-                place(b"LC_7"),
+                place_of_cell(db, 0),
+                place_of_cell(db, 1),
+                place_of_cell(db, 2),
+                place_of_cell(db, 3),
+                place_of_cell(db, 4),
+                place_of_cell(db, 5),
+                place_of_cell(db, 6),
+                place_of_cell(db, 7),
             ],
         }
     }
@@ -62,7 +58,7 @@ impl Cells {
     /// The bits of cell i.
     pub(crate) fn bits<'a>(&self, db: &'a ChipDb, i: usize) -> &'a [RowCol]
         requires cell { i < 8 }
-        ensures bits { result.now ≡ bits_at (database_in db.now).functions (get_or self.now.places i None) }
+        ensures bits { result.now ≡ bits_at_place (database_in db.now).functions (get_or self.now.places i None) }
         ensures inside { All (IsBitIn 54) result.now }
     {
         match self.places[i] {
@@ -75,21 +71,11 @@ impl Cells {
     }
 }
 
-/// The name of cell i.
-pub(crate) fn cell_name(i: u8) -> &'static [u8]
-    ensures { result.now ≡ name_of i }
+/// The place of the first function that has the name of cell i.
+fn place_of_cell(db: &ChipDb, i: u8) -> Option<usize>
+    ensures { result ≡ function_place Logic (cell_name i) (database_in db.now).functions }
 {
-    match i {
-        0 => b"LC_0",
-        1 => b"LC_1",
-        2 => b"LC_2",
-        3 => b"LC_3",
-        4 => b"LC_4",
-        5 => b"LC_5",
-        6 => b"LC_6",
-        7 => b"LC_7",
-        _ => b"",
-    }
+    db.function(TileKind::Logic, cell_name(i).bytes())
 }
 
 /// Adds the cells of a tile that have a set bit.
@@ -102,8 +88,8 @@ pub(crate) fn push_cells(
     cells: Cells,
 ) -> Result<(), AllocError>
     requires tile { IsTileAt (configuration_of image.now).layout.device at }
-    requires cells { cells.places ≡ cell_places (database_in db.now).functions }
-    ensures { OnOk result (items.new.items ≡ items.old.items ++ cell_items (configuration_of image.now) at.x at.y at.kind (database_in db.now).functions) }
+    requires cells { cells.places ≡ places_of_cells (database_in db.now).functions }
+    ensures { OnOk result (items.new.items ≡ items.old.items ++ cell_items (database_in db.now) (configuration_of image.now) at.x at.y at.kind) }
 {
     match at.kind {
         TileKind::Logic => push_logic_cells(items, db, image, at, cells),
@@ -122,8 +108,8 @@ fn push_logic_cells(
 ) -> Result<(), AllocError>
     requires tile { IsTileAt (configuration_of image.now).layout.device at }
     requires kind { at.kind ≡ TileKind.Logic }
-    requires cells { cells.places ≡ cell_places (database_in db.now).functions }
-    ensures { OnOk result (items.new.items ≡ items.old.items ++ gathered_below 8 (λ i. cell_item i (map (bit_of (configuration_of image.now) at.x at.y) (cell_bits (database_in db.now).functions i)))) }
+    requires cells { cells.places ≡ places_of_cells (database_in db.now).functions }
+    ensures { OnOk result (items.new.items ≡ items.old.items ++ gathered_below 8 (λ i. cell_item i (cell_bits (database_in db.now) (configuration_of image.now) at.x at.y i))) }
 {
     for i in 0..8 {
         let bits = cells.bits(db, usize::from(i));
@@ -141,44 +127,16 @@ fn push_cell(
     bits: &[RowCol],
 ) -> Result<(), AllocError>
     requires tile { IsTileAt (configuration_of image.now).layout.device at }
-    requires inside { All (IsBitIn (columns_of at.kind)) bits.now }
-    ensures { OnOk result (items.new.items ≡ items.old.items ++ cell_item i (map (bit_of (configuration_of image.now) at.x at.y) bits.now)) }
+    requires kind { at.kind ≡ TileKind.Logic }
+    requires inside { All (IsBitIn 54) bits.now }
+    ensures { OnOk result (items.new.items ≡ items.old.items ++ cell_item i (bits_at (configuration_of image.now) at.x at.y bits.now)) }
 {
-    if is_one_set(image, at, bits) {
+    if is_one_set(image, TileKind::Logic, at.x, at.y, bits) {
         items.push(Active::Lc {
             i,
-            lut: picked(image, at, bits, &LUT_ORDER),
-            flags: picked(image, at, bits, &FLAG_ORDER) as u8,
+            lut: lut(image, at.x, at.y, bits),
+            flags: flags(image, at.x, at.y, bits),
         })?;
     }
     Ok(())
-}
-
-/// The number of some of the bits of a cell by their places, the first of them the lowest. A bit that isn't there is 0.
-#[tactic(auto, unfolding(bit_plane::specs::BitList::word_of))]
-fn picked(image: &AnyImage, at: TileAt, bits: &[RowCol], order: &[usize]) -> u16
-    requires tile { IsTileAt (configuration_of image.now).layout.device at }
-    requires inside { All (IsBitIn (columns_of at.kind)) bits.now }
-    requires few { length order.now ≤ 16 }
-    ensures is { result ≡ picked order.now (map (bit_of (configuration_of image.now) at.x at.y) bits.now) }
-    ensures small { result < 2 ^ length order.now }
-{
-    match order {
-        [] => 0,
-        [place, rest @ ..] => {
-            u16::from(bit_or_0(image, at, bits, *place)) + 2 * picked(image, at, bits, rest)
-        }
-    }
-}
-
-/// The bit at a place of a list, and 0 past its end.
-fn bit_or_0(image: &AnyImage, at: TileAt, bits: &[RowCol], place: usize) -> bool
-    requires tile { IsTileAt (configuration_of image.now).layout.device at }
-    requires inside { All (IsBitIn (columns_of at.kind)) bits.now }
-    ensures { result ≡ get_or (map (bit_of (configuration_of image.now) at.x at.y) bits.now) place false }
-{
-    match bits.get(place) {
-        None => false,
-        Some(bit) => tile_bit(image, at, *bit),
-    }
 }

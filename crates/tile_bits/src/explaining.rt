@@ -8,7 +8,7 @@ ghost use Rattle.plane_map.specs.DeviceWords.{device_word};
 ghost use Rattle.asc_text.specs.Statements.{device_keyword};
 ghost use Rattle.asc_text.specs.Canonical.{with_word};
 ghost use Rattle.chipdb_reader.specs.Kept.{database_in};
-ghost use Rattle.tile_bits.specs.Explained.{all_tile_lines, explain_fault_of, explained, is_same_device, lines_of_kind, set_tile_lines, tile_fault, tile_lines, Tells};
+ghost use Rattle.tile_bits.specs.Explained.{all_tile_lines, explain_fault_of, explained, lines_of_kind, set_tile_lines, tile_fault, tile_lines, Tells};
 ghost use Rattle.tile_bits.specs.Inside.{IsTileAt};
 ghost use Rattle.tile_bits.specs.Keys.{FindsNets};
 
@@ -39,23 +39,13 @@ pub fn explain(
     ensures sound { OnOk result (explain_fault_of (database_in db.now) (configuration_of image.now) only ≡ None) }
     ensures refused { IfErr result (Tells (explain_fault_of (database_in db.now) (configuration_of image.now) only)) }
 {
-    if !is_same_device(db.device(), image.device()) {
+    if !db.device().is_same(image.device()) {
         return Err(ExplainFault::Device);
     }
     match only {
         None => Ok(text_of_all(alloc, db, image)?),
         Some(only) => explain_only(alloc, db, image, only),
     }
-}
-
-/// Whether two devices are the same.
-fn is_same_device(a: DeviceName, b: DeviceName) -> bool
-    ensures { result ≡ is_same_device a b }
-{
-    matches!(
-        (a, b),
-        (DeviceName::K1, DeviceName::K1) | (DeviceName::K8, DeviceName::K8)
-    )
 }
 
 /// The text that explains one tile.

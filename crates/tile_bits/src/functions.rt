@@ -3,15 +3,15 @@ ghost use Rattle.std.specs.Prelude.{◌≡◌, ◌++◌, ◌<◌, IfOk, OnOk, le
 ghost use Rattle.ice_image.specs.Either.{configuration_of};
 ghost use Rattle.chipdb_reader.specs.Fit.{IsFunctionLine};
 ghost use Rattle.chipdb_reader.specs.Kept.{database_in, function_line};
-ghost use Rattle.tile_bits.specs.Cells.{cell_places};
+ghost use Rattle.tile_bits.specs.Cells.{places_of_cells};
 ghost use Rattle.tile_bits.specs.Inside.{IsTileAt};
 ghost use Rattle.tile_bits.specs.Items.{is_other_on, on_functions};
 
 use crate::cells::Cells;
-use crate::on::is_function_on;
 use crate::tile::{TileAt, push_where};
 use chipdb_reader::{ChipDb, Function};
 use ice_image::AnyImage;
+use net_extract::are_set;
 use std::alloc::{AllocError, Global};
 
 /// The places of the functions that are on at a tile and aren't cells.
@@ -24,7 +24,7 @@ pub(crate) fn functions_on(
     cells: Cells,
 ) -> Result<Vec<usize>, AllocError>
     requires tile { IsTileAt (configuration_of image.now).layout.device at }
-    requires cells { cells.places ≡ cell_places (database_in db.now).functions }
+    requires cells { cells.places ≡ places_of_cells (database_in db.now).functions }
     ensures { IfOk result (λ places. places.items ≡ on_functions (configuration_of image.now) at.x at.y at.kind (database_in db.now).functions) }
 {
     let mut places = Vec::new(alloc);
@@ -45,9 +45,11 @@ fn is_other_on(
     function: Function,
 ) -> bool
     requires tile { IsTileAt (configuration_of image.now).layout.device at }
-    requires cells { cells.places ≡ cell_places (database_in db.now).functions }
+    requires cells { cells.places ≡ places_of_cells (database_in db.now).functions }
     requires fit { IsFunctionLine (function_line db.now.texts db.now.bits function) }
     ensures { result ≡ is_other_on (configuration_of image.now) at.x at.y at.kind (database_in db.now).functions place (function_line db.now.texts db.now.bits function) }
 {
-    function.kind == at.kind && is_function_on(db, image, at, function) && !cells.has(place)
+    function.kind == at.kind
+        && are_set(image, at.kind, at.x, at.y, db.bits(function.bits))
+        && !cells.has(place)
 }

@@ -3,15 +3,16 @@ ghost use Rattle.std.specs.Prelude.{◌≡◌, ◌<◌, ◌||◌, All, length, s
 ghost use Rattle.std.specs.List.{list_any};
 ghost use Rattle.place_search.specs.Places.{any_below};
 ghost use Rattle.bit_plane.specs.Rows.{IsGrid};
-ghost use Rattle.chipdb_lines.specs.Kept.{low_bits};
+ghost use Rattle.bit_plane.specs.BitList.{word_bits};
 ghost use Rattle.chipdb_reader.specs.Fit.{IsBitIn, IsLink};
 ghost use Rattle.chipdb_reader.specs.Kept.{database_in, link_lines};
-ghost use Rattle.tile_bits.specs.Cells.{cell_bits, cell_places};
+ghost use Rattle.net_extract.specs.Cells.{cell_places};
+ghost use Rattle.tile_bits.specs.Cells.{places_of_cells};
 ghost use Rattle.tile_bits.specs.Inside.{Adds, Knows};
 ghost use Rattle.tile_bits.specs.Items.{is_bit, is_in_cells, is_in_function, is_one_in, is_one_of};
 
 use crate::cells::Cells;
-use crate::on::{function_at, link_at};
+use crate::places::{function_at, link_at};
 use bit_plane::Tile;
 use chipdb_reader::{ChipDb, LinkLine};
 use plane_map::{RowCol, TileKind};
@@ -25,8 +26,8 @@ pub(crate) fn known_bits(
     buffers: &[usize],
     routings: &[usize],
 ) -> Tile<54>
-    requires { cells.places ≡ cell_places (database_in db.now).functions }
-    ensures { Knows (λ row col. is_in_cells kind (database_in db.now).functions row col
+    requires { cells.places ≡ places_of_cells (database_in db.now).functions }
+    ensures { Knows (λ row col. is_in_cells kind (database_in db.now) row col
         || list_any (λ place. is_in_function row col (slice_get (database_in db.now).functions place)) functions.now
         || list_any (λ place. is_one_in row col (slice_get (database_in db.now).buffers place)) buffers.now
         || list_any (λ place. is_one_in row col (slice_get (database_in db.now).routings place)) routings.now) result }
@@ -40,8 +41,8 @@ pub(crate) fn known_bits(
 
 /// The bits of a tile's cells.
 fn cell_bits(db: &ChipDb, kind: TileKind, cells: Cells) -> Tile<54>
-    requires { cells.places ≡ cell_places (database_in db.now).functions }
-    ensures { Knows (is_in_cells kind (database_in db.now).functions) result }
+    requires { cells.places ≡ places_of_cells (database_in db.now).functions }
+    ensures { Knows (is_in_cells kind (database_in db.now)) result }
 {
     match kind {
         TileKind::Logic => all_cell_bits(db, cells),
@@ -51,8 +52,8 @@ fn cell_bits(db: &ChipDb, kind: TileKind, cells: Cells) -> Tile<54>
 
 /// The bits of all cells.
 fn all_cell_bits(db: &ChipDb, cells: Cells) -> Tile<54>
-    requires { cells.places ≡ cell_places (database_in db.now).functions }
-    ensures { Knows (λ row col. any_below 8 (λ i. list_any (is_bit row col) (cell_bits (database_in db.now).functions i))) result }
+    requires { cells.places ≡ places_of_cells (database_in db.now).functions }
+    ensures { Knows (λ row col. any_below 8 (λ i. list_any (is_bit row col) (cell_places (database_in db.now) i))) result }
 {
     let mut known = Tile::new();
     for i in 0..8 {
@@ -126,10 +127,11 @@ fn add_bit(known: &mut Tile<54>, bit: RowCol)
 }
 
 /// Adds those of the bits whose value is 1; the value of the first is the lowest bit.
+#[tactic(auto, unfolding(bit_plane::specs::BitList::word_bits))]
 fn add_ones(known: &mut Tile<54>, bits: &[RowCol], values: u64)
     requires grid { IsGrid 54 16 known.old }
     requires inside { All (IsBitIn 54) bits.now }
-    ensures { Adds (λ row col. is_one_of row col bits.now (low_bits (length bits.now) values)) known.old known.new }
+    ensures { Adds (λ row col. is_one_of row col bits.now (word_bits (length bits.now) values)) known.old known.new }
 {
     match bits {
         [] => {}

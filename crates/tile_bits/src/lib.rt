@@ -14,7 +14,7 @@ mod known;
 mod lines;
 mod links;
 mod names;
-mod on;
+mod places;
 mod tile;
 mod unknown;
 

@@ -8,13 +8,13 @@ ghost use Rattle.chipdb_reader.specs.Kept.{database_in};
 ghost use Rattle.tile_bits.specs.Explained.{cell_line, function_line, item_line, link_line, net_text, unknown_line};
 ghost use Rattle.tile_bits.specs.Keys.{FindsNets};
 
-use crate::cells::cell_name;
 use crate::item::Active;
 use crate::names::{NetNames, name_at};
-use crate::on::link_at;
+use crate::places::link_at;
 use crate::tile::TileAt;
 use chipdb_reader::ChipDb;
 use itoa::Buffer;
+use net_extract::cell_name;
 use plane_map::TileKind;
 use std::alloc::AllocError;
 
@@ -85,7 +85,7 @@ fn append_item(
 fn append_cell(text: &mut Vec<u8>, i: u8, lut: u16, flags: u8) -> Result<(), AllocError>
     ensures { OnOk result (text.new.items ≡ text.old.items ++ cell_line i lut flags) }
 {
-    text.extend_from_slice(cell_name(i))?;
+    text.extend_from_slice(cell_name(i).bytes())?;
     text.push(b' ')?;
     append_bits(text, 16, lut)?;
     text.push(b' ')?;

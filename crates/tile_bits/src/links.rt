@@ -5,12 +5,12 @@ ghost use Rattle.chipdb_reader.specs.Fit.{IsLink};
 ghost use Rattle.chipdb_reader.specs.Kept.{link_line, link_lines};
 ghost use Rattle.tile_bits.specs.Inside.{AreLists, lists_of, with_place};
 ghost use Rattle.tile_bits.specs.Items.{is_on_at, on_links};
-ghost use Rattle.tile_bits.specs.On.{is_link_on};
+ghost use Rattle.net_extract.specs.On.{is_link_on};
 
-use crate::on::is_link_on;
 use crate::tile::push_where;
 use chipdb_reader::{ChipDb, LinkLine};
 use ice_image::AnyImage;
+use net_extract::is_link_on;
 use std::alloc::{AllocError, Global};
 
 /// The places of the links that are on at the tile at (x, y).

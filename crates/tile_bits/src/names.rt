@@ -12,7 +12,7 @@ ghost use Rattle.tile_bits.specs.Keys.{FindsNames, FindsNets, tile_cmp, tile_key
 
 use crate::item::Active;
 use crate::keys::TileKey;
-use crate::on::link_at;
+use crate::places::link_at;
 use crate::tile::TileAt;
 use chipdb_reader::{ChipDb, LinkLine, NetName};
 use std::alloc::{AllocError, Global};

@@ -2,7 +2,7 @@
 ghost use Rattle.std.specs.Prelude.{◌≡◌, ◌++◌, ◌∷◌, [], if◌then◌else◌, map, IfOk, OnOk};
 ghost use Rattle.ice_image.specs.Either.{configuration_of};
 ghost use Rattle.chipdb_reader.specs.Kept.{database_in};
-ghost use Rattle.tile_bits.specs.Cells.{cell_places};
+ghost use Rattle.tile_bits.specs.Cells.{places_of_cells};
 ghost use Rattle.tile_bits.specs.Items.{items_at, items_of_tile, on_links};
 ghost use Rattle.tile_bits.specs.Inside.{IsTileAt};
 
@@ -63,7 +63,7 @@ pub(crate) fn items_of_tile(
 ) -> Result<Vec<Active>, AllocError>
     requires device { db.now.chip.device ≡ (configuration_of image.now).layout.device }
     requires tile { IsTileAt (configuration_of image.now).layout.device at }
-    requires cells { cells.places ≡ cell_places (database_in db.now).functions }
+    requires cells { cells.places ≡ places_of_cells (database_in db.now).functions }
     requires buffers { buffers.now ≡ on_links (configuration_of image.now) at.x at.y (database_in db.now).buffers }
     requires routings { routings.now ≡ on_links (configuration_of image.now) at.x at.y (database_in db.now).routings }
     ensures { IfOk result (λ items. items.items ≡ items_of_tile (database_in db.now) (configuration_of image.now) at.x at.y at.kind) }

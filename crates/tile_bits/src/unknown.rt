@@ -3,14 +3,14 @@ ghost use Rattle.std.specs.Prelude.{◌≡◌, ◌<◌, ◌++◌, ◌∷◌, [],
 ghost use Rattle.place_search.specs.Places.{any_below};
 ghost use Rattle.bit_plane.specs.Rows.{bit_at};
 ghost use Rattle.plane_map.specs.Layout.{columns_of};
+ghost use Rattle.ice_image.specs.Bits.{tile_bit_of};
 ghost use Rattle.ice_image.specs.Either.{configuration_of};
 ghost use Rattle.tile_bits.specs.Explained.{is_set_tile};
 ghost use Rattle.tile_bits.specs.Inside.{IsTileAt};
 ghost use Rattle.tile_bits.specs.Items.{unknown_in, unknown_items};
-ghost use Rattle.tile_bits.specs.On.{tile_bit as bit_of};
 
 use crate::item::Active;
-use crate::on::tile_bit;
+use crate::places::tile_bit;
 use crate::tile::TileAt;
 use bit_plane::Tile;
 use ice_image::AnyImage;
@@ -68,7 +68,7 @@ fn is_unknown(image: &AnyImage, at: TileAt, known: &Tile<54>, row: u8, col: u8) 
     requires tile { IsTileAt (configuration_of image.now).layout.device at }
     requires row { row < 16 }
     requires col { col < columns_of at.kind }
-    ensures { result ≡ (bit_of (configuration_of image.now) at.x at.y (record { row = row; col = col }) && not (bit_at known.now col row)) }
+    ensures { result ≡ (tile_bit_of (configuration_of image.now) at.x at.y row col && not (bit_at known.now col row)) }
 {
     tile_bit(image, at, RowCol { row, col }) && !known.get(usize::from(row), usize::from(col))
 }
@@ -92,7 +92,7 @@ pub(crate) fn is_set_tile(image: &AnyImage, at: TileAt) -> bool
 fn is_set_row(image: &AnyImage, at: TileAt, row: u8) -> bool
     requires tile { IsTileAt (configuration_of image.now).layout.device at }
     requires row { row < 16 }
-    ensures { result ≡ any_below (columns_of at.kind) (λ col. bit_of (configuration_of image.now) at.x at.y (record { row = row; col = col })) }
+    ensures { result ≡ any_below (columns_of at.kind) (λ col. tile_bit_of (configuration_of image.now) at.x at.y row col) }
 {
     for col in 0..tile_width(at.kind) as u8 {
         if tile_bit(image, at, RowCol { row, col }) {

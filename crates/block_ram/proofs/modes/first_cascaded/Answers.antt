@@ -1,4 +1,4 @@
-use Rattle.std.proofs.Common.{◌≡◌, [], ℕ, List, get_or, arith, ap, sym, ◌∙◌}
+use Rattle.std.proofs.Common.{[], List, get_or, arith, ap, sym, ◌∙◌}
 use Rattle.ice_image.specs.Either.{configuration_of}
 use Rattle.chipdb_reader.specs.Kept.{database_in}
 use Rattle.chipdb_reader.specs.declared.items.TileXy8.{TileXy8}

@@ -1,4 +1,4 @@
-use Rattle.std.proofs.Common.{◌≡◌, ◌<◌, ℕ, Bool, false, true, ◌||◌, length, arith, ap, sym, ◌∙◌, refl, subst}
+use Rattle.std.proofs.Common.{◌≡◌, ◌<◌, ℕ, Bool, false, length, arith, ap, sym, ◌∙◌, refl, subst}
 use Rattle.std.specs.Prelude.{Option, IfSome, codes}
 use Rattle.place_search.specs.Places.{any_below}
 use Rattle.place_search.proofs.Places.{any_below-more, any_below-at}

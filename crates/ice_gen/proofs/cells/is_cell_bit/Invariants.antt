@@ -1,7 +1,8 @@
 use Rattle.std.proofs.Common.{◌≡◌, false, ◌&&◌, ◌==◌}
 use Rattle.std.specs.Prelude.{slice_index}
 use Rattle.place_search.specs.Places.{any_below}
-use Rattle.ice_gen.specs.Image.{entry_bits, is_entry}
+use Rattle.net_extract.specs.Cells.{entry_bits}
+use Rattle.ice_gen.specs.Image.{is_entry}
 use Rattle.ice_gen.proofs.cells.is_cell_bit.Given as goal
 
 abbrev pub invariant-loop-k : goal.invariant-loop-k

@@ -1,16 +1,16 @@
 use Rattle.std.proofs.Common.{◌≡◌, ◌++◌, arith, ap, ◌∙◌}
+use Rattle.place_search.proofs.Gathered.{appended-none, appended-more}
 use Rattle.place_search.specs.Places.{gathered_below}
 use Rattle.ice_image.specs.Either.{configuration_of}
 use Rattle.chipdb_reader.specs.Kept.{database_in}
 use Rattle.net_extract.specs.Pins.{port_at}
-use Rattle.net_extract.proofs.InOrder.{grown-none, grown-more}
 use Rattle.io_cell.proofs.gather.append_ports.Goals as goal
 
 pub loop-n-init : goal.loop-n-init
-loop-n-init c = grown-none _ _
+loop-n-init c = appended-none _ _
 
 pub loop-n-preserved : goal.loop-n-preserved
-loop-n-preserved c = grown-more _ _ _ _ _ c.loop-n.invariant c.in_ok-append_port.ensures
+loop-n-preserved c = appended-more _ _ _ _ _ c.loop-n.invariant c.in_ok-append_port.ensures
 
 pub returns : goal.returns
 returns c =

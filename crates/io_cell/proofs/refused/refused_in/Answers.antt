@@ -1,5 +1,6 @@
 use Rattle.std.proofs.Common.{◌≡◌, arith, ap, sym, ◌∙◌, refl}
 use Rattle.std.specs.Prelude.{Some}
+use Rattle.net_extract.proofs.Firsts.{first_of-gathered_below}
 use Rattle.place_search.specs.Places.{gathered_below}
 use Rattle.ice_image.specs.Either.{configuration_of}
 use Rattle.chipdb_reader.specs.Kept.{database_in}
@@ -7,7 +8,7 @@ use Rattle.net_extract.specs.Pins.{pintype_of, is_refused_with}
 use Rattle.net_extract.specs.Faults.{pin_fault_at}
 use Rattle.net_extract.specs.Faults.Fault.{pin_mode}
 use Rattle.net_extract.specs.Tiles.{first_of}
-use Rattle.net_extract.proofs.InOrder.{none-more, first_of-gathered_below, item_if-item, item_if-none}
+use Rattle.net_extract.proofs.InOrder.{none-more, item_if-item, item_if-none}
 use Rattle.io_cell.proofs.refused.refused_in.Goals as goal
 
 pub loop-n-init : goal.loop-n-init

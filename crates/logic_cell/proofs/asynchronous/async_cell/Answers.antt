@@ -1,11 +1,12 @@
 use Rattle.std.proofs.Common.{◌≡◌, arith, ap, sym, ◌∙◌, refl}
+use Rattle.net_extract.proofs.Firsts.{first_of-gathered_below}
 use Rattle.place_search.specs.Places.{gathered_below}
 use Rattle.ice_image.specs.Either.{configuration_of}
 use Rattle.chipdb_reader.specs.Kept.{database_in}
 use Rattle.net_extract.specs.Cells.{cell_bits, is_async_flip}
 use Rattle.net_extract.specs.Faults.Fault.{async}
 use Rattle.net_extract.specs.Tiles.{first_of}
-use Rattle.net_extract.proofs.InOrder.{none-more, first_of-gathered_below, item_if-item, item_if-none}
+use Rattle.net_extract.proofs.InOrder.{none-more, item_if-item, item_if-none}
 use Rattle.logic_cell.specs.Faults.{async_at}
 use Rattle.logic_cell.proofs.asynchronous.async_cell.Goals as goal
 

@@ -1,11 +1,12 @@
 use Rattle.std.proofs.Common.{[], List, arith, ap, sym}
+use Rattle.net_extract.proofs.Firsts.{first_of-none}
 use Rattle.ice_image.specs.Either.{configuration_of}
 use Rattle.chipdb_reader.specs.Kept.{database_in}
 use Rattle.chipdb_reader.specs.declared.items.TileXy8.{TileXy8}
 use Rattle.net_extract.specs.Faults.{Fault}
 use Rattle.net_extract.specs.Faults.Fault.{async}
 use Rattle.net_extract.specs.Tiles.{first_of}
-use Rattle.net_extract.proofs.InOrder.{none_listed-more, first_of-flat_map, first_of-none, gathered-all}
+use Rattle.net_extract.proofs.InOrder.{none_listed-more, first_of-flat_map, gathered-all}
 use Rattle.logic_cell.specs.Faults.{async_faults_in}
 use Rattle.logic_cell.proofs.asynchronous.first_async.Goals as goal
 

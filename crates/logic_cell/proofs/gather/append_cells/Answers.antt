@@ -1,16 +1,16 @@
 use Rattle.std.proofs.Common.{◌≡◌, ◌++◌, arith, ap, ◌∙◌}
+use Rattle.place_search.proofs.Gathered.{appended-none, appended-more}
 use Rattle.place_search.specs.Places.{gathered_below}
 use Rattle.ice_image.specs.Either.{configuration_of}
 use Rattle.chipdb_reader.specs.Kept.{database_in}
 use Rattle.net_extract.specs.Cells.{cells_at, used_cell}
-use Rattle.net_extract.proofs.InOrder.{grown-none, grown-more}
 use Rattle.logic_cell.proofs.gather.append_cells.Goals as goal
 
 pub loop-i-init : goal.loop-i-init
-loop-i-init c = grown-none _ _
+loop-i-init c = appended-none _ _
 
 pub loop-i-preserved : goal.loop-i-preserved
-loop-i-preserved c = grown-more _ _ _ _ _ c.loop-i.invariant c.in_ok-append_cell.ensures
+loop-i-preserved c = appended-more _ _ _ _ _ c.loop-i.invariant c.in_ok-append_cell.ensures
 
 pub returns : goal.returns
 unfolding cells_at

@@ -48,10 +48,10 @@ pub returns-in-Some-clause-bits : goal.returns-in-Some-clause-bits
 unfolding bits_in
 returns-in-Some-clause-bits c =
     let same = ap (λ (f : Function). bits_named c.args.db.now.bits f.bits) (sym c.index-functions-place.is) in
-    ap (λ (bits : List RowCol). Some bits) (c.bits.ensures ∙ same) ∙ sym (ap bits_in (found c).named)
+    ap (λ (bits : List RowCol). Some bits) (c.bits.ensures.bits ∙ same) ∙ sym (ap bits_in (found c).named)
 
 pub returns-in-Some-clause-in_tile : goal.returns-in-Some-clause-in_tile
 returns-in-Some-clause-in_tile c =
     let same = ap (λ (f : Function). bits_named c.args.db.now.bits f.bits) (sym c.index-functions-place.is) in
     let Fit : List RowCol → Type 0 = λ bits. All (IsBitIn (columns_of c.args.kind)) bits in
-    subst Fit (sym (c.bits.ensures ∙ same)) (found c).bits_in
+    subst Fit (sym (c.bits.ensures.bits ∙ same)) (found c).bits_in

@@ -1,12 +1,11 @@
-use Rattle.std.proofs.Common.{◌≡◌, ◌++◌, map}
+use Rattle.std.proofs.Common.{◌≡◌, ◌++◌}
 use Rattle.place_search.specs.Places.{gathered_below}
 use Rattle.ice_image.specs.Either.{configuration_of}
 use Rattle.chipdb_reader.specs.Kept.{database_in}
-use Rattle.tile_bits.specs.Cells.{cell_bits}
+use Rattle.net_extract.specs.Cells.{cell_bits}
 use Rattle.tile_bits.specs.Items.{cell_item}
-use Rattle.tile_bits.specs.On.{tile_bit}
 use Rattle.tile_bits.proofs.cells.push_logic_cells.Given as goal
 
 abbrev pub invariant-loop-i : goal.invariant-loop-i
 invariant-loop-i l =
-    l.items.items ≡ l.initial.items.items ++ gathered_below l.i (λ i. cell_item i (map (tile_bit (configuration_of l.image) l.at.x l.at.y) (cell_bits (database_in l.db).functions i)))
+    l.items.items ≡ l.initial.items.items ++ gathered_below l.i (λ i. cell_item i (cell_bits (database_in l.db) (configuration_of l.image) l.at.x l.at.y i))

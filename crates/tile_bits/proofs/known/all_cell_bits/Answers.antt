@@ -3,17 +3,20 @@ use Rattle.std.specs.List.{list_any}
 use Rattle.place_search.specs.Places.{any_below}
 use Rattle.place_search.proofs.Places.{any_below-more, any_below-none}
 use Rattle.chipdb_reader.specs.Kept.{database_in}
-use Rattle.tile_bits.specs.Cells.{bits_at, cell_bits}
+use Rattle.net_extract.specs.Cells.{cell_places}
+use Rattle.tile_bits.specs.Cells.{bits_at_place}
 use Rattle.tile_bits.specs.Items.{is_bit}
+use Rattle.tile_bits.proofs.CellPlaces.{bits-of-cell}
 use Rattle.tile_bits.proofs.Boards.{Knows-more, Knows-none}
 use Rattle.tile_bits.proofs.known.all_cell_bits.Goals as goal
 
 pub loop-i-init : goal.loop-i-init
-loop-i-init c = Knows-none _ c.new-known.result c.new-known.ensures (λ row col. any_below-none 0 (λ i. list_any (is_bit row col) (cell_bits (database_in c.args.db.now).functions i)) (λ k below. absurd (omega arith)))
+loop-i-init c = Knows-none _ c.new-known.result c.new-known.ensures (λ row col. any_below-none 0 (λ i. list_any (is_bit row col) (cell_places (database_in c.args.db.now) i)) (λ k below. absurd (omega arith)))
 
 pub loop-i-preserved : goal.loop-i-preserved
 loop-i-preserved c =
-    let functions = (database_in c.args.db.now).functions in
-    let here : c.bits.result.now ≡ cell_bits functions c.loop-i.i = c.bits.ensures.bits ∙ ap (λ places. bits_at functions (get_or places c.loop-i.i None)) c.requires in
-    Knows-more (λ row col. any_below c.loop-i.i (λ i. list_any (is_bit row col) (cell_bits functions i))) (λ row col. list_any (is_bit row col) c.bits.result.now) _ c.loop-i.known c.add_bits.new.known c.loop-i.invariant c.add_bits.ensures
-    (λ row col. any_below-more c.loop-i.i (λ i. list_any (is_bit row col) (cell_bits functions i)) ∙ ap (λ bits. any_below c.loop-i.i (λ i. list_any (is_bit row col) (cell_bits functions i)) || list_any (is_bit row col) bits) (sym here))
+    let database = database_in c.args.db.now in
+    let here : c.bits.result.now ≡ cell_places database c.loop-i.i =
+    c.bits.ensures.bits ∙ ap (λ places. bits_at_place database.functions (get_or places c.loop-i.i None)) c.requires ∙ bits-of-cell database c.loop-i.i (omega arith) in
+    Knows-more (λ row col. any_below c.loop-i.i (λ i. list_any (is_bit row col) (cell_places database i))) (λ row col. list_any (is_bit row col) c.bits.result.now) _ c.loop-i.known c.add_bits.new.known c.loop-i.invariant c.add_bits.ensures
+    (λ row col. any_below-more c.loop-i.i (λ i. list_any (is_bit row col) (cell_places database i)) ∙ ap (λ bits. any_below c.loop-i.i (λ i. list_any (is_bit row col) (cell_places database i)) || list_any (is_bit row col) bits) (sym here))

@@ -20,7 +20,7 @@ returns c =
     let functions : c.deref.result.now ≡ on_functions image x y kind database.functions = c.deref.ensures.value ∙ c.in_ok-functions.ensures in
     let functions_2 : c.deref-2.result.now ≡ on_functions image x y kind database.functions = c.deref-2.ensures.value ∙ c.in_ok-functions.ensures in
     let knows : List ℕ → List ℕ → List ℕ → ℕ → ℕ → Bool = λ fs bs rs row col.
-    is_in_cells kind database.functions row col
+    is_in_cells kind database row col
     || list_any (λ place. is_in_function row col (slice_get database.functions place)) fs
     || list_any (λ place. is_one_in row col (slice_get database.buffers place)) bs
     || list_any (λ place. is_one_in row col (slice_get database.routings place)) rs in
@@ -28,7 +28,7 @@ returns c =
     ap (λ fs. knows fs c.args.buffers.now c.args.routings.now row col) functions
     ∙ ap (λ bs. knows (on_functions image x y kind database.functions) bs c.args.routings.now row col) c.requires.buffers
     ∙ ap (λ rs. knows (on_functions image x y kind database.functions) (on_links image x y database.buffers) rs row col) c.requires.routings in
-    let cells = c.in_ok-push_cells.ensures ∙ ap (λ items. items ++ cell_items image x y kind database.functions) c.new-items.ensures.items in
+    let cells = c.in_ok-push_cells.ensures ∙ ap (λ items. items ++ cell_items database image x y kind) c.new-items.ensures.items in
     let with_functions = c.in_ok-push_functions.ensures ∙ ap₂ (λ items fs. items ++ map Function fs) cells functions_2 in
     let with_buffers = c.in_ok-push_buffers.ensures ∙ ap₂ (λ items bs. items ++ map Buffer bs) with_functions c.requires.buffers in
     let with_routings = c.in_ok-push_routings.ensures ∙ ap₂ (λ items rs. items ++ map Routing rs) with_buffers c.requires.routings in

@@ -2,9 +2,9 @@ use Rattle.std.proofs.Common.{sym, ◌∙◌, arith}
 use Rattle.plane_map.specs.Layout.{columns_of}
 use Rattle.place_search.proofs.Places.{any_below-at}
 use Rattle.ice_image.specs.Either.{configuration_of}
-use Rattle.tile_bits.specs.On.{tile_bit}
+use Rattle.ice_image.specs.Bits.{tile_bit_of}
 use Rattle.tile_bits.proofs.unknown.is_set_row.Goals as goal
 
 pub returns-then-tile_bit : goal.returns-then-tile_bit
 returns-then-tile_bit c =
-    sym (any_below-at (columns_of c.args.at.kind) c.loop-col.col (λ col. tile_bit (configuration_of c.args.image.now) c.args.at.x c.args.at.y (record { row = c.args.row; col = col })) (omega arith) (sym c.tile_bit.ensures ∙ c.if-tile_bit.true))
+    sym (any_below-at (columns_of c.args.at.kind) c.loop-col.col (λ col. tile_bit_of (configuration_of c.args.image.now) c.args.at.x c.args.at.y c.args.row col) (omega arith) (sym c.tile_bit.ensures ∙ c.if-tile_bit.true))

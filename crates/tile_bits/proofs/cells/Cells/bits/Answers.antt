@@ -12,4 +12,4 @@ returns-in-Some-function_at-clause-inside c =
     let function = c.in-Some-function_at.function in
     let found : slice_get c.args.db.now.functions c.in-Some.place ≡ Some function = cc (c.in-Some-function_at.ensures, c.functions.ensures.functions) in
     let fit = all-found IsFunctionLine (function_line c.args.db.now.texts c.args.db.now.bits) c.args.db.now.functions c.in-Some.place function c.functions.ensures.fit.functions found in
-    subst (λ (bits : List RowCol). All (IsBitIn 54) bits) (sym c.bits.ensures) (on-board function.kind _ fit.bits_in)
+    subst (λ (bits : List RowCol). All (IsBitIn 54) bits) (sym c.bits.ensures.bits) (on-board function.kind _ fit.bits_in)

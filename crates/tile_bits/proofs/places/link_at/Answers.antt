@@ -1,6 +1,6 @@
 use Rattle.std.proofs.Common.{sym}
 use Rattle.std.proofs.lemmas.Option.{slice_get_past, slice_get-get_or}
-use Rattle.tile_bits.proofs.on.link_at.Goals as goal
+use Rattle.tile_bits.proofs.places.link_at.Goals as goal
 
 pub returns-then-place-links : goal.returns-then-place-links
 returns-then-place-links c = sym (slice_get-get_or c.args.links.now c.args.place _ c.if-place-links.true)

@@ -1,7 +1,7 @@
 use Rattle.std.proofs.Common.{refl, sym}
 use Rattle.std.proofs.lemmas.Option.{slice_get_past}
 use Rattle.tile_bits.proofs.Gathered.{item-found}
-use Rattle.tile_bits.proofs.on.function_at.Goals as goal
+use Rattle.tile_bits.proofs.places.function_at.Goals as goal
 
 pub returns-then-place-functions : goal.returns-then-place-functions
 returns-then-place-functions c = sym (item-found c.args.functions.now c.args.functions.now c.args.place c.index-functions-place.result refl c.if-place-functions.true c.index-functions-place.is)

@@ -3,7 +3,7 @@ use Rattle.std.proofs.lemmas.List.Folds.{list_any_at}
 use Rattle.ice_image.specs.Either.{configuration_of}
 use Rattle.net_extract.specs.On.{bits_at}
 use Rattle.net_extract.proofs.Listed.{none_set, length-bits_at}
-use Rattle.logic_cell.proofs.bits.is_used.Goals as goal
+use Rattle.net_extract.proofs.cell_bits.is_one_set.Goals as goal
 
 pub returns-then-listed_bit : goal.returns-then-listed_bit
 returns-then-listed_bit c =

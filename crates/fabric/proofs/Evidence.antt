@@ -10,10 +10,14 @@ use Rattle.net_extract.specs.Tiles.{first_of, item_if}
 use Rattle.net_extract.specs.Fabric.{Fabric}
 use Rattle.net_extract.specs.Drivers.{Drive, drivers_of}
 use Rattle.std.specs.declared.vec.Vec.{Vec}
+use Rattle.fabric_wiring.proofs.Whole.{marked-within}
+use Rattle.place_search.proofs.Places.{gathered_below-none}
+use Rattle.net_extract.proofs.Firsts.{first_of-alone}
 use Rattle.net_extract.specs.Wiring.{Wiring, wiring_of, is_on_cycle, IsCycle}
 use Rattle.net_extract.proofs.Cycles.{IsBounded, is_on_cycle-whole}
 use Rattle.fabric_wiring.specs.Rows.{is_marked, ReadsByDriven, wiring_of as rows_wiring}
-use Rattle.net_extract.specs.Clocks.{ClockEnd, User, users_of, clock_end}
+use Rattle.net_extract.specs.Joins.{class_of}
+use Rattle.net_extract.specs.Clocks.{ClockEnd, LeadsTo, User, users_of, clock_end}
 use Rattle.net_extract.specs.Clocks.ClockEnd.{at_pin, undriven, logic}
 use Rattle.net_extract.specs.Faults.{Fault, drivers_fault, driver_faults, loop_faults, end_fault, user_fault, clock_faults, fabric_fault}
 use Rattle.fabric_wiring.specs.declared.fault.DriverFault.{DriverFault}
@@ -33,10 +37,6 @@ first-append : {A : Type 0} (xs ys : List A) (item : A) → first_of (xs ++ ys) 
 first-append [] ys item is = inr is
 first-append (x ∷ xs) ys item is = inl is
 
-append-first : {A : Type 0} (xs ys : List A) (item : A) → first_of xs ≡ Some item → first_of (xs ++ ys) ≡ Some item
-append-first [] ys item is = absurd cc
-append-first (x ∷ xs) ys item is = is
-
 first-gathered : {A : Type 0} (n : ℕ) (given : ℕ → List A) (item : A) → first_of (gathered_below n given) ≡ Some item → (k : ℕ) × (first_of (given k) ≡ Some item)
 unfolding gathered_below
 first-gathered zero given item is = absurd cc
@@ -53,25 +53,6 @@ first-flat_map given (x ∷ xs) item is =
     elim (first-append (given x) (flat_map given xs) item is) [
       | inl here ↦ (x, (zero, omega arith, refl), here)
       | inr behind ↦ let found = first-flat_map given xs item behind in (found.0, (suc found.1.0, omega (arith, found.1.1), found.1.2), found.2)
-    ]
-
-gathered-empty : {A : Type 0} (n : ℕ) (given : ℕ → List A) → ((k : ℕ) → k < n → given k ≡ []) → gathered_below n given ≡ []
-unfolding gathered_below
-gathered-empty zero given none = refl
-gathered-empty (suc n) given none = rw (gathered-empty n given (λ k below. none k (omega arith)), none n (omega arith)) refl
-
-gathered-first : {A : Type 0} (n k : ℕ) (given : ℕ → List A) (item : A) → k < n → given k ≡ item ∷ [] → ((j : ℕ) → j < k → given j ≡ [])
-    → first_of (gathered_below n given) ≡ Some item
-unfolding gathered_below
-gathered-first zero k given item below here before = absurd (omega arith)
-gathered-first (suc n) k given item below here before =
-    elim (cases_lt k n) [
-      | inl less ↦ append-first (gathered_below n given) (given n) item (gathered-first n k given item less here before)
-      | inr more ↦
-          let same : k ≡ n = omega arith in
-          let none = gathered-empty n given (λ j lower. before j (omega (arith, lower, same))) in
-          let last : given n ≡ item ∷ [] = subst (λ j. given j ≡ item ∷ []) same here in
-          rw (none, last) refl
     ]
 
 -- ---- two drivers
@@ -95,10 +76,14 @@ drivers-evidence fabric net first second is =
 abbrev user_of : User → ℕ → User
 user_of one net = record { x = one.x; y = one.y; user = one.user; net = Some net }
 
-user-ends : (device : DeviceName) (fabric : Fabric) (one : User) (found : Option ℕ) → one.net ≡ found → Contains (users_of device fabric) one
+-- each chain of a fabric comes to its end
+abbrev HaveEnds : Fabric → Type 0
+HaveEnds fabric = (net : ℕ) → LeadsTo fabric (class_of fabric.joins net) (clock_end fabric net)
+
+user-ends : (device : DeviceName) (fabric : Fabric) → HaveEnds fabric → (one : User) (found : Option ℕ) → one.net ≡ found → Contains (users_of device fabric) one
     → (x y : ℕ) (user : ClockUser) (net : ℕ) → first_of (user_fault fabric one found) ≡ Some (Fault.clock x y user net) → IsUnclocked device fabric x y user net
-user-ends device fabric one None has there x y user net is = absurd cc
-user-ends device fabric one (Some source) has there x y user net is = by-end (clock_end fabric source) refl is
+user-ends device fabric leads one None has there x y user net is = absurd cc
+user-ends device fabric leads one (Some source) has there x y user net is = by-end (clock_end fabric source) refl is
   where
     by-end : (end : ClockEnd) → clock_end fabric source ≡ end → first_of (end_fault one source end) ≡ Some (Fault.clock x y user net) → IsUnclocked device fabric x y user net
     by-end (at_pin place) ends told = absurd cc
@@ -107,14 +92,14 @@ user-ends device fabric one (Some source) has there x y user net is = by-end (cl
         let same : user_of one source ≡ user_of (record { x = x; y = y; user = user; net = Some net }) net = cc in
         let is_one : one ≡ user_of one source = ap (λ n. record { x = one.x; y = one.y; user = one.user; net = n }) has in
         let is_net : source ≡ net = cc in
-        record { there = subst (Contains (users_of device fabric)) (is_one ∙ same) there; ends = subst (λ n. clock_end fabric n ≡ logic) is_net ends }
+        record { there = subst (Contains (users_of device fabric)) (is_one ∙ same) there; ends = subst (λ n. clock_end fabric n ≡ logic) is_net ends; chain = subst (LeadsTo fabric (class_of fabric.joins net)) (subst (λ n. clock_end fabric n ≡ logic) is_net ends) (leads net) }
 
-pub clocks-evidence : (device : DeviceName) (fabric : Fabric) (x y : ℕ) (user : ClockUser) (net : ℕ) → first_of (clock_faults device fabric) ≡ Some (Fault.clock x y user net)
+pub clocks-evidence : (device : DeviceName) (fabric : Fabric) → HaveEnds fabric → (x y : ℕ) (user : ClockUser) (net : ℕ) → first_of (clock_faults device fabric) ≡ Some (Fault.clock x y user net)
     → IsUnclocked device fabric x y user net
 unfolding clock_faults
-clocks-evidence device fabric x y user net is =
+clocks-evidence device fabric leads x y user net is =
     let found = first-flat_map (λ one. user_fault fabric one one.net) (users_of device fabric) _ is in
-    user-ends device fabric found.0 found.0.net refl found.1 x y user net found.2
+    user-ends device fabric leads found.0 found.0.net refl found.1 x y user net found.2
 
 -- ---- cycles
 
@@ -128,18 +113,13 @@ pub loop-first : (wiring : Wiring) (class : ℕ) → class < wiring.count → is
     → first_of (loop_faults wiring) ≡ Some (Fault.loop class)
 unfolding loop_faults
 loop-first wiring class below on least =
-    gathered-first wiring.count class (λ k. item_if (is_on_cycle wiring k) (Fault.loop k)) (Fault.loop class) below (on-cycle wiring class on)
+    first_of-alone wiring.count class (λ k. item_if (is_on_cycle wiring k) (Fault.loop k)) (Fault.loop class) below (on-cycle wiring class on)
     (λ k lower. off-cycle wiring k (least k lower))
 
 pub loop-none : (wiring : Wiring) → ((k : ℕ) → k < wiring.count → is_on_cycle wiring k ≡ false) → first_of (loop_faults wiring) ≡ None
 unfolding loop_faults
 loop-none wiring none =
-    ap first_of (gathered-empty wiring.count (λ k. item_if (is_on_cycle wiring k) (Fault.loop k)) (λ k below. off-cycle wiring k (none k below)))
-
-marked-within : (marks : List Bool) (n : ℕ) → is_marked marks n ≡ true → n < length marks
-marked-within [] n marked = absurd (false≢true marked)
-marked-within (mark ∷ marks) zero marked = omega arith
-marked-within (mark ∷ marks) (suc n) marked = omega (arith, marked-within marks n marked)
+    ap first_of (gathered_below-none wiring.count (λ k. item_if (is_on_cycle wiring k) (Fault.loop k)) (λ k below. off-cycle wiring k (none k below)))
 
 module _ {Z : Type 0} (fabric : Fabric) (driven : List Bool) (reads : List (Vec ℕ Z)) (alike : AreAlike (rows_wiring driven reads) (wiring_of fabric)) where
   -- only classes of the wiring are driven and read others

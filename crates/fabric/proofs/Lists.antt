@@ -2,13 +2,14 @@
 use Rattle.std.proofs.Common.{◌≡◌, ℕ, zero, suc, ◌+◌, ◌*◌, ◌<◌, ◌≤◌, Bool, true, false, List, [], ◌∷◌, ◌++◌, length, map, get_or, take, drop, refl, sym, ap, subst, ◌∙◌, arith, inl, inr}
 use Rattle.std.specs.Prelude.{All, Option, Some, None, filter, flat_map, slice_get, if◌then◌else◌}
 use Rattle.std.proofs.lemmas.Bool.{cases_Bool}
-use Rattle.std.proofs.lemmas.List.{map-append}
+use Rattle.std.proofs.lemmas.List.{map-append, get_or-append-add}
 use Rattle.place_search.specs.Places.{gathered_below}
 use Rattle.net_extract.specs.Tiles.{over_grid, over_tiles, each_below}
 use Rattle.net_extract.specs.Fabric.{numbered_from, numbered}
 use Rattle.std.proofs.lemmas.List.Elements.{All-nil, All-cons}
 use Rattle.std.proofs.Common.{append_assoc, zero-add, suc-add, zero-mul, suc-mul, length-append}
 use Rattle.std.proofs.Math.ListN.{get_or-append}
+use Rattle.shared_lemmas.proofs.Pushes.{slice_get-behind}
 
 -- ---- lists over places
 
@@ -24,10 +25,6 @@ map-if true change list = refl
 map-if false change list = refl
 
 -- ---- lists with their places
-
-slice_get-behind : {A : Type 0} (before : List A) (item : A) (items : List A) → slice_get (before ++ item ∷ items) (length before) ≡ Some item
-slice_get-behind [] item items = refl
-slice_get-behind (head ∷ before) item items = slice_get-behind before item items
 
 count-one : {A : Type 0} (before : List A) (item : A) → length (before ++ item ∷ []) ≡ suc (length before)
 count-one [] item = refl
@@ -52,10 +49,6 @@ numbered-stand list = numbered-there list [] list refl
 
 -- ---- lists of parts of one length
 
-get_or-past : {A : Type 0} (first second : List A) (k : ℕ) (d : A) → get_or (first ++ second) (length first + k) d ≡ get_or second k d
-get_or-past [] second k d = ap (λ n. get_or second n d) (zero-add k)
-get_or-past (item ∷ first) second k d = ap (λ n. get_or (item ∷ (first ++ second)) n d) (suc-add (length first) k) ∙ get_or-past first second k d
-
 -- an item of parts of one length, by the number of the part and the place in it
 pub item-of_part : {X A B : Type 0} (size : ℕ) (part : X → List A) (other : X → List B) (value : B → A) (xs : List X) (r w : ℕ) (a : A) (b : B)
     → ((x : X) → length (part x) ≡ size) → ((x : X) → get_or (part x) w a ≡ value (get_or (other x) w b))
@@ -68,7 +61,7 @@ item-of_part size part other value (x ∷ xs) zero w a b sized same inside below
 item-of_part size part other value (x ∷ xs) (suc r) w a b sized same inside below =
     let place : suc r * size + w ≡ length (part x) + (r * size + w) = omega (arith, suc-mul r size, sized x) in
     ap (λ n. get_or (part x ++ flat_map part xs) n a) place
-    ∙ (get_or-past (part x) (flat_map part xs) (r * size + w) a
+    ∙ (get_or-append-add (part x) (flat_map part xs) (r * size + w) a
     ∙ item-of_part size part other value xs r w a b sized same (omega arith) below)
 
 pub count-of_parts : {X A : Type 0} (size : ℕ) (part : X → List A) (xs : List X) → ((x : X) → length (part x) ≡ size) → length (flat_map part xs) ≡ length xs * size

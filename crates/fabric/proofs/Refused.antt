@@ -3,13 +3,14 @@ use Rattle.std.proofs.Common.{◌≡◌, ℕ, Bool, true, false, List, [], ◌�
 use Rattle.std.specs.Prelude.{◌↔◌, Option, Some, None, Result, Ok, Err, IfErr, OnOk}
 use Rattle.std.specs.Result.{IsErrAnd}
 use Rattle.plane_map.specs.declared.device.DeviceName.{DeviceName}
-use Rattle.plane_map.specs.declared.device.DeviceName.TheVariants.{K1, K8}
+use Rattle.plane_map.specs.Devices.{is_same_device}
+use Rattle.plane_map.proofs.Devices.{same-device, other-device}
 use Rattle.ice_image.specs.Configuration.{Configuration}
 use Rattle.chipdb_reader.specs.Database.{Database}
 use Rattle.place_search.specs.Places.{or_else}
 use Rattle.net_extract.specs.Tiles.{first_of}
 use Rattle.net_extract.specs.Fabric.{fabric_of}
-use Rattle.net_extract.specs.Faults.{Fault, is_same_device, device_faults, pins_fault, rams_fault, cells_fault, fabric_fault, design_fault}
+use Rattle.net_extract.specs.Faults.{Fault, device_faults, pins_fault, rams_fault, cells_fault, fabric_fault, design_fault}
 use Rattle.net_extract.specs.declared.fault.LinkFault.{LinkFault}
 use Rattle.net_extract.specs.declared.fault.LinkFault.TheVariants as links
 use Rattle.io_cell.specs.declared.fault.PinFault.{PinFault}
@@ -24,16 +25,6 @@ use Rattle.logic_cell.specs.Faults.{IsCause as IsCellCause}
 use Rattle.fabric.specs.declared.fault.FabricFault.{FabricFault}
 use Rattle.fabric.specs.Faults.{IsCause, AreTaken}
 use Rattle.fabric.specs.Causes.{of_links, of_pins, of_rams, of_cells}
-
-same-device : (a : DeviceName) → is_same_device a a ≡ true
-same-device K1 = refl
-same-device K8 = refl
-
-other-device : (a b : DeviceName) → ¬ (a ≡ b) → is_same_device a b ≡ false
-other-device K1 K1 other = absurd (other refl)
-other-device K1 K8 other = refl
-other-device K8 K1 other = refl
-other-device K8 K8 other = absurd (other refl)
 
 module _ (db : Database) (image : Configuration) where
   Refuses : Option Fault → Type 0

@@ -1,5 +1,5 @@
 -- When a design is that of a database and an image.
-use Rattle.std.specs.Prelude.{◌≡◌, ℕ, ◌^◌, ◌≤◌, List, slice_get, option_map, option_and_then, Option, Some, None}
+use Rattle.std.specs.Prelude.{◌≡◌, ℕ, ◌^◌, ◌≤◌, ◌==◌, List, find, slice_get, option_map, option_and_then, Option, Some, None}
 use Rattle.ice_image.specs.Configuration.{Configuration}
 use Rattle.chipdb_reader.specs.Database.{Database}
 use Rattle.chipdb_reader.specs.Fit.{IsFit}
@@ -33,3 +33,7 @@ end_pin inputs logic = None
 -- the two nets of a buffer
 abbrev pub ends_of : Buffer → LinkEnds
 ends_of buffer = record { src = buffer.src; dst = buffer.dst }
+
+-- the two nets of the buffer of a line, where it is on
+abbrev pub link_in : Kept → ℕ → Option LinkEnds
+link_in design line = option_map ends_of (find (λ buffer. buffer.line == line) design.parts.buffers.items)

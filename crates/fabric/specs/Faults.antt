@@ -7,7 +7,8 @@ use Rattle.net_extract.specs.Tiles.{first_of}
 use Rattle.net_extract.specs.Fabric.{Fabric}
 use Rattle.net_extract.specs.Drivers.{Drive, drivers_of}
 use Rattle.net_extract.specs.Wiring.{wiring_of, IsCycle}
-use Rattle.net_extract.specs.Clocks.{User, users_of, clock_end}
+use Rattle.net_extract.specs.Joins.{class_of}
+use Rattle.net_extract.specs.Clocks.{LeadsTo, User, users_of, clock_end}
 use Rattle.net_extract.specs.Clocks.ClockEnd.{logic}
 use Rattle.chipdb_reader.specs.Database.{Database}
 use Rattle.net_extract.specs.Faults.{Fault, pins_fault, rams_fault, cells_fault}
@@ -32,10 +33,11 @@ pub record IsCycleFrom (fabric : Fabric) (class : ℕ) (cycle : List ℕ) : Type
   pub begins : first_of cycle ≡ Some class
   pub least : (lesser : ℕ) (rest : List ℕ) → lesser < class → IsCycle (wiring_of fabric) (lesser ∷ rest) → ⊥
 
--- a user of a clock whose chain ends at another driver than a pin
+-- a user of a clock whose chain leads to another driver than a pin
 pub record IsUnclocked (device : DeviceName) (fabric : Fabric) (x y : ℕ) (user : ClockUser) (net : ℕ) : Type 0 where
   pub there : Contains (users_of device fabric) (record { x = x; y = y; user = user; net = Some net })
   pub ends : clock_end fabric net ≡ logic
+  pub chain : LeadsTo fabric (class_of fabric.joins net) logic
 
 -- ---- refusals
 

@@ -1,5 +1,5 @@
 // Designs.
-ghost use Rattle.std.specs.Prelude.{find, true, ◌==◌, ◌≡◌, ℕ, ◌<◌, ◌*◌, length, List};
+ghost use Rattle.std.specs.Prelude.{find, true, ◌==◌, ◌≡◌, ℕ, ◌<◌, ◌*◌, length, is_some, List, Some};
 ghost use Rattle.std.specs.Option.{option_map};
 ghost use Rattle.std.specs.List.{list_any};
 ghost use Rattle.ice_image.specs.Configuration.{Configuration};
@@ -8,7 +8,7 @@ ghost use Rattle.net_extract.specs.Links.{class_in};
 ghost use Rattle.fabric_wiring.specs.DriverLists.{driver_in};
 ghost use Rattle.fabric_wiring.specs.Ends.{end_in, end_of};
 ghost use Rattle.fabric.specs.Kept.{word_in, IsKeptOf};
-ghost use Rattle.fabric.specs.Design.{IsDesign, end_pin, ends_of};
+ghost use Rattle.fabric.specs.Design.{IsDesign, end_pin, ends_of, link_in};
 
 use chipdb_reader::PinXy;
 use fabric_wiring::{Buffer, ClockEnd, Drive, Drivers, Parts, Rule};
@@ -199,11 +199,22 @@ impl Design {
         }
     }
 
-    /// The two nets of the buffer of a line, where it is on.
-    pub fn link(&self, line: u32) -> Option<LinkEnds>
-        ensures { result ≡ option_map ends_of (find (λ buffer. buffer.line == line) self.now.parts.buffers.items) }
+    /// Whether the buffer of a line is on.
+    pub fn has_link(&self, line: u32) -> bool
+        ensures { result ≡ is_some (link_in self.now line) }
     {
-        ends_of_line(&self.parts.buffers, line)
+        match ends_of_line(&self.parts.buffers, line) {
+            None => false,
+            Some(_) => true,
+        }
+    }
+
+    /// The two nets of the buffer of a line, which is on.
+    pub fn link(&self, line: u32) -> LinkEnds
+        requires { is_some (link_in self.now line) ≡ true }
+        ensures { Some result ≡ link_in self.now line }
+    {
+        ends_of_line(&self.parts.buffers, line).unwrap()
     }
 
     /// A start word of the used RAM at a place.

@@ -1,5 +1,5 @@
 // The drivers, the order and the clocks of a fabric.
-ghost use Rattle.std.specs.Prelude.{◌≡◌, ◌≤◌, All, IfOk, IfErr, OnOk, Some, None};
+ghost use Rattle.std.specs.Prelude.{◌≡◌, ◌≤◌, ℕ, All, IfOk, IfErr, OnOk, Some, None};
 ghost use Rattle.std.specs.List.{flat_map};
 ghost use Rattle.plane_map.specs.Layout.{kind_of};
 ghost use Rattle.plane_map.specs.declared.tile.TileKind.TheVariants.{RamB};
@@ -8,7 +8,9 @@ ghost use Rattle.ice_image.specs.Bits.{ram_word_of};
 ghost use Rattle.net_extract.specs.Fabric.{Fabric};
 ghost use Rattle.net_extract.specs.Tiles.{first_of, each_below};
 ghost use Rattle.net_extract.specs.Wiring.{wiring_of, IsWriteOrder};
+ghost use Rattle.net_extract.specs.Clocks.{LeadsTo, clock_end};
 ghost use Rattle.net_extract.specs.Faults.{clock_faults, fabric_fault};
+ghost use Rattle.net_extract.specs.Joins.{class_of};
 ghost use Rattle.fabric_wiring.specs.Parts.{ArePartsOf};
 ghost use Rattle.fabric_wiring.specs.DriverLists.{AreDriversOf};
 ghost use Rattle.fabric_wiring.specs.Ends.{AreEndsOf};
@@ -38,6 +40,7 @@ fn clocked(device: DeviceName, parts: &Parts, ends: &[ClockEnd]) -> Result<(), F
     ghost fabric: { Fabric }
     requires parts { ArePartsOf fabric parts.now }
     requires ends { AreEndsOf fabric ends.now }
+    requires chains { (net : ℕ) → LeadsTo fabric (class_of fabric.joins net) (clock_end fabric net) }
     ensures taken { OnOk result (first_of (clock_faults device fabric) ≡ None) }
     ensures refused { IfErr result (IsCause device fabric (first_of (clock_faults device fabric))) }
 {

@@ -1,6 +1,11 @@
 // What a database and an image of a 1k give. A test of links, parts and designs is a table of cases; the functions below make the
 // calls, one kind of call each.
 
+ghost use Rattle.std.specs.Prelude.{◌≡◌};
+ghost use Rattle.ice_image.specs.Either.{configuration_of};
+ghost use Rattle.chipdb_reader.specs.Kept.{database_in};
+ghost use Rattle.net_extract.specs.Links.{AreLinks};
+
 mod cells;
 mod databases;
 mod designs;
@@ -11,10 +16,13 @@ mod orders;
 mod pins;
 mod rams;
 
-use chipdb_reader::ChipDb;
-use fabric::{Design, FabricFault, design};
-use fabric_wiring::Drive;
+use block_ram::rams as find_rams;
+use chipdb_reader::{ChipDb, PinXy};
+use fabric::{Design, FabricFault, LinkEnds, design};
+use fabric_wiring::{ClockEnd, Drive};
 use ice_image::AnyImage;
+use io_cell::pins as find_pins;
+use logic_cell::cells as find_cells;
 use net_extract::{CarrySet, ClockUser, Driver, GlobalNet, Lc, Links, Pin, RamCell, links};
 use plane_map::Place;
 use sample_images::{SampleBit, database, image_with, set_bits, set_extras};
@@ -69,6 +77,8 @@ enum Gives<'a> {
     Drives(&'a [Option<Drive>]),
     /// A design with two pins whose classes are written in this order.
     Order(&'a [u32]),
+    /// A design that answers as the clocked inverter does, with the pins, RAMs and cells that are found by themselves.
+    Calls,
     /// No design, for this cause.
     Refused(Cause<'a>),
 }
@@ -225,7 +235,90 @@ fn gives_design(alloc: Global, db: &ChipDb, image: &AnyImage, gives: Gives) -> b
 fn holds(alloc: Global, db: &ChipDb, image: &AnyImage, gives: Gives) -> bool {
     match gives {
         Gives::Links { .. } | Gives::OneClass(_) => gives_links(alloc, db, image, gives),
+        Gives::Calls => gives_calls(alloc, db, image),
         _ => gives_design(alloc, db, image, gives),
+    }
+}
+
+/// Whether there is one pin, that at (0, 1).
+fn is_first_pin(pins: &[Pin]) -> bool {
+    match pins {
+        [pin] => (pin.x, pin.y, pin.n) == (0, 1, 0),
+        _ => false,
+    }
+}
+
+/// Whether a design answers as the clocked inverter does.
+fn answers_calls(design: &Design) -> bool {
+    let clock = PinXy { x: 0, y: 1, n: 0 };
+    is_first_pin(design.inputs())
+        && design.driver(4) == Some(Driver::Link { line: 4 })
+        && has_clock(design, 4, clock)
+        && has_ends(design, 4, LinkEnds { src: 0, dst: 4 })
+        && !design.has_link(0)
+}
+
+/// Whether a net is a class of its own, with that pin as its clock.
+fn has_clock(design: &Design, net: u32, clock: PinXy) -> bool {
+    (net as usize) < design.net_count()
+        && design.class_of(net) == net
+        && design.clock(net) == Some(clock)
+        && design.clock_end(net) == ClockEnd::Pin(0)
+}
+
+/// Whether the buffer of a line is on and has those nets.
+fn has_ends(design: &Design, line: u32, ends: LinkEnds) -> bool {
+    design.has_link(line) && design.link(line) == ends
+}
+
+/// Whether the pins that are found by themselves are those of a design.
+fn finds_pins(alloc: Global, db: &ChipDb, image: &AnyImage, links: &Links, design: &Design) -> bool
+    requires device { db.now.chip.device ≡ (configuration_of image.now).layout.device }
+    requires links { AreLinks (database_in db.now) (configuration_of image.now) links.now }
+{
+    match find_pins(alloc, db, image, links) {
+        Ok(found) => found.pins.as_slice() == design.pins()
+            && found.globals.as_slice() == design.globals(),
+        Err(_) => false,
+    }
+}
+
+/// Whether as many RAMs are found by themselves as a design has.
+fn finds_rams(alloc: Global, db: &ChipDb, image: &AnyImage, links: &Links, design: &Design) -> bool
+    requires device { db.now.chip.device ≡ (configuration_of image.now).layout.device }
+    requires links { AreLinks (database_in db.now) (configuration_of image.now) links.now }
+{
+    match find_rams(alloc, db, image, links) {
+        Ok(found) => found.len() == design.rams().len(),
+        Err(_) => false,
+    }
+}
+
+/// Whether the cells that are found by themselves are those of a design.
+fn finds_cells(alloc: Global, db: &ChipDb, image: &AnyImage, design: &Design) -> bool {
+    match find_cells(alloc, db, image) {
+        Ok(found) => found.lcs.as_slice() == design.lcs() && found.sets.as_slice() == design.sets(),
+        Err(_) => false,
+    }
+}
+
+/// Whether all parts that are found by themselves are those of a design.
+fn finds_parts(alloc: Global, db: &ChipDb, image: &AnyImage, design: &Design) -> bool {
+    match links(alloc, db, image) {
+        Ok(links) => {
+            finds_pins(alloc, db, image, &links, design)
+                && finds_rams(alloc, db, image, &links, design)
+                && finds_cells(alloc, db, image, design)
+        }
+        Err(_) => false,
+    }
+}
+
+/// Whether the design answers its calls, and the parts that are found by themselves are its own.
+fn gives_calls(alloc: Global, db: &ChipDb, image: &AnyImage) -> bool {
+    match design(alloc, db, image) {
+        Ok(design) => answers_calls(&design) && finds_parts(alloc, db, image, &design),
+        Err(_) => false,
     }
 }
 

@@ -6,7 +6,7 @@ use Rattle.std.proofs.lemmas.List.{length_push, length-map, length-replicate}
 use Rattle.std.proofs.lemmas.List.Sums.{fold-append}
 use Rattle.std.proofs.lemmas.List.Elements.{All-head, All-tail}
 use Rattle.std.proofs.Math.Seq.{get_or-append_seam}
-use Rattle.std.proofs.Math.ListN.{get_or-map}
+use Rattle.shared_lemmas.proofs.Bytes.{bytes_eq-same}
 use Rattle.place_search.specs.Places.{gathered_below}
 use Rattle.bit_plane.specs.BitList.{word_of}
 use Rattle.vlog_module.specs.declared.item.Item.{Item}
@@ -23,10 +23,10 @@ use Rattle.net_extract.proofs.OneValue.{IsWithin}
 use Rattle.vlog_emit.specs.Names.{port_name, flip_name, register_name, memory_name}
 use Rattle.vlog_emit.specs.Written.{port_of, flip_register, read_register, ram_memory, start_item, start_items, items_of, module_of}
 use Rattle.vlog_emit.specs.Matching.{HasValues, Matches}
-use Rattle.vlog_emit.proofs.Lists.{Apart-numbered, bytes-true, map-map, map-numbered, made-names, made-values}
+use Rattle.vlog_emit.proofs.Lists.{Apart-numbered, map-map, map-numbered, made-names, made-values}
 use Rattle.vlog_emit.proofs.Sections.{is_in, Skips, fold-section, flat_map-section, registers-section, words-section, memories-section, starts-section}
 use Rattle.vlog_emit.proofs.Fills.{FillsOwn, filled}
-use Rattle.vlog_emit.proofs.Settled.{IsWritable, Holding, holding-moved, settled-matches}
+use Rattle.vlog_emit.proofs.Settled.{IsWritable, Holding, holding-moved, settled-matches, word-pick}
 use Rattle.net_extract.specs.Values.{State}
 
 -- ---- values by places
@@ -158,10 +158,6 @@ started-at (suc n) k words old within few =
           let ne : k ≢ n = other in rw get_or-set_other (started-at n k words old (omega arith) (omega arith))
     ]
 
-pub word-pick : (words : List (List Bool)) (place : ℕ) → get_or (map word_of words) place 0 ≡ word_of (get_or words place [])
-unfolding word_of
-word-pick words place = get_or-map word_of words place []
-
 -- all of them
 started-all : (words : List (List Bool)) (old : List ℕ) → length words ≡ length old → started (length old) words old ≡ map word_of words
 started-all words old same =
@@ -175,7 +171,7 @@ start-own zero ram words old rest = refl
 start-own (suc n) ram words old rest =
     fold-append start_step ((memory_name ram, old) ∷ rest) (each_below n (start_item ram words)) (start_item ram words n ∷ [])
     ∙ (ap (λ list. fold start_step list (start_item ram words n ∷ [])) (start-own n ram words old rest)
-    ∙ (rw (bytes-true (memory_name ram) (memory_name ram) refl) refl))
+    ∙ (rw (bytes_eq-same (memory_name ram) (memory_name ram) refl) refl))
 
 start-past : (n : ℕ) (ram : RamCell) (words : List (List Bool)) (entry : List ℕ × List ℕ) (rest : List (List ℕ × List ℕ)) → bytes_eq entry.0 (memory_name ram) ≡ false
     → fold start_step (entry ∷ rest) (each_below n (start_item ram words)) ≡ entry ∷ fold start_step rest (each_below n (start_item ram words))

@@ -8,11 +8,12 @@ use Rattle.std.proofs.lemmas.Nat.Bits.{bit_at_lowest, bit_at-suc, bit_at-zero, b
 use Rattle.bit_plane.specs.BitList.{bit_value, word_of, word_bits}
 use Rattle.bit_plane.specs.Rows.{row_from}
 use Rattle.bit_plane.proofs.Made.{length-row_from, get_or-row_from}
-use Rattle.bit_plane.proofs.Words.{get_or-word_bits, test-bit_value, word_of-lt}
+use Rattle.bit_plane.proofs.Words.{get_or-word_bits, test-bit_value, word_of-lt, bit_value-le}
 use Rattle.vlog_cycle.specs.Values.{bit_of, number_of, majority}
 use Rattle.vlog_cycle.specs.Run.{masked}
 use Rattle.net_extract.specs.Values.{majority as two_of}
 use Rattle.std.specs.Int.{w16}
+use Rattle.ice_image.proofs.Spread.{same-row}
 
 -- bit k of the number of some bits is bit k of them
 bit_at-word_of : (bits : List Bool) (k : ℕ) → bit_at (word_of bits) k ≡ bit_value (get_or bits k false)
@@ -46,15 +47,11 @@ number-four : (a b c d : Bool) → number_of (a ∷ b ∷ c ∷ d ∷ []) ≡ bi
 unfolding word_of
 number-four a b c d = number_of-word_of (a ∷ b ∷ c ∷ d ∷ []) ∙ omega arith
 
-bit-most : (bit : Bool) → bit_value bit ≤ 1
-bit-most true = omega arith
-bit-most false = omega arith
-
 pub table-entry : (word : ℕ) (a b c d : Bool)
     → bit_of word (number_of (a ∷ b ∷ c ∷ d ∷ [])) ≡ get_or (word_bits 16 word) (bit_value a + 2 * bit_value b + 4 * bit_value c + 8 * bit_value d) false
 table-entry word a b c d =
     let number = bit_value a + 2 * bit_value b + 4 * bit_value c + 8 * bit_value d in
-    let small : bit_value a + 2 * bit_value b + 4 * bit_value c + 8 * bit_value d < 16 = omega (arith, bit-most a, bit-most b, bit-most c, bit-most d) in
+    let small : bit_value a + 2 * bit_value b + 4 * bit_value c + 8 * bit_value d < 16 = omega (arith, bit_value-le a, bit_value-le b, bit_value-le c, bit_value-le d) in
     ap (bit_of word) (number-four a b c d) ∙ sym (get_or-word_bits 16 word number small)
 
 -- ---- masked words
@@ -71,11 +68,6 @@ choice false false false = refl
 
 abbrev pub chosen : List Bool → List Bool → List Bool → ℕ → Bool
 chosen word mask bits b = if get_or mask b false then get_or word b false else get_or bits b false
-
-row_from-same : (width : ℕ) (one two : ℕ → Bool) → ((k : ℕ) → k < width → one k ≡ two k) → row_from width one ≡ row_from width two
-unfolding row_from
-row_from-same zero one two same = refl
-row_from-same (suc width) one two same = rw (row_from-same width one two (λ k within. same k (omega arith)), same width (omega arith)) refl
 
 module _ (word mask bits : List Bool) (few_mask : length mask ≡ 16) (few_bits : length bits ≡ 16) where
   small-mask : word_of mask < 65536
@@ -118,7 +110,7 @@ module _ (word mask bits : List Bool) (few_mask : length mask ≡ 16) (few_bits 
   pub masked-same : (other : ℕ → Bool) → ((k : ℕ) → k < 16 → other k ≡ chosen word mask bits k)
       → masked (word_of word) (word_of mask) (word_of bits) ≡ word_of (row_from 16 other)
   masked-same other same =
-      masked-word ∙ ap word_of (row_from-same 16 (chosen word mask bits) other (λ k within. sym (same k within)))
+      masked-word ∙ ap word_of (same-row 16 (chosen word mask bits) other (λ k within. sym (same k within)))
 
 -- ---- majorities
 

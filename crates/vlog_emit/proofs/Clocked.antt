@@ -4,6 +4,9 @@ use Rattle.std.specs.Prelude.{Option, Some, None, bytes_eq, not, ◌&&◌, if◌
 use Rattle.std.proofs.lemmas.Bool.{cases_Bool}
 use Rattle.std.proofs.lemmas.List.{length-map, map-set}
 use Rattle.std.proofs.Math.ListN.{get_or-map}
+use Rattle.vlog_emit.proofs.Settled.{word-pick}
+use Rattle.shared_lemmas.proofs.Lists.{map-every}
+use Rattle.shared_lemmas.proofs.Bytes.{bytes_eq-same}
 use Rattle.bit_plane.specs.BitList.{word_of}
 use Rattle.vlog_module.specs.declared.item.Item.TheVariants.{Register, Word, Memory, Wire, Assign, Flip, Read, Write, Start}
 use Rattle.vlog_module.specs.Maps.{value_in}
@@ -23,12 +26,11 @@ use Rattle.net_extract.proofs.OneValue.{IsWithin}
 use Rattle.vlog_emit.specs.Names.{flip_name, register_name, memory_name}
 use Rattle.vlog_emit.specs.Rights.{input_atom, right_of, atom_or_0, atom_or_1, port_atoms, cell_lut}
 use Rattle.vlog_emit.specs.Written.{clocked, clock_name, flip_item, read_item, write_item}
-use Rattle.vlog_emit.proofs.Lists.{bytes-true, map-map}
+use Rattle.vlog_emit.proofs.Lists.{map-map}
 use Rattle.vlog_emit.proofs.Bits.{number_of-word_of, masked-same}
 use Rattle.vlog_emit.proofs.Sections.{Skips}
 use Rattle.vlog_emit.proofs.Rights.{Gives, atom-value, lut-written}
-use Rattle.vlog_emit.proofs.Settled.{map-every}
-use Rattle.vlog_emit.proofs.Beginning.{word-pick, IsPorted}
+use Rattle.vlog_emit.proofs.Beginning.{IsPorted}
 use Rattle.vlog_emit.proofs.Ticks.{clock_test}
 
 -- ---- sections
@@ -73,7 +75,7 @@ read_from None address old = old
 
 put_read-own : (name : List ℕ) (found : Option (List ℕ)) (address old : ℕ) (rest : List (List ℕ × ℕ))
     → put_read ((name, old) ∷ rest) name found address ≡ (name, read_from found address old) ∷ rest
-put_read-own name (Some memory) address old rest = rw (bytes-true name name refl) refl
+put_read-own name (Some memory) address old rest = rw (bytes_eq-same name name refl) refl
 put_read-own name None address old rest = refl
 
 put_read-past : (name : List ℕ) (found : Option (List ℕ)) (address : ℕ) (entry : List ℕ × ℕ) (rest : List (List ℕ × ℕ)) → bytes_eq entry.0 name ≡ false
@@ -97,7 +99,7 @@ module _ (m : Parts) (fabric : Fabric) (before : ModuleEntry) (event : ModuleEve
   flip-own lc None old rest = refl
   flip-own lc (Some clock) old rest =
       elim (cases_Bool (is_clocked m event lc.neg clock && atom_value (readable before) (atom_or_1 fabric lc.cen))) [
-        | inl here ↦ rw (here, bytes-true (flip_name lc) (flip_name lc) refl) refl
+        | inl here ↦ rw (here, bytes_eq-same (flip_name lc) (flip_name lc) refl) refl
         | inr away ↦ rw away refl
       ]
 
@@ -151,7 +153,7 @@ module _ (m : Parts) (fabric : Fabric) (before : ModuleEntry) (event : ModuleEve
   write-own ram None old rest = refl
   write-own ram (Some clock) old rest =
       elim (cases_Bool (is_clocked m event ram.wneg clock && atom_value (readable before) (atom_or_1 fabric ram.wclke) && atom_value (readable before) (atom_or_0 fabric ram.we))) [
-        | inl here ↦ rw (here, bytes-true (memory_name ram) (memory_name ram) refl) refl
+        | inl here ↦ rw (here, bytes_eq-same (memory_name ram) (memory_name ram) refl) refl
         | inr away ↦ rw away refl
       ]
 

@@ -2,6 +2,7 @@
 use Rattle.std.proofs.Common.{◌≡◌, ℕ, ◌<◌, ◌≤◌, Bool, false, arith, List, [], ◌∷◌, ◌++◌, map, fold, refl, sym, ap, ◌∙◌, subst, append-nil}
 use Rattle.std.specs.Prelude.{All, Option, Some, None, flat_map, bytes_eq}
 use Rattle.std.proofs.lemmas.List.Elements.{All-nil, All-cons, All-head, All-tail, All-append, All-filter}
+use Rattle.shared_lemmas.proofs.Lists.{All-both}
 use Rattle.vlog_module.specs.declared.sort.Sort.{Sort}
 use Rattle.vlog_module.specs.declared.sort.Sort.TheVariants as sort
 use Rattle.vlog_module.specs.declared.item.Item.{Item}
@@ -27,7 +28,7 @@ use Rattle.vlog_emit.proofs.Ticks.{leads-place}
 use Rattle.vlog_emit.proofs.Grown.{grown, Grows}
 use Rattle.vlog_emit.proofs.Declared.{every, port-no_register, port-no_memory, flip-no_register, flip-no_memory, register-no_memory}
 use Rattle.vlog_emit.proofs.Used.{IsThere, Knows, there-more}
-use Rattle.vlog_emit.proofs.Known.{Stands, stands-more, All-two}
+use Rattle.vlog_emit.proofs.Known.{Stands, stands-more}
 use Rattle.vlog_emit.proofs.Assigned.{Assigned, grows-assigned, output-one, output-allowed}
 use Rattle.vlog_emit.proofs.Ticking.{flip-allowed, read-allowed, write-allowed, flip-one, read-one, write-one}
 
@@ -182,7 +183,7 @@ module _ (fabric : Fabric) (within : IsWithin fabric) (writable : IsWritable fab
     flips-are =
         pairs-all (λ lc. clock_name fabric lc.clk) (λ lc. (lc.lut < 65536) × IsThere scope (flip_name lc) sort.Register) (λ (pair : Lc × List ℕ). (pair.0.lut < 65536) × IsThere scope pair.1 sort.Input × IsThere scope (flip_name pair.0) sort.Register)
         (λ lc at here is. (here.0, clock-there fabric within writable order ordered scope standing.knows lc.clk at is, here.1)) (flips_of fabric)
-        (All-two (λ lc. lc.lut < 65536) (λ lc. IsThere scope (flip_name lc) sort.Register) (λ lc. (lc.lut < 65536) × IsThere scope (flip_name lc) sort.Register) (λ lc small there. (small, there)) (flips_of fabric)
+        (All-both (λ lc. lc.lut < 65536) (λ lc. IsThere scope (flip_name lc) sort.Register) (λ lc. (lc.lut < 65536) × IsThere scope (flip_name lc) sort.Register) (λ lc small there. (small, there)) (flips_of fabric)
         (All-filter (λ lc. lc.flip) (λ lc. lc.lut < 65536) fabric.lcs few) standing.stands.flips)
 
     flips-next : (next : Scope) (pair : Lc × List ℕ) → IsFlip pair → next.section ≤ 7 → next.declared ≡ scope.declared
@@ -215,9 +216,9 @@ module _ (fabric : Fabric) (within : IsWithin fabric) (writable : IsWritable fab
         pairs-all (λ ram. clock_name fabric ram.rclk) (λ ram. IsPorted ram × IsThere scope (register_name ram) sort.Word × IsThere scope (memory_name ram) sort.Memory)
         (λ (pair : RamCell × List ℕ). IsPorted pair.0 × IsThere scope pair.1 sort.Input × IsThere scope (register_name pair.0) sort.Word × IsThere scope (memory_name pair.0) sort.Memory)
         (λ ram at here is. (here.0, clock-there fabric within writable order ordered scope standing.knows ram.rclk at is, here.1, here.2)) fabric.rams
-        (All-two IsPorted (λ ram. IsThere scope (register_name ram) sort.Word × IsThere scope (memory_name ram) sort.Memory) (λ ram. IsPorted ram × IsThere scope (register_name ram) sort.Word × IsThere scope (memory_name ram) sort.Memory)
+        (All-both IsPorted (λ ram. IsThere scope (register_name ram) sort.Word × IsThere scope (memory_name ram) sort.Memory) (λ ram. IsPorted ram × IsThere scope (register_name ram) sort.Word × IsThere scope (memory_name ram) sort.Memory)
         (λ ram ported there. (ported, there.0, there.1)) fabric.rams sized.each_port
-        (All-two (λ ram. IsThere scope (register_name ram) sort.Word) (λ ram. IsThere scope (memory_name ram) sort.Memory) (λ ram. IsThere scope (register_name ram) sort.Word × IsThere scope (memory_name ram) sort.Memory)
+        (All-both (λ ram. IsThere scope (register_name ram) sort.Word) (λ ram. IsThere scope (memory_name ram) sort.Memory) (λ ram. IsThere scope (register_name ram) sort.Word × IsThere scope (memory_name ram) sort.Memory)
         (λ ram word memory. (word, memory)) fabric.rams standing.stands.registers standing.stands.memories))
 
     reads-next : (next : Scope) (pair : RamCell × List ℕ) → IsRead pair → next.section ≤ 8 → next.declared ≡ scope.declared
@@ -256,7 +257,7 @@ module _ (fabric : Fabric) (within : IsWithin fabric) (writable : IsWritable fab
         pairs-all (λ ram. clock_name fabric ram.wclk) (λ ram. IsPorted ram × IsThere scope (memory_name ram) sort.Memory)
         (λ (pair : RamCell × List ℕ). IsPorted pair.0 × IsThere scope pair.1 sort.Input × IsThere scope (memory_name pair.0) sort.Memory)
         (λ ram at here is. (here.0, clock-there fabric within writable order ordered scope standing.knows ram.wclk at is, here.1)) fabric.rams
-        (All-two IsPorted (λ ram. IsThere scope (memory_name ram) sort.Memory) (λ ram. IsPorted ram × IsThere scope (memory_name ram) sort.Memory)
+        (All-both IsPorted (λ ram. IsThere scope (memory_name ram) sort.Memory) (λ ram. IsPorted ram × IsThere scope (memory_name ram) sort.Memory)
         (λ ram ported there. (ported, there)) fabric.rams sized.each_port standing.stands.memories)
 
     writes-next : (next : Scope) (pair : RamCell × List ℕ) → IsWrite pair → next.section ≤ 9 → next.declared ≡ scope.declared

@@ -1,13 +1,14 @@
 -- The run of the written module and the run of the fabric match after the start and after each event of each list.
-use Rattle.std.proofs.Common.{◌≡◌, ℕ, zero, suc, ◌+◌, ◌<◌, Bool, true, false, List, [], ◌∷◌, ◌++◌, length, map, get_or, set, fold, refl, sym, ap, ◌∙◌, subst, arith, inl, inr}
+use Rattle.std.proofs.Common.{◌≡◌, ℕ, zero, suc, ◌+◌, ◌<◌, Bool, true, false, List, [], ◌∷◌, ◌++◌, length, map, get_or, set, fold, refl, sym, ap, ◌∙◌, subst, arith, inl, inr, map-id}
 use Rattle.std.specs.Prelude.{All, Contains, Option, Some, None, flat_map}
 use Rattle.std.specs.List.{AllZip}
 use Rattle.std.proofs.lemmas.Bool.{cases_Bool}
 use Rattle.std.proofs.lemmas.List.{length-map, length_push, set-get_or}
 use Rattle.std.proofs.Common.{append_assoc}
 use Rattle.std.proofs.Math.Seq.{get_or-append_seam}
-use Rattle.std.proofs.lemmas.List.Elements.{All-nil, All-cons, All-head, All-tail, All-weaker, All-contains_itself}
+use Rattle.std.proofs.lemmas.List.Elements.{All-nil, All-cons, All-weaker, All-contains_itself}
 use Rattle.std.proofs.Math.ListN.{get_or-map}
+use Rattle.shared_lemmas.proofs.Lists.{map-same, map-every, All-both}
 use Rattle.plane_map.specs.declared.device.DeviceName.{DeviceName}
 use Rattle.bit_plane.specs.BitList.{word_of}
 use Rattle.vlog_module.specs.Maps.{value_in}
@@ -29,12 +30,12 @@ use Rattle.net_extract.proofs.Runs.{IsPlaced, IsClocked, clock_bit, flip-good, r
 use Rattle.vlog_emit.specs.Names.{port_name, flip_name, register_name, memory_name}
 use Rattle.vlog_emit.specs.Written.{clock_name, flip_items, read_items, write_items, items_of, module_of}
 use Rattle.vlog_emit.specs.Matching.{HasValues, Matches, module_event}
-use Rattle.vlog_emit.proofs.Lists.{Apart-filter, Apart-numbered, flat_map-numbered, map-map, map-same, entries-are, made-names, made-values, value_in-at}
+use Rattle.vlog_emit.proofs.Lists.{Apart-filter, Apart-numbered, flat_map-numbered, map-map, entries-are, made-names, made-values, value_in-at}
 use Rattle.vlog_emit.proofs.Sections.{fold-section, flips-section, reads-section, writes-section}
 use Rattle.vlog_emit.proofs.Fills.{FillsOwn, filled}
 use Rattle.vlog_emit.proofs.Rights.{Gives}
-use Rattle.vlog_emit.proofs.Settled.{IsWritable, Holding, gives-read, settled-matches, map-every}
-use Rattle.vlog_emit.proofs.Beginning.{IsStarted, IsPorted, values-are, start-matches, word-pick}
+use Rattle.vlog_emit.proofs.Settled.{IsWritable, Holding, gives-read, settled-matches, word-pick}
+use Rattle.vlog_emit.proofs.Beginning.{IsStarted, IsPorted, values-are, start-matches}
 use Rattle.vlog_emit.proofs.Ticks.{clock_test, edge-none, tick}
 use Rattle.vlog_emit.proofs.Clocked.{register-skips, word-skips, memory-skips, flip_by, flip-own, flip-past, read_by, read-own, read-past, write_by, write-own, write-past, flip-same, read-same, write-same}
 
@@ -44,10 +45,6 @@ use Rattle.vlog_emit.proofs.Clocked.{register-skips, word-skips, memory-skips, f
 values-count : {X A : Type 0} (name : X → List ℕ) (xs : List X) (entries : List (List ℕ × A)) (values : List A) → HasValues entries (map name xs) values → length values ≡ length xs
 values-count name xs entries values has =
     omega (arith, ap length has.valued, ap length has.named, length-map entries (λ entry. entry.1), length-map entries (λ entry. entry.0), length-map xs name)
-
-map-itself : {A : Type 0} (xs : List A) → map (λ (x : A). x) xs ≡ xs
-map-itself [] = refl
-map-itself (x ∷ xs) = ap (λ list. x ∷ list) (map-itself xs)
 
 with_input-names : (inputs : List (List ℕ × Bool)) (pin : ℕ) (bit : Bool) → names_of (with_input inputs pin bit) ≡ names_of inputs
 with_input-names [] pin bit = refl
@@ -82,11 +79,6 @@ named-at {X} name front from (x ∷ xs) size =
     (λ (place : ℕ × X). (get_or (front ++ map name (x ∷ xs)) place.0 [] ≡ name place.1) × (place.0 < length front + length (x ∷ xs)))
     (λ place found. (subst (λ list. get_or list place.0 [] ≡ name place.1) all found.0, omega (arith, found.1, longer))) (numbered_from (suc from) xs) rest)
 
-All-both : {X : Type 0} (P Q R : X → Type 0) → ((x : X) → P x → Q x → R x) → (xs : List X) → All P xs → All Q xs → All R xs
-All-both P Q R both [] of_p of_q = All-nil R
-All-both P Q R both (x ∷ xs) of_p of_q =
-    All-cons R x xs (both x (All-head P x xs of_p) (All-head Q x xs of_q)) (All-both P Q R both xs (All-tail P x xs of_p) (All-tail Q x xs of_q))
-
 -- ---- a state that stays
 
 module _ (fabric : Fabric) (state : State) (before : ℕ → Bool)
@@ -108,11 +100,11 @@ module _ (fabric : Fabric) (state : State) (before : ℕ → Bool)
   unfolding state_after
   state-stays =
       let f = map-every (flip_after (is_connected fabric) before before state.flips) (λ place. get_or state.flips place.0 false) flip-stays (numbered (flips_of fabric))
-      ∙ (values-are (λ bit. bit) false (flips_of fabric) state.flips flips ∙ map-itself state.flips) in
+      ∙ (values-are (λ bit. bit) false (flips_of fabric) state.flips flips ∙ map-id state.flips) in
       let r = map-every (register_after (is_connected fabric) before before state) (λ place. get_or state.registers place.0 []) register-stays (numbered fabric.rams)
-      ∙ (values-are (λ word. word) [] fabric.rams state.registers registers ∙ map-itself state.registers) in
+      ∙ (values-are (λ word. word) [] fabric.rams state.registers registers ∙ map-id state.registers) in
       let w = map-every (words_after (is_connected fabric) before before state) (λ place. get_or state.words place.0 []) words-stay (numbered fabric.rams)
-      ∙ (values-are (λ list. list) [] fabric.rams state.words words ∙ map-itself state.words) in
+      ∙ (values-are (λ list. list) [] fabric.rams state.words words ∙ map-id state.words) in
       λ i. record { flips = f i; registers = r i; words = w i }
 
 -- ---- one event

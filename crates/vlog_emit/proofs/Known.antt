@@ -3,7 +3,9 @@ use Rattle.std.proofs.Common.{◌≡◌, ℕ, Bool, true, false, List, [], ◌�
 use Rattle.std.specs.Prelude.{All, Some, filter, bytes_eq, not, if◌then◌else◌}
 use Rattle.std.proofs.lemmas.Bool.{cases_Bool}
 use Rattle.std.proofs.lemmas.List.{map-append}
-use Rattle.std.proofs.lemmas.List.Elements.{All-nil, All-cons, All-head, All-tail, All-append, All-weaker, All-filter}
+use Rattle.std.proofs.lemmas.List.Elements.{All-nil, All-cons, All-head, All-tail, All-append, All-weaker, All-filter, filter_passes}
+use Rattle.shared_lemmas.proofs.Lists.{All-both}
+use Rattle.shared_lemmas.proofs.Bytes.{bytes_eq-same}
 use Rattle.vlog_module.specs.Maps.{value_in}
 use Rattle.vlog_module.specs.declared.sort.Sort.{Sort}
 use Rattle.vlog_module.specs.declared.sort.Sort.TheVariants as sort
@@ -17,7 +19,7 @@ use Rattle.net_extract.specs.Wiring.{has}
 use Rattle.net_extract.proofs.Order.{has-none, has-cases}
 use Rattle.vlog_emit.specs.Names.{port_name, flip_name, register_name, memory_name, wire_name}
 use Rattle.vlog_emit.specs.Written.{port_of}
-use Rattle.vlog_emit.proofs.Lists.{Apart, Apart-filter, bytes-true, value_in-front, value_in-behind, names-absent, map-map, All-pick}
+use Rattle.vlog_emit.proofs.Lists.{Apart, Apart-filter, value_in-front, value_in-behind, names-absent, map-map, All-pick}
 use Rattle.vlog_emit.proofs.Settled.{IsWritable, port-no_flip, port-no_wire, flip-no_wire}
 use Rattle.vlog_emit.proofs.Declared.{AreNamed, StateLeft, port-no_register, port-no_memory, flip-no_register, flip-no_memory, register-no_memory}
 use Rattle.vlog_emit.proofs.Used.{IsThere, Knows, there-more}
@@ -40,7 +42,7 @@ module _ {X : Type 0} (name : X → List ℕ) (sort_of : X → Sort) where
   sorted-there [] apart = All-nil (IsSorted name sort_of [])
   sorted-there (x ∷ xs) apart =
       All-cons (IsSorted name sort_of (with_sorts name sort_of (x ∷ xs))) x xs
-      (rw (bytes-true (name x) (name x) refl) refl)
+      (rw (bytes_eq-same (name x) (name x) refl) refl)
       (all-away xs apart.0 (sorted-there xs apart.1))
     where
       all-away : (ys : List X) → All (λ y. bytes_eq (name x) (name y) ≡ false) ys → All (IsSorted name sort_of (with_sorts name sort_of xs)) ys
@@ -71,19 +73,6 @@ pub no-name-both : (first second : List (List ℕ × Sort)) (q : List ℕ) → N
 no-name-both first second q of_first of_second =
     subst (All (λ n. bytes_eq n q ≡ false)) (sym (map-append (λ (entry : List ℕ × Sort). entry.0) first second))
     (All-append (λ n. bytes_eq n q ≡ false) (names_of first) (names_of second) of_first of_second)
-
--- the items that pass a test pass it
-filtered : {X : Type 0} (test : X → Bool) (xs : List X) → All (λ x. test x ≡ true) (filter test xs)
-filtered test [] = All-nil (λ x. test x ≡ true)
-filtered test (x ∷ xs) =
-    elim (cases_Bool (test x)) [
-      | inl here ↦ rw here (All-cons (λ y. test y ≡ true) x (filter test xs) here (filtered test xs))
-      | inr away ↦ rw away (filtered test xs)
-    ]
-
-pub All-two : {X : Type 0} (P Q R : X → Type 0) → ((x : X) → P x → Q x → R x) → (xs : List X) → All P xs → All Q xs → All R xs
-All-two P Q R join [] of_p of_q = All-nil R
-All-two P Q R join (x ∷ xs) of_p of_q = All-cons R x xs (join x (All-head P x xs of_p) (All-head Q x xs of_q)) (All-two P Q R join xs (All-tail P x xs of_p) (All-tail Q x xs of_q))
 
 -- ---- what the state declares
 
@@ -189,23 +178,23 @@ module _ (fabric : Fabric) (writable : IsWritable fabric) (named : AreNamed fabr
   port-there : (as_sort : Sort) (test : Pin → Bool) → ((pin : Pin) → test pin ≡ true → port_sort (port_of pin) ≡ as_sort)
       → All (λ pin. IsThere scope (port_name pin) as_sort) (filter test fabric.pins)
   port-there as_sort test is =
-      All-two (λ pin. IsThere scope (port_name pin) (port_sort (port_of pin))) (λ pin. test pin ≡ true) (λ pin. IsThere scope (port_name pin) as_sort)
+      All-both (λ pin. IsThere scope (port_name pin) (port_sort (port_of pin))) (λ pin. test pin ≡ true) (λ pin. IsThere scope (port_name pin) as_sort)
       (λ pin there passes. subst (IsThere scope (port_name pin)) (is pin passes) there) (filter test fabric.pins)
       (All-filter test (λ pin. IsThere scope (port_name pin) (port_sort (port_of pin))) fabric.pins
-      (All-two (λ pin. IsName (port_name pin)) (IsSorted port_name (λ pin. port_sort (port_of pin)) scope.declared) (λ pin. IsThere scope (port_name pin) (port_sort (port_of pin)))
+      (All-both (λ pin. IsName (port_name pin)) (IsSorted port_name (λ pin. port_sort (port_of pin)) scope.declared) (λ pin. IsThere scope (port_name pin) (port_sort (port_of pin)))
       (λ pin name found. record { named = name; declared = found }) fabric.pins named.ports port-sorts))
-      (filtered test fabric.pins)
+      (filter_passes test fabric.pins)
 
   -- after the state, all of it is declared
   pub state-stands : Stands fabric scope
   state-stands = record {
     inputs = port-there sort.Input (λ pin. not pin.output) input-sort;
     outputs = port-there sort.Output (λ pin. pin.output) output-sort;
-    flips = All-two (λ lc. IsName (flip_name lc)) (IsSorted flip_name (λ lc. sort.Register) scope.declared) (λ lc. IsThere scope (flip_name lc) sort.Register)
+    flips = All-both (λ lc. IsName (flip_name lc)) (IsSorted flip_name (λ lc. sort.Register) scope.declared) (λ lc. IsThere scope (flip_name lc) sort.Register)
         (λ lc name found. record { named = name; declared = found }) (flips_of fabric) (All-filter (λ lc. lc.flip) (λ lc. IsName (flip_name lc)) fabric.lcs named.flips) flip-sorts;
-    registers = All-two (λ ram. IsName (register_name ram)) (IsSorted register_name (λ ram. sort.Word) scope.declared) (λ ram. IsThere scope (register_name ram) sort.Word)
+    registers = All-both (λ ram. IsName (register_name ram)) (IsSorted register_name (λ ram. sort.Word) scope.declared) (λ ram. IsThere scope (register_name ram) sort.Word)
         (λ ram name found. record { named = name; declared = found }) fabric.rams named.registers word-sorts;
-    memories = All-two (λ ram. IsName (memory_name ram)) (IsSorted memory_name (λ ram. sort.Memory) scope.declared) (λ ram. IsThere scope (memory_name ram) sort.Memory)
+    memories = All-both (λ ram. IsName (memory_name ram)) (IsSorted memory_name (λ ram. sort.Memory) scope.declared) (λ ram. IsThere scope (memory_name ram) sort.Memory)
         (λ ram name found. record { named = name; declared = found }) fabric.rams named.memories memory-sorts;
   }
 
@@ -233,7 +222,7 @@ wire-listed (first ∷ order) class listed =
     elim (cases_Bool (bytes_eq (wire_name first) (wire_name class))) [
       | inl here ↦ rw here refl
       | inr away ↦ rw away (wire-listed order class (elim (has-cases first order class listed) [
-        | inl same ↦ let never : true ≡ false = sym (bytes-true (wire_name first) (wire_name class) (ap wire_name same)) ∙ away in absurd cc
+        | inl same ↦ let never : true ≡ false = sym (bytes_eq-same (wire_name first) (wire_name class) (ap wire_name same)) ∙ away in absurd cc
         | inr behind ↦ behind
       ]))
     ]

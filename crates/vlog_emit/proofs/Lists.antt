@@ -1,29 +1,16 @@
 -- Lists of names with their values.
-use Rattle.std.proofs.Common.{◌≡◌, ℕ, zero, suc, ◌<◌, Bool, true, false, List, [], ◌∷◌, ◌++◌, length, map, get_or, refl, sym, ap, ◌∙◌, subst, arith, inl, inr, append_assoc}
+use Rattle.std.proofs.Common.{◌≡◌, ℕ, zero, suc, ◌<◌, Bool, false, List, [], ◌∷◌, ◌++◌, length, map, get_or, refl, sym, ap, ◌∙◌, subst, arith, inl, inr, append_assoc}
 use Rattle.std.specs.Prelude.{All, Some, filter, flat_map, bytes_eq}
 use Rattle.std.proofs.lemmas.Bool.{cases_Bool}
 use Rattle.std.proofs.lemmas.List.{length_push}
 use Rattle.std.proofs.lemmas.List.Elements.{All-nil, All-cons, All-head, All-tail, All-filter}
-use Rattle.std.proofs.lemmas.Slice.Eq.{bytes_eq-Decides}
 use Rattle.std.proofs.Math.Seq.{get_or-append_seam}
+use Rattle.shared_lemmas.proofs.Bytes.{bytes_eq-same}
 use Rattle.vlog_module.specs.Maps.{value_in}
 use Rattle.vlog_cycle.specs.Named.{names_of, values_of}
 use Rattle.net_extract.specs.Fabric.{numbered_from, numbered}
 
 -- ---- names
-
-pub bytes-same : (a b : List ℕ) → bytes_eq a b ≡ true → a ≡ b
-bytes-same a b same = (bytes_eq-Decides a b).0 same
-
-pub bytes-true : (a b : List ℕ) → a ≡ b → bytes_eq a b ≡ true
-bytes-true a b same = (bytes_eq-Decides a b).1 same
-
-pub bytes-turned : (a b : List ℕ) → bytes_eq a b ≡ false → bytes_eq b a ≡ false
-bytes-turned a b away =
-    elim (cases_Bool (bytes_eq b a)) [
-      | inl same ↦ let never : true ≡ false = sym (bytes-true a b (sym (bytes-same b a same))) ∙ away in absurd cc
-      | inr other ↦ other
-    ]
 
 -- items whose names are apart
 abbrev pub Apart : {X : Type 0} → (X → List ℕ) → List X → Type 0
@@ -67,13 +54,6 @@ map-numbered given place (x ∷ xs) = ap (λ list. given x ∷ list) (map-number
 pub map-map : {A B C : Type 0} (first : A → B) (second : B → C) (xs : List A) → map second (map first xs) ≡ map (λ x. second (first x)) xs
 map-map first second [] = refl
 map-map first second (x ∷ xs) = ap (λ list. second (first x) ∷ list) (map-map first second xs)
-
-pub map-same : {A B : Type 0} (one two : A → B) (list : List A) → All (λ item. one item ≡ two item) list → map one list ≡ map two list
-map-same one two [] same = refl
-map-same one two (item ∷ list) same =
-    let first : one item ≡ two item = All-head (λ i. one i ≡ two i) item list same in
-    let rest : map one list ≡ map two list = map-same one two list (All-tail (λ i. one i ≡ two i) item list same) in
-    cc
 
 -- ---- lists of names with values, from items with their places
 
@@ -148,7 +128,7 @@ pub value_in-at : {X A : Type 0} (name : X → List ℕ) (d : A) (xs : List X) (
 value_in-at name d [] entries place apart named within = absurd (omega arith)
 value_in-at name d (x ∷ xs) [] place apart named within = absurd cc
 value_in-at name d (x ∷ xs) (entry ∷ entries) zero apart named within =
-    let key : entry.0 ≡ name x = cc in rw (bytes-true entry.0 (name x) key) refl
+    let key : entry.0 ≡ name x = cc in rw (bytes_eq-same entry.0 (name x) key) refl
 value_in-at name d (x ∷ xs) (entry ∷ entries) (suc place) apart named within =
     let key : entry.0 ≡ name x = cc in
     let keys : names_of entries ≡ map name xs = cc in

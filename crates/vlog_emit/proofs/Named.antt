@@ -3,7 +3,7 @@ use Rattle.std.proofs.Common.{◌≡◌, ℕ, Bool, true, false, List, [], ◌�
 use Rattle.std.specs.Prelude.{All, bytes_eq, decimal, not, ◌&&◌, IsTrue}
 use Rattle.std.specs.List.{list_all, IsDistinct, AllByRecursion}
 use Rattle.std.specs.Str.Parse.{AllDigits}
-use Rattle.std.proofs.lemmas.Bool.{le-leb}
+use Rattle.std.proofs.lemmas.Bool.{le-leb, or_right, and_from}
 use Rattle.std.proofs.lemmas.Str.Parse.{tells_digits}
 use Rattle.std.proofs.lemmas.List.Folds.{list_all-append}
 use Rattle.std.proofs.lemmas.List.Elements.{All-head, All-tail}
@@ -11,7 +11,6 @@ use Rattle.vlog_module.specs.Names.{is_name_byte, reserved_words, is_name, IsNam
 use Rattle.net_extract.specs.declared.cell.Lc.{Lc}
 use Rattle.net_extract.specs.declared.ram.RamCell.{RamCell}
 use Rattle.net_extract.specs.declared.pin.Pin.{Pin}
-use Rattle.net_extract.proofs.Tests.{or-right, and-both}
 use Rattle.vlog_emit.specs.Names.{two_numbers, three_numbers, port_name, flip_name, register_name, memory_name, wire_name}
 use Rattle.vlog_emit.proofs.Lists.{Apart}
 use Rattle.vlog_emit.proofs.Apart.{IsSmall, number-digits}
@@ -22,8 +21,8 @@ digits-named : (digits : List ℕ) → AllDigits 10 digits → list_all is_name_
 digits-named [] all = refl
 digits-named (digit ∷ digits) all =
     let parts = tells_digits.parts digit digits all in
-    and-both (is_name_byte digit) (list_all is_name_byte digits)
-    (or-right _ _ (and-both _ _ (le-leb 48 digit parts.0.0) (le-leb digit 57 parts.0.1))) (digits-named digits parts.1)
+    and_from (is_name_byte digit) (list_all is_name_byte digits)
+    (or_right _ _ (and_from _ _ (le-leb 48 digit parts.0.0) (le-leb digit 57 parts.0.1))) (digits-named digits parts.1)
 
 number-named : (n : ℕ) → IsSmall n → list_all is_name_byte (decimal n) ≡ true
 number-named n small = digits-named (decimal n) (number-digits n small)
@@ -31,7 +30,7 @@ number-named n small = digits-named (decimal n) (number-digits n small)
 -- two parts with `_` between them
 joined-named : (first second : List ℕ) → list_all is_name_byte first ≡ true → list_all is_name_byte second ≡ true → list_all is_name_byte (first ++ 95 ∷ second) ≡ true
 joined-named first second of_first of_second =
-    list_all-append is_name_byte first (95 ∷ second) ∙ and-both (list_all is_name_byte first) (list_all is_name_byte (95 ∷ second)) of_first of_second
+    list_all-append is_name_byte first (95 ∷ second) ∙ and_from (list_all is_name_byte first) (list_all is_name_byte (95 ∷ second)) of_first of_second
 
 two-named : (x y : ℕ) → IsSmall x → IsSmall y → list_all is_name_byte (two_numbers x y) ≡ true
 unfolding two_numbers

@@ -1,12 +1,16 @@
 -- Where a database and an image aren't refused, each pad that drives a global is an input pin.
 use Rattle.std.proofs.Common.{◌≡◌, ℕ, zero, suc, ◌/◌, ◌<◌, ◌≤◌, Bool, true, false, List, [], ◌∷◌, length, refl, ap, ◌∙◌, subst, arith, inl, inr, eq-eqb}
-use Rattle.std.specs.Prelude.{All, Contains, Option, Some, None, not, codes, ◌&&◌, ◌||◌, ◌==◌, find, position, unwrap_or, nat_le, option_map, if◌then◌else◌}
+use Rattle.std.specs.Prelude.{All, Contains, Option, Some, None, not, codes, ◌&&◌, ◌||◌, ◌==◌, find, position, unwrap_or, option_map, if◌then◌else◌}
 use Rattle.std.specs.List.{position_or_len}
-use Rattle.std.proofs.lemmas.Bool.{cases_Bool, eqb-true, leb-false, lt-ltb}
+use Rattle.std.proofs.lemmas.Bool.{cases_Bool, eqb-true, lt-ltb, and_from, or_left}
 use Rattle.std.proofs.lemmas.List.Elements.{All-nil, All-head, All-tail, All-map}
+use Rattle.plane_map.proofs.Grids.{kind_of-inside}
+use Rattle.place_search.proofs.Gathered.{All-gathered_below, Contains-gathered_below}
+use Rattle.shared_lemmas.proofs.Tests.{first_true}
 use Rattle.plane_map.specs.declared.device.DeviceName.{DeviceName}
+use Rattle.plane_map.specs.Devices.{is_same_device}
+use Rattle.plane_map.proofs.Devices.{one-device}
 use Rattle.plane_map.specs.declared.device.DeviceName.TheVariants.{K1, K8}
-use Rattle.plane_map.specs.declared.tile.TileKind.{TileKind}
 use Rattle.plane_map.specs.declared.tile.TileKind.TheVariants.{Io}
 use Rattle.plane_map.specs.Layout.{kind_of, grid_width, grid_height}
 use Rattle.ice_image.specs.Configuration.{Configuration}
@@ -29,19 +33,13 @@ use Rattle.net_extract.specs.Nets.{is_some_read}
 use Rattle.net_extract.specs.Pins.{pintype_of, has_no_output, has_plain_output, has_plain_input, is_input_pin, is_output_pin, is_port, io_net, pin_with, port_at, pins_of, global_pad, global_source, global_fabout, source_of_global, global_nets, nets_from, globals_of, is_pin_at, is_global_pad, is_refused_with}
 use Rattle.net_extract.specs.Fabric.{inputs_of, fabric_of}
 use Rattle.net_extract.specs.Drivers.{pad_place}
-use Rattle.net_extract.specs.Faults.{Fault, is_same_device, device_faults, pin_fault_at, pin_faults}
+use Rattle.net_extract.specs.Faults.{Fault, device_faults, pin_fault_at, pin_faults}
 use Rattle.net_extract.proofs.OneValue.{filter-has}
 use Rattle.net_extract.proofs.Taken.{IsTaken, gathered_below-empty, item_if-none}
-use Rattle.net_extract.proofs.Tests.{and-both, and-left, or-left}
-use Rattle.net_extract.proofs.Runs.{contains-gathered, contains-over_grid}
-use Rattle.net_extract.proofs.Within.{All-gathered}
+use Rattle.net_extract.proofs.Runs.{contains-over_grid}
 use Rattle.vlog_emit.proofs.Configured.{IsPadIn}
 
 -- ---- tests and places
-
-parts-none : (a b : Bool) → (a || b) ≡ false → (a ≡ false) × (b ≡ false)
-parts-none true b never = absurd cc
-parts-none false b none = (refl, none)
 
 fourth-none : (a b c d e : Bool) → (a || (b || (c || (d || e)))) ≡ false → d ≡ false
 fourth-none true b c d e none = absurd cc
@@ -66,22 +64,6 @@ place-found test xs item there passes =
     let inside : position_or_len test xs < length xs = prefix-found test xs item there passes in
     rw (lt-ltb (position_or_len test xs) (length xs) inside) inside
 
-kind-in : (device : DeviceName) (x y : ℕ) (kind : TileKind) → kind_of device x y ≡ Some kind → (x < grid_width device) × (y < grid_height device)
-unfolding kind_of
-kind-in device x y kind is =
-    elim (cases_Bool (nat_le (grid_width device) x || nat_le (grid_height device) y)) [
-      | inl outside ↦ let never : None ≡ Some kind = rw outside at is in absurd cc
-      | inr inside ↦
-          let parts = parts-none (nat_le (grid_width device) x) (nat_le (grid_height device) y) inside in
-          (leb-false (grid_width device) x parts.0, leb-false (grid_height device) y parts.1)
-    ]
-
-same-device : (a b : DeviceName) → is_same_device a b ≡ true → a ≡ b
-same-device K1 K1 same = refl
-same-device K1 K8 same = absurd cc
-same-device K8 K1 same = absurd cc
-same-device K8 K8 same = refl
-
 no-fault : (passes : Bool) (fault : Fault) → (if passes then [] else fault ∷ []) ≡ [] → passes ≡ true
 no-fault true fault none = refl
 no-fault false fault none = absurd cc
@@ -89,7 +71,7 @@ no-fault false fault none = absurd cc
 -- an input pin is no output pin
 input-only : (pintype : ℕ) → is_input_pin pintype ≡ true → is_output_pin pintype ≡ false
 input-only pintype is =
-    let none : pintype / 4 ≡ 0 = eqb-true (pintype / 4) 0 (and-left (has_no_output pintype) (has_plain_input pintype) is) in
+    let none : pintype / 4 ≡ 0 = eqb-true (pintype / 4) 0 (first_true (has_no_output pintype) (has_plain_input pintype) is) in
     ap (λ n. n == 6) none
 
 -- ---- pads of the database
@@ -117,7 +99,7 @@ if-some false value item is = absurd cc
 module _ (db : Database) (image : Configuration) (fit : IsFit db) (taken : IsTaken db image) where
   devices : db.chip.device ≡ image.layout.device
   unfolding device_faults
-  devices = same-device db.chip.device image.layout.device (no-fault (is_same_device db.chip.device image.layout.device) Fault.other_device taken.device)
+  devices = one-device db.chip.device image.layout.device (no-fault (is_same_device db.chip.device image.layout.device) Fault.other_device taken.device)
 
   module _ (g : ℕ) (small : g < 8) (pad : PinXy) (is : global_pad db image g ≡ Some pad) where
     pad-is : IsPad db.chip pad
@@ -128,7 +110,7 @@ module _ (db : Database) (image : Configuration) (fit : IsFit db) (taken : IsTak
     pad-tile = subst (λ device. kind_of device pad.x pad.y ≡ Some Io) devices pad-is.tile
 
     pad-in : (pad.x < grid_width image.layout.device) × (pad.y < grid_height image.layout.device)
-    pad-in = kind-in image.layout.device pad.x pad.y Io pad-tile
+    pad-in = kind_of-inside image.layout.device pad.x pad.y Io pad-tile
 
     pad-io : is_kind_there Io (kind_of image.layout.device pad.x pad.y) ≡ true
     pad-io = rw pad-tile refl
@@ -137,8 +119,8 @@ module _ (db : Database) (image : Configuration) (fit : IsFit db) (taken : IsTak
     pad-global : is_global_pad db image pad.x pad.y pad.n ≡ true
     pad-global =
         any_below-at 8 g (λ k. is_pin_at pad.x pad.y pad.n (global_pad db image k)) small
-        (rw is (and-both (pad.x == pad.x) ((pad.y == pad.y) && (pad.n == pad.n)) (eq-eqb pad.x pad.x refl)
-        (and-both (pad.y == pad.y) (pad.n == pad.n) (eq-eqb pad.y pad.y refl) (eq-eqb pad.n pad.n refl))))
+        (rw is (and_from (pad.x == pad.x) ((pad.y == pad.y) && (pad.n == pad.n)) (eq-eqb pad.x pad.x refl)
+        (and_from (pad.y == pad.y) (pad.n == pad.n) (eq-eqb pad.y pad.y refl) (eq-eqb pad.n pad.n refl))))
 
     -- so it isn't refused
     pad-fine : is_refused_with db image pad.x pad.y pad.n (pintype_of db image pad.x pad.y pad.n) ≡ false
@@ -173,8 +155,8 @@ module _ (db : Database) (image : Configuration) (fit : IsFit db) (taken : IsTak
     unfolding pins_of the_pin
     pin-there =
         contains-over_grid image.layout.device (at_kind image.layout.device Io (λ x y. gathered_below 2 (port_at db image x y))) pad.x pad.y the_pin pad-in.0 pad-in.1
-        (rw pad-io (contains-gathered 2 pad.n (port_at db image pad.x pad.y) the_pin (omega (arith, pad-is.number))
-        (rw (or-left (is_input_pin (pintype_of db image pad.x pad.y pad.n)) (is_output_pin (pintype_of db image pad.x pad.y pad.n)) pad-input) (0, omega arith, refl))))
+        (rw pad-io (Contains-gathered_below 2 pad.n (port_at db image pad.x pad.y) the_pin (omega (arith, pad-is.number))
+        (rw (or_left (is_input_pin (pintype_of db image pad.x pad.y pad.n)) (is_output_pin (pintype_of db image pad.x pad.y pad.n)) pad-input) (0, omega arith, refl))))
 
     pin-input : not the_pin.output ≡ true
     unfolding the_pin pin_with
@@ -187,8 +169,8 @@ module _ (db : Database) (image : Configuration) (fit : IsFit db) (taken : IsTak
     pin-is : ((the_pin.x == pad.x) && ((the_pin.y == pad.y) && (the_pin.n == pad.n))) ≡ true
     unfolding the_pin pin_with
     pin-is =
-        and-both (pad.x == pad.x) ((pad.y == pad.y) && (pad.n == pad.n)) (eq-eqb pad.x pad.x refl)
-        (and-both (pad.y == pad.y) (pad.n == pad.n) (eq-eqb pad.y pad.y refl) (eq-eqb pad.n pad.n refl))
+        and_from (pad.x == pad.x) ((pad.y == pad.y) && (pad.n == pad.n)) (eq-eqb pad.x pad.x refl)
+        (and_from (pad.y == pad.y) (pad.n == pad.n) (eq-eqb pad.y pad.y refl) (eq-eqb pad.n pad.n refl))
 
     pad-there : pad_place (inputs_of (fabric_of db image)) pad.x pad.y pad.n < length (inputs_of (fabric_of db image))
     pad-there =
@@ -213,5 +195,5 @@ module _ (db : Database) (image : Configuration) (fit : IsFit db) (taken : IsTak
   pub pads-there : All (λ (global : GlobalNet). IsPadIn (inputs_of (fabric_of db image)) global.from) (globals_of db image)
   unfolding globals_of
   pads-there =
-      All-gathered (λ (global : GlobalNet). IsPadIn (inputs_of (fabric_of db image)) global.from) 8 (λ g. nets_from db g (global_source db image g))
+      All-gathered_below (λ (global : GlobalNet). IsPadIn (inputs_of (fabric_of db image)) global.from) 8 (λ g. nets_from db g (global_source db image g))
       (λ g small. nets-there g (global_source db image g) (λ from source. source-there g small (global_pad db image g) refl (global_fabout db g) from source))

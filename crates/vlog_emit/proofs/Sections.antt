@@ -3,10 +3,11 @@ use Rattle.std.proofs.Common.{◌≡◌, ℕ, Bool, false, List, [], ◌∷◌, 
 use Rattle.std.specs.Prelude.{All, Option, Some, None, filter, flat_map, ◌==◌, if◌then◌else◌}
 use Rattle.std.proofs.lemmas.Bool.{cases_Bool}
 use Rattle.std.proofs.lemmas.List.Elements.{All-nil, All-cons, All-head, All-tail, All-append, filter-append}
+use Rattle.place_search.proofs.Gathered.{All-gathered_below}
 use Rattle.vlog_module.specs.declared.item.Item.{Item}
 use Rattle.vlog_module.specs.WellFormed.{section_of}
 use Rattle.net_extract.specs.Fabric.{Fabric, numbered, outputs_of, flips_of}
-use Rattle.net_extract.proofs.Within.{All-single, All-gathered}
+use Rattle.net_extract.proofs.Within.{All-single}
 use Rattle.vlog_emit.specs.Written.{clocked, clock_name, flip_register, read_register, ram_memory, class_wire, output_assign, flip_item, flip_items, read_item, read_items, write_item, write_items, start_item, start_items, items_of}
 
 -- an item of a section
@@ -94,7 +95,7 @@ module _ (fabric : Fabric) (order : List ℕ) where
       (picked-then k 8 _ _ _ (All-given 8 (read_items fabric) fabric.rams (λ ram. All-clocked 8 (clock_name fabric ram.rclk) (read_item fabric ram) (λ name. refl)))
       (picked-then k 9 _ _ _ (All-given 9 (write_items fabric) fabric.rams (λ ram. All-clocked 9 (clock_name fabric ram.wclk) (write_item fabric ram) (λ name. refl)))
       (picked-is k 10 _ (All-given 10 (start_items fabric) (numbered fabric.rams) (λ place.
-      All-gathered (λ i. section_of i ≡ 10) 256 (λ n. start_item place.1 (get_or fabric.start place.0 []) n ∷ [])
+      All-gathered_below (λ i. section_of i ≡ 10) 256 (λ n. start_item place.1 (get_or fabric.start place.0 []) n ∷ [])
       (λ n within. All-single (λ i. section_of i ≡ 10) (start_item place.1 (get_or fabric.start place.0 []) n) refl)))))))))))
 
   pub registers-section : filter (is_in 2) (items_of fabric order) ≡ map flip_register (flips_of fabric)

@@ -7,6 +7,8 @@ use Rattle.std.proofs.lemmas.List.Elements.{All-nil, All-cons, All-head, All-tai
 use Rattle.std.proofs.lemmas.List.Concat.{flat_map_single}
 use Rattle.std.proofs.lemmas.List.{map-append}
 use Rattle.std.proofs.Math.ListN.{get_or-map}
+use Rattle.shared_lemmas.proofs.Lists.{map-every}
+use Rattle.shared_lemmas.proofs.Bytes.{same_bytes, bytes_eq-same}
 use Rattle.bit_plane.specs.BitList.{word_of}
 use Rattle.vlog_module.specs.declared.item.Item.TheVariants.{Register, Word, Memory, Wire, Assign, Flip, Read, Write, Start}
 use Rattle.vlog_module.specs.Maps.{value_in}
@@ -28,7 +30,7 @@ use Rattle.vlog_emit.specs.Names.{port_name, flip_name, register_name, memory_na
 use Rattle.vlog_emit.specs.Rights.{atom_or_0, input_name, flip_at, register_at, class_right}
 use Rattle.vlog_emit.specs.Written.{port_of, class_wire, output_assign, items_of, module_of}
 use Rattle.vlog_emit.specs.Matching.{HasValues, HasWires, Matches}
-use Rattle.vlog_emit.proofs.Lists.{Apart, Apart-filter, bytes-same, bytes-true, value_in-front, value_in-behind, value_in-at, names-absent, map-map}
+use Rattle.vlog_emit.proofs.Lists.{Apart, Apart-filter, value_in-front, value_in-behind, value_in-at, names-absent, map-map}
 use Rattle.vlog_emit.proofs.Sections.{Skips, fold-section, wires-section, assigns-section}
 use Rattle.vlog_emit.proofs.Fills.{FillsOwn, filled}
 use Rattle.vlog_emit.proofs.Rights.{IsPlaceIn, Gives, atom-value, class-written}
@@ -50,7 +52,7 @@ pub record IsWritable (fabric : Fabric) : Type 0 where
 pub wire-one : (a b : ℕ) → a < 2 ^ 64 → b < 2 ^ 64 → bytes_eq (wire_name a) (wire_name b) ≡ true → a ≡ b
 unfolding wire_name
 wire-one a b of_a of_b same =
-    let names : codes "n_" ++ decimal a ≡ codes "n_" ++ decimal b = bytes-same (codes "n_" ++ decimal a) (codes "n_" ++ decimal b) same in
+    let names : codes "n_" ++ decimal a ≡ codes "n_" ++ decimal b = same_bytes (codes "n_" ++ decimal a) (codes "n_" ++ decimal b) same in
     let numbers : decimal a ≡ decimal b = cc in
     decimal_injective a b of_a of_b numbers
 
@@ -65,10 +67,6 @@ flip-no_wire lc class = refl
 pub port-no_flip : (pin : Pin) (lc : Lc) → bytes_eq (port_name pin) (flip_name lc) ≡ false
 unfolding port_name flip_name
 port-no_flip pin lc = refl
-
-pub map-every : {A B : Type 0} (one two : A → B) → ((x : A) → one x ≡ two x) → (xs : List A) → map one xs ≡ map two xs
-map-every one two same [] = refl
-map-every one two same (x ∷ xs) = rw (same x, map-every one two same xs) refl
 
 -- ---- wires
 
@@ -86,7 +84,7 @@ wires-value v (first ∷ front) class small low listed =
           let same : first ≡ class = wire-one first class (All-head (λ c. c < 2 ^ 64) first front small) low here in
           rw here (ap (λ c. Some (bit_in v c)) same)
       | inr away ↦ rw away (wires-value v front class (All-tail (λ c. c < 2 ^ 64) first front small) low (elim (has-cases first front class listed) [
-        | inl same ↦ let never : true ≡ false = sym (bytes-true (wire_name first) (wire_name class) (ap wire_name same)) ∙ away in absurd cc
+        | inl same ↦ let never : true ≡ false = sym (bytes_eq-same (wire_name first) (wire_name class) (ap wire_name same)) ∙ away in absurd cc
         | inr behind ↦ behind
       ]))
     ]
@@ -104,7 +102,7 @@ holding-moved fabric one two a b inputs registers words state pins holding =
     subst (λ s. Holding fabric s b inputs registers words) state (subst (λ p. Holding fabric one p inputs registers words) pins holding)
 
 -- the number of a word among words
-word-pick : (words : List (List Bool)) (place : ℕ) → get_or (map word_of words) place 0 ≡ word_of (get_or words place [])
+pub word-pick : (words : List (List Bool)) (place : ℕ) → get_or (map word_of words) place 0 ≡ word_of (get_or words place [])
 unfolding word_of
 word-pick words place = get_or-map word_of words place []
 
@@ -159,7 +157,7 @@ outputs-start (pin ∷ pins) =
 output-fills : (fabric : Fabric) (from : Readable)
     → FillsOwn port_name (output_step from) (λ pin. output_assign fabric pin ∷ []) (λ pin old. atom_value from (atom_or_0 fabric pin.dout))
 output-fills fabric from = record {
-  own = λ pin old rest. rw (bytes-true (port_name pin) (port_name pin) refl) refl;
+  own = λ pin old rest. rw (bytes_eq-same (port_name pin) (port_name pin) refl) refl;
   past = λ pin entry rest away. rw away refl;
 }
 

@@ -3,6 +3,7 @@ use Rattle.std.proofs.Common.{◌≡◌, ℕ, zero, suc, ◌^◌, ◌<◌, Bool,
 use Rattle.std.specs.Prelude.{All, Option, Some, None, not, filter, flat_map, if◌then◌else◌}
 use Rattle.std.proofs.lemmas.List.{length-map}
 use Rattle.std.proofs.lemmas.List.Elements.{All-nil, All-head, All-tail, All-append, All-weaker, All-filter}
+use Rattle.place_search.proofs.Gathered.{All-gathered_below}
 use Rattle.plane_map.specs.declared.tile.TileKind.TheVariants.{Io, Logic, RamB}
 use Rattle.ice_image.specs.Configuration.{Configuration}
 use Rattle.bit_plane.specs.BitList.{word_of}
@@ -26,7 +27,7 @@ use Rattle.net_extract.specs.Pins.{pintype_of, is_port, pin_with, port_at, pins_
 use Rattle.net_extract.specs.Fabric.{Fabric, numbered, inputs_of, flips_of, fabric_of}
 use Rattle.net_extract.specs.Drivers.{Rule, Drive, drives_if, pin_drives, back_drives, lut_drives, flip_drives, lout_drives, carry_drives, set_drives, ram_drive, ram_drives, global_rule, global_drives, buffer_drives, drives_of, is_driver_of, drivers_of}
 use Rattle.net_extract.specs.Drivers.Rule.{pin_bit, sent_back, lut_entry, flip_bit, carry_out, one, register_bit, copied}
-use Rattle.net_extract.proofs.Within.{All-flat_map, All-gathered, All-item_if, All-if, All-single, All-over_tiles}
+use Rattle.net_extract.proofs.Within.{All-flat_map, All-item_if, All-if, All-single, All-over_tiles}
 use Rattle.vlog_emit.specs.Names.{port_name, flip_name, register_name, memory_name}
 use Rattle.vlog_emit.specs.Rights.{atom_or_0, right_alone, right_of, right_by, class_right}
 use Rattle.vlog_emit.proofs.Configured.{PinSmall, CellSmall, RamSmall, pin-at, cell-at, ram-placed}
@@ -142,14 +143,14 @@ module _ (db : Database) (image : Configuration) where
   unfolding pins_of
   pins-small =
       All-over_tiles PinSmall image.layout.device Io (λ x y. gathered_below 2 (port_at db image x y))
-      (λ x y left low. All-gathered PinSmall 2 (port_at db image x y)
+      (λ x y left low. All-gathered_below PinSmall 2 (port_at db image x y)
       (λ n few. All-item_if PinSmall (is_port (pintype_of db image x y n)) (pin_with db x y n (pintype_of db image x y n)) (pin-at db image x y n (pintype_of db image x y n) left low few).0))
 
   cells-small : All CellSmall (cells_of db image)
   unfolding cells_of cells_at
   cells-small =
       All-over_tiles CellSmall image.layout.device Logic (cells_at db image)
-      (λ x y left low. All-gathered CellSmall 8 (used_cell db image x y)
+      (λ x y left low. All-gathered_below CellSmall 8 (used_cell db image x y)
       (λ i few. All-item_if CellSmall _ (cell_with db image x y i (cell_bits db image x y i)) (cell-at db image x y i (cell_bits db image x y i) left low few).0))
 
   rams-small : All RamSmall (rams_of db image)
@@ -184,7 +185,7 @@ module _ (db : Database) (image : Configuration) where
   unfolding cells_of cells_at
   tables-small =
       All-over_tiles (λ lc. lc.lut < 65536) image.layout.device Logic (cells_at db image)
-      (λ x y left low. All-gathered (λ lc. lc.lut < 65536) 8 (used_cell db image x y)
+      (λ x y left low. All-gathered_below (λ lc. lc.lut < 65536) 8 (used_cell db image x y)
       (λ i few. All-item_if (λ lc. lc.lut < 65536) _ (cell_with db image x y i (cell_bits db image x y i)) (table-small x y i (cell_bits db image x y i))))
 
   -- ---- start words
@@ -192,7 +193,7 @@ module _ (db : Database) (image : Configuration) where
   words-sixteen : (x y : ℕ) → All (λ word. length word ≡ 16) (start_words image x y)
   unfolding start_words
   words-sixteen x y =
-      All-gathered (λ word. length word ≡ 16) 256 (λ k. start_word image x y k ∷ [])
+      All-gathered_below (λ word. length word ≡ 16) 256 (λ k. start_word image x y k ∷ [])
       (λ k few. All-single (λ word. length word ≡ 16) (start_word image x y k) (length-row_from 16 _))
 
   starts-sixteen : All (λ words. All (λ word. length word ≡ 16) words) (fabric_of db image).start

@@ -1,10 +1,11 @@
 -- The start words of a RAM may stand at the end of a written module.
-use Rattle.std.proofs.Common.{◌≡◌, ℕ, zero, suc, ◌<◌, ◌≤◌, Bool, true, false, List, [], ◌∷◌, ◌++◌, get_or, fold, refl, sym, ap, ◌∙◌, subst, arith, inl, inr, append_assoc, append-nil}
+use Rattle.std.proofs.Common.{◌≡◌, ℕ, zero, suc, ◌<◌, ◌≤◌, Bool, false, List, [], ◌∷◌, ◌++◌, get_or, fold, refl, sym, ap, ◌∙◌, subst, arith, inl, inr, append_assoc, append-nil}
 use Rattle.std.specs.Prelude.{All, flat_map, bytes_eq, not, ◌&&◌, ◌==◌, IsTrue}
 use Rattle.std.specs.List.{list_any}
-use Rattle.std.proofs.lemmas.Bool.{cases_Bool, eqb-true}
+use Rattle.std.proofs.lemmas.Bool.{cases_Bool, eqb-true, and_left, and_right}
 use Rattle.std.proofs.lemmas.List.Sums.{fold-append}
 use Rattle.std.proofs.lemmas.List.Elements.{All-nil, All-cons, All-head, All-tail, All-append, All-weaker}
+use Rattle.place_search.proofs.Gathered.{All-gathered_below}
 use Rattle.place_search.specs.Places.{gathered_below}
 use Rattle.bit_plane.specs.BitList.{word_of}
 use Rattle.vlog_module.specs.declared.sort.Sort.TheVariants as sort
@@ -13,7 +14,7 @@ use Rattle.vlog_module.specs.WellFormed.{Scope, IsAllowed}
 use Rattle.net_extract.specs.declared.ram.RamCell.{RamCell}
 use Rattle.net_extract.specs.Fabric.{Fabric}
 use Rattle.net_extract.specs.Tiles.{each_below}
-use Rattle.net_extract.proofs.Within.{All-single, All-gathered}
+use Rattle.net_extract.proofs.Within.{All-single}
 use Rattle.vlog_emit.specs.Names.{memory_name}
 use Rattle.vlog_emit.specs.Written.{start_item, start_items}
 use Rattle.vlog_emit.proofs.Lists.{Apart}
@@ -30,14 +31,6 @@ unstarted (p ∷ list) name k away =
 other-number : (a b : ℕ) → a < b → (a == b) ≡ false
 other-number a b less =
     elim (cases_Bool (a == b)) [ inl same ↦ let e : a ≡ b = eqb-true a b same in absurd (omega arith) | inr away ↦ away ]
-
-and-none : (a b : Bool) → b ≡ false → (a && b) ≡ false
-and-none true b none = none
-and-none false b none = refl
-
-and-first : (a b : Bool) → a ≡ false → (a && b) ≡ false
-and-first true b none = absurd cc
-and-first false b none = refl
 
 -- what start words leave
 pub record Started (before after : Scope) (words : List (List ℕ × ℕ)) : Type 0 where
@@ -58,10 +51,10 @@ module _ (ram : RamCell) (words : List (List Bool)) (small : (k : ℕ) → word_
             (subst (All (λ (p : List ℕ × ℕ). (bytes_eq p.0 (memory_name ram) && (p.1 == n)) ≡ false)) (sym is.started_is)
             (All-append (λ (p : List ℕ × ℕ). (bytes_eq p.0 (memory_name ram) && (p.1 == n)) ≡ false) scope.started (each_below n (λ k. (memory_name ram, k)))
             (All-weaker (λ (p : List ℕ × ℕ). bytes_eq p.0 (memory_name ram) ≡ false) (λ (p : List ℕ × ℕ). (bytes_eq p.0 (memory_name ram) && (p.1 == n)) ≡ false)
-            (λ p other. and-first (bytes_eq p.0 (memory_name ram)) (p.1 == n) other) scope.started away)
-            (All-gathered (λ (p : List ℕ × ℕ). (bytes_eq p.0 (memory_name ram) && (p.1 == n)) ≡ false) n (λ k. (memory_name ram, k) ∷ [])
+            (λ p other. and_left (bytes_eq p.0 (memory_name ram)) (p.1 == n) other) scope.started away)
+            (All-gathered_below (λ (p : List ℕ × ℕ). (bytes_eq p.0 (memory_name ram) && (p.1 == n)) ≡ false) n (λ k. (memory_name ram, k) ∷ [])
             (λ k less. All-single (λ (p : List ℕ × ℕ). (bytes_eq p.0 (memory_name ram) && (p.1 == n)) ≡ false) (memory_name ram, k)
-            (and-none (bytes_eq (memory_name ram) (memory_name ram)) (k == n) (other-number k n less))))));
+            (and_right (bytes_eq (memory_name ram) (memory_name ram)) (k == n) (other-number k n less))))));
       }))
 
   -- the first n start words
@@ -98,7 +91,7 @@ module _ (fabric : Fabric) (small : (place k : ℕ) → word_of (get_or (get_or 
       (subst (λ list. NotStarted list place.1) (sym is)
       (All-append (λ (p : List ℕ × ℕ). bytes_eq p.0 (memory_name place.1) ≡ false) old (each_below 256 (λ k. (memory_name ram, k)))
       (All-head (λ (other : ℕ × RamCell). NotStarted old other.1) place places away)
-      (All-gathered (λ (p : List ℕ × ℕ). bytes_eq p.0 (memory_name place.1) ≡ false) 256 (λ k. (memory_name ram, k) ∷ [])
+      (All-gathered_below (λ (p : List ℕ × ℕ). bytes_eq p.0 (memory_name place.1) ≡ false) 256 (λ k. (memory_name ram, k) ∷ [])
       (λ k less. All-single (λ (p : List ℕ × ℕ). bytes_eq p.0 (memory_name place.1) ≡ false) (memory_name ram, k)
       (All-head (λ (other : ℕ × RamCell). bytes_eq (memory_name ram) (memory_name other.1) ≡ false) place places apart)))))
       (others-away ram old all is places (All-tail (λ (other : ℕ × RamCell). bytes_eq (memory_name ram) (memory_name other.1) ≡ false) place places apart)

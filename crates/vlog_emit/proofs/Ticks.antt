@@ -2,6 +2,7 @@
 use Rattle.std.proofs.Common.{◌≡◌, ◌≢◌, ℕ, zero, suc, ◌+◌, ◌<◌, Bool, true, false, List, [], ◌∷◌, length, map, get_or, set, refl, sym, ap, ◌∙◌, subst, arith, inl, inr, get_or-set_same, get_or-set_other, eq-eqb}
 use Rattle.std.specs.Prelude.{Option, Some, None, filter, bytes_eq, not, ◌&&◌, ◌==◌, if◌then◌else◌}
 use Rattle.std.proofs.lemmas.Bool.{cases_Bool, eqb-true}
+use Rattle.shared_lemmas.proofs.Bytes.{bytes_eq-same}
 use Rattle.plane_map.specs.declared.device.DeviceName.{DeviceName}
 use Rattle.vlog_module.specs.Maps.{value_in}
 use Rattle.vlog_module.specs.declared.modules.Port.{Port}
@@ -28,7 +29,7 @@ use Rattle.vlog_emit.specs.Names.{port_name}
 use Rattle.vlog_emit.specs.Rights.{input_name}
 use Rattle.vlog_emit.specs.Written.{end_name, clock_name, port_of}
 use Rattle.vlog_emit.specs.Matching.{module_event}
-use Rattle.vlog_emit.proofs.Lists.{Apart, Apart-filter, All-pick, bytes-true, map-map}
+use Rattle.vlog_emit.proofs.Lists.{Apart, Apart-filter, All-pick, map-map}
 use Rattle.vlog_emit.proofs.Rights.{IsPlaceIn}
 use Rattle.vlog_emit.proofs.Settled.{IsWritable}
 use Rattle.vlog_emit.proofs.Beginning.{inputs-start}
@@ -64,7 +65,7 @@ pin-from : {X : Type 0} (name : X → List ℕ) (xs : List X) (from place : ℕ)
 pin-from name [] from place apart within = absurd (omega arith)
 pin-from name (x ∷ xs) from zero apart within =
     let same : from ≡ from + 0 = omega arith in
-    rw (bytes-true (name x) (name x) refl) (ap (λ n. Some n) same)
+    rw (bytes_eq-same (name x) (name x) refl) (ap (λ n. Some n) same)
 pin-from name (x ∷ xs) from (suc place) apart within =
     let same : from + 1 + place ≡ from + suc place = omega arith in
     rw (All-pick name (λ n. bytes_eq (name x) n ≡ false) xs place apart.0 (omega arith))

@@ -5,6 +5,7 @@ use Rattle.std.proofs.lemmas.Bool.{cases_Bool, eqb-true}
 use Rattle.std.proofs.lemmas.List.{map-append}
 use Rattle.std.proofs.lemmas.Grind.{flat_map-append}
 use Rattle.std.proofs.lemmas.List.Elements.{All-cons, All-append}
+use Rattle.shared_lemmas.proofs.Bytes.{bytes_eq-same}
 use Rattle.vlog_module.specs.Maps.{value_in}
 use Rattle.vlog_module.specs.declared.sort.Sort.{Sort}
 use Rattle.vlog_module.specs.declared.sort.Sort.TheVariants as sort
@@ -27,7 +28,7 @@ use Rattle.net_extract.proofs.Within.{All-single}
 use Rattle.vlog_emit.specs.Names.{wire_name}
 use Rattle.vlog_emit.specs.Rights.{right_by, class_right}
 use Rattle.vlog_emit.specs.Written.{class_wire}
-use Rattle.vlog_emit.proofs.Lists.{bytes-true, value_in-behind}
+use Rattle.vlog_emit.proofs.Lists.{value_in-behind}
 use Rattle.vlog_emit.proofs.Settled.{IsWritable, wire-one}
 use Rattle.vlog_emit.proofs.Named.{wire-named}
 use Rattle.vlog_emit.proofs.Grown.{grown, grown-section, grown-declared, grown-assigned, grown-started, Grows}
@@ -100,7 +101,7 @@ module _ (fabric : Fabric) (within : IsWithin fabric) (writable : IsWritable fab
     wire-there = record {
       named = wire-named class (small class driven);
       declared = ap (λ list. value_in list (wire_name class)) wire-declared.declared_is
-          ∙ (value_in-behind scope.declared ((wire_name class, sort.Wire) ∷ []) (wire_name class) absent ∙ (rw (bytes-true (wire_name class) (wire_name class) refl) refl));
+          ∙ (value_in-behind scope.declared ((wire_name class, sort.Wire) ∷ []) (wire_name class) absent ∙ (rw (bytes_eq-same (wire_name class) (wire_name class) refl) refl));
     }
 
     knows-more : Knows fabric (grown scope (class_wire fabric class)) (has (class ∷ before))

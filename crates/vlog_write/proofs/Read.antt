@@ -31,8 +31,3 @@ atom-some fabric stated net class name is of_name =
           rw driven (ap (λ n. Whole n) (of_name ∙ ap wire_name same))
       | inr away ↦ let never : Some class ≡ None = rw away at is in absurd cc
     ]
-
--- what holds of each value that may come
-pub if_ok : {A E : Type 0} (result : Result A E) (P Q : A → Type 0) → ((a : A) → P a → Q a) → IfOk result P → IfOk result Q
-if_ok (Ok a) P Q more is = more a is
-if_ok (Err e) P Q more is = tt

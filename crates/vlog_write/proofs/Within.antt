@@ -31,12 +31,6 @@ use Rattle.vlog_write.proofs.Kept.{end-is}
 
 -- ---- nets that may be missing
 
--- a net of a list is there where all are
-pub net-at : (nets : ℕ) (list : List (Option ℕ)) (k : ℕ) → All (IsNetIn nets) list → IsNetIn nets (get_or list k None)
-net-at nets [] k all = tt
-net-at nets (net ∷ list) zero all = All-head (IsNetIn nets) net list all
-net-at nets (net ∷ list) (suc k) all = net-at nets list k (All-tail (IsNetIn nets) net list all)
-
 -- a net that may be missing is there where each net is that it can be
 net-from : (nets : ℕ) (net : Option ℕ) → ((n : ℕ) → net ≡ Some n → n < nets) → IsNetIn nets net
 net-from nets None each = tt

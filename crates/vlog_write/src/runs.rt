@@ -183,8 +183,11 @@ fn runner(alloc: Global, text: &[u8], bits: &[Bit]) -> Option<Runner> {
     }
 }
 
-/// The output after a, b and c are given.
+/// Whether the output is 1 after a, b and c are given to a module of three inputs.
 fn carries(runner: &mut Runner, a: bool, b: bool, c: bool) -> bool {
+    if runner.inputs() != 3 {
+        return false;
+    }
     runner.event(0, a);
     runner.event(1, b);
     runner.event(2, c);
@@ -210,6 +213,9 @@ fn contents(runner: &Runner) -> (Option<u16>, Option<u16>) {
 /// What an edge that writes and reads makes of the RAM, and then one that reads.
 fn two_edges(alloc: Global) -> Option<[(Option<u16>, Option<u16>); 2]> {
     let mut runner = runner(alloc, MEMORY, &MEMORY_BITS)?;
+    if runner.inputs() != 3 {
+        return None;
+    }
     runner.event(1, true);
     runner.event(2, true);
     runner.event(0, true);

@@ -70,6 +70,11 @@ fn writes_classes_after_those_they_read(rt: HostRuntime) {
 }
 
 #[test]
+fn answers_its_calls(rt: HostRuntime) {
+    assert!(rt; is_design(rt.alloc(), &[BACK, FLIP, CLOCK_PIN, FALLING], Gives::Calls));
+}
+
+#[test]
 fn refuses_with_the_least_cause(rt: HostRuntime) {
     let cycle = Gives::Refused(Cause::Loop(1, &[1, 2]));
     let clock = Gives::Refused(Cause::Clock(1, 1, ClockUser::Cell { i: 0 }, 4));

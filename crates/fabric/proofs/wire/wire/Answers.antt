@@ -2,10 +2,19 @@ use Rattle.std.proofs.Common.{◌≡◌, refl, sym, ap, ◌∙◌, subst}
 use Rattle.std.specs.Prelude.{None}
 use Rattle.net_extract.specs.Tiles.{first_of}
 use Rattle.net_extract.specs.Faults.{clock_faults}
+use Rattle.net_extract.proofs.Chains.{clock_end-leads}
+use Rattle.net_extract.proofs.Within.{within-parts}
+use Rattle.fabric_wiring.specs.Ends.{AreEndsOf}
 use Rattle.fabric.specs.Faults.{IsCause}
 use Rattle.fabric.proofs.Refused.{told}
 use Rattle.fabric.proofs.Evidence.{drivers-told, same-cause, loops-cause, clocks-cause, no-cause}
 use Rattle.fabric.proofs.wire.wire.Goals as goal
+
+pub clocked-requires : goal.clocked-requires
+clocked-requires g c = (
+  c.requires.0,
+  (subst (λ ends. AreEndsOf g.fabric ends) (sym c.deref-2.ensures.value) c.in_ok-ends.ensures, clock_end-leads g.fabric (within-parts g.fabric c.requires.0.within) _ c.in_ok-order.ensures.order),
+)
 
 pub returns-in_err-drivers-clause-refused : goal.returns-in_err-drivers-clause-refused
 returns-in_err-drivers-clause-refused g c =

@@ -1,19 +1,19 @@
 use Rattle.std.proofs.Common.{◌≡◌, ◌+◌, ◌++◌, [], ◌∷◌, ℕ, ◌<◌, arith, ap, ◌∙◌}
+use Rattle.place_search.proofs.Gathered.{appended-none, appended-more}
 use Rattle.ice_image.specs.Either.{configuration_of, device_of}
 use Rattle.ice_image.specs.Bits.{ram_word_of}
 use Rattle.net_extract.specs.Tiles.{each_below}
-use Rattle.net_extract.proofs.InOrder.{grown-none, grown-more}
 use Rattle.fabric.proofs.words.append_words.Goals as goal
 
 pub loop-word-init : goal.loop-word-init
-loop-word-init c = grown-none _ _
+loop-word-init c = appended-none _ _
 
 pub loop-word-preserved : goal.loop-word-preserved
 loop-word-preserved c =
     let value = ram_word_of (configuration_of c.args.image.now) c.args.x c.args.y in
     let pushed = c.in_ok-push.ensures.items in
     let read = c.ram_word.ensures in
-    grown-more _ _ _ _ _ c.loop-word.invariant (pushed ∙ ap (λ word. c.loop-word.words.items ++ word ∷ []) read)
+    appended-more _ _ _ _ _ c.loop-word.invariant (pushed ∙ ap (λ word. c.loop-word.words.items ++ word ∷ []) read)
 
 pub returns : goal.returns
 returns c =

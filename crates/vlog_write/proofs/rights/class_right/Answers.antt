@@ -1,6 +1,6 @@
 use Rattle.std.proofs.Common.{sym, ◌∙◌}
+use Rattle.std.proofs.lemmas.Result.{IfOk-weaker}
 use Rattle.vlog_write.proofs.Kept.{right-some, right-none}
-use Rattle.vlog_write.proofs.Read.{if_ok}
 use Rattle.vlog_write.proofs.Within.{driver-within}
 use Rattle.vlog_write.proofs.rights.class_right.Goals as goal
 
@@ -13,5 +13,5 @@ returns-in-None c fabric kept = sym (right-none fabric c.args.design.now kept c.
 
 pub returns-in-Some : goal.returns-in-Some
 returns-in-Some c =
-    if_ok c.right_of.result _ _ (λ right is fabric kept.
+    IfOk-weaker c.right_of.result _ _ (λ right is fabric kept.
     is fabric kept ∙ sym (right-some fabric c.args.design.now kept c.args.class c.requires.within c.in-Some.drive (sym c.drive.ensures ∙ c.in-Some.is))) c.right_of.ensures

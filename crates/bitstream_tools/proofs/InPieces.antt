@@ -5,10 +5,10 @@ use Rattle.layout_file.specs.declared.layouts.Layouts.{Layouts}
 use Rattle.tool_run.specs.Stops.{StopsWith}
 use Rattle.tool_run.specs.Tasks.{Answer}
 use Rattle.tool_run.specs.declared.tool.Stop.{Stop}
-use Rattle.bitstream_tools.specs.Layouts.{StopsLayouts, answer_under, behind_layout, layouts_for}
+use Rattle.tool_parts.specs.Layouts.{StopsLayouts, answer_under, behind_layout, layouts_for}
 use Rattle.bitstream_tools.specs.Taking.{loads_before, IsTaking}
 use Rattle.bitstream_tools.specs.declared.taking.Taking.TheVariants.{Reading, Stopped}
-use Rattle.bitstream_tools.proofs.UnderLayouts.{stops_under}
+use Rattle.tool_parts.proofs.UnderLayouts.{stops_under}
 
 -- what a tool answers for its loads, of which the input is the last
 abbrev pub answer_for : (List ℕ → Layouts → Answer) → Bool → List (List ℕ) → Answer

@@ -1,4 +1,6 @@
-mod CommandLines
-pub mod InPieces
-pub mod Packed
-pub mod UnderLayouts
+-- The images of a boot file, as files that are loaded
+mod Images
+-- An input that comes in pieces, behind what was loaded before it
+mod InPieces
+-- What the records of packing and unpacking say of the answers
+mod Packed

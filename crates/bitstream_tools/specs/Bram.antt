@@ -1,15 +1,16 @@
 -- `icebram`: a text with other contents of its RAMs.
-use Rattle.std.specs.Prelude.{◌≡◌, ℕ, List, [], ◌∷◌, codes, get_or, if◌then◌else◌, Option, None, Some, option_map}
-use Rattle.clap.specs.Words.{App, Row, Text, first_of, matches_of}
+use Rattle.std.specs.Prelude.{◌≡◌, ℕ, List, [], ◌∷◌, codes, get_or, Option, None, Some, option_map}
+use Rattle.clap.specs.Words.{App, Row, Text, first_of}
 use Rattle.place_search.specs.Places.{or_else}
 use Rattle.bram_replace.specs.HexText.{contents_of, hex_fault_of}
 use Rattle.bram_replace.specs.Replaced.{bram_fault, replaced}
 use Rattle.tool_run.specs.Lines.{refusal_text}
 use Rattle.tool_run.specs.Needs.{Need}
-use Rattle.tool_run.specs.Tasks.{Answer, Done, Refused, Task, helped, not_taken}
+use Rattle.tool_run.specs.Tasks.{Answer, Done, Refused, Task, usage_error}
 use Rattle.tool_run.specs.declared.tool.Stop.{Stop}
-use Rattle.tool_run.specs.declared.tool.Stop.TheVariants.{Refused as StopsRefused, NotTaken as StopsUntaken, Memory}
-use Rattle.tool_words.specs.Commands.{command, is_taken, required}
+use Rattle.tool_run.specs.declared.tool.Stop.TheVariants.{Refused as StopsRefused, UsageError as StopsUntaken, Memory}
+use Rattle.tool_parts.specs.Outcomes.{Manual, outcome}
+use Rattle.tool_parts.specs.Commands.{command, required}
 use Rattle.bitstream_tools.specs.declared.bram.WordFiles.{WordFiles}
 use Rattle.bitstream_tools.specs.declared.bram.TheConstants.{ICEBRAM_HELP}
 use Rattle.bitstream_tools.specs.Faults.{bram_fault_text, hex_fault_text}
@@ -59,28 +60,26 @@ replace_needs from to =
     ∷ record { name = None; limit = text_limit } ∷ []
 
 abbrev pub replace_task : Text → Text → Task
-replace_task from to = record { speaker = icebram_name; needs = replace_needs from to; target = None; answer = icebram_answer }
+replace_task from to = record { tool_name = icebram_name; needs = replace_needs from to; target = None; answer = icebram_answer }
 
 -- both files have to be named
 abbrev pub icebram_task_of : Option Text → Option Text → Task
 icebram_task_of (Some from) (Some to) = replace_task from to
-icebram_task_of (Some from) None = not_taken icebram_name icebram_usage
-icebram_task_of None to = not_taken icebram_name icebram_usage
+icebram_task_of (Some from) None = usage_error icebram_name icebram_usage
+icebram_task_of None to = usage_error icebram_name icebram_usage
 
 abbrev pub icebram_task_by : List Row → Task
 icebram_task_by rows = icebram_task_of (first_of (codes "from") rows) (first_of (codes "to") rows)
 
--- what the words of `icebram` ask for
-unfoldable pub icebram_task : List Text → Task
-icebram_task words =
-    if is_taken icebram_command words then icebram_task_by (matches_of icebram_command words)
-    else not_taken icebram_name icebram_usage
+-- the tool
+abbrev pub icebram : Manual
+icebram = record { name = icebram_name; usage = icebram_usage; help = ICEBRAM_HELP.now; app = icebram_command; task = icebram_task_by }
 
--- the same by the files that were found in the words, where they are taken
-abbrev pub icebram_task_for : Option WordFiles → Task
-icebram_task_for None = not_taken icebram_name icebram_usage
-icebram_task_for (Some files) = replace_task files.from.now files.to.now
-
--- what the words of `icebram` ask for, its help among that
+-- what the arguments of `icebram` ask for, its help among that
 abbrev pub icebram_outcome : List Text → Task
-icebram_outcome words = helped icebram_name ICEBRAM_HELP.now words (icebram_task words)
+icebram_outcome args = outcome icebram args
+
+-- the task of the files that were found in the arguments
+abbrev pub icebram_task_for : Option WordFiles → Task
+icebram_task_for None = usage_error icebram_name icebram_usage
+icebram_task_for (Some files) = replace_task files.from.now files.to.now

@@ -1,6 +1,6 @@
 pub mod Bram
 pub mod Faults
-pub mod Layouts
+pub mod Laws
 pub mod Multi
 pub mod Pack
 pub mod Taking

@@ -1,14 +1,15 @@
 -- `icemulti`: several bitstreams in one boot file.
 use Rattle.std.specs.Prelude.{ℕ, Bool, true, false, not, ◌&&◌, ◌==◌, List, [], ◌∷◌, codes, length, map, nat_le, if◌then◌else◌, Option, None, Some, option_map}
-use Rattle.clap.specs.Words.{App, Row, Text, first_of, matches_of}
+use Rattle.clap.specs.Words.{App, Row, Text, first_of}
 use Rattle.text_lines.specs.Words.{number_of}
 use Rattle.multi_boot.specs.declared.options.Options.{Options}
 use Rattle.multi_boot.specs.declared.fault.MultiFault.{MultiFault}
 use Rattle.multi_boot.specs.BootFile.{boot_file}
 use Rattle.multi_boot.specs.Refusals.{check_fault, join_fault}
 use Rattle.tool_run.specs.Needs.{IsSound, Need, need_of, text_of}
-use Rattle.tool_run.specs.Tasks.{Answer, Done, Refused, Task, at_once, helped, not_taken}
-use Rattle.tool_words.specs.Commands.{command, flag, has_flag, is_taken, several, short_option, values_of}
+use Rattle.tool_run.specs.Tasks.{Answer, Done, Refused, Task, at_once, usage_error}
+use Rattle.tool_parts.specs.Outcomes.{Manual, outcome}
+use Rattle.tool_parts.specs.Commands.{command, flag, has_flag, several, short_option, values_of}
 use Rattle.bitstream_tools.specs.declared.multi.MultiRequest.{MultiRequest}
 use Rattle.bitstream_tools.specs.declared.multi.TheConstants.{ICEMULTI_HELP}
 use Rattle.bitstream_tools.specs.Faults.{multi_fault_text}
@@ -74,28 +75,27 @@ image_need name = record { name = Some name; limit = text_limit }
 
 -- what the number of images and the options refuse by themselves is refused before anything is read
 abbrev pub join_task : List Need → Options → Option Text → Option MultiFault → Task
-join_task images options output None = record { speaker = icemulti_name; needs = images; target = output; answer = join_answer options }
+join_task images options output None = record { tool_name = icemulti_name; needs = images; target = output; answer = join_answer options }
 join_task images options output (Some fault) = at_once icemulti_name None (Refused (multi_fault_text fault))
 
 abbrev pub icemulti_task_of : List Need → Option Text → Option Options → Task
-icemulti_task_of images output None = not_taken icemulti_name icemulti_usage
+icemulti_task_of images output None = usage_error icemulti_name icemulti_usage
 icemulti_task_of images output (Some options) = join_task images options output (check_fault (length images) options)
 
 abbrev pub icemulti_task_by : List Row → Task
 icemulti_task_by rows = icemulti_task_of (map image_need (values_of (codes "image") rows)) (first_of (codes "output") rows) (options_in rows)
 
--- what the words of `icemulti` ask for
-unfoldable pub icemulti_task : List Text → Task
-icemulti_task words =
-    if is_taken icemulti_command words then icemulti_task_by (matches_of icemulti_command words)
-    else not_taken icemulti_name icemulti_usage
+-- the tool
+abbrev pub icemulti : Manual
+icemulti = record { name = icemulti_name; usage = icemulti_usage; help = ICEMULTI_HELP.now; app = icemulti_command; task = icemulti_task_by }
 
+-- what the arguments of `icemulti` ask for, its help among that
 abbrev pub icemulti_outcome : List Text → Task
-icemulti_outcome words = helped icemulti_name ICEMULTI_HELP.now words (icemulti_task words)
+icemulti_outcome args = outcome icemulti args
 
--- the same by the request that was found in the words, where they are taken
+-- the task of the request that was found in the arguments
 abbrev pub icemulti_task_for : Option MultiRequest → Task
-icemulti_task_for None = not_taken icemulti_name icemulti_usage
+icemulti_task_for None = usage_error icemulti_name icemulti_usage
 icemulti_task_for (Some request) = icemulti_task_of (map need_of request.loads.items) (text_of request.output) (Some request.options)
 
 -- each image is a file that may be loaded

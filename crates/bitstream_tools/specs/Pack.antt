@@ -1,20 +1,21 @@
 -- `icepack`: the bitstream of a text.
-use Rattle.std.specs.Prelude.{ℕ, Bool, true, false, List, [], ◌∷◌, codes, get_or, is_some, if◌then◌else◌, Option, None, Some}
-use Rattle.clap.specs.Words.{App, Row, Text, first_of, matches_of}
+use Rattle.std.specs.Prelude.{ℕ, Bool, true, false, List, [], ◌∷◌, codes, get_or, is_some, Option, None, Some}
+use Rattle.clap.specs.Words.{App, Row, Text, first_of}
 use Rattle.layout_file.specs.declared.layouts.Layouts.{Layouts}
 use Rattle.ice_image.specs.Configuration.{Configuration}
 use Rattle.asc_text.specs.Faults.{Fault, asc_fault_of}
 use Rattle.asc_text.specs.Meaning.{asc_image_of}
 use Rattle.bin_stream.specs.CanonicalBytes.{canonical_bytes}
 use Rattle.ice_pack.specs.Packed.{awake_where}
-use Rattle.tool_run.specs.Tasks.{Answer, Done, Refused, Task, helped, not_taken}
-use Rattle.tool_words.specs.Commands.{command, flag, has_flag, is_taken, long_option, positional}
+use Rattle.tool_run.specs.Tasks.{Answer, Done, Refused, Task, usage_error}
+use Rattle.tool_parts.specs.Outcomes.{Manual, outcome}
+use Rattle.tool_parts.specs.Commands.{command, flag, has_flag, long_option, positional}
 use Rattle.tool_run.specs.Needs.{text_of}
 use Rattle.bitstream_tools.specs.declared.pack.Request.{Request}
 use Rattle.bitstream_tools.specs.declared.pack.Request.TheVariants.{Pack, Unpack}
 use Rattle.bitstream_tools.specs.declared.pack.TheConstants.{ICEPACK_HELP}
-use Rattle.bitstream_tools.specs.Faults.{asc_fault_text}
-use Rattle.bitstream_tools.specs.Layouts.{answer_under, behind_layout, layouts_for, with_layout}
+use Rattle.tool_parts.specs.Faults.{asc_fault_text}
+use Rattle.tool_parts.specs.Layouts.{answer_under, behind_layout, layouts_for, with_layout}
 use Rattle.bitstream_tools.specs.Unpack.{unpack_task}
 
 -- the most bytes of a text
@@ -51,7 +52,7 @@ icepack_command = command icepack_name (flag (codes "unpack") 117 ∷ flag (code
 -- a text to a bitstream
 abbrev pub pack_task : Bool → Option Text → Option Text → Option Text → Task
 pack_task no_sleep layout input output = record {
-  speaker = icepack_name;
+  tool_name = icepack_name;
   needs = with_layout layout (record { name = input; limit = text_limit } ∷ []);
   target = output;
   answer = pack_answer (is_some layout) no_sleep;
@@ -61,23 +62,21 @@ pack_task no_sleep layout input output = record {
 abbrev pub icepack_task_of : Bool → Bool → Option Text → Option Text → Option Text → Task
 icepack_task_of false no_sleep layout input output = pack_task no_sleep layout input output
 icepack_task_of true false layout input output = unpack_task icepack_name layout input output
-icepack_task_of true true layout input output = not_taken icepack_name icepack_usage
+icepack_task_of true true layout input output = usage_error icepack_name icepack_usage
 
 abbrev pub icepack_task_by : List Row → Task
 icepack_task_by rows = icepack_task_of (has_flag (codes "unpack") rows) (has_flag (codes "no_sleep") rows) (first_of (codes "layout") rows) (first_of (codes "input") rows) (first_of (codes "output") rows)
 
--- what the words of `icepack` ask for
-unfoldable pub icepack_task : List Text → Task
-icepack_task words =
-    if is_taken icepack_command words then icepack_task_by (matches_of icepack_command words)
-    else not_taken icepack_name icepack_usage
+-- the tool
+abbrev pub icepack : Manual
+icepack = record { name = icepack_name; usage = icepack_usage; help = ICEPACK_HELP.now; app = icepack_command; task = icepack_task_by }
 
--- the same by the request that was found in the words, where they are taken
+-- what the arguments of `icepack` ask for, its help among that
+abbrev pub icepack_outcome : List Text → Task
+icepack_outcome args = outcome icepack args
+
+-- the task of the request that was found in the arguments
 abbrev pub icepack_task_for : Option Request → Task
-icepack_task_for None = not_taken icepack_name icepack_usage
+icepack_task_for None = usage_error icepack_name icepack_usage
 icepack_task_for (Some (Pack no_sleep names)) = pack_task no_sleep (text_of names.layout) (text_of names.input) (text_of names.output)
 icepack_task_for (Some (Unpack names)) = unpack_task icepack_name (text_of names.layout) (text_of names.input) (text_of names.output)
-
--- what the words of `icepack` ask for, its help among that
-abbrev pub icepack_outcome : List Text → Task
-icepack_outcome words = helped icepack_name ICEPACK_HELP.now words (icepack_task words)

@@ -1,7 +1,7 @@
 -- Taking an input that comes in pieces, behind the layout file where one is named.
 use Rattle.std.specs.Prelude.{◌≡◌, ℕ, Bool, List, length, if◌then◌else◌, Ok}
 use Rattle.layout_file.specs.declared.layouts.Layouts.{Layouts}
-use Rattle.bitstream_tools.specs.Layouts.{StopsLayouts, layouts_for}
+use Rattle.tool_parts.specs.Layouts.{StopsLayouts, layouts_for}
 use Rattle.bitstream_tools.specs.declared.taking.Taking.{Taking}
 use Rattle.bitstream_tools.specs.declared.taking.Taking.TheVariants.{Reading, Stopped}
 

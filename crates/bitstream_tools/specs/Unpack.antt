@@ -1,18 +1,17 @@
 -- `iceunpack`, and what `icepack -u` does too: the text of a bitstream.
-use Rattle.std.specs.Prelude.{ℕ, Bool, List, [], ◌∷◌, codes, get_or, is_some, if◌then◌else◌, Option, None, Some, Result, Ok, Err}
-use Rattle.clap.specs.Words.{App, Row, Text, first_of, matches_of}
+use Rattle.std.specs.Prelude.{ℕ, Bool, List, [], ◌∷◌, codes, get_or, is_some, Option, Result, Ok, Err}
+use Rattle.clap.specs.Words.{App, Row, Text, first_of}
 use Rattle.layout_file.specs.declared.layouts.Layouts.{Layouts}
 use Rattle.ice_image.specs.Configuration.{Configuration}
 use Rattle.asc_text.specs.Canonical.{asc_text_of}
 use Rattle.bin_stream.specs.Refusals.{Fault}
 use Rattle.bin_stream.specs.Spelling.{bin_read_of}
-use Rattle.tool_run.specs.Tasks.{Answer, Done, Refused, Task, helped, not_taken}
-use Rattle.tool_words.specs.Commands.{command, is_taken, long_option, positional}
-use Rattle.tool_run.specs.Needs.{text_of}
-use Rattle.bitstream_tools.specs.declared.unpack.Names.{Names}
+use Rattle.tool_run.specs.Tasks.{Answer, Done, Refused, Task}
+use Rattle.tool_parts.specs.Outcomes.{Manual, outcome}
+use Rattle.tool_parts.specs.Commands.{command, long_option, positional}
 use Rattle.bitstream_tools.specs.declared.unpack.TheConstants.{ICEUNPACK_HELP}
-use Rattle.bitstream_tools.specs.Faults.{bin_fault_text}
-use Rattle.bitstream_tools.specs.Layouts.{answer_under, behind_layout, layouts_for, with_layout}
+use Rattle.tool_parts.specs.Faults.{bin_fault_text}
+use Rattle.tool_parts.specs.Layouts.{answer_under, behind_layout, layouts_for, with_layout}
 
 -- the most bytes of a bitstream
 abbrev pub stream_limit : ℕ
@@ -42,8 +41,8 @@ iceunpack_command = command iceunpack_name (long_option (codes "layout") ∷ pos
 
 -- a bitstream to a text
 abbrev pub unpack_task : List ℕ → Option Text → Option Text → Option Text → Task
-unpack_task speaker layout input output = record {
-  speaker = speaker;
+unpack_task tool_name layout input output = record {
+  tool_name = tool_name;
   needs = with_layout layout (record { name = input; limit = stream_limit } ∷ []);
   target = output;
   answer = unpack_answer (is_some layout);
@@ -52,17 +51,10 @@ unpack_task speaker layout input output = record {
 abbrev pub iceunpack_task_by : List Row → Task
 iceunpack_task_by rows = unpack_task iceunpack_name (first_of (codes "layout") rows) (first_of (codes "input") rows) (first_of (codes "output") rows)
 
--- what the words of `iceunpack` ask for
-unfoldable pub iceunpack_task : List Text → Task
-iceunpack_task words =
-    if is_taken iceunpack_command words then iceunpack_task_by (matches_of iceunpack_command words)
-    else not_taken iceunpack_name iceunpack_usage
+-- the tool
+abbrev pub iceunpack : Manual
+iceunpack = record { name = iceunpack_name; usage = iceunpack_usage; help = ICEUNPACK_HELP.now; app = iceunpack_command; task = iceunpack_task_by }
 
--- the same by the names that were found in the words, where they are taken
-abbrev pub iceunpack_task_for : Option Names → Task
-iceunpack_task_for None = not_taken iceunpack_name iceunpack_usage
-iceunpack_task_for (Some names) = unpack_task iceunpack_name (text_of names.layout) (text_of names.input) (text_of names.output)
-
--- what the words of `iceunpack` ask for, its help among that
+-- what the arguments of `iceunpack` ask for, its help among that
 abbrev pub iceunpack_outcome : List Text → Task
-iceunpack_outcome words = helped iceunpack_name ICEUNPACK_HELP.now words (iceunpack_task words)
+iceunpack_outcome args = outcome iceunpack args

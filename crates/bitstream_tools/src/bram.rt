@@ -1,25 +1,23 @@
 // `icebram`: a text with other contents of its RAMs.
 ghost use Rattle.std.specs.Prelude.{◌≡◌, None, map, option_map, string_bytes, IfOk, OnOk, IfErr};
-ghost use Rattle.clap.specs.Words.{app_of};
+ghost use Rattle.clap.specs.Words.{app_of, found_of, rows_of};
 ghost use Rattle.bram_replace.specs.HexText.{contents_of, hex_fault_of};
 ghost use Rattle.bram_replace.specs.Replaced.{bram_fault, replaced};
 ghost use Rattle.tool_run.specs.Needs.{text_of};
 ghost use Rattle.tool_run.specs.Runs.{Does, outside, scene};
 ghost use Rattle.tool_run.specs.Stops.{StopsWith};
 ghost use Rattle.tool_run.specs.Tasks.{Done};
-ghost use Rattle.bitstream_tools.specs.Bram.{TellsWhy, icebram_command, icebram_outcome, icebram_task, icebram_task_for, icebram_task_of, replace_task, replaced_answer};
+ghost use Rattle.bitstream_tools.specs.Bram.{TellsWhy, icebram_command, icebram_outcome, icebram_task_by, icebram_task_for, icebram_task_of, replace_task, replaced_answer};
 ghost use Rattle.bitstream_tools.specs.Faults.{bram_fault_text, hex_fault_text};
 
 use crate::faults::{bram_refusal, hex_refusal};
 use crate::pack::TEXT_LIMIT;
 use bram_replace::{BramFault, HexFault, HexFile, replace};
-use clap::Command;
+use clap::{ArgMatches, Command};
 use ice_io::{Files, Sink, Source};
 use std::alloc::{AllocError, Global};
-use tool_run::{
-    AtOnce, Job, Load, Stop, Tool, answer_at_once, asks_for_help, give_up, loaded_at, perform,
-};
-use tool_words::{parse, required, value, with};
+use tool_parts::{CommandLine, required, run_tool, value, with};
+use tool_run::{AtOnce, Job, Load, Stop, Tool, answer_at_once, loaded_at, perform};
 
 /// The command line of `icebram`.
 pub const ICEBRAM_USAGE: &str = "icebram FROM TO";
@@ -146,16 +144,11 @@ fn command<'a>(alloc: Global) -> Result<Command<'a>, AllocError>
     with(command, required(alloc, "to"))
 }
 
-// What the words ask for, where they are taken.
-#[tactic(auto, unfolding(crate::specs::Bram::icebram_task))]
-fn files_of<'a>(alloc: Global, words: &'a [String]) -> Result<Option<WordFiles<'a>>, AllocError>
-    ensures { IfOk result (λ files. icebram_task (map string_bytes words.entry.now) ≡ icebram_task_for files) }
+// The files of words that were found in the arguments.
+fn files_in<'a>(matches: &ArgMatches<'a>) -> Option<WordFiles<'a>>
+    ensures { icebram_task_for result ≡ icebram_task_by (rows_of (found_of matches.now)) }
 {
-    let command = command(alloc)?;
-    match parse(command, words)? {
-        Some(matches) => Ok(both(value(&matches, "from"), value(&matches, "to"))),
-        None => Ok(None),
-    }
+    both(value(matches, "from"), value(matches, "to"))
 }
 
 // Replaces from standard input to standard output.
@@ -186,37 +179,91 @@ fn replace_between<F: Files, I: Source, O: Sink, E: Sink>(
         },
     ];
     let job = Job {
-        speaker: "icebram",
+        tool_name: "icebram",
         loads: &loads,
         target: None,
     };
     perform(alloc, &Replacing, &job, files, input, output, errors)
 }
 
-/// Runs `icebram` with these words, of which the first is its name.
-pub fn run_icebram<F: Files, I: Source, O: Sink, E: Sink>(
+// Does what the arguments ask for.
+fn do_request<F: Files, I: Source, O: Sink, E: Sink>(
     alloc: Global,
-    words: &[String],
+    names: Option<WordFiles<'_>>,
     files: &mut F,
     input: &mut I,
     output: &mut O,
     errors: &mut E,
 ) -> u8
     ensures { Does (outside F.contents F.steady F.load_faults F.store_faults I.left I.faults O.held O.faults E.held E.faults)
-        (icebram_outcome (map string_bytes words.now)) result
+        (icebram_task_for names.entry) result
         (scene files.old input.old output.old errors.old) (scene files.new input.new output.new errors.new) }
 {
-    let speaker = "icebram";
-    if asks_for_help(words) {
-        let answer = AtOnce::Tells(ICEBRAM_HELP);
-        return answer_at_once(alloc, speaker, answer, files, input, output, errors);
-    }
-    match files_of(alloc, words) {
-        Ok(Some(names)) => replace_between(alloc, names, files, input, output, errors),
-        Ok(None) => {
-            let answer = AtOnce::NotTaken(ICEBRAM_USAGE);
-            answer_at_once(alloc, speaker, answer, files, input, output, errors)
+    match names {
+        Some(names) => replace_between(alloc, names, files, input, output, errors),
+        None => {
+            let answer = AtOnce::UsageError(ICEBRAM_USAGE);
+            answer_at_once(alloc, "icebram", answer, files, input, output, errors)
         }
-        Err(AllocError) => give_up(speaker, files, input, output, errors),
     }
+}
+
+/// `icebram` by its command line.
+#[derive(Clone, Copy, Debug, PartialEq, Eq)]
+pub(crate) struct Icebram;
+
+impl CommandLine for Icebram {
+    ghost use Rattle.bitstream_tools.specs.Bram.{icebram};
+    ghost use Rattle.bitstream_tools.specs.Laws.{icebram-simple, icebram-speaks};
+
+    ghost manual = { icebram };
+
+    fn name(&self) -> &'static str {
+        "icebram"
+    }
+
+    fn usage(&self) -> &'static str {
+        ICEBRAM_USAGE
+    }
+
+    fn help(&self) -> &'static str {
+        ICEBRAM_HELP
+    }
+
+    fn command<'a>(&self, alloc: Global) -> Result<Command<'a>, AllocError> {
+        command(alloc)
+    }
+
+    fn perform<F: Files, I: Source, O: Sink, E: Sink>(
+        &self,
+        alloc: Global,
+        matches: &ArgMatches<'_>,
+        files: &mut F,
+        input: &mut I,
+        output: &mut O,
+        errors: &mut E,
+    ) -> u8 {
+        let names = files_in(matches);
+        do_request(alloc, names, files, input, output, errors)
+    }
+
+    ghost simple = { icebram-simple };
+
+    ghost speaks = { icebram-speaks };
+}
+
+/// Runs `icebram` with these arguments, of which the first is its name.
+pub fn run_icebram<F: Files, I: Source, O: Sink, E: Sink>(
+    alloc: Global,
+    args: &[String],
+    files: &mut F,
+    input: &mut I,
+    output: &mut O,
+    errors: &mut E,
+) -> u8
+    ensures { Does (outside F.contents F.steady F.load_faults F.store_faults I.left I.faults O.held O.faults E.held E.faults)
+        (icebram_outcome (map string_bytes args.now)) result
+        (scene files.old input.old output.old errors.old) (scene files.new input.new output.new errors.new) }
+{
+    run_tool(alloc, &Icebram, args, files, input, output, errors)
 }

@@ -1,12 +1,11 @@
 //! The tools that read and write bitstreams and their texts: `icepack`, `iceunpack`, `icemulti` and `icebram`.
 //!
 //! Each tool is one module, with its command line, its usage line and what it makes of what it loads. The function that
-//! runs it has one clause: a run does the task that the words ask for.
+//! runs it has one clause: a run does the task that the arguments ask for.
 #![tactic(auto)]
 
 mod bram;
 mod faults;
-mod layouts;
 mod multi;
 mod pack;
 mod packing;
@@ -15,8 +14,6 @@ mod unpack;
 mod unpacking;
 
 pub use bram::{ICEBRAM_HELP, ICEBRAM_USAGE, run_icebram};
-pub use faults::{asc_refusal, bin_refusal};
-pub use layouts::{LAYOUT_LIMIT, behind_layout, layouts_for, with_layout};
 pub use multi::{ICEMULTI_HELP, ICEMULTI_USAGE, run_icemulti};
 pub use pack::{ICEPACK_HELP, ICEPACK_USAGE, run_icepack};
 pub use unpack::{ICEUNPACK_HELP, ICEUNPACK_USAGE, run_iceunpack};

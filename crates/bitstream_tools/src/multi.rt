@@ -3,7 +3,7 @@ ghost use Rattle.std.specs.Prelude.{◌≡◌, [], Some, map, option_map, string
 ghost use Rattle.clap.specs.Words.{app_of, found_of, rows_of};
 ghost use Rattle.tool_run.specs.Needs.{IsSound, need_of, text_of};
 ghost use Rattle.tool_run.specs.Runs.{Does, outside, scene};
-ghost use Rattle.bitstream_tools.specs.Multi.{LoadsFiles, aligned_by, icemulti_command, icemulti_outcome, icemulti_task, icemulti_task_by, icemulti_task_for, image_need, number_given, options_by, options_in, powered_by, short_number};
+ghost use Rattle.bitstream_tools.specs.Multi.{LoadsFiles, aligned_by, icemulti_command, icemulti_outcome, icemulti_task_by, icemulti_task_for, image_need, number_given, options_by, options_in, powered_by, short_number};
 
 use crate::faults::multi_refusal;
 use crate::pack::TEXT_LIMIT;
@@ -12,8 +12,10 @@ use ice_io::{Files, Sink, Source};
 use multi_boot::{MultiFault, Options, check, join};
 use std::alloc::{AllocError, Global};
 use text_lines::number;
-use tool_run::{AtOnce, Job, Load, Stop, Tool, answer_at_once, asks_for_help, give_up, perform};
-use tool_words::{flag, has_flag, parse, several, short_option, value, values, with};
+use tool_parts::{
+    CommandLine, flag, has_flag, run_tool, several, short_option, value, values, with,
+};
+use tool_run::{AtOnce, Job, Load, Stop, Tool, answer_at_once, give_up, perform};
 
 /// The command line of `icemulti`.
 pub const ICEMULTI_USAGE: &str = "icemulti [-c] [-p N] [-a N] [-A N] [-o OUTPUT] [IMAGE ...]";
@@ -170,7 +172,7 @@ fn loads_found<'a>(alloc: Global, images: Option<&[&'a str]>) -> Result<Vec<Load
     }
 }
 
-// What the words ask for.
+// What the arguments ask for.
 #[derive(Drop)]
 pub(crate) struct MultiRequest<'a> {
     options: Options,
@@ -223,21 +225,6 @@ fn request_in<'a>(
     }
 }
 
-// What the words ask for, where they are taken.
-fn request_of<'a>(
-    alloc: Global,
-    words: &'a [String],
-) -> Result<Option<MultiRequest<'a>>, AllocError>
-    ensures task { IfOk result (λ request. icemulti_task (map string_bytes words.entry.now) ≡ icemulti_task_for request) }
-    ensures files { IfOk result LoadsFiles }
-{
-    let command = command(alloc)?;
-    match parse(command, words)? {
-        Some(matches) => request_in(alloc, &matches),
-        None => Ok(None),
-    }
-}
-
 // Joins the images of a request, or tells why not before anything is loaded.
 fn join_images<F: Files, I: Source, O: Sink, E: Sink>(
     alloc: Global,
@@ -252,7 +239,7 @@ fn join_images<F: Files, I: Source, O: Sink, E: Sink>(
         (icemulti_task_for (Some request.now)) result
         (scene files.old input.old output.old errors.old) (scene files.new input.new output.new errors.new) }
 {
-    let speaker = "icemulti";
+    let tool_name = "icemulti";
     let loads = request.loads.as_slice();
     match check(loads.len(), request.options) {
         Ok(()) => {
@@ -260,7 +247,7 @@ fn join_images<F: Files, I: Source, O: Sink, E: Sink>(
                 options: request.options,
             };
             let job = Job {
-                speaker,
+                tool_name,
                 loads,
                 target: request.output,
             };
@@ -268,35 +255,90 @@ fn join_images<F: Files, I: Source, O: Sink, E: Sink>(
         }
         Err(fault) => {
             let answer = AtOnce::Refuses(multi_refusal(fault));
-            answer_at_once(alloc, speaker, answer, files, input, output, errors)
+            answer_at_once(alloc, tool_name, answer, files, input, output, errors)
         }
     }
 }
 
-/// Runs `icemulti` with these words, of which the first is its name.
-pub fn run_icemulti<F: Files, I: Source, O: Sink, E: Sink>(
+// Does what was found in the arguments asks for.
+fn do_found<F: Files, I: Source, O: Sink, E: Sink>(
     alloc: Global,
-    words: &[String],
+    matches: &ArgMatches<'_>,
     files: &mut F,
     input: &mut I,
     output: &mut O,
     errors: &mut E,
 ) -> u8
     ensures { Does (outside F.contents F.steady F.load_faults F.store_faults I.left I.faults O.held O.faults E.held E.faults)
-        (icemulti_outcome (map string_bytes words.now)) result
+        (icemulti_task_by (rows_of (found_of matches.now))) result
         (scene files.old input.old output.old errors.old) (scene files.new input.new output.new errors.new) }
 {
-    let speaker = "icemulti";
-    if asks_for_help(words) {
-        let answer = AtOnce::Tells(ICEMULTI_HELP);
-        return answer_at_once(alloc, speaker, answer, files, input, output, errors);
-    }
-    match request_of(alloc, words) {
+    let name = "icemulti";
+    match request_in(alloc, matches) {
         Ok(Some(request)) => join_images(alloc, &request, files, input, output, errors),
         Ok(None) => {
-            let answer = AtOnce::NotTaken(ICEMULTI_USAGE);
-            answer_at_once(alloc, speaker, answer, files, input, output, errors)
+            let answer = AtOnce::UsageError(ICEMULTI_USAGE);
+            answer_at_once(alloc, name, answer, files, input, output, errors)
         }
-        Err(AllocError) => give_up(speaker, files, input, output, errors),
+        Err(AllocError) => give_up(name, files, input, output, errors),
     }
+}
+
+/// `icemulti` by its command line.
+#[derive(Clone, Copy, Debug, PartialEq, Eq)]
+pub(crate) struct Icemulti;
+
+impl CommandLine for Icemulti {
+    ghost use Rattle.bitstream_tools.specs.Multi.{icemulti};
+    ghost use Rattle.bitstream_tools.specs.Laws.{icemulti-simple, icemulti-speaks};
+
+    ghost manual = { icemulti };
+
+    fn name(&self) -> &'static str {
+        "icemulti"
+    }
+
+    fn usage(&self) -> &'static str {
+        ICEMULTI_USAGE
+    }
+
+    fn help(&self) -> &'static str {
+        ICEMULTI_HELP
+    }
+
+    fn command<'a>(&self, alloc: Global) -> Result<Command<'a>, AllocError> {
+        command(alloc)
+    }
+
+    fn perform<F: Files, I: Source, O: Sink, E: Sink>(
+        &self,
+        alloc: Global,
+        matches: &ArgMatches<'_>,
+        files: &mut F,
+        input: &mut I,
+        output: &mut O,
+        errors: &mut E,
+    ) -> u8 {
+        do_found(alloc, matches, files, input, output, errors)
+    }
+
+    ghost simple = { icemulti-simple };
+
+    ghost speaks = { icemulti-speaks };
+}
+
+/// Runs `icemulti` with these arguments, of which the first is its name.
+pub fn run_icemulti<F: Files, I: Source, O: Sink, E: Sink>(
+    alloc: Global,
+    args: &[String],
+    files: &mut F,
+    input: &mut I,
+    output: &mut O,
+    errors: &mut E,
+) -> u8
+    ensures { Does (outside F.contents F.steady F.load_faults F.store_faults I.left I.faults O.held O.faults E.held E.faults)
+        (icemulti_outcome (map string_bytes args.now)) result
+        (scene files.old input.old output.old errors.old) (scene files.new input.new output.new errors.new) }
+{
+    run_tool(alloc, &Icemulti, args, files, input, output, errors)
 }

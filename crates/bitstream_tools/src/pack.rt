@@ -1,22 +1,21 @@
 // `icepack`: the bitstream of a text.
 ghost use Rattle.std.specs.Prelude.{◌≡◌, map, string_bytes, IfOk};
-ghost use Rattle.clap.specs.Words.{app_of};
+ghost use Rattle.clap.specs.Words.{app_of, found_of, rows_of};
 ghost use Rattle.tool_run.specs.Needs.{text_of};
 ghost use Rattle.tool_run.specs.Runs.{Does, outside, scene};
-ghost use Rattle.bitstream_tools.specs.Pack.{icepack_command, icepack_task, icepack_outcome, icepack_task_for, icepack_task_of, pack_task};
+ghost use Rattle.bitstream_tools.specs.Pack.{icepack_command, icepack_outcome, icepack_task_by, icepack_task_for, icepack_task_of, pack_task};
 
-use crate::layouts::{LAYOUT_LIMIT, with_layout};
 use crate::packing::{begin, feed, finish};
 use crate::taking::Taking;
-use crate::unpack::{Names, unpack_between};
+use crate::unpack::{Names, names_in, unpack_between};
 use asc_text::AscReader;
-use clap::Command;
+use clap::{ArgMatches, Command};
 use ice_io::{Files, Sink, Source};
 use std::alloc::{AllocError, Global};
-use tool_run::{
-    AtOnce, Job, Load, PieceTool, Stop, answer_at_once, asks_for_help, give_up, perform_in_pieces,
+use tool_parts::{
+    CommandLine, LAYOUT_LIMIT, flag, has_flag, long_option, positional, run_tool, with, with_layout,
 };
-use tool_words::{flag, has_flag, long_option, parse, positional, value, with};
+use tool_run::{AtOnce, Job, Load, PieceTool, Stop, answer_at_once, perform_in_pieces};
 
 /// The most bytes of a text.
 pub(crate) const TEXT_LIMIT: usize = 16_777_216;
@@ -91,7 +90,7 @@ impl PieceTool for Pack {
     }
 }
 
-// What the words ask for, where they are taken: to pack, or to unpack.
+// What the arguments ask for, where they are taken: to pack, or to unpack.
 #[derive(Clone, Copy)]
 pub(crate) enum Request<'a> {
     Pack { no_sleep: bool, names: Names<'a> },
@@ -110,7 +109,7 @@ fn command<'a>(alloc: Global) -> Result<Command<'a>, AllocError>
     with(command, positional(alloc, "output"))
 }
 
-// What the words ask for by what was found in them: `-u` unpacks, and then nothing may be set.
+// What the arguments ask for by what was found in them: `-u` unpacks, and then nothing may be set.
 fn wanted<'a>(unpacks: bool, no_sleep: bool, names: Names<'a>) -> Option<Request<'a>>
     ensures { icepack_task_for result ≡ icepack_task_of unpacks no_sleep (text_of names.entry.layout) (text_of names.entry.input) (text_of names.entry.output) }
 {
@@ -121,25 +120,14 @@ fn wanted<'a>(unpacks: bool, no_sleep: bool, names: Names<'a>) -> Option<Request
     }
 }
 
-// What the words ask for, where they are taken.
-#[tactic(auto, unfolding(crate::specs::Pack::icepack_task))]
-fn request_of<'a>(alloc: Global, words: &'a [String]) -> Result<Option<Request<'a>>, AllocError>
-    ensures { IfOk result (λ request. icepack_task (map string_bytes words.entry.now) ≡ icepack_task_for request) }
+// What was found in the arguments asks for.
+fn request_in<'a>(matches: &ArgMatches<'a>) -> Option<Request<'a>>
+    ensures { icepack_task_for result ≡ icepack_task_by (rows_of (found_of matches.now)) }
 {
-    let command = command(alloc)?;
-    match parse(command, words)? {
-        Some(matches) => {
-            let unpacks = has_flag(&matches, "unpack");
-            let no_sleep = has_flag(&matches, "no_sleep");
-            let names = Names {
-                layout: value(&matches, "layout"),
-                input: value(&matches, "input"),
-                output: value(&matches, "output"),
-            };
-            Ok(wanted(unpacks, no_sleep, names))
-        }
-        None => Ok(None),
-    }
+    let unpacks = has_flag(matches, "unpack");
+    let no_sleep = has_flag(matches, "no_sleep");
+    let names = names_in(matches);
+    wanted(unpacks, no_sleep, names)
 }
 
 // Packs from a file or standard input to a file or standard output.
@@ -171,42 +159,97 @@ fn pack_between<F: Files, I: Source, O: Sink, E: Sink>(
         no_sleep,
     };
     let job = Job {
-        speaker: "icepack",
+        tool_name: "icepack",
         loads: with_layout(names.layout, &loads),
         target: names.output,
     };
     perform_in_pieces(alloc, &tool, &job, files, input, output, errors)
 }
 
-/// Runs `icepack` with these words, of which the first is its name.
-pub fn run_icepack<F: Files, I: Source, O: Sink, E: Sink>(
+// Does what the arguments ask for.
+fn do_request<F: Files, I: Source, O: Sink, E: Sink>(
     alloc: Global,
-    words: &[String],
+    request: Option<Request<'_>>,
     files: &mut F,
     input: &mut I,
     output: &mut O,
     errors: &mut E,
 ) -> u8
     ensures { Does (outside F.contents F.steady F.load_faults F.store_faults I.left I.faults O.held O.faults E.held E.faults)
-        (icepack_outcome (map string_bytes words.now)) result
+        (icepack_task_for request.entry) result
         (scene files.old input.old output.old errors.old) (scene files.new input.new output.new errors.new) }
 {
-    let speaker = "icepack";
-    if asks_for_help(words) {
-        let answer = AtOnce::Tells(ICEPACK_HELP);
-        return answer_at_once(alloc, speaker, answer, files, input, output, errors);
-    }
-    match request_of(alloc, words) {
-        Ok(Some(Request::Pack { no_sleep, names })) => {
+    let name = "icepack";
+    match request {
+        Some(Request::Pack { no_sleep, names }) => {
             pack_between(alloc, no_sleep, names, files, input, output, errors)
         }
-        Ok(Some(Request::Unpack(names))) => {
-            unpack_between(alloc, speaker, names, files, input, output, errors)
+        Some(Request::Unpack(names)) => {
+            unpack_between(alloc, name, names, files, input, output, errors)
         }
-        Ok(None) => {
-            let answer = AtOnce::NotTaken(ICEPACK_USAGE);
-            answer_at_once(alloc, speaker, answer, files, input, output, errors)
+        None => {
+            let answer = AtOnce::UsageError(ICEPACK_USAGE);
+            answer_at_once(alloc, name, answer, files, input, output, errors)
         }
-        Err(AllocError) => give_up(speaker, files, input, output, errors),
     }
+}
+
+/// `icepack` by its command line.
+#[derive(Clone, Copy, Debug, PartialEq, Eq)]
+pub(crate) struct Icepack;
+
+impl CommandLine for Icepack {
+    ghost use Rattle.bitstream_tools.specs.Pack.{icepack};
+    ghost use Rattle.bitstream_tools.specs.Laws.{icepack-simple, icepack-speaks};
+
+    ghost manual = { icepack };
+
+    fn name(&self) -> &'static str {
+        "icepack"
+    }
+
+    fn usage(&self) -> &'static str {
+        ICEPACK_USAGE
+    }
+
+    fn help(&self) -> &'static str {
+        ICEPACK_HELP
+    }
+
+    fn command<'a>(&self, alloc: Global) -> Result<Command<'a>, AllocError> {
+        command(alloc)
+    }
+
+    fn perform<F: Files, I: Source, O: Sink, E: Sink>(
+        &self,
+        alloc: Global,
+        matches: &ArgMatches<'_>,
+        files: &mut F,
+        input: &mut I,
+        output: &mut O,
+        errors: &mut E,
+    ) -> u8 {
+        let request = request_in(matches);
+        do_request(alloc, request, files, input, output, errors)
+    }
+
+    ghost simple = { icepack-simple };
+
+    ghost speaks = { icepack-speaks };
+}
+
+/// Runs `icepack` with these arguments, of which the first is its name.
+pub fn run_icepack<F: Files, I: Source, O: Sink, E: Sink>(
+    alloc: Global,
+    args: &[String],
+    files: &mut F,
+    input: &mut I,
+    output: &mut O,
+    errors: &mut E,
+) -> u8
+    ensures { Does (outside F.contents F.steady F.load_faults F.store_faults I.left I.faults O.held O.faults E.held E.faults)
+        (icepack_outcome (map string_bytes args.now)) result
+        (scene files.old input.old output.old errors.old) (scene files.new input.new output.new errors.new) }
+{
+    run_tool(alloc, &Icepack, args, files, input, output, errors)
 }

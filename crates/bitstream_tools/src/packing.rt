@@ -8,12 +8,11 @@ ghost use Rattle.asc_text.specs.Feeding.{StandsFor, fed_to};
 ghost use Rattle.bitstream_tools.specs.Pack.{pack_answer, packed_under};
 ghost use Rattle.bitstream_tools.specs.Taking.{fed_of, loads_before, IsTaking};
 
-use crate::faults::asc_refusal;
-use crate::layouts::layouts_for;
 use crate::taking::Taking;
 use asc_text::{AscFault, AscReader};
 use ice_pack::pack_fed;
 use std::alloc::Global;
+use tool_parts::{asc_refusal, layouts_for};
 use tool_run::Stop;
 
 /// Begins to pack, under the layouts of the file that was loaded where one is named.

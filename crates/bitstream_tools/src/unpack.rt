@@ -1,22 +1,21 @@
 // `iceunpack`, and what `icepack -u` does too: the text of a bitstream.
-ghost use Rattle.std.specs.Prelude.{◌≡◌, map, string_bytes, IfOk};
-ghost use Rattle.clap.specs.Words.{app_of};
+ghost use Rattle.std.specs.Prelude.{◌≡◌, codes, map, string_bytes, IfOk};
+ghost use Rattle.clap.specs.Words.{app_of, first_of, found_of, rows_of};
 ghost use Rattle.tool_run.specs.Runs.{Does, outside, scene};
 ghost use Rattle.tool_run.specs.Needs.{text_of};
-ghost use Rattle.bitstream_tools.specs.Unpack.{iceunpack_command, iceunpack_task, iceunpack_outcome, iceunpack_task_for, unpack_task};
+ghost use Rattle.bitstream_tools.specs.Unpack.{iceunpack_command, iceunpack_outcome, iceunpack_task_by, unpack_task};
 
-use crate::layouts::{LAYOUT_LIMIT, with_layout};
 use crate::taking::Taking;
 use crate::unpacking::{begin, feed, finish};
 use asc_text::CanonicalText;
 use bin_stream::Decoder;
-use clap::Command;
+use clap::{ArgMatches, Command};
 use ice_io::{Files, Sink, Source};
 use std::alloc::{AllocError, Global};
-use tool_run::{
-    AtOnce, Job, Load, PieceTool, Stop, answer_at_once, asks_for_help, give_up, perform_in_pieces,
+use tool_parts::{
+    CommandLine, LAYOUT_LIMIT, long_option, positional, run_tool, value, with, with_layout,
 };
-use tool_words::{long_option, parse, positional, value, with};
+use tool_run::{Job, Load, PieceTool, Stop, perform_in_pieces};
 
 /// The command line of `iceunpack`.
 pub const ICEUNPACK_USAGE: &str = "iceunpack [--layout FILE] [INPUT [OUTPUT]]";
@@ -87,12 +86,25 @@ impl PieceTool for Unpack {
     }
 }
 
-// The names that the words give.
+// The names that the arguments give.
 #[derive(Clone, Copy)]
 pub(crate) struct Names<'a> {
     pub(crate) layout: Option<&'a str>,
     pub(crate) input: Option<&'a str>,
     pub(crate) output: Option<&'a str>,
+}
+
+/// The names that were found in the arguments.
+pub(crate) fn names_in<'a>(matches: &ArgMatches<'a>) -> Names<'a>
+    ensures layout { text_of result.layout ≡ first_of (codes "layout") (rows_of (found_of matches.now)) }
+    ensures input { text_of result.input ≡ first_of (codes "input") (rows_of (found_of matches.now)) }
+    ensures output { text_of result.output ≡ first_of (codes "output") (rows_of (found_of matches.now)) }
+{
+    Names {
+        layout: value(matches, "layout"),
+        input: value(matches, "input"),
+        output: value(matches, "output"),
+    }
 }
 
 // The command line as `clap` reads it.
@@ -105,26 +117,10 @@ fn command<'a>(alloc: Global) -> Result<Command<'a>, AllocError>
     with(command, positional(alloc, "output"))
 }
 
-// What the words ask for, where they are taken.
-#[tactic(auto, unfolding(crate::specs::Unpack::iceunpack_task))]
-fn names_of<'a>(alloc: Global, words: &'a [String]) -> Result<Option<Names<'a>>, AllocError>
-    ensures { IfOk result (λ names. iceunpack_task (map string_bytes words.entry.now) ≡ iceunpack_task_for names) }
-{
-    let command = command(alloc)?;
-    match parse(command, words)? {
-        Some(matches) => Ok(Some(Names {
-            layout: value(&matches, "layout"),
-            input: value(&matches, "input"),
-            output: value(&matches, "output"),
-        })),
-        None => Ok(None),
-    }
-}
-
 /// Unpacks from a file or standard input to a file or standard output.
 pub(crate) fn unpack_between<F: Files, I: Source, O: Sink, E: Sink>(
     alloc: Global,
-    speaker: &'static str,
+    tool_name: &'static str,
     names: Names<'_>,
     files: &mut F,
     input: &mut I,
@@ -132,7 +128,7 @@ pub(crate) fn unpack_between<F: Files, I: Source, O: Sink, E: Sink>(
     errors: &mut E,
 ) -> u8
     ensures { Does (outside F.contents F.steady F.load_faults F.store_faults I.left I.faults O.held O.faults E.held E.faults)
-        (unpack_task speaker.now (text_of names.entry.layout) (text_of names.entry.input) (text_of names.entry.output)) result
+        (unpack_task tool_name.now (text_of names.entry.layout) (text_of names.entry.input) (text_of names.entry.output)) result
         (scene files.old input.old output.old errors.old) (scene files.new input.new output.new errors.new) }
 {
     let loads = [
@@ -149,37 +145,85 @@ pub(crate) fn unpack_between<F: Files, I: Source, O: Sink, E: Sink>(
         named: names.layout.is_some(),
     };
     let job = Job {
-        speaker,
+        tool_name,
         loads: with_layout(names.layout, &loads),
         target: names.output,
     };
     perform_in_pieces(alloc, &tool, &job, files, input, output, errors)
 }
 
-/// Runs `iceunpack` with these words, of which the first is its name.
-pub fn run_iceunpack<F: Files, I: Source, O: Sink, E: Sink>(
+// Does what was found in the arguments asks for.
+fn do_found<F: Files, I: Source, O: Sink, E: Sink>(
     alloc: Global,
-    words: &[String],
+    matches: &ArgMatches<'_>,
     files: &mut F,
     input: &mut I,
     output: &mut O,
     errors: &mut E,
 ) -> u8
     ensures { Does (outside F.contents F.steady F.load_faults F.store_faults I.left I.faults O.held O.faults E.held E.faults)
-        (iceunpack_outcome (map string_bytes words.now)) result
+        (iceunpack_task_by (rows_of (found_of matches.now))) result
         (scene files.old input.old output.old errors.old) (scene files.new input.new output.new errors.new) }
 {
-    let speaker = "iceunpack";
-    if asks_for_help(words) {
-        let answer = AtOnce::Tells(ICEUNPACK_HELP);
-        return answer_at_once(alloc, speaker, answer, files, input, output, errors);
+    let names = names_in(matches);
+    unpack_between(alloc, "iceunpack", names, files, input, output, errors)
+}
+
+/// `iceunpack` by its command line.
+#[derive(Clone, Copy, Debug, PartialEq, Eq)]
+pub(crate) struct Iceunpack;
+
+impl CommandLine for Iceunpack {
+    ghost use Rattle.bitstream_tools.specs.Unpack.{iceunpack};
+    ghost use Rattle.bitstream_tools.specs.Laws.{iceunpack-simple, iceunpack-speaks};
+
+    ghost manual = { iceunpack };
+
+    fn name(&self) -> &'static str {
+        "iceunpack"
     }
-    match names_of(alloc, words) {
-        Ok(Some(names)) => unpack_between(alloc, speaker, names, files, input, output, errors),
-        Ok(None) => {
-            let answer = AtOnce::NotTaken(ICEUNPACK_USAGE);
-            answer_at_once(alloc, speaker, answer, files, input, output, errors)
-        }
-        Err(AllocError) => give_up(speaker, files, input, output, errors),
+
+    fn usage(&self) -> &'static str {
+        ICEUNPACK_USAGE
     }
+
+    fn help(&self) -> &'static str {
+        ICEUNPACK_HELP
+    }
+
+    fn command<'a>(&self, alloc: Global) -> Result<Command<'a>, AllocError> {
+        command(alloc)
+    }
+
+    fn perform<F: Files, I: Source, O: Sink, E: Sink>(
+        &self,
+        alloc: Global,
+        matches: &ArgMatches<'_>,
+        files: &mut F,
+        input: &mut I,
+        output: &mut O,
+        errors: &mut E,
+    ) -> u8 {
+        do_found(alloc, matches, files, input, output, errors)
+    }
+
+    ghost simple = { iceunpack-simple };
+
+    ghost speaks = { iceunpack-speaks };
+}
+
+/// Runs `iceunpack` with these arguments, of which the first is its name.
+pub fn run_iceunpack<F: Files, I: Source, O: Sink, E: Sink>(
+    alloc: Global,
+    args: &[String],
+    files: &mut F,
+    input: &mut I,
+    output: &mut O,
+    errors: &mut E,
+) -> u8
+    ensures { Does (outside F.contents F.steady F.load_faults F.store_faults I.left I.faults O.held O.faults E.held E.faults)
+        (iceunpack_outcome (map string_bytes args.now)) result
+        (scene files.old input.old output.old errors.old) (scene files.new input.new output.new errors.new) }
+{
+    run_tool(alloc, &Iceunpack, args, files, input, output, errors)
 }

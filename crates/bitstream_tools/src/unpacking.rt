@@ -12,13 +12,12 @@ ghost use Rattle.bin_stream.specs.Spelling.{Tells};
 ghost use Rattle.bitstream_tools.specs.Unpack.{unpack_answer, unpacked, unpacked_under};
 ghost use Rattle.bitstream_tools.specs.Taking.{fed_of, loads_before, IsTaking};
 
-use crate::faults::bin_refusal;
-use crate::layouts::layouts_for;
 use crate::taking::Taking;
 use asc_text::CanonicalText;
 use bin_stream::{BinFault, Decoder};
 use ice_pack::unpack_fed;
 use std::alloc::Global;
+use tool_parts::{bin_refusal, layouts_for};
 use tool_run::Stop;
 
 /// Begins to unpack, under the layouts of the file that was loaded where one is named.

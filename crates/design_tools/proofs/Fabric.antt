@@ -3,7 +3,7 @@ use Rattle.std.proofs.Common.{◌≡◌, ℕ, ◌^◌, ◌≤◌, Bool, true, fa
 use Rattle.std.specs.Prelude.{Option, Some, None, Result, Ok, Err, get_or, codes, if◌then◌else◌, is_some, ◌&&◌, nat_le, length}
 use Rattle.clap.specs.Words.{Row, Text, first_of, matches_of}
 use Rattle.layout_file.specs.declared.layouts.Layouts.{Layouts}
-use Rattle.bitstream_tools.specs.Layouts.{answer_under, behind_layout, layouts_for}
+use Rattle.tool_parts.specs.Layouts.{answer_under, behind_layout, layouts_for}
 use Rattle.ice_image.specs.Configuration.{Configuration}
 use Rattle.chipdb_reader.specs.Database.{Database}
 use Rattle.chipdb_reader.specs.Fit.{IsFit}
@@ -19,21 +19,23 @@ use Rattle.net_extract.proofs.Taken.{design-taken, taken-order}
 use Rattle.net_extract.proofs.Runs.{design-run}
 use Rattle.vlog_emit.specs.Written.{module_of}
 use Rattle.vlog_emit.proofs.Design.{design-is-module, design-well_formed}
-use Rattle.fabric_tools.proofs.CommandLines.{helped-no}
-use Rattle.fabric_tools.specs.Databases.{database_read}
-use Rattle.fabric_tools.specs.Images.{image_read}
+use Rattle.tool_parts.proofs.CommandLines.{helped-no}
+use Rattle.tool_parts.specs.Databases.{database_read}
+use Rattle.tool_parts.specs.Images.{image_read}
 use Rattle.tool_run.specs.Runs.{Does, Outside, Scene}
-use Rattle.tool_run.specs.Tasks.{Done, Task, not_taken}
-use Rattle.tool_words.specs.Commands.{is_taken}
+use Rattle.tool_run.specs.Tasks.{Done, Task, usage_error}
+use Rattle.tool_parts.specs.Commands.{is_taken}
+use Rattle.tool_parts.specs.Outcomes.{asked}
 use Rattle.design_tools.specs.declared.request.TheConstants.{ICEBOX_VLOG_HELP}
 use Rattle.design_tools.specs.Names.{name_given}
-use Rattle.design_tools.specs.Order.{write_order}
-use Rattle.design_tools.specs.Vlog.{written_module, written_of, written_under, written_with, vlog_command, vlog_name, vlog_outcome, vlog_task, vlog_task_by, vlog_task_of, vlog_usage}
-use Rattle.design_tools.specs.Fabric.{PromisesFabric, SpellsFabric, WritesFabric, fabric_events, names_layout}
-use Rattle.design_tools.proofs.Appended.{helped-kept}
-use Rattle.design_tools.proofs.Databases.{read-few, read-fit}
-use Rattle.design_tools.proofs.Lines.{run-shown}
-use Rattle.design_tools.proofs.Order.{order-is}
+use Rattle.design_parts.specs.Lines.{fabric_events}
+use Rattle.design_parts.specs.Order.{write_order}
+use Rattle.design_tools.specs.Vlog.{icebox_vlog, written_module, written_of, written_under, written_with, vlog_command, vlog_name, vlog_outcome, vlog_task_by, vlog_task_of, vlog_usage}
+use Rattle.design_tools.specs.Fabric.{PromisesFabric, SpellsFabric, WritesFabric, names_layout}
+use Rattle.tool_parts.proofs.Appended.{helped-kept}
+use Rattle.tool_parts.proofs.Databases.{read-few, read-fit}
+use Rattle.design_parts.proofs.Lines.{run-shown}
+use Rattle.design_parts.proofs.Order.{order-is}
 
 -- ---- the module
 
@@ -58,8 +60,8 @@ spells-fabric name named db image fit few none =
       one_module = record { it = m; is = spells; only = λ other also. one-module (printed m) other m also spells };
       one_run = λ events. design-run db image fit none events;
       alike = λ events entries run. design-is-module db image fit few none order is name events entries run;
-      lines = λ registers events lines done entries run.
-          run-shown fabric m (printed m) spells registers events lines done entries
+      lines = λ registers events entries run.
+          run-shown fabric m registers events entries
           (design-is-module db image fit few none order is name (fabric_events db image events) entries run);
     }
 
@@ -97,7 +99,7 @@ module _ (name : List ℕ) (named : IsName name) (behind : Bool) (texts : List (
   done-under (Ok layouts) are done = done-of layouts (database_read db_text) (image_read layouts image_text) are refl refl done
   done-under (Err text) are done = absurd cc
 
--- ---- the words
+-- ---- the arguments
 
 -- a name that is taken is a name
 name-by : (text name : Text) (short takes : Bool) → is_name text ≡ takes → (if short && takes then Some text else None) ≡ Some name → IsName name
@@ -119,14 +121,14 @@ task-of (Some name) layout (Some db) image named texts bytes done = done-under n
 task-of (Some name) layout None image named texts bytes done = absurd cc
 task-of None layout db image named texts bytes done = absurd cc
 
-task-writes : (words : List Text) → TaskWrites (names_layout words) (vlog_task words)
-unfolding vlog_task
-task-writes words = by_case (is_taken vlog_command words)
+task-writes : (args : List Text) → TaskWrites (names_layout args) (asked icebox_vlog args)
+unfolding asked
+task-writes args = by_case (is_taken vlog_command args)
   where
     rows : List Row
-    rows = matches_of vlog_command words
+    rows = matches_of vlog_command args
 
-    by_case : (taken : Bool) → TaskWrites (names_layout words) (if taken then vlog_task_by rows else not_taken vlog_name vlog_usage)
+    by_case : (taken : Bool) → TaskWrites (names_layout args) (if taken then vlog_task_by rows else usage_error vlog_name vlog_usage)
     by_case true = task-of (name_given (first_of (codes "name") rows)) (first_of (codes "layout") rows) (first_of (codes "db") rows) (first_of (codes "image") rows) (given-name (first_of (codes "name") rows))
     by_case false = λ texts bytes done. absurd cc
 
@@ -138,19 +140,19 @@ target-of (Some name) layout None image = refl
 target-of None layout db image = refl
 
 -- the module goes to standard output
-task-target : (words : List Text) → (vlog_task words).target ≡ None
-unfolding vlog_task
-task-target words = by_case (is_taken vlog_command words)
+task-target : (args : List Text) → (asked icebox_vlog args).target ≡ None
+unfolding asked
+task-target args = by_case (is_taken vlog_command args)
   where
     rows : List Row
-    rows = matches_of vlog_command words
+    rows = matches_of vlog_command args
 
-    by_case : (taken : Bool) → (if taken then vlog_task_by rows else not_taken vlog_name vlog_usage).target ≡ None
+    by_case : (taken : Bool) → (if taken then vlog_task_by rows else usage_error vlog_name vlog_usage).target ≡ None
     by_case true = target-of (name_given (first_of (codes "name") rows)) (first_of (codes "layout") rows) (first_of (codes "db") rows) (first_of (codes "image") rows)
     by_case false = refl
 
-pub promise-kept : {F I O E : Type 0} (by : Outside F I O E) (words : List Text) (status : ℕ) (old new : Scene F I O E) → Does by (vlog_outcome words) status old new
-    → PromisesFabric words status (by.contents old.files) (by.left old.input) (by.held old.output) (by.held new.output)
-promise-kept by words status old new does done asked =
-    let same : vlog_task words ≡ vlog_outcome words = helped-no vlog_name ICEBOX_VLOG_HELP.now words (vlog_task words) asked in
-    helped-kept (WritesFabric (names_layout words)) by (vlog_task words) (vlog_outcome words) status old new same (task-writes words) (task-target words) does done
+pub promise-kept : {F I O E : Type 0} (by : Outside F I O E) (args : List Text) (status : ℕ) (old new : Scene F I O E) → Does by (vlog_outcome args) status old new
+    → PromisesFabric args status (by.contents old.files) (by.left old.input) (by.held old.output) (by.held new.output)
+promise-kept by args status old new does done asks =
+    let same : asked icebox_vlog args ≡ vlog_outcome args = helped-no vlog_name ICEBOX_VLOG_HELP.now args (asked icebox_vlog args) asks in
+    helped-kept (WritesFabric (names_layout args)) by (asked icebox_vlog args) (vlog_outcome args) status old new same (task-writes args) (task-target args) does done

@@ -1,8 +1,6 @@
+-- the name of a module, from the command line
 mod CommandLines
-pub mod Order
-pub mod Written
-pub mod Databases
-mod Lines
-mod Appended
+-- what is written for a design, and what is told where there is none
+mod Written
+-- the text that is written for a database and an image is that of their fabric
 mod Fabric
-pub mod Runs

@@ -10,18 +10,18 @@ use Rattle.net_extract.specs.Fabric.{Fabric, fabric_of}
 use Rattle.net_extract.specs.Wiring.{wiring_of}
 use Rattle.net_extract.specs.Faults.{Fault}
 use Rattle.fabric.specs.declared.fault.FabricFault.{FabricFault}
-use Rattle.fabric.specs.declared.fault.FabricFault.TheVariants.{Device, Pll, PinMode, Mode, Cascade, Async, TwoDrivers, Loop, Clock, Memory as OutOfMemory}
 use Rattle.fabric.specs.Kept.{Kept}
 use Rattle.fabric.specs.Design.{IsDesignOf}
 use Rattle.fabric.specs.Faults.{IsCause}
 use Rattle.vlog_emit.specs.Written.{module_of}
 use Rattle.tool_run.specs.declared.tool.Stop.{Stop}
-use Rattle.tool_run.specs.declared.tool.Stop.TheVariants.{Refused, NotTaken, Memory}
+use Rattle.tool_run.specs.declared.tool.Stop.TheVariants.{Refused, UsageError, Memory}
 use Rattle.tool_run.specs.Stops.{StopsWith}
 use Rattle.tool_run.specs.Tasks.{Done, Refused as Refuses}
-use Rattle.design_tools.specs.Faults.{StopsFor, told_fault}
+use Rattle.design_parts.specs.Faults.{StopsFor, told_fault}
+use Rattle.design_parts.proofs.Causes.{cause-told}
 use Rattle.design_tools.specs.Vlog.{written, written_module, written_with}
-use Rattle.design_tools.proofs.Order.{order-is}
+use Rattle.design_parts.proofs.Order.{order-is}
 
 -- the text of the module of a design
 pub written_done : (name : List ℕ) (db : Database) (image : Configuration) (design : Kept) (m : Parts) (text : List ℕ) → IsDesignOf db image design
@@ -31,28 +31,15 @@ written_done name db image design m text is made shown =
     ap (written_with name db image) is.taken
     ∙ sym (ap Done (shown ∙ ap printed (made ∙ ap (λ order. module_of (fabric_of db image) order name) (order-is (wiring_of (fabric_of db image)) design.order is.kept.order))))
 
--- the cause of a refusal is the fault that it tells
-pub cause-told : (device : DeviceName) (fabric : Fabric) (cause : Option Fault) (fault : FabricFault) (one : Fault) → IsCause device fabric cause fault → told_fault fault ≡ Some one → cause ≡ Some one
-cause-told device fabric cause Device one is told = is ∙ told
-cause-told device fabric cause (Pll x y) one is told = is ∙ told
-cause-told device fabric cause (PinMode x y pio pintype) one is told = is ∙ told
-cause-told device fabric cause (Mode x y read write) one is told = is ∙ told
-cause-told device fabric cause (Cascade x y) one is told = is ∙ told
-cause-told device fabric cause (Async x y i) one is told = is ∙ told
-cause-told device fabric cause (TwoDrivers net first second) one is told = is.0 ∙ told
-cause-told device fabric cause (Loop net cycle) one is told = is.0 ∙ told
-cause-told device fabric cause (Clock x y user net) one is told = is.0 ∙ told
-cause-told device fabric cause (OutOfMemory failed) one is told = cc
-
 -- a tool that tells the fault stops as it has to
 stops-told : (name : List ℕ) (db : Database) (image : Configuration) (cause told : Option Fault) (stop : Stop) → ((one : Fault) → told ≡ Some one → cause ≡ Some one) → StopsFor told stop
     → StopsWith (written_with name db image cause) stop
 stops-told name db image cause (Some fault) (Refused refusal) same stops = ap (written_with name db image) (same fault refl) ∙ ap Refuses stops
 stops-told name db image cause None Memory same stops = tt
-stops-told name db image cause (Some fault) (NotTaken refusal) same stops = absurd stops
+stops-told name db image cause (Some fault) (UsageError refusal) same stops = absurd stops
 stops-told name db image cause (Some fault) Memory same stops = tt
 stops-told name db image cause None (Refused refusal) same stops = absurd stops
-stops-told name db image cause None (NotTaken refusal) same stops = absurd stops
+stops-told name db image cause None (UsageError refusal) same stops = absurd stops
 
 pub stops_design : (name : List ℕ) (db : Database) (image : Configuration) (device : DeviceName) (fabric : Fabric) (cause : Option Fault) (fault : FabricFault) (stop : Stop)
     → IsCause device fabric cause fault → StopsFor (told_fault fault) stop → StopsWith (written_with name db image cause) stop

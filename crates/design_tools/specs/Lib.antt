@@ -1,5 +1,4 @@
-pub mod Order
 pub mod Names
-pub mod Faults
 pub mod Vlog
+pub mod Laws
 pub mod Fabric

@@ -1,6 +1,6 @@
 -- `icebox_vlog`: the module of a database and an image.
-use Rattle.std.specs.Prelude.{ℕ, Bool, List, [], ◌∷◌, codes, get_or, is_some, if◌then◌else◌, Option, None, Some, Result, Ok, Err}
-use Rattle.clap.specs.Words.{App, Row, Text, first_of, matches_of}
+use Rattle.std.specs.Prelude.{ℕ, Bool, List, [], ◌∷◌, codes, get_or, is_some, Option, None, Some, Result, Ok, Err}
+use Rattle.clap.specs.Words.{App, Row, Text, first_of}
 use Rattle.layout_file.specs.declared.layouts.Layouts.{Layouts}
 use Rattle.ice_image.specs.Configuration.{Configuration}
 use Rattle.chipdb_reader.specs.Database.{Database}
@@ -11,19 +11,20 @@ use Rattle.net_extract.specs.Wiring.{wiring_of}
 use Rattle.net_extract.specs.Faults.{Fault, design_fault}
 use Rattle.vlog_emit.specs.Written.{module_of}
 use Rattle.tool_run.specs.Needs.{text_of}
-use Rattle.tool_run.specs.Tasks.{Answer, Done, Refused, Task, helped, not_taken}
-use Rattle.tool_words.specs.Commands.{command, is_taken, long_option, positional, short_option}
-use Rattle.bitstream_tools.specs.Layouts.{answer_under, behind_layout, layouts_for, with_layout}
-use Rattle.bitstream_tools.specs.Pack.{text_limit}
-use Rattle.fabric_tools.specs.Explain.{database_limit}
-use Rattle.fabric_tools.specs.Images.{image_read}
-use Rattle.fabric_tools.specs.Databases.{database_read}
+use Rattle.tool_run.specs.Tasks.{Answer, Done, Refused, Task, usage_error}
+use Rattle.tool_parts.specs.Outcomes.{Manual, outcome}
+use Rattle.tool_parts.specs.Commands.{command, long_option, positional, short_option}
+use Rattle.tool_parts.specs.Layouts.{answer_under, behind_layout, layouts_for, with_layout}
+use Rattle.tool_parts.specs.Images.{image_limit}
+use Rattle.tool_parts.specs.Databases.{database_limit}
+use Rattle.tool_parts.specs.Images.{image_read}
+use Rattle.tool_parts.specs.Databases.{database_read}
 use Rattle.design_tools.specs.declared.name.ModuleName.{ModuleName}
 use Rattle.design_tools.specs.declared.request.Request.{Request}
 use Rattle.design_tools.specs.declared.request.TheConstants.{ICEBOX_VLOG_HELP}
 use Rattle.design_tools.specs.Names.{name_given}
-use Rattle.design_tools.specs.Order.{write_order}
-use Rattle.design_tools.specs.Faults.{design_fault_text}
+use Rattle.design_parts.specs.Order.{write_order}
+use Rattle.design_parts.specs.Faults.{design_fault_text}
 
 -- ---- the answer
 
@@ -55,7 +56,7 @@ vlog_answer named name texts =
     answer_under (layouts_for named texts)
     (written_under name (get_or texts (behind_layout named 0) []) (get_or texts (behind_layout named 1) []))
 
--- ---- the words
+-- ---- the arguments
 
 abbrev pub vlog_name : List ℕ
 vlog_name = codes "icebox_vlog"
@@ -71,8 +72,8 @@ vlog_command = command vlog_name (short_option (codes "name") 110 ∷ long_optio
 -- the database, and the image from a file or from standard input
 abbrev pub write_task : Text → Option Text → Text → Option Text → Task
 write_task name layout db image = record {
-  speaker = vlog_name;
-  needs = with_layout layout (record { name = Some db; limit = database_limit } ∷ record { name = image; limit = text_limit } ∷ []);
+  tool_name = vlog_name;
+  needs = with_layout layout (record { name = Some db; limit = database_limit } ∷ record { name = image; limit = image_limit } ∷ []);
   target = None;
   answer = vlog_answer (is_some layout) name;
 }
@@ -85,23 +86,21 @@ name_text (Some name) = Some name.text.now
 -- there has to be a name, and a database
 abbrev pub vlog_task_of : Option Text → Option Text → Option Text → Option Text → Task
 vlog_task_of (Some name) layout (Some db) image = write_task name layout db image
-vlog_task_of (Some name) layout None image = not_taken vlog_name vlog_usage
-vlog_task_of None layout db image = not_taken vlog_name vlog_usage
+vlog_task_of (Some name) layout None image = usage_error vlog_name vlog_usage
+vlog_task_of None layout db image = usage_error vlog_name vlog_usage
 
 abbrev pub vlog_task_by : List Row → Task
 vlog_task_by rows = vlog_task_of (name_given (first_of (codes "name") rows)) (first_of (codes "layout") rows) (first_of (codes "db") rows) (first_of (codes "image") rows)
 
--- what the words of `icebox_vlog` ask for
-unfoldable pub vlog_task : List Text → Task
-vlog_task words =
-    if is_taken vlog_command words then vlog_task_by (matches_of vlog_command words)
-    else not_taken vlog_name vlog_usage
+-- the tool
+abbrev pub icebox_vlog : Manual
+icebox_vlog = record { name = vlog_name; usage = vlog_usage; help = ICEBOX_VLOG_HELP.now; app = vlog_command; task = vlog_task_by }
 
--- the same by the request that was found in the words, where they are taken
-abbrev pub vlog_task_for : Option Request → Task
-vlog_task_for None = not_taken vlog_name vlog_usage
-vlog_task_for (Some request) = write_task request.name.text.now (text_of request.layout) request.db.now (text_of request.image)
-
--- what the words of `icebox_vlog` ask for, its help among that
+-- what the arguments of `icebox_vlog` ask for, its help among that
 abbrev pub vlog_outcome : List Text → Task
-vlog_outcome words = helped vlog_name ICEBOX_VLOG_HELP.now words (vlog_task words)
+vlog_outcome args = outcome icebox_vlog args
+
+-- the task of the request that was found in the arguments
+abbrev pub vlog_task_for : Option Request → Task
+vlog_task_for None = usage_error vlog_name vlog_usage
+vlog_task_for (Some request) = write_task request.name.text.now (text_of request.layout) request.db.now (text_of request.image)

@@ -4,11 +4,9 @@
 //! run does the task that the command line asks for.
 #![tactic(auto)]
 
-mod faults;
 mod name;
 mod request;
 mod writing;
 
-pub use faults::design_stop;
 pub use request::{ICEBOX_VLOG_HELP, ICEBOX_VLOG_USAGE};
 pub use writing::run_icebox_vlog;

@@ -1,13 +1,13 @@
 // What the command line of `icebox_vlog` asks for.
-ghost use Rattle.std.specs.Prelude.{◌≡◌, map, string_bytes, IfOk};
-ghost use Rattle.clap.specs.Words.{app_of};
+ghost use Rattle.std.specs.Prelude.{◌≡◌, IfOk};
+ghost use Rattle.clap.specs.Words.{app_of, found_of, rows_of};
 ghost use Rattle.tool_run.specs.Needs.{text_of};
-ghost use Rattle.design_tools.specs.Vlog.{name_text, vlog_command, vlog_task, vlog_task_for, vlog_task_of};
+ghost use Rattle.design_tools.specs.Vlog.{name_text, vlog_command, vlog_task_by, vlog_task_for, vlog_task_of};
 
 use crate::name::{ModuleName, name_given};
-use clap::Command;
+use clap::{ArgMatches, Command};
 use std::alloc::{AllocError, Global};
-use tool_words::{long_option, parse, positional, short_option, value, with};
+use tool_parts::{long_option, positional, short_option, value, with};
 
 /// The command line of `icebox_vlog`.
 pub const ICEBOX_VLOG_USAGE: &str = "icebox_vlog [-n NAME] [--layout FILE] DB [IMAGE]";
@@ -66,7 +66,7 @@ Exit status: 0 done; 1 FILE, the database, the image or the design is refused;
 memory; 6 an input is longer than its limit.
 ";
 
-/// What the words ask for: the name of the module, a layout file, a database and an image.
+/// What the arguments ask for: the name of the module, a layout file, a database and an image.
 #[derive(Clone, Copy)]
 pub(crate) struct Request<'a> {
     pub(crate) name: ModuleName<'a>,
@@ -75,8 +75,8 @@ pub(crate) struct Request<'a> {
     pub(crate) image: Option<&'a str>,
 }
 
-// The command line as `clap` reads it.
-fn command<'a>(alloc: Global) -> Result<Command<'a>, AllocError>
+/// The command line as `clap` reads it.
+pub(crate) fn command<'a>(alloc: Global) -> Result<Command<'a>, AllocError>
     ensures { IfOk result (λ command. app_of command ≡ vlog_command) }
 {
     let command = Command::new(alloc, "icebox_vlog");
@@ -86,7 +86,7 @@ fn command<'a>(alloc: Global) -> Result<Command<'a>, AllocError>
     with(command, positional(alloc, "image"))
 }
 
-// What the words ask for by what was found in them: the name has to be one, and there has to be a database.
+// What the arguments ask for by what was found in them: the name has to be one, and there has to be a database.
 fn wanted<'a>(
     name: Option<ModuleName<'a>>,
     layout: Option<&'a str>,
@@ -106,24 +106,14 @@ fn wanted<'a>(
     }
 }
 
-// What the words ask for, where they are taken.
-#[tactic(auto, unfolding(crate::specs::Vlog::vlog_task))]
-pub(crate) fn request_of<'a>(
-    alloc: Global,
-    words: &'a [String],
-) -> Result<Option<Request<'a>>, AllocError>
-    ensures { IfOk result (λ request. vlog_task (map string_bytes words.entry.now) ≡ vlog_task_for request) }
+// What was found in the arguments asks for.
+pub(crate) fn request_in<'a>(matches: &ArgMatches<'a>) -> Option<Request<'a>>
+    ensures { vlog_task_for result ≡ vlog_task_by (rows_of (found_of matches.now)) }
 {
-    let command = command(alloc)?;
-    match parse(command, words)? {
-        Some(matches) => {
-            let given = value(&matches, "name");
-            let name = name_given(given);
-            let layout = value(&matches, "layout");
-            let db = value(&matches, "db");
-            let image = value(&matches, "image");
-            Ok(wanted(name, layout, db, image))
-        }
-        None => Ok(None),
-    }
+    let given = value(matches, "name");
+    let name = name_given(given);
+    let layout = value(matches, "layout");
+    let db = value(matches, "db");
+    let image = value(matches, "image");
+    wanted(name, layout, db, image)
 }

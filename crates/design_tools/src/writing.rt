@@ -13,18 +13,21 @@ ghost use Rattle.tool_run.specs.Tasks.{Done};
 ghost use Rattle.design_tools.specs.Fabric.{PromisesFabric};
 ghost use Rattle.design_tools.specs.Vlog.{vlog_answer, vlog_outcome, vlog_task_for, written, written_under};
 
-use crate::faults::design_stop;
 use crate::name::ModuleName;
-use crate::request::{ICEBOX_VLOG_HELP, ICEBOX_VLOG_USAGE, Request, request_of};
-use bitstream_tools::{LAYOUT_LIMIT, behind_layout, layouts_for, with_layout};
+use crate::request::{ICEBOX_VLOG_HELP, ICEBOX_VLOG_USAGE, Request, command, request_in};
 use chipdb_reader::ChipDb;
+use clap::{ArgMatches, Command};
+use design_parts::design_stop;
 use fabric::{Design, design};
-use fabric_tools::{DB_LIMIT, IMAGE_LIMIT, read_database, read_image};
 use ice_image::AnyImage;
 use ice_io::{Files, Sink, Source};
 use layout_file::Layouts;
 use std::alloc::{AllocError, Global};
-use tool_run::{AtOnce, Job, Load, Stop, Tool, answer_at_once, asks_for_help, give_up, perform};
+use tool_parts::{
+    CommandLine, DB_LIMIT, IMAGE_LIMIT, LAYOUT_LIMIT, behind_layout, layouts_for, read_database,
+    read_image, run_tool, with_layout,
+};
+use tool_run::{AtOnce, Job, Load, Stop, Tool, answer_at_once, perform};
 use vlog_text::print;
 use vlog_write::emit;
 
@@ -49,7 +52,7 @@ impl<'a> Tool for Writing<'a> {
 }
 
 // The module of the database and the image that were loaded.
-#[tactic(auto, using(bitstream_tools::proofs::UnderLayouts::stops_under))]
+#[tactic(auto, using(tool_parts::proofs::UnderLayouts::stops_under))]
 fn written_from(
     alloc: Global,
     named: bool,
@@ -140,54 +143,92 @@ fn write_files<F: Files, I: Source, O: Sink, E: Sink>(
         name: request.name,
     };
     let job = Job {
-        speaker: "icebox_vlog",
+        tool_name: "icebox_vlog",
         loads: with_layout(request.layout, &loads),
         target: None,
     };
     perform(alloc, &tool, &job, files, input, output, errors)
 }
 
-// Does what the words ask for.
-fn do_words<F: Files, I: Source, O: Sink, E: Sink>(
+// Does what the arguments ask for.
+fn do_request<F: Files, I: Source, O: Sink, E: Sink>(
     alloc: Global,
-    words: &[String],
+    request: Option<Request<'_>>,
     files: &mut F,
     input: &mut I,
     output: &mut O,
     errors: &mut E,
 ) -> u8
     ensures { Does (outside F.contents F.steady F.load_faults F.store_faults I.left I.faults O.held O.faults E.held E.faults)
-        (vlog_outcome (map string_bytes words.now)) result
+        (vlog_task_for request.entry) result
         (scene files.old input.old output.old errors.old) (scene files.new input.new output.new errors.new) }
 {
-    let speaker = "icebox_vlog";
-    if asks_for_help(words) {
-        let answer = AtOnce::Tells(ICEBOX_VLOG_HELP);
-        return answer_at_once(alloc, speaker, answer, files, input, output, errors);
-    }
-    match request_of(alloc, words) {
-        Ok(Some(request)) => write_files(alloc, request, files, input, output, errors),
-        Ok(None) => {
-            let answer = AtOnce::NotTaken(ICEBOX_VLOG_USAGE);
-            answer_at_once(alloc, speaker, answer, files, input, output, errors)
+    match request {
+        Some(request) => write_files(alloc, request, files, input, output, errors),
+        None => {
+            let answer = AtOnce::UsageError(ICEBOX_VLOG_USAGE);
+            answer_at_once(alloc, "icebox_vlog", answer, files, input, output, errors)
         }
-        Err(AllocError) => give_up(speaker, files, input, output, errors),
     }
 }
 
-/// Runs `icebox_vlog` with these words, of which the first is its name.
+/// `icebox_vlog` by its command line.
+#[derive(Clone, Copy, Debug, PartialEq, Eq)]
+pub(crate) struct IceboxVlog;
+
+impl CommandLine for IceboxVlog {
+    ghost use Rattle.design_tools.specs.Vlog.{icebox_vlog};
+    ghost use Rattle.design_tools.specs.Laws.{vlog-simple, vlog-speaks};
+
+    ghost manual = { icebox_vlog };
+
+    fn name(&self) -> &'static str {
+        "icebox_vlog"
+    }
+
+    fn usage(&self) -> &'static str {
+        ICEBOX_VLOG_USAGE
+    }
+
+    fn help(&self) -> &'static str {
+        ICEBOX_VLOG_HELP
+    }
+
+    fn command<'a>(&self, alloc: Global) -> Result<Command<'a>, AllocError> {
+        command(alloc)
+    }
+
+    fn perform<F: Files, I: Source, O: Sink, E: Sink>(
+        &self,
+        alloc: Global,
+        matches: &ArgMatches<'_>,
+        files: &mut F,
+        input: &mut I,
+        output: &mut O,
+        errors: &mut E,
+    ) -> u8 {
+        let request = request_in(matches);
+        do_request(alloc, request, files, input, output, errors)
+    }
+
+    ghost simple = { vlog-simple };
+
+    ghost speaks = { vlog-speaks };
+}
+
+/// Runs `icebox_vlog` with these arguments, of which the first is its name.
 pub fn run_icebox_vlog<F: Files, I: Source, O: Sink, E: Sink>(
     alloc: Global,
-    words: &[String],
+    args: &[String],
     files: &mut F,
     input: &mut I,
     output: &mut O,
     errors: &mut E,
 ) -> u8
     ensures does { Does (outside F.contents F.steady F.load_faults F.store_faults I.left I.faults O.held O.faults E.held E.faults)
-        (vlog_outcome (map string_bytes words.now)) result
+        (vlog_outcome (map string_bytes args.now)) result
         (scene files.old input.old output.old errors.old) (scene files.new input.new output.new errors.new) }
-    ensures fabric { PromisesFabric (map string_bytes words.now) result (F.contents files.old) (I.left input.old) (O.held output.old) (O.held output.new) }
+    ensures fabric { PromisesFabric (map string_bytes args.now) result (F.contents files.old) (I.left input.old) (O.held output.old) (O.held output.new) }
 {
-    do_words(alloc, words, files, input, output, errors)
+    run_tool(alloc, &IceboxVlog, args, files, input, output, errors)
 }

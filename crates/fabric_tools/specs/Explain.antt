@@ -1,7 +1,7 @@
 -- `icebox_explain`: what the set bits of an image mean.
-use Rattle.std.specs.Prelude.{ℕ, ◌==◌, Bool, List, [], ◌∷◌, codes, get_or, is_some, option_map, if◌then◌else◌, Option, None, Some, Result, Ok, Err}
+use Rattle.std.specs.Prelude.{ℕ, ◌==◌, Bool, List, [], ◌∷◌, codes, get_or, is_some, option_map, Option, None, Some, Result, Ok, Err}
 use Rattle.std.specs.List.{before_first, after_first}
-use Rattle.clap.specs.Words.{App, Row, Text, first_of, matches_of}
+use Rattle.clap.specs.Words.{App, Row, Text, first_of}
 use Rattle.text_lines.specs.Words.{number_of}
 use Rattle.asc_text.specs.declared.fault.TileXy.{TileXy}
 use Rattle.layout_file.specs.declared.layouts.Layouts.{Layouts}
@@ -10,19 +10,15 @@ use Rattle.chipdb_reader.specs.Database.{Database}
 use Rattle.tile_bits.specs.declared.fault.ExplainFault.{ExplainFault}
 use Rattle.tile_bits.specs.Explained.{explained, explain_fault_of}
 use Rattle.tool_run.specs.Needs.{text_of}
-use Rattle.tool_run.specs.Tasks.{Answer, Done, Refused, Task, helped, not_taken}
-use Rattle.tool_words.specs.Commands.{command, is_taken, long_option, positional, short_option}
-use Rattle.bitstream_tools.specs.Layouts.{answer_under, behind_layout, layouts_for, with_layout}
-use Rattle.bitstream_tools.specs.Pack.{text_limit}
+use Rattle.tool_run.specs.Tasks.{Answer, Done, Refused, Task, usage_error}
+use Rattle.tool_parts.specs.Outcomes.{Manual, outcome}
+use Rattle.tool_parts.specs.Commands.{command, long_option, positional, short_option}
+use Rattle.tool_parts.specs.Layouts.{answer_under, behind_layout, layouts_for, with_layout}
 use Rattle.fabric_tools.specs.declared.request.Request.{Request}
 use Rattle.fabric_tools.specs.declared.request.TheConstants.{ICEBOX_EXPLAIN_HELP}
 use Rattle.fabric_tools.specs.Faults.{explain_fault_text}
-use Rattle.fabric_tools.specs.Images.{image_read}
-use Rattle.fabric_tools.specs.Databases.{database_read}
-
--- the most bytes of a database
-abbrev pub database_limit : ℕ
-database_limit = 268435456
+use Rattle.tool_parts.specs.Images.{image_limit, image_read}
+use Rattle.tool_parts.specs.Databases.{database_limit, database_read}
 
 -- ---- the answer
 
@@ -50,7 +46,7 @@ explain_answer named only texts =
     answer_under (layouts_for named texts)
     (explained_under only (get_or texts (behind_layout named 0) []) (get_or texts (behind_layout named 1) []))
 
--- ---- the words
+-- ---- the arguments
 
 abbrev pub explain_name : List ℕ
 explain_name = codes "icebox_explain"
@@ -79,8 +75,8 @@ tile_given (Some text) = option_map Some (tile_in text)
 
 abbrev pub read_task : Option TileXy → Option Text → Text → Option Text → Task
 read_task only layout db image = record {
-  speaker = explain_name;
-  needs = with_layout layout (record { name = Some db; limit = database_limit } ∷ record { name = image; limit = text_limit } ∷ []);
+  tool_name = explain_name;
+  needs = with_layout layout (record { name = Some db; limit = database_limit } ∷ record { name = image; limit = image_limit } ∷ []);
   target = None;
   answer = explain_answer (is_some layout) only;
 }
@@ -88,23 +84,21 @@ read_task only layout db image = record {
 -- there has to be a database
 abbrev pub explain_task_of : Option (Option TileXy) → Option Text → Option Text → Option Text → Task
 explain_task_of (Some only) layout (Some db) image = read_task only layout db image
-explain_task_of (Some only) layout None image = not_taken explain_name explain_usage
-explain_task_of None layout db image = not_taken explain_name explain_usage
+explain_task_of (Some only) layout None image = usage_error explain_name explain_usage
+explain_task_of None layout db image = usage_error explain_name explain_usage
 
 abbrev pub explain_task_by : List Row → Task
 explain_task_by rows = explain_task_of (tile_given (first_of (codes "tile") rows)) (first_of (codes "layout") rows) (first_of (codes "db") rows) (first_of (codes "image") rows)
 
--- what the words of `icebox_explain` ask for
-unfoldable pub explain_task : List Text → Task
-explain_task words =
-    if is_taken explain_command words then explain_task_by (matches_of explain_command words)
-    else not_taken explain_name explain_usage
+-- the tool
+abbrev pub icebox_explain : Manual
+icebox_explain = record { name = explain_name; usage = explain_usage; help = ICEBOX_EXPLAIN_HELP.now; app = explain_command; task = explain_task_by }
 
--- the same by the request that was found in the words, where they are taken
-abbrev pub explain_task_for : Option Request → Task
-explain_task_for None = not_taken explain_name explain_usage
-explain_task_for (Some request) = read_task request.only (text_of request.layout) request.db.now (text_of request.image)
-
--- what the words of `icebox_explain` ask for, its help among that
+-- what the arguments of `icebox_explain` ask for, its help among that
 abbrev pub explain_outcome : List Text → Task
-explain_outcome words = helped explain_name ICEBOX_EXPLAIN_HELP.now words (explain_task words)
+explain_outcome args = outcome icebox_explain args
+
+-- the task of the request that was found in the arguments
+abbrev pub explain_task_for : Option Request → Task
+explain_task_for None = usage_error explain_name explain_usage
+explain_task_for (Some request) = read_task request.only (text_of request.layout) request.db.now (text_of request.image)

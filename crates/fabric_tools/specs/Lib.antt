@@ -1,4 +1,3 @@
 pub mod Faults
-pub mod Images
-pub mod Databases
 pub mod Explain
+pub mod Laws

@@ -9,19 +9,21 @@ ghost use Rattle.tool_run.specs.Tasks.{Done};
 ghost use Rattle.fabric_tools.specs.Explain.{explain_answer, explain_outcome, explain_task_for, explained_under, told};
 ghost use Rattle.ice_image.specs.Either.{configuration_of};
 
-use crate::database::{DB_LIMIT, read_database};
 use crate::faults::explain_refusal;
-use crate::image::{IMAGE_LIMIT, read_image};
-use crate::request::{ICEBOX_EXPLAIN_HELP, ICEBOX_EXPLAIN_USAGE, Request, request_of};
+use crate::request::{ICEBOX_EXPLAIN_HELP, ICEBOX_EXPLAIN_USAGE, Request, command, request_in};
 use asc_text::TileXy;
-use bitstream_tools::{LAYOUT_LIMIT, behind_layout, layouts_for, with_layout};
 use chipdb_reader::ChipDb;
+use clap::{ArgMatches, Command};
 use ice_image::AnyImage;
 use ice_io::{Files, Sink, Source};
 use layout_file::Layouts;
 use std::alloc::{AllocError, Global};
 use tile_bits::{ExplainFault, explain};
-use tool_run::{AtOnce, Job, Load, Stop, Tool, answer_at_once, asks_for_help, give_up, perform};
+use tool_parts::{
+    CommandLine, DB_LIMIT, IMAGE_LIMIT, LAYOUT_LIMIT, behind_layout, layouts_for, read_database,
+    read_image, run_tool, with_layout,
+};
+use tool_run::{AtOnce, Job, Load, Stop, Tool, answer_at_once, perform};
 
 /// Explains an image by a database: one tile, or all. The image is read under the layouts of a file that is loaded first where
 /// one is named.
@@ -43,7 +45,7 @@ impl Tool for Explaining {
 }
 
 // What the image that was loaded means by the database that was.
-#[tactic(auto, using(bitstream_tools::proofs::UnderLayouts::stops_under))]
+#[tactic(auto, using(tool_parts::proofs::UnderLayouts::stops_under))]
 fn explained_from(alloc: Global, tool: Explaining, loaded: &[Vec<u8>]) -> Result<Vec<u8>, Stop>
     ensures bytes { IfOk result (λ bytes. explain_answer tool.named tool.only (map vec_items loaded.now) ≡ Done bytes.items) }
     ensures stops { IfErr result (StopsWith (explain_answer tool.named tool.only (map vec_items loaded.now))) }
@@ -122,14 +124,14 @@ fn explain_files<F: Files, I: Source, O: Sink, E: Sink>(
         only: request.only,
     };
     let job = Job {
-        speaker: "icebox_explain",
+        tool_name: "icebox_explain",
         loads: with_layout(request.layout, &loads),
         target: None,
     };
     perform(alloc, &tool, &job, files, input, output, errors)
 }
 
-// Does what the words ask for, where they are taken.
+// Does what the arguments ask for, where they are taken.
 fn do_request<F: Files, I: Source, O: Sink, E: Sink>(
     alloc: Global,
     request: Option<Request<'_>>,
@@ -145,7 +147,7 @@ fn do_request<F: Files, I: Source, O: Sink, E: Sink>(
     match request {
         Some(request) => explain_files(alloc, request, files, input, output, errors),
         None => {
-            let answer = AtOnce::NotTaken(ICEBOX_EXPLAIN_USAGE);
+            let answer = AtOnce::UsageError(ICEBOX_EXPLAIN_USAGE);
             answer_at_once(
                 alloc,
                 "icebox_explain",
@@ -159,26 +161,62 @@ fn do_request<F: Files, I: Source, O: Sink, E: Sink>(
     }
 }
 
-/// Runs `icebox_explain` with these words, of which the first is its name.
+/// `icebox_explain` by its command line.
+#[derive(Clone, Copy, Debug, PartialEq, Eq)]
+pub(crate) struct IceboxExplain;
+
+impl CommandLine for IceboxExplain {
+    ghost use Rattle.fabric_tools.specs.Explain.{icebox_explain};
+    ghost use Rattle.fabric_tools.specs.Laws.{explain-simple, explain-speaks};
+
+    ghost manual = { icebox_explain };
+
+    fn name(&self) -> &'static str {
+        "icebox_explain"
+    }
+
+    fn usage(&self) -> &'static str {
+        ICEBOX_EXPLAIN_USAGE
+    }
+
+    fn help(&self) -> &'static str {
+        ICEBOX_EXPLAIN_HELP
+    }
+
+    fn command<'a>(&self, alloc: Global) -> Result<Command<'a>, AllocError> {
+        command(alloc)
+    }
+
+    fn perform<F: Files, I: Source, O: Sink, E: Sink>(
+        &self,
+        alloc: Global,
+        matches: &ArgMatches<'_>,
+        files: &mut F,
+        input: &mut I,
+        output: &mut O,
+        errors: &mut E,
+    ) -> u8 {
+        let request = request_in(matches);
+        do_request(alloc, request, files, input, output, errors)
+    }
+
+    ghost simple = { explain-simple };
+
+    ghost speaks = { explain-speaks };
+}
+
+/// Runs `icebox_explain` with these arguments, of which the first is its name.
 pub fn run_icebox_explain<F: Files, I: Source, O: Sink, E: Sink>(
     alloc: Global,
-    words: &[String],
+    args: &[String],
     files: &mut F,
     input: &mut I,
     output: &mut O,
     errors: &mut E,
 ) -> u8
     ensures { Does (outside F.contents F.steady F.load_faults F.store_faults I.left I.faults O.held O.faults E.held E.faults)
-        (explain_outcome (map string_bytes words.now)) result
+        (explain_outcome (map string_bytes args.now)) result
         (scene files.old input.old output.old errors.old) (scene files.new input.new output.new errors.new) }
 {
-    let speaker = "icebox_explain";
-    if asks_for_help(words) {
-        let answer = AtOnce::Tells(ICEBOX_EXPLAIN_HELP);
-        return answer_at_once(alloc, speaker, answer, files, input, output, errors);
-    }
-    match request_of(alloc, words) {
-        Ok(request) => do_request(alloc, request, files, input, output, errors),
-        Err(AllocError) => give_up(speaker, files, input, output, errors),
-    }
+    run_tool(alloc, &IceboxExplain, args, files, input, output, errors)
 }

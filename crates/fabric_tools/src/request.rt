@@ -1,14 +1,14 @@
 // What the command line of `icebox_explain` asks for.
-ghost use Rattle.std.specs.Prelude.{◌≡◌, map, string_bytes, IfOk, Some, None, position, ◌==◌};
-ghost use Rattle.clap.specs.Words.{app_of};
+ghost use Rattle.std.specs.Prelude.{◌≡◌, IfOk, position, ◌==◌};
+ghost use Rattle.clap.specs.Words.{app_of, found_of, rows_of};
 ghost use Rattle.tool_run.specs.Needs.{text_of};
-ghost use Rattle.fabric_tools.specs.Explain.{explain_command, explain_task, explain_task_for, explain_task_of, tile_given, tile_in, tile_of};
+ghost use Rattle.fabric_tools.specs.Explain.{explain_command, explain_task_by, explain_task_for, explain_task_of, tile_given, tile_in, tile_of};
 
 use asc_text::TileXy;
-use clap::Command;
+use clap::{ArgMatches, Command};
 use std::alloc::{AllocError, Global};
 use text_lines::number;
-use tool_words::{long_option, parse, positional, short_option, value, with};
+use tool_parts::{long_option, positional, short_option, value, with};
 
 /// The command line of `icebox_explain`.
 pub const ICEBOX_EXPLAIN_USAGE: &str = "icebox_explain [-t \"X Y\"] [--layout FILE] DB [IMAGE]";
@@ -40,7 +40,7 @@ first fault; 2 the command line isn't taken; 3 reading failed; 4 writing failed;
 5 out of memory; 6 an input is longer than its limit.
 ";
 
-/// What the words ask for: a layout file, a database, an image, and one tile or all.
+/// What the arguments ask for: a layout file, a database, an image, and one tile or all.
 #[derive(Clone, Copy)]
 pub(crate) struct Request<'a> {
     pub(crate) only: Option<TileXy>,
@@ -90,8 +90,8 @@ fn tile_given(text: Option<&str>) -> Option<Option<TileXy>>
     }
 }
 
-// The command line as `clap` reads it.
-fn command<'a>(alloc: Global) -> Result<Command<'a>, AllocError>
+/// The command line as `clap` reads it.
+pub(crate) fn command<'a>(alloc: Global) -> Result<Command<'a>, AllocError>
     ensures { IfOk result (λ command. app_of command ≡ explain_command) }
 {
     let command = Command::new(alloc, "icebox_explain");
@@ -101,7 +101,7 @@ fn command<'a>(alloc: Global) -> Result<Command<'a>, AllocError>
     with(command, positional(alloc, "image"))
 }
 
-// What the words ask for by what was found in them: there has to be a database.
+// What the arguments ask for by what was found in them: there has to be a database.
 fn wanted<'a>(
     only: Option<Option<TileXy>>,
     layout: Option<&'a str>,
@@ -121,24 +121,13 @@ fn wanted<'a>(
     }
 }
 
-// What the words ask for, where they are taken.
-#[tactic(auto, unfolding(crate::specs::Explain::explain_task))]
-pub(crate) fn request_of<'a>(
-    alloc: Global,
-    words: &'a [String],
-) -> Result<Option<Request<'a>>, AllocError>
-    ensures { IfOk result (λ request. explain_task (map string_bytes words.entry.now) ≡ explain_task_for request) }
+// What was found in the arguments asks for.
+pub(crate) fn request_in<'a>(matches: &ArgMatches<'a>) -> Option<Request<'a>>
+    ensures { explain_task_for result ≡ explain_task_by (rows_of (found_of matches.now)) }
 {
-    let command = command(alloc)?;
-    match parse(command, words)? {
-        Some(matches) => {
-            let tile = value(&matches, "tile");
-            let only = tile_given(tile);
-            let layout = value(&matches, "layout");
-            let db = value(&matches, "db");
-            let image = value(&matches, "image");
-            Ok(wanted(only, layout, db, image))
-        }
-        None => Ok(None),
-    }
+    let only = tile_given(value(matches, "tile"));
+    let layout = value(matches, "layout");
+    let db = value(matches, "db");
+    let image = value(matches, "image");
+    wanted(only, layout, db, image)
 }

@@ -1,6 +1,14 @@
--- The tools, each by the first word of the command line, and what words ask for that name no tool.
-use Rattle.std.specs.Prelude.{ℕ, bytes_eq, codes, if◌then◌else◌, List, [], ◌∷◌, Option, None, Some}
-use Rattle.tool_run.specs.Tasks.{Done, Task, at_once, not_taken}
+-- The tools, each by the first word of the command line, and what arguments ask for that name no tool.
+use Rattle.std.specs.Prelude.{◌≡◌, ℕ, bytes_eq, codes, if◌then◌else◌, List, [], ◌∷◌, Option, None, Some}
+use Rattle.tool_run.specs.Tasks.{Answer, Done, Task, at_once, usage_error}
+use Rattle.bitstream_tools.specs.Bram.{icebram_outcome}
+use Rattle.bitstream_tools.specs.Multi.{icemulti_outcome}
+use Rattle.bitstream_tools.specs.Pack.{icepack_outcome}
+use Rattle.bitstream_tools.specs.Unpack.{iceunpack_outcome}
+use Rattle.fabric_tools.specs.Explain.{explain_outcome}
+use Rattle.module_tools.specs.Vlogrun.{vlogrun_outcome}
+use Rattle.design_tools.specs.Vlog.{vlog_outcome}
+use Rattle.job_tools.specs.Selfrun.{IsSelfrunAnswer, selfrun_outcome}
 use Rattle.icestorm_cli.specs.declared.tool.Tool.{Tool}
 use Rattle.icestorm_cli.specs.declared.tool.Tool.TheVariants.{Icepack, Iceunpack, Icemulti, Icebram, IceboxExplain, IceboxVlog, Vlogrun, Selfrun}
 use Rattle.icestorm_cli.specs.declared.tool.TheConstants.{HELP, VERSION}
@@ -18,23 +26,41 @@ tool_named word =
     else if bytes_eq word (codes "selfrun") then Some Selfrun
     else None
 
--- the tool that the words name
+-- the tool that the arguments name
 abbrev pub tool_of : List (List ℕ) → Option Tool
 tool_of [] = None
-tool_of (word ∷ words) = tool_named word
+tool_of (word ∷ args) = tool_named word
 
 abbrev pub program_name : List ℕ
 program_name = codes "icestorm"
 
--- the program's own words: `--help` and `--version`, each alone
+-- the program's own arguments: `--help` and `--version`, each alone
 abbrev pub own_outcome : List ℕ → Task
 own_outcome word =
     if bytes_eq word (codes "--help") then at_once program_name None (Done HELP.now)
     else if bytes_eq word (codes "--version") then at_once program_name None (Done VERSION.now)
-    else not_taken program_name (codes "TOOL ...")
+    else usage_error program_name (codes "TOOL ...")
 
--- what words ask for that name no tool
+-- what arguments ask for that name no tool
 unfoldable pub other_outcome : List (List ℕ) → Task
-other_outcome [] = not_taken program_name (codes "TOOL ...")
+other_outcome [] = usage_error program_name (codes "TOOL ...")
 other_outcome (word ∷ []) = own_outcome word
-other_outcome (word ∷ next ∷ words) = not_taken program_name (codes "TOOL ...")
+other_outcome (word ∷ next ∷ args) = usage_error program_name (codes "TOOL ...")
+
+-- ---- what arguments ask for
+
+-- the task of arguments by the tool that they name. `selfrun` has its answer by a relation, and each other by a function.
+abbrev pub IsOutcomeOf : Option Tool → List (List ℕ) → Task → Type 0
+IsOutcomeOf (Some Icepack) args task = task ≡ icepack_outcome args
+IsOutcomeOf (Some Iceunpack) args task = task ≡ iceunpack_outcome args
+IsOutcomeOf (Some Icemulti) args task = task ≡ icemulti_outcome args
+IsOutcomeOf (Some Icebram) args task = task ≡ icebram_outcome args
+IsOutcomeOf (Some IceboxExplain) args task = task ≡ explain_outcome args
+IsOutcomeOf (Some IceboxVlog) args task = task ≡ vlog_outcome args
+IsOutcomeOf (Some Vlogrun) args task = task ≡ vlogrun_outcome args
+IsOutcomeOf (Some Selfrun) args task = (answer : Answer) × IsSelfrunAnswer args answer × (task ≡ selfrun_outcome args answer)
+IsOutcomeOf None args task = task ≡ other_outcome args
+
+-- a task is what arguments ask for
+abbrev pub IsOutcome : List (List ℕ) → Task → Type 0
+IsOutcome args task = IsOutcomeOf (tool_of args) args task

@@ -5,6 +5,7 @@ mod answering;
 mod explaining;
 mod failing;
 mod generating;
+mod helping;
 mod joining;
 mod layouts;
 mod modules;

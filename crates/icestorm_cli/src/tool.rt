@@ -53,11 +53,11 @@ Exit status: 0 done; 1 the input is refused; 2 the command line isn't taken;
 its limit. With each but 0 one line on standard error tells why.
 ";
 
-/// The tool that the words name.
-pub fn tool_of(words: &[String]) -> Option<Tool>
-    ensures { result ≡ tool_of (map string_bytes words.now) }
+/// The tool that the arguments name.
+pub fn tool_of(args: &[String]) -> Option<Tool>
+    ensures { result ≡ tool_of (map string_bytes args.now) }
 {
-    match words {
+    match args {
         [] => None,
         [word, ..] => tool_named(word.as_str()),
     }

@@ -1,4 +1,4 @@
--- The words have exactly one answer.
+-- The arguments have exactly one answer.
 use Rattle.std.proofs.Common.{◌≡◌, ℕ, List, refl, sym, ap, ◌∙◌, subst}
 use Rattle.std.specs.Prelude.{Option, Some, None, Result, Ok, Err}
 use Rattle.plane_map.specs.declared.device.DeviceName.{DeviceName}
@@ -13,13 +13,13 @@ use Rattle.net_extract.proofs.Runs.{design-run}
 use Rattle.fabric.specs.declared.fault.FabricFault.{FabricFault}
 use Rattle.fabric.specs.Faults.{IsCause}
 use Rattle.tool_run.specs.Lines.{usage_text, refusal_text}
-use Rattle.tool_run.specs.Tasks.{Answer, Done, Refused, NotTaken}
+use Rattle.tool_run.specs.Tasks.{Answer, Done, Refused, UsageError}
 use Rattle.tool_run.specs.declared.tool.Stop.{Stop}
 use Rattle.tool_run.specs.declared.tool.Stop.TheVariants as stop
-use Rattle.fabric_tools.specs.Databases.{StopsDatabase, database_read}
-use Rattle.design_tools.specs.Faults.{StopsFor, design_fault_text, told_fault}
-use Rattle.design_tools.proofs.Databases.{read-fit}
-use Rattle.design_tools.proofs.Written.{cause-told}
+use Rattle.tool_parts.specs.Databases.{StopsDatabase, database_read}
+use Rattle.design_parts.specs.Faults.{StopsFor, design_fault_text, told_fault}
+use Rattle.tool_parts.proofs.Databases.{read-fit}
+use Rattle.design_parts.proofs.Causes.{cause-told}
 use Rattle.job_tools.specs.declared.request.Request.{Request}
 use Rattle.job_tools.specs.Counted.{counts_of, counts_text}
 use Rattle.job_tools.specs.Inside.{StopsAs}
@@ -47,7 +47,7 @@ one-by request (Err text) is = record { it = Refused text; is = refl; only = λ 
 one-by request (Ok db) is = one-with request db (read-fit (generated_database request.device) db is) (design_fault db (image_for request)) refl
 
 pub one-answer : (request : Option Request) → ExactlyOne (IsAnswerFor request)
-one-answer None = record { it = NotTaken (usage_text selfrun_usage); is = refl; only = λ other same. same }
+one-answer None = record { it = UsageError (usage_text selfrun_usage); is = refl; only = λ other same. same }
 one-answer (Some request) = one-by request (database_read (generated_database request.device)) refl
 
 pub same-answer : (request : Option Request) (one other : Answer) → IsAnswerFor request one → IsAnswerFor request other → one ≡ other
@@ -73,9 +73,9 @@ design-stops request db cause (Some fault) (stop.Refused refusal) same stops =
     subst (λ (cause : Option Fault). IsAnswerWith request db cause (Refused (refusal_text refusal))) (sym (same fault refl)) (sym (ap Refused stops))
 design-stops request db cause None stop.Memory same stops = tt
 design-stops request db cause (Some fault) stop.Memory same stops = tt
-design-stops request db cause (Some fault) (stop.NotTaken refusal) same stops = absurd stops
+design-stops request db cause (Some fault) (stop.UsageError refusal) same stops = absurd stops
 design-stops request db cause None (stop.Refused refusal) same stops = absurd stops
-design-stops request db cause None (stop.NotTaken refusal) same stops = absurd stops
+design-stops request db cause None (stop.UsageError refusal) same stops = absurd stops
 
 pub told_stops : (request : Request) (db : Database) (device : DeviceName) (fabric : Fabric) (cause : Option Fault) (fault : FabricFault) (stopped : Stop)
     → IsCause device fabric cause fault → StopsFor (told_fault fault) stopped → StopsAs (IsAnswerWith request db cause) stopped
@@ -85,5 +85,5 @@ told_stops request db device fabric cause fault stopped is stops =
 -- a text that isn't taken
 pub database_stops : (request : Request) (read : Result Database (List ℕ)) (stopped : Stop) → StopsDatabase read stopped → StopsAs (IsAnswerBy request read) stopped
 database_stops request read (stop.Refused refusal) stops = subst (λ (read : Result Database (List ℕ)). IsAnswerBy request read (Refused (refusal_text refusal))) (sym stops) refl
-database_stops request read (stop.NotTaken refusal) stops = absurd stops
+database_stops request read (stop.UsageError refusal) stops = absurd stops
 database_stops request read stop.Memory stops = tt

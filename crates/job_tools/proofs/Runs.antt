@@ -8,7 +8,7 @@ use Rattle.vlog_cycle.specs.declared.event.Event.{Event as ModuleEvent}
 use Rattle.vlog_cycle.specs.Entries.{Entry as ModuleEntry}
 use Rattle.vlog_cycle.specs.Named.{values_of}
 use Rattle.vlog_cycle.specs.Run.{followed, run_from}
-use Rattle.vlog_cycle.proofs.Runs.{last_entry}
+use Rattle.vlog_cycle.proofs.Runs.{last_entry, run-push}
 use Rattle.net_extract.specs.Fabric.{Fabric}
 use Rattle.net_extract.specs.Steps.{Entry}
 use Rattle.vlog_emit.specs.Matching.{Matches}
@@ -23,11 +23,6 @@ ones-append (true ∷ bits) more = omega (arith, ones-append bits more)
 ones-append (false ∷ bits) more = ones-append bits more
 
 -- ---- one event more
-
-run-push : (m : Parts) (entry : ModuleEntry) (events : List ModuleEvent) (event : ModuleEvent) → run_from m entry (events ++ event ∷ []) ≡ run_from m entry events ++ followed m (last_entry m entry events) event ∷ []
-unfolding run_from
-run-push m entry [] event = refl
-run-push m entry (first ∷ events) event = ap (λ entries. entry ∷ entries) (run-push m (followed m entry first) events event)
 
 pub bits-more : (m : Parts) (entry : ModuleEntry) (events : List ModuleEvent) (i : ℕ) (d : ModuleEvent) → i < length events
     → module_bits (run_from m entry (take (i + 1) events)) ≡ module_bits (run_from m entry (take i events)) ++ values_of (followed m (last_entry m entry (take i events)) (get_or events i d)).outputs

@@ -1,14 +1,13 @@
--- The command line of `selfrun`: it is simple, and what is found in the words is the request.
+-- The command line of `selfrun`: it is simple, and what is found in the arguments is the request.
 use Rattle.std.proofs.Common.{◌≡◌, ◌∙◌, Bool, true, ℕ, List, refl, sym, ap}
-use Rattle.std.specs.Prelude.{Option, None, option_map, codes, if◌then◌else◌}
+use Rattle.std.specs.Prelude.{Option, None, codes, if◌then◌else◌}
 use Rattle.std.specs.Borrow.{Bor}
 use Rattle.clap.specs.Words.{App, Row, Text, first_of, is_simple_and_free, matches_of}
 use Rattle.clap.proofs.OnLiterals.{clap_on_literals}
 use Rattle.plane_map.specs.declared.device.DeviceName.{DeviceName}
 use Rattle.plane_map.specs.DeviceWords.{device_named}
 use Rattle.tool_run.specs.Needs.{text_of}
-use Rattle.tool_run.proofs.CommandLines.{text_of-map}
-use Rattle.tool_words.specs.Commands.{is_taken}
+use Rattle.tool_parts.specs.Commands.{is_taken}
 use Rattle.job_tools.specs.declared.request.Request.{Request}
 use Rattle.job_tools.specs.Selfrun.{events_count, given, request_by, request_with, seed_of, selfrun_command, selfrun_request}
 
@@ -16,23 +15,23 @@ pub selfrun-is_simple : is_simple_and_free selfrun_command ≡ true
 unfolding clap_on_literals
 selfrun-is_simple = refl
 
-pub request-taken : (words : List Text) (taken : Bool) (rows : List Row) → is_taken selfrun_command words ≡ taken → matches_of selfrun_command words ≡ rows
-    → selfrun_request words ≡ (if taken then request_by rows else None)
+pub request-taken : (args : List Text) (taken : Bool) (rows : List Row) → is_taken selfrun_command args ≡ taken → matches_of selfrun_command args ≡ rows
+    → selfrun_request args ≡ (if taken then request_by rows else None)
 unfolding selfrun_request
-request-taken words taken rows is found = ap (λ (b : Bool). if b then request_by (matches_of selfrun_command words) else None) is ∙ ap (λ rows. if taken then request_by rows else None) found
+request-taken args taken rows is found = ap (λ (b : Bool). if b then request_by (matches_of selfrun_command args) else None) is ∙ ap (λ rows. if taken then request_by rows else None) found
 
-part-given : {A : Type 0} (part : Text → Option A) (rows : List Row) (id : Text) (text : Option (Bor (List ℕ))) → option_map (λ t. t.now) text ≡ first_of id rows → given part (text_of text) ≡ given part (first_of id rows)
-part-given part rows id text found = ap (given part) (sym (sym found ∙ text_of-map text))
+part-given : {A : Type 0} (part : Text → Option A) (rows : List Row) (id : Text) (text : Option (Bor (List ℕ))) → text_of text ≡ first_of id rows → given part (text_of text) ≡ given part (first_of id rows)
+part-given part rows id text found = ap (given part) found
 
-pub request-found : (words : List Text) (app : App) (rows : List Row) (device seed events : Option (Bor (List ℕ))) (one : Option DeviceName) (two three : Option ℕ) (request : Option Request)
-    → app ≡ selfrun_command → true ≡ is_taken app words → rows ≡ matches_of app words
-    → option_map (λ t. t.now) device ≡ first_of (codes "device") rows → option_map (λ t. t.now) seed ≡ first_of (codes "seed") rows → option_map (λ t. t.now) events ≡ first_of (codes "events") rows
+pub request-found : (args : List Text) (app : App) (rows : List Row) (device seed events : Option (Bor (List ℕ))) (one : Option DeviceName) (two three : Option ℕ) (request : Option Request)
+    → app ≡ selfrun_command → true ≡ is_taken app args → rows ≡ matches_of app args
+    → text_of device ≡ first_of (codes "device") rows → text_of seed ≡ first_of (codes "seed") rows → text_of events ≡ first_of (codes "events") rows
     → one ≡ given device_named (text_of device) → two ≡ given seed_of (text_of seed) → three ≡ given events_count (text_of events)
-    → request ≡ request_with one two three → request ≡ selfrun_request words
-request-found words app rows device seed events one two three request same taken found device_is seed_is events_is one_is two_is three_is is =
-    let here : matches_of selfrun_command words ≡ rows = sym (found ∙ ap (λ a. matches_of a words) same) in
+    → request ≡ request_with one two three → request ≡ selfrun_request args
+request-found args app rows device seed events one two three request same taken found device_is seed_is events_is one_is two_is three_is is =
+    let here : matches_of selfrun_command args ≡ rows = sym (found ∙ ap (λ a. matches_of a args) same) in
     is
     ∙ ap (λ d. request_with d two three) (one_is ∙ part-given device_named rows (codes "device") device device_is)
     ∙ ap (λ s. request_with (given device_named (first_of (codes "device") rows)) s three) (two_is ∙ part-given seed_of rows (codes "seed") seed seed_is)
     ∙ ap (request_with (given device_named (first_of (codes "device") rows)) (given seed_of (first_of (codes "seed") rows))) (three_is ∙ part-given events_count rows (codes "events") events events_is)
-    ∙ sym (request-taken words true rows (sym (taken ∙ ap (λ a. is_taken a words) same)) here)
+    ∙ sym (request-taken args true rows (sym (taken ∙ ap (λ a. is_taken a args) same)) here)

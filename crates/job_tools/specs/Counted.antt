@@ -16,7 +16,7 @@ use Rattle.net_extract.specs.Cells.{cells_of}
 use Rattle.net_extract.specs.Rams.{rams_of}
 use Rattle.net_extract.specs.Wiring.{wiring_of}
 use Rattle.net_extract.specs.Steps.{Event, Entry}
-use Rattle.design_tools.specs.Order.{write_order}
+use Rattle.design_parts.specs.Order.{write_order}
 use Rattle.job_tools.specs.declared.counts.Counts.{Counts}
 
 -- ---- events

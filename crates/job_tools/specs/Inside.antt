@@ -12,7 +12,7 @@ use Rattle.fabric.specs.Design.{IsDesignOf}
 use Rattle.tool_run.specs.Lines.{refusal_text}
 use Rattle.tool_run.specs.Tasks.{Answer, Refused as Refuses}
 use Rattle.tool_run.specs.declared.tool.Stop.{Stop}
-use Rattle.tool_run.specs.declared.tool.Stop.TheVariants.{Refused, NotTaken, Memory}
+use Rattle.tool_run.specs.declared.tool.Stop.TheVariants.{Refused, UsageError, Memory}
 use Rattle.job_tools.specs.declared.counting.Ran.{Ran}
 use Rattle.job_tools.specs.Counted.{events_for, ones_in, output_bits}
 
@@ -36,5 +36,5 @@ IsRunOf design made ran = (db : Database) (image : Configuration) → IsDesignOf
 -- a tool stops with a refusal that is an answer, or out of memory
 abbrev pub StopsAs : (Answer → Type 0) → Stop → Type 0
 StopsAs IsGiven (Refused refusal) = IsGiven (Refuses (refusal_text refusal))
-StopsAs IsGiven (NotTaken refusal) = ⊥
+StopsAs IsGiven (UsageError refusal) = ⊥
 StopsAs IsGiven Memory = Unit {0}

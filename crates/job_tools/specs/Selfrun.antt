@@ -15,10 +15,10 @@ use Rattle.net_extract.specs.Fabric.{fabric_of, inputs_of}
 use Rattle.net_extract.specs.Faults.{Fault, design_fault}
 use Rattle.net_extract.specs.Steps.{Event, Entry, IsRun}
 use Rattle.tool_run.specs.Lines.{usage_text}
-use Rattle.tool_run.specs.Tasks.{Answer, Done, Refused, NotTaken, Task, at_once, helped}
-use Rattle.tool_words.specs.Commands.{command, is_taken, positional}
-use Rattle.fabric_tools.specs.Databases.{database_read}
-use Rattle.design_tools.specs.Faults.{design_fault_text}
+use Rattle.tool_run.specs.Tasks.{Answer, Done, Refused, UsageError, Task, at_once, helped}
+use Rattle.tool_parts.specs.Commands.{command, is_taken, positional}
+use Rattle.tool_parts.specs.Databases.{database_read}
+use Rattle.design_parts.specs.Faults.{design_fault_text}
 use Rattle.job_tools.specs.declared.request.Request.{Request}
 use Rattle.job_tools.specs.declared.request.TheConstants.{SELFRUN_HELP}
 use Rattle.job_tools.specs.Counted.{counts_of, counts_text, events_for}
@@ -52,7 +52,7 @@ IsAnswerBy request (Ok db) answer = IsAnswerWith request db (design_fault db (im
 abbrev pub IsAnswer : Request → Answer → Type 0
 IsAnswer request answer = IsAnswerBy request (database_read (generated_database request.device)) answer
 
--- ---- the words
+-- ---- the arguments
 
 abbrev pub selfrun_name : List ℕ
 selfrun_name = codes "selfrun"
@@ -82,7 +82,7 @@ within_limit (Some count) = if nat_le count events_limit then Some count else No
 abbrev pub events_count : Text → Option ℕ
 events_count word = within_limit (number_of word)
 
--- a part of the words, where it is there
+-- a part of the arguments, where it is there
 abbrev pub given : {A : Type 0} → (Text → Option A) → Option Text → Option A
 given part None = None
 given part (Some word) = part word
@@ -98,21 +98,21 @@ request_by rows =
     request_with (given device_named (first_of (codes "device") rows)) (given seed_of (first_of (codes "seed") rows))
     (given events_count (first_of (codes "events") rows))
 
--- what the words of `selfrun` ask for, where they are taken
+-- what the arguments of `selfrun` ask for, where they are taken
 unfoldable pub selfrun_request : List Text → Option Request
-selfrun_request words = if is_taken selfrun_command words then request_by (matches_of selfrun_command words) else None
+selfrun_request args = if is_taken selfrun_command args then request_by (matches_of selfrun_command args) else None
 
 -- ---- the task
 
--- the answer to words that are taken, and to others
+-- the answer to arguments that are taken, and to others
 abbrev pub IsAnswerFor : Option Request → Answer → Type 0
 IsAnswerFor (Some request) answer = IsAnswer request answer
-IsAnswerFor None answer = answer ≡ NotTaken (usage_text selfrun_usage)
+IsAnswerFor None answer = answer ≡ UsageError (usage_text selfrun_usage)
 
--- whether an answer is that of the words of `selfrun`
+-- whether an answer is that of the arguments of `selfrun`
 abbrev pub IsSelfrunAnswer : List Text → Answer → Type 0
-IsSelfrunAnswer words answer = IsAnswerFor (selfrun_request words) answer
+IsSelfrunAnswer args answer = IsAnswerFor (selfrun_request args) answer
 
--- what words ask for, by their answer: their help goes before it
+-- what arguments ask for, by their answer: their help goes before it
 abbrev pub selfrun_outcome : List Text → Answer → Task
-selfrun_outcome words answer = helped selfrun_name SELFRUN_HELP.now words (at_once selfrun_name None answer)
+selfrun_outcome args answer = helped selfrun_name SELFRUN_HELP.now args (at_once selfrun_name None answer)

@@ -3,8 +3,8 @@ ghost use Rattle.std.specs.Prelude.{◌≡◌, ◌<◌, ◌++◌, All, IfOk, OnO
 ghost use Rattle.vlog_emit.specs.Matching.{module_event};
 ghost use Rattle.job_tools.specs.Counted.{event_for, events_for, is_pin_of, pin_row};
 
-use net_extract::Pin;
 use ice_gen::PinEvent;
+use net_extract::Pin;
 use std::alloc::{AllocError, Global};
 use vlog_cycle::Event;
 

@@ -12,7 +12,7 @@ use clap::Command;
 use plane_map::DeviceName;
 use std::alloc::{AllocError, Global};
 use text_lines::number;
-use tool_words::{parse, positional, value, with};
+use tool_parts::{parse, positional, value, with};
 
 /// The command line of `selfrun`.
 pub const SELFRUN_USAGE: &str = "selfrun DEVICE SEED EVENTS";
@@ -55,7 +55,7 @@ const EVENTS_LIMIT: u32 = 100_000;
 /// The most digits of a seed.
 const SEED_DIGITS: usize = 20;
 
-/// What the words ask for: a device, the seed of its design, and how many events are made.
+/// What the arguments ask for: a device, the seed of its design, and how many events are made.
 #[derive(Clone, Copy, Debug, PartialEq, Eq)]
 pub(crate) struct Request {
     pub(crate) device: DeviceName,
@@ -151,7 +151,7 @@ fn events_given(word: Option<&str>) -> Option<u32>
     }
 }
 
-// What the words ask for by what was found in them: all three have to be there.
+// What the arguments ask for by what was found in them: all three have to be there.
 fn wanted(device: Option<DeviceName>, seed: Option<u64>, events: Option<u32>) -> Option<Request>
     ensures { result ≡ request_with device seed events }
 {
@@ -175,13 +175,13 @@ fn command<'a>(alloc: Global) -> Result<Command<'a>, AllocError>
     with(command, positional(alloc, "events"))
 }
 
-// What the words ask for, where they are taken.
+// What the arguments ask for, where they are taken.
 #[tactic(auto, unfolding(crate::specs::Selfrun::selfrun_request))]
-pub(crate) fn request_of(alloc: Global, words: &[String]) -> Result<Option<Request>, AllocError>
-    ensures { IfOk result (λ request. request ≡ selfrun_request (map string_bytes words.entry.now)) }
+pub(crate) fn request_of(alloc: Global, args: &[String]) -> Result<Option<Request>, AllocError>
+    ensures { IfOk result (λ request. request ≡ selfrun_request (map string_bytes args.entry.now)) }
 {
     let command = command(alloc)?;
-    match parse(command, words)? {
+    match parse(command, args)? {
         Some(matches) => {
             let device = device_given(value(&matches, "device"));
             let seed = seed_given(value(&matches, "seed"));

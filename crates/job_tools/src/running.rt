@@ -10,7 +10,7 @@ ghost use Rattle.net_extract.specs.Unique.{ExactlyOne};
 ghost use Rattle.fabric.specs.Design.{IsDesignOf};
 ghost use Rattle.tool_run.specs.Runs.{Does, outside, scene};
 ghost use Rattle.tool_run.specs.Tasks.{Answer, Done, at_once};
-ghost use Rattle.fabric_tools.specs.Databases.{database_read};
+ghost use Rattle.tool_parts.specs.Databases.{database_read};
 ghost use Rattle.job_tools.specs.Counted.{counts_of};
 ghost use Rattle.job_tools.specs.Inside.{StopsAs};
 ghost use Rattle.job_tools.specs.Selfrun.{IsAnswer, IsAnswerBy, IsAnswerWith, IsCounted, IsSelfrunAnswer, image_for, run_events, selfrun_name, selfrun_outcome};
@@ -19,13 +19,13 @@ use crate::counting::{Packed, explained_lines, pack, run};
 use crate::counts::{Counts, text_of};
 use crate::request::{Request, SELFRUN_HELP, SELFRUN_USAGE, request_of};
 use chipdb_reader::ChipDb;
-use design_tools::design_stop;
+use design_parts::design_stop;
 use fabric::{Design, design};
-use fabric_tools::read_database;
 use ice_gen::{chipdb, image};
 use ice_image::AnyImage;
 use ice_io::{Files, Sink, Source};
 use std::alloc::{AllocError, Global};
+use tool_parts::read_database;
 use tool_run::{AtOnce, Job, Stop, Tool, answer_at_once, asks_for_help, give_up, perform};
 
 /// Tells a text that was made.
@@ -153,11 +153,11 @@ fn tell<F: Files, I: Source, O: Sink, E: Sink>(
         (at_once selfrun_name None answer) result
         (scene files.old input.old output.old errors.old) (scene files.new input.new output.new errors.new) }
 {
-    let speaker = "selfrun";
+    let tool_name = "selfrun";
     match told(alloc, request) {
         Ok(text) => {
             let job = Job {
-                speaker,
+                tool_name,
                 loads: &[],
                 target: None,
             };
@@ -166,56 +166,56 @@ fn tell<F: Files, I: Source, O: Sink, E: Sink>(
         }
         Err(Stop::Refused(refusal)) => {
             let answer = AtOnce::Refuses(refusal);
-            answer_at_once(alloc, speaker, answer, files, input, output, errors)
+            answer_at_once(alloc, tool_name, answer, files, input, output, errors)
         }
-        Err(Stop::NotTaken(_)) => unreachable!(),
-        Err(Stop::Memory) => give_up(speaker, files, input, output, errors),
+        Err(Stop::UsageError(_)) => unreachable!(),
+        Err(Stop::Memory) => give_up(tool_name, files, input, output, errors),
     }
 }
 
-// Does what the words ask for.
-fn do_words<F: Files, I: Source, O: Sink, E: Sink>(
+// Does what the arguments ask for.
+fn do_args<F: Files, I: Source, O: Sink, E: Sink>(
     alloc: Global,
-    words: &[String],
+    args: &[String],
     files: &mut F,
     input: &mut I,
     output: &mut O,
     errors: &mut E,
 ) -> u8
-    ensures { (answer : Answer) → IsSelfrunAnswer (map string_bytes words.now) answer
+    ensures { (answer : Answer) → IsSelfrunAnswer (map string_bytes args.now) answer
         → Does (outside F.contents F.steady F.load_faults F.store_faults I.left I.faults O.held O.faults E.held E.faults)
         (at_once selfrun_name None answer) result
         (scene files.old input.old output.old errors.old) (scene files.new input.new output.new errors.new) }
 {
-    let speaker = "selfrun";
-    match request_of(alloc, words) {
+    let tool_name = "selfrun";
+    match request_of(alloc, args) {
         Ok(Some(request)) => tell(alloc, request, files, input, output, errors),
         Ok(None) => {
-            let answer = AtOnce::NotTaken(SELFRUN_USAGE);
-            answer_at_once(alloc, speaker, answer, files, input, output, errors)
+            let answer = AtOnce::UsageError(SELFRUN_USAGE);
+            answer_at_once(alloc, tool_name, answer, files, input, output, errors)
         }
-        Err(AllocError) => give_up(speaker, files, input, output, errors),
+        Err(AllocError) => give_up(tool_name, files, input, output, errors),
     }
 }
 
-/// Runs `selfrun` with these words, of which the first is its name.
+/// Runs `selfrun` with these arguments, of which the first is its name.
 pub fn run_selfrun<F: Files, I: Source, O: Sink, E: Sink>(
     alloc: Global,
-    words: &[String],
+    args: &[String],
     files: &mut F,
     input: &mut I,
     output: &mut O,
     errors: &mut E,
 ) -> u8
-    ensures one_answer { ExactlyOne (IsSelfrunAnswer (map string_bytes words.now)) }
-    ensures does { (answer : Answer) → IsSelfrunAnswer (map string_bytes words.now) answer
+    ensures one_answer { ExactlyOne (IsSelfrunAnswer (map string_bytes args.now)) }
+    ensures does { (answer : Answer) → IsSelfrunAnswer (map string_bytes args.now) answer
         → Does (outside F.contents F.steady F.load_faults F.store_faults I.left I.faults O.held O.faults E.held E.faults)
-        (selfrun_outcome (map string_bytes words.now) answer) result
+        (selfrun_outcome (map string_bytes args.now) answer) result
         (scene files.old input.old output.old errors.old) (scene files.new input.new output.new errors.new) }
 {
-    if asks_for_help(words) {
+    if asks_for_help(args) {
         let answer = AtOnce::Tells(SELFRUN_HELP);
         return answer_at_once(alloc, "selfrun", answer, files, input, output, errors);
     }
-    do_words(alloc, words, files, input, output, errors)
+    do_args(alloc, args, files, input, output, errors)
 }

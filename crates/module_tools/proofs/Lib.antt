@@ -1,2 +1,2 @@
-mod CommandLines
+-- What a text is that spells a module, and one that has a fault
 mod Outcomes

@@ -1,14 +1,15 @@
 -- `vlogrun`: the run of a module over a list of events.
-use Rattle.std.specs.Prelude.{ℕ, Bool, List, [], ◌∷◌, codes, get_or, if◌then◌else◌, Option, None, Some, Result, Ok, Err}
-use Rattle.clap.specs.Words.{App, Row, Text, first_of, matches_of}
+use Rattle.std.specs.Prelude.{ℕ, Bool, List, [], ◌∷◌, codes, get_or, Option, None, Some, Result, Ok, Err}
+use Rattle.clap.specs.Words.{App, Row, Text, first_of}
 use Rattle.vlog_module.specs.Parts.{Parts}
 use Rattle.vlog_forms.specs.Outcome.{Fault, outcome_of}
 use Rattle.vlog_cycle.specs.declared.event.EventFault.{EventFault}
 use Rattle.vlog_cycle.specs.Events.{event_fault, events_of}
 use Rattle.vlog_cycle.specs.Text.{run_text}
 use Rattle.tool_run.specs.Needs.{Need, text_of}
-use Rattle.tool_run.specs.Tasks.{Answer, Done, Refused, Task, helped, not_taken}
-use Rattle.tool_words.specs.Commands.{command, flag, has_flag, is_taken, positional, required}
+use Rattle.tool_run.specs.Tasks.{Answer, Done, Refused, Task, usage_error}
+use Rattle.tool_parts.specs.Outcomes.{Manual, outcome}
+use Rattle.tool_parts.specs.Commands.{command, flag, has_flag, positional, required}
 use Rattle.module_tools.specs.declared.request.Request.{Request}
 use Rattle.module_tools.specs.declared.request.TheConstants.{VLOGRUN_HELP}
 use Rattle.module_tools.specs.Faults.{event_fault_text, vlog_fault_text}
@@ -52,27 +53,25 @@ abbrev pub run_needs : Text → Option Text → List Need
 run_needs text events = record { name = Some text; limit = module_limit } ∷ record { name = events; limit = events_limit } ∷ []
 
 abbrev pub run_task : Bool → Text → Option Text → Task
-run_task registers text events = record { speaker = vlogrun_name; needs = run_needs text events; target = None; answer = vlogrun_answer registers }
+run_task registers text events = record { tool_name = vlogrun_name; needs = run_needs text events; target = None; answer = vlogrun_answer registers }
 
 -- there has to be a module
 abbrev pub vlogrun_task_of : Bool → Option Text → Option Text → Task
 vlogrun_task_of registers (Some text) events = run_task registers text events
-vlogrun_task_of registers None events = not_taken vlogrun_name vlogrun_usage
+vlogrun_task_of registers None events = usage_error vlogrun_name vlogrun_usage
 
 abbrev pub vlogrun_task_by : List Row → Task
 vlogrun_task_by rows = vlogrun_task_of (has_flag (codes "registers") rows) (first_of (codes "module") rows) (first_of (codes "events") rows)
 
--- what the words of `vlogrun` ask for
-unfoldable pub vlogrun_task : List Text → Task
-vlogrun_task words =
-    if is_taken vlogrun_command words then vlogrun_task_by (matches_of vlogrun_command words)
-    else not_taken vlogrun_name vlogrun_usage
+-- the tool
+abbrev pub vlogrun : Manual
+vlogrun = record { name = vlogrun_name; usage = vlogrun_usage; help = VLOGRUN_HELP.now; app = vlogrun_command; task = vlogrun_task_by }
 
--- the same by the request that was found in the words, where they are taken
-abbrev pub vlogrun_task_for : Option Request → Task
-vlogrun_task_for None = not_taken vlogrun_name vlogrun_usage
-vlogrun_task_for (Some request) = run_task request.registers request.«module».now (text_of request.events)
-
--- what the words of `vlogrun` ask for, its help among that
+-- what the arguments of `vlogrun` ask for, its help among that
 abbrev pub vlogrun_outcome : List Text → Task
-vlogrun_outcome words = helped vlogrun_name VLOGRUN_HELP.now words (vlogrun_task words)
+vlogrun_outcome args = outcome vlogrun args
+
+-- the task of the request that was found in the arguments
+abbrev pub vlogrun_task_for : Option Request → Task
+vlogrun_task_for None = usage_error vlogrun_name vlogrun_usage
+vlogrun_task_for (Some request) = run_task request.registers request.«module».now (text_of request.events)

@@ -1,10 +1,11 @@
 // What a tool says of a fault.
 ghost use Rattle.std.specs.Prelude.{◌≡◌, ◌++◌, codes};
-ghost use Rattle.tool_run.specs.Lines.{phrase_text, refusal_text};
+ghost use Rattle.tool_run.specs.Lines.{refusal_text};
 ghost use Rattle.vlog_forms.specs.Outcome.{fault};
 ghost use Rattle.module_tools.specs.Faults.{event_fault_text, vlog_cause_text, vlog_fault_text};
 
-use tool_run::{Phrase, Refusal, decimal, text};
+use tool_parts::{refusal, whole};
+use tool_run::{Refusal, decimal, text};
 use vlog_cycle::EventFault;
 use vlog_text::VlogCause;
 
@@ -20,23 +21,11 @@ fn vlog_cause_text(cause: VlogCause) -> &'static str
     }
 }
 
-// A refusal: where, and the cause.
-fn refusal(place: Phrase, cause: &'static str) -> Refusal
-    ensures { refusal_text result ≡ phrase_text place ++ cause.now }
-{
-    Refusal {
-        first: place,
-        second: text(cause),
-        third: text(""),
-        fourth: text(""),
-    }
-}
-
 /// The fault of the text of a module.
 pub(crate) fn vlog_refusal(offset: u64, cause: VlogCause) -> Refusal
     ensures { refusal_text result ≡ vlog_fault_text (fault offset cause) }
 {
-    refusal(decimal("offset ", offset), vlog_cause_text(cause))
+    refusal(decimal("offset ", offset), text(vlog_cause_text(cause)))
 }
 
 /// The fault of a list of events.
@@ -44,8 +33,8 @@ pub(crate) fn event_refusal(fault: EventFault) -> Refusal
     ensures { refusal_text result ≡ event_fault_text fault }
 {
     match fault {
-        EventFault::Form { line } => refusal(decimal("line ", line), ": Form"),
-        EventFault::Pin { line } => refusal(decimal("line ", line), ": Pin"),
-        EventFault::Memory(_) => refusal(text("out of memory"), ""),
+        EventFault::Form { line } => refusal(decimal("line ", line), text(": Form")),
+        EventFault::Pin { line } => refusal(decimal("line ", line), text(": Pin")),
+        EventFault::Memory(_) => whole("out of memory"),
     }
 }

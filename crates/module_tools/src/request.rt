@@ -1,12 +1,12 @@
 // What the command line of `vlogrun` asks for.
-ghost use Rattle.std.specs.Prelude.{◌≡◌, map, string_bytes, IfOk};
-ghost use Rattle.clap.specs.Words.{app_of};
+ghost use Rattle.std.specs.Prelude.{◌≡◌, IfOk};
+ghost use Rattle.clap.specs.Words.{app_of, found_of, rows_of};
 ghost use Rattle.tool_run.specs.Needs.{text_of};
-ghost use Rattle.module_tools.specs.Vlogrun.{vlogrun_command, vlogrun_task, vlogrun_task_for, vlogrun_task_of};
+ghost use Rattle.module_tools.specs.Vlogrun.{vlogrun_command, vlogrun_task_by, vlogrun_task_for, vlogrun_task_of};
 
-use clap::Command;
+use clap::{ArgMatches, Command};
 use std::alloc::{AllocError, Global};
-use tool_words::{flag, has_flag, parse, positional, required, value, with};
+use tool_parts::{flag, has_flag, positional, required, value, with};
 
 /// The command line of `vlogrun`.
 pub const VLOGRUN_USAGE: &str = "vlogrun [-s] MODULE [EVENTS]";
@@ -41,7 +41,7 @@ taken; 3 reading failed; 4 writing failed; 5 out of memory; 6 an input is longer
 than its limit.
 ";
 
-/// What the words ask for: the module, the events, and whether registers are shown.
+/// What the arguments ask for: the module, the events, and whether registers are shown.
 #[derive(Clone, Copy)]
 pub(crate) struct Request<'a> {
     pub(crate) registers: bool,
@@ -49,7 +49,7 @@ pub(crate) struct Request<'a> {
     pub(crate) events: Option<&'a str>,
 }
 
-// What the words ask for by what was found in them: there has to be a module.
+// What the arguments ask for by what was found in them: there has to be a module.
 fn wanted<'a>(
     registers: bool,
     module: Option<&'a str>,
@@ -67,8 +67,8 @@ fn wanted<'a>(
     }
 }
 
-// The command line as `clap` reads it.
-fn command<'a>(alloc: Global) -> Result<Command<'a>, AllocError>
+/// The command line as `clap` reads it.
+pub(crate) fn command<'a>(alloc: Global) -> Result<Command<'a>, AllocError>
     ensures { IfOk result (λ command. app_of command ≡ vlogrun_command) }
 {
     let command = Command::new(alloc, "vlogrun");
@@ -77,22 +77,12 @@ fn command<'a>(alloc: Global) -> Result<Command<'a>, AllocError>
     with(command, positional(alloc, "events"))
 }
 
-// What the words ask for, where they are taken.
-#[tactic(auto, unfolding(crate::specs::Vlogrun::vlogrun_task))]
-pub(crate) fn request_of<'a>(
-    alloc: Global,
-    words: &'a [String],
-) -> Result<Option<Request<'a>>, AllocError>
-    ensures { IfOk result (λ request. vlogrun_task (map string_bytes words.entry.now) ≡ vlogrun_task_for request) }
+// What was found in the arguments asks for.
+pub(crate) fn request_in<'a>(matches: &ArgMatches<'a>) -> Option<Request<'a>>
+    ensures { vlogrun_task_for result ≡ vlogrun_task_by (rows_of (found_of matches.now)) }
 {
-    let command = command(alloc)?;
-    match parse(command, words)? {
-        Some(matches) => {
-            let registers = has_flag(&matches, "registers");
-            let module = value(&matches, "module");
-            let events = value(&matches, "events");
-            Ok(wanted(registers, module, events))
-        }
-        None => Ok(None),
-    }
+    let registers = has_flag(matches, "registers");
+    let module = value(matches, "module");
+    let events = value(matches, "events");
+    wanted(registers, module, events)
 }

@@ -8,12 +8,12 @@ ghost use Rattle.vlog_forms.specs.Outcome.{outcome_of};
 ghost use Rattle.module_tools.specs.Vlogrun.{run_of, run_over, vlogrun_outcome, vlogrun_task_for};
 
 use crate::faults::{event_refusal, vlog_refusal};
-use crate::request::{Request, VLOGRUN_HELP, VLOGRUN_USAGE, request_of};
+use crate::request::{Request, VLOGRUN_HELP, VLOGRUN_USAGE, command, request_in};
+use clap::{ArgMatches, Command};
 use ice_io::{Files, Sink, Source};
 use std::alloc::{AllocError, Global};
-use tool_run::{
-    AtOnce, Job, Load, Stop, Tool, answer_at_once, asks_for_help, give_up, loaded_at, perform,
-};
+use tool_parts::{CommandLine, run_tool};
+use tool_run::{AtOnce, Job, Load, Stop, Tool, answer_at_once, loaded_at, perform};
 use vlog_cycle::{EventFault, read_events, run_text};
 use vlog_text::{Module, VlogFault, parse};
 
@@ -104,37 +104,91 @@ fn run_files<F: Files, I: Source, O: Sink, E: Sink>(
         registers: request.registers,
     };
     let job = Job {
-        speaker: "vlogrun",
+        tool_name: "vlogrun",
         loads: &loads,
         target: None,
     };
     perform(alloc, &tool, &job, files, input, output, errors)
 }
 
-/// Runs `vlogrun` with these words, of which the first is its name.
-pub fn run_vlogrun<F: Files, I: Source, O: Sink, E: Sink>(
+// Does what the arguments ask for.
+fn do_request<F: Files, I: Source, O: Sink, E: Sink>(
     alloc: Global,
-    words: &[String],
+    request: Option<Request<'_>>,
     files: &mut F,
     input: &mut I,
     output: &mut O,
     errors: &mut E,
 ) -> u8
     ensures { Does (outside F.contents F.steady F.load_faults F.store_faults I.left I.faults O.held O.faults E.held E.faults)
-        (vlogrun_outcome (map string_bytes words.now)) result
+        (vlogrun_task_for request.entry) result
         (scene files.old input.old output.old errors.old) (scene files.new input.new output.new errors.new) }
 {
-    let speaker = "vlogrun";
-    if asks_for_help(words) {
-        let answer = AtOnce::Tells(VLOGRUN_HELP);
-        return answer_at_once(alloc, speaker, answer, files, input, output, errors);
-    }
-    match request_of(alloc, words) {
-        Ok(Some(request)) => run_files(alloc, request, files, input, output, errors),
-        Ok(None) => {
-            let answer = AtOnce::NotTaken(VLOGRUN_USAGE);
-            answer_at_once(alloc, speaker, answer, files, input, output, errors)
+    match request {
+        Some(request) => run_files(alloc, request, files, input, output, errors),
+        None => {
+            let answer = AtOnce::UsageError(VLOGRUN_USAGE);
+            answer_at_once(alloc, "vlogrun", answer, files, input, output, errors)
         }
-        Err(AllocError) => give_up(speaker, files, input, output, errors),
     }
+}
+
+/// `vlogrun` by its command line.
+#[derive(Clone, Copy, Debug, PartialEq, Eq)]
+pub(crate) struct Vlogrun;
+
+impl CommandLine for Vlogrun {
+    ghost use Rattle.module_tools.specs.Vlogrun.{vlogrun};
+    ghost use Rattle.module_tools.specs.Laws.{vlogrun-simple, vlogrun-speaks};
+
+    ghost manual = { vlogrun };
+
+    fn name(&self) -> &'static str {
+        "vlogrun"
+    }
+
+    fn usage(&self) -> &'static str {
+        VLOGRUN_USAGE
+    }
+
+    fn help(&self) -> &'static str {
+        VLOGRUN_HELP
+    }
+
+    fn command<'a>(&self, alloc: Global) -> Result<Command<'a>, AllocError> {
+        command(alloc)
+    }
+
+    fn perform<F: Files, I: Source, O: Sink, E: Sink>(
+        &self,
+        alloc: Global,
+        matches: &ArgMatches<'_>,
+        files: &mut F,
+        input: &mut I,
+        output: &mut O,
+        errors: &mut E,
+    ) -> u8 {
+        let request = request_in(matches);
+        do_request(alloc, request, files, input, output, errors)
+    }
+
+    ghost simple = { vlogrun-simple };
+
+    ghost speaks = { vlogrun-speaks };
+}
+
+/// Runs `vlogrun` with these arguments, of which the first is its name.
+pub fn run_vlogrun<F: Files, I: Source, O: Sink, E: Sink>(
+    alloc: Global,
+    args: &[String],
+    files: &mut F,
+    input: &mut I,
+    output: &mut O,
+    errors: &mut E,
+) -> u8
+    ensures { Does (outside F.contents F.steady F.load_faults F.store_faults I.left I.faults O.held O.faults E.held E.faults)
+        (vlogrun_outcome (map string_bytes args.now)) result
+        (scene files.old input.old output.old errors.old) (scene files.new input.new output.new errors.new) }
+{
+    run_tool(alloc, &Vlogrun, args, files, input, output, errors)
 }

@@ -54,7 +54,7 @@ fn takes_a_design_through_all_tools(rt: HostRuntime) {
 }
 
 /// Words that aren't taken: too few, another device, a seed and a count past their limits, and no numbers.
-static NOT_TAKEN: [&[&str]; 6] = [
+static USAGE_ERROR: [&[&str]; 6] = [
     &["selfrun", "1k", "7"],
     &["selfrun", "5k", "7", "10"],
     &["selfrun", "1k", "18446744073709551616", "10"],
@@ -71,7 +71,7 @@ fn takes_not(alloc: Global, words: &[&str]) -> Result<bool, AllocError> {
 
 #[test]
 fn takes_no_other_words(rt: HostRuntime) {
-    for words in &NOT_TAKEN {
+    for words in &USAGE_ERROR {
         assert!(rt; takes_not(rt.alloc(), words) == Ok(true), "of {:?}", words);
     }
 }

@@ -25,7 +25,7 @@ const USAGE: &str = "icestorm: usage: TOOL ...\n";
 /// A command line, its status and its line.
 type Refused = (&'static [&'static str], u8, &'static str);
 
-static NOT_TAKEN: [Refused; 26] = [
+static USAGE_ERROR: [Refused; 26] = [
     (&["icepack", "a", "b", "c"], 2, ICEPACK_USAGE),
     (&["icepack", "-x"], 2, ICEPACK_USAGE),
     (&["icepack", "-u", "-s"], 2, ICEPACK_USAGE),
@@ -93,7 +93,7 @@ fn is_refused(alloc: Global, refused: &Refused) -> Result<bool, AllocError> {
 
 #[test]
 fn tells_the_usage(rt: HostRuntime) {
-    for refused in &NOT_TAKEN {
+    for refused in &USAGE_ERROR {
         assert!(rt;
             is_refused(rt.alloc(), refused) == Ok(true),
             "of {:?}",

@@ -3,7 +3,7 @@ use Rattle.tool_run.specs.Needs.{IsSound, Need, text_of}
 use Rattle.tool_run.specs.Tasks.{Task}
 use Rattle.tool_run.proofs.Same.{Does-same}
 use Rattle.bitstream_tools.specs.Pack.{icepack_name, pack_answer, text_limit}
-use Rattle.bitstream_tools.proofs.UnderLayouts.{named-is, needs-are, needs-sound, one-sound}
+use Rattle.tool_parts.proofs.UnderLayouts.{named-is, needs-are, needs-sound, one-sound}
 use Rattle.bitstream_tools.proofs.pack.pack_between.Goals as goal
 
 pub perform_in_pieces-requires-clause-sound : goal.perform_in_pieces-requires-clause-sound
@@ -17,5 +17,5 @@ returns g c =
     let names = c.args.names in
     let needed = needs-are names.layout (record { name = names.input; limit = text_limit } ∷ []) c.with_layout.result.now c.with_layout.ensures in
     let task : List Need → Bool → Task =
-    λ needs named. record { speaker = icepack_name; needs = needs; target = text_of names.output; answer = pack_answer named c.args.no_sleep } in
+    λ needs named. record { tool_name = icepack_name; needs = needs; target = text_of names.output; answer = pack_answer named c.args.no_sleep } in
     Does-same _ _ _ _ _ _ (ap₂ task needed (c.is_some.ensures ∙ named-is names.layout)) c.perform_in_pieces.ensures

@@ -3,4 +3,4 @@ use Rattle.design_tools.proofs.Fabric.{promise-kept}
 use Rattle.design_tools.proofs.writing.run_icebox_vlog.Goals as goal
 
 pub returns-clause-fabric : goal.returns-clause-fabric
-returns-clause-fabric g c = promise-kept _ (map string_bytes c.args.words.now) _ _ _ c.do_words.ensures
+returns-clause-fabric g c = promise-kept _ (map string_bytes c.args.args.now) _ _ _ c.run_tool.ensures

@@ -3,21 +3,22 @@ use Rattle.std.specs.Prelude.{None, Some}
 use Rattle.tool_run.specs.Needs.{IsSound, Need, need_of, text_of}
 use Rattle.tool_run.specs.Tasks.{Task}
 use Rattle.tool_run.proofs.Same.{Does-same}
-use Rattle.bitstream_tools.specs.Pack.{text_limit}
-use Rattle.bitstream_tools.proofs.UnderLayouts.{file-sound, named-is, needs-are, needs-sound, one-sound}
-use Rattle.fabric_tools.specs.Explain.{database_limit, explain_answer, explain_name}
+use Rattle.tool_parts.specs.Images.{image_limit}
+use Rattle.tool_parts.proofs.UnderLayouts.{file-sound, named-is, needs-are, needs-sound, one-sound}
+use Rattle.tool_parts.specs.Databases.{database_limit}
+use Rattle.fabric_tools.specs.Explain.{explain_answer, explain_name}
 use Rattle.fabric_tools.proofs.explaining.explain_files.Goals as goal
 
 pub perform-requires : goal.perform-requires
 perform-requires g c =
     let request = c.args.request in
-    let needed = needs-are request.layout (record { name = Some request.db; limit = database_limit } ∷ record { name = request.image; limit = text_limit } ∷ []) c.with_layout.result.now c.with_layout.ensures in
+    let needed = needs-are request.layout (record { name = Some request.db; limit = database_limit } ∷ record { name = request.image; limit = image_limit } ∷ []) c.with_layout.result.now c.with_layout.ensures in
     subst (λ (needs : List Need). IsSound needs) (sym needed) (needs-sound (text_of request.layout) _ (file-sound _ database_limit _ (omega arith) (one-sound _ (omega arith))))
 
 pub returns : goal.returns
 returns g c =
     let request = c.args.request in
-    let needed = needs-are request.layout (record { name = Some request.db; limit = database_limit } ∷ record { name = request.image; limit = text_limit } ∷ []) c.with_layout.result.now c.with_layout.ensures in
+    let needed = needs-are request.layout (record { name = Some request.db; limit = database_limit } ∷ record { name = request.image; limit = image_limit } ∷ []) c.with_layout.result.now c.with_layout.ensures in
     let task : List Need → Bool → Task =
-    λ needs named. record { speaker = explain_name; needs = needs; target = None; answer = explain_answer named request.only } in
+    λ needs named. record { tool_name = explain_name; needs = needs; target = None; answer = explain_answer named request.only } in
     Does-same _ _ _ _ _ _ (ap₂ task needed (c.is_some.ensures ∙ named-is request.layout)) c.perform.ensures

@@ -28,7 +28,7 @@ loop-event-preserved c =
     let within : i < length events = omega arith in
     let before = last_entry m (start m) (take i events) in
     let next = followed m before (get_or events i none) in
-    let shows : Shows c.event.new.self m next = c.event.ensures m before c.loop-event.invariant.shows (c.requires i none within) in
+    let shows : Shows c.event.new.self m next = c.event.ensures.shows m before c.loop-event.invariant.shows in
     record {
       shows = subst (λ entry. Shows c.event.new.self m entry) (sym (last-more m (start m) events i none within)) shows;
       ones_are = ap₂ (λ one other. one + other) c.loop-event.invariant.ones_are (c.ones_in-ones-in-loop-event.ensures.ones ∙ ap ones_in (c.outputs-in-loop-event.ensures m next shows))

@@ -10,10 +10,10 @@ parse-requires c = ap is_simple_and_free c.in_ok-command.ensures ∙ selfrun-is_
 
 pub returns-in-Some : goal.returns-in-Some
 returns-in-Some c =
-    let words = map string_bytes c.args.words.now in
+    let args = map string_bytes c.args.args.now in
     let app = app_of c.in_ok-command.command in
-    let holds : Option ArgMatches → Type 0 = λ found. IfSome found (λ m. rows_of (found_of m) ≡ matches_of app words) in
-    request-found words app (rows_of (found_of c.in-Some.matches)) c.value.result c.value-in-Some.result c.value-in-Some-2.result
+    let holds : Option ArgMatches → Type 0 = λ found. IfSome found (λ m. rows_of (found_of m) ≡ matches_of app args) in
+    request-found args app (rows_of (found_of c.in-Some.matches)) c.value.result c.value-in-Some.result c.value-in-Some-2.result
     c.device_given-device.result c.seed_given-seed.result c.events_given-events.result c.wanted.result c.in_ok-command.ensures
     (ap is_some (sym c.in-Some.is) ∙ c.in_ok-matches.ensures.taken) (subst holds c.in-Some.is c.in_ok-matches.ensures.rows) c.value.ensures c.value-in-Some.ensures c.value-in-Some-2.ensures
     c.device_given-device.ensures c.seed_given-seed.ensures c.events_given-events.ensures c.wanted.ensures

@@ -6,7 +6,7 @@ use Rattle.chipdb_reader.specs.Kept.{database_in}
 use Rattle.tile_bits.specs.Explained.{explained}
 use Rattle.net_extract.specs.Fabric.{fabric_of}
 use Rattle.net_extract.specs.Wiring.{wiring_of}
-use Rattle.design_tools.proofs.Order.{order-is}
+use Rattle.design_parts.proofs.Order.{order-is}
 use Rattle.job_tools.specs.Counted.{counts_of}
 use Rattle.job_tools.specs.Selfrun.{image_for}
 use Rattle.job_tools.proofs.Devices.{taken-device}

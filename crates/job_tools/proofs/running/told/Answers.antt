@@ -1,7 +1,7 @@
 use Rattle.std.proofs.Common.{◌∙◌, List, ℕ, subst}
 use Rattle.std.specs.Prelude.{IfOk, IfErr}
 use Rattle.tool_run.specs.Tasks.{Done}
-use Rattle.fabric_tools.specs.Databases.{database_read}
+use Rattle.tool_parts.specs.Databases.{database_read}
 use Rattle.job_tools.specs.Inside.{StopsAs}
 use Rattle.job_tools.specs.Selfrun.{IsAnswerBy}
 use Rattle.job_tools.proofs.running.told.Goals as goal

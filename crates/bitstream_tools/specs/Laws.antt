@@ -1,0 +1,68 @@
+-- What holds of the command lines of the tools: each command is simple, and each task is told under the name of its tool.
+use Rattle.std.specs.Prelude.{◌≡◌, Bool, true, false, List, codes, length, map, refl, Option, None, Some}
+use Rattle.clap.specs.Words.{Row, Text, first_of, is_simple_and_free}
+use Rattle.clap.proofs.OnLiterals.{clap_on_literals}
+use Rattle.multi_boot.specs.declared.options.Options.{Options}
+use Rattle.multi_boot.specs.declared.fault.MultiFault.{MultiFault}
+use Rattle.multi_boot.specs.Refusals.{check_fault}
+use Rattle.tool_run.specs.Needs.{Need}
+use Rattle.tool_parts.specs.Commands.{has_flag, values_of}
+use Rattle.bitstream_tools.specs.Bram.{icebram_command, icebram_name, icebram_task_by, icebram_task_of}
+use Rattle.bitstream_tools.specs.Multi.{icemulti_command, icemulti_name, icemulti_task_by, icemulti_task_of, image_need, join_task, options_in}
+use Rattle.bitstream_tools.specs.Pack.{icepack_command, icepack_name, icepack_task_by, icepack_task_of}
+use Rattle.bitstream_tools.specs.Unpack.{iceunpack_command, iceunpack_name, iceunpack_task_by}
+
+-- ---- iceunpack
+
+pub iceunpack-simple : is_simple_and_free iceunpack_command ≡ true
+unfolding clap_on_literals
+iceunpack-simple = refl
+
+pub iceunpack-speaks : (rows : List Row) → (iceunpack_task_by rows).tool_name ≡ iceunpack_name
+iceunpack-speaks rows = refl
+
+-- ---- icepack
+
+pub icepack-simple : is_simple_and_free icepack_command ≡ true
+unfolding clap_on_literals
+icepack-simple = refl
+
+pack-speaks : (unpacks no_sleep : Bool) (layout input output : Option Text) → (icepack_task_of unpacks no_sleep layout input output).tool_name ≡ icepack_name
+pack-speaks false no_sleep layout input output = refl
+pack-speaks true false layout input output = refl
+pack-speaks true true layout input output = refl
+
+pub icepack-speaks : (rows : List Row) → (icepack_task_by rows).tool_name ≡ icepack_name
+icepack-speaks rows =
+    pack-speaks (has_flag (codes "unpack") rows) (has_flag (codes "no_sleep") rows) (first_of (codes "layout") rows) (first_of (codes "input") rows) (first_of (codes "output") rows)
+
+-- ---- icemulti
+
+pub icemulti-simple : is_simple_and_free icemulti_command ≡ true
+unfolding clap_on_literals
+icemulti-simple = refl
+
+checked-speaks : (images : List Need) (options : Options) (output : Option Text) (fault : Option MultiFault) → (join_task images options output fault).tool_name ≡ icemulti_name
+checked-speaks images options output None = refl
+checked-speaks images options output (Some fault) = refl
+
+multi-speaks : (images : List Need) (output : Option Text) (options : Option Options) → (icemulti_task_of images output options).tool_name ≡ icemulti_name
+multi-speaks images output None = refl
+multi-speaks images output (Some options) = checked-speaks images options output (check_fault (length images) options)
+
+pub icemulti-speaks : (rows : List Row) → (icemulti_task_by rows).tool_name ≡ icemulti_name
+icemulti-speaks rows = multi-speaks (map image_need (values_of (codes "image") rows)) (first_of (codes "output") rows) (options_in rows)
+
+-- ---- icebram
+
+pub icebram-simple : is_simple_and_free icebram_command ≡ true
+unfolding clap_on_literals
+icebram-simple = refl
+
+bram-speaks : (from to : Option Text) → (icebram_task_of from to).tool_name ≡ icebram_name
+bram-speaks (Some from) (Some to) = refl
+bram-speaks (Some from) None = refl
+bram-speaks None to = refl
+
+pub icebram-speaks : (rows : List Row) → (icebram_task_by rows).tool_name ≡ icebram_name
+icebram-speaks rows = bram-speaks (first_of (codes "from") rows) (first_of (codes "to") rows)

@@ -1,0 +1,32 @@
+-- The run of a fabric as lines, as `vlogrun` writes that of a module.
+use Rattle.std.specs.Prelude.{ℕ, Bool, List, [], ◌∷◌, ◌++◌, map, flat_map, if◌then◌else◌}
+use Rattle.bit_plane.specs.BitList.{word_of}
+use Rattle.ice_image.specs.Configuration.{Configuration}
+use Rattle.chipdb_reader.specs.Database.{Database}
+use Rattle.vlog_cycle.specs.declared.event.Event.{Event as ModuleEvent}
+use Rattle.vlog_cycle.specs.Events.{events_of}
+use Rattle.vlog_cycle.specs.Text.{bit_digit, word_text}
+use Rattle.net_extract.specs.Fabric.{fabric_of}
+use Rattle.net_extract.specs.Values.{State}
+use Rattle.net_extract.specs.Steps.{Event, Entry}
+use Rattle.vlog_emit.specs.Written.{port_of}
+
+-- a space, the flip-flops, and the read register of each RAM
+abbrev pub state_text : State → List ℕ
+state_text state = 32 ∷ map bit_digit state.flips ++ flat_map word_text (map word_of state.registers)
+
+-- the outputs in the order of the ports, then the registers where they are asked for
+unfoldable pub fabric_line : Bool → Entry → List ℕ
+fabric_line registers entry = map bit_digit entry.outputs ++ (if registers then state_text entry.state else []) ++ 10 ∷ []
+
+-- a line after the start and one after each event
+abbrev pub fabric_text : Bool → List Entry → List ℕ
+fabric_text registers entries = flat_map (fabric_line registers) entries
+
+-- the same event of a fabric
+abbrev pub fabric_event : ModuleEvent → Event
+fabric_event event = record { pin = event.pin; bit = event.bit }
+
+-- the events of a text for the fabric of a database and an image
+abbrev pub fabric_events : Database → Configuration → List ℕ → List Event
+fabric_events db image events = map fabric_event (events_of (map port_of (fabric_of db image).pins) events)

@@ -1,0 +1,82 @@
+// What is said of a database and an image that aren't taken.
+ghost use Rattle.std.specs.Prelude.{◌≡◌, ◌++◌};
+ghost use Rattle.tool_run.specs.Lines.{phrase_text, refusal_text};
+ghost use Rattle.design_parts.specs.Faults.{net_text, pintype_text, tile_text, told_fault, user_text, StopsFor};
+
+use fabric::FabricFault;
+use net_extract::ClockUser;
+use tool_parts::{refusal, whole};
+use tool_run::{Number, Phrase, Refusal, Stop, decimal, text};
+
+// A refusal at a tile: what of it, and the cause.
+fn at_tile(x: u8, y: u8, part: Phrase, cause: Phrase) -> Refusal
+    ensures { refusal_text result ≡ tile_text x y ++ phrase_text part ++ phrase_text cause }
+{
+    Refusal {
+        first: decimal("tile ", u64::from(x)),
+        second: decimal(" ", u64::from(y)),
+        third: part,
+        fourth: cause,
+    }
+}
+
+// A refusal of a net.
+fn at_net(net: u32, cause: &'static str) -> Refusal
+    ensures { refusal_text result ≡ net_text net ++ cause.now }
+{
+    refusal(decimal("net ", u64::from(net)), text(cause))
+}
+
+// The six bits of a pin's type.
+fn pintype_phrase(pintype: u8) -> Phrase
+    ensures { phrase_text result ≡ pintype_text pintype }
+{
+    Phrase {
+        text: ": PinMode ",
+        number: Number::Binary(pintype),
+    }
+}
+
+// A user of a clock in its tile.
+fn user_phrase(user: ClockUser) -> Phrase
+    ensures { phrase_text result ≡ user_text user }
+{
+    match user {
+        ClockUser::Cell { i } => decimal(" cell ", u64::from(i)),
+        ClockUser::Read => text(" read"),
+        ClockUser::Write => text(" write"),
+    }
+}
+
+/// Why no module is written.
+pub fn design_stop(fault: &FabricFault) -> Stop
+    ensures { StopsFor (told_fault fault.now) result }
+{
+    match fault {
+        FabricFault::Device => Stop::Refused(whole("Device")),
+        FabricFault::Pll { x, y } => Stop::Refused(at_tile(*x, *y, text(": Pll"), text(""))),
+        FabricFault::PinMode { x, y, pio, pintype } => {
+            let pin = decimal(" pin ", u64::from(*pio));
+            Stop::Refused(at_tile(*x, *y, pin, pintype_phrase(*pintype)))
+        }
+        FabricFault::Mode { x, y, read, write } => {
+            let read = decimal(": Mode ", u64::from(*read));
+            let write = decimal(" ", u64::from(*write));
+            Stop::Refused(at_tile(*x, *y, read, write))
+        }
+        FabricFault::Cascade { x, y } => {
+            Stop::Refused(at_tile(*x, *y, text(": Cascade"), text("")))
+        }
+        FabricFault::Async { x, y, i } => {
+            let cell = decimal(" cell ", u64::from(*i));
+            Stop::Refused(at_tile(*x, *y, cell, text(": Async")))
+        }
+        FabricFault::TwoDrivers { net, .. } => Stop::Refused(at_net(*net, ": TwoDrivers")),
+        FabricFault::Loop { net, .. } => Stop::Refused(at_net(*net, ": Loop")),
+        FabricFault::Clock { x, y, user, net } => {
+            let clock = decimal(": Clock net ", u64::from(*net));
+            Stop::Refused(at_tile(*x, *y, user_phrase(*user), clock))
+        }
+        FabricFault::Memory(_) => Stop::Memory,
+    }
+}

@@ -1,0 +1,18 @@
+-- What holds of the command line of `icebox_explain`: its command is simple, and each task is told under its name.
+use Rattle.std.specs.Prelude.{◌≡◌, true, List, codes, refl, Option, None, Some}
+use Rattle.clap.specs.Words.{Row, Text, first_of, is_simple_and_free}
+use Rattle.clap.proofs.OnLiterals.{clap_on_literals}
+use Rattle.asc_text.specs.declared.fault.TileXy.{TileXy}
+use Rattle.fabric_tools.specs.Explain.{explain_command, explain_name, explain_task_by, explain_task_of, tile_given}
+
+pub explain-simple : is_simple_and_free explain_command ≡ true
+unfolding clap_on_literals
+explain-simple = refl
+
+of-speaks : (only : Option (Option TileXy)) (layout db image : Option Text) → (explain_task_of only layout db image).tool_name ≡ explain_name
+of-speaks (Some only) layout (Some db) image = refl
+of-speaks (Some only) layout None image = refl
+of-speaks None layout db image = refl
+
+pub explain-speaks : (rows : List Row) → (explain_task_by rows).tool_name ≡ explain_name
+explain-speaks rows = of-speaks (tile_given (first_of (codes "tile") rows)) (first_of (codes "layout") rows) (first_of (codes "db") rows) (first_of (codes "image") rows)

@@ -1,0 +1,95 @@
+-- What a run of `vlogrun` appends where its text spells the module of a design.
+use Rattle.std.proofs.Common.{◌≡◌, ◌∙◌, ℕ, Bool, true, false, List, [], codes, refl, sym, ap, subst}
+use Rattle.std.specs.Prelude.{Option, Some, None, get_or, if◌then◌else◌}
+use Rattle.clap.specs.Words.{Text, first_of, matches_of}
+use Rattle.ice_image.specs.Configuration.{Configuration}
+use Rattle.chipdb_reader.specs.Database.{Database}
+use Rattle.vlog_module.specs.Parts.{Parts}
+use Rattle.vlog_forms.specs.Items.{IsSpelling}
+use Rattle.vlog_forms.specs.Outcome.{outcome_of}
+use Rattle.vlog_forms.proofs.Spelled.{outcome-spelled}
+use Rattle.vlog_cycle.specs.declared.event.EventFault.{EventFault}
+use Rattle.vlog_cycle.specs.Events.{event_fault, events_of}
+use Rattle.vlog_cycle.specs.Text.{run_text}
+use Rattle.net_extract.specs.Fabric.{fabric_of}
+use Rattle.net_extract.specs.Steps.{Entry, IsRun}
+use Rattle.vlog_emit.specs.Written.{module_of}
+use Rattle.vlog_emit.proofs.Design.{design-is-module}
+use Rattle.tool_run.specs.Runs.{Does, Outside, Scene}
+use Rattle.tool_run.specs.Tasks.{Done, Task, usage_error}
+use Rattle.tool_parts.specs.Commands.{is_taken}
+use Rattle.tool_parts.specs.Outcomes.{asked}
+use Rattle.tool_parts.proofs.Appended.{helped-kept}
+use Rattle.tool_parts.proofs.CommandLines.{helped-no}
+use Rattle.module_tools.specs.declared.request.TheConstants.{VLOGRUN_HELP}
+use Rattle.module_tools.specs.Vlogrun.{run_of, run_over, vlogrun, vlogrun_answer, vlogrun_command, vlogrun_name, vlogrun_outcome, vlogrun_task_by, vlogrun_task_of, vlogrun_usage}
+use Rattle.design_parts.specs.Lines.{fabric_events, fabric_text}
+use Rattle.design_parts.proofs.Lines.{run-shown}
+use Rattle.icestorm_cli.specs.Runs.{IsModuleOf, PromisesRun, RunsFabric, shows_registers}
+
+-- ---- the lines
+
+done-same : (one other : List ℕ) → Done one ≡ Done other → one ≡ other
+done-same one other same = cc
+
+-- what is written where the events have no fault
+over-done : (registers : Bool) (m : Parts) (events lines : List ℕ) (fault : Option EventFault) → run_over registers m events fault ≡ Done lines
+    → lines ≡ run_text m (events_of m.ports events) registers
+over-done registers m events lines None is = sym (done-same _ _ is)
+over-done registers m events lines (Some fault) is = absurd cc
+
+-- what is written of a text that spells a module
+spelled-done : (registers : Bool) (m : Parts) (text events lines : List ℕ) → IsSpelling text m → run_of registers (outcome_of text) events ≡ Done lines
+    → lines ≡ run_text m (events_of m.ports events) registers
+spelled-done registers m text events lines spells done =
+    over-done registers m events lines (event_fault m.ports events) (sym (ap (λ outcome. run_of registers outcome events) (outcome-spelled text m spells)) ∙ done)
+
+-- the lines of the module of a design
+module-shown : (db : Database) (image : Configuration) (m : Parts) → IsModuleOf db image m → (registers : Bool) (events : List ℕ) (entries : List Entry)
+    → IsRun (fabric_of db image) (fabric_events db image events) entries → run_text m (events_of m.ports events) registers ≡ fabric_text registers entries
+unfolding module_of
+module-shown db image m is registers events entries run =
+    let fabric = fabric_of db image in
+    let design = is.is_design in
+    let shown = run-shown fabric (module_of fabric is.design.order is.name) registers events entries
+    (design-is-module db image design.fit design.few design.taken is.design.order design.kept.order is.name (fabric_events db image events) entries run) in
+    subst (λ (one : Parts). run_text one (events_of one.ports events) registers ≡ fabric_text registers entries) (sym is.is) shown
+
+-- ---- the task
+
+-- what a task makes of texts
+abbrev TaskRuns : Bool → Task → Type 0
+TaskRuns registers task = (texts : List (List ℕ)) (bytes : List ℕ) → task.answer texts ≡ Done bytes → RunsFabric registers texts bytes
+
+task-of : (registers : Bool) (text events : Option Text) → TaskRuns registers (vlogrun_task_of registers text events)
+task-of registers (Some text) events = λ texts bytes done db image m is spells entries run.
+    spelled-done registers m (get_or texts 0 []) (get_or texts 1 []) bytes spells done ∙ module-shown db image m is registers (get_or texts 1 []) entries run
+task-of registers None events = λ texts bytes done. absurd cc
+
+target-of : (registers : Bool) (text events : Option Text) → (vlogrun_task_of registers text events).target ≡ None
+target-of registers (Some text) events = refl
+target-of registers None events = refl
+
+module _ (args : List Text) where
+  task-runs : TaskRuns (shows_registers args) (asked vlogrun args)
+  unfolding asked
+  task-runs = by_case (is_taken vlogrun_command args)
+    where
+      by_case : (taken : Bool) → TaskRuns (shows_registers args) (if taken then vlogrun_task_by (matches_of vlogrun_command args) else usage_error vlogrun_name vlogrun_usage)
+      by_case true = task-of (shows_registers args) (first_of (codes "module") (matches_of vlogrun_command args)) (first_of (codes "events") (matches_of vlogrun_command args))
+      by_case false = λ texts bytes done. absurd cc
+
+  -- the lines go to standard output
+  task-target : (asked vlogrun args).target ≡ None
+  unfolding asked
+  task-target = by_case (is_taken vlogrun_command args)
+    where
+      by_case : (taken : Bool) → (if taken then vlogrun_task_by (matches_of vlogrun_command args) else usage_error vlogrun_name vlogrun_usage).target ≡ None
+      by_case true = target-of (shows_registers args) (first_of (codes "module") (matches_of vlogrun_command args)) (first_of (codes "events") (matches_of vlogrun_command args))
+      by_case false = refl
+
+  pub run-kept : {F I O E : Type 0} (by : Outside F I O E) (status : ℕ) (old new : Scene F I O E) → Does by (vlogrun_outcome args) status old new
+      → PromisesRun args status (by.contents old.files) (by.left old.input) (by.held old.output) (by.held new.output)
+  run-kept by status old new does done asks =
+      let same : asked vlogrun args ≡ vlogrun_outcome args = helped-no vlogrun_name VLOGRUN_HELP.now args (asked vlogrun args) asks in
+      helped-kept (RunsFabric (shows_registers args)) by (asked vlogrun args) (vlogrun_outcome args) status old new same task-runs task-target does done

@@ -1,0 +1,44 @@
+-- What a run of `vlogrun` promises of a module that is that of a design: it is the run of the design's fabric.
+use Rattle.std.specs.Prelude.{◌≡◌, ℕ, Bool, false, List, [], codes, get_or, Option}
+use Rattle.clap.specs.Words.{matches_of}
+use Rattle.ice_io.specs.Files.{FileMap}
+use Rattle.ice_image.specs.Configuration.{Configuration}
+use Rattle.chipdb_reader.specs.Database.{Database}
+use Rattle.vlog_module.specs.Parts.{Parts}
+use Rattle.vlog_module.specs.Names.{IsName}
+use Rattle.vlog_forms.specs.Items.{IsSpelling}
+use Rattle.net_extract.specs.Fabric.{fabric_of}
+use Rattle.net_extract.specs.Steps.{Entry, IsRun}
+use Rattle.fabric.specs.Kept.{Kept}
+use Rattle.fabric.specs.Design.{IsDesignOf}
+use Rattle.vlog_emit.specs.Written.{module_of}
+use Rattle.tool_run.specs.Tasks.{asks_for_help}
+use Rattle.tool_parts.specs.Appended.{AppendsFor}
+use Rattle.tool_parts.specs.Commands.{has_flag}
+use Rattle.module_tools.specs.Vlogrun.{vlogrun_command, vlogrun_outcome}
+use Rattle.design_parts.specs.Lines.{fabric_events, fabric_text}
+
+-- A module is that of a design of a database and an image, under a name.
+pub record IsModuleOf (db : Database) (image : Configuration) (m : Parts) : Type 0 where
+  pub design : Kept
+  pub name : List ℕ
+  pub is_design : IsDesignOf db image design
+  pub is_name : IsName name
+  pub is : m ≡ module_of (fabric_of db image) design.order name
+
+-- where the first of two texts spells the module of a design, bytes are the lines of the run of the design's fabric over the events of
+-- the second
+abbrev pub RunsFabric : Bool → List (List ℕ) → List ℕ → Type 0
+RunsFabric registers texts bytes =
+    (db : Database) (image : Configuration) (m : Parts) → IsModuleOf db image m → IsSpelling (get_or texts 0 []) m
+    → (entries : List Entry) → IsRun (fabric_of db image) (fabric_events db image (get_or texts 1 [])) entries → bytes ≡ fabric_text registers entries
+
+-- whether the arguments of `vlogrun` ask for registers
+abbrev pub shows_registers : List (List ℕ) → Bool
+shows_registers args = has_flag (codes "registers") (matches_of vlogrun_command args)
+
+-- Where a run of `vlogrun` with these arguments has status 0, and isn't asked for help, and its text spells the module of a design, the bytes
+-- that it appended are the lines of the run of the design's fabric.
+abbrev pub PromisesRun : List (List ℕ) → ℕ → Option FileMap → Option (List ℕ) → Option (List ℕ) → Option (List ℕ) → Type 0
+PromisesRun args status contents left held new_held =
+    status ≡ 0 → asks_for_help args ≡ false → AppendsFor (RunsFabric (shows_registers args)) (vlogrun_outcome args) contents left held new_held

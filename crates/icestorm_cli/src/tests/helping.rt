@@ -1,0 +1,125 @@
+// The help of each tool: it shows the tool's command line, and a line for each option and value with its own words.
+use bitstream_tools::{
+    ICEBRAM_HELP, ICEBRAM_USAGE, ICEMULTI_HELP, ICEMULTI_USAGE, ICEPACK_HELP, ICEPACK_USAGE,
+    ICEUNPACK_HELP, ICEUNPACK_USAGE,
+};
+use design_tools::{ICEBOX_VLOG_HELP, ICEBOX_VLOG_USAGE};
+use fabric_tools::{ICEBOX_EXPLAIN_HELP, ICEBOX_EXPLAIN_USAGE};
+use job_tools::{SELFRUN_HELP, SELFRUN_USAGE};
+use module_tools::{VLOGRUN_HELP, VLOGRUN_USAGE};
+
+/// The words of a help.
+struct Help {
+    help: &'static str,
+    usage: &'static str,
+    /// How the line of each option and value begins.
+    heads: &'static [&'static str],
+}
+
+static HELPS: [Help; 8] = [
+    Help {
+        help: ICEPACK_HELP,
+        usage: ICEPACK_USAGE,
+        heads: &[
+            "  INPUT     the text;",
+            "  OUTPUT    the bitstream;",
+            "  -s        sets the flag that keeps the flash awake",
+            "  -u        unpacks instead",
+            "  --layout FILE",
+        ],
+    },
+    Help {
+        help: ICEUNPACK_HELP,
+        usage: ICEUNPACK_USAGE,
+        heads: &[
+            "  INPUT     the bitstream;",
+            "  OUTPUT    the text;",
+            "  --layout FILE",
+        ],
+    },
+    Help {
+        help: ICEMULTI_HELP,
+        usage: ICEMULTI_USAGE,
+        heads: &[
+            "  IMAGE      a bitstream;",
+            "  -c         at a cold boot the pins choose",
+            "  -p N       the image that is booted at power-on",
+            "  -a N       images except the first",
+            "  -A N       all images do;",
+            "  -o OUTPUT  the boot file;",
+        ],
+    },
+    Help {
+        help: ICEBRAM_HELP,
+        usage: ICEBRAM_USAGE,
+        heads: &[
+            "  FROM      the contents with which the design was made",
+            "  TO        the contents that take their place",
+            "  INPUT     the text, on standard input",
+            "  OUTPUT    the text with the new contents, on standard output",
+        ],
+    },
+    Help {
+        help: ICEBOX_EXPLAIN_HELP,
+        usage: ICEBOX_EXPLAIN_USAGE,
+        heads: &[
+            "  DB        the chip database",
+            "  IMAGE     a bitstream (.bin) or a text (.asc);",
+            "  -t \"X Y\"  explains the tile at column X and row Y alone",
+            "  --layout FILE",
+        ],
+    },
+    Help {
+        help: ICEBOX_VLOG_HELP,
+        usage: ICEBOX_VLOG_USAGE,
+        heads: &[
+            "  DB        the chip database",
+            "  IMAGE     a bitstream (.bin) or a text (.asc);",
+            "  -n NAME   the name of the module",
+            "  --layout FILE",
+        ],
+    },
+    Help {
+        help: VLOGRUN_HELP,
+        usage: VLOGRUN_USAGE,
+        heads: &[
+            "  MODULE    the text of a module",
+            "  EVENTS    the events;",
+            "  -s        shows the registers too",
+        ],
+    },
+    Help {
+        help: SELFRUN_HELP,
+        usage: SELFRUN_USAGE,
+        heads: &[
+            "  DEVICE    1k or 8k",
+            "  SEED      the number",
+            "  EVENTS    how many events are made",
+        ],
+    },
+];
+
+/// Whether a line begins so.
+fn has_line(help: &str, head: &str) -> bool {
+    help.lines().any(|line| line.starts_with(head))
+}
+
+/// Whether a line shows the command line.
+fn shows_usage(help: &str, usage: &str) -> bool {
+    help.lines().any(|line| match line.strip_prefix("Usage: ") {
+        Some(shown) => shown.starts_with(usage),
+        None => false,
+    })
+}
+
+/// Whether a help shows what it has to.
+fn is_whole(help: &Help) -> bool {
+    shows_usage(help.help, help.usage) && help.heads.iter().all(|head| has_line(help.help, head))
+}
+
+#[test]
+fn each_option_has_its_line(rt: HostRuntime) {
+    for (index, help) in HELPS.iter().enumerate() {
+        assert!(rt; is_whole(help), "help {index}");
+    }
+}

@@ -1,0 +1,19 @@
+use Rattle.std.proofs.Common.{◌∙◌, ap, refl, subst, sym}
+use Rattle.std.specs.Prelude.{None, Option}
+use Rattle.tool_run.specs.Tasks.{at_once}
+use Rattle.tool_run.proofs.Same.{Does-same}
+use Rattle.job_tools.specs.declared.request.Request.{Request}
+use Rattle.job_tools.specs.Selfrun.{IsAnswerFor, selfrun_name}
+use Rattle.job_tools.proofs.running.do_args.Goals as goal
+
+pub returns-in-Ok-Some : goal.returns-in-Ok-Some
+returns-in-Ok-Some g c answer given =
+    c.tell.ensures answer (subst (λ (request : Option Request). IsAnswerFor request answer) (sym c.in-Ok-Some.ensures ∙ c.in-Ok-Some.field-0-is) given)
+
+pub returns-in-Ok-None : goal.returns-in-Ok-None
+returns-in-Ok-None g c answer given =
+    let same = subst (λ (request : Option Request). IsAnswerFor request answer) (sym c.in-Ok-None.ensures ∙ c.in-Ok-None.field-0-is) given in
+    Does-same _ _ _ _ _ _ (ap (at_once selfrun_name None) (sym same)) c.answer_at_once.ensures
+
+pub returns-in-Err : goal.returns-in-Err
+returns-in-Err g c answer given = c.give_up.ensures.does (at_once selfrun_name None answer) refl

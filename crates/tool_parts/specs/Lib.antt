@@ -1,0 +1,7 @@
+pub mod Commands
+pub mod Faults
+pub mod Layouts
+pub mod Databases
+pub mod Images
+pub mod Appended
+pub mod Outcomes

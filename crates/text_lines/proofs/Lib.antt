@@ -4,6 +4,8 @@ pub mod Blanks
 pub mod Cuts
 -- decimal numbers as they are written, and read again
 pub mod Decimals
+-- what was taken and what is kept of a text that comes in pieces
+pub mod Fronts
 -- a number at the front of a text, digit by digit
 pub mod Leading
 -- numbers of at most nine digits, and the numbers that words write

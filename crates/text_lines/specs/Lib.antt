@@ -3,3 +3,4 @@ pub mod Words
 pub mod Written
 pub mod Numbers
 pub mod Pieces
+pub mod Feeding

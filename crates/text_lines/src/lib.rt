@@ -7,11 +7,13 @@
 #![tactic(auto)]
 
 mod decimal;
+mod feed;
 mod lines;
 mod pieces;
 mod words;
 
 pub use decimal::{number, number_before};
+pub use feed::{LineFeed, LineTaker};
 pub use lines::{FirstLine, first_lf, first_line, first_line_near, is_blank, trimmed};
 pub use pieces::{PieceLines, cut_piece};
 pub use words::{

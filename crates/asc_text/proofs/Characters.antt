@@ -25,7 +25,7 @@ use Rattle.asc_text.specs.declared.fault.AscCause.{AscCause}
 use Rattle.asc_text.specs.declared.fault.AscCause.TheVariants.{Kind, Repeated, Hex}
 use Rattle.asc_text.specs.declared.fault.TileXy.{TileXy}
 use Rattle.asc_text.specs.declared.fault.AscFault.{AscFault}
-use Rattle.asc_text.specs.declared.file.AscFile.{AscFile}
+use Rattle.ice_image.specs.declared.any.AnyImage.{AnyImage}
 use Rattle.asc_text.specs.declared.file.Symbol.{Symbol as NetName}
 use Rattle.asc_text.specs.Statements.{statement_in, begins_with_dot}
 use Rattle.asc_text.specs.Rows.{row_bit, memory_bit, is_memory_line}
@@ -586,7 +586,7 @@ bits_of_text layouts text image symbols are whole means =
     means.configures
 
 -- the same of what is answered
-pub answered_bits : (layouts : Layouts) (text : List ℕ) (r : Result AscFile AscFault) → AreLayouts layouts → IfOk r (λ file. IsWhole (configuration_of file.image))
-    → IfOk r (λ file. AscMeans layouts text (configuration_of file.image) file.symbols.items) → IfOk r (λ file. HasBits text (configuration_of file.image))
-answered_bits layouts text (Ok file) are whole means = bits_of_text layouts text (configuration_of file.image) file.symbols.items are whole means
-answered_bits layouts text (Err fault) are whole means = tt
+pub answered_bits : (layouts : Layouts) (text : List ℕ) (symbols : List NetName) (r : Result AnyImage AscFault) → AreLayouts layouts → IfOk r (λ image. IsWhole (configuration_of image))
+    → IfOk r (λ image. AscMeans layouts text (configuration_of image) symbols) → IfOk r (λ image. HasBits text (configuration_of image))
+answered_bits layouts text symbols (Ok image) are whole means = bits_of_text layouts text (configuration_of image) symbols are whole means
+answered_bits layouts text symbols (Err fault) are whole means = tt

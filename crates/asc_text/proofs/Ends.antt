@@ -17,8 +17,6 @@ use Rattle.ice_image.specs.declared.settings.Range.TheVariants.{Low}
 use Rattle.asc_text.specs.declared.statement.Statement.{Statement}
 use Rattle.asc_text.specs.declared.fault.AscFault.{AscFault}
 use Rattle.asc_text.specs.declared.fault.AscFault.TheVariants.{At, Memory as OutOfMemory}
-use Rattle.asc_text.specs.declared.file.Symbol.{Symbol as NetName}
-use Rattle.asc_text.specs.declared.file.AscFile.{AscFile}
 use Rattle.asc_text.specs.declared.reading.reader.Expected.{Expected}
 use Rattle.asc_text.specs.declared.reading.reader.Expected.TheVariants.{Statement as AnyStatement, Row, Memory}
 use Rattle.asc_text.specs.Statements.{statement_in, begins_with_dot}
@@ -56,7 +54,7 @@ HasRead-none layouts lines s are is =
 
 -- a statement, or a line that is none
 took-dotted : (layouts : Layouts) (lines : List (List ℕ)) (n : ℕ) (s new : ReaderState) (given : Option Statement) → HasRead layouts lines n s → s.expected ≡ AnyStatement → depth_at lines n ≡ 0 → cause_at layouts lines n ≡ None
-    → begins_with_dot (line_at lines n) ≡ true → statement_in (line_at lines n) ≡ given → dotted_refusal s given ≡ None → TakesDotted s given (line_at lines n) new → HasRead layouts lines (n + 1) new
+    → begins_with_dot (line_at lines n) ≡ true → statement_in (line_at lines n) ≡ given → dotted_refusal s given ≡ None → TakesDotted s given new → HasRead layouts lines (n + 1) new
 took-dotted layouts lines n s new None read expected depth fits dot said none takes = absurd takes
 took-dotted layouts lines n s new (Some statement) read expected depth fits dot said none takes = took-statement layouts lines n s new statement read expected depth fits dot said none takes
 
@@ -66,7 +64,7 @@ took-any layouts lines n s new read expected depth fits none takes =
     let line = line_at lines n in
     elim (cases_Bool (begins_with_dot line)) [
       | inl dot ↦
-          let taken : TakesDotted s (statement_in line) line new = rw dot at takes in
+          let taken : TakesDotted s (statement_in line) new = rw dot at takes in
           let refusal : dotted_refusal s (statement_in line) ≡ None = rw dot at none in
           took-dotted layouts lines n s new (statement_in line) read expected depth fits dot refl refusal taken
       | inr other ↦ took-text layouts lines n s new read expected depth fits other (rw other at takes)
@@ -185,15 +183,15 @@ configured : (layouts : Layouts) (lines : List (List ℕ)) (s : ReaderState) (im
 configured layouts lines s None after read is has finishes = absurd finishes
 configured layouts lines s (Some image) after read is has finishes = ap (λ c. Some c) (sym (finishes ∙ same_image layouts lines (length lines) s image read has))
 
-pub means : (layouts : Layouts) (text : List ℕ) (s : ReaderState) (after : AnyImage) (symbols : List NetName) → HasRead layouts (lines_of text) (length (lines_of text)) s → end_refusal s s.expected ≡ None → Finishes s s.image after → symbols ≡ s.symbols
-    → AscMeans layouts text (configuration_of after) symbols
-unfolding asc_image_of asc_symbols_of
-means layouts text s after symbols read none finishes named =
+pub means : (layouts : Layouts) (text : List ℕ) (s : ReaderState) (after : AnyImage) → HasRead layouts (lines_of text) (length (lines_of text)) s → end_refusal s s.expected ≡ None → Finishes s s.image after
+    → AscMeans layouts text (configuration_of after) (asc_symbols_of text)
+unfolding asc_image_of
+means layouts text s after read none finishes =
     let lines = lines_of text in
     record {
       accepted = end_accepted layouts text s read none;
       configures = ap (λ device. image_for layouts device lines) (device_is lines (length lines) s read.given) ∙ configured layouts lines s s.image after read refl read.image finishes;
-      names = read.given.symbols ∙ sym named;
+      names = refl;
     }
 
 -- the image that is answered is whole
@@ -205,26 +203,26 @@ answered_whole layouts lines n s (Some image) after has finishes =
 
 -- ---- the answer
 
-pub whole : (layouts : Layouts) (text : List ℕ) (s : ReaderState) (r : Result AscFile AscFault) → HasRead layouts (lines_of text) (length (lines_of text)) s → IfOk r (λ file. Finishes s s.image file.image)
-    → IfOk r (λ file. IsWhole (configuration_of file.image))
-whole layouts text s (Ok file) read finishes = answered_whole layouts (lines_of text) (length (lines_of text)) s s.image file.image read.image finishes
+pub whole : (layouts : Layouts) (text : List ℕ) (s : ReaderState) (r : Result AnyImage AscFault) → HasRead layouts (lines_of text) (length (lines_of text)) s → IfOk r (Finishes s s.image)
+    → IfOk r (λ image. IsWhole (configuration_of image))
+whole layouts text s (Ok image) read finishes = answered_whole layouts (lines_of text) (length (lines_of text)) s s.image image read.image finishes
 whole layouts text s (Err fault) read finishes = tt
 
--- an image and its names that are answered
-pub answered : (layouts : Layouts) (text : List ℕ) (s : ReaderState) (r : Result AscFile AscFault) → HasRead layouts (lines_of text) (length (lines_of text)) s → OnOk r (end_refusal s s.expected ≡ None) → IfOk r (λ file. Finishes s s.image file.image)
-    → IfOk r (λ file. file.symbols.items ≡ s.symbols) → IfOk r (λ file. AscMeans layouts text (configuration_of file.image) file.symbols.items)
-answered layouts text s (Ok file) read none finishes named = means layouts text s file.image file.symbols.items read none finishes named
-answered layouts text s (Err fault) read none finishes named = tt
+-- an image that is answered
+pub answered : (layouts : Layouts) (text : List ℕ) (s : ReaderState) (r : Result AnyImage AscFault) → HasRead layouts (lines_of text) (length (lines_of text)) s → OnOk r (end_refusal s s.expected ≡ None) → IfOk r (Finishes s s.image)
+    → IfOk r (λ image. AscMeans layouts text (configuration_of image) (asc_symbols_of text))
+answered layouts text s (Ok image) read none finishes = means layouts text s image read none finishes
+answered layouts text s (Err fault) read none finishes = tt
 
 -- a text that is accepted
-pub accepted : (layouts : Layouts) (text : List ℕ) (s : ReaderState) (r : Result AscFile AscFault) → HasRead layouts (lines_of text) (length (lines_of text)) s → OnOk r (end_refusal s s.expected ≡ None) → OnOk r (asc_fault_of layouts text ≡ None)
-accepted layouts text s (Ok file) read none = end_accepted layouts text s read none
+pub accepted : (layouts : Layouts) (text : List ℕ) (s : ReaderState) (r : Result AnyImage AscFault) → HasRead layouts (lines_of text) (length (lines_of text)) s → OnOk r (end_refusal s s.expected ≡ None) → OnOk r (asc_fault_of layouts text ≡ None)
+accepted layouts text s (Ok image) read none = end_accepted layouts text s read none
 accepted layouts text s (Err fault) read none = tt
 
 -- a fault that is answered
-pub told : (layouts : Layouts) (text : List ℕ) (s : ReaderState) (n : ℕ) (r : Result AscFile AscFault) → HasRead layouts (lines_of text) (length (lines_of text)) s → n ≡ length (lines_of text)
+pub told : (layouts : Layouts) (text : List ℕ) (s : ReaderState) (n : ℕ) (r : Result AnyImage AscFault) → HasRead layouts (lines_of text) (length (lines_of text)) s → n ≡ length (lines_of text)
     → IfErr r (Tells (fault_with (end_refusal s s.expected) (n + 1) (tile_named (statement_of s.expected [])))) → IfErr r (Tells (asc_fault_of layouts text))
-told layouts text s n (Ok file) read all tells = tt
+told layouts text s n (Ok image) read all tells = tt
 told layouts text s n (Err fault) read all tells =
     let at : ℕ → Type 0 = λ k. Tells (fault_with (end_refusal s s.expected) (k + 1) (tile_named (statement_of s.expected []))) fault in
     end_told layouts text s fault read (subst at all tells)

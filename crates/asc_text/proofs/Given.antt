@@ -5,17 +5,16 @@ use Rattle.std.proofs.lemmas.Bool.{cases_eq, eq-eqb, ne_eqb}
 use Rattle.std.proofs.lemmas.List.{get_or-replicate}
 use Rattle.std.proofs.Math.Bool.{or-false}
 use Rattle.text_lines.specs.Lines.{line_at}
-use Rattle.place_search.specs.Places.{any_below, first_below, gathered_below, or_else}
-use Rattle.place_search.proofs.Places.{or_else-none, any_below-more, first_below-more, gathered_below-more}
+use Rattle.place_search.specs.Places.{any_below, first_below, or_else}
+use Rattle.place_search.proofs.Places.{or_else-none, any_below-more, first_below-more}
 use Rattle.layout_file.specs.declared.layouts.Layouts.{Layouts}
 use Rattle.asc_text.specs.declared.statement.Statement.{Statement}
 use Rattle.asc_text.specs.declared.statement.Statement.TheVariants.{Comment, Device, WarmBoot, FrequencyRange, NoSleep, Tile, RamData, ExtraBit, Symbol}
 use Rattle.asc_text.specs.declared.fault.TileXy.{TileXy}
-use Rattle.asc_text.specs.declared.file.Symbol.{Symbol as NetName}
 use Rattle.asc_text.specs.inside.TileSets.{has_tile}
 use Rattle.asc_text.specs.Blocks.{statement_at, device_in}
 use Rattle.asc_text.specs.Faults.{is_device, is_warm_boot, is_range, is_no_sleep, names_tile, names_ram}
-use Rattle.asc_text.specs.Meaning.{warm_boot_in, range_in, no_sleep_in, symbols_before, symbol_in}
+use Rattle.asc_text.specs.Meaning.{warm_boot_in, range_in, no_sleep_in}
 use Rattle.asc_text.specs.inside.Reading.{ReaderState, begun, HasInserted}
 use Rattle.asc_text.proofs.HasRead.{IsGiven, AreNamed, HasGiven, device_known}
 
@@ -41,13 +40,8 @@ abbrev pub Marks : Option TileXy → List Bool → List Bool → Type 0
 Marks None old new = new ≡ old
 Marks (Some at) old new = HasInserted at.x at.y old new
 
--- names that are given
-abbrev pub Adds : List NetName → List NetName → List NetName → Type 0
-Adds [] old new = new ≡ old
-Adds (name ∷ names) old new = new ≡ old ++ name ∷ names
-
 -- what a statement gives, or a line that is none
-pub record Follows (s : ReaderState) (given : Option Statement) (line : List ℕ) (new : ReaderState) : Type 0 where
+pub record Follows (s : ReaderState) (given : Option Statement) (new : ReaderState) : Type 0 where
   pub warm_boot : Gives s.warm_boot (warm_boot_in given) new.warm_boot
   pub warm_boot_known : is_warm_boot given ≡ is_some (warm_boot_in given)
   pub range : Gives s.range (range_in given) new.range
@@ -58,7 +52,6 @@ pub record Follows (s : ReaderState) (given : Option Statement) (line : List ℕ
   pub device_known : is_device given ≡ is_some (device_in given)
   pub tiles : Marks (tile_begun given) s.tiles new.tiles
   pub rams : Marks (ram_begun given) s.rams new.rams
-  pub symbols : Adds (symbol_in given line) s.symbols new.symbols
 
 -- the first value, with one more
 first-given : {A : Type 0} (old here new : Option A) → Gives old here new → or_else old here ≡ new
@@ -133,14 +126,8 @@ AreNamed-more lines n names begun given old new same are here marks = λ v w col
     ∙ ap (λ b. any_below n (λ k. names v w (statement_at lines k)) || b) (sym (ap (names v w) here ∙ same v w))
     ∙ sym (any_below-more n (λ k. names v w (statement_at lines k)))
 
--- the names, with those of one line more
-added : (here old new : List NetName) → Adds here old new → old ++ here ≡ new
-added [] old new adds = append-nil old ∙ sym adds
-added (name ∷ names) old new adds = sym adds
-
 -- all that statements give, with one line more
-pub HasGiven-more : (lines : List (List ℕ)) (n : ℕ) (s new : ReaderState) (given : Option Statement) → HasGiven lines n s → statement_at lines n ≡ given → Follows s given (line_at lines n) new → HasGiven lines (n + 1) new
-unfolding symbols_before
+pub HasGiven-more : (lines : List (List ℕ)) (n : ℕ) (s new : ReaderState) (given : Option Statement) → HasGiven lines n s → statement_at lines n ≡ given → Follows s given new → HasGiven lines (n + 1) new
 HasGiven-more lines n s new given has here follows = record {
   warm_boot = IsGiven-more _ lines n warm_boot_in is_warm_boot s.warm_boot new.warm_boot given has.warm_boot here follows.warm_boot follows.warm_boot_known;
   range = IsGiven-more _ lines n range_in is_range s.range new.range given has.range here follows.range follows.range_known;
@@ -148,10 +135,6 @@ HasGiven-more lines n s new given has here follows = record {
   device = IsGiven-more _ lines n device_in is_device (device_known s.image) (device_known new.image) given has.device here follows.device follows.device_known;
   tiles = AreNamed-more lines n names_tile tile_begun given s.tiles new.tiles (names_tile-begun given) has.tiles here follows.tiles;
   rams = AreNamed-more lines n names_ram ram_begun given s.rams new.rams (names_ram-begun given) has.rams here follows.rams;
-  symbols = gathered_below-more n (λ k. symbol_in (statement_at lines k) (line_at lines k))
-      ∙ ap (λ names. names ++ symbol_in (statement_at lines n) (line_at lines n)) has.symbols
-      ∙ ap (λ g. s.symbols ++ symbol_in g (line_at lines n)) here
-      ∙ added (symbol_in given (line_at lines n)) s.symbols new.symbols follows.symbols;
 }
 
 -- ---- the beginning
@@ -169,7 +152,6 @@ AreNamed-none lines names = λ v w column row. no_tile v w column row
 
 -- nothing was read
 pub HasGiven-none : (layouts : Layouts) (lines : List (List ℕ)) → HasGiven lines 0 (begun layouts)
-unfolding symbols_before gathered_below
 HasGiven-none layouts lines = record {
   warm_boot = IsGiven-none _ lines warm_boot_in is_warm_boot;
   range = IsGiven-none _ lines range_in is_range;
@@ -177,5 +159,4 @@ HasGiven-none layouts lines = record {
   device = IsGiven-none _ lines device_in is_device;
   tiles = AreNamed-none lines names_tile;
   rams = AreNamed-none lines names_ram;
-  symbols = refl;
 }

@@ -21,7 +21,7 @@ use Rattle.asc_text.specs.Statements.{statement_in}
 use Rattle.asc_text.specs.inside.TileSets.{has_tile}
 use Rattle.asc_text.specs.Blocks.{depth_at, statement_at, dot_before, is_comment, device_in}
 use Rattle.asc_text.specs.Faults.{cause_at, is_in_comment, is_device, is_warm_boot, is_range, is_no_sleep, names_tile, names_ram}
-use Rattle.asc_text.specs.Meaning.{warm_boot_in, range_in, no_sleep_in, comment_before, is_that_line, is_set_before, symbols_before}
+use Rattle.asc_text.specs.Meaning.{warm_boot_in, range_in, no_sleep_in, comment_before, is_that_line, is_set_before}
 use Rattle.asc_text.specs.inside.Reading.{ReaderState, HasKind}
 
 -- where a line of what is expected stands
@@ -81,7 +81,6 @@ pub record HasGiven (lines : List (List ℕ)) (n : ℕ) (s : ReaderState) : Type
   pub device : IsGiven DeviceName lines n device_in is_device (device_known s.image)
   pub tiles : AreNamed lines n names_tile s.tiles
   pub rams : AreNamed lines n names_ram s.rams
-  pub symbols : symbols_before lines n ≡ s.symbols
 
 -- the lines before a line were read, and none of them is faulty
 pub record HasRead (layouts : Layouts) (lines : List (List ℕ)) (n : ℕ) (s : ReaderState) : Type 0 where

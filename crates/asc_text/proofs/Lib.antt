@@ -30,6 +30,8 @@ pub mod Spelled
 pub mod WordsRead
 -- a line of 64 hexadecimal digits is one that decodes into 32 bytes
 pub mod MemoryLines
+-- a statement of a net's name with one space before its number
+pub mod SymbolLines
 -- statements by their keywords
 pub mod Spellings
 -- the flags of a set of tiles
@@ -52,10 +54,12 @@ pub mod ImageSteps
 pub mod LineSteps
 -- lines that are taken one after the other, and what holds behind them
 pub mod LinesRead
--- what is kept of a text that comes in pieces, behind a piece more
+-- the lines of a text that comes in pieces: what the lines so far give, and what they say of the text
 pub mod Feeding
 -- what is wrong with a line is told by what is kept
 pub mod Refusals
+-- the names that a text gives to nets are those of its lines, each read by itself
+pub mod Symbols
 -- what is kept after a statement is what the lines say with it
 pub mod StatementSteps
 -- the definitions at small texts, worked out by hand

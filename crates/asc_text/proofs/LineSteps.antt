@@ -26,7 +26,7 @@ use Rattle.ice_image.specs.Bits.{Bit}
 use Rattle.asc_text.specs.Blocks.{depth_at, statement_over, statement_at, depth_after, has_rows}
 use Rattle.asc_text.specs.Faults.{cause_at, cause_if}
 use Rattle.asc_text.specs.inside.Reading.{ReaderState, HasKind, ImageGains, TakesRow, TakesMemory, before_row, before_memory, after_text, with_line}
-use Rattle.asc_text.proofs.Dotted.{none_without_dot}
+use Rattle.asc_text.proofs.Dotted.{none_without_dot, passes, row-dotless, memory-dotless}
 use Rattle.asc_text.proofs.HasRead.{HasRead, HasComment, HasImage, IsAt, device_known}
 use Rattle.asc_text.proofs.Given.{Follows, HasGiven-more}
 use Rattle.asc_text.proofs.CommentSteps.{comment-passes, comment-goes_on}
@@ -66,35 +66,6 @@ fit-more layouts lines n fit here k lt =
       | inr before ↦ fit k (omega arith)
     ]
 
--- ---- lines of sixteen begin with no dot
-
-no_dot : (test : ℕ → Bool) (line : List ℕ) → list_all test line ≡ true → test 46 ≡ false → (get_or line 0 0 ≢ 46)
-no_dot test [] all other = λ e. absurd (omega (arith, e))
-no_dot test (byte ∷ line) all other = λ e.
-    let passes = (and_parts (test byte) (list_all test line) all).0 in
-    let is : test 46 ≡ true = ap test (sym e) ∙ passes in
-    absurd cc
-
--- a line whose bytes without the blanks at its end pass a test that a dot doesn't
-dotless : (test : ℕ → Bool) (line : List ℕ) → list_all test (trimmed line) ≡ true → test 46 ≡ false → begins_with_dot line ≡ false
-dotless test line all other =
-    elim (cases_Bool (begins_with_dot line)) [
-      | inl dot ↦ absurd (no_dot test (trimmed line) all other (dot-trimmed line (eqb-true _ _ dot)))
-      | inr none ↦ none
-    ]
-
-row-dotless : (width : ℕ) (line : List ℕ) → is_row width (trimmed line) ≡ true → begins_with_dot line ≡ false
-unfolding is_row
-row-dotless width line is = dotless (λ byte. (byte == 48) || (byte == 49)) line ((and_parts (length (trimmed line) == width) (list_all (λ byte. (byte == 48) || (byte == 49)) (trimmed line)) is).1) refl
-
-memory-dotless : (line : List ℕ) → is_memory_line (trimmed line) ≡ true → begins_with_dot line ≡ false
-unfolding is_memory_line
-memory-dotless line is = dotless is_hex_digit line ((and_parts (length (trimmed line) == 64) (list_all is_hex_digit (trimmed line)) is).1) refl
-
-passes : (b : Bool) (cause : AscCause) → cause_if (not b) cause ≡ None → b ≡ true
-passes true cause none = refl
-passes false cause none = absurd cc
-
 -- ---- a line of sixteen
 
 -- the same device, and so the same tiles
@@ -115,8 +86,8 @@ abbrev moved : ReaderState → Option AnyImage → Expected → ReaderState
 moved s image expected = record s { image = image; expected = expected }
 
 -- it gives nothing but bits
-follows-row : (s : ReaderState) (line : List ℕ) (image : Option AnyImage) (expected : Expected) → device_known image ≡ device_known s.image → Follows s None line (moved s image expected)
-follows-row s line image expected same = record {
+follows-row : (s : ReaderState) (image : Option AnyImage) (expected : Expected) → device_known image ≡ device_known s.image → Follows s None (moved s image expected)
+follows-row s image expected same = record {
   warm_boot = refl;
   warm_boot_known = refl;
   range = refl;
@@ -127,7 +98,6 @@ follows-row s line image expected same = record {
   device_known = refl;
   tiles = refl;
   rams = refl;
-  symbols = refl;
 }
 
 row_step : (layouts : Layouts) (lines : List (List ℕ)) (n row : ℕ) (s : ReaderState) (image : Option AnyImage) (expected : Expected) → HasRead layouts lines n s → depth_at lines n ≡ row + 1 → s.in_comment ≡ false
@@ -138,7 +108,7 @@ row_step layouts lines n row s image expected read depth outside fits dot same h
   under = read.under;
   fit = fit-more layouts lines n read.fit fits;
   stands = stands;
-  given = HasGiven-more lines n s (moved s image expected) None read.given (at-row lines n row depth) (follows-row s (line_at lines n) image expected same);
+  given = HasGiven-more lines n s (moved s image expected) None read.given (at-row lines n row depth) (follows-row s image expected same);
   image = has;
   comment = comment-passes lines n s.comment s.in_comment read.comment dot (at-row lines n row depth) (rw outside refl);
 }
@@ -220,7 +190,7 @@ took-memory layouts lines n x y row s new read stands fits refusal takes =
 
 -- ---- a line that is no statement
 
-follows-text : (s : ReaderState) (line : List ℕ) → Follows s None line (after_text s line)
+follows-text : (s : ReaderState) (line : List ℕ) → Follows s None (after_text s line)
 follows-text s line = record {
   warm_boot = refl;
   warm_boot_known = refl;
@@ -232,7 +202,6 @@ follows-text s line = record {
   device_known = refl;
   tiles = refl;
   rams = refl;
-  symbols = refl;
 }
 
 -- the comment after it

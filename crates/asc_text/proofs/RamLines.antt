@@ -24,6 +24,7 @@ use Rattle.asc_text.specs.Blocks.{has_rows, depth_at, statement_over, statement_
 use Rattle.asc_text.specs.Faults.{asc_fault_of, fault_at, fault_with, cause_at, cause_if, row_cause, statement_cause, tile_named}
 use Rattle.asc_text.specs.Rams.{is_ram_data, is_in_ram, below_statement, is_ram_line, BeginsWithRam}
 use Rattle.place_search.proofs.Found.{first_below-clear}
+use Rattle.asc_text.proofs.Dotted.{dotless-below, passes}
 
 -- ---- the words of a statement
 
@@ -241,36 +242,11 @@ below lines (suc n) deep =
 
 -- ---- a RAM's statement
 
-dotless : (bytes : List ℕ) → list_all (λ byte. (byte == 48) || (byte == 49)) bytes ≡ true → get_or bytes 0 0 ≡ 46 → ⊥
-dotless [] all dot = absurd (omega arith)
-dotless (byte ∷ bytes) all dot =
-    let parts = and_parts ((byte == 48) || (byte == 49)) (list_all (λ byte. (byte == 48) || (byte == 49)) bytes) all in
-    let here : byte ≡ 46 = dot in
-    let never : ((byte == 48) || (byte == 49)) ≡ false = rw here refl in
-    false≢true (sym never ∙ parts.0)
-
--- a row of a tile doesn't begin with a dot
-row-dotless : (kind : TileKind) (line : List ℕ) → is_row (columns_of kind) (trimmed line) ≡ true → begins_with_dot line ≡ true → ⊥
-unfolding is_row
-row-dotless kind line row dot =
-    let parts = and_parts (length (trimmed line) == columns_of kind) (list_all (λ byte. (byte == 48) || (byte == 49)) (trimmed line)) row in
-    dotless (trimmed line) parts.1 (dot-trimmed line (eqb-true (get_or line 0 0) 46 dot))
-
-if-none : (test : Bool) (cause : AscCause) → cause_if (not test) cause ≡ None → test ≡ true
-if-none true cause none = refl
-if-none false cause none = absurd cc
-
-no_dot-below : (over : Option Statement) (line : List ℕ) → has_rows over ≡ true → is_ram_data over ≡ false → row_cause over (trimmed line) ≡ None → begins_with_dot line ≡ true → ⊥
-no_dot-below None line rows other none dot = false≢true rows
-no_dot-below (Some Comment) line rows other none dot = false≢true rows
-no_dot-below (Some (Device device)) line rows other none dot = false≢true rows
-no_dot-below (Some (WarmBoot setting)) line rows other none dot = false≢true rows
-no_dot-below (Some (FrequencyRange setting)) line rows other none dot = false≢true rows
-no_dot-below (Some (NoSleep setting)) line rows other none dot = false≢true rows
-no_dot-below (Some (Tile kind x y)) line rows other none dot = row-dotless kind line (if-none (is_row (columns_of kind) (trimmed line)) Row none) dot
-no_dot-below (Some (RamData x y)) line rows other none dot = false≢true (sym other)
-no_dot-below (Some (ExtraBit bank x y)) line rows other none dot = false≢true rows
-no_dot-below (Some (Symbol net)) line rows other none dot = false≢true rows
+-- of a text that can be read no line below a statement begins with a dot
+pub dotless-deep : (layouts : Layouts) (text : List ℕ) (n : ℕ) → asc_fault_of layouts text ≡ None → n < length (lines_of text) → 0 < depth_at (lines_of text) n → begins_with_dot (line_at (lines_of text) n) ≡ false
+dotless-deep layouts text n none within deep =
+    let lines = lines_of text in
+    dotless-below (statement_over lines n) (line_at lines n) (below lines n deep).rows (fine-row layouts lines n (fine layouts text n none (omega arith)) deep)
 
 -- a line outside of RAMs that looks like the statement of one is one
 pub ram-begins : (layouts : Layouts) (text : List ℕ) (n : ℕ) → asc_fault_of layouts text ≡ None → n < length (lines_of text) → is_in_ram (lines_of text) n ≡ false → is_ram_line (line_at (lines_of text) n) ≡ true
@@ -281,10 +257,7 @@ ram-begins layouts text n none within outside is =
     let right = fine layouts text n none (omega arith) in
     let parts = and_parts (begins_with_dot line) (bytes_eq (first_word Spaces (trimmed line)) ram_data_keyword) is in
     elim (cases_lt 0 (depth_at lines n)) [
-      | inl deep ↦
-          let over = below lines n deep in
-          let other : is_ram_data (statement_over lines n) ≡ false = rw (lt-ltb 0 (depth_at lines n) deep) at outside in
-          absurd (no_dot-below (statement_over lines n) line over.rows other (fine-row layouts lines n right deep) parts.0)
+      | inl deep ↦ absurd (false≢true (sym (dotless-deep layouts text n none within deep) ∙ parts.0))
       | inr flat ↦
           let zero_depth : depth_at lines n ≡ 0 = omega arith in
           (zero_depth, ram_line-is line is (fine-statement layouts lines n right zero_depth within parts.0))
@@ -390,7 +363,7 @@ ram_row (Some (WarmBoot setting)) line is none = absurd (false≢true is)
 ram_row (Some (FrequencyRange setting)) line is none = absurd (false≢true is)
 ram_row (Some (NoSleep setting)) line is none = absurd (false≢true is)
 ram_row (Some (Tile kind x y)) line is none = absurd (false≢true is)
-ram_row (Some (RamData x y)) line is none = if-none (is_memory_line line) Hex none
+ram_row (Some (RamData x y)) line is none = passes (is_memory_line line) Hex none
 ram_row (Some (ExtraBit bank x y)) line is none = absurd (false≢true is)
 ram_row (Some (Symbol net)) line is none = absurd (false≢true is)
 

@@ -1,11 +1,12 @@
 -- Which text a reader stands for that is fed in pieces. The clauses of its calls say all that matters of it: a new one stands for an
 -- empty text, `feed` adds a piece, and `finish` tells what the text means. What a reader keeps stands in specs/inside.
 use Rattle.std.specs.Prelude.{◌≡◌, ℕ, List, length, Option}
+use Rattle.text_lines.specs.Feeding.{StandsFor as FeedStandsFor, refusal_of as refusal_of_feed}
 use Rattle.layout_file.specs.declared.layouts.Layouts.{Layouts}
 use Rattle.layout_file.specs.Layouts.{AreLayouts}
 use Rattle.asc_text.specs.declared.fault.AscFault.{AscFault}
 use Rattle.asc_text.specs.declared.reading.asc_reader.AscReader.{AscReader}
-use Rattle.asc_text.specs.inside.Feeding.{HasFed}
+use Rattle.asc_text.specs.inside.Feeding.{HasTaken, Refuses}
 
 -- how many bytes were fed to a reader
 abbrev pub fed_to : AscReader → ℕ
@@ -13,10 +14,10 @@ fed_to reader = reader.fed
 
 -- the fault with which a reader refused, where it did
 abbrev pub refusal_of : AscReader → Option AscFault
-refusal_of reader = reader.refusal
+refusal_of reader = refusal_of_feed reader.lines
 
 -- A reader stands for a text under layouts: so many bytes were fed to it, and it has read them or refused.
 pub record StandsFor (layouts : Layouts) (text : List ℕ) (reader : AscReader) : Type 0 where
   pub fed : fed_to reader ≡ length text
   pub laid : AreLayouts layouts
-  pub has : HasFed layouts text reader.refusal reader.lines reader.count reader.kept.items
+  pub has : FeedStandsFor HasTaken Refuses layouts text reader.lines

@@ -9,3 +9,4 @@ pub mod RowNumbers
 pub mod Room
 pub mod Sent
 pub mod Head
+pub mod Symbols

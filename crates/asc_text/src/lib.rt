@@ -9,5 +9,5 @@ mod writing;
 
 pub use fault::{AscCause, AscFault, TileXy};
 pub use file::{AscFile, ByteText, Symbol};
-pub use reading::{AscReader, read, read_with};
+pub use reading::{AscReader, read, read_image_with, read_with};
 pub use writing::{CanonicalText, write};

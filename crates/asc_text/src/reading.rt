@@ -1,15 +1,16 @@
 // Texts read.
 
+mod asc_lines;
 mod asc_reader;
 mod bits;
 mod eights;
 mod keyword;
-mod piece;
 mod reader;
 mod rows;
 mod spelling;
+mod symbols;
 mod text;
 mod tile_set;
 
 pub use asc_reader::AscReader;
-pub use text::{read, read_with};
+pub use text::{read, read_image_with, read_with};

@@ -4,7 +4,7 @@ ghost use Rattle.place_search.specs.Places.{gathered_below};
 ghost use Rattle.text_lines.specs.Lines.{line_at, lines_of, whole_lines_of};
 ghost use Rattle.text_lines.specs.Words.{first_word};
 ghost use Rattle.layout_file.specs.Layouts.{standard_layouts};
-ghost use Rattle.asc_text.specs.Faults.{asc_fault_of};
+ghost use Rattle.asc_text.specs.Faults.{Tells, asc_fault_of};
 ghost use Rattle.asc_text.specs.Statements.{ram_data_keyword};
 ghost use Rattle.bram_replace.specs.Columns.{column_count};
 ghost use Rattle.asc_text.specs.Rams.{BeginsWithRam, is_ram_line};
@@ -14,7 +14,8 @@ use crate::columns::Columns;
 use crate::fault::BramFault;
 use crate::hex_file::HexFile;
 use crate::ram::{append_lines, ram_bits, replace_columns};
-use asc_text::AscFault;
+use asc_text::{AscFault, read_image_with};
+use layout_file::Layouts;
 use std::alloc::{AllocError, Global};
 use text_lines::{Separators, first_line, split_word, trimmed};
 
@@ -61,8 +62,8 @@ fn check_text(alloc: Global, asc: &[u8]) -> Result<(), BramFault>
     ensures accepted { OnOk result (asc_fault_of standard_layouts asc.now ≡ None) }
     ensures refused { IfErr result (TellsBram (text_fault (asc_fault_of standard_layouts asc.now))) }
 {
-    match asc_text::read(alloc, asc) {
-        Ok(_) => Ok(()),
+    match read_text(alloc, asc) {
+        Ok(()) => Ok(()),
         Err(AscFault::Memory(e)) => Err(BramFault::Memory(e)),
         Err(AscFault::At { line, tile, cause }) => Err(BramFault::Asc(AscFault::At {
             line,
@@ -70,6 +71,15 @@ fn check_text(alloc: Global, asc: &[u8]) -> Result<(), BramFault>
             cause,
         })),
     }
+}
+
+/// Reads the text under the standard layouts, and keeps nothing of it.
+fn read_text(alloc: Global, asc: &[u8]) -> Result<(), AscFault>
+    ensures accepted { OnOk result (asc_fault_of standard_layouts asc.now ≡ None) }
+    ensures refused { IfErr result (Tells (asc_fault_of standard_layouts asc.now)) }
+{
+    read_image_with(alloc, asc, Layouts::standard())?;
+    Ok(())
 }
 
 /// Replaces the RAMs of a text that can be read.

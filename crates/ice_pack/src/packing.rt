@@ -7,7 +7,7 @@ ghost use Rattle.asc_text.specs.Faults.{asc_fault_of, Tells};
 ghost use Rattle.asc_text.specs.Feeding.{StandsFor};
 ghost use Rattle.ice_pack.specs.Packed.{awake_where, IsPacked, PacksAlike, UnpacksBack};
 
-use asc_text::{AscFault, AscFile, AscReader};
+use asc_text::{AscFault, AscReader};
 use bin_stream::encode;
 use ice_image::{AnyImage, Settings};
 use layout_file::Layouts;
@@ -53,10 +53,7 @@ pub fn pack_fed(alloc: Global, reader: AscReader, no_sleep: bool) -> Result<Vec<
     ensures accepted { OnOk result ((layouts : Layouts) (text : List ℕ) → StandsFor layouts text reader → asc_fault_of layouts text ≡ None) }
     ensures refused { IfErr result (λ fault. (layouts : Layouts) (text : List ℕ) → StandsFor layouts text reader → Tells (asc_fault_of layouts text) fault) }
 {
-    let AscFile {
-        mut image,
-        symbols: _,
-    } = reader.finish()?;
+    let mut image = reader.finish()?;
     keep_awake(&mut image, no_sleep);
     Ok(encode(alloc, &image)?)
 }

@@ -6,7 +6,7 @@ ghost use Rattle.bin_stream.specs.Front.{is_preamble_at, preamble_offset};
 ghost use Rattle.tool_parts.specs.Images.{image_read, StopsImage};
 
 use crate::faults::{asc_refusal, bin_refusal};
-use asc_text::{AscFault, read_with};
+use asc_text::{AscFault, read_image_with};
 use bin_stream::{BinFault, decode_with};
 use ice_image::AnyImage;
 use layout_file::Layouts;
@@ -34,8 +34,8 @@ pub fn read_image(alloc: Global, bytes: &[u8], layouts: Layouts) -> Result<AnyIm
             Err(BinFault::Memory(_)) => Err(Stop::Memory),
         }
     } else {
-        match read_with(alloc, bytes, layouts) {
-            Ok(file) => Ok(file.image),
+        match read_image_with(alloc, bytes, layouts) {
+            Ok(image) => Ok(image),
             Err(AscFault::At { line, tile, cause }) => {
                 Err(Stop::Refused(asc_refusal(line, tile, cause)))
             }

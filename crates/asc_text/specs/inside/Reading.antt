@@ -23,13 +23,12 @@ use Rattle.asc_text.specs.declared.fault.AscCause.{AscCause}
 use Rattle.asc_text.specs.declared.fault.AscCause.TheVariants.{Statement as StatementCause, NoDevice, Row as RowCause, Repeated, Hex, ExtraPlace, Setting}
 use Rattle.asc_text.specs.declared.fault.AscFault.{AscFault}
 use Rattle.asc_text.specs.declared.fault.AscFault.TheVariants.{At, Memory as OutOfMemory}
-use Rattle.asc_text.specs.declared.file.Symbol.{Symbol as NetName}
 use Rattle.asc_text.specs.declared.reading.reader.Reader.{Reader}
 use Rattle.asc_text.specs.declared.reading.reader.Expected.{Expected}
 use Rattle.asc_text.specs.declared.reading.reader.Expected.TheVariants.{Statement as AnyStatement, Row, Memory}
 use Rattle.asc_text.specs.declared.reading.reader.Refusal.{Refusal}
 use Rattle.asc_text.specs.declared.reading.reader.Refusal.TheVariants.{Cause, Memory as NoMemory}
-use Rattle.asc_text.specs.Statements.{statement_in, begins_with_dot, name_in}
+use Rattle.asc_text.specs.Statements.{statement_in, begins_with_dot}
 use Rattle.asc_text.specs.inside.TileSets.{has_tile}
 use Rattle.asc_text.specs.Rows.{is_row, is_memory_line, memory_bytes}
 use Rattle.ice_image.specs.Owned.{is_extra}
@@ -50,7 +49,6 @@ pub record ReaderState : Type 0 where
   pub image : Option AnyImage
   pub tiles : List Bool
   pub rams : List Bool
-  pub symbols : List NetName
   pub expected : Expected
 
 abbrev pub state_of : Reader → ReaderState
@@ -64,7 +62,6 @@ state_of reader = record {
   image = reader.image;
   tiles = reader.tiles;
   rams = reader.rams;
-  symbols = reader.symbols.items;
   expected = reader.expected;
 }
 
@@ -80,7 +77,6 @@ begun layouts = record {
   image = None;
   tiles = replicate 1156 false;
   rams = replicate 1156 false;
-  symbols = [];
   expected = AnyStatement;
 }
 
@@ -219,22 +215,22 @@ abbrev pub before_memory : ℕ → ℕ → ℕ → Expected
 before_memory x y row = if row == 16 then AnyStatement else Memory x y row
 
 -- what a statement changes
-abbrev pub TakesStatement : ReaderState → Statement → List ℕ → ReaderState → Type 0
-TakesStatement s Comment line new = new ≡ record s { comment = Some []; in_comment = true }
-TakesStatement s (Device device) line new = (new ≡ record s { image = new.image }) × IsBlank s.layouts device new.image
-TakesStatement s (WarmBoot setting) line new = new ≡ record s { warm_boot = setting }
-TakesStatement s (FrequencyRange setting) line new = new ≡ record s { range = setting }
-TakesStatement s (NoSleep setting) line new = new ≡ record s { no_sleep = setting }
-TakesStatement s (Tile kind x y) line new = (new ≡ record s { tiles = new.tiles; expected = Row kind x y 0 }) × HasInserted x y s.tiles new.tiles
-TakesStatement s (RamData x y) line new = (new ≡ record s { rams = new.rams; expected = Memory x y 0 }) × HasInserted x y s.rams new.rams
-TakesStatement s (ExtraBit bank x y) line new = (new ≡ record s { image = new.image })
+abbrev pub TakesStatement : ReaderState → Statement → ReaderState → Type 0
+TakesStatement s Comment new = new ≡ record s { comment = Some []; in_comment = true }
+TakesStatement s (Device device) new = (new ≡ record s { image = new.image }) × IsBlank s.layouts device new.image
+TakesStatement s (WarmBoot setting) new = new ≡ record s { warm_boot = setting }
+TakesStatement s (FrequencyRange setting) new = new ≡ record s { range = setting }
+TakesStatement s (NoSleep setting) new = new ≡ record s { no_sleep = setting }
+TakesStatement s (Tile kind x y) new = (new ≡ record s { tiles = new.tiles; expected = Row kind x y 0 }) × HasInserted x y s.tiles new.tiles
+TakesStatement s (RamData x y) new = (new ≡ record s { rams = new.rams; expected = Memory x y 0 }) × HasInserted x y s.rams new.rams
+TakesStatement s (ExtraBit bank x y) new = (new ≡ record s { image = new.image })
     × ImageGains s.image new.image (extra_sets (record { bank = bank; px = x; py = y }))
-TakesStatement s (Symbol net) line new = new ≡ record s { symbols = s.symbols ++ record { net = net; name = name_in line } ∷ [] }
+TakesStatement s (Symbol net) new = new ≡ s
 
 -- a line that isn't of this form is refused
-abbrev pub TakesDotted : ReaderState → Option Statement → List ℕ → ReaderState → Type 0
-TakesDotted s None line new = ⊥
-TakesDotted s (Some statement) line new = TakesStatement (record s { in_comment = false }) statement line new
+abbrev pub TakesDotted : ReaderState → Option Statement → ReaderState → Type 0
+TakesDotted s None new = ⊥
+TakesDotted s (Some statement) new = TakesStatement (record s { in_comment = false }) statement new
 
 -- what a row of a tile changes
 abbrev pub TakesRow : ReaderState → TileKind → ℕ → ℕ → ℕ → List ℕ → ReaderState → Type 0
@@ -248,7 +244,7 @@ TakesMemory s x y row line new = (new ≡ record s { image = new.image; expected
 
 -- what a line changes
 abbrev pub Takes : ReaderState → Expected → List ℕ → ReaderState → Type 0
-Takes s AnyStatement line new = MatchBool (begins_with_dot line) (TakesDotted s (statement_in line) line new) (new ≡ after_text s line)
+Takes s AnyStatement line new = MatchBool (begins_with_dot line) (TakesDotted s (statement_in line) new) (new ≡ after_text s line)
 Takes s (Row kind x y row) line new = TakesRow s kind x y row (trimmed line) new
 Takes s (Memory x y row) line new = TakesMemory s x y row (trimmed line) new
 

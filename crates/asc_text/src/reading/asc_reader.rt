@@ -1,31 +1,27 @@
 // A text that comes in pieces.
-ghost use Rattle.std.specs.Prelude.{◌≡◌, ◌+◌, ◌<◌, ◌≤◌, ◌^◌, vec_len};
+ghost use Rattle.std.specs.Prelude.{◌≡◌, ◌+◌, ◌<◌, ◌≤◌, ◌^◌};
 ghost use Rattle.std.specs.Option.{ForNone};
-ghost use Rattle.asc_text.specs.inside.Reading.{state_of};
-ghost use Rattle.asc_text.specs.inside.LinesTaken.{IsReached};
+ghost use Rattle.text_lines.specs.Feeding.{fed_with, refusal_of as refusal_of_feed, taker_of};
+ghost use Rattle.asc_text.specs.inside.Feeding.{CanTake};
 
 use crate::fault::AscFault;
-use crate::file::AscFile;
-use crate::reading::piece::{finish_text, read_piece};
+use crate::reading::asc_lines::AscLines;
 use crate::reading::reader::Reader;
+use ice_image::AnyImage;
 use layout_file::Layouts;
 use std::alloc::Global;
+use text_lines::LineFeed;
 
 /// A reader of a text that comes in pieces. It keeps what the lines so far have given, and the bytes of a line that hasn't
-/// ended yet.
+/// ended yet. The names of nets are looked at and not kept.
 #[derive(Drop)]
 pub struct AscReader {
     /// How many bytes were fed.
     fed: u64,
-    /// The first faulty line, or that there was no memory. Behind it nothing is read.
-    refusal: Option<AscFault>,
-    /// What the lines have given that LF has ended, and how many they are.
-    lines: Reader,
-    count: u64,
-    /// The bytes behind the last LF.
-    kept: Vec<u8>,
-    ghost reached: { ForNone refusal ∥ IsReached (state_of lines) ∥₁ },
-    ghost room: { ForNone refusal (count + vec_len kept ≤ fed) },
+    /// The lines that have ended go to what takes them, up to the first faulty one.
+    lines: LineFeed<AscLines, AscFault>,
+    ghost reached: { ForNone (refusal_of_feed lines) (CanTake (taker_of lines)) },
+    ghost room: { ForNone (refusal_of_feed lines) (fed_with (λ taker. taker.count) lines ≤ fed) },
     ghost limit: { fed + 1 < 2 ^ 64 },
 }
 
@@ -34,7 +30,7 @@ impl AscReader {
     ghost use Rattle.layout_file.specs.Layouts.{AreLayouts};
     ghost use Rattle.ice_image.specs.Either.{configuration_of};
     ghost use Rattle.asc_text.specs.Faults.{asc_fault_of, Tells};
-    ghost use Rattle.asc_text.specs.Meaning.{AscMeans};
+    ghost use Rattle.asc_text.specs.Meaning.{AscMeans, asc_symbols_of};
     ghost use Rattle.asc_text.specs.Characters.{HasBits};
     ghost use Rattle.asc_text.specs.Ended.{IsFaultless};
     ghost use Rattle.asc_text.specs.Feeding.{fed_to, refusal_of, StandsFor};
@@ -46,12 +42,10 @@ impl AscReader {
         ensures fed { fed_to result ≡ 0 }
         ensures fresh { refusal_of result ≡ None }
     {
+        let reader = Reader::new(alloc, layouts);
         AscReader {
             fed: 0,
-            refusal: None,
-            lines: Reader::new(alloc, layouts),
-            count: 0,
-            kept: Vec::new(alloc),
+            lines: LineFeed::new(alloc, AscLines { reader, count: 0 }),
         }
     }
 
@@ -68,40 +62,20 @@ impl AscReader {
         ensures again { (fault : AscFault) → refusal_of self.old ≡ Some fault → result ≡ Err fault }
     {
         self.fed += piece.len() as u64;
-        if let Some(fault) = self.refusal {
-            return Err(fault);
-        }
-        match read_piece(&mut self.lines, self.count, &mut self.kept, piece) {
-            Ok(count) => {
-                self.count = count;
-                Ok(())
-            }
-            Err(fault) => {
-                self.refusal = Some(fault);
-                Err(fault)
-            }
-        }
+        self.lines.feed(piece)
     }
 
-    /// The configuration and the names that the text gives, or its first faulty line.
-    pub fn finish(self) -> Result<AscFile, AscFault>
-        ensures means { IfOk result (λ file. (layouts : Layouts) (text : List ℕ) → StandsFor layouts text self → AscMeans layouts text (configuration_of file.image) file.symbols.items) }
+    /// The image that the text gives, or its first faulty line.
+    pub fn finish(self) -> Result<AnyImage, AscFault>
+        ensures means { IfOk result (λ image. (layouts : Layouts) (text : List ℕ) → StandsFor layouts text self → AscMeans layouts text (configuration_of image) (asc_symbols_of text)) }
         // Each bit is the character, the digit or the statement that stands for it.
-        ensures bits { IfOk result (λ file. (layouts : Layouts) (text : List ℕ) → StandsFor layouts text self → HasBits text (configuration_of file.image)) }
+        ensures bits { IfOk result (λ image. (layouts : Layouts) (text : List ℕ) → StandsFor layouts text self → HasBits text (configuration_of image)) }
         ensures accepted { OnOk result ((layouts : Layouts) (text : List ℕ) → StandsFor layouts text self → asc_fault_of layouts text ≡ None) }
         ensures refused { IfErr result (λ fault. (layouts : Layouts) (text : List ℕ) → StandsFor layouts text self → Tells (asc_fault_of layouts text) fault) }
         ensures again { (fault : AscFault) → refusal_of self ≡ Some fault → result ≡ Err fault }
     {
-        let AscReader {
-            refusal,
-            lines,
-            count,
-            kept,
-            ..
-        } = self;
-        match refusal {
-            None => finish_text(lines, count, &kept),
-            Some(fault) => Err(fault),
-        }
+        let AscReader { lines, .. } = self;
+        let AscLines { reader, count } = lines.finish()?;
+        reader.finish(count + 1)
     }
 }

@@ -9,7 +9,6 @@ mod plain;
 mod statements;
 
 use crate::fault::{AscCause, AscFault, TileXy};
-use crate::file::{AscFile, Symbol};
 use crate::reading::reader::statements::tile_named;
 use crate::reading::rows::is_printable;
 use crate::reading::spelling::{begins_with_dot, statement_in};
@@ -147,7 +146,6 @@ pub(crate) struct Reader {
     image: Option<AnyImage>,
     tiles: TileSet,
     rams: TileSet,
-    symbols: Vec<Symbol>,
     expected: Expected,
 }
 
@@ -171,7 +169,6 @@ impl Reader {
             image: None,
             tiles: TileSet::new(),
             rams: TileSet::new(),
-            symbols: Vec::new(alloc),
             expected: Expected::Statement,
         }
     }
@@ -226,7 +223,7 @@ impl Reader {
         match expected {
             Expected::Statement => {
                 if begins_with_dot(line) {
-                    self.accept_statement(statement_in(line), line)
+                    self.accept_statement(statement_in(line))
                 } else {
                     self.accept_text(line)
                 }
@@ -239,14 +236,14 @@ impl Reader {
     }
 
     /// Takes a line that begins with a dot, which is that statement where it is a valid one.
-    fn accept_statement(&mut self, statement: Option<Statement>, line: &[u8]) -> Result<(), Refusal>
-        ensures taken { IfOk result (λ _. TakesDotted (state_of self.old) statement line.now (state_of self.new)) }
+    fn accept_statement(&mut self, statement: Option<Statement>) -> Result<(), Refusal>
+        ensures taken { IfOk result (λ _. TakesDotted (state_of self.old) statement (state_of self.new)) }
         ensures accepted { OnOk result (dotted_refusal (state_of self.old) statement ≡ None) }
         ensures refused { IfErr result (Reports (dotted_refusal (state_of self.old) statement)) }
     {
         self.in_comment = false;
         match statement {
-            Some(statement) => self.take(statement, line),
+            Some(statement) => self.take(statement),
             None => Err(Refusal::Cause(AscCause::Statement)),
         }
     }
@@ -272,11 +269,10 @@ impl Reader {
         Ok(())
     }
 
-    /// What the text gives, at its end. The number is that of the line after the last, where something is missing.
+    /// The image that the text gives, at its end. The number is that of the line after the last, where something is missing.
     #[tactic(auto, using(crate::proofs::Dotted::none_of_nothing))]
-    pub(crate) fn finish(self, number: u64) -> Result<AscFile, AscFault>
-        ensures image { IfOk result (λ file. Finishes (state_of self) self.image file.image) }
-        ensures symbols { IfOk result (λ file. file.symbols.items ≡ self.symbols.items) }
+    pub(crate) fn finish(self, number: u64) -> Result<AnyImage, AscFault>
+        ensures image { IfOk result (Finishes (state_of self) self.image) }
         ensures accepted { OnOk result (end_refusal (state_of self) self.expected ≡ None) }
         ensures refused { IfErr result (Tells (fault_with (end_refusal (state_of self) self.expected)
             number (tile_named (statement_of self.expected [])))) }
@@ -293,15 +289,11 @@ impl Reader {
             image,
             tiles: _,
             rams: _,
-            symbols,
             expected,
         } = self;
         match expected {
             Expected::Statement => match image {
-                Some(image) => Ok(AscFile {
-                    image: finished(image, settings, comment),
-                    symbols,
-                }),
+                Some(image) => Ok(finished(image, settings, comment)),
                 None => Err(AscCause::NoDevice.at(number, None)),
             },
             Expected::Row { x, y, .. } => Err(missing(number, x, y, AscCause::Row)),

@@ -1,7 +1,9 @@
 // How statements are spelled.
-ghost use Rattle.std.specs.Prelude.{◌≡◌, drop};
+ghost use Rattle.std.specs.Prelude.{◌≡◌, ◌<◌, ℕ, List, drop, length, Some, IfSome};
 ghost use Rattle.text_lines.specs.declared.words.Separators.TheVariants.{Spaces};
 ghost use Rattle.text_lines.specs.Words.{first_word, behind_word, number_of, numbers_of, words_of};
+ghost use Rattle.text_lines.specs.Numbers.{StartsWithNumber};
+ghost use Rattle.asc_text.specs.declared.statement.Statement.TheVariants.{Symbol};
 ghost use Rattle.asc_text.specs.inside.Keywords.{spelled_as};
 ghost use Rattle.plane_map.specs.DeviceWords.{device_named};
 ghost use Rattle.asc_text.specs.Statements.{begins_with_dot, device_of_words, extra_bit_of_numbers, name_behind, name_in, no_sleep_of_words, ram_data_of_numbers, range_named, range_of_words, spelled, statement_in, switch_named, symbol_of_parts, tile_of_numbers, warm_boot_of_words};
@@ -10,7 +12,9 @@ use crate::reading::keyword::{Keyword, keyword_of};
 use crate::statement::Statement;
 use ice_image::Range;
 use plane_map::{DeviceName, TileKind};
-use text_lines::{Separators, number, one_word, split_word, three_numbers, trimmed, two_numbers};
+use text_lines::{
+    Separators, number, number_before, one_word, split_word, three_numbers, trimmed, two_numbers,
+};
 
 /// Whether the line begins with a dot.
 pub(crate) fn begins_with_dot(line: &[u8]) -> bool
@@ -27,7 +31,40 @@ pub(crate) fn statement_in(line: &[u8]) -> Option<Statement>
     if !begins_with_dot(line) {
         return None;
     }
-    match split_word(Separators::Spaces, trimmed(line)) {
+    let line = trimmed(line);
+    match plain_symbol(line) {
+        Some(net) => Some(Statement::Symbol { net }),
+        None => statement_by_words(line),
+    }
+}
+
+/// The net of `.sym NET NAME` with one space before the number, as most such lines have it. It looks at no byte of the name but
+/// the first.
+fn plain_symbol(line: &[u8]) -> Option<u32>
+    ensures { IfSome result (λ net. spelled (first_word Spaces line.now) (behind_word Spaces line.now) ≡ Some (Symbol net)) }
+{
+    if 5 <= line.len() && &line[..5] == b".sym ".as_slice() {
+        number_before_name(&line[5..])
+    } else {
+        None
+    }
+}
+
+/// The number at the front of a text behind which one space and a byte at least stand.
+fn number_before_name(text: &[u8]) -> Option<u32>
+    ensures { IfSome result (λ number. (name : List ℕ) × StartsWithNumber 32 text.now number name × (0 < length name)) }
+{
+    match number_before(b' ', text) {
+        Some((number, [_, ..])) => Some(number),
+        _ => None,
+    }
+}
+
+/// The statement of a line by its words.
+fn statement_by_words(line: &[u8]) -> Option<Statement>
+    ensures { result ≡ spelled (first_word Spaces line.now) (behind_word Spaces line.now) }
+{
+    match split_word(Separators::Spaces, line) {
         None => None,
         Some((keyword, behind)) => spelled(keyword, behind),
     }

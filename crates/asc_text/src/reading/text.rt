@@ -3,12 +3,14 @@ ghost use Rattle.std.specs.Prelude.{◌≡◌, None, IfOk, IfErr, OnOk};
 ghost use Rattle.layout_file.specs.Layouts.{standard_layouts, AreLayouts};
 ghost use Rattle.ice_image.specs.Either.{configuration_of};
 ghost use Rattle.asc_text.specs.Faults.{asc_fault_of, Tells};
-ghost use Rattle.asc_text.specs.Meaning.{AscMeans};
+ghost use Rattle.asc_text.specs.Meaning.{AscMeans, asc_symbols_of};
 ghost use Rattle.asc_text.specs.Characters.{HasBits};
 
 use crate::fault::AscFault;
 use crate::file::AscFile;
 use crate::reading::asc_reader::AscReader;
+use crate::reading::symbols::symbols_in;
+use ice_image::AnyImage;
 use layout_file::Layouts;
 use std::alloc::Global;
 
@@ -29,6 +31,20 @@ pub fn read_with(alloc: Global, bytes: &[u8], layouts: Layouts) -> Result<AscFil
     ensures means { IfOk result (λ file. AscMeans layouts bytes.now (configuration_of file.image) file.symbols.items) }
     // Each bit is the character, the digit or the statement that stands for it.
     ensures bits { IfOk result (λ file. HasBits bytes.now (configuration_of file.image)) }
+    ensures accepted { OnOk result (asc_fault_of layouts bytes.now ≡ None) }
+    ensures refused { IfErr result (Tells (asc_fault_of layouts bytes.now)) }
+{
+    let image = read_image_with(alloc, bytes, layouts)?;
+    let symbols = symbols_in(alloc, bytes)?;
+    Ok(AscFile { image, symbols })
+}
+
+/// The configuration alone that a text gives under the layouts, or its first faulty line.
+pub fn read_image_with(alloc: Global, bytes: &[u8], layouts: Layouts) -> Result<AnyImage, AscFault>
+    requires { AreLayouts layouts }
+    ensures means { IfOk result (λ image. AscMeans layouts bytes.now (configuration_of image) (asc_symbols_of bytes.now)) }
+    // Each bit is the character, the digit or the statement that stands for it.
+    ensures bits { IfOk result (λ image. HasBits bytes.now (configuration_of image)) }
     ensures accepted { OnOk result (asc_fault_of layouts bytes.now ≡ None) }
     ensures refused { IfErr result (Tells (asc_fault_of layouts bytes.now)) }
 {

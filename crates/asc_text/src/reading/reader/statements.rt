@@ -1,17 +1,14 @@
 // What statements change.
-ghost use Rattle.std.specs.Prelude.{◌≡◌, ◌<◌, ◌++◌, ◌∷◌, [], Some, None, true, IfOk, IfErr, OnOk, is_some, MatchOption};
+ghost use Rattle.std.specs.Prelude.{◌≡◌, ◌<◌, [], Some, None, true, IfOk, IfErr, OnOk, is_some, MatchOption};
 ghost use Rattle.ice_image.specs.Configuration.{blank_image, IsWhole};
 ghost use Rattle.ice_image.specs.Either.{configuration_of};
 ghost use Rattle.asc_text.specs.Meaning.{extra_sets};
 ghost use Rattle.asc_text.specs.Faults.{tile_named};
 ghost use Rattle.asc_text.specs.inside.Reading.{state_of, statement_refusal, setting_refusal, tile_refusal, extra_refusal, TakesStatement, Reports, ImageGains, HasKind};
-ghost use Rattle.asc_text.specs.Statements.{name_in};
 
 use crate::fault::{AscCause, TileXy};
-use crate::file::{ByteText, Symbol};
 use crate::reading::bits;
 use crate::reading::reader::{Expected, Reader, Refusal};
-use crate::reading::spelling::name_in;
 use crate::statement::Statement;
 use ice_image::{AnyImage, Comment};
 use plane_map::{DeviceName, Layout, TileKind, kind_on};
@@ -19,8 +16,8 @@ use std::alloc::{AllocError, Global};
 
 impl Reader {
     /// Takes a statement.
-    pub(super) fn take(&mut self, statement: Statement, line: &[u8]) -> Result<(), Refusal>
-        ensures taken { IfOk result (λ _. TakesStatement (state_of self.old) statement line.now (state_of self.new)) }
+    pub(super) fn take(&mut self, statement: Statement) -> Result<(), Refusal>
+        ensures taken { IfOk result (λ _. TakesStatement (state_of self.old) statement (state_of self.new)) }
         ensures accepted { OnOk result (statement_refusal (state_of self.old) statement ≡ None) }
         ensures refused { IfErr result (Reports (statement_refusal (state_of self.old) statement)) }
     {
@@ -36,7 +33,7 @@ impl Reader {
             Statement::Tile { kind, x, y } => Ok(self.begin_tile(kind, x, y)?),
             Statement::RamData { x, y } => Ok(self.begin_memory(x, y)?),
             Statement::ExtraBit { bank, x, y } => Ok(set_extra_bit(&mut self.image, bank, x, y)?),
-            Statement::Symbol { net } => Ok(self.add_symbol(net, name_in(line))?),
+            Statement::Symbol { .. } => Ok(()),
         }
     }
 
@@ -50,7 +47,7 @@ impl Reader {
 
     /// Takes the device, where the text has named none before.
     fn take_device(&mut self, device: Option<DeviceName>) -> Result<(), Refusal>
-        ensures taken { IfOk result (λ _. TakesStatement (state_of self.old) (Statement.Device device) [] (state_of self.new)) }
+        ensures taken { IfOk result (λ _. TakesStatement (state_of self.old) (Statement.Device device) (state_of self.new)) }
         ensures accepted { OnOk result (statement_refusal (state_of self.old) (Statement.Device device) ≡ None) }
         ensures refused { IfErr result (Reports (statement_refusal (state_of self.old) (Statement.Device device))) }
     {
@@ -66,7 +63,7 @@ impl Reader {
 
     /// Begins the rows of a tile, where the text has not given them before.
     fn begin_tile(&mut self, kind: TileKind, x: u32, y: u32) -> Result<(), AscCause>
-        ensures taken { IfOk result (λ _. TakesStatement (state_of self.old) (Statement.Tile kind x y) [] (state_of self.new)) }
+        ensures taken { IfOk result (λ _. TakesStatement (state_of self.old) (Statement.Tile kind x y) (state_of self.new)) }
         ensures accepted { OnOk result (statement_refusal (state_of self.old) (Statement.Tile kind x y) ≡ None) }
         ensures refused { IfErr result (λ cause. statement_refusal (state_of self.old) (Statement.Tile kind x y) ≡ Some cause) }
     {
@@ -88,7 +85,7 @@ impl Reader {
 
     /// Begins the contents of a RAM, where the text has not given them before.
     fn begin_memory(&mut self, x: u32, y: u32) -> Result<(), AscCause>
-        ensures taken { IfOk result (λ _. TakesStatement (state_of self.old) (Statement.RamData x y) [] (state_of self.new)) }
+        ensures taken { IfOk result (λ _. TakesStatement (state_of self.old) (Statement.RamData x y) (state_of self.new)) }
         ensures accepted { OnOk result (statement_refusal (state_of self.old) (Statement.RamData x y) ≡ None) }
         ensures refused { IfErr result (λ cause. statement_refusal (state_of self.old) (Statement.RamData x y) ≡ Some cause) }
     {
@@ -104,15 +101,6 @@ impl Reader {
             y: y as u8,
             row: 0,
         };
-        Ok(())
-    }
-
-    /// Takes the name of a net.
-    fn add_symbol(&mut self, net: u32, name: &[u8]) -> Result<(), AllocError>
-        ensures { IfOk result (λ _. state_of self.new ≡ record (state_of self.old) { symbols = (state_of self.old).symbols ++ record { net = net; name = name.now } ∷ [] }) }
-    {
-        let name = ByteText::new(Vec::from_slice(self.alloc, name)?);
-        self.symbols.push(Symbol { net, name })?;
         Ok(())
     }
 }

@@ -4,6 +4,7 @@ use Rattle.std.specs.Prelude.{Ok}
 use Rattle.layout_file.specs.Layouts.{HasLayout}
 use Rattle.ice_image.specs.Configuration.{Configuration}
 use Rattle.ice_image.specs.Either.{configuration_of}
+use Rattle.asc_text.specs.Meaning.{asc_symbols_of}
 use Rattle.bin_stream.specs.CanonicalBytes.{canonical_bytes}
 use Rattle.bin_stream.specs.Spelling.{Spells}
 use Rattle.ice_pack.proofs.BothWays.{packs_alike, unpacks_back}
@@ -12,13 +13,13 @@ use Rattle.ice_pack.proofs.packing.pack_fed.Goals as goal
 
 pub returns-clause-packed : goal.returns-clause-packed
 returns-clause-packed c = λ layouts text stands.
-    let image = configuration_of c.in_ok-image.field-0.image in
+    let image = configuration_of c.in_ok-image.image in
     let awake = configuration_of c.keep_awake.new.image in
     let means = c.in_ok-image.ensures.means layouts text stands in
     let kept : HasLayout layouts awake.layout = has_layout_awake layouts stands.laid text image awake c.args.no_sleep means.configures c.keep_awake.ensures in
     record {
       image = image;
-      symbols = c.in_ok-image.field-0.symbols.items;
+      symbols = asc_symbols_of text;
       means = means;
       canonical = c.in_ok-encode.ensures.bytes ∙ ap canonical_bytes c.keep_awake.ensures;
       spells = subst (λ (image : Configuration). Spells layouts c.in_ok-encode.field-0.items image) c.keep_awake.ensures (c.in_ok-encode.ensures.spells layouts kept);

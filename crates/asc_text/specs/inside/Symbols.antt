@@ -1,0 +1,9 @@
+-- The names that lines give to nets, where each line that begins as a statement is one.
+use Rattle.std.specs.Prelude.{ℕ, List, [], ◌∷◌, ◌++◌}
+use Rattle.asc_text.specs.declared.file.Symbol.{Symbol as NetName}
+use Rattle.asc_text.specs.Statements.{statement_in}
+use Rattle.asc_text.specs.Meaning.{symbol_in}
+
+unfoldable pub symbols_in : List (List ℕ) → List NetName
+symbols_in [] = []
+symbols_in (line ∷ lines) = symbol_in (statement_in line) line ++ symbols_in lines

@@ -1,2 +1,4 @@
--- names after more bytes were added
-pub mod Pushed
+-- what the walks over a block share
+pub mod Blocks
+-- names stay where more is written
+pub mod Kept

@@ -1,6 +1,7 @@
-// Names, one after another in one vector of bytes.
+// Names: their bytes in chunks, and where each of them stands.
 ghost use Rattle.std.specs.Prelude.{◌≡◌, ◌+◌, ◌-◌, ◌^◌, ◌<◌, ◌++◌, ◌∷◌, [], length, slice_index_or, ◌↔◌, IsTrue, IfOk, OnErr};
 
+use crate::chunks::{Chunks, Span};
 use std::alloc::{AllocError, Global};
 use std::marker::Model;
 
@@ -29,30 +30,23 @@ impl NameId {
     }
 }
 
-/// Where the bytes of a name stand.
-#[derive(Clone, Copy, Debug)]
-struct Span {
-    start: usize,
-    end: usize,
-}
-
-/// Byte strings in the order in which they were added. Contracts see the list of them.
+/// Byte strings in the order in which they were added. Contracts see the list of them. The bytes lie in chunks of memory that are never
+/// grown or moved, and are given back together with the arena.
 #[derive(Drop)]
 pub struct NameArena {
-    bytes: Vec<u8>,
+    chunks: Chunks,
     spans: Vec<Span>,
 }
 
 impl Model for NameArena {
     ghost use Rattle.std.specs.Prelude.{List, ℕ, ◌^◌, ◌<◌, length, map, All};
-    ghost use Rattle.name_arena.specs.Names.{name_in, IsSpanOf};
+    ghost use Rattle.name_arena.specs.Names.{name_at, IsSpanOf};
 
     ghost Value = { List (List ℕ) };
 
-    ghost view = { λ arena. map (λ span. name_in arena.bytes.items span.start span.end) arena.spans.items };
+    ghost view = { λ arena. map (λ span. name_at arena.chunks span) arena.spans.items };
 
-    ghost invariant = { λ arena. (length arena.spans.items < 2 ^ 32)
-        × All (λ span. IsSpanOf (length arena.bytes.items) span.start span.end) arena.spans.items };
+    ghost invariant = { λ arena. (length arena.spans.items < 2 ^ 32) × All (λ span. IsSpanOf arena.chunks span) arena.spans.items };
 }
 
 impl NameArena {
@@ -61,7 +55,7 @@ impl NameArena {
         ensures { result ≡ [] }
     {
         NameArena {
-            bytes: Vec::new(alloc),
+            chunks: Chunks::new(alloc),
             spans: Vec::new(alloc),
         }
     }
@@ -74,10 +68,10 @@ impl NameArena {
         ensures unchanged { OnErr result (self.new ≡ self.old) }
     {
         let place = self.spans.len() as u32;
-        let start = self.bytes.len();
-        self.bytes.extend_from_slice(name)?;
-        let end = self.bytes.len();
-        self.spans.push(Span { start, end })?;
+        // The room comes first, so that no bytes are kept of a name that is refused.
+        self.spans.reserve(1)?;
+        let span = self.chunks.keep(name)?;
+        let _fits = self.spans.push(span);
         Ok(NameId { place })
     }
 
@@ -86,8 +80,7 @@ impl NameArena {
         requires { id < length self.now }
         ensures { result.now ≡ slice_index_or self.now id [] }
     {
-        let span = self.spans[id.place as usize];
-        &self.bytes[span.start..span.end]
+        self.chunks.name(self.spans[id.place as usize])
     }
 
     /// Whether the arena has a name of that id, as it has of each of its own.

@@ -2,6 +2,9 @@
 #![tactic(auto)]
 
 mod arena;
+mod block;
+mod chunk;
+mod chunks;
 
 pub use arena::{NameArena, NameId};
 

@@ -1,24 +1,76 @@
 use super::*;
 use std::alloc::{AllocError, Global};
 
-/// Whether each of some names is got again by its id.
-fn keeps_names(alloc: Global) -> Result<bool, AllocError> {
-    let mut names = NameArena::new(alloc);
-    if names.len() != 0 {
-        return Ok(false);
+/// As many bytes as a chunk has room for.
+const CHUNK: usize = 65_536;
+
+/// So many bytes, of which neighbours differ.
+fn some_bytes(alloc: Global, count: usize) -> Result<Vec<u8>, AllocError> {
+    let mut bytes = Vec::with_capacity(alloc, count)?;
+    for place in 0..count {
+        bytes.push((place % 251) as u8)?;
     }
-    let first = names.push(b"io_0/D_IN_0")?;
-    let second = names.push(b"")?;
-    let third = names.push(b"lutff_0/out")?;
+    Ok(bytes)
+}
+
+/// Pushes a name again and again, up to so many names.
+fn push_each(
+    names: &mut NameArena,
+    ids: &mut Vec<NameId>,
+    name: &[u8],
+    count: u32,
+) -> Result<(), AllocError> {
+    for _ in 0..count {
+        if names.len() < 1_000_000 {
+            ids.push(names.push(name)?)?;
+        }
+    }
+    Ok(())
+}
+
+/// Whether each of some names is that one.
+fn is_each(names: &NameArena, ids: &[NameId], name: &[u8]) -> bool {
+    ids.iter()
+        .all(|id| names.has(*id) && names.get(*id) == name)
+}
+
+/// Whether so many names of so many bytes are all got again.
+fn keeps_names(alloc: Global, count: u32, bytes: usize) -> Result<bool, AllocError> {
+    let name = some_bytes(alloc, bytes)?;
+    let mut names = NameArena::new(alloc);
+    let mut ids = Vec::with_capacity(alloc, count as usize)?;
+    push_each(&mut names, &mut ids, &name, count)?;
+    Ok(names.len() == count as usize && ids.len() == names.len() && is_each(&names, &ids, &name))
+}
+
+/// Whether names of no byte, of as many as a chunk has room for, of one more and of one are got again.
+fn keeps_lengths(alloc: Global) -> Result<bool, AllocError> {
+    let whole = some_bytes(alloc, CHUNK)?;
+    let longer = some_bytes(alloc, CHUNK + 1)?;
+    let mut names = NameArena::new(alloc);
+    let first = names.push(b"")?;
+    let second = names.push(&whole)?;
+    let third = names.push(&longer)?;
+    let fourth = names.push(b"x")?;
     Ok(
-        names.len() == 3
-            && names.get(first) == b"io_0/D_IN_0".as_slice()
-            && names.get(second) == b"".as_slice()
-            && names.get(third) == b"lutff_0/out".as_slice(),
+        names.get(first) == b"".as_slice()
+            && names.get(second) == whole.as_slice()
+            && names.get(third) == longer.as_slice()
+            && names.get(fourth) == b"x".as_slice(),
     )
 }
 
 #[test]
-fn names_are_got_again(rt: HostRuntime) {
-    assert!(rt; keeps_names(rt.alloc()) == Ok(true));
+fn names_of_each_length_are_got_again(rt: HostRuntime) {
+    assert!(rt; keeps_lengths(rt.alloc()) == Ok(true));
+}
+
+#[test]
+fn names_of_a_chunk_each_are_got_again(rt: HostRuntime) {
+    assert!(rt; keeps_names(rt.alloc(), 64, CHUNK) == Ok(true));
+}
+
+#[test]
+fn names_of_one_byte_are_got_again(rt: HostRuntime) {
+    assert!(rt; keeps_names(rt.alloc(), 1_000, 1) == Ok(true));
 }

@@ -1,17 +1,23 @@
-use Rattle.std.proofs.Common.{arith}
-use Rattle.std.proofs.lemmas.Result.{err_from_is_err_and}
-use Rattle.name_arena.proofs.Pushed.{names-append, names-push}
+use Rattle.std.proofs.Common.{◌≡◌, [], ◌∷◌, ◌++◌, length, sym, ap, ◌∙◌, arith, length-append}
+use Rattle.std.proofs.lemmas.List.{length-map}
+use Rattle.name_arena.proofs.Kept.{names_pushed, spans_pushed, pushed}
 use Rattle.name_arena.proofs.arena.NameArena.push.Goals as goal
 
-pub returns-in_err-push-clause-unchanged : goal.returns-in_err-push-clause-unchanged
-returns-in_err-push-clause-unchanged c =
-    let p = err_from_is_err_and c.from_residual-in_err-push.result c.from_residual-in_err-push.ensures.1 in
-    rw (p.1, c.in_err-push.ensures.items, c.in_ok-extend_from_slice.ensures.items, ← c.self.view_is)
-    (names-append c.self.inside.bytes.items c.args.name.now c.self.inside.spans.items c.self.invariant.1)
+pub invariant_of-self-2 : goal.invariant_of-self-2
+invariant_of-self-2 c =
+    let fits = c.push-fits.ensures.succeeds (omega (arith, c.in_ok-reserve.ensures.ok)) in
+    let items : c.push-fits.new.self.items ≡ c.self.inside.spans.items ++ c.in_ok-span.span ∷ [] =
+    pushed _ _ _ _ fits c.push-fits.ensures.items ∙ ap (λ spans. spans ++ c.in_ok-span.span ∷ []) c.in_ok-reserve.ensures.items in
+    let count : length c.args.self.now ≡ length c.self.inside.spans.items = ap (λ names. length names) (sym c.self.view_is) ∙ length-map c.self.inside.spans.items _ in
+    rw items (
+      omega (arith, count, c.requires, length-append c.self.inside.spans.items (c.in_ok-span.span ∷ [])),
+      spans_pushed c.self.inside.chunks c.keep.new.self c.self.inside.spans.items c.in_ok-span.span c.in_ok-span.ensures.others c.self.invariant.1 c.in_ok-span.ensures.kept.0,
+    )
 
 pub returns-clause-pushed : goal.returns-clause-pushed
 returns-clause-pushed c =
-    rw (c.in_ok-push.ensures.items, c.in_ok-extend_from_slice.ensures.items, ← c.self.view_is)
-    (names-push c.self.inside.bytes.items c.args.name.now c.self.inside.spans.items (record { start = c.len-start.result; end = c.len-end.result })
-    (omega (arith, c.len-start.ensures, c.self.inside.bytes.ok.0))
-    (omega (arith, c.len-end.ensures, c.in_ok-extend_from_slice.ensures.len, c.self.inside.bytes.ok.0)) c.self.invariant.1)
+    let fits = c.push-fits.ensures.succeeds (omega (arith, c.in_ok-reserve.ensures.ok)) in
+    let items : c.push-fits.new.self.items ≡ c.self.inside.spans.items ++ c.in_ok-span.span ∷ [] =
+    pushed _ _ _ _ fits c.push-fits.ensures.items ∙ ap (λ spans. spans ++ c.in_ok-span.span ∷ []) c.in_ok-reserve.ensures.items in
+    rw (items, ← c.self.view_is)
+    (names_pushed c.self.inside.chunks c.keep.new.self c.self.inside.spans.items c.in_ok-span.span c.args.name.now c.in_ok-span.ensures.others c.self.invariant.1 c.in_ok-span.ensures.kept.1)

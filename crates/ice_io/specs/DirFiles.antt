@@ -1,11 +1,12 @@
 -- The real files: how often they failed, and what was read from a file of the system or written to one.
-use Rattle.std.specs.Prelude.{◌≡◌, ℕ, ◌<◌, List, Option, ⊤, ◌⊎◌, true, false, length, take}
-use Rattle.std.specs.Io.KnownBytes.{Appends}
+use Rattle.std.specs.Prelude.{◌≡◌, ℕ, ◌<◌, List, Option, ⊤, true, false, length, take}
+use Rattle.std.specs.Io.KnownBytes.{Appends, Consumes, IsAtEnd}
 use Rattle.ice_io.specs.Faults.{counted}
 use Rattle.ice_io.specs.Taken.{TakesAll, TakesCount}
-use Rattle.ice_io.specs.Takers.{TakesFront}
 use Rattle.ice_io.specs.declared.files.StoreFault.{StoreFault}
 use Rattle.ice_io.specs.declared.files.StoreFault.TheVariants.{Failed}
+use Rattle.ice_io.specs.declared.files.ContentFault.{ContentFault}
+use Rattle.ice_io.specs.declared.files.ContentFault.TheVariants.{Store, Memory}
 
 -- how many loads and how many stores have failed
 pub record FileFaults : Type 0 where
@@ -33,10 +34,10 @@ WereInFile {File} remaining bytes = (before : File) × (after : File) × TakesAl
 abbrev pub WereTaken : {File : Type 0} → (File → Option (List ℕ)) → ℕ → Type 0
 WereTaken {File} remaining n = (before : File) × (after : File) × TakesCount (remaining before) (remaining after) n
 
--- no byte was taken, or the first of those that were read from some file
-abbrev pub WereFront : {File Setting T : Type 0} → (File → Option (List ℕ)) → (Setting → T → List ℕ → Type 0) → T → T → Type 0
-WereFront {File} remaining has_taken old new =
-    (new ≡ old) ⊎ ((before : File) × (after : File) × TakesFront (remaining before) (remaining after) has_taken old new)
+-- the n bytes at the front of a buffer were read from some file, and none into a buffer that isn't empty only at its end
+abbrev pub WereRead : {File : Type 0} → (File → Option (List ℕ)) → List ℕ → ℕ → Type 0
+WereRead {File} remaining into n = (before : File) × (after : File) × Consumes (remaining before) (remaining after) (take n into)
+    × (n ≡ 0 → 0 < length into → IsAtEnd (remaining after))
 
 -- these bytes were appended to some file
 abbrev pub WereWritten : {File : Type 0} → (File → Option (List ℕ)) → List ℕ → Type 0
@@ -46,3 +47,8 @@ WereWritten {File} contents bytes = (before : File) × (after : File) × Appends
 abbrev pub WerePartWritten : {File : Type 0} → (File → Option (List ℕ)) → List ℕ → StoreFault → Type 0
 WerePartWritten contents bytes (Failed true written) = WereWritten contents (take written bytes)
 WerePartWritten contents bytes (Failed false written) = ⊤
+
+-- the same of storing content, which never lacks memory
+abbrev pub WereContentWritten : {File : Type 0} → (File → Option (List ℕ)) → List ℕ → ContentFault → Type 0
+WereContentWritten contents bytes (Store fault) = WerePartWritten contents bytes fault
+WereContentWritten contents bytes (Memory e) = ⊥

@@ -1,11 +1,14 @@
 -- Files by their names, where they are known, and what loading and storing do to them.
-use Rattle.std.specs.Prelude.{◌≡◌, ℕ, ◌<◌, List, [], ◌++◌, Option, Some, None, ⊤, MatchOption, length, take, true, false, option_map, IsSomeAnd}
+use Rattle.std.specs.Prelude.{◌≡◌, ℕ, ◌<◌, ◌≤◌, List, [], ◌++◌, Option, Some, None, ⊤, MatchOption, length, take, drop, true, false, option_map, IsSomeAnd}
 use Rattle.std.specs.Ordering.{nat_cmp}
 use Rattle.std.specs.Cmp.Lexicographic.{slice_cmp}
 use Rattle.std.specs.FinMap.{FinMap, get, insert}
+use Rattle.ice_io.specs.Faults.{Rose}
 use Rattle.ice_io.specs.Takers.{TakesMore}
 use Rattle.ice_io.specs.declared.files.StoreFault.{StoreFault}
 use Rattle.ice_io.specs.declared.files.StoreFault.TheVariants.{Failed}
+use Rattle.ice_io.specs.declared.files.ContentFault.{ContentFault}
+use Rattle.ice_io.specs.declared.files.ContentFault.TheVariants.{Store, Memory}
 
 -- files in memory: each name's bytes, by the bytes of the name
 abbrev pub FileMap : Type 0
@@ -26,6 +29,16 @@ abbrev pub HasFront : Option FileMap → List ℕ → List ℕ → Type 0
 HasFront None name bytes = ⊤
 HasFront (Some files) name bytes = MatchOption (get files name) (bytes ≡ []) (λ all. (rest : List ℕ) × (all ≡ bytes ++ rest))
 
+-- where the files are known, the name has these bytes from that place on
+abbrev pub HasPart : Option FileMap → List ℕ → ℕ → List ℕ → Type 0
+HasPart None name at bytes = ⊤
+HasPart (Some files) name at bytes = IsSomeAnd (get files name) (λ all. (rest : List ℕ) × (drop at all ≡ bytes ++ rest))
+
+-- where the files are known, the name has no byte from that place on
+abbrev pub EndsBefore : Option FileMap → List ℕ → ℕ → Type 0
+EndsBefore None name at = ⊤
+EndsBefore (Some files) name at = IsSomeAnd (get files name) (λ all. length all ≤ at)
+
 -- of a file, the first bytes were taken
 abbrev pub TakesFrontOf : {Setting T : Type 0} → Option FileMap → List ℕ → (Setting → T → List ℕ → Type 0) → T → T → Type 0
 TakesFrontOf files name has_taken old new = (bytes : List ℕ) × HasFront files name bytes × TakesMore has_taken old new bytes
@@ -43,3 +56,13 @@ with_file files name bytes = option_map (λ known. insert known name bytes) file
 abbrev pub LeavesPart : Option FileMap → Option FileMap → List ℕ → List ℕ → StoreFault → Type 0
 LeavesPart old new name bytes (Failed true written) = (new ≡ with_file old name (take written bytes)) × (written < length bytes)
 LeavesPart old new name bytes (Failed false written) = (new ≡ old) × (written ≡ 0)
+
+-- what storing content leaves where it failed: what a store leaves, and after want of memory all as it was
+abbrev pub LeavesContent : Option FileMap → Option FileMap → List ℕ → List ℕ → ContentFault → Type 0
+LeavesContent old new name bytes (Store fault) = LeavesPart old new name bytes fault
+LeavesContent old new name bytes (Memory e) = new ≡ old
+
+-- where storing content failed, a store that failed was counted, and for want of memory none
+abbrev pub CountsStore : ℕ → ℕ → ContentFault → Type 0
+CountsStore old new (Store fault) = Rose old new
+CountsStore old new (Memory e) = new ≡ old

@@ -1,5 +1,5 @@
 -- The files in memory: what their calls do, and which fail.
-use Rattle.std.specs.Prelude.{◌≡◌, ◌≢◌, ◌⊎◌, ℕ, Bool, true, false, List, None, map, take, Contains, string_bytes, refl}
+use Rattle.std.specs.Prelude.{◌≡◌, ◌≢◌, ◌⊎◌, ℕ, ◌-◌, min, length, Bool, true, false, List, None, map, take, Contains, string_bytes, refl}
 use Rattle.std.specs.FinMap as map_of
 use Rattle.std.specs.FinMap.{get, insert, from_entries}
 use Rattle.std.specs.Coded.{Coded, code_by, coded×, coded_ℕ, coded_list}
@@ -41,13 +41,17 @@ abbrev pub stored_over : FileMap → List ℕ → Bool → List ℕ → FileMap
 stored_over files target false bytes = files
 stored_over files target true bytes = insert files target bytes
 
--- the next call, a load of this name, fails
+-- the next call, a load of this name or of a part of it, fails
 abbrev pub LoadFails : FilesState → List ℕ → Type 0
 LoadFails s name = Contains s.failing (counted s.calls) ⊎ (get s.files name ≡ None)
 
 -- the next call, a store under this name, fails before anything is opened
 abbrev pub StoreFails : FilesState → List ℕ → Type 0
 StoreFails s name = Contains s.failing (counted s.calls) ⊎ (name ≢ s.target)
+
+-- how many bytes of a file are given from a place on, into a buffer of that length
+abbrev pub part_size : FilesState → List ℕ → ℕ → ℕ → ℕ
+part_size s bytes at len = min s.most (min (length bytes - at) len)
 
 -- the files after a load that didn't fail
 abbrev pub after_load : FilesState → FilesState

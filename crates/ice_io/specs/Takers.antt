@@ -1,18 +1,10 @@
 -- What has taken bytes that come piece by piece.
-use Rattle.std.specs.Prelude.{ℕ, ◌≡◌, ◌≤◌, List, Option, ◌++◌, length, All}
-use Rattle.std.specs.List.{FoldsTo, concat}
+use Rattle.std.specs.Prelude.{ℕ, List, Option, ◌++◌}
 use Rattle.std.specs.Io.KnownBytes.{Consumes}
 
 -- behind whatever was taken before, these bytes were taken
 abbrev pub TakesMore : {Setting T : Type 0} → (Setting → T → List ℕ → Type 0) → T → T → List ℕ → Type 0
 TakesMore {Setting} has_taken old new bytes = (setting : Setting) (before : List ℕ) → has_taken setting old before → has_taken setting new (before ++ bytes)
-
--- these bytes were taken one piece after the other, none of more than so many bytes
-pub record TakesPieces {Setting T : Type 0} (has_taken : Setting → T → List ℕ → Type 0) (most : ℕ) (old new : T) (bytes : List ℕ) : Type 0 where
-  pub pieces : List (List ℕ)
-  pub taken : FoldsTo (λ a piece b. TakesMore has_taken a b piece) old pieces new
-  pub short : All (λ piece. length piece ≤ most) pieces
-  pub whole : concat pieces ≡ bytes
 
 -- all that was read from a source was taken
 abbrev pub TakesRead : {Setting T : Type 0} → Option (List ℕ) → Option (List ℕ) → (Setting → T → List ℕ → Type 0) → T → T → Type 0

@@ -1,20 +1,19 @@
 // The real files. What is read from a file that was opened, and what is written to one, is exact. That the file is the one of
 // that name, and was emptied before, is the system's part.
-ghost use Rattle.std.specs.Prelude.{◌≡◌, ◌+◌, ◌<◌, ◌≤◌, ◌^◌, ℕ, List, None, true, false, length, vec_len, IfOk, IfErr, OnOk, OnErr, IsErrOf};
+ghost use Rattle.std.specs.Prelude.{◌≡◌, ◌+◌, ◌<◌, ◌≤◌, ◌^◌, None, true, false, length, vec_len, IfOk, IfErr, OnOk, OnErr, IsErrOf};
 ghost use Rattle.std.specs.Io.KnownBytes.{Appends};
-ghost use Rattle.ice_io.specs.DirFiles.{after_load_fault, after_store_fault, AppendsPart, WereInFile, WereTaken, WereFront, WereWritten, WerePartWritten};
+ghost use Rattle.ice_io.specs.DirFiles.{after_load_fault, after_store_fault, AppendsPart, WereInFile, WereTaken, WereRead, WereWritten, WereContentWritten, WerePartWritten};
 ghost use Rattle.ice_io.specs.Faults.{Rose};
-ghost use Rattle.ice_io.specs.Files.{LeavesPart};
+ghost use Rattle.ice_io.specs.Files.{LeavesContent, LeavesPart};
 ghost use Rattle.ice_io.specs.Real.{read_faults, reader_of};
 ghost use Rattle.ice_io.specs.Taken.{TakesAll, TakesAtMost, TakesCount};
-ghost use Rattle.ice_io.specs.Takers.{TakesMore};
 
 use crate::content::Content;
-use crate::files::{Files, StoreFault};
+use crate::files::{ContentFault, Files, StoreFault};
+use crate::kept_file::{KeptFile, read_part};
 use crate::real::{StdSink, StdSource};
 use crate::sink::{PutFault, Sink};
-use crate::source::{TakeFault, read_expected};
-use crate::taker::{Taker, feed_all};
+use crate::source::{Failed, TakeFault, read_expected};
 use std::alloc::Global;
 use std::fs::OpenFile;
 use std::io::Read;
@@ -25,6 +24,7 @@ use std::{fs, rt};
 #[derive(Drop)]
 pub struct DirFiles<'a, R: rt::Files> {
     rt: &'a R,
+    kept: KeptFile<R::File>,
     load_faults: u64,
     store_faults: u64,
 }
@@ -44,9 +44,28 @@ impl<'a, R: rt::Files> DirFiles<'a, R> {
     {
         DirFiles {
             rt,
+            kept: KeptFile::new(),
             load_faults: 0,
             store_faults: 0,
         }
+    }
+
+    // Stores the content, and counts a failure.
+    fn replace<C: Content>(&mut self, name: &str, content: C) -> Result<(), StoreFault>
+        ensures part { IfErr result (LeavesPart None None name.now (C.bytes content)) }
+        ensures never_falls { self.old.store_faults ≤ self.new.store_faults }
+        ensures same_load_faults { self.new.load_faults ≡ self.old.load_faults }
+        ensures same { OnOk result (self.new ≡ self.old) }
+        ensures failed { OnErr result (self.new ≡ after_store_fault self.old) }
+        ensures whole { OnOk result (WereWritten R.File.contents (C.bytes content)) }
+        ensures first { IfErr result (WerePartWritten R.File.contents (C.bytes content)) }
+    {
+        self.kept.close();
+        let stored = store_to(self.rt, name, content);
+        if stored.is_err() {
+            self.store_faults = self.store_faults.saturating_add(1);
+        }
+        stored
     }
 }
 
@@ -72,6 +91,7 @@ impl<R: rt::Files> Files for DirFiles<'_, R> {
         ensures whole { IfOk result (λ bytes. WereInFile R.File.remaining bytes.items) }
         ensures longer { IsErrOf result TakeFault.TooLong → WereTaken R.File.remaining (limit + 1) }
     {
+        self.kept.close();
         let loaded = load_from(self.rt, alloc, name, limit);
         if let Err(TakeFault::Failed) = loaded {
             self.load_faults = self.load_faults.saturating_add(1);
@@ -79,32 +99,22 @@ impl<R: rt::Files> Files for DirFiles<'_, R> {
         loaded
     }
 
-    fn load_into<T: Taker>(
-        &mut self,
-        alloc: Global,
-        name: &str,
-        limit: usize,
-        taker: &mut T,
-    ) -> Result<(), TakeFault>
-        requires limit { limit < 2 ^ 32 }
-        requires none { T.fed taker.old ≡ 0 }
+    fn read_at(&mut self, name: &str, at: u64, into: &mut [u8]) -> Result<usize, Failed>
+        ensures count { IfOk result (λ n. n ≤ length into.new) }
         ensures never_falls { self.old.load_faults ≤ self.new.load_faults }
         ensures same_store_faults { self.new.store_faults ≡ self.old.store_faults }
 
-        ensures same { (IsErrOf result TakeFault.Failed → ⊥) → self.new ≡ self.old }
-        ensures failed { IsErrOf result TakeFault.Failed → self.new ≡ after_load_fault self.old }
+        ensures same { OnOk result (self.new ≡ self.old) }
+        ensures failed { OnErr result (self.new ≡ after_load_fault self.old) }
 
-        // `Ok` has given all bytes of a file, and `TooLong` comes only where more than the limit were read from one.
-        ensures whole { OnOk result ((bytes : List ℕ) × WereInFile R.File.remaining bytes
-            × (length bytes ≤ limit) × TakesMore T.has_taken taker.old taker.new bytes) }
-        ensures front { OnErr result (WereFront R.File.remaining T.has_taken taker.old taker.new) }
-        ensures longer { IsErrOf result TakeFault.TooLong → WereTaken R.File.remaining (limit + 1) }
+        // `Ok` has read these bytes from a file, and 0 for a buffer that isn't empty comes only at its end.
+        ensures read { IfOk result (WereRead R.File.remaining into.new) }
     {
-        let loaded = feed_from(self.rt, alloc, name, limit, taker);
-        if let Err(TakeFault::Failed) = loaded {
+        let read = read_part(self.rt, &mut self.kept, name, at, into);
+        if read.is_err() {
             self.load_faults = self.load_faults.saturating_add(1);
         }
-        loaded
+        read
     }
 
     fn store(&mut self, name: &str, bytes: &[u8]) -> Result<(), StoreFault>
@@ -119,11 +129,16 @@ impl<R: rt::Files> Files for DirFiles<'_, R> {
         ensures whole { OnOk result (WereWritten R.File.contents bytes.now) }
         ensures first { IfErr result (WerePartWritten R.File.contents bytes.now) }
     {
-        self.store_content(name, bytes)
+        self.replace(name, bytes)
     }
 
-    fn store_content<C: Content>(&mut self, name: &str, content: C) -> Result<(), StoreFault>
-        ensures part { IfErr result (LeavesPart None None name.now (C.bytes content)) }
+    fn store_content<C: Content>(
+        &mut self,
+        _alloc: Global,
+        name: &str,
+        content: C,
+    ) -> Result<(), ContentFault>
+        ensures part { IfErr result (LeavesContent None None name.now (C.bytes content)) }
         ensures never_falls { self.old.store_faults ≤ self.new.store_faults }
         ensures same_load_faults { self.new.load_faults ≡ self.old.load_faults }
 
@@ -132,13 +147,12 @@ impl<R: rt::Files> Files for DirFiles<'_, R> {
 
         // `Ok` has written all bytes to a file, and a fault as many as it says.
         ensures whole { OnOk result (WereWritten R.File.contents (C.bytes content)) }
-        ensures first { IfErr result (WerePartWritten R.File.contents (C.bytes content)) }
+        ensures first { IfErr result (WereContentWritten R.File.contents (C.bytes content)) }
     {
-        let stored = store_to(self.rt, name, content);
-        if stored.is_err() {
-            self.store_faults = self.store_faults.saturating_add(1);
+        match self.replace(name, content) {
+            Ok(()) => Ok(()),
+            Err(fault) => Err(ContentFault::Store(fault)),
         }
-        stored
     }
 }
 
@@ -178,27 +192,6 @@ fn load_opened<F: Read + OpenFile>(
 {
     let told = file.told_length();
     read_expected(alloc, file, limit, told)
-}
-
-// Opens a file and gives its bytes to a taker.
-fn feed_from<R: rt::Files, T: Taker>(
-    rt: &R,
-    alloc: Global,
-    name: &str,
-    limit: usize,
-    taker: &mut T,
-) -> Result<(), TakeFault>
-    requires limit { limit < 2 ^ 32 }
-    requires none { T.fed taker.old ≡ 0 }
-    ensures whole { OnOk result ((bytes : List ℕ) × WereInFile R.File.remaining bytes
-        × (length bytes ≤ limit) × TakesMore T.has_taken taker.old taker.new bytes) }
-    ensures front { OnErr result (WereFront R.File.remaining T.has_taken taker.old taker.new) }
-    ensures longer { IsErrOf result TakeFault.TooLong → WereTaken R.File.remaining (limit + 1) }
-{
-    match fs::open(rt, name) {
-        Ok(file) => feed_all(alloc, &mut StdSource::new(file), limit, taker),
-        Err(_) => Err(TakeFault::Failed),
-    }
 }
 
 // Creates a file, or empties it, and writes the content.

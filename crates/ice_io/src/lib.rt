@@ -8,6 +8,8 @@
 mod content;
 mod dir_files;
 mod files;
+mod gathering;
+mod kept_file;
 mod mem_files;
 mod memory;
 mod named_file;
@@ -20,7 +22,7 @@ mod taker;
 
 pub use content::Content;
 pub use dir_files::DirFiles;
-pub use files::{Files, StoreFault};
+pub use files::{ContentFault, Files, StoreFault, load_into};
 pub use mem_files::MemFiles;
 pub use memory::{MemSink, MemSource};
 pub use named_file::NamedFile;

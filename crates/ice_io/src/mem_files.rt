@@ -1,19 +1,17 @@
 // Files in memory. They know their bytes, and fail at the calls that were chosen.
-ghost use Rattle.std.specs.Prelude.{◌≡◌, ◌⊎◌, ◌↔◌, ◌+◌, ◌<◌, ◌≤◌, ◌^◌, ℕ, List, Bool, true, false, Option, Some, None, map, nat_eq, length, min, take, vec_len, IfOk, IfErr, OnOk, OnErr, IsSomeAnd, IsErrOf, IsTrue, option_copied, Contains};
+ghost use Rattle.std.specs.Prelude.{◌≡◌, ◌⊎◌, ◌↔◌, ◌+◌, ◌<◌, ◌≤◌, ◌^◌, ℕ, List, Bool, true, false, Option, Some, None, map, nat_eq, length, take, drop, vec_len, IfOk, IfErr, OnOk, OnErr, IsErr, IsSomeAnd, IsErrOf, IsTrue, option_copied, Contains};
 ghost use Rattle.std.specs.Ordering.{nat_cmp};
 ghost use Rattle.std.specs.Cmp.Lexicographic.{slice_cmp};
 ghost use Rattle.std.specs.FinMap.{get, find};
-ghost use Rattle.ice_io.specs.MemFiles.{entry_of, files_of, LoadFails, StoreFails, after_load, after_failed_load, after_store, after_part_store, after_failed_store};
-ghost use Rattle.ice_io.specs.Takers.{TakesMore, TakesPieces};
-ghost use Rattle.ice_io.specs.Files.{TakesFrontOf};
+ghost use Rattle.ice_io.specs.Files.{EndsBefore, HasPart};
+ghost use Rattle.ice_io.specs.MemFiles.{entry_of, files_of, part_size, LoadFails, StoreFails, after_load, after_failed_load, after_store, after_part_store, after_failed_store};
 
 use crate::content::Content;
-use crate::files::{Files, StoreFault};
+use crate::files::{ContentFault, Files, StoreFault};
 use crate::named_file::NamedFile;
-use crate::pieces::{give_whole, is_listed};
+use crate::pieces::{copy_front, is_listed};
 use crate::room::Room;
-use crate::source::TakeFault;
-use crate::taker::Taker;
+use crate::source::{Failed, TakeFault};
 use std::alloc::{AllocError, Global};
 use std::marker::Model;
 
@@ -54,8 +52,8 @@ impl Model for MemFiles {
 }
 
 impl MemFiles {
-    /// Files in memory, whose bytes are given and stored at most `most` at a time. Only `target` may be stored, with at most
-    /// `room` bytes. `failing` lists the calls that fail: loads and stores are counted together, from 1. The memory for `target`
+    /// Files in memory, whose bytes are read in parts and stored at most `most` at a time. Only `target` may be stored, with at most
+    /// `room` bytes. `failing` lists the calls that fail: loads, of whole files or of parts, and stores are counted together, from 1. The memory for `target`
     /// is allocated here.
     pub fn new(
         alloc: Global,
@@ -102,6 +100,37 @@ impl MemFiles {
         }
         self.bytes_of(name)
     }
+
+    // Stores the content under the name that may be stored, as far as there is room.
+    fn replace<C: Content>(&mut self, name: &str, content: C) -> Result<(), StoreFault>
+        ensures never_falls { self.old.store_faults ≤ self.new.store_faults }
+
+        ensures fails { IsErrOf result (StoreFault.Failed false 0) ↔ StoreFails self.old name.now }
+        ensures short { IsErrOf result (StoreFault.Failed true self.old.room) → self.old.room < length (C.bytes content) }
+        ensures fits { OnOk result (length (C.bytes content) ≤ self.old.room) }
+        ensures err { IfErr result (λ fault. (fault ≡ StoreFault.Failed false 0) ⊎ (fault ≡ StoreFault.Failed true self.old.room)) }
+        ensures after { OnOk result (self.new ≡ after_store self.old (C.bytes content)) }
+        ensures after_part { IsErrOf result (StoreFault.Failed true self.old.room) → self.new ≡ after_part_store self.old (C.bytes content) }
+        ensures after_failed { IsErrOf result (StoreFault.Failed false 0) → self.new ≡ after_failed_store self.old }
+    {
+        self.calls = self.calls.saturating_add(1);
+        if is_listed(&self.failing, self.calls) || name != self.target.as_str() {
+            self.store_faults = self.store_faults.saturating_add(1);
+            return Err(StoreFault::Failed {
+                opened: false,
+                written: 0,
+            });
+        }
+        self.stored = true;
+        if self.room.fill(content) {
+            return Ok(());
+        }
+        self.store_faults = self.store_faults.saturating_add(1);
+        Err(StoreFault::Failed {
+            opened: true,
+            written: self.room.size(),
+        })
+    }
 }
 
 impl Files for MemFiles {
@@ -134,37 +163,24 @@ impl Files for MemFiles {
         }
     }
 
-    fn load_into<T: Taker>(
-        &mut self,
-        _alloc: Global,
-        name: &str,
-        limit: usize,
-        taker: &mut T,
-    ) -> Result<(), TakeFault>
-        requires limit { limit < 2 ^ 32 }
-        requires none { T.fed taker.old ≡ 0 }
+    fn read_at(&mut self, name: &str, at: u64, into: &mut [u8]) -> Result<usize, Failed>
+        ensures bytes { IfOk result (λ n. HasPart (Some self.old.files) name.now at (take n into.new)) }
+        ensures end { IfOk result (λ n. n ≡ 0 → 0 < length into.new → EndsBefore (Some self.old.files) name.now at) }
         ensures never_falls { self.old.load_faults ≤ self.new.load_faults }
 
-        ensures fails { IsErrOf result TakeFault.Failed ↔ LoadFails self.old name.now }
-        ensures too_long { IsErrOf result TakeFault.TooLong → IsSomeAnd (get self.old.files name.now) (λ bytes. limit < length bytes) }
-        ensures bytes { OnOk result ((bytes : List ℕ) × (get self.old.files name.now ≡ Some bytes)
-            × (length bytes ≤ limit) × TakesMore T.has_taken taker.old taker.new bytes) }
-        ensures pieces { OnOk result ((bytes : List ℕ) × (get self.old.files name.now ≡ Some bytes)
-            × TakesPieces T.has_taken (min self.old.most 65536) taker.old taker.new bytes) }
-        ensures part { OnErr result (TakesFrontOf (Some self.old.files) name.now T.has_taken taker.old taker.new) }
-        ensures untaken { OnErr result (taker.new ≡ taker.old) }
-        ensures fault { IfErr result (λ fault. (fault ≡ TakeFault.Failed) ⊎ (fault ≡ TakeFault.TooLong)) }
-        ensures after { (IsErrOf result TakeFault.Failed → ⊥) → self.new ≡ after_load self.old }
-        ensures after_failed { IsErrOf result TakeFault.Failed → self.new ≡ after_failed_load self.old }
+        ensures fails { IsErr result ↔ LoadFails self.old name.now }
+        ensures size { IfOk result (λ n. IsSomeAnd (get self.old.files name.now) (λ all. n ≡ part_size self.old all at (length into.new))) }
+        ensures front { IfOk result (λ n. IsSomeAnd (get self.old.files name.now) (λ all. take n into.new ≡ take n (drop at all))) }
+        ensures after { OnOk result (self.new ≡ after_load self.old) }
+        ensures after_failed { OnErr result (self.new ≡ after_failed_load self.old) }
     {
         self.calls = self.calls.saturating_add(1);
-        match given(self.file_to_load(name), limit, self.most, taker) {
-            Ok(()) => Ok(()),
-            Err(TakeFault::Failed) => {
+        match self.file_to_load(name) {
+            Some(bytes) => Ok(copy_front(from_place(bytes, at), self.most, into)),
+            None => {
                 self.load_faults = self.load_faults.saturating_add(1);
-                Err(TakeFault::Failed)
+                Err(Failed)
             }
-            Err(fault) => Err(fault),
         }
     }
 
@@ -179,37 +195,29 @@ impl Files for MemFiles {
         ensures after_part { IsErrOf result (StoreFault.Failed true self.old.room) → self.new ≡ after_part_store self.old bytes.now }
         ensures after_failed { IsErrOf result (StoreFault.Failed false 0) → self.new ≡ after_failed_store self.old }
     {
-        self.store_content(name, bytes)
+        self.replace(name, bytes)
     }
 
-    fn store_content<C: Content>(&mut self, name: &str, content: C) -> Result<(), StoreFault>
+    fn store_content<C: Content>(
+        &mut self,
+        _alloc: Global,
+        name: &str,
+        content: C,
+    ) -> Result<(), ContentFault>
         ensures never_falls { self.old.store_faults ≤ self.new.store_faults }
 
-        ensures fails { IsErrOf result (StoreFault.Failed false 0) ↔ StoreFails self.old name.now }
-        ensures short { IsErrOf result (StoreFault.Failed true self.old.room) → self.old.room < length (C.bytes content) }
+        ensures fails { IsErrOf result (ContentFault.Store (StoreFault.Failed false 0)) ↔ StoreFails self.old name.now }
+        ensures short { IsErrOf result (ContentFault.Store (StoreFault.Failed true self.old.room)) → self.old.room < length (C.bytes content) }
         ensures fits { OnOk result (length (C.bytes content) ≤ self.old.room) }
-        ensures err { IfErr result (λ fault. (fault ≡ StoreFault.Failed false 0) ⊎ (fault ≡ StoreFault.Failed true self.old.room)) }
+        ensures err { IfErr result (λ fault. (fault ≡ ContentFault.Store (StoreFault.Failed false 0)) ⊎ (fault ≡ ContentFault.Store (StoreFault.Failed true self.old.room))) }
         ensures after { OnOk result (self.new ≡ after_store self.old (C.bytes content)) }
-        ensures after_part { IsErrOf result (StoreFault.Failed true self.old.room) → self.new ≡ after_part_store self.old (C.bytes content) }
-        ensures after_failed { IsErrOf result (StoreFault.Failed false 0) → self.new ≡ after_failed_store self.old }
+        ensures after_part { IsErrOf result (ContentFault.Store (StoreFault.Failed true self.old.room)) → self.new ≡ after_part_store self.old (C.bytes content) }
+        ensures after_failed { IsErrOf result (ContentFault.Store (StoreFault.Failed false 0)) → self.new ≡ after_failed_store self.old }
     {
-        self.calls = self.calls.saturating_add(1);
-        if is_listed(&self.failing, self.calls) || name != self.target.as_str() {
-            self.store_faults = self.store_faults.saturating_add(1);
-            return Err(StoreFault::Failed {
-                opened: false,
-                written: 0,
-            });
+        match self.replace(name, content) {
+            Ok(()) => Ok(()),
+            Err(fault) => Err(ContentFault::Store(fault)),
         }
-        self.stored = true;
-        if self.room.fill(content) {
-            return Ok(());
-        }
-        self.store_faults = self.store_faults.saturating_add(1);
-        Err(StoreFault::Failed {
-            opened: true,
-            written: self.room.size(),
-        })
     }
 }
 
@@ -253,30 +261,9 @@ fn copied(alloc: Global, file: Option<&[u8]>, limit: usize) -> Result<Vec<u8>, T
     }
 }
 
-// Gives a taker a file that is there and has at most `limit` bytes, at most `most` bytes at a time.
-fn given<T: Taker>(
-    file: Option<&[u8]>,
-    limit: usize,
-    most: usize,
-    taker: &mut T,
-) -> Result<(), TakeFault>
-    requires some { 1 ≤ most }
-    requires limit { limit < 2 ^ 32 }
-    requires none { T.fed taker.old ≡ 0 }
-    ensures failed { IsErrOf result TakeFault.Failed ↔ (option_copied file.entry ≡ None) }
-    ensures too_long { IsErrOf result TakeFault.TooLong → IsSomeAnd (option_copied file.entry) (λ bytes. limit < length bytes) }
-    ensures bytes { OnOk result ((bytes : List ℕ) × (option_copied file.entry ≡ Some bytes)
-        × (length bytes ≤ limit) × TakesMore T.has_taken taker.old taker.new bytes) }
-    ensures pieces { OnOk result ((bytes : List ℕ) × (option_copied file.entry ≡ Some bytes)
-        × TakesPieces T.has_taken (min most 65536) taker.old taker.new bytes) }
-    ensures fault { IfErr result (λ fault. (fault ≡ TakeFault.Failed) ⊎ (fault ≡ TakeFault.TooLong)) }
-    ensures untaken { OnErr result (taker.new ≡ taker.old) }
+// The bytes from a place on, and none past the end.
+fn from_place(bytes: &[u8], at: u64) -> &[u8]
+    ensures { result.now ≡ drop at bytes.now }
 {
-    match within(file, limit) {
-        Ok(bytes) => {
-            give_whole(bytes, most, taker);
-            Ok(())
-        }
-        Err(fault) => Err(fault),
-    }
+    &bytes[bytes.len().min(at as usize)..]
 }

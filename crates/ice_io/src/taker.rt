@@ -27,7 +27,7 @@ pub trait Taker {
 }
 
 /// How many bytes a piece has, at most.
-pub(crate) const PIECE: usize = 65536;
+const PIECE: usize = 65536;
 
 /// Gives all bytes up to the end of the source to a taker, in pieces of at most 65,536 bytes, if there are at most `limit`.
 /// `TooLong` leaves `limit + 1` bytes read. A taker that was given some bytes before a refusal has taken the first that were
@@ -69,8 +69,8 @@ pub fn feed_all<S: Source, T: Taker>(
     }
 }
 
-// Room for one piece, and for no more than one byte past the limit.
-fn piece_room(alloc: Global, limit: usize) -> Result<Vec<u8>, AllocError>
+/// Room for one piece, and for no more than one byte past the limit.
+pub(crate) fn piece_room(alloc: Global, limit: usize) -> Result<Vec<u8>, AllocError>
     requires { limit < 2 ^ 32 }
     ensures { IfOk result (λ room. vec_len room ≡ min 65536 (limit + 1)) }
 {

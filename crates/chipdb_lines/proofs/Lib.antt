@@ -1,5 +1,7 @@
 -- bits that were added to a table one after another
 pub mod TableBits
+-- lists of a table after bits were added
+pub mod TableLists
 -- the number that values write, their first bit the lowest
 pub mod Values
 -- words that miss

@@ -8,7 +8,8 @@ use Rattle.std.proofs.lemmas.List.Folds.{list_all-append}
 use Rattle.std.proofs.Math.Seq.{drop-append_seam}
 use Rattle.chipdb_lines.specs.declared.cause.Refusal.{Refusal}
 use Rattle.chipdb_lines.specs.declared.cause.Refusal.TheVariants.{Cause, Memory}
-use Rattle.chipdb_lines.specs.Kept.{bits_named, AddsList, Reports}
+use Rattle.chipdb_lines.specs.Kept.{Reports}
+use Rattle.chipdb_lines.specs.Spans.{bits_in, AddsSpan}
 use Rattle.std.specs.List.{list_all}
 use Rattle.plane_map.specs.declared.tile.RowCol.{RowCol}
 use Rattle.chipdb_lines.specs.declared.cause.DbCause.{DbCause}
@@ -132,7 +133,7 @@ told-unnamed columns old bits words left rest word (Cause told) added split tell
 told-unnamed columns old bits words left rest word (Memory e) added split tells = tt
 
 -- the bits that were added are those of a list
-pub list-added : (start count : ℕ) (old bits more : List RowCol) → bits ≡ old ++ more → start ≡ length old → count ≡ length bits - start → bits_named bits (record { start = start; count = count }) ≡ more
+pub list-added : (start count : ℕ) (old bits more : List RowCol) → bits ≡ old ++ more → start ≡ length old → count ≡ length bits - start → bits_in bits (record { start = start; count = count }) ≡ more
 list-added start count old bits more table start_is count_is =
     let lengths : length bits ≡ length old + length more = ap length table ∙ length-append old more in
     let from : drop start bits ≡ more = ap (λ n. drop n bits) start_is ∙ ap (drop (length old)) table ∙ drop-append_seam old more in
@@ -140,7 +141,7 @@ list-added start count old bits more table start_is count_is =
 
 -- all words were taken, and there are few bits
 pub Added-list : (columns start count : ℕ) (old bits : List RowCol) (words left : List (List ℕ)) → Added columns old bits words left → left ≡ [] → start ≡ length old → count ≡ length bits - start → count ≤ 64
-    → tile_bits_of columns words ≡ Ok (bits_named bits (record { start = start; count = count }))
+    → tile_bits_of columns words ≡ Ok (bits_in bits (record { start = start; count = count }))
 unfolding tile_bits_of
 Added-list columns start count old bits words left added none start_is count_is few =
     let more = added.more in
@@ -154,7 +155,7 @@ Added-list columns start count old bits words left added none start_is count_is 
 
 -- what was added are the bits of a list
 pub Added-exact : (columns start count : ℕ) (old bits : List RowCol) (words left : List (List ℕ)) → Added columns old bits words left → start ≡ length old → count ≡ length bits - start → count ≤ 64
-    → AddsList old bits (record { start = start; count = count })
+    → AddsSpan old bits (record { start = start; count = count })
 Added-exact columns start count old bits words left added start_is count_is few =
     let lengths : length bits ≡ length old + length added.more = ap length added.table ∙ length-append old added.more in
     record { starts = start_is; ends = omega arith; few = few; grown = (added.more, added.table) }

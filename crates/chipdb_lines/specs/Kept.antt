@@ -1,5 +1,5 @@
--- What is kept of lines: bits in one table, and lists of them by their places in it.
-use Rattle.std.specs.Prelude.{◌≡◌, ℕ, zero, suc, ◌+◌, ◌%◌, ◌/◌, ◌^◌, ◌<◌, ◌≤◌, Bool, true, false, ◌||◌, List, [], ◌∷◌, ◌++◌, length, take, drop, map, ◌==◌, Option, Some, Result, Ok, Err}
+-- What is kept of lines: lists of bits in one table, by their places in it.
+use Rattle.std.specs.Prelude.{◌≡◌, ℕ, ◌^◌, ◌<◌, ◌≤◌, true, false, ◌||◌, List, [], ◌∷◌, ◌++◌, length, get_or, map, ◌==◌, Option, Some, Result, Ok, Err}
 use Rattle.std.specs.Result.{result_err, MatchResult}
 use Rattle.bit_plane.specs.BitList.{word_bits}
 use Rattle.plane_map.specs.declared.tile.RowCol.{RowCol}
@@ -23,32 +23,28 @@ use Rattle.text_lines.specs.Written.{IsPlain}
 use Rattle.chipdb_lines.specs.Words.{is_statement, own_words, words_in}
 use Rattle.chipdb_lines.specs.Items.{LinkChoice, choice_of, FunctionLine, ExtraLine, NameLine}
 
--- the bits of a list
-abbrev pub bits_named : List RowCol → BitList → List RowCol
-bits_named bits list = take list.count (drop list.start bits)
+-- the bits of a list, and nothing past the last
+abbrev pub bits_named : List (List RowCol) → BitList → List RowCol
+bits_named lists list = get_or lists list.place []
 
--- a list of a table of so many bits; it has at most 64
-pub record IsListOf (count : ℕ) (list : BitList) : Type 0 where
-  pub inside : list.start + list.count ≤ count
-  pub few : list.count ≤ 64
+-- a table to which a list was added, and no others; the list has at most 64 bits
+pub record AddsList (old new : List (List RowCol)) (list : BitList) : Type 0 where
+  pub bits : List RowCol
+  pub grown : new ≡ old ++ bits ∷ []
+  pub last : list.place ≡ length old
+  pub few : length bits ≤ 64
 
--- a table with more bits at its end
-abbrev pub Extends : List RowCol → List RowCol → Type 0
-Extends old new = (more : List RowCol) × (new ≡ old ++ more)
-
--- a table to which the bits of a list were added, and no others
-pub record AddsList (old new : List RowCol) (list : BitList) : Type 0 where
-  pub starts : list.start ≡ length old
-  pub ends : length new ≡ list.start + list.count
-  pub few : list.count ≤ 64
-  pub grown : Extends old new
+-- the same, where a statement of links has the list
+pub record AddsHead (old new : List (List RowCol)) (head : KeptHead) : Type 0 where
+  pub list : AddsList old new head.bits
+  pub counted : head.count ≡ length (bits_named new head.bits)
 
 -- a choice whose values are the lowest bits of a number
 abbrev pub choice_named : ℕ → Choice → LinkChoice
 choice_named count choice = record { values = word_bits count choice.values; src = choice.src }
 
 -- a function with the bits of a list
-abbrev pub function_named : TileKind → List RowCol → FunctionItem → FunctionLine
+abbrev pub function_named : TileKind → List (List RowCol) → FunctionItem → FunctionLine
 function_named kind bits item = record { kind = kind; name = item.name.now; bits = bits_named bits item.bits }
 
 abbrev pub extra_named : ExtraItem → ExtraLine
@@ -58,11 +54,11 @@ extra_named item = record { name = item.name.now; at = item.at }
 abbrev pub name_named : ℕ → NameItem → NameLine
 name_named net item = record { net = net; x = item.x; y = item.y; name = item.name.now }
 
-abbrev pub head_named : List RowCol → KeptHead → LinkHead
+abbrev pub head_named : List (List RowCol) → KeptHead → LinkHead
 head_named bits head = record { x = head.x; y = head.y; dst = head.dst; bits = bits_named bits head.bits }
 
 -- what the lines below a statement are
-abbrev pub block_named : List RowCol → Below → Block
+abbrev pub block_named : List (List RowCol) → Below → Block
 block_named bits Passed = passed
 block_named bits (Device chip) = of_device chip
 block_named bits GlobalInputs = global_inputs
@@ -73,10 +69,10 @@ block_named bits (Names net) = names net
 block_named bits (Buffers head) = buffers (head_named bits head)
 block_named bits (Routings head) = routings (head_named bits head)
 
--- a table to which the bits of a statement were added, and no others
-abbrev pub AddsBelow : List RowCol → List RowCol → Below → Type 0
-AddsBelow old new (Buffers head) = AddsList old new head.bits
-AddsBelow old new (Routings head) = AddsList old new head.bits
+-- a table to which the list of a statement was added, and no others
+abbrev pub AddsBelow : List (List RowCol) → List (List RowCol) → Below → Type 0
+AddsBelow old new (Buffers head) = AddsHead old new head
+AddsBelow old new (Routings head) = AddsHead old new head
 AddsBelow old new below = new ≡ old
 
 -- a cause that is told is that one

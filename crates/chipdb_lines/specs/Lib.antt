@@ -1,4 +1,5 @@
 pub mod Words
 pub mod Statements
 pub mod Items
+pub mod Spans
 pub mod Kept

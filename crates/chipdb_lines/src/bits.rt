@@ -1,76 +1,140 @@
 // Bits of tiles: words such as `B1[36]`, and lists of them in one table.
-ghost use Rattle.std.specs.Prelude.{◌≡◌, ◌≤◌, ◌++◌, ◌∷◌, [], ℕ, ◌&&◌, nat_lt, length, true, false, IfOk, MatchOption, MatchResult, position, Some, None, if◌then◌else◌, is_some, OnErr};
+ghost use Rattle.std.specs.Prelude.{◌≡◌, ◌≤◌, ◌<◌, ◌-◌, ◌^◌, ◌++◌, ◌∷◌, [], ℕ, List, ◌&&◌, nat_lt, length, true, false, IfOk, MatchOption, MatchResult, position, Some, None, if◌then◌else◌, is_some, OnErr, OnOk};
 ghost use Rattle.std.specs.Bool.{MatchBool};
 ghost use Rattle.std.specs.List.{position_or_len, before_first, after_first};
 ghost use Rattle.std.specs.Result.{result_err};
+ghost use Rattle.plane_map.specs.declared.tile.RowCol.{RowCol as Bit};
 ghost use Rattle.chipdb_lines.specs.Words.{bit_by, bit_of, bits_of, is_bracket, words_in};
 ghost use Rattle.chipdb_lines.specs.Statements.{is_in_columns, tile_bits_of};
-ghost use Rattle.chipdb_lines.specs.Kept.{bits_named, AddsList, Extends, IsListOf, Reports, Tells};
+ghost use Rattle.chipdb_lines.specs.Spans.{bits_in, AddsSpan, Extends, IsSpanOf};
+ghost use Rattle.chipdb_lines.specs.Kept.{bits_named, AddsList, Reports, Tells};
 ghost use Rattle.text_lines.specs.Words.{number_of};
 ghost use Rattle.chipdb_lines.specs.declared.cause.DbCause.TheVariants.{BitName, BitRange};
 
 use crate::cause::{DbCause, Refusal};
 use plane_map::RowCol;
-use std::alloc::AllocError;
+use std::alloc::{AllocError, Global};
+use std::marker::Model;
 use text_lines::{Separators, number, split_word};
 
-/// A list of bits, by its places in a table of bits.
+/// A list of bits of a table, by its place among the table's lists, counted from 0.
 #[derive(Clone, Copy, Debug, PartialEq, Eq)]
 pub struct BitList {
+    place: u32,
+}
+
+/// Where the bits of a list stand.
+#[derive(Clone, Copy, Debug)]
+struct Span {
     start: usize,
     count: u8,
 }
 
-impl BitList {
-    /// How many bits it has.
-    pub fn len(self) -> usize
-        ensures { result ≡ self.count }
+/// Lists of bits in the order in which they were added. Contracts see the list of them.
+#[derive(Drop)]
+pub struct BitTable {
+    bits: Vec<RowCol>,
+    spans: Vec<Span>,
+}
+
+impl Model for BitTable {
+    ghost use Rattle.std.specs.Prelude.{List, ◌^◌, ◌<◌, length, map, All};
+    ghost use Rattle.plane_map.specs.declared.tile.RowCol.{RowCol as Bit};
+    ghost use Rattle.chipdb_lines.specs.Spans.{bits_in, IsSpanOf};
+
+    ghost Value = { List (List Bit) };
+
+    ghost view = { λ table. map (bits_in table.bits.items) table.spans.items };
+
+    ghost invariant = { λ table. (length table.spans.items < 2 ^ 32)
+        × All (IsSpanOf (length table.bits.items)) table.spans.items };
+}
+
+impl BitTable {
+    /// No lists. It takes no memory yet.
+    pub fn new(alloc: Global) -> BitTable
+        ensures { result ≡ [] }
     {
-        self.count as usize
+        BitTable {
+            bits: Vec::new(alloc),
+            spans: Vec::new(alloc),
+        }
+    }
+
+    /// The bits of a list: none of a list of another table that has no place here.
+    pub fn get(&self, list: BitList) -> &[RowCol]
+        ensures bits { result.now ≡ bits_named self.now list }
+        ensures few { length result.now ≤ 64 }
+    {
+        match self.spans.get(list.place as usize) {
+            None => &[],
+            Some(span) => bits_of(&self.bits, *span),
+        }
+    }
+
+    /// Adds the list of the bits that words name. They are bits of a tile with so many columns of bits, and at most 64. After a
+    /// refusal the table is as it was.
+    pub(crate) fn add(&mut self, columns: usize, words: &[u8]) -> Result<BitList, Refusal>
+        requires columns { columns ≤ 256 }
+        requires room { length self.old < 2 ^ 32 - 1 }
+        ensures added { IfOk result (AddsList self.old self.new) }
+        ensures named { Tells (tile_bits_of columns (words_in words.now)) (bits_named self.new) result }
+        ensures unchanged { OnErr result (self.new ≡ self.old) }
+    {
+        let place = self.spans.len() as u32;
+        let span = push_bits(&mut self.bits, columns, words)?;
+        push_span(&mut self.spans, span)?;
+        Ok(BitList { place })
+    }
+
+    /// Takes the list away that was added last.
+    pub(crate) fn remove_last(&mut self)
+        ensures { (lists : List (List Bit)) (last : List Bit) → self.old ≡ lists ++ last ∷ [] → self.new ≡ lists }
+    {
+        let _ = self.spans.pop();
     }
 }
 
-/// The bits of a list, as many as its length: of a list of another table those that there are.
-pub fn bits_of(bits: &[RowCol], list: BitList) -> &[RowCol]
-    ensures bits { result.now ≡ bits_named bits.now list }
-    ensures all { IsListOf (length bits.now) list → length result.now ≡ list.count }
+/// Adds a span.
+fn push_span(spans: &mut Vec<Span>, span: Span) -> Result<(), AllocError>
+    ensures pushed { OnOk result (spans.new.items ≡ spans.old.items ++ span ∷ []) }
+    ensures unchanged { OnErr result (spans.new.items ≡ spans.old.items) }
 {
-    match bits.get(list.start..) {
-        None => &[],
-        Some(rest) => match rest.get(..list.len()) {
-            None => rest,
-            Some(named) => named,
-        },
-    }
+    spans.push(span).map_err(AllocError::from)
+}
+
+/// The bits of a list, as many as its length.
+fn bits_of(bits: &[RowCol], span: Span) -> &[RowCol]
+    requires { IsSpanOf (length bits.now) span }
+    ensures { result.now ≡ bits_in bits.now span }
+{
+    let rest = &bits[span.start..];
+    &rest[..span.count as usize]
 }
 
 /// Adds the bits that words name to a table. They are bits of a tile with so many columns of bits, and at most 64. After a
 /// refusal the table is as it was.
-pub(crate) fn push_bits(
-    bits: &mut Vec<RowCol>,
-    columns: usize,
-    words: &[u8],
-) -> Result<BitList, Refusal>
+fn push_bits(bits: &mut Vec<RowCol>, columns: usize, words: &[u8]) -> Result<Span, Refusal>
     requires { columns ≤ 256 }
-    ensures added { IfOk result (AddsList bits.old.items bits.new.items) }
-    ensures named { Tells (tile_bits_of columns (words_in words.now)) (bits_named bits.new.items) result }
+    ensures added { IfOk result (AddsSpan bits.old.items bits.new.items) }
+    ensures named { Tells (tile_bits_of columns (words_in words.now)) (bits_in bits.new.items) result }
     ensures unchanged { OnErr result (bits.new.items ≡ bits.old.items) }
 {
     let start = bits.len();
-    let list = push_each(bits, columns, words);
-    if list.is_err() {
+    let span = push_each(bits, columns, words);
+    if span.is_err() {
         bits.truncate(start);
     }
-    list
+    span
 }
 
 /// The same, where some of the bits may have been added even though the words are refused.
 #[tactic(auto, unfolding(crate::specs::Statements::tile_bits_of))]
-fn push_each(bits: &mut Vec<RowCol>, columns: usize, words: &[u8]) -> Result<BitList, Refusal>
+fn push_each(bits: &mut Vec<RowCol>, columns: usize, words: &[u8]) -> Result<Span, Refusal>
     requires { columns ≤ 256 }
     ensures grown { Extends bits.old.items bits.new.items }
-    ensures added { IfOk result (AddsList bits.old.items bits.new.items) }
-    ensures named { Tells (tile_bits_of columns (words_in words.now)) (bits_named bits.new.items) result }
+    ensures added { IfOk result (AddsSpan bits.old.items bits.new.items) }
+    ensures named { Tells (tile_bits_of columns (words_in words.now)) (bits_in bits.new.items) result }
 {
     let start = bits.len();
     let mut left = words;
@@ -82,7 +146,7 @@ fn push_each(bits: &mut Vec<RowCol>, columns: usize, words: &[u8]) -> Result<Bit
     }
     let count = bits.len() - start;
     if count <= 64 {
-        Ok(BitList {
+        Ok(Span {
             start,
             count: count as u8,
         })

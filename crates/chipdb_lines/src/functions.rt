@@ -1,15 +1,15 @@
 // Lines of the statements `.io_tile_bits` and its like, and of `.extra_bits`.
-ghost use Rattle.std.specs.Prelude.{◌≡◌, ◌&&◌, ◌<◌, bytes_eq, IfOk, OnErr};
+ghost use Rattle.std.specs.Prelude.{◌≡◌, ◌&&◌, ◌<◌, ◌-◌, ◌^◌, length, bytes_eq, IfOk, OnErr};
 ghost use Rattle.std.specs.Bool.{OnTrue};
 ghost use Rattle.std.specs.List.{list_any};
 ghost use Rattle.chipdb_lines.specs.Words.{words_in};
 ghost use Rattle.chipdb_lines.specs.Items.{cell_names, extra_of, function_of, function_of_bits, is_cell, is_in_planes};
 ghost use Rattle.chipdb_lines.specs.Kept.{extra_named, function_named, AddsList, Reads, Tells};
 
-use crate::bits::{BitList, push_bits};
+use crate::bits::{BitList, BitTable};
 use crate::cause::{DbCause, Refusal};
 use crate::words::has_no_word;
-use plane_map::{DeviceName, Place, RowCol, TileKind, tile_width};
+use plane_map::{DeviceName, Place, TileKind, tile_width};
 use text_lines::{Separators, split_word, three_numbers};
 
 /// A function of tiles by its name, and its bits.
@@ -26,17 +26,18 @@ pub struct ExtraItem<'a> {
     pub at: Place,
 }
 
-/// What the words `FUNCTION BIT BIT ...` say of tiles of a kind. The bits are added to a table, which is as it was after a
+/// What the words `FUNCTION BIT BIT ...` say of tiles of a kind. Their list is added to a table, which is as it was after a
 /// refusal.
 #[tactic(auto, unfolding(crate::specs::Items::function_of))]
 pub fn function_item<'a>(
     kind: TileKind,
     words: &'a [u8],
-    bits: &mut Vec<RowCol>,
+    bits: &mut BitTable,
 ) -> Result<FunctionItem<'a>, Refusal>
-    ensures unchanged { OnErr result (bits.new.items ≡ bits.old.items) }
-    ensures added { IfOk result (λ item. AddsList bits.old.items bits.new.items item.bits) }
-    ensures says { Tells (function_of kind (words_in words.now)) (function_named kind bits.new.items) result }
+    requires { length bits.old < 2 ^ 32 - 1 }
+    ensures unchanged { OnErr result (bits.new ≡ bits.old) }
+    ensures added { IfOk result (λ item. AddsList bits.old bits.new item.bits) }
+    ensures says { Tells (function_of kind (words_in words.now)) (function_named kind bits.new) result }
 {
     match split_word(Separators::SpacesAndTabs, words) {
         None => Err(Refusal::Cause(DbCause::Number)),
@@ -50,19 +51,19 @@ fn named_function<'a>(
     kind: TileKind,
     name: &'a [u8],
     words: &[u8],
-    bits: &mut Vec<RowCol>,
+    bits: &mut BitTable,
 ) -> Result<FunctionItem<'a>, Refusal>
-    ensures unchanged { OnErr result (bits.new.items ≡ bits.old.items) }
-    ensures added { IfOk result (λ item. AddsList bits.old.items bits.new.items item.bits) }
-    ensures says { Tells (function_of_bits kind name.now (words_in words.now)) (function_named kind bits.new.items) result }
+    requires { length bits.old < 2 ^ 32 - 1 }
+    ensures unchanged { OnErr result (bits.new ≡ bits.old) }
+    ensures added { IfOk result (λ item. AddsList bits.old bits.new item.bits) }
+    ensures says { Tells (function_of_bits kind name.now (words_in words.now)) (function_named kind bits.new) result }
 {
     if has_no_word(words) {
         return Err(Refusal::Cause(DbCause::Number));
     }
-    let start = bits.len();
-    let list = push_bits(bits, tile_width(kind), words)?;
-    if is_cell(kind, name) && list.len() != 20 {
-        bits.truncate(start);
+    let list = bits.add(tile_width(kind), words)?;
+    if is_cell(kind, name) && bits.get(list).len() != 20 {
+        bits.remove_last();
         Err(Refusal::Cause(DbCause::CellBits))
     } else {
         Ok(FunctionItem { name, bits: list })

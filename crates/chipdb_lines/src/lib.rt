@@ -16,7 +16,7 @@ mod names;
 mod statements;
 mod words;
 
-pub use bits::{BitList, bits_of};
+pub use bits::{BitList, BitTable};
 pub use cause::{DbCause, Refusal};
 pub use chip::Chip;
 pub use functions::{ExtraItem, FunctionItem, extra_item, function_item};

@@ -1,18 +1,18 @@
 // The statements `.buffer` and `.routing`, and their lines.
-ghost use Rattle.std.specs.Prelude.{◌≡◌, ◌≤◌, ◌<◌, ◌^◌, ◌∷◌, ◌++◌, ◌==◌, ◌&&◌, ◌||◌, get_or, length, nat_lt, IfOk, MatchOption, OnErr, false};
+ghost use Rattle.std.specs.Prelude.{◌≡◌, ◌≤◌, ◌<◌, ◌-◌, ◌^◌, ◌∷◌, ◌++◌, ◌==◌, ◌&&◌, ◌||◌, get_or, length, nat_lt, IfOk, MatchOption, OnErr, false};
 ghost use Rattle.std.specs.Bool.{OnTrue};
 ghost use Rattle.std.specs.List.{list_all};
 ghost use Rattle.plane_map.specs.Layout.{kind_of};
 ghost use Rattle.chipdb_lines.specs.Words.{has_none, is_values, words_in};
 ghost use Rattle.chipdb_lines.specs.Statements.{link_at, link_of_words};
 ghost use Rattle.chipdb_lines.specs.Items.{choice_by, choice_of};
-ghost use Rattle.chipdb_lines.specs.Kept.{choice_named, head_named, AddsList, HasChoice, IsChoiceLine, Reads, Tells, WritesValues};
+ghost use Rattle.chipdb_lines.specs.Kept.{choice_named, head_named, AddsHead, HasChoice, IsChoiceLine, Reads, Tells, WritesValues};
 
-use crate::bits::{BitList, push_bits};
+use crate::bits::{BitList, BitTable};
 use crate::cause::{DbCause, Refusal};
 use crate::chip::Chip;
 use crate::words::has_no_word;
-use plane_map::{RowCol, TileKind, kind_on, tile_width};
+use plane_map::{TileKind, kind_on, tile_width};
 use text_lines::{Separators, number, number_before, one_word, split_word};
 
 /// The net to which links lead, in a tile, and the bits that choose among them.
@@ -22,6 +22,8 @@ pub struct LinkHead {
     pub y: u8,
     pub dst: u32,
     pub bits: BitList,
+    /// How many bits there are.
+    pub count: u8,
 }
 
 /// The net from which a link comes, and the values of the bits that choose it: that of the first bit is the lowest bit.
@@ -31,16 +33,13 @@ pub struct Choice {
     pub values: u64,
 }
 
-/// What the words `X Y DST BIT ...` say. The bits are added to a table.
+/// What the words `X Y DST BIT ...` say. Their list is added to a table.
 #[tactic(auto, unfolding(crate::specs::Statements::link_of_words, text_lines::specs::Words::numbers_of))]
-pub(crate) fn link_head(
-    chip: Chip,
-    words: &[u8],
-    bits: &mut Vec<RowCol>,
-) -> Result<LinkHead, Refusal>
-    ensures unchanged { OnErr result (bits.new.items ≡ bits.old.items) }
-    ensures added { IfOk result (λ head. AddsList bits.old.items bits.new.items head.bits) }
-    ensures says { Tells (link_of_words chip (words_in words.now)) (head_named bits.new.items) result }
+pub(crate) fn link_head(chip: Chip, words: &[u8], bits: &mut BitTable) -> Result<LinkHead, Refusal>
+    requires { length bits.old < 2 ^ 32 - 1 }
+    ensures unchanged { OnErr result (bits.new ≡ bits.old) }
+    ensures added { IfOk result (AddsHead bits.old bits.new) }
+    ensures says { Tells (link_of_words chip (words_in words.now)) (head_named bits.new) result }
 {
     match head_words(words) {
         None => Err(Refusal::Cause(DbCause::Number)),
@@ -86,21 +85,23 @@ fn link_into(
     y: u32,
     dst: u32,
     words: &[u8],
-    bits: &mut Vec<RowCol>,
+    bits: &mut BitTable,
 ) -> Result<LinkHead, Refusal>
-    ensures unchanged { OnErr result (bits.new.items ≡ bits.old.items) }
-    ensures added { IfOk result (λ head. AddsList bits.old.items bits.new.items head.bits) }
-    ensures says { Tells (link_at chip.nets x y dst (kind_of chip.device x y) (words_in words.now)) (head_named bits.new.items) result }
+    requires { length bits.old < 2 ^ 32 - 1 }
+    ensures unchanged { OnErr result (bits.new ≡ bits.old) }
+    ensures added { IfOk result (AddsHead bits.old bits.new) }
+    ensures says { Tells (link_at chip.nets x y dst (kind_of chip.device x y) (words_in words.now)) (head_named bits.new) result }
 {
     match kind_on(chip.device, x, y) {
         None => Err(Refusal::Cause(DbCause::TileKind)),
         Some(kind) if dst < chip.nets => {
-            let list = push_bits(bits, tile_width(kind), words)?;
+            let list = bits.add(tile_width(kind), words)?;
             Ok(LinkHead {
                 x: x as u8,
                 y: y as u8,
                 dst,
                 bits: list,
+                count: bits.get(list).len() as u8,
             })
         }
         Some(_) => Err(Refusal::Cause(DbCause::NetRange)),

@@ -1,18 +1,19 @@
 // Statements: lines that begin with a dot.
-ghost use Rattle.std.specs.Prelude.{◌≡◌, List, IfOk, OnErr};
+ghost use Rattle.std.specs.Prelude.{◌≡◌, ◌<◌, ◌-◌, ◌^◌, List, length, IfOk, OnErr};
 ghost use Rattle.text_lines.specs.Words.{numbers_of};
 ghost use Rattle.plane_map.specs.declared.tile.RowCol.{RowCol as Bit};
 ghost use Rattle.chipdb_lines.specs.Words.{words_in};
 ghost use Rattle.chipdb_lines.specs.Statements.{alone, block_by, block_of, block_without, device_block, chip_of_words, names_block, net_of_numbers, statement_of, tile_bits_of_numbers, tile_of_numbers};
 ghost use Rattle.chipdb_lines.specs.Kept.{block_named, AddsBelow, Tells};
 
+use crate::bits::BitTable;
 use crate::cause::{DbCause, Refusal};
 use crate::chip::{Chip, chip_of};
 use crate::keyword::{Keyword, keyword_of};
 use crate::kinds::is_kind_at;
 use crate::links::{LinkHead, link_head};
 use crate::words::has_no_word;
-use plane_map::{DeviceName, RowCol, TileKind, tile_width};
+use plane_map::{DeviceName, TileKind, tile_width};
 use text_lines::{Separators, one_number, split_word, two_numbers};
 
 /// What the lines below a statement are.
@@ -38,13 +39,14 @@ pub enum Below {
     Routings(LinkHead),
 }
 
-/// What a statement says that stands behind that device or none; repeats of earlier statements aren't looked for. The bits
-/// of links are added to a table, which is as it was after a refusal.
+/// What a statement says that stands behind that device or none; repeats of earlier statements aren't looked for. The list
+/// of a link's bits is added to a table, which is as it was after a refusal.
 #[tactic(auto, unfolding(crate::specs::Statements::statement_of))]
-pub fn statement(chip: Option<Chip>, line: &[u8], bits: &mut Vec<RowCol>) -> Result<Below, Refusal>
-    ensures unchanged { OnErr result (bits.new.items ≡ bits.old.items) }
-    ensures added { IfOk result (AddsBelow bits.old.items bits.new.items) }
-    ensures says { Tells (statement_of chip (words_in line.now)) (block_named bits.new.items) result }
+pub fn statement(chip: Option<Chip>, line: &[u8], bits: &mut BitTable) -> Result<Below, Refusal>
+    requires { length bits.old < 2 ^ 32 - 1 }
+    ensures unchanged { OnErr result (bits.new ≡ bits.old) }
+    ensures added { IfOk result (AddsBelow bits.old bits.new) }
+    ensures says { Tells (statement_of chip (words_in line.now)) (block_named bits.new) result }
 {
     match split_word(Separators::SpacesAndTabs, line) {
         None => Ok(Below::Passed),
@@ -57,11 +59,12 @@ fn below_keyword(
     chip: Option<Chip>,
     keyword: Option<Keyword>,
     words: &[u8],
-    bits: &mut Vec<RowCol>,
+    bits: &mut BitTable,
 ) -> Result<Below, Refusal>
-    ensures unchanged { OnErr result (bits.new.items ≡ bits.old.items) }
-    ensures added { IfOk result (AddsBelow bits.old.items bits.new.items) }
-    ensures says { Tells (block_by chip keyword (words_in words.now)) (block_named bits.new.items) result }
+    requires { length bits.old < 2 ^ 32 - 1 }
+    ensures unchanged { OnErr result (bits.new ≡ bits.old) }
+    ensures added { IfOk result (AddsBelow bits.old bits.new) }
+    ensures says { Tells (block_by chip keyword (words_in words.now)) (block_named bits.new) result }
 {
     match keyword {
         None => Ok(Below::Passed),
@@ -74,8 +77,8 @@ fn below_keyword(
 
 /// What a statement says before which no device was given.
 fn below_none(keyword: Keyword, words: &[u8]) -> Result<Below, Refusal>
-    ensures added { (bits : List Bit) → IfOk result (AddsBelow bits bits) }
-    ensures says { (bits : List Bit) → Tells (block_without keyword (words_in words.now)) (block_named bits) result }
+    ensures added { (bits : List (List Bit)) → IfOk result (AddsBelow bits bits) }
+    ensures says { (bits : List (List Bit)) → Tells (block_without keyword (words_in words.now)) (block_named bits) result }
 {
     match keyword {
         Keyword::Device => match chip_of(words) {
@@ -92,11 +95,12 @@ fn below_chip(
     chip: Chip,
     keyword: Keyword,
     words: &[u8],
-    bits: &mut Vec<RowCol>,
+    bits: &mut BitTable,
 ) -> Result<Below, Refusal>
-    ensures unchanged { OnErr result (bits.new.items ≡ bits.old.items) }
-    ensures added { IfOk result (AddsBelow bits.old.items bits.new.items) }
-    ensures says { Tells (block_of chip keyword (words_in words.now)) (block_named bits.new.items) result }
+    requires { length bits.old < 2 ^ 32 - 1 }
+    ensures unchanged { OnErr result (bits.new ≡ bits.old) }
+    ensures added { IfOk result (AddsBelow bits.old bits.new) }
+    ensures says { Tells (block_of chip keyword (words_in words.now)) (block_named bits.new) result }
 {
     match keyword {
         Keyword::Device => Err(Refusal::Cause(DbCause::Device)),
@@ -120,7 +124,7 @@ fn below_chip(
 /// A statement of one word.
 fn alone(below: Below, words: &[u8]) -> Result<Below, Refusal>
     ensures same { IfOk result (λ found. found ≡ below) }
-    ensures says { (bits : List Bit) → Tells (alone (block_named bits below) (words_in words.now)) (block_named bits) result }
+    ensures says { (bits : List (List Bit)) → Tells (alone (block_named bits below) (words_in words.now)) (block_named bits) result }
 {
     if has_no_word(words) {
         Ok(below)
@@ -131,8 +135,8 @@ fn alone(below: Below, words: &[u8]) -> Result<Below, Refusal>
 
 /// `.io_tile X Y` and its like.
 fn tile(device: DeviceName, kind: TileKind, words: &[u8]) -> Result<Below, Refusal>
-    ensures added { (bits : List Bit) → IfOk result (AddsBelow bits bits) }
-    ensures says { (bits : List Bit) → Tells (tile_of_numbers device kind (numbers_of (words_in words.now))) (block_named bits) result }
+    ensures added { (bits : List (List Bit)) → IfOk result (AddsBelow bits bits) }
+    ensures says { (bits : List (List Bit)) → Tells (tile_of_numbers device kind (numbers_of (words_in words.now))) (block_named bits) result }
 {
     match two_numbers(Separators::SpacesAndTabs, words) {
         None => Err(Refusal::Cause(DbCause::Number)),
@@ -143,8 +147,8 @@ fn tile(device: DeviceName, kind: TileKind, words: &[u8]) -> Result<Below, Refus
 
 /// `.io_tile_bits COLUMNS ROWS` and its like.
 fn functions(kind: TileKind, words: &[u8]) -> Result<Below, Refusal>
-    ensures added { (bits : List Bit) → IfOk result (AddsBelow bits bits) }
-    ensures says { (bits : List Bit) → Tells (tile_bits_of_numbers kind (numbers_of (words_in words.now))) (block_named bits) result }
+    ensures added { (bits : List (List Bit)) → IfOk result (AddsBelow bits bits) }
+    ensures says { (bits : List (List Bit)) → Tells (tile_bits_of_numbers kind (numbers_of (words_in words.now))) (block_named bits) result }
 {
     match two_numbers(Separators::SpacesAndTabs, words) {
         None => Err(Refusal::Cause(DbCause::Number)),
@@ -157,8 +161,8 @@ fn functions(kind: TileKind, words: &[u8]) -> Result<Below, Refusal>
 
 /// `.net N`
 fn net(nets: u32, words: &[u8]) -> Result<Below, Refusal>
-    ensures added { (bits : List Bit) → IfOk result (AddsBelow bits bits) }
-    ensures says { (bits : List Bit) → Tells (names_block (net_of_numbers nets (numbers_of (words_in words.now)))) (block_named bits) result }
+    ensures added { (bits : List (List Bit)) → IfOk result (AddsBelow bits bits) }
+    ensures says { (bits : List (List Bit)) → Tells (names_block (net_of_numbers nets (numbers_of (words_in words.now)))) (block_named bits) result }
 {
     match one_number(Separators::SpacesAndTabs, words) {
         None => Err(Refusal::Cause(DbCause::Number)),

@@ -1,9 +1,9 @@
--- The whole text: what is kept at its end, and its first faulty line.
-use Rattle.std.proofs.Common.{below_more, ◌≡◌, ℕ, suc, ◌+◌, ◌<◌, ◌≤◌, true, List, [], ◌∷◌, length, length-drop, drop, get_or, refl, sym, ap, ◌∙◌, arith, subst}
+-- The lines so far, one line more, and the end: what is kept, and the first faulty line.
+use Rattle.std.proofs.Common.{below_more, ◌≡◌, ℕ, ◌+◌, ◌<◌, ◌≤◌, true, List, [], ◌∷◌, ◌++◌, length, length-append, append_assoc, append-nil, refl, sym, ap, ◌∙◌, arith, subst}
 use Rattle.std.specs.Prelude.{Option, Some, None, Result, Ok, Err, IfOk, IfErr, nat_le}
 use Rattle.std.proofs.lemmas.Bool.{le-leb}
 use Rattle.std.proofs.lemmas.List.Elements.{All-nil}
-use Rattle.std.proofs.Math.Seq.{drop-cons}
+use Rattle.std.proofs.Math.Seq.{get_or-append_seam}
 use Rattle.text_lines.specs.Lines.{line_at, lines_of}
 use Rattle.place_search.specs.Places.{any_below, last_below, first_below, gathered_below}
 use Rattle.place_search.proofs.Places.{first_below-first, first_below-none}
@@ -18,22 +18,16 @@ use Rattle.chipdb_reader.specs.Blocks.{chip_before, statement_over, block_over}
 use Rattle.chipdb_reader.specs.Database.{database_of}
 use Rattle.chipdb_reader.specs.Faults.{Fault, DbMeans, Tells, cause_at, db_fault_of, end_cause, fault_of_lines, fault_with, is_net_before}
 use Rattle.chipdb_reader.specs.Kept.{Kept, database_in, name_lines, link_lines, function_lines, extra_lines}
-use Rattle.chipdb_reader.specs.Reading.{EndsReading, FaultOf, FitsReader, IsOutOfMemory, IsUnread, RefusesFirst, RefusesLine, TakesFirst, TakesLine}
+use Rattle.chipdb_reader.specs.Reading.{EndsReading, FaultOf, FitsReader, IsOutOfMemory, IsUnread, RefusesLine, TakesLine}
 use Rattle.chipdb_reader.specs.Fit.{IsFit}
 use Rattle.chipdb_reader.specs.Sound.{IsSound}
-use Rattle.chipdb_reader.proofs.FitPlaces.{means-fit}
-use Rattle.chipdb_reader.proofs.Holds.{Holds, InRange}
-use Rattle.chipdb_reader.proofs.LineSteps.{line-taken, line-refused}
+use Rattle.chipdb_reader.proofs.FitPlaces.{database-fit}
+use Rattle.chipdb_reader.specs.Holds.{Holds, HasRead, InRange}
+use Rattle.chipdb_reader.specs.declared.line_reader.LineReader.{LineReader}
+use Rattle.chipdb_reader.specs.Feeding.{HasTaken}
+use Rattle.chipdb_reader.proofs.LineSteps.{Taken, line-taken, line-refused}
 
 -- ---- the lines so far
-
--- What is known after some lines of a text, with the bytes that are left.
-pub record SoFar (bytes left : List ℕ) (count : ℕ) (reader : Reader) : Type 0 where
-  pub rest : lines_of left ≡ drop count (lines_of bytes)
-  pub within : count ≤ length (lines_of bytes)
-  pub short : count + length left ≤ length bytes
-  pub holds : Holds reader (lines_of bytes) count
-  pub sound : (k : ℕ) → k < count → cause_at (lines_of bytes) k ≡ None
 
 -- nothing was read
 pub unread-holds : (reader : Reader) (lines : List (List ℕ)) → IsUnread reader → Holds reader lines 0
@@ -52,62 +46,38 @@ unread-holds reader lines unread =
       };
       choices = rw below tt;
       chip = unread.chip;
-      block = ap (block_named reader.bits.items) below;
+      block = ap (block_named reader.bits) below;
       nets = unread.nets;
       names = ap (name_lines reader.texts.arena) unread.names;
-      buffers = ap (link_lines reader.bits.items) unread.buffers;
-      routings = ap (link_lines reader.bits.items) unread.routings;
-      functions = ap (function_lines reader.texts.arena reader.bits.items) unread.functions;
+      buffers = ap (link_lines reader.bits) unread.buffers;
+      routings = ap (link_lines reader.bits) unread.routings;
+      functions = ap (function_lines reader.texts.arena reader.bits) unread.functions;
       extras = ap (extra_lines reader.texts.arena) unread.extras;
       global_inputs = unread.global_inputs;
       global_pins = unread.global_pins;
       few = let none : length reader.texts.arena ≡ 0 = ap length unread.texts in omega arith;
+      few_lists = let none : length reader.bits ≡ 0 = ap length unread.bits in omega arith;
     }
 
-pub SoFar-nothing : (bytes : List ℕ) (reader : Reader) → IsUnread reader → SoFar bytes bytes 0 reader
-SoFar-nothing bytes reader unread = record {
-  rest = refl;
-  within = omega arith;
-  short = omega arith;
-  holds = unread-holds reader (lines_of bytes) unread;
-  sound = λ k lt. absurd (omega arith);
-}
+pub HasRead-nothing : (reader : Reader) → IsUnread reader → HasRead [] reader
+HasRead-nothing reader unread = record { holds = λ more. unread-holds reader more unread; sound = λ more k lt. absurd (omega arith) }
 
--- the next line of those that are left
-pub record NextLine (lines : List (List ℕ)) (count : ℕ) (line : List ℕ) (more : List (List ℕ)) : Type 0 where
-  pub inside : count < length lines
-  pub here : line_at lines count ≡ line
-  pub rest : more ≡ drop (count + 1) lines
-
-pub next-line : (lines : List (List ℕ)) (count : ℕ) (line : List ℕ) (more : List (List ℕ)) → drop count lines ≡ line ∷ more → NextLine lines count line more
-next-line lines count line more split =
-    let size : length (drop count lines) ≡ suc (length more) = ap length split in
-    let inside : count < length lines = omega (arith, length-drop count lines) in
-    let cut : drop count lines ≡ get_or lines count [] ∷ drop (suc count) lines = drop-cons lines count [] inside in
-    let both : get_or lines count [] ∷ drop (suc count) lines ≡ line ∷ more = sym cut ∙ split in
-    let next : suc count ≡ count + 1 = omega arith in
-    let rest : drop (suc count) lines ≡ more = cc in
+-- one line more was read
+pub HasRead-more : (lines : List (List ℕ)) (line : List ℕ) (old new : Reader) → HasRead lines old → TakesLine old line new → HasRead (lines ++ (line ∷ [])) new
+HasRead-more lines line old new before taken =
+    let n = length lines in
+    let count : length (lines ++ (line ∷ [])) ≡ n + 1 = length-append lines (line ∷ []) in
+    let same : (more : List (List ℕ)) → (lines ++ (line ∷ [])) ++ more ≡ lines ++ (line ∷ more) = λ more. append_assoc lines (line ∷ []) more in
+    let step : (more : List (List ℕ)) → Taken new (lines ++ (line ∷ more)) n =
+    λ more.
+    let here : line_at (lines ++ (line ∷ more)) n ≡ line = get_or-append_seam lines line more [] in
+    line-taken old new (lines ++ (line ∷ more)) n (omega (arith, length-append lines (line ∷ more))) (before.holds (line ∷ more)) (subst (λ l. TakesLine old l new) (sym here) taken) in
     record {
-      inside = inside;
-      here = cc;
-      rest = sym rest ∙ ap (λ k. drop k lines) next;
-    }
-
--- one line more was taken
-pub SoFar-more : (bytes left line rest : List ℕ) (count : ℕ) (old new : Reader) → SoFar bytes left count old → lines_of left ≡ line ∷ lines_of rest → length rest < length left → TakesLine old line new
-    → SoFar bytes rest (count + 1) new
-SoFar-more bytes left line rest count old new before split shorter taken =
-    let lines = lines_of bytes in
-    let next = next-line lines count line (lines_of rest) (sym before.rest ∙ split) in
-    let step = line-taken old new lines count next.inside before.holds (subst (λ l. TakesLine old l new) (sym next.here) taken) in
-    let inside : count < length lines = next.inside in
-    let short : count + length left ≤ length bytes = before.short in
-    record {
-      rest = next.rest;
-      within = omega arith;
-      short = omega arith;
-      holds = step.holds;
-      sound = below_more (λ k. cause_at lines k ≡ None) count before.sound step.sound;
+      holds = λ more. subst (λ (ls : List (List ℕ)). Holds new ls (length (lines ++ (line ∷ [])))) (sym (same more)) (subst (λ k. Holds new (lines ++ (line ∷ more)) k) (sym count) (step more).holds);
+      sound = λ more k lt.
+          let all = lines ++ (line ∷ more) in
+          let below : k < n + 1 = omega (arith, lt, count) in
+          subst (λ (ls : List (List ℕ)). cause_at ls k ≡ None) (sym (same more)) (below_more (λ j. cause_at all j ≡ None) n (before.sound (line ∷ more)) (step more).sound k below);
     }
 
 -- ---- faults
@@ -119,35 +89,25 @@ fault-at lines count cause within sound here =
     first_below-first (length lines + 1) count (λ n. fault_with (n + 1) (cause_at lines n)) (record { line = count + 1; cause = cause }) (omega arith)
     (λ j lt. ap (fault_with (j + 1)) (sound j lt)) (ap (fault_with (count + 1)) here)
 
--- a line that isn't taken is the first faulty one
-pub told-line : (bytes left line rest : List ℕ) (count : ℕ) (reader : Reader) (fault : DbFault) → SoFar bytes left count reader → lines_of left ≡ line ∷ lines_of rest → FaultOf (count + 1) (RefusesLine reader line) fault → Tells (db_fault_of bytes) fault
-unfolding db_fault_of
-told-line bytes left line rest count reader (At number cause) before split told =
-    let lines = lines_of bytes in
-    let next = next-line lines count line (lines_of rest) (sym before.rest ∙ split) in
-    let here = line-refused reader lines count cause next.inside before.holds (subst (λ l. RefusesLine reader l cause) (sym next.here) told.1) in
-    fault-at lines count cause before.within before.sound here ∙ ap (λ n. Some (record { line = n; cause = cause })) (sym told.0)
-told-line bytes left line rest count reader (Memory e) before split told = tt
-
--- the first line of the bytes that are left was taken, or it wasn't
-pub SoFar-first : (bytes left rest : List ℕ) (count : ℕ) (old new : Reader) → SoFar bytes left count old → TakesFirst old left rest new → SoFar bytes rest (count + 1) new
-SoFar-first bytes left rest count old new before first = SoFar-more bytes left first.line rest count old new before first.lines first.shorter first.taken
-
-pub told-first : (bytes left : List ℕ) (count : ℕ) (reader : Reader) (fault : DbFault) → SoFar bytes left count reader → FaultOf (count + 1) (RefusesFirst reader left) fault → Tells (db_fault_of bytes) fault
-told-first bytes left count reader (At number cause) before told =
-    told-line bytes left told.1.line told.1.rest count reader (At number cause) before told.1.lines (told.0, told.1.refused)
-told-first bytes left count reader (Memory e) before told = tt
+-- a line that isn't taken is the first faulty one, whatever lines follow
+pub HasRead-told : (lines more : List (List ℕ)) (line : List ℕ) (reader : Reader) (fault : DbFault) → HasRead lines reader → FaultOf (length lines + 1) (RefusesLine reader line) fault → Tells (fault_of_lines (lines ++ (line ∷ more))) fault
+HasRead-told lines more line reader (At number cause) before told =
+    let all = lines ++ (line ∷ more) in
+    let n = length lines in
+    let here : line_at all n ≡ line = get_or-append_seam lines line more [] in
+    let inside : n < length all = omega (arith, length-append lines (line ∷ more)) in
+    let wrong = line-refused reader all n cause inside (before.holds (line ∷ more)) (subst (λ l. RefusesLine reader l cause) (sym here) told.1) in
+    fault-at all n cause (omega arith) (before.sound (line ∷ more)) wrong ∙ ap (λ k. Some (record { line = k; cause = cause })) (sym told.0)
+HasRead-told lines more line reader (Memory e) before told = tt
 
 -- ---- the end
 
 -- all lines were read
-all-read : (bytes left : List ℕ) (count : ℕ) (reader : Reader) → SoFar bytes left count reader → left ≡ [] → count ≡ length (lines_of bytes)
-unfolding lines_of
-all-read bytes left count reader before none =
-    let empty : [] ≡ drop count (lines_of bytes) = sym (ap lines_of none) ∙ before.rest in
-    let size : 0 ≡ length (drop count (lines_of bytes)) = ap length empty in
-    let within : count ≤ length (lines_of bytes) = before.within in
-    omega (arith, length-drop count (lines_of bytes))
+pub ended-holds : (lines : List (List ℕ)) (reader : Reader) → HasRead lines reader → Holds reader lines (length lines)
+ended-holds lines reader before = subst (λ (ls : List (List ℕ)). Holds reader ls (length lines)) (append-nil lines) (before.holds [])
+
+ended-sound : (lines : List (List ℕ)) (reader : Reader) → HasRead lines reader → (k : ℕ) → k < length lines → cause_at lines k ≡ None
+ended-sound lines reader before k lt = subst (λ (ls : List (List ℕ)). cause_at ls k ≡ None) (append-nil lines) (before.sound [] k lt)
 
 -- the cause at the end
 pub cause-end : (lines : List (List ℕ)) → cause_at lines (length lines) ≡ end_cause (chip_before lines (length lines))
@@ -175,51 +135,49 @@ read-database reader lines chip kept holds fits = λ i. record {
 }
 
 -- a database that is answered is what the text means
-means-by : (bytes left : List ℕ) (count : ℕ) (reader : Reader) (chip : Chip) (kept : Kept) → SoFar bytes left count reader → count ≡ length (lines_of bytes) → reader.chip ≡ Some chip → FitsReader chip reader kept → DbMeans bytes (database_in kept)
+means-by : (text : List ℕ) (reader : Reader) (chip : Chip) (kept : Kept) → HasRead (lines_of text) reader → reader.chip ≡ Some chip → FitsReader chip reader kept → DbMeans text (database_in kept)
 unfolding db_fault_of
-means-by bytes left count reader chip kept before all given fits =
-    let lines = lines_of bytes in
-    let holds : Holds reader lines (length lines) = subst (Holds reader lines) all before.holds in
-    let sound : (k : ℕ) → k < length lines → cause_at lines k ≡ None = λ k lt. before.sound k (omega arith) in
+means-by text reader chip kept before given fits =
+    let lines = lines_of text in
+    let holds = ended-holds lines reader before in
     let device : chip_before lines (length lines) ≡ Some chip = sym holds.chip ∙ given in
     record {
-      sound = no-fault lines sound (cause-end lines ∙ ap end_cause device);
+      sound = no-fault lines (ended-sound lines reader before) (cause-end lines ∙ ap end_cause device);
       device = device ∙ ap (λ c. Some c) (sym fits.chip_is);
       lines = read-database reader lines chip kept holds fits ∙ ap (λ c. database_of c lines) (sym fits.chip_is);
     }
 
 -- a text without a device
-no-device : (bytes left : List ℕ) (count : ℕ) (reader : Reader) → SoFar bytes left count reader → count ≡ length (lines_of bytes) → reader.chip ≡ None → db_fault_of bytes ≡ Some (record { line = count + 1; cause = NoDevice })
+no-device : (text : List ℕ) (reader : Reader) → HasRead (lines_of text) reader → reader.chip ≡ None → db_fault_of text ≡ Some (record { line = length (lines_of text) + 1; cause = NoDevice })
 unfolding db_fault_of
-no-device bytes left count reader before all none =
-    let lines = lines_of bytes in
-    let holds : Holds reader lines (length lines) = subst (Holds reader lines) all before.holds in
-    let device : chip_before lines (length lines) ≡ None = sym holds.chip ∙ none in
-    let here : cause_at lines count ≡ Some NoDevice = ap (cause_at lines) all ∙ cause-end lines ∙ ap end_cause device in
-    fault-at lines count NoDevice before.within before.sound here
+no-device text reader before none =
+    let lines = lines_of text in
+    let device : chip_before lines (length lines) ≡ None = sym (ended-holds lines reader before).chip ∙ none in
+    fault-at lines (length lines) NoDevice (omega arith) (ended-sound lines reader before) (cause-end lines ∙ ap end_cause device)
 
 tells-memory : (fault : Option Fault) (e : DbFault) → IsOutOfMemory e → Tells fault e
 tells-memory fault (At line cause) is = absurd is
 tells-memory fault (Memory e) is = tt
 
 -- what is answered at the end, where it is a database
-answered-by : (bytes left : List ℕ) (count : ℕ) (reader : Reader) (chip : Option Chip) (answer : Result Kept DbFault) → SoFar bytes left count reader → count ≡ length (lines_of bytes) → reader.chip ≡ chip → EndsReading reader chip (count + 1) answer
-    → IfOk answer (λ kept. DbMeans bytes (database_in kept))
-answered-by bytes left count reader None answer before all given ends = rw ends tt
-answered-by bytes left count reader (Some chip) (Ok kept) before all given ends = means-by bytes left count reader chip kept before all given ends
-answered-by bytes left count reader (Some chip) (Err fault) before all given ends = tt
+answered-by : (text : List ℕ) (count : ℕ) (reader : Reader) (chip : Option Chip) (answer : Result Kept DbFault) → HasRead (lines_of text) reader → reader.chip ≡ chip → EndsReading reader chip (count + 1) answer
+    → IfOk answer (λ kept. DbMeans text (database_in kept))
+answered-by text count reader None answer before given ends = rw ends tt
+answered-by text count reader (Some chip) (Ok kept) before given ends = means-by text reader chip kept before given ends
+answered-by text count reader (Some chip) (Err fault) before given ends = tt
 
-refused-by : (bytes left : List ℕ) (count : ℕ) (reader : Reader) (chip : Option Chip) (answer : Result Kept DbFault) → SoFar bytes left count reader → count ≡ length (lines_of bytes) → reader.chip ≡ chip → EndsReading reader chip (count + 1) answer
-    → IfErr answer (Tells (db_fault_of bytes))
-refused-by bytes left count reader None answer before all given ends = rw ends (no-device bytes left count reader before all given)
-refused-by bytes left count reader (Some chip) (Ok kept) before all given ends = tt
-refused-by bytes left count reader (Some chip) (Err fault) before all given ends = tells-memory (db_fault_of bytes) fault ends
+refused-by : (text : List ℕ) (count : ℕ) (reader : Reader) (chip : Option Chip) (answer : Result Kept DbFault) → HasRead (lines_of text) reader → count ≡ length (lines_of text) → reader.chip ≡ chip → EndsReading reader chip (count + 1) answer
+    → IfErr answer (Tells (db_fault_of text))
+refused-by text count reader None answer before all given ends =
+    rw ends (no-device text reader before given ∙ ap (λ k. Some (record { line = k + 1; cause = NoDevice })) (sym all))
+refused-by text count reader (Some chip) (Ok kept) before all given ends = tt
+refused-by text count reader (Some chip) (Err fault) before all given ends = tells-memory (db_fault_of text) fault ends
 
-pub answered : (bytes left : List ℕ) (count : ℕ) (reader : Reader) (answer : Result Kept DbFault) → SoFar bytes left count reader → left ≡ [] → EndsReading reader reader.chip (count + 1) answer → IfOk answer (λ kept. DbMeans bytes (database_in kept))
-answered bytes left count reader answer before none ends = answered-by bytes left count reader reader.chip answer before (all-read bytes left count reader before none) refl ends
+pub answered : (text : List ℕ) (taker : LineReader) (answer : Result Kept DbFault) → HasTaken (lines_of text) taker → EndsReading taker.reader taker.reader.chip (taker.count + 1) answer → IfOk answer (λ kept. DbMeans text (database_in kept))
+answered text taker answer has ends = answered-by text taker.count taker.reader taker.reader.chip answer has.read refl ends
 
-pub refused : (bytes left : List ℕ) (count : ℕ) (reader : Reader) (answer : Result Kept DbFault) → SoFar bytes left count reader → left ≡ [] → EndsReading reader reader.chip (count + 1) answer → IfErr answer (Tells (db_fault_of bytes))
-refused bytes left count reader answer before none ends = refused-by bytes left count reader reader.chip answer before (all-read bytes left count reader before none) refl ends
+pub refused : (text : List ℕ) (taker : LineReader) (answer : Result Kept DbFault) → HasTaken (lines_of text) taker → EndsReading taker.reader taker.reader.chip (taker.count + 1) answer → IfErr answer (Tells (db_fault_of text))
+refused text taker answer has ends = refused-by text taker.count taker.reader taker.reader.chip answer has.read has.count_is refl ends
 
 -- what is answered at the end is in order
 pub sound-kept : (chip : Chip) (reader : Reader) (kept : Kept) → InRange reader → FitsReader chip reader kept → IsSound kept
@@ -233,6 +191,7 @@ sound-kept chip reader kept range fits = record {
 }
 
 -- what is answered at the end is fit
-pub fit-at_end : (bytes left : List ℕ) (count : ℕ) (reader : Reader) → SoFar bytes left count reader → left ≡ [] → (chip : Chip) (kept : Kept) → reader.chip ≡ Some chip → FitsReader chip reader kept → IsFit (database_in kept)
-fit-at_end bytes left count reader before none chip kept given fits =
-    means-fit bytes (database_in kept) (means-by bytes left count reader chip kept before (all-read bytes left count reader before none) given fits)
+pub fit-at_end : (lines : List (List ℕ)) (reader : Reader) → HasRead lines reader → (chip : Chip) (kept : Kept) → reader.chip ≡ Some chip → FitsReader chip reader kept → IsFit (database_in kept)
+fit-at_end lines reader before chip kept given fits =
+    let holds = ended-holds lines reader before in
+    subst IsFit (sym (read-database reader lines chip kept holds fits)) (database-fit chip lines (sym holds.chip ∙ given))

@@ -6,7 +6,7 @@ use Rattle.std.specs.Prelude.{◌==◌, Option, Some, None, Result, Ok, Err, All
 use Rattle.std.specs.Result.{result_unwrap_or}
 use Rattle.std.proofs.lemmas.Bool.{cases_lt}
 use Rattle.std.proofs.lemmas.List.Elements.{All-nil, All-cons, All-head, All-tail}
-use Rattle.text_lines.specs.Lines.{line_at, lines_of}
+use Rattle.text_lines.specs.Lines.{line_at}
 use Rattle.text_lines.specs.Words.{numbers_of}
 use Rattle.place_search.specs.Places.{first_below}
 use Rattle.place_search.proofs.Places.{last_below-place}
@@ -20,8 +20,7 @@ use Rattle.chipdb_lines.specs.Words.{has_none, is_statement, words_in}
 use Rattle.chipdb_lines.specs.Statements.{Block, LinkHead, passed, of_device, global_inputs, global_pins, functions, extra_bits, names, buffers, routings, block_by, block_of, block_without, buffers_block, device_block, chip_of_words, is_kind_there, keyword_of, link_of_words, names_block, net_of_numbers, routings_block, statement_of, tile_bits_of_numbers, tile_of_numbers}
 use Rattle.chipdb_lines.specs.Items.{NameLine, LinkChoice}
 use Rattle.chipdb_reader.specs.Blocks.{block_by as block_at_place, block_over, chip_before, chip_in, own_words_at, statement_at, statement_over}
-use Rattle.chipdb_reader.specs.Database.{Database, Said, nothing, item, said_at, said_by, said_for, buffers_at, buffers_in, database_of, is_chosen_before, is_same_choice, link_of, new_choices, routings_at, routings_in}
-use Rattle.chipdb_reader.specs.Faults.{DbMeans}
+use Rattle.chipdb_reader.specs.Database.{Said, nothing, item, said_at, said_by, said_for, buffers_at, buffers_in, database_of, is_chosen_before, is_same_choice, link_of, new_choices, routings_at, routings_in}
 use Rattle.chipdb_reader.specs.Fit.{IsExtraLine, IsFit, IsFunctionLine, IsGlobalInput, IsGlobalPin, IsLink, IsNameLine}
 use Rattle.chipdb_reader.proofs.Holds.{buffers_at-nothing, routings_at-nothing}
 use Rattle.chipdb_reader.proofs.FitLines.{OkAll, ok-cond, IsHead, IsNameOf, choice-fit, extra-fit, function-fit, input-fit, link-fit, name-fit, net-fit, pin-fit}
@@ -273,7 +272,7 @@ links-by lines k n chip (Some c) le is at =
 
 -- ---- the whole
 
-database-fit : (chip : Chip) (lines : List (List ℕ)) → chip_before lines (length lines) ≡ Some chip → IsFit (database_of chip lines)
+pub database-fit : (chip : Chip) (lines : List (List ℕ)) → chip_before lines (length lines) ≡ Some chip → IsFit (database_of chip lines)
 unfolding database_of
 database-fit chip lines is =
     let n = length lines in
@@ -286,7 +285,3 @@ database-fit chip lines is =
       global_inputs = All-gathered_below (IsGlobalInput chip) n _ (λ k lt. (said-at-fit lines k n chip (omega arith) is).inputs_fit);
       global_pins = All-gathered_below (IsGlobalPin chip) n _ (λ k lt. (said-at-fit lines k n chip (omega arith) is).pins_fit);
     }
-
--- what a text means is fit
-pub means-fit : (bytes : List ℕ) (database : Database) → DbMeans bytes database → IsFit database
-means-fit bytes database means = subst IsFit (sym means.lines) (database-fit database.chip (lines_of bytes) means.device)

@@ -144,14 +144,14 @@ position-no xs =
     let past : ltb (length xs) (length xs) ≡ false = le-ltb (length xs) (length xs) (omega arith) in
     rw (places, past) refl
 
-pub function-found : (texts : Texts) (bits : List RowCol) (functions : List Function) (kind : TileKind) (name : List ℕ) (id : ℕ) → IsIndexed texts → All (λ f. f.name < length texts.arena) functions → position (bytes_eq name) texts.arena ≡ Some id
+pub function-found : (texts : Texts) (bits : List (List RowCol)) (functions : List Function) (kind : TileKind) (name : List ℕ) (id : ℕ) → IsIndexed texts → All (λ f. f.name < length texts.arena) functions → position (bytes_eq name) texts.arena ≡ Some id
     → position (λ f. is_same_kind f.kind kind && eqb f.name id) functions ≡ function_place kind name (function_lines texts.arena bits functions)
 unfolding function_place
 function-found texts bits functions kind name id indexed all here =
     sym (position-map (λ (f : Function). f.name < length texts.arena) (function_line texts.arena bits) (is_function kind name) (λ (f : Function). is_same_kind f.kind kind && eqb f.name id) functions
     (λ f lt. ap (λ b. is_same_kind f.kind kind && b) (id-tie texts name id f.name indexed here lt)) all)
 
-pub function-none : (texts : Texts) (bits : List RowCol) (functions : List Function) (kind : TileKind) (name : List ℕ) → IsIndexed texts → All (λ f. f.name < length texts.arena) functions → position (bytes_eq name) texts.arena ≡ None
+pub function-none : (texts : Texts) (bits : List (List RowCol)) (functions : List Function) (kind : TileKind) (name : List ℕ) → IsIndexed texts → All (λ f. f.name < length texts.arena) functions → position (bytes_eq name) texts.arena ≡ None
     → function_place kind name (function_lines texts.arena bits functions) ≡ None
 unfolding function_place
 function-none texts bits functions kind name indexed all none =

@@ -1,6 +1,6 @@
 -- The reader keeps what the lines so far give, and one line more.
-use Rattle.std.proofs.Common.{◌≡◌, ℕ, ◌+◌, ◌^◌, ◌<◌, ◌≤◌, Bool, false, ◌&&◌, ◌||◌, List, [], ◌++◌, length, drop, map, append-nil, refl, sym, ap, ◌∙◌, arith}
-use Rattle.std.specs.Prelude.{Option, Some, None, All, nat_lt}
+use Rattle.std.proofs.Common.{◌≡◌, ℕ, ◌+◌, ◌<◌, ◌≤◌, Bool, false, ◌&&◌, ◌||◌, List, [], ◌++◌, length, append-nil, refl, sym, ap, ◌∙◌, arith}
+use Rattle.std.specs.Prelude.{Option, Some, None, nat_lt}
 use Rattle.std.specs.List.{list_any}
 use Rattle.std.proofs.lemmas.Bool.{lt-ltb}
 use Rattle.std.proofs.Math.Bool.{or-false}
@@ -10,71 +10,19 @@ use Rattle.place_search.specs.Places.{gathered_below}
 use Rattle.place_search.proofs.Places.{any_below-more, last_below-place, gathered_below-more}
 use Rattle.chipdb_lines.specs.declared.statements.Below.{Below}
 use Rattle.chipdb_lines.specs.declared.statements.Below.TheVariants.{Passed, Device, GlobalInputs, GlobalPins, Functions, ExtraBits, Names, Buffers, Routings}
-use Rattle.chipdb_lines.specs.declared.links.LinkHead.{LinkHead as KeptHead}
 use Rattle.chipdb_lines.specs.Words.{is_statement}
 use Rattle.chipdb_lines.specs.Statements.{Block, passed, of_device, global_inputs, global_pins, functions, extra_bits, names, buffers, routings}
 use Rattle.chipdb_lines.specs.Items.{LinkChoice}
-use Rattle.bit_plane.specs.BitList.{word_bits}
-use Rattle.chipdb_lines.specs.Kept.{block_named, IsListOf}
-use Rattle.chipdb_reader.specs.declared.items.LinkLine.{LinkLine}
+use Rattle.chipdb_lines.specs.Kept.{block_named}
 use Rattle.chipdb_reader.specs.declared.reading.Reader.{Reader}
-use Rattle.chipdb_reader.specs.Blocks.{chip_before, statement_over, block_over}
-use Rattle.chipdb_reader.specs.Buffers.{chosen_src}
+use Rattle.chipdb_reader.specs.Blocks.{statement_over, block_over}
 use Rattle.chipdb_reader.specs.Database.{Said, nothing, said_at, any_since, is_chosen_before, new_choices, buffers_in, buffers_at, routings_in, routings_at}
 use Rattle.chipdb_reader.specs.Faults.{is_net_before}
 use Rattle.chipdb_reader.specs.Kept.{name_lines, link_lines, function_lines, extra_lines}
 use Rattle.chipdb_reader.specs.Nets.{net_names, has_net}
 use Rattle.chipdb_reader.specs.Reading.{IsReady}
-use Rattle.chipdb_reader.specs.Sound.{IsLinkIn}
+use Rattle.chipdb_reader.specs.Holds.{InRange, ChoicesHold, Holds}
 use Rattle.chipdb_reader.proofs.BlockSteps.{chip-own, over-own, block-own}
-
--- ids and lists of bits are those of what is kept
-pub record InRange (reader : Reader) : Type 0 where
-  pub names : All (λ p. p.0.name < length reader.texts.arena) (net_names reader.nets)
-  pub functions : All (λ f. f.name < length reader.texts.arena) reader.functions.items
-  pub function_bits : All (λ f. IsListOf (length reader.bits.items) f.bits) reader.functions.items
-  pub extras : All (λ e. e.name < length reader.texts.arena) reader.extras.items
-  pub buffers : All (IsLinkIn (length reader.bits.items)) reader.buffers.lines.items
-  pub routings : All (IsLinkIn (length reader.bits.items)) reader.routings.items
-
--- the lines of the last statement
-abbrev pub last_lines : Reader → List LinkLine
-last_lines reader = drop reader.buffers.start reader.buffers.lines.items
-
-abbrev pub kept_choice : ℕ → LinkLine → LinkChoice
-kept_choice count line = record { values = word_bits count line.values; src = line.src }
-
--- a line of the last statement
-pub record IsLastLine (reader : Reader) (head : KeptHead) (line : LinkLine) : Type 0 where
-  pub bits : line.bits ≡ head.bits
-  pub small : line.values < 2 ^ head.bits.count
-  pub chosen : chosen_src reader.buffers line.values ≡ Some line.src
-
--- the lines of the last statement stand for its choices so far
-pub record LastHolds (reader : Reader) (lines : List (List ℕ)) (n : ℕ) (head : KeptHead) : Type 0 where
-  pub own : All (IsLastLine reader head) (last_lines reader)
-  pub seen : (test : LinkChoice → Bool) → is_chosen_before lines n test ≡ list_any test (map (kept_choice head.bits.count) (last_lines reader))
-
-abbrev pub ChoicesHold : Reader → List (List ℕ) → ℕ → Below → Type 0
-ChoicesHold reader lines n (Buffers head) = LastHolds reader lines n head
-ChoicesHold reader lines n below = Unit {0}
-
--- what the first n lines give is kept
-pub record Holds (reader : Reader) (lines : List (List ℕ)) (n : ℕ) : Type 0 where
-  pub ready : IsReady reader
-  pub in_range : InRange reader
-  pub choices : ChoicesHold reader lines n reader.below
-  pub chip : reader.chip ≡ chip_before lines n
-  pub block : block_named reader.bits.items reader.below ≡ block_over lines n
-  pub nets : (net : ℕ) → has_net reader.nets net ≡ is_net_before lines n net
-  pub names : name_lines reader.texts.arena (net_names reader.nets) ≡ gathered_below n (λ k. (said_at lines k).names)
-  pub buffers : link_lines reader.bits.items reader.buffers.lines.items ≡ gathered_below n (buffers_at lines)
-  pub routings : link_lines reader.bits.items reader.routings.items ≡ gathered_below n (routings_at lines)
-  pub functions : function_lines reader.texts.arena reader.bits.items reader.functions.items ≡ gathered_below n (λ k. (said_at lines k).functions)
-  pub extras : extra_lines reader.texts.arena reader.extras.items ≡ gathered_below n (λ k. (said_at lines k).extras)
-  pub global_inputs : reader.global_inputs.items ≡ gathered_below n (λ k. (said_at lines k).global_inputs)
-  pub global_pins : reader.global_pins.items ≡ gathered_below n (λ k. (said_at lines k).global_pins)
-  pub few : length reader.texts.arena ≤ n
 
 -- ---- lists, one line further
 
@@ -111,18 +59,19 @@ nets-own lines n net own = any_below-more n _ ∙ rw own (or-false _)
 pub own-step : (old new : Reader) (lines : List (List ℕ)) (n : ℕ) (said : Said)
     → is_statement (line_at lines n) ≡ false → said_at lines n ≡ said → Holds old lines n
     → IsReady new → InRange new → ChoicesHold new lines (n + 1) new.below
-    → new.chip ≡ old.chip → block_named new.bits.items new.below ≡ block_named old.bits.items old.below
+    → new.chip ≡ old.chip → block_named new.bits new.below ≡ block_named old.bits old.below
     → ((net : ℕ) → has_net new.nets net ≡ has_net old.nets net)
     → name_lines new.texts.arena (net_names new.nets) ≡ name_lines old.texts.arena (net_names old.nets) ++ said.names
-    → link_lines new.bits.items new.buffers.lines.items ≡ link_lines old.bits.items old.buffers.lines.items ++ buffers_at lines n
-    → link_lines new.bits.items new.routings.items ≡ link_lines old.bits.items old.routings.items ++ routings_at lines n
-    → function_lines new.texts.arena new.bits.items new.functions.items ≡ function_lines old.texts.arena old.bits.items old.functions.items ++ said.functions
+    → link_lines new.bits new.buffers.lines.items ≡ link_lines old.bits old.buffers.lines.items ++ buffers_at lines n
+    → link_lines new.bits new.routings.items ≡ link_lines old.bits old.routings.items ++ routings_at lines n
+    → function_lines new.texts.arena new.bits new.functions.items ≡ function_lines old.texts.arena old.bits old.functions.items ++ said.functions
     → extra_lines new.texts.arena new.extras.items ≡ extra_lines old.texts.arena old.extras.items ++ said.extras
     → new.global_inputs.items ≡ old.global_inputs.items ++ said.global_inputs
     → new.global_pins.items ≡ old.global_pins.items ++ said.global_pins
     → length new.texts.arena ≤ n + 1
+    → length new.bits ≤ n + 1
     → Holds new lines (n + 1)
-own-step old new lines n said own says holds ready in_range choices chip block nets more_names more_buffers more_routings more_functions more_extras more_inputs more_pins few = record {
+own-step old new lines n said own says holds ready in_range choices chip block nets more_names more_buffers more_routings more_functions more_extras more_inputs more_pins few few_lists = record {
   ready = ready;
   in_range = in_range;
   choices = choices;
@@ -137,6 +86,7 @@ own-step old new lines n said own says holds ready in_range choices chip block n
   global_inputs = list-step _ _ said.global_inputs n (λ k. (said_at lines k).global_inputs) more_inputs holds.global_inputs (ap (λ s. s.global_inputs) says);
   global_pins = list-step _ _ said.global_pins n (λ k. (said_at lines k).global_pins) more_pins holds.global_pins (ap (λ s. s.global_pins) says);
   few = few;
+  few_lists = few_lists;
 }
 
 -- no choice makes no link
@@ -192,5 +142,6 @@ pub nothing-step : (reader : Reader) (lines : List (List ℕ)) (n : ℕ) → is_
 nothing-step reader lines n own says holds =
     let none : (said_at lines n).choices ≡ [] = ap (λ s. s.choices) says in
     let few : length reader.texts.arena ≤ n = holds.few in
+    let few_lists : length reader.bits ≤ n = holds.few_lists in
     own-step reader reader lines n nothing own says holds holds.ready holds.in_range (choices-kept reader lines n reader.below own none holds.choices) refl refl (λ net. refl)
-    (sym (append-nil _)) (append-nothing _ _ (buffers_at-nothing lines n none)) (append-nothing _ _ (routings_at-nothing lines n none)) (sym (append-nil _)) (sym (append-nil _)) (sym (append-nil _)) (sym (append-nil _)) (omega arith)
+    (sym (append-nil _)) (append-nothing _ _ (buffers_at-nothing lines n none)) (append-nothing _ _ (routings_at-nothing lines n none)) (sym (append-nil _)) (sym (append-nil _)) (sym (append-nil _)) (sym (append-nil _)) (omega arith) (omega arith)

@@ -17,9 +17,8 @@ use Rattle.chipdb_lines.specs.declared.statements.Below.{Below}
 use Rattle.chipdb_lines.specs.declared.statements.Below.TheVariants.{GlobalInputs, GlobalPins, Functions, ExtraBits}
 use Rattle.chipdb_lines.specs.Words.{is_statement}
 use Rattle.chipdb_lines.specs.Statements.{Block}
-use Rattle.chipdb_lines.specs.declared.bits.BitList.{BitList}
 use Rattle.chipdb_lines.specs.Items.{FunctionLine, ExtraLine, global_input_of, global_pin_of}
-use Rattle.chipdb_lines.specs.Kept.{block_named, bits_named, IsListOf}
+use Rattle.chipdb_lines.specs.Kept.{block_named, bits_named}
 use Rattle.chipdb_reader.specs.declared.items.Function.{Function}
 use Rattle.chipdb_reader.specs.declared.items.Extra.{Extra}
 use Rattle.chipdb_reader.specs.declared.items.NetName.{NetName}
@@ -34,9 +33,10 @@ use Rattle.chipdb_reader.specs.Nets.{net_names}
 use Rattle.chipdb_reader.specs.Texts.{Interns}
 use Rattle.chipdb_reader.specs.Reading.{Pushes, PushesFunction, PushesExtra}
 use Rattle.chipdb_reader.specs.Sound.{IsLinkIn}
-use Rattle.chipdb_reader.proofs.Grown.{names-grown, extras-grown, functions-grown, links-grown, list-added, IsLinkIn-grown, IsListOf-grown}
+use Rattle.chipdb_reader.proofs.Grown.{names-grown, extras-grown, functions-grown, links-grown, list-added, Lengthens-list, IsLinkIn-grown}
 use Rattle.chipdb_reader.proofs.TextSteps.{text-found}
-use Rattle.chipdb_reader.proofs.Holds.{Holds, InRange, own-step, buffers_at-nothing, routings_at-nothing}
+use Rattle.chipdb_reader.specs.Holds.{Holds, InRange}
+use Rattle.chipdb_reader.proofs.Holds.{own-step, buffers_at-nothing, routings_at-nothing}
 
 -- what the words of a line say
 pub said-is : (lines : List (List ℕ)) (n : ℕ) (word : List ℕ) (words : List (List ℕ)) (chip : Chip) (block : Block)
@@ -64,18 +64,18 @@ pub record At (old : Reader) (lines : List (List ℕ)) (n : ℕ) (chip : Chip) (
 
 -- the block over it
 pub block-at : (old : Reader) (lines : List (List ℕ)) (n : ℕ) (chip : Chip) (below : Below) (word : List ℕ) (words : List (List ℕ)) → At old lines n chip below word words
-    → block_over lines n ≡ block_named old.bits.items below
-block-at old lines n chip below word words at = sym at.holds.block ∙ ap (block_named old.bits.items) at.under
+    → block_over lines n ≡ block_named old.bits below
+block-at old lines n chip below word words at = sym at.holds.block ∙ ap (block_named old.bits) at.under
 
 pub said-at : (old : Reader) (lines : List (List ℕ)) (n : ℕ) (chip : Chip) (below : Below) (word : List ℕ) (words : List (List ℕ)) → At old lines n chip below word words
-    → said_at lines n ≡ said_for chip (block_named old.bits.items below) (word ∷ words)
+    → said_at lines n ≡ said_for chip (block_named old.bits below) (word ∷ words)
 said-at old lines n chip below word words at =
-    said-is lines n word words chip (block_named old.bits.items below) at.is (sym at.holds.chip ∙ at.given) (block-at old lines n chip below word words at)
+    said-is lines n word words chip (block_named old.bits below) at.is (sym at.holds.chip ∙ at.given) (block-at old lines n chip below word words at)
 
 pub cause-at : (old : Reader) (lines : List (List ℕ)) (n : ℕ) (chip : Chip) (below : Below) (word : List ℕ) (words : List (List ℕ)) → At old lines n chip below word words
-    → cause_at lines n ≡ item_cause lines n chip (block_named old.bits.items below) (word ∷ words)
+    → cause_at lines n ≡ item_cause lines n chip (block_named old.bits below) (word ∷ words)
 cause-at old lines n chip below word words at =
-    cause-is lines n word words chip (block_named old.bits.items below) at.inside at.own at.is (sym at.holds.chip ∙ at.given) (block-at old lines n chip below word words at)
+    cause-is lines n word words chip (block_named old.bits below) at.inside at.own at.is (sym at.holds.chip ∙ at.given) (block-at old lines n chip below word words at)
 
 pub few-more : (n count : ℕ) → count ≤ n → count ≤ n + 1
 few-more n count le = omega arith
@@ -92,7 +92,7 @@ input-step old inputs lines n chip word words at pushed =
     (record { texts = at.holds.ready.texts; nets = at.holds.ready.nets; buffers = at.holds.ready.buffers; below = at.holds.ready.below })
     (record { names = at.holds.in_range.names; functions = at.holds.in_range.functions; function_bits = at.holds.in_range.function_bits; extras = at.holds.in_range.extras; buffers = at.holds.in_range.buffers; routings = at.holds.in_range.routings })
     (rw under tt) refl refl (λ net. refl) (sym (append-nil _)) (append-nothing _ _ (buffers_at-nothing lines n none)) (append-nothing _ _ (routings_at-nothing lines n none)) (sym (append-nil _)) (sym (append-nil _)) pushed.added (sym (append-nil _))
-    (few-more n _ at.holds.few)
+    (few-more n _ at.holds.few) (few-more n _ at.holds.few_lists)
 
 -- a `.gbufpin` line
 pub pin-step : (old : Reader) (pins : Vec GlobalPin Global) (lines : List (List ℕ)) (n : ℕ) (chip : Chip) (word : List ℕ) (words : List (List ℕ)) → At old lines n chip GlobalPins word words
@@ -106,7 +106,7 @@ pin-step old pins lines n chip word words at pushed =
     (record { texts = at.holds.ready.texts; nets = at.holds.ready.nets; buffers = at.holds.ready.buffers; below = at.holds.ready.below })
     (record { names = at.holds.in_range.names; functions = at.holds.in_range.functions; function_bits = at.holds.in_range.function_bits; extras = at.holds.in_range.extras; buffers = at.holds.in_range.buffers; routings = at.holds.in_range.routings })
     (rw under tt) refl refl (λ net. refl) (sym (append-nil _)) (append-nothing _ _ (buffers_at-nothing lines n none)) (append-nothing _ _ (routings_at-nothing lines n none)) (sym (append-nil _)) (sym (append-nil _)) (sym (append-nil _)) pushed.added
-    (few-more n _ at.holds.few)
+    (few-more n _ at.holds.few) (few-more n _ at.holds.few_lists)
 
 -- ---- names and bits that grow
 
@@ -123,21 +123,20 @@ interned-counts old new text id interned =
     record { more = omega arith; few = omega arith; inside = (text-found new.arena text id interned.here).0 }
 
 -- ids and lists of bits stay in range
-pub in_range-grown : (old : Reader) (texts : Texts) (bits : Vec RowCol Global) (more_texts : List (List ℕ)) (more_bits : List RowCol)
-    → texts.arena ≡ old.texts.arena ++ more_texts → bits.items ≡ old.bits.items ++ more_bits → InRange old → InRange (record old { texts = texts; bits = bits })
+pub in_range-grown : (old : Reader) (texts : Texts) (bits : List (List RowCol)) (more_texts : List (List ℕ)) (more_bits : List (List RowCol))
+    → texts.arena ≡ old.texts.arena ++ more_texts → bits ≡ old.bits ++ more_bits → InRange old → InRange (record old { texts = texts; bits = bits })
 in_range-grown old texts bits more_texts more_bits texts_grown bits_grown range =
     let count : length texts.arena ≡ length old.texts.arena + length more_texts = ap length texts_grown ∙ length-append old.texts.arena more_texts in
-    let listed : (list : BitList) → IsListOf (length old.bits.items) list → IsListOf (length bits.items) list =
-    λ list is. let longer = IsListOf-grown old.bits.items more_bits list is in rw bits_grown longer in
-    let linked : (line : LinkLine) → IsLinkIn (length old.bits.items) line → IsLinkIn (length bits.items) line =
-    λ line is. let longer = IsLinkIn-grown old.bits.items more_bits line is in rw bits_grown longer in
+    let lists : length bits ≡ length old.bits + length more_bits = ap length bits_grown ∙ length-append old.bits more_bits in
+    let linked : (line : LinkLine) → IsLinkIn old.bits line → IsLinkIn bits line =
+    λ line is. let longer = IsLinkIn-grown old.bits more_bits line is in rw bits_grown longer in
     record {
       names = All-weaker (λ (p : NetName × ℕ). p.0.name < length old.texts.arena) (λ (p : NetName × ℕ). p.0.name < length texts.arena) (λ p lt. omega arith) (net_names old.nets) range.names;
       functions = All-weaker (λ (f : Function). f.name < length old.texts.arena) (λ (f : Function). f.name < length texts.arena) (λ f lt. omega arith) old.functions.items range.functions;
-      function_bits = All-weaker (λ (f : Function). IsListOf (length old.bits.items) f.bits) (λ (f : Function). IsListOf (length bits.items) f.bits) (λ f is. listed f.bits is) old.functions.items range.function_bits;
+      function_bits = All-weaker (λ (f : Function). f.bits.place < length old.bits) (λ (f : Function). f.bits.place < length bits) (λ f lt. omega arith) old.functions.items range.function_bits;
       extras = All-weaker (λ (e : Extra). e.name < length old.texts.arena) (λ (e : Extra). e.name < length texts.arena) (λ e lt. omega arith) old.extras.items range.extras;
-      buffers = All-weaker (IsLinkIn (length old.bits.items)) (IsLinkIn (length bits.items)) linked old.buffers.lines.items range.buffers;
-      routings = All-weaker (IsLinkIn (length old.bits.items)) (IsLinkIn (length bits.items)) linked old.routings.items range.routings;
+      buffers = All-weaker (IsLinkIn old.bits) (IsLinkIn bits) linked old.buffers.lines.items range.buffers;
+      routings = All-weaker (IsLinkIn old.bits) (IsLinkIn bits) linked old.routings.items range.routings;
     }
 
 -- lists that say the same
@@ -147,12 +146,12 @@ names-kept old texts more grown range = ap (λ t. name_lines t (net_names old.ne
 pub extras-kept : (old : Reader) (texts : Texts) (more : List (List ℕ)) → texts.arena ≡ old.texts.arena ++ more → InRange old → extra_lines texts.arena old.extras.items ≡ extra_lines old.texts.arena old.extras.items
 extras-kept old texts more grown range = ap (λ t. extra_lines t old.extras.items) grown ∙ extras-grown old.texts.arena more old.extras.items range.extras
 
-pub functions-kept : (old : Reader) (texts : Texts) (bits : List RowCol) (more_texts : List (List ℕ)) (more_bits : List RowCol) → texts.arena ≡ old.texts.arena ++ more_texts → bits ≡ old.bits.items ++ more_bits → InRange old
-    → function_lines texts.arena bits old.functions.items ≡ function_lines old.texts.arena old.bits.items old.functions.items
+pub functions-kept : (old : Reader) (texts : Texts) (bits : List (List RowCol)) (more_texts : List (List ℕ)) (more_bits : List (List RowCol)) → texts.arena ≡ old.texts.arena ++ more_texts → bits ≡ old.bits ++ more_bits → InRange old
+    → function_lines texts.arena bits old.functions.items ≡ function_lines old.texts.arena old.bits old.functions.items
 functions-kept old texts bits more_texts more_bits texts_grown bits_grown range =
-    (λ i. function_lines (texts_grown i) (bits_grown i) old.functions.items) ∙ functions-grown old.texts.arena more_texts old.bits.items more_bits old.functions.items range.functions range.function_bits
+    (λ i. function_lines (texts_grown i) (bits_grown i) old.functions.items) ∙ functions-grown old.texts.arena more_texts old.bits more_bits old.functions.items range.functions range.function_bits
 
-pub links-kept : (bits new_bits more : List RowCol) (lines : List LinkLine) → new_bits ≡ bits ++ more → All (IsLinkIn (length bits)) lines → link_lines new_bits lines ≡ link_lines bits lines
+pub links-kept : (bits new_bits more : List (List RowCol)) (lines : List LinkLine) → new_bits ≡ bits ++ more → All (IsLinkIn bits) lines → link_lines new_bits lines ≡ link_lines bits lines
 links-kept bits new_bits more lines grown all = ap (λ b. link_lines b lines) grown ∙ links-grown bits more lines all
 
 -- a line of functions
@@ -160,39 +159,41 @@ pub function-step : (old new : Reader) (lines : List (List ℕ)) (n : ℕ) (chip
     → PushesFunction kind (word ∷ words) old new → Holds new lines (n + 1)
 function-step old new lines n chip kind word words at pushed =
     let function = pushed.function in
-    let grown = pushed.listed.grown in
-    let line : FunctionLine = record { kind = kind; name = pushed.name; bits = bits_named new.bits.items function.bits } in
+    let grown = Lengthens-list old.bits new.bits function.bits pushed.listed in
+    let line : FunctionLine = record { kind = kind; name = pushed.name; bits = bits_named new.bits function.bits } in
     let said : Said = record nothing { functions = line ∷ [] } in
     let says : said_at lines n ≡ said = said-at old lines n chip (Functions kind) word words at ∙ ap (λ r. record nothing { functions = item r }) pushed.says in
     let none : (said_at lines n).choices ≡ [] = ap (λ s. s.choices) says in
     let counts = interned-counts old.texts new.texts pushed.name function.name pushed.interned in
     let under = at.under in
     let range = at.holds.in_range in
-    let after = in_range-grown old new.texts new.bits pushed.interned.more grown.0 pushed.interned.grown grown.1 range in
+    let after = in_range-grown old new.texts new.bits pushed.interned.more grown.more pushed.interned.grown grown.table range in
     let found = (text-found new.texts.arena pushed.name function.name pushed.interned.here).1 in
-    let read : function_line new.texts.arena new.bits.items function ≡ line = λ i. record { kind = pushed.same i; name = found i; bits = bits_named new.bits.items function.bits } in
-    let listed : function_lines new.texts.arena new.bits.items new.functions.items ≡ function_lines old.texts.arena old.bits.items old.functions.items ++ line ∷ [] =
-    ap (function_lines new.texts.arena new.bits.items) pushed.added
-    ∙ map-append (function_line new.texts.arena new.bits.items) old.functions.items (function ∷ [])
-    ∙ ap (λ fs. fs ++ function_line new.texts.arena new.bits.items function ∷ []) (functions-kept old new.texts new.bits.items pushed.interned.more grown.0 pushed.interned.grown grown.1 range)
-    ∙ ap (λ f. function_lines old.texts.arena old.bits.items old.functions.items ++ f ∷ []) read in
+    let read : function_line new.texts.arena new.bits function ≡ line = λ i. record { kind = pushed.same i; name = found i; bits = bits_named new.bits function.bits } in
+    let listed : function_lines new.texts.arena new.bits new.functions.items ≡ function_lines old.texts.arena old.bits old.functions.items ++ line ∷ [] =
+    ap (function_lines new.texts.arena new.bits) pushed.added
+    ∙ map-append (function_line new.texts.arena new.bits) old.functions.items (function ∷ [])
+    ∙ ap (λ fs. fs ++ function_line new.texts.arena new.bits function ∷ []) (functions-kept old new.texts new.bits pushed.interned.more grown.more pushed.interned.grown grown.table range)
+    ∙ ap (λ f. function_lines old.texts.arena old.bits old.functions.items ++ f ∷ []) read in
     let ids : All (λ f. f.name < length new.texts.arena) new.functions.items =
     rw pushed.added (All-push (λ (f : Function). f.name < length new.texts.arena) old.functions.items function after.functions counts.inside) in
-    let lists : All (λ f. IsListOf (length new.bits.items) f.bits) new.functions.items =
-    rw pushed.added (All-push (λ (f : Function). IsListOf (length new.bits.items) f.bits) old.functions.items function after.function_bits (list-added old.bits.items new.bits.items function.bits pushed.listed)) in
+    let lists : All (λ f. f.bits.place < length new.bits) new.functions.items =
+    rw pushed.added (All-push (λ (f : Function). f.bits.place < length new.bits) old.functions.items function after.function_bits (list-added old.bits new.bits function.bits pushed.listed)) in
     let count : length new.texts.arena ≤ length old.texts.arena + 1 = counts.few in
     let before : length old.texts.arena ≤ n = at.holds.few in
+    let lists_count : length new.bits ≤ length old.bits + 1 = grown.few in
+    let lists_before : length old.bits ≤ n = at.holds.few_lists in
     subst (λ r. Holds r lines (n + 1)) (sym pushed.rest)
     (own-step old (record old { texts = new.texts; bits = new.bits; functions = new.functions }) lines n said at.own says at.holds
     (record { texts = pushed.interned.indexed; nets = at.holds.ready.nets; buffers = at.holds.ready.buffers; below = rw under tt })
     (record { names = after.names; functions = ids; function_bits = lists; extras = after.extras; buffers = after.buffers; routings = after.routings })
     (rw under tt) refl (rw under refl) (λ net. refl)
     (names-kept old new.texts pushed.interned.more pushed.interned.grown range ∙ sym (append-nil _))
-    (links-kept old.bits.items new.bits.items grown.0 old.buffers.lines.items grown.1 range.buffers ∙ append-nothing _ _ (buffers_at-nothing lines n none))
-    (links-kept old.bits.items new.bits.items grown.0 old.routings.items grown.1 range.routings ∙ append-nothing _ _ (routings_at-nothing lines n none))
+    (links-kept old.bits new.bits grown.more old.buffers.lines.items grown.table range.buffers ∙ append-nothing _ _ (buffers_at-nothing lines n none))
+    (links-kept old.bits new.bits grown.more old.routings.items grown.table range.routings ∙ append-nothing _ _ (routings_at-nothing lines n none))
     listed
     (extras-kept old new.texts pushed.interned.more pushed.interned.grown range ∙ sym (append-nil _))
-    (sym (append-nil _)) (sym (append-nil _)) (omega arith))
+    (sym (append-nil _)) (sym (append-nil _)) (omega arith) (omega arith))
 
 -- a line of extra bits
 pub extra-step : (old new : Reader) (lines : List (List ℕ)) (n : ℕ) (chip : Chip) (word : List ℕ) (words : List (List ℕ)) → At old lines n chip ExtraBits word words
@@ -206,7 +207,7 @@ extra-step old new lines n chip word words at pushed =
     let counts = interned-counts old.texts new.texts pushed.name extra.name pushed.interned in
     let under = at.under in
     let range = at.holds.in_range in
-    let after = in_range-grown old new.texts old.bits pushed.interned.more [] pushed.interned.grown (sym (append-nil old.bits.items)) range in
+    let after = in_range-grown old new.texts old.bits pushed.interned.more [] pushed.interned.grown (sym (append-nil old.bits)) range in
     let found = (text-found new.texts.arena pushed.name extra.name pushed.interned.here).1 in
     let read : extra_line new.texts.arena extra ≡ line = λ i. record { name = found i; at = extra.at } in
     let listed : extra_lines new.texts.arena new.extras.items ≡ extra_lines old.texts.arena old.extras.items ++ line ∷ [] =
@@ -225,5 +226,5 @@ extra-step old new lines n chip word words at pushed =
     (rw under tt) refl refl (λ net. refl)
     (names-kept old new.texts pushed.interned.more pushed.interned.grown range ∙ sym (append-nil _))
     (append-nothing _ _ (buffers_at-nothing lines n none)) (append-nothing _ _ (routings_at-nothing lines n none))
-    (functions-kept old new.texts old.bits.items pushed.interned.more [] pushed.interned.grown (sym (append-nil old.bits.items)) range ∙ sym (append-nil _))
-    listed (sym (append-nil _)) (sym (append-nil _)) (omega arith))
+    (functions-kept old new.texts old.bits pushed.interned.more [] pushed.interned.grown (sym (append-nil old.bits)) range ∙ sym (append-nil _))
+    listed (sym (append-nil _)) (sym (append-nil _)) (omega arith) (few-more n _ at.holds.few_lists))

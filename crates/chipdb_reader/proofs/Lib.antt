@@ -32,6 +32,10 @@ pub mod StatementSteps
 pub mod LineSteps
 -- the whole text: what is kept at its end, and its first faulty line
 pub mod Ends
+-- lines that are taken one after another
+pub mod Feeding
+-- a reader of pieces, by what its feed of lines tells
+pub mod Fed
 -- look-ups by ids find what look-ups by names would
 pub mod Found
 -- lines that say something name tiles, bits and nets that the device has

@@ -13,14 +13,14 @@ use Rattle.chipdb_lines.specs.declared.statements.Below.TheVariants.{Passed, Dev
 use Rattle.chipdb_lines.specs.Words.{is_statement}
 use Rattle.chipdb_lines.specs.Statements.{Block}
 use Rattle.chipdb_lines.specs.Items.{choice_of}
-use Rattle.chipdb_lines.specs.Kept.{IsListOf}
 use Rattle.chipdb_reader.specs.declared.reading.Reader.{Reader}
 use Rattle.chipdb_reader.specs.Blocks.{chip_before, block_over, own_words_at}
 use Rattle.chipdb_reader.specs.Database.{nothing, said_at, said_by}
 use Rattle.chipdb_reader.specs.Faults.{cause_at, cause_if, choice_cause, name_cause, own_cause}
-use Rattle.chipdb_reader.specs.Reading.{IsReady, IsBelowReady, TakesItem, TakesWords, TakesLine, RefusesItem, RefusesWords, RefusesLine, NameRefusal, BufferRefusal, name_own, name_twice, buffer_own, buffer_twice}
+use Rattle.chipdb_reader.specs.Reading.{IsReady, IsHeadOf, IsBelowReady, TakesItem, TakesWords, TakesLine, RefusesItem, RefusesWords, RefusesLine, NameRefusal, BufferRefusal, name_own, name_twice, buffer_own, buffer_twice}
 use Rattle.chipdb_reader.proofs.Grown.{length-bits_named}
-use Rattle.chipdb_reader.proofs.Holds.{Holds, nothing-step}
+use Rattle.chipdb_reader.specs.Holds.{Holds}
+use Rattle.chipdb_reader.proofs.Holds.{nothing-step}
 use Rattle.chipdb_reader.proofs.ItemSteps.{At, said-at, cause-at, input-step, pin-step, function-step, extra-step}
 use Rattle.chipdb_reader.proofs.LinkSteps.{routing-step, buffer-step, buffer-cause_is}
 use Rattle.chipdb_reader.proofs.NameSteps.{name-step, name-cause}
@@ -70,8 +70,8 @@ taken-wordless old lines n lt own_line holds none = record {
 
 -- ---- lines with words
 
-list-of : (old : Reader) (below : Below) → IsReady old → old.below ≡ below → IsBelowReady (length old.bits.items) old.nets.last below
-list-of old below ready under = subst (IsBelowReady (length old.bits.items) old.nets.last) under ready.below
+list-of : (old : Reader) (below : Below) → IsReady old → old.below ≡ below → IsBelowReady old.bits old.nets.last below
+list-of old below ready under = subst (IsBelowReady old.bits old.nets.last) under ready.below
 
 taken-item : (old new : Reader) (lines : List (List ℕ)) (n : ℕ) (chip : Chip) (below : Below) (word : List ℕ) (words : List (List ℕ)) → At old lines n chip below word words → TakesItem old chip below (word ∷ words) new → Taken new lines n
 taken-item old new lines n chip Passed word words at same =
@@ -113,7 +113,7 @@ taken-item old new lines n chip (Routings head) word words at taken =
     subst (λ r. Taken r lines n) (sym taken.1) (record {
       holds = routing-step old new.routings lines n chip head word words at is taken.0;
       sound = cause-at old lines n chip (Routings head) word words at
-          ∙ ap (λ count. result_err (choice_of chip.nets count (word ∷ words))) (length-bits_named old.bits.items head.bits is) ∙ ap result_err taken.0.chosen.says;
+          ∙ ap (λ count. result_err (choice_of chip.nets count (word ∷ words))) (length-bits_named old.bits head is) ∙ ap result_err taken.0.chosen.says;
     })
 
 taken-words : (old new : Reader) (lines : List (List ℕ)) (n : ℕ) (chip : Option Chip) (words : List (List ℕ)) → n < length lines → is_statement (line_at lines n) ≡ false → Holds old lines n → old.chip ≡ chip → own_words_at lines n ≡ words
@@ -142,11 +142,11 @@ name-refused old lines n chip net word words cause at (name_twice named is) =
     name-cause old named.texts lines n chip net named.x named.y named.text named.id word words at named.says named.interned
     ∙ ap (λ b. cause_if b NameTwice) named.named ∙ ap (λ c. Some c) (sym is)
 
-buffer-refused : (old : Reader) (lines : List (List ℕ)) (n : ℕ) (chip : Chip) (head : KeptHead) (word : List ℕ) (words : List (List ℕ)) (cause : DbCause) → At old lines n chip (Buffers head) word words → IsListOf (length old.bits.items) head.bits
+buffer-refused : (old : Reader) (lines : List (List ℕ)) (n : ℕ) (chip : Chip) (head : KeptHead) (word : List ℕ) (words : List (List ℕ)) (cause : DbCause) → At old lines n chip (Buffers head) word words → IsHeadOf old.bits head
     → BufferRefusal chip.nets head (word ∷ words) old cause → cause_at lines n ≡ Some cause
 buffer-refused old lines n chip head word words cause at is (buffer_own told) =
     cause-at old lines n chip (Buffers head) word words at
-    ∙ ap (λ count. choice_cause lines n (choice_of chip.nets count (word ∷ words))) (length-bits_named old.bits.items head.bits is) ∙ ap (choice_cause lines n) told
+    ∙ ap (λ count. choice_cause lines n (choice_of chip.nets count (word ∷ words))) (length-bits_named old.bits head is) ∙ ap (choice_cause lines n) told
 buffer-refused old lines n chip head word words cause at is (buffer_twice chosen) =
     buffer-cause_is old lines n chip head word words chosen.choice at is chosen.chosen ∙ chosen.twice
 
@@ -163,7 +163,7 @@ refused-item old lines n chip (Buffers head) word words cause at told =
     buffer-refused old lines n chip head word words cause at (list-of old (Buffers head) at.holds.ready at.under) told
 refused-item old lines n chip (Routings head) word words cause at told =
     cause-at old lines n chip (Routings head) word words at
-    ∙ ap (λ count. result_err (choice_of chip.nets count (word ∷ words))) (length-bits_named old.bits.items head.bits (list-of old (Routings head) at.holds.ready at.under)) ∙ told
+    ∙ ap (λ count. result_err (choice_of chip.nets count (word ∷ words))) (length-bits_named old.bits head (list-of old (Routings head) at.holds.ready at.under)) ∙ told
 
 refused-words : (old : Reader) (lines : List (List ℕ)) (n : ℕ) (chip : Option Chip) (words : List (List ℕ)) (cause : DbCause) → n < length lines → is_statement (line_at lines n) ≡ false → Holds old lines n → old.chip ≡ chip → own_words_at lines n ≡ words
     → RefusesWords old chip words cause → cause_at lines n ≡ Some cause

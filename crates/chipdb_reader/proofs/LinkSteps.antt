@@ -22,7 +22,7 @@ use Rattle.chipdb_lines.specs.declared.links.Choice.{Choice}
 use Rattle.chipdb_lines.specs.declared.statements.Below.TheVariants.{Buffers, Routings}
 use Rattle.chipdb_lines.specs.Items.{LinkChoice, choice_of}
 use Rattle.bit_plane.specs.BitList.{word_bits}
-use Rattle.chipdb_lines.specs.Kept.{block_named, bits_named, choice_named, head_named, IsListOf, Chooses}
+use Rattle.chipdb_lines.specs.Kept.{block_named, bits_named, choice_named, head_named, Chooses}
 use Rattle.chipdb_reader.specs.declared.items.LinkLine.{LinkLine}
 use Rattle.chipdb_reader.specs.declared.reading.Reader.{Reader}
 use Rattle.chipdb_reader.specs.Blocks.{block_over}
@@ -30,12 +30,13 @@ use Rattle.chipdb_reader.specs.Buffers.{AddsBuffer, buffer_cause, choice_cause_o
 use Rattle.chipdb_reader.specs.Database.{Said, nothing, item, said_at, link_of, new_choices, buffers_in, buffers_at, routings_in, routings_at, is_chosen_before, has_same_values, is_same_choice, is_other_choice}
 use Rattle.chipdb_reader.specs.Faults.{cause_at, cause_if, choice_cause}
 use Rattle.chipdb_reader.specs.Kept.{link_line, link_lines}
-use Rattle.chipdb_reader.specs.Reading.{PushesRouting, PushesBuffer, link_with}
+use Rattle.chipdb_reader.specs.Reading.{IsHeadOf, PushesRouting, PushesBuffer, link_with}
 use Rattle.chipdb_reader.specs.Sound.{IsLinkIn}
 use Rattle.std.proofs.lemmas.List.Folds.{list_any-append}
 use Rattle.place_search.specs.Places.{or_else}
-use Rattle.chipdb_reader.proofs.Grown.{length-bits_named}
-use Rattle.chipdb_reader.proofs.Holds.{Holds, ChoicesHold, LastHolds, IsLastLine, kept_choice, last_lines, chosen-own, own-step}
+use Rattle.chipdb_reader.proofs.Grown.{length-bits_named, link-in}
+use Rattle.chipdb_reader.specs.Holds.{Holds, ChoicesHold, LastHolds, IsLastLine, kept_choice, last_lines}
+use Rattle.chipdb_reader.proofs.Holds.{chosen-own, own-step}
 use Rattle.chipdb_reader.proofs.ItemSteps.{At, block-at, said-at, cause-at, few-more}
 use Rattle.chipdb_reader.proofs.Searches.{lookup-push}
 
@@ -82,47 +83,47 @@ values-same count a b small_a small_b =
 -- ---- routings
 
 -- a choice of a statement's bits as a link
-link-read : (bits : List RowCol) (head : KeptHead) (choice : Choice) → IsListOf (length bits) head.bits → link_of (head_named bits head) (choice_named head.bits.count choice) ≡ link_line bits (link_with head choice)
+link-read : (bits : List (List RowCol)) (head : KeptHead) (choice : Choice) → IsHeadOf bits head → link_of (head_named bits head) (choice_named head.count choice) ≡ link_line bits (link_with head choice)
 link-read bits head choice is =
-    let count = length-bits_named bits head.bits is in
+    let count = length-bits_named bits head is in
     λ i. record { x = head.x; y = head.y; dst = head.dst; src = choice.src; bits = bits_named bits head.bits; values = word_bits (sym count i) choice.values }
 
 -- what the words of a line say below a statement of links
-choice-read : (nets : ℕ) (bits : List RowCol) (head : KeptHead) (words : List (List ℕ)) (choice : Choice) → IsListOf (length bits) head.bits → Chooses nets head.bits.count words choice
-    → choice_of nets (length (bits_named bits head.bits)) words ≡ Ok (choice_named head.bits.count choice)
-choice-read nets bits head words choice is chosen = ap (λ count. choice_of nets count words) (length-bits_named bits head.bits is) ∙ chosen.says
+choice-read : (nets : ℕ) (bits : List (List RowCol)) (head : KeptHead) (words : List (List ℕ)) (choice : Choice) → IsHeadOf bits head → Chooses nets head.count words choice
+    → choice_of nets (length (bits_named bits head.bits)) words ≡ Ok (choice_named head.count choice)
+choice-read nets bits head words choice is chosen = ap (λ count. choice_of nets count words) (length-bits_named bits head is) ∙ chosen.says
 
 -- a line of a `.routing`
 pub routing-step : (old : Reader) (lines_kept : Vec LinkLine Global) (lines : List (List ℕ)) (n : ℕ) (chip : Chip) (head : KeptHead) (word : List ℕ) (words : List (List ℕ)) → At old lines n chip (Routings head) word words
-    → IsListOf (length old.bits.items) head.bits → PushesRouting chip.nets head (word ∷ words) old.routings.items lines_kept.items → Holds (record old { routings = lines_kept }) lines (n + 1)
+    → IsHeadOf old.bits head → PushesRouting chip.nets head (word ∷ words) old.routings.items lines_kept.items → Holds (record old { routings = lines_kept }) lines (n + 1)
 unfolding buffers_at routings_at
 routing-step old lines_kept lines n chip head word words at is pushed =
     let choice = pushed.choice in
-    let read = choice-read chip.nets old.bits.items head (word ∷ words) choice is pushed.chosen in
-    let said : Said = record nothing { choices = choice_named head.bits.count choice ∷ [] } in
+    let read = choice-read chip.nets old.bits head (word ∷ words) choice is pushed.chosen in
+    let said : Said = record nothing { choices = choice_named head.count choice ∷ [] } in
     let says : said_at lines n ≡ said = said-at old lines n chip (Routings head) word words at ∙ ap (λ r. record nothing { choices = item r }) read in
     let over = block-at old lines n chip (Routings head) word words at in
     let none : buffers_at lines n ≡ [] = ap (λ b. buffers_in b (new_choices lines n (said_at lines n).choices)) over in
-    let link : routings_at lines n ≡ link_line old.bits.items (link_with head choice) ∷ [] =
-    (λ i. routings_in (over i) (says i).choices) ∙ ap (λ l. l ∷ []) (link-read old.bits.items head choice is) in
+    let link : routings_at lines n ≡ link_line old.bits (link_with head choice) ∷ [] =
+    (λ i. routings_in (over i) (says i).choices) ∙ ap (λ l. l ∷ []) (link-read old.bits head choice is) in
     let under = at.under in
-    let added : link_lines old.bits.items lines_kept.items ≡ link_lines old.bits.items old.routings.items ++ routings_at lines n =
-    ap (link_lines old.bits.items) pushed.added ∙ map-append (link_line old.bits.items) old.routings.items (link_with head choice ∷ []) ∙ ap (λ ls. link_lines old.bits.items old.routings.items ++ ls) (sym link) in
+    let added : link_lines old.bits lines_kept.items ≡ link_lines old.bits old.routings.items ++ routings_at lines n =
+    ap (link_lines old.bits) pushed.added ∙ map-append (link_line old.bits) old.routings.items (link_with head choice ∷ []) ∙ ap (λ ls. link_lines old.bits old.routings.items ++ ls) (sym link) in
     let range = at.holds.in_range in
-    let lists : All (IsLinkIn (length old.bits.items)) lines_kept.items =
-    rw pushed.added (All-push (IsLinkIn (length old.bits.items)) old.routings.items (link_with head choice) range.routings (record { bits_in = is; values_few = pushed.chosen.small })) in
+    let lists : All (IsLinkIn old.bits) lines_kept.items =
+    rw pushed.added (All-push (IsLinkIn old.bits) old.routings.items (link_with head choice) range.routings (link-in old.bits head choice is pushed.chosen.small)) in
     own-step old (record old { routings = lines_kept }) lines n said at.own says at.holds
     (record { texts = at.holds.ready.texts; nets = at.holds.ready.nets; buffers = at.holds.ready.buffers; below = at.holds.ready.below })
     (record { names = range.names; functions = range.functions; function_bits = range.function_bits; extras = range.extras; buffers = range.buffers; routings = lists })
     (rw under tt) refl refl (λ net. refl) (sym (append-nil _)) (append-nothing _ _ none) added (sym (append-nil _)) (sym (append-nil _)) (sym (append-nil _)) (sym (append-nil _))
-    (few-more n _ at.holds.few)
+    (few-more n _ at.holds.few) (few-more n _ at.holds.few_lists)
 
 -- ---- buffers
 
 -- some line passes where one of the values that are looked up does
 found-passes : (reader : Reader) (head : KeptHead) (test : LinkChoice → Bool) (values src : ℕ) (ls : List LinkLine)
-    → ((l : LinkLine) → IsLastLine reader head l → eqb values l.values ≡ true → l.src ≡ src → test (kept_choice head.bits.count l) ≡ true)
-    → All (IsLastLine reader head) ls → lookup (nat_eq values) (choices_of ls) ≡ Some src → list_any test (map (kept_choice head.bits.count) ls) ≡ true
+    → ((l : LinkLine) → IsLastLine reader head l → eqb values l.values ≡ true → l.src ≡ src → test (kept_choice head.count l) ≡ true)
+    → All (IsLastLine reader head) ls → lookup (nat_eq values) (choices_of ls) ≡ Some src → list_any test (map (kept_choice head.count) ls) ≡ true
 found-passes reader head test values src [] passes all found = absurd cc
 found-passes reader head test values src (l ∷ ls) passes all found =
     let P : LinkLine → Type 0 = IsLastLine reader head in
@@ -130,28 +131,28 @@ found-passes reader head test values src (l ∷ ls) passes all found =
     elim (cases_Bool (eqb values l.values)) [
       | inl here ↦
           let is : Some l.src ≡ Some src = rw here at found in
-          or_left (test (kept_choice head.bits.count l)) (list_any test (map (kept_choice head.bits.count) ls)) (passes l (All-head P l ls all) here cc)
+          or_left (test (kept_choice head.count l)) (list_any test (map (kept_choice head.count) ls)) (passes l (All-head P l ls all) here cc)
       | inr other ↦
           let rest : lookup (nat_eq values) (choices_of ls) ≡ Some src = rw other at found in
-          or_right (test (kept_choice head.bits.count l)) (list_any test (map (kept_choice head.bits.count) ls)) (found-passes reader head test values src ls passes rest_all rest)
+          or_right (test (kept_choice head.count l)) (list_any test (map (kept_choice head.count) ls)) (found-passes reader head test values src ls passes rest_all rest)
     ]
 
 -- no line passes where each fails
 none-passes : (reader : Reader) (head : KeptHead) (test : LinkChoice → Bool) (ls : List LinkLine)
-    → ((l : LinkLine) → IsLastLine reader head l → test (kept_choice head.bits.count l) ≡ false) → All (IsLastLine reader head) ls → list_any test (map (kept_choice head.bits.count) ls) ≡ false
+    → ((l : LinkLine) → IsLastLine reader head l → test (kept_choice head.count l) ≡ false) → All (IsLastLine reader head) ls → list_any test (map (kept_choice head.count) ls) ≡ false
 none-passes reader head test [] fails all = refl
 none-passes reader head test (l ∷ ls) fails all =
     let P : LinkLine → Type 0 = IsLastLine reader head in
-    or_from (test (kept_choice head.bits.count l)) (list_any test (map (kept_choice head.bits.count) ls)) (fails l (All-head P l ls all)) (none-passes reader head test ls fails (All-tail P l ls all))
+    or_from (test (kept_choice head.count l)) (list_any test (map (kept_choice head.count) ls)) (fails l (All-head P l ls all)) (none-passes reader head test ls fails (All-tail P l ls all))
 
 -- the values of a line and of a choice
-same-by_number : (reader : Reader) (head : KeptHead) (choice : Choice) (l : LinkLine) → choice.values < 2 ^ head.bits.count → IsLastLine reader head l
-    → has_same_values (choice_named head.bits.count choice) (kept_choice head.bits.count l) ≡ eqb choice.values l.values
-same-by_number reader head choice l small is = values-same head.bits.count choice.values l.values small is.small
+same-by_number : (reader : Reader) (head : KeptHead) (choice : Choice) (l : LinkLine) → choice.values < 2 ^ head.count → IsLastLine reader head l
+    → has_same_values (choice_named head.count choice) (kept_choice head.count l) ≡ eqb choice.values l.values
+same-by_number reader head choice l small is = values-same head.count choice.values l.values small is.small
 
 -- a choice whose values no line has
-fails-unchosen : (reader : Reader) (head : KeptHead) (choice : Choice) (l : LinkLine) → choice.values < 2 ^ head.bits.count → chosen_src reader.buffers choice.values ≡ None → IsLastLine reader head l
-    → has_same_values (choice_named head.bits.count choice) (kept_choice head.bits.count l) ≡ false
+fails-unchosen : (reader : Reader) (head : KeptHead) (choice : Choice) (l : LinkLine) → choice.values < 2 ^ head.count → chosen_src reader.buffers choice.values ≡ None → IsLastLine reader head l
+    → has_same_values (choice_named head.count choice) (kept_choice head.count l) ≡ false
 fails-unchosen reader head choice l small none is =
     same-by_number reader head choice l small is ∙ ne_eqb choice.values l.values (λ same.
     let some : chosen_src reader.buffers choice.values ≡ Some l.src = ap (chosen_src reader.buffers) same ∙ is.chosen in
@@ -174,17 +175,17 @@ is_apart (Some found) src = not (eqb found src)
 
 -- what is told by what the index has for the values of a choice
 pub record Judged (reader : Reader) (lines : List (List ℕ)) (n : ℕ) (head : KeptHead) (choice : Choice) (found : Option ℕ) : Type 0 where
-  pub equal : is_chosen_before lines n (is_same_choice (choice_named head.bits.count choice)) ≡ is_equal found choice.src
-  pub other : is_chosen_before lines n (is_other_choice (choice_named head.bits.count choice)) ≡ is_apart found choice.src
+  pub equal : is_chosen_before lines n (is_same_choice (choice_named head.count choice)) ≡ is_equal found choice.src
+  pub other : is_chosen_before lines n (is_other_choice (choice_named head.count choice)) ≡ is_apart found choice.src
 
-pub judged : (reader : Reader) (lines : List (List ℕ)) (n : ℕ) (head : KeptHead) (choice : Choice) (found : Option ℕ) → LastHolds reader lines n head → choice.values < 2 ^ head.bits.count
+pub judged : (reader : Reader) (lines : List (List ℕ)) (n : ℕ) (head : KeptHead) (choice : Choice) (found : Option ℕ) → LastHolds reader lines n head → choice.values < 2 ^ head.count
     → chosen_src reader.buffers choice.values ≡ found → lookup (nat_eq choice.values) (choices_of (last_lines reader)) ≡ found → Judged reader lines n head choice found
 judged reader lines n head choice None holds small chosen looked = record {
-  equal = holds.seen _ ∙ none-passes reader head (is_same_choice (choice_named head.bits.count choice)) (last_lines reader) (λ l is. rw (fails-unchosen reader head choice l small chosen is) refl) holds.own;
-  other = holds.seen _ ∙ none-passes reader head (is_other_choice (choice_named head.bits.count choice)) (last_lines reader) (λ l is. rw (fails-unchosen reader head choice l small chosen is) refl) holds.own;
+  equal = holds.seen _ ∙ none-passes reader head (is_same_choice (choice_named head.count choice)) (last_lines reader) (λ l is. rw (fails-unchosen reader head choice l small chosen is) refl) holds.own;
+  other = holds.seen _ ∙ none-passes reader head (is_other_choice (choice_named head.count choice)) (last_lines reader) (λ l is. rw (fails-unchosen reader head choice l small chosen is) refl) holds.own;
 }
 judged reader lines n head choice (Some src) holds small chosen looked =
-    let lc = choice_named head.bits.count choice in
+    let lc = choice_named head.count choice in
     elim (cases_eq src choice.src) [
       | inl same_src ↦
           let yes : eqb src choice.src ≡ true = eq-eqb src choice.src same_src in
@@ -232,16 +233,16 @@ judged reader lines n head choice (Some src) holds small chosen looked =
 
 -- what a `.buffer` line says
 buffer-said : (old : Reader) (lines : List (List ℕ)) (n : ℕ) (chip : Chip) (head : KeptHead) (word : List ℕ) (words : List (List ℕ)) (choice : Choice) → At old lines n chip (Buffers head) word words
-    → IsListOf (length old.bits.items) head.bits → Chooses chip.nets head.bits.count (word ∷ words) choice → said_at lines n ≡ record nothing { choices = choice_named head.bits.count choice ∷ [] }
+    → IsHeadOf old.bits head → Chooses chip.nets head.count (word ∷ words) choice → said_at lines n ≡ record nothing { choices = choice_named head.count choice ∷ [] }
 buffer-said old lines n chip head word words choice at is chosen =
-    said-at old lines n chip (Buffers head) word words at ∙ ap (λ r. record nothing { choices = item r }) (choice-read chip.nets old.bits.items head (word ∷ words) choice is chosen)
+    said-at old lines n chip (Buffers head) word words at ∙ ap (λ r. record nothing { choices = item r }) (choice-read chip.nets old.bits head (word ∷ words) choice is chosen)
 
 -- and what is wrong with it
 pub buffer-cause : (old : Reader) (lines : List (List ℕ)) (n : ℕ) (chip : Chip) (head : KeptHead) (word : List ℕ) (words : List (List ℕ)) (choice : Choice) → At old lines n chip (Buffers head) word words
-    → IsListOf (length old.bits.items) head.bits → Chooses chip.nets head.bits.count (word ∷ words) choice
-    → cause_at lines n ≡ cause_if (is_chosen_before lines n (is_other_choice (choice_named head.bits.count choice))) ValuesTwice
+    → IsHeadOf old.bits head → Chooses chip.nets head.count (word ∷ words) choice
+    → cause_at lines n ≡ cause_if (is_chosen_before lines n (is_other_choice (choice_named head.count choice))) ValuesTwice
 buffer-cause old lines n chip head word words choice at is chosen =
-    cause-at old lines n chip (Buffers head) word words at ∙ ap (choice_cause lines n) (choice-read chip.nets old.bits.items head (word ∷ words) choice is chosen)
+    cause-at old lines n chip (Buffers head) word words at ∙ ap (choice_cause lines n) (choice-read chip.nets old.bits head (word ∷ words) choice is chosen)
 
 -- the lines of the statement hold, where the block is one of them
 pub last-holds : (old : Reader) (lines : List (List ℕ)) (n : ℕ) (head : KeptHead) → ChoicesHold old lines n old.below → old.below ≡ Buffers head → LastHolds old lines n head
@@ -249,7 +250,7 @@ last-holds old lines n head holds under = subst (ChoicesHold old lines n) under 
 
 -- the judgement of a line
 pub buffer-judged : (old : Reader) (lines : List (List ℕ)) (n : ℕ) (chip : Chip) (head : KeptHead) (word : List ℕ) (words : List (List ℕ)) (choice : Choice) → At old lines n chip (Buffers head) word words
-    → choice.values < 2 ^ head.bits.count → Judged old lines n head choice (chosen_src old.buffers choice.values)
+    → choice.values < 2 ^ head.count → Judged old lines n head choice (chosen_src old.buffers choice.values)
 buffer-judged old lines n chip head word words choice at small =
     judged old lines n head choice (chosen_src old.buffers choice.values) (last-holds old lines n head at.holds.choices at.under) small refl refl
 
@@ -264,7 +265,7 @@ cause_of_apart (Some other) src = by (eqb other src)
 
 -- the cause of a line is that which the index tells
 pub buffer-cause_is : (old : Reader) (lines : List (List ℕ)) (n : ℕ) (chip : Chip) (head : KeptHead) (word : List ℕ) (words : List (List ℕ)) (choice : Choice) → At old lines n chip (Buffers head) word words
-    → IsListOf (length old.bits.items) head.bits → Chooses chip.nets head.bits.count (word ∷ words) choice → cause_at lines n ≡ buffer_cause old.buffers (link_with head choice)
+    → IsHeadOf old.bits head → Chooses chip.nets head.count (word ∷ words) choice → cause_at lines n ≡ buffer_cause old.buffers (link_with head choice)
 buffer-cause_is old lines n chip head word words choice at is chosen =
     buffer-cause old lines n chip head word words choice at is chosen
     ∙ ap (λ b. cause_if b ValuesTwice) (buffer-judged old lines n chip head word words choice at chosen.small).other
@@ -280,24 +281,24 @@ is_equal-fits found src fits =
 
 -- what the lines of the statement are then
 pub record Grows (old new : Reader) (lines : List (List ℕ)) (n : ℕ) (head : KeptHead) (choice : Choice) : Type 0 where
-  pub links : link_lines old.bits.items new.buffers.lines.items ≡ link_lines old.bits.items old.buffers.lines.items ++ buffers_at lines n
-  pub lists : All (IsLinkIn (length old.bits.items)) new.buffers.lines.items
+  pub links : link_lines old.bits new.buffers.lines.items ≡ link_lines old.bits old.buffers.lines.items ++ buffers_at lines n
+  pub lists : All (IsLinkIn old.bits) new.buffers.lines.items
   pub last : LastHolds new lines (n + 1) head
 
 grows-new : (old new : Reader) (lines : List (List ℕ)) (n : ℕ) (chip : Chip) (head : KeptHead) (word : List ℕ) (words : List (List ℕ)) (choice : Choice) → At old lines n chip (Buffers head) word words
-    → IsListOf (length old.bits.items) head.bits → Chooses chip.nets head.bits.count (word ∷ words) choice → AddsBuffer old.buffers new.buffers (link_with head choice)
+    → IsHeadOf old.bits head → Chooses chip.nets head.count (word ∷ words) choice → AddsBuffer old.buffers new.buffers (link_with head choice)
     → chosen_src old.buffers choice.values ≡ None → Grows old new lines n head choice
 unfolding buffers_at
 grows-new old new lines n chip head word words choice at is chosen added none =
     let line = link_with head choice in
-    let lc = choice_named head.bits.count choice in
+    let lc = choice_named head.count choice in
     let holds = last-holds old lines n head at.holds.choices at.under in
     let says = buffer-said old lines n chip head word words choice at is chosen in
     let over = block-at old lines n chip (Buffers head) word words at in
     let equal : is_chosen_before lines n (is_same_choice lc) ≡ false = (buffer-judged old lines n chip head word words choice at chosen.small).equal ∙ ap (λ o. is_equal o choice.src) none in
     let new_one : new_choices lines n (lc ∷ []) ≡ lc ∷ [] = rw equal refl in
-    let link : buffers_at lines n ≡ link_line old.bits.items line ∷ [] =
-    (λ i. buffers_in (over i) (new_choices lines n (says i).choices)) ∙ ap (map (link_of (head_named old.bits.items head))) new_one ∙ ap (λ l. l ∷ []) (link-read old.bits.items head choice is) in
+    let link : buffers_at lines n ≡ link_line old.bits line ∷ [] =
+    (λ i. buffers_in (over i) (new_choices lines n (says i).choices)) ∙ ap (map (link_of (head_named old.bits head))) new_one ∙ ap (λ l. l ∷ []) (link-read old.bits head choice is) in
     let pushed : new.buffers.lines.items ≡ old.buffers.lines.items ++ line ∷ [] = added.lines ∙ ap (λ o. with_line o old.buffers.lines.items line) none in
     let last : last_lines new ≡ last_lines old ++ line ∷ [] =
     (λ i. drop (added.start i) (pushed i)) ∙ drop-append-le old.buffers.start old.buffers.lines.items (line ∷ []) at.holds.ready.buffers.within in
@@ -312,31 +313,31 @@ grows-new old new lines n chip head word words choice at is chosen added none =
     let here : eqb choice.values choice.values ≡ true = eq-eqb choice.values choice.values refl in
     record { bits = refl; small = chosen.small; chosen = found choice.values ∙ rw (none, here) refl } in
     record {
-      links = ap (link_lines old.bits.items) pushed ∙ map-append (link_line old.bits.items) old.buffers.lines.items (line ∷ []) ∙ ap (λ ls. link_lines old.bits.items old.buffers.lines.items ++ ls) (sym link);
-      lists = rw pushed (All-push (IsLinkIn (length old.bits.items)) old.buffers.lines.items line range.buffers (record { bits_in = is; values_few = chosen.small }));
+      links = ap (link_lines old.bits) pushed ∙ map-append (link_line old.bits) old.buffers.lines.items (line ∷ []) ∙ ap (λ ls. link_lines old.bits old.buffers.lines.items ++ ls) (sym link);
+      lists = rw pushed (All-push (IsLinkIn old.bits) old.buffers.lines.items line range.buffers (link-in old.bits head choice is chosen.small));
       last = record {
         own = rw last (All-push (IsLastLine new head) (last_lines old) line (All-weaker (IsLastLine old head) (IsLastLine new head) older (last_lines old) holds.own) newest);
         seen = λ test.
             chosen-own lines n test at.own ∙ (λ i. holds.seen test i || list_any test (says i).choices)
-            ∙ sym (list_any-append test (map (kept_choice head.bits.count) (last_lines old)) (lc ∷ []))
-            ∙ ap (list_any test) (sym (map-append (kept_choice head.bits.count) (last_lines old) (line ∷ [])))
-            ∙ ap (λ ls. list_any test (map (kept_choice head.bits.count) ls)) (sym last);
+            ∙ sym (list_any-append test (map (kept_choice head.count) (last_lines old)) (lc ∷ []))
+            ∙ ap (list_any test) (sym (map-append (kept_choice head.count) (last_lines old) (line ∷ [])))
+            ∙ ap (λ ls. list_any test (map (kept_choice head.count) ls)) (sym last);
       };
     }
 
 grows-equal : (old new : Reader) (lines : List (List ℕ)) (n : ℕ) (chip : Chip) (head : KeptHead) (word : List ℕ) (words : List (List ℕ)) (choice : Choice) (src : ℕ) → At old lines n chip (Buffers head) word words
-    → IsListOf (length old.bits.items) head.bits → Chooses chip.nets head.bits.count (word ∷ words) choice → AddsBuffer old.buffers new.buffers (link_with head choice)
+    → IsHeadOf old.bits head → Chooses chip.nets head.count (word ∷ words) choice → AddsBuffer old.buffers new.buffers (link_with head choice)
     → chosen_src old.buffers choice.values ≡ Some src → eqb src choice.src ≡ true → Grows old new lines n head choice
 unfolding buffers_at
 grows-equal old new lines n chip head word words choice src at is chosen added some same_src =
     let line = link_with head choice in
-    let lc = choice_named head.bits.count choice in
+    let lc = choice_named head.count choice in
     let holds = last-holds old lines n head at.holds.choices at.under in
     let says = buffer-said old lines n chip head word words choice at is chosen in
     let over = block-at old lines n chip (Buffers head) word words at in
     let equal : is_chosen_before lines n (is_same_choice lc) ≡ true = (buffer-judged old lines n chip head word words choice at chosen.small).equal ∙ ap (λ o. is_equal o choice.src) some ∙ same_src in
     let none_new : new_choices lines n (lc ∷ []) ≡ [] = rw equal refl in
-    let link : buffers_at lines n ≡ [] = (λ i. buffers_in (over i) (new_choices lines n (says i).choices)) ∙ ap (map (link_of (head_named old.bits.items head))) none_new in
+    let link : buffers_at lines n ≡ [] = (λ i. buffers_in (over i) (new_choices lines n (says i).choices)) ∙ ap (map (link_of (head_named old.bits head))) none_new in
     let kept : new.buffers.lines.items ≡ old.buffers.lines.items = added.lines ∙ ap (λ o. with_line o old.buffers.lines.items line) some in
     let last : last_lines new ≡ last_lines old = λ i. drop (added.start i) (kept i) in
     let range = at.holds.in_range in
@@ -345,43 +346,43 @@ grows-equal old new lines n chip head word words choice src at is chosen added s
     let older : (l : LinkLine) → IsLastLine old head l → IsLastLine new head l =
     λ l before. record { bits = before.bits; small = before.small; chosen = found l.values ∙ before.chosen } in
     let looked : lookup (nat_eq choice.values) (choices_of (last_lines old)) ≡ Some src = some in
-    let again : (test : LinkChoice → Bool) → (list_any test (map (kept_choice head.bits.count) (last_lines old)) || (test lc || false)) ≡ list_any test (map (kept_choice head.bits.count) (last_lines old)) =
+    let again : (test : LinkChoice → Bool) → (list_any test (map (kept_choice head.count) (last_lines old)) || (test lc || false)) ≡ list_any test (map (kept_choice head.count) (last_lines old)) =
     λ test. elim (cases_Bool (test lc)) [
       | inl held ↦
           let there = found-passes old head test choice.values src (last_lines old)
           (λ l before here at_src.
           let values : l.values ≡ choice.values = sym (eqb-true choice.values l.values here) in
           let net : l.src ≡ choice.src = at_src ∙ eqb-true src choice.src same_src in
-          let one : kept_choice head.bits.count l ≡ lc = λ i. record { values = word_bits head.bits.count (values i); src = net i } in
+          let one : kept_choice head.count l ≡ lc = λ i. record { values = word_bits head.count (values i); src = net i } in
           ap test one ∙ held)
           holds.own looked in
           ap (λ b. b || (test lc || false)) there ∙ sym there
-      | inr not_yet ↦ ap (λ b. list_any test (map (kept_choice head.bits.count) (last_lines old)) || (b || false)) not_yet ∙ or-false _
+      | inr not_yet ↦ ap (λ b. list_any test (map (kept_choice head.count) (last_lines old)) || (b || false)) not_yet ∙ or-false _
     ] in
     record {
-      links = ap (link_lines old.bits.items) kept ∙ append-nothing (link_lines old.bits.items old.buffers.lines.items) (buffers_at lines n) link;
+      links = ap (link_lines old.bits) kept ∙ append-nothing (link_lines old.bits old.buffers.lines.items) (buffers_at lines n) link;
       lists = rw kept range.buffers;
       last = record {
         own = rw last (All-weaker (IsLastLine old head) (IsLastLine new head) older (last_lines old) holds.own);
         seen = λ test.
             chosen-own lines n test at.own ∙ (λ i. holds.seen test i || list_any test (says i).choices) ∙ again test
-            ∙ ap (λ ls. list_any test (map (kept_choice head.bits.count) ls)) (sym last);
+            ∙ ap (λ ls. list_any test (map (kept_choice head.count) ls)) (sym last);
       };
     }
 
 grows : (old new : Reader) (lines : List (List ℕ)) (n : ℕ) (chip : Chip) (head : KeptHead) (word : List ℕ) (words : List (List ℕ)) (choice : Choice) (found : Option ℕ) → At old lines n chip (Buffers head) word words
-    → IsListOf (length old.bits.items) head.bits → Chooses chip.nets head.bits.count (word ∷ words) choice → AddsBuffer old.buffers new.buffers (link_with head choice)
+    → IsHeadOf old.bits head → Chooses chip.nets head.count (word ∷ words) choice → AddsBuffer old.buffers new.buffers (link_with head choice)
     → chosen_src old.buffers choice.values ≡ found → choice_cause_of found choice.src ≡ None → Grows old new lines n head choice
 grows old new lines n chip head word words choice None at is chosen added found fits = grows-new old new lines n chip head word words choice at is chosen added found
 grows old new lines n chip head word words choice (Some src) at is chosen added found fits = grows-equal old new lines n chip head word words choice src at is chosen added found (is_equal-fits src choice.src fits)
 
-no_routing : (old : Reader) (lines : List (List ℕ)) (n : ℕ) (head : KeptHead) → block_over lines n ≡ block_named old.bits.items (Buffers head) → routings_at lines n ≡ []
+no_routing : (old : Reader) (lines : List (List ℕ)) (n : ℕ) (head : KeptHead) → block_over lines n ≡ block_named old.bits (Buffers head) → routings_at lines n ≡ []
 unfolding routings_at
 no_routing old lines n head over = ap (λ b. routings_in b (said_at lines n).choices) over
 
 -- a line of a `.buffer`
 pub buffer-step : (old new : Reader) (lines : List (List ℕ)) (n : ℕ) (chip : Chip) (head : KeptHead) (word : List ℕ) (words : List (List ℕ)) → At old lines n chip (Buffers head) word words
-    → IsListOf (length old.bits.items) head.bits → PushesBuffer chip.nets head (word ∷ words) old new → Holds new lines (n + 1)
+    → IsHeadOf old.bits head → PushesBuffer chip.nets head (word ∷ words) old new → Holds new lines (n + 1)
 buffer-step old new lines n chip head word words at is pushed =
     let choice = pushed.choice in
     let says = buffer-said old lines n chip head word words choice at is pushed.chosen in
@@ -393,9 +394,9 @@ buffer-step old new lines n chip head word words at is pushed =
     let last : ChoicesHold (record old { buffers = new.buffers }) lines (n + 1) (Buffers head) =
     record { own = λ k d lt. let o = grown.last.own k d lt in record { bits = o.bits; small = o.small; chosen = o.chosen }; seen = grown.last.seen } in
     subst (λ r. Holds r lines (n + 1)) (sym pushed.rest)
-    (own-step old (record old { buffers = new.buffers }) lines n (record nothing { choices = choice_named head.bits.count choice ∷ [] }) at.own says at.holds
+    (own-step old (record old { buffers = new.buffers }) lines n (record nothing { choices = choice_named head.count choice ∷ [] }) at.own says at.holds
     (record { texts = at.holds.ready.texts; nets = at.holds.ready.nets; buffers = pushed.added.indexed; below = at.holds.ready.below })
     (record { names = range.names; functions = range.functions; function_bits = range.function_bits; extras = range.extras; buffers = grown.lists; routings = range.routings })
     (subst (ChoicesHold (record old { buffers = new.buffers }) lines (n + 1)) (sym under) last)
     refl refl (λ net. refl) (sym (append-nil _)) grown.links (append-nothing _ _ none) (sym (append-nil _)) (sym (append-nil _)) (sym (append-nil _)) (sym (append-nil _))
-    (few-more n _ at.holds.few))
+    (few-more n _ at.holds.few) (few-more n _ at.holds.few_lists))

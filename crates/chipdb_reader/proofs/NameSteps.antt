@@ -25,8 +25,9 @@ use Rattle.chipdb_reader.specs.Nets.{is_name, named_net, net_names}
 use Rattle.chipdb_reader.specs.Texts.{Interns, text_at}
 use Rattle.chipdb_reader.specs.Reading.{PushesName}
 use Rattle.chipdb_reader.proofs.Grown.{text-grown}
-use Rattle.chipdb_reader.proofs.Holds.{Holds, own-step, buffers_at-nothing, routings_at-nothing}
-use Rattle.chipdb_reader.proofs.ItemSteps.{At, said-at, cause-at, interned-counts, in_range-grown, names-kept, extras-kept, functions-kept}
+use Rattle.chipdb_reader.specs.Holds.{Holds}
+use Rattle.chipdb_reader.proofs.Holds.{own-step, buffers_at-nothing, routings_at-nothing}
+use Rattle.chipdb_reader.proofs.ItemSteps.{At, said-at, cause-at, interned-counts, in_range-grown, names-kept, extras-kept, functions-kept, few-more}
 use Rattle.chipdb_reader.proofs.Searches.{bytes_eq-same}
 use Rattle.chipdb_reader.proofs.TextSteps.{text-found}
 
@@ -123,7 +124,7 @@ name-step old new lines n chip net word words at pushed =
     let counts = interned-counts old.texts new.texts pushed.text pushed.id pushed.interned in
     let under = at.under in
     let range = at.holds.in_range in
-    let after = in_range-grown old new.texts old.bits pushed.interned.more [] pushed.interned.grown (sym (append-nil old.bits.items)) range in
+    let after = in_range-grown old new.texts old.bits pushed.interned.more [] pushed.interned.grown (sym (append-nil old.bits)) range in
     let found = (text-found new.texts.arena pushed.text pushed.id pushed.interned.here).1 in
     let read : name_line new.texts.arena (name, net) ≡ line = λ i. record { net = net; x = pushed.x; y = pushed.y; name = found i } in
     let listed : name_lines new.texts.arena (net_names new.nets) ≡ name_lines old.texts.arena (net_names old.nets) ++ line ∷ [] =
@@ -142,6 +143,6 @@ name-step old new lines n chip net word words at pushed =
     (rw under tt) refl refl pushed.added.nets
     listed
     (append-nothing _ _ (buffers_at-nothing lines n none)) (append-nothing _ _ (routings_at-nothing lines n none))
-    (functions-kept old new.texts old.bits.items pushed.interned.more [] pushed.interned.grown (sym (append-nil old.bits.items)) range ∙ sym (append-nil _))
+    (functions-kept old new.texts old.bits pushed.interned.more [] pushed.interned.grown (sym (append-nil old.bits)) range ∙ sym (append-nil _))
     (extras-kept old new.texts pushed.interned.more pushed.interned.grown range ∙ sym (append-nil _))
-    (sym (append-nil _)) (sym (append-nil _)) (omega arith))
+    (sym (append-nil _)) (sym (append-nil _)) (omega arith) (few-more n _ at.holds.few_lists))

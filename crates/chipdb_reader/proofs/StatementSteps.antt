@@ -3,8 +3,6 @@ use Rattle.std.proofs.Common.{◌≡◌, ℕ, ◌+◌, ◌<◌, ◌≤◌, Bool,
 use Rattle.std.specs.Prelude.{Option, Some, None, Result, Ok, Err, nat_le, nat_lt}
 use Rattle.std.specs.Result.{result_err}
 use Rattle.std.specs.List.{list_any}
-use Rattle.std.specs.declared.vec.Vec.{Vec}
-use Rattle.std.specs.declared.alloc.Global.{Global}
 use Rattle.std.proofs.lemmas.Bool.{lt-leb, le-ltb}
 use Rattle.std.proofs.lemmas.List.Elements.{All-nil}
 use Rattle.std.proofs.Math.Bool.{or-false}
@@ -21,7 +19,7 @@ use Rattle.chipdb_lines.specs.declared.statements.Below.TheVariants.{Passed, Dev
 use Rattle.chipdb_lines.specs.Words.{is_statement, own_words, words_in}
 use Rattle.chipdb_lines.specs.Statements.{Block, statement_of}
 use Rattle.chipdb_lines.specs.Items.{LinkChoice}
-use Rattle.chipdb_lines.specs.Kept.{block_named, AddsBelow, Extends}
+use Rattle.chipdb_lines.specs.Kept.{block_named, AddsBelow}
 use Rattle.chipdb_reader.specs.declared.nets.Nets.{Nets}
 use Rattle.chipdb_reader.specs.declared.buffers.Buffers.{Buffers as KeptBuffers}
 use Rattle.chipdb_reader.specs.declared.reading.Reader.{Reader}
@@ -33,8 +31,9 @@ use Rattle.chipdb_reader.specs.Kept.{name_lines, link_lines}
 use Rattle.chipdb_reader.specs.Nets.{IsNetIndex, has_net, net_names}
 use Rattle.chipdb_reader.specs.Reading.{IsBelowReady, ChangesAt, begin_cause, TakesStatement, StatementRefusal, statement_own, statement_twice}
 use Rattle.chipdb_reader.proofs.BlockSteps.{chip-statement, chip-given, over-statement, block-statement, device_of}
-use Rattle.chipdb_reader.proofs.Grown.{below-grown, list-added}
-use Rattle.chipdb_reader.proofs.Holds.{Holds, ChoicesHold, last_lines, list-step, buffers_at-nothing, routings_at-nothing}
+use Rattle.chipdb_reader.proofs.Grown.{below-grown, head-added, Lengthens}
+use Rattle.chipdb_reader.specs.Holds.{Holds, ChoicesHold, last_lines}
+use Rattle.chipdb_reader.proofs.Holds.{list-step, buffers_at-nothing, routings_at-nothing}
 use Rattle.chipdb_reader.proofs.ItemSteps.{in_range-grown, functions-kept, links-kept}
 
 -- ---- causes
@@ -56,7 +55,7 @@ cause_if-is true cause = refl
 cause_if-is false cause = refl
 
 -- a statement that is no net begun twice has no cause
-pub begin-cause : (old : Reader) (lines : List (List ℕ)) (n : ℕ) (bits : List RowCol) (below : Below) → Holds old lines n → statement_cause lines n (Ok (block_named bits below)) ≡ begin_cause old.nets below
+pub begin-cause : (old : Reader) (lines : List (List ℕ)) (n : ℕ) (bits : List (List RowCol)) (below : Below) → Holds old lines n → statement_cause lines n (Ok (block_named bits below)) ≡ begin_cause old.nets below
 begin-cause old lines n bits (Names net) holds = ap (λ b. cause_if b NetTwice) (sym (holds.nets net)) ∙ cause_if-is (has_net old.nets net) NetTwice
 begin-cause old lines n bits Passed holds = refl
 begin-cause old lines n bits (Device chip) holds = refl
@@ -83,7 +82,7 @@ statement-refused old lines n cause lt dot holds (statement_twice begun) =
 pub statement-accepted : (old new : Reader) (lines : List (List ℕ)) (n : ℕ) → n < length lines → is_statement (line_at lines n) ≡ true → Holds old lines n
     → TakesStatement old (line_at lines n) new → cause_at lines n ≡ None
 statement-accepted old new lines n lt dot holds taken =
-    cause-statement lines n lt dot ∙ ap (statement_cause lines n) (statement-is old lines n holds ∙ taken.says) ∙ begin-cause old lines n taken.bits.items taken.below holds ∙ taken.fits
+    cause-statement lines n lt dot ∙ ap (statement_cause lines n) (statement-is old lines n holds ∙ taken.says) ∙ begin-cause old lines n taken.bits taken.below holds ∙ taken.fits
 
 -- ---- one statement more
 
@@ -102,17 +101,17 @@ chosen-none lines n test dot =
     ∙ any_below-none (n + 1) (λ k. nat_lt n k && list_any test (said_at lines k).choices) (λ k lt. let before : nat_lt n k ≡ false = le-ltb n k (omega arith) in rw before refl)
 
 -- What a statement changes, with what it says.
-pub record Begun (old : Reader) (lines : List (List ℕ)) (n : ℕ) (bits : Vec RowCol Global) (chip : Option Chip) (below : Below) (nets : Nets) (buffers : KeptBuffers) : Type 0 where
+pub record Begun (old : Reader) (lines : List (List ℕ)) (n : ℕ) (bits : List (List RowCol)) (chip : Option Chip) (below : Below) (nets : Nets) (buffers : KeptBuffers) : Type 0 where
   pub dot : is_statement (line_at lines n) ≡ true
   pub holds : Holds old lines n
-  pub says : statement_of old.chip (words_in (line_at lines n)) ≡ Ok (block_named bits.items below)
-  pub grown : Extends old.bits.items bits.items
+  pub says : statement_of old.chip (words_in (line_at lines n)) ≡ Ok (block_named bits below)
+  pub grown : Lengthens old.bits bits
   pub buffers_begin : BeginsBuffers old.buffers buffers
-  pub chip_is : chip ≡ or_else old.chip (device_of (block_named bits.items below))
-  pub nets_are : (net : ℕ) → has_net nets net ≡ (has_net old.nets net || is_net net (net_in (Ok (block_named bits.items below))))
+  pub chip_is : chip ≡ or_else old.chip (device_of (block_named bits below))
+  pub nets_are : (net : ℕ) → has_net nets net ≡ (has_net old.nets net || is_net net (net_in (Ok (block_named bits below))))
   pub names : net_names nets ≡ net_names old.nets
   pub indexed : IsNetIndex nets
-  pub ready : IsBelowReady (length bits.items) nets.last below
+  pub ready : IsBelowReady bits nets.last below
 
 choices-begun : (reader : Reader) (lines : List (List ℕ)) (n : ℕ) (below : Below) → is_statement (line_at lines n) ≡ true → last_lines reader ≡ [] → ChoicesHold reader lines (n + 1) below
 choices-begun reader lines n (Buffers head) dot none = record {
@@ -128,21 +127,23 @@ choices-begun reader lines n ExtraBits dot none = tt
 choices-begun reader lines n (Names net) dot none = tt
 choices-begun reader lines n (Routings head) dot none = tt
 
-begun-step : (old : Reader) (lines : List (List ℕ)) (n : ℕ) (bits : Vec RowCol Global) (chip : Option Chip) (below : Below) (nets : Nets) (buffers : KeptBuffers)
+begun-step : (old : Reader) (lines : List (List ℕ)) (n : ℕ) (bits : List (List RowCol)) (chip : Option Chip) (below : Below) (nets : Nets) (buffers : KeptBuffers)
     → Begun old lines n bits chip below nets buffers → Holds (record old { chip = chip; below = below; bits = bits; nets = nets; buffers = buffers }) lines (n + 1)
 unfolding is_net_before
 begun-step old lines n bits chip below nets buffers begun =
     let line = line_at lines n in
     let holds = begun.holds in
-    let block = block_named bits.items below in
+    let block = block_named bits below in
     let said = nothing-said lines n begun.dot in
     let none : (said_at lines n).choices ≡ [] = ap (λ s. s.choices) said in
     let at : statement_at lines n ≡ Ok block = statement-is old lines n holds ∙ begun.says in
     let range = holds.in_range in
-    let after = in_range-grown old old.texts bits [] begun.grown.0 (sym (append-nil old.texts.arena)) begun.grown.1 range in
+    let after = in_range-grown old old.texts bits [] begun.grown.more (sym (append-nil old.texts.arena)) begun.grown.table range in
     let lines_same = begun.buffers_begin.lines in
     let last : drop buffers.start buffers.lines.items ≡ [] = ap (λ k. drop k buffers.lines.items) begun.buffers_begin.start ∙ drop-length buffers.lines.items in
     let few : length old.texts.arena ≤ n = holds.few in
+    let few_lists : length old.bits ≤ n = holds.few_lists in
+    let one_list : length bits ≤ length old.bits + 1 = begun.grown.few in
     let reader : Reader = record old { chip = chip; below = below; bits = bits; nets = nets; buffers = buffers } in
     record {
       ready = record { texts = holds.ready.texts; nets = begun.indexed; buffers = begun.buffers_begin.indexed; below = begun.ready };
@@ -161,26 +162,27 @@ begun-step old lines n bits chip below nets buffers begun =
           begun.nets_are net ∙ ap (λ b. b || is_net net (net_in (Ok block))) (holds.nets net)
           ∙ sym (any_below-more n _ ∙ (λ i. is_net_before lines n net || (begun.dot i && is_net net (net_in (at i)))));
       names = list-step _ _ [] n (λ k. (said_at lines k).names) (ap (name_lines old.texts.arena) begun.names ∙ sym (append-nil _)) holds.names (ap (λ s. s.names) said);
-      buffers = list-step _ _ [] n (buffers_at lines) (ap (link_lines bits.items) lines_same ∙ links-kept old.bits.items bits.items begun.grown.0 old.buffers.lines.items begun.grown.1 range.buffers ∙ sym (append-nil _)) holds.buffers (buffers_at-nothing lines n none);
-      routings = list-step _ _ [] n (routings_at lines) (links-kept old.bits.items bits.items begun.grown.0 old.routings.items begun.grown.1 range.routings ∙ sym (append-nil _)) holds.routings (routings_at-nothing lines n none);
-      functions = list-step _ _ [] n (λ k. (said_at lines k).functions) (functions-kept old old.texts bits.items [] begun.grown.0 (sym (append-nil old.texts.arena)) begun.grown.1 range ∙ sym (append-nil _)) holds.functions (ap (λ s. s.functions) said);
+      buffers = list-step _ _ [] n (buffers_at lines) (ap (link_lines bits) lines_same ∙ links-kept old.bits bits begun.grown.more old.buffers.lines.items begun.grown.table range.buffers ∙ sym (append-nil _)) holds.buffers (buffers_at-nothing lines n none);
+      routings = list-step _ _ [] n (routings_at lines) (links-kept old.bits bits begun.grown.more old.routings.items begun.grown.table range.routings ∙ sym (append-nil _)) holds.routings (routings_at-nothing lines n none);
+      functions = list-step _ _ [] n (λ k. (said_at lines k).functions) (functions-kept old old.texts bits [] begun.grown.more (sym (append-nil old.texts.arena)) begun.grown.table range ∙ sym (append-nil _)) holds.functions (ap (λ s. s.functions) said);
       extras = list-step _ _ [] n (λ k. (said_at lines k).extras) (sym (append-nil _)) holds.extras (ap (λ s. s.extras) said);
       global_inputs = list-step _ _ [] n (λ k. (said_at lines k).global_inputs) (sym (append-nil _)) holds.global_inputs (ap (λ s. s.global_inputs) said);
       global_pins = list-step _ _ [] n (λ k. (said_at lines k).global_pins) (sym (append-nil _)) holds.global_pins (ap (λ s. s.global_pins) said);
       few = omega arith;
+      few_lists = omega arith;
     }
 
 -- a statement by which neither the device nor the nets change
-plain-begun : (old : Reader) (lines : List (List ℕ)) (n : ℕ) (bits : Vec RowCol Global) (below : Below) (buffers : KeptBuffers)
-    → is_statement (line_at lines n) ≡ true → Holds old lines n → statement_of old.chip (words_in (line_at lines n)) ≡ Ok (block_named bits.items below) → AddsBelow old.bits.items bits.items below
-    → BeginsBuffers old.buffers buffers → device_of (block_named bits.items below) ≡ None → net_in (Ok (block_named bits.items below)) ≡ None → IsBelowReady (length bits.items) old.nets.last below
+plain-begun : (old : Reader) (lines : List (List ℕ)) (n : ℕ) (bits : List (List RowCol)) (below : Below) (buffers : KeptBuffers)
+    → is_statement (line_at lines n) ≡ true → Holds old lines n → statement_of old.chip (words_in (line_at lines n)) ≡ Ok (block_named bits below) → AddsBelow old.bits bits below
+    → BeginsBuffers old.buffers buffers → device_of (block_named bits below) ≡ None → net_in (Ok (block_named bits below)) ≡ None → IsBelowReady bits old.nets.last below
     → Holds (record old { below = below; bits = bits; buffers = buffers }) lines (n + 1)
 plain-begun old lines n bits below buffers dot holds says added begin no_device no_net ready =
     begun-step old lines n bits old.chip below old.nets buffers (record {
       dot = dot;
       holds = holds;
       says = says;
-      grown = below-grown old.bits.items bits.items below added;
+      grown = below-grown old.bits bits below added;
       buffers_begin = begin;
       chip_is = sym (ap (or_else old.chip) no_device ∙ or_else-none old.chip);
       nets_are = λ net. sym (ap (λ o. has_net old.nets net || is_net net o) no_net ∙ or-false (has_net old.nets net));
@@ -189,15 +191,15 @@ plain-begun old lines n bits below buffers dot holds says added begin no_device 
       ready = ready;
     })
 
-begun-by : (old new : Reader) (lines : List (List ℕ)) (n : ℕ) (bits : Vec RowCol Global) (below : Below)
-    → is_statement (line_at lines n) ≡ true → Holds old lines n → statement_of old.chip (words_in (line_at lines n)) ≡ Ok (block_named bits.items below) → AddsBelow old.bits.items bits.items below
+begun-by : (old new : Reader) (lines : List (List ℕ)) (n : ℕ) (bits : List (List RowCol)) (below : Below)
+    → is_statement (line_at lines n) ≡ true → Holds old lines n → statement_of old.chip (words_in (line_at lines n)) ≡ Ok (block_named bits below) → AddsBelow old.bits bits below
     → BeginsBuffers old.buffers new.buffers → ChangesAt (record old { bits = bits }) below new → Holds new lines (n + 1)
 begun-by old new lines n bits (Device chip) dot holds says added begin changes =
     subst (λ r. Holds r lines (n + 1)) (sym changes) (begun-step old lines n bits (or_else old.chip (Some chip)) (Device chip) old.nets new.buffers (record {
       dot = dot;
       holds = holds;
       says = says;
-      grown = below-grown old.bits.items bits.items (Device chip) added;
+      grown = below-grown old.bits bits (Device chip) added;
       buffers_begin = begin;
       chip_is = refl;
       nets_are = λ net. sym (or-false (has_net old.nets net));
@@ -210,7 +212,7 @@ begun-by old new lines n bits (Names net) dot holds says added begin changes =
       dot = dot;
       holds = holds;
       says = says;
-      grown = below-grown old.bits.items bits.items (Names net) added;
+      grown = below-grown old.bits bits (Names net) added;
       buffers_begin = begin;
       chip_is = sym (or_else-none old.chip);
       nets_are = changes.0.nets;
@@ -223,8 +225,8 @@ begun-by old new lines n bits GlobalInputs dot holds says added begin changes = 
 begun-by old new lines n bits GlobalPins dot holds says added begin changes = subst (λ r. Holds r lines (n + 1)) (sym changes) (plain-begun old lines n bits GlobalPins new.buffers dot holds says added begin refl refl tt)
 begun-by old new lines n bits (Functions kind) dot holds says added begin changes = subst (λ r. Holds r lines (n + 1)) (sym changes) (plain-begun old lines n bits (Functions kind) new.buffers dot holds says added begin refl refl tt)
 begun-by old new lines n bits ExtraBits dot holds says added begin changes = subst (λ r. Holds r lines (n + 1)) (sym changes) (plain-begun old lines n bits ExtraBits new.buffers dot holds says added begin refl refl tt)
-begun-by old new lines n bits (Buffers head) dot holds says added begin changes = subst (λ r. Holds r lines (n + 1)) (sym changes) (plain-begun old lines n bits (Buffers head) new.buffers dot holds says added begin refl refl (list-added old.bits.items bits.items head.bits added))
-begun-by old new lines n bits (Routings head) dot holds says added begin changes = subst (λ r. Holds r lines (n + 1)) (sym changes) (plain-begun old lines n bits (Routings head) new.buffers dot holds says added begin refl refl (list-added old.bits.items bits.items head.bits added))
+begun-by old new lines n bits (Buffers head) dot holds says added begin changes = subst (λ r. Holds r lines (n + 1)) (sym changes) (plain-begun old lines n bits (Buffers head) new.buffers dot holds says added begin refl refl (head-added old.bits bits head added))
+begun-by old new lines n bits (Routings head) dot holds says added begin changes = subst (λ r. Holds r lines (n + 1)) (sym changes) (plain-begun old lines n bits (Routings head) new.buffers dot holds says added begin refl refl (head-added old.bits bits head added))
 
 -- what holds after a statement
 pub statement-step : (old new : Reader) (lines : List (List ℕ)) (n : ℕ) → is_statement (line_at lines n) ≡ true → Holds old lines n → TakesStatement old (line_at lines n) new → Holds new lines (n + 1)

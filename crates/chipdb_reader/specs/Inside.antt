@@ -10,7 +10,7 @@ abbrev pub kept_of : Inside → Kept
 kept_of db = record {
   chip = db.chip;
   texts = db.texts.arena;
-  bits = db.bits.items;
+  bits = db.bits;
   names = net_names db.nets;
   buffers = db.buffers.items;
   routings = db.routings.items;

@@ -14,11 +14,11 @@ use Rattle.chipdb_reader.specs.declared.items.Extra.{Extra}
 use Rattle.chipdb_reader.specs.Database.{Database, Link}
 use Rattle.chipdb_reader.specs.Texts.{text_at}
 
--- what is kept: names by their places, bits in one table, and the lines of each kind in the order of the text
+-- what is kept: names and lists of bits by their places, and the lines of each kind in the order of the text
 pub record Kept : Type 0 where
   pub chip : Chip
   pub texts : List (List ℕ)
-  pub bits : List RowCol
+  pub bits : List (List RowCol)
   pub names : List (NetName × ℕ)
   pub buffers : List LinkLine
   pub routings : List LinkLine
@@ -35,7 +35,7 @@ abbrev pub name_lines : List (List ℕ) → List (NetName × ℕ) → List NameL
 name_lines texts names = map (name_line texts) names
 
 -- a link with its bits and their values
-abbrev pub link_line : List RowCol → LinkLine → Link
+abbrev pub link_line : List (List RowCol) → LinkLine → Link
 link_line bits line = record {
   x = line.x;
   y = line.y;
@@ -45,14 +45,14 @@ link_line bits line = record {
   values = word_bits (length (bits_named bits line.bits)) line.values;
 }
 
-abbrev pub link_lines : List RowCol → List LinkLine → List Link
+abbrev pub link_lines : List (List RowCol) → List LinkLine → List Link
 link_lines bits lines = map (link_line bits) lines
 
 -- a function with its name and bits
-abbrev pub function_line : List (List ℕ) → List RowCol → Function → FunctionLine
+abbrev pub function_line : List (List ℕ) → List (List RowCol) → Function → FunctionLine
 function_line texts bits function = record { kind = function.kind; name = text_at texts function.name; bits = bits_named bits function.bits }
 
-abbrev pub function_lines : List (List ℕ) → List RowCol → List Function → List FunctionLine
+abbrev pub function_lines : List (List ℕ) → List (List RowCol) → List Function → List FunctionLine
 function_lines texts bits functions = map (function_line texts bits) functions
 
 -- an extra bit with its name

@@ -6,8 +6,10 @@ pub mod Nets
 pub mod Buffers
 pub mod Kept
 pub mod Reading
+pub mod Holds
 pub mod Lookups
 pub mod Sound
 pub mod Fit
 pub mod Inside
 pub mod NameIndex
+pub mod Feeding

@@ -1,9 +1,7 @@
 -- What the reader keeps between the lines of a database, and what a line makes of it. Only contracts within this crate
 -- cite this; what a text means stands in `Database` and `Faults`.
 use Rattle.std.specs.Bool.{MatchBool}
-use Rattle.std.specs.declared.vec.Vec.{Vec}
-use Rattle.std.specs.declared.alloc.Global.{Global}
-use Rattle.std.specs.Prelude.{◌≡◌, ℕ, ◌<◌, true, false, List, [], ◌∷◌, ◌++◌, length, is_some, if◌then◌else◌, Option, Some, None, Result, Ok, Err}
+use Rattle.std.specs.Prelude.{◌≡◌, ℕ, ◌<◌, ◌≤◌, true, false, List, [], ◌∷◌, ◌++◌, length, is_some, if◌then◌else◌, Option, Some, None, Result, Ok, Err}
 use Rattle.std.specs.Result.{result_err, MatchResult}
 use Rattle.place_search.specs.Places.{or_else}
 use Rattle.plane_map.specs.declared.device.DeviceName.{DeviceName}
@@ -20,7 +18,7 @@ use Rattle.chipdb_lines.specs.declared.statements.Below.{Below}
 use Rattle.chipdb_lines.specs.declared.statements.Below.TheVariants.{Passed, Device, GlobalInputs, GlobalPins, Functions, ExtraBits, Names, Buffers, Routings}
 use Rattle.chipdb_lines.specs.Items.{name_of, function_of, extra_of, global_input_of, global_pin_of, choice_of}
 use Rattle.text_lines.specs.Lines.{lines_of}
-use Rattle.chipdb_lines.specs.Kept.{bits_named, block_named, AddsBelow, AddsList, Chooses, IsListOf}
+use Rattle.chipdb_lines.specs.Kept.{bits_named, block_named, AddsBelow, AddsList, Chooses}
 use Rattle.chipdb_lines.specs.Statements.{statement_of}
 use Rattle.chipdb_lines.specs.Words.{is_statement, own_words, words_in}
 use Rattle.chipdb_reader.specs.declared.items.LinkLine.{LinkLine}
@@ -36,18 +34,24 @@ use Rattle.chipdb_reader.specs.Texts.{IsIndexed, Interns}
 use Rattle.chipdb_reader.specs.Nets.{IsNetIndex, BeginsNet, AddsName, has_net, named_net, net_names}
 use Rattle.chipdb_reader.specs.Buffers.{IsChosen, BeginsBuffers, AddsBuffer, buffer_cause}
 
+-- the list of a statement of links is one of these, with as many bits as the statement tells
+pub record IsHeadOf (bits : List (List RowCol)) (head : LinkHead) : Type 0 where
+  pub bits_in : head.bits.place < length bits
+  pub counted : head.count ≡ length (bits_named bits head.bits)
+  pub few : head.count ≤ 64
+
 -- what a line has to find in order
-abbrev pub IsBelowReady : ℕ → Option ℕ → Below → Type 0
-IsBelowReady count last (Names net) = last ≡ Some net
-IsBelowReady count last (Buffers head) = IsListOf count head.bits
-IsBelowReady count last (Routings head) = IsListOf count head.bits
-IsBelowReady count last below = Unit {0}
+abbrev pub IsBelowReady : List (List RowCol) → Option ℕ → Below → Type 0
+IsBelowReady bits last (Names net) = last ≡ Some net
+IsBelowReady bits last (Buffers head) = IsHeadOf bits head
+IsBelowReady bits last (Routings head) = IsHeadOf bits head
+IsBelowReady bits last below = Unit {0}
 
 pub record IsReady (reader : Reader) : Type 0 where
   pub texts : IsIndexed reader.texts
   pub nets : IsNetIndex reader.nets
   pub buffers : IsChosen reader.buffers
-  pub below : IsBelowReady (length reader.bits.items) reader.nets.last reader.below
+  pub below : IsBelowReady reader.bits reader.nets.last reader.below
 
 -- ---- lines below statements
 
@@ -63,12 +67,12 @@ link_with head choice = record { x = head.x; y = head.y; dst = head.dst; src = c
 
 pub record PushesRouting (nets : ℕ) (head : LinkHead) (words : List (List ℕ)) (old new : List LinkLine) : Type 0 where
   pub choice : Choice
-  pub chosen : Chooses nets head.bits.count words choice
+  pub chosen : Chooses nets head.count words choice
   pub added : new ≡ old ++ link_with head choice ∷ []
 
 pub record PushesBuffer (nets : ℕ) (head : LinkHead) (words : List (List ℕ)) (old new : Reader) : Type 0 where
   pub choice : Choice
-  pub chosen : Chooses nets head.bits.count words choice
+  pub chosen : Chooses nets head.count words choice
   pub added : AddsBuffer old.buffers new.buffers (link_with head choice)
   pub fits : buffer_cause old.buffers (link_with head choice) ≡ None
   pub rest : new ≡ record old { buffers = new.buffers }
@@ -87,8 +91,8 @@ pub record PushesFunction (kind : TileKind) (words : List (List ℕ)) (old new :
   pub function : Function
   pub name : List ℕ
   pub same : function.kind ≡ kind
-  pub listed : AddsList old.bits.items new.bits.items function.bits
-  pub says : function_of kind words ≡ Ok (record { kind = kind; name = name; bits = bits_named new.bits.items function.bits })
+  pub listed : AddsList old.bits new.bits function.bits
+  pub says : function_of kind words ≡ Ok (record { kind = kind; name = name; bits = bits_named new.bits function.bits })
   pub interned : Interns old.texts new.texts name function.name
   pub added : new.functions.items ≡ old.functions.items ++ function ∷ []
   pub rest : new ≡ record old { texts = new.texts; bits = new.bits; functions = new.functions }
@@ -127,7 +131,7 @@ pub record IsNamedTwice (device : DeviceName) (net : ℕ) (words : List (List �
 -- values that choose another net already
 pub record IsChosenTwice (nets : ℕ) (head : LinkHead) (words : List (List ℕ)) (old : Reader) (cause : DbCause) : Type 0 where
   pub choice : Choice
-  pub chosen : Chooses nets head.bits.count words choice
+  pub chosen : Chooses nets head.count words choice
   pub twice : buffer_cause old.buffers (link_with head choice) ≡ Some cause
 
 -- a cause that a line has by itself, or by an earlier one
@@ -136,7 +140,7 @@ pub data NameRefusal (device : DeviceName) (net : ℕ) (words : List (List ℕ))
   name_twice : IsNamedTwice device net words old → cause ≡ NameTwice → NameRefusal device net words old cause
 
 pub data BufferRefusal (nets : ℕ) (head : LinkHead) (words : List (List ℕ)) (old : Reader) (cause : DbCause) : Type 0 where
-  buffer_own : choice_of nets head.bits.count words ≡ Err cause → BufferRefusal nets head words old cause
+  buffer_own : choice_of nets head.count words ≡ Err cause → BufferRefusal nets head words old cause
   buffer_twice : IsChosenTwice nets head words old cause → BufferRefusal nets head words old cause
 
 -- why the words of a line aren't taken
@@ -149,7 +153,7 @@ RefusesItem old chip (Functions kind) words cause = result_err (function_of kind
 RefusesItem old chip ExtraBits words cause = result_err (extra_of chip.device words) ≡ Some cause
 RefusesItem old chip (Names net) words cause = NameRefusal chip.device net words old cause
 RefusesItem old chip (Buffers head) words cause = BufferRefusal chip.nets head words old cause
-RefusesItem old chip (Routings head) words cause = result_err (choice_of chip.nets head.bits.count words) ≡ Some cause
+RefusesItem old chip (Routings head) words cause = result_err (choice_of chip.nets head.count words) ≡ Some cause
 
 -- a cause that is told is one
 abbrev pub ForCause : (DbCause → Type 0) → Refusal → Type 0
@@ -187,16 +191,16 @@ begin_cause nets below = None
 
 -- what a statement changes
 pub record TakesStatement (old : Reader) (line : List ℕ) (new : Reader) : Type 0 where
-  pub bits : Vec RowCol Global
+  pub bits : List (List RowCol)
   pub below : Below
-  pub says : statement_of old.chip (words_in line) ≡ Ok (block_named bits.items below)
-  pub added : AddsBelow old.bits.items bits.items below
+  pub says : statement_of old.chip (words_in line) ≡ Ok (block_named bits below)
+  pub added : AddsBelow old.bits bits below
   pub fits : begin_cause old.nets below ≡ None
   pub begun : BeginsBlock (record old { bits = bits }) below new
 
 -- a net that was begun before
 pub record IsBegunTwice (old : Reader) (line : List ℕ) (cause : DbCause) : Type 0 where
-  pub bits : List RowCol
+  pub bits : List (List RowCol)
   pub below : Below
   pub says : statement_of old.chip (words_in line) ≡ Ok (block_named bits below)
   pub twice : begin_cause old.nets below ≡ Some cause
@@ -235,6 +239,7 @@ pub record IsUnread (reader : Reader) : Type 0 where
   pub chip : reader.chip ≡ None
   pub below : reader.below ≡ Passed
   pub texts : reader.texts.arena ≡ []
+  pub bits : reader.bits ≡ []
   pub names : net_names reader.nets ≡ []
   pub nets : (net : ℕ) → has_net reader.nets net ≡ false
   pub buffers : reader.buffers.lines.items ≡ []
@@ -250,7 +255,7 @@ pub record IsUnread (reader : Reader) : Type 0 where
 pub record FitsReader (chip : Chip) (reader : Reader) (kept : Kept) : Type 0 where
   pub chip_is : kept.chip ≡ chip
   pub texts : kept.texts ≡ reader.texts.arena
-  pub bits : kept.bits ≡ reader.bits.items
+  pub bits : kept.bits ≡ reader.bits
   pub names : kept.names ≡ net_names reader.nets
   pub buffers : kept.buffers ≡ reader.buffers.lines.items
   pub routings : kept.routings ≡ reader.routings.items

@@ -1,6 +1,7 @@
 -- What is kept is in order: names and lists of bits are some of what is kept, and indexes are those of the lists.
-use Rattle.std.specs.Prelude.{◌≡◌, ℕ, ◌<◌, ◌^◌, length, All, None}
-use Rattle.chipdb_lines.specs.Kept.{IsListOf}
+use Rattle.std.specs.Prelude.{◌≡◌, ◌<◌, ◌^◌, List, length, All, None}
+use Rattle.plane_map.specs.declared.tile.RowCol.{RowCol}
+use Rattle.chipdb_lines.specs.Kept.{bits_named}
 use Rattle.chipdb_reader.specs.declared.items.LinkLine.{LinkLine}
 use Rattle.chipdb_reader.specs.declared.texts.Texts.{Texts}
 use Rattle.chipdb_reader.specs.declared.nets.Nets.{Nets}
@@ -8,19 +9,19 @@ use Rattle.chipdb_reader.specs.Kept.{Kept}
 use Rattle.chipdb_reader.specs.Nets.{IsNetIndex}
 use Rattle.chipdb_reader.specs.Texts.{IsIndexed}
 
--- a link by a list of a table of so many bits, with one value for each bit of the list
-pub record IsLinkIn (count : ℕ) (line : LinkLine) : Type 0 where
-  pub bits_in : IsListOf count line.bits
-  pub values_few : line.values < 2 ^ line.bits.count
+-- a link by one of these lists of bits, with one value for each bit of the list
+pub record IsLinkIn (bits : List (List RowCol)) (line : LinkLine) : Type 0 where
+  pub bits_in : line.bits.place < length bits
+  pub values_few : line.values < 2 ^ length (bits_named bits line.bits)
 
--- each name is one of the names that are kept, and each list of bits a list of the bits that are kept
+-- each name is one of the names that are kept, and each list of bits one of the lists that are kept
 pub record IsSound (kept : Kept) : Type 0 where
   pub names : All (λ p. p.0.name < length kept.texts) kept.names
   pub functions : All (λ f. f.name < length kept.texts) kept.functions
-  pub function_bits : All (λ f. IsListOf (length kept.bits) f.bits) kept.functions
+  pub function_bits : All (λ f. f.bits.place < length kept.bits) kept.functions
   pub extras : All (λ e. e.name < length kept.texts) kept.extras
-  pub buffers : All (IsLinkIn (length kept.bits)) kept.buffers
-  pub routings : All (IsLinkIn (length kept.bits)) kept.routings
+  pub buffers : All (IsLinkIn kept.bits) kept.buffers
+  pub routings : All (IsLinkIn kept.bits) kept.routings
 
 -- the indexes are those of the lists, and all nets are earlier ones
 pub record AreIndexed (texts : Texts) (nets : Nets) : Type 0 where

@@ -6,8 +6,7 @@ use crate::items::{Extra, Function, LinkLine};
 use crate::nets::Nets;
 use crate::reading::Reader;
 use crate::texts::Texts;
-use chipdb_lines::{Chip, GlobalInput, GlobalPin};
-use plane_map::RowCol;
+use chipdb_lines::{BitTable, Chip, GlobalInput, GlobalPin};
 use std::marker::Model;
 
 /// A database: a device, the names of its nets, their links, the functions of its tiles, and its extra bits. Contracts see
@@ -16,7 +15,7 @@ use std::marker::Model;
 pub struct ChipDb {
     pub(crate) chip: Chip,
     pub(crate) texts: Texts,
-    pub(crate) bits: Vec<RowCol>,
+    pub(crate) bits: BitTable,
     pub(crate) nets: Nets,
     pub(crate) buffers: Vec<LinkLine>,
     pub(crate) routings: Vec<LinkLine>,

@@ -14,13 +14,13 @@ pub struct NetName {
 /// A link from the net `src` to the net `dst` in the tile at (x, y). It is on where each of the bits has its value.
 #[derive(Clone, Copy, Debug, PartialEq, Eq)]
 pub struct LinkLine {
-    pub x: u8,
-    pub y: u8,
+    /// The values of the bits: that of the first one is the lowest bit.
+    pub values: u64,
     pub dst: u32,
     pub src: u32,
     pub bits: BitList,
-    /// The values of the bits: that of the first one is the lowest bit.
-    pub values: u64,
+    pub x: u8,
+    pub y: u8,
 }
 
 /// A function of the tiles of a kind, and the bits that it has in each.

@@ -1,7 +1,7 @@
 // Look-ups in a database. They take no memory.
-ghost use Rattle.std.specs.Prelude.{◌≡◌, ◌&&◌, ◌==◌, length, position, find};
+ghost use Rattle.std.specs.Prelude.{◌≡◌, ◌≤◌, ◌&&◌, ◌==◌, length, position, find};
 ghost use Rattle.std.specs.Option.{option_map};
-ghost use Rattle.chipdb_lines.specs.Kept.{bits_named, IsListOf};
+ghost use Rattle.chipdb_lines.specs.Kept.{bits_named};
 ghost use Rattle.chipdb_lines.specs.Statements.{is_same_kind};
 ghost use Rattle.chipdb_reader.specs.Fit.{IsFit};
 ghost use Rattle.chipdb_reader.specs.Kept.{database_in, name_lines};
@@ -12,7 +12,7 @@ ghost use Rattle.chipdb_reader.specs.Texts.{text_at};
 
 use crate::chip_db::ChipDb;
 use crate::items::{Extra, Function, LinkLine, NetName, PinXy, TileXy8};
-use chipdb_lines::{BitList, GlobalInput, GlobalPin, bits_of};
+use chipdb_lines::{BitList, GlobalInput, GlobalPin};
 use name_arena::NameId;
 use plane_map::{DeviceName, Place, RowCol, TileKind};
 
@@ -75,12 +75,12 @@ impl ChipDb {
         &self.routings
     }
 
-    /// The bits of a list of this database, as many as the list's length.
+    /// The bits of a list of this database.
     pub fn bits(&self, list: BitList) -> &[RowCol]
         ensures bits { result.now ≡ bits_named self.now.bits list }
-        ensures all { IsListOf (length self.now.bits) list → length result.now ≡ list.count }
+        ensures few { length result.now ≤ 64 }
     {
-        bits_of(&self.bits, list)
+        self.bits.get(list)
     }
 
     /// The functions of tiles, in the order of the text.

@@ -1,14 +1,14 @@
-// A database read line by line.
-ghost use Rattle.std.specs.Prelude.{◌≡◌, ◌≤◌, ◌-◌, ◌^◌, ◌<◌, length, IfOk, IfErr};
+// A database read from bytes, whole or in pieces.
+ghost use Rattle.std.specs.Prelude.{◌≡◌, ◌≤◌, length, IfOk, IfErr};
 ghost use Rattle.chipdb_reader.specs.Faults.{DbMeans, Tells, db_fault_of};
 ghost use Rattle.chipdb_reader.specs.Kept.{database_in};
 
 use crate::chip_db::ChipDb;
 use crate::fault::DbFault;
-use crate::reading::Reader;
-use chipdb_lines::{DbCause, Refusal};
-use std::alloc::Global;
-use text_lines::first_line;
+use crate::line_reader::LineReader;
+use std::alloc::{AllocError, Global};
+use std::marker::Model;
+use text_lines::{LineFeed, LineTaker};
 
 /// What a database says, or its first faulty line. A text has at most 268,435,456 bytes.
 pub fn read(alloc: Global, bytes: &[u8]) -> Result<ChipDb, DbFault>
@@ -16,92 +16,91 @@ pub fn read(alloc: Global, bytes: &[u8]) -> Result<ChipDb, DbFault>
     ensures means { IfOk result (λ db. DbMeans bytes.now (database_in db)) }
     ensures refused { IfErr result (Tells (db_fault_of bytes.now)) }
 {
-    let mut reader = Reader::new(alloc);
-    let mut left = bytes;
-    let mut count = 0;
-    while !left.is_empty() {
-        left = take_first(&mut reader, count + 1, left)?;
-        count += 1;
-    }
-    finish(reader, count + 1)
-}
-
-ghost use Rattle.chipdb_reader.specs.Reading.{EndsReading, FaultOf, IsReady, RefusesFirst, RefusesLine, TakesFirst, TakesLine, located};
-
-/// Takes the first line of a text, which has that number, and gives what stands behind it.
-fn take_first<'a>(reader: &mut Reader, number: u64, text: &'a [u8]) -> Result<&'a [u8], DbFault>
-    requires ready { IsReady reader.old }
-    requires room { length reader.old.texts.arena < 2 ^ 32 - 1 }
-    requires some { 0 < length text.now }
-    ensures taken { IfOk result (λ rest. TakesFirst reader.old text.now rest.now reader.new) }
-    ensures refused { IfErr result (FaultOf number (RefusesFirst reader.old text.now)) }
-{
-    match reader.accept_choice(text) {
-        Err(refusal) => Err(fault_at(number, refusal)),
-        Ok(Some(rest)) => Ok(rest),
-        Ok(None) => take_any(reader, number, text),
+    let mut lines = LineReader::new(alloc);
+    match lines.take_lines(bytes) {
+        Err(fault) => Err(fault),
+        Ok(()) => lines.finish(),
     }
 }
 
-/// The same, whatever form the line has.
-fn take_any<'a>(reader: &mut Reader, number: u64, text: &'a [u8]) -> Result<&'a [u8], DbFault>
-    requires ready { IsReady reader.old }
-    requires room { length reader.old.texts.arena < 2 ^ 32 - 1 }
-    requires some { 0 < length text.now }
-    ensures taken { IfOk result (λ rest. TakesFirst reader.old text.now rest.now reader.new) }
-    ensures refused { IfErr result (FaultOf number (RefusesFirst reader.old text.now)) }
-{
-    match first_line(text) {
-        None => Ok(text),
-        Some(line) => match take_line(reader, number, line.content) {
+/// A reader of a database that comes in pieces. It keeps what the lines so far have given, and the bytes of a line that hasn't
+/// ended yet.
+#[derive(Drop)]
+pub struct DbReader {
+    /// How many bytes were fed.
+    fed: u64,
+    /// What takes the lines. A fault of the text, or that there was no memory, stays in it.
+    lines: LineFeed<LineReader, DbFault>,
+}
+
+impl Model for DbReader {
+    ghost use Rattle.std.specs.Coded.{codes};
+    ghost use Rattle.chipdb_reader.specs.contracts.line_reader.LineReader as taker;
+    ghost use Rattle.chipdb_reader.specs.Feeding.{Intake, IsFed};
+
+    ghost Value = { Intake };
+
+    ghost coded = { Prim.hlevel (codes, taker.the_row.coded) };
+
+    ghost view = { λ reader. record { fed = reader.fed; lines = reader.lines } };
+
+    ghost invariant = { λ reader. IsFed reader.fed reader.lines };
+}
+
+impl DbReader {
+    ghost use Rattle.std.specs.Prelude.{◌+◌, ◌^◌, ◌<◌, ◌++◌, [], ℕ, List, Err};
+    ghost use Rattle.std.specs.declared.alloc.AllocError.{AllocError as NoMemory};
+    ghost use Rattle.chipdb_reader.specs.declared.fault.DbFault.TheVariants.{Memory};
+    ghost use Rattle.chipdb_reader.specs.Feeding.{StandsFor, fed_to, lack_of};
+
+    /// A reader to which nothing was fed. It takes no memory yet.
+    pub fn new(alloc: Global) -> DbReader
+        ensures stands { StandsFor [] result }
+        ensures fed { fed_to result ≡ 0 }
+        ensures fresh { lack_of result ≡ None }
+    {
+        let taker = LineReader::new(alloc);
+        let lines = LineFeed::new(alloc, taker);
+        DbReader { fed: 0, lines }
+    }
+
+    /// Takes the next bytes. A faulty line is told by `finish`. Where there was no memory, each later call answers that again.
+    pub fn feed(&mut self, piece: &[u8]) -> Result<(), AllocError>
+        requires { fed_to self.old + length piece.now < 2 ^ 32 }
+        ensures fed { fed_to self.new ≡ fed_to self.old + length piece.now }
+        ensures stands { (text : List ℕ) → StandsFor text self.old → StandsFor (text ++ piece.now) self.new }
+        ensures lacks { MatchResult result (λ _. lack_of self.new ≡ None) (λ e. lack_of self.new ≡ Some e) }
+        ensures again { (e : NoMemory) → lack_of self.old ≡ Some e → result ≡ Err e }
+    {
+        self.fed += piece.len() as u64;
+        lack_of(self.lines.feed(piece))
+    }
+
+    /// What the database says, or its first faulty line.
+    pub fn finish(self) -> Result<ChipDb, DbFault>
+        ensures means { IfOk result (λ db. (text : List ℕ) → StandsFor text self → DbMeans text (database_in db)) }
+        ensures refused { IfErr result (λ fault. (text : List ℕ) → StandsFor text self → Tells (db_fault_of text) fault) }
+        ensures again { (e : NoMemory) → lack_of self ≡ Some e → result ≡ Err (Memory e) }
+    {
+        let DbReader { lines, .. } = self;
+        match lines.finish() {
             Err(fault) => Err(fault),
-            Ok(()) => Ok(line.rest),
-        },
+            Ok(lines) => lines.finish(),
+        }
     }
 }
 
-/// Takes the next line, which has that number.
-fn take_line(reader: &mut Reader, number: u64, line: &[u8]) -> Result<(), DbFault>
-    requires ready { IsReady reader.old }
-    requires room { length reader.old.texts.arena < 2 ^ 32 - 1 }
-    ensures taken { IfOk result (λ _. TakesLine reader.old line.now reader.new) }
-    ensures refused { IfErr result (FaultOf number (RefusesLine reader.old line.now)) }
+ghost use Rattle.std.specs.Prelude.{None, Some, MatchResult};
+ghost use Rattle.std.specs.Result.{result_err};
+ghost use Rattle.chipdb_reader.specs.Feeding.{lack_in};
+
+/// That there was no memory, where it wasn't a faulty line.
+fn lack_of(told: Result<(), DbFault>) -> Result<(), AllocError>
+    ensures { MatchResult result (λ _. lack_in (result_err told) ≡ None) (λ e. lack_in (result_err told) ≡ Some e) }
 {
-    match reader.accept(line) {
+    match told {
         Ok(()) => Ok(()),
-        Err(refusal) => Err(fault_at(number, refusal)),
-    }
-}
-
-/// A refusal as the fault of a line.
-fn fault_at(line: u64, refusal: Refusal) -> DbFault
-    ensures { result ≡ located refusal line }
-{
-    match refusal {
-        Refusal::Cause(cause) => DbFault::At { line, cause },
-        Refusal::Memory(e) => DbFault::Memory(e),
-    }
-}
-
-ghost use Rattle.std.specs.Prelude.{Some};
-ghost use Rattle.chipdb_lines.specs.declared.chip.Chip.{Chip};
-ghost use Rattle.chipdb_reader.specs.Fit.{IsFit};
-ghost use Rattle.chipdb_reader.specs.Kept.{Kept};
-ghost use Rattle.chipdb_reader.specs.Reading.{FitsReader};
-ghost use Rattle.chipdb_reader.specs.Sound.{IsSound};
-
-/// What the lines have given, all of them being read; the line behind the last has that number.
-fn finish(reader: Reader, number: u64) -> Result<ChipDb, DbFault>
-    requires ready { IsReady reader }
-    requires sound { (chip : Chip) (kept : Kept) → reader.chip ≡ Some chip → FitsReader chip reader kept → IsSound kept }
-    requires fit { (chip : Chip) (kept : Kept) → reader.chip ≡ Some chip → FitsReader chip reader kept → IsFit (database_in kept) }
-    ensures ended { EndsReading reader reader.chip number result }
-{
-    match reader.chip {
-        None => Err(DbFault::At {
-            line: number,
-            cause: DbCause::NoDevice,
-        }),
-        Some(chip) => ChipDb::of(chip, reader),
+        Err(DbFault::At { .. }) => Ok(()),
+        Err(DbFault::Memory(e)) => Err(e),
     }
 }

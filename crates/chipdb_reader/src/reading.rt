@@ -10,11 +10,11 @@ use crate::items::{Extra, Function, LinkLine, NetName};
 use crate::nets::Nets;
 use crate::texts::Texts;
 use chipdb_lines::{
-    Below, Chip, Choice, GlobalInput, GlobalPin, LinkHead, Refusal, choice_item, choice_line,
-    extra_item, function_item, global_input, global_pin, is_statement, name_item, own_words,
-    statement,
+    Below, BitTable, Chip, Choice, GlobalInput, GlobalPin, LinkHead, Refusal, choice_item,
+    choice_line, extra_item, function_item, global_input, global_pin, is_statement, name_item,
+    own_words, statement,
 };
-use plane_map::{DeviceName, RowCol, TileKind};
+use plane_map::{DeviceName, TileKind};
 use std::alloc::{AllocError, Global};
 
 /// What the lines so far have given, and what the next ones are.
@@ -23,7 +23,7 @@ pub(crate) struct Reader {
     pub(crate) chip: Option<Chip>,
     below: Below,
     pub(crate) texts: Texts,
-    pub(crate) bits: Vec<RowCol>,
+    pub(crate) bits: BitTable,
     pub(crate) nets: Nets,
     pub(crate) buffers: Buffers,
     pub(crate) routings: Vec<LinkLine>,
@@ -47,7 +47,7 @@ impl Reader {
             chip: None,
             below: Below::Passed,
             texts: Texts::new(alloc),
-            bits: Vec::new(alloc),
+            bits: BitTable::new(alloc),
             nets: Nets::new(alloc),
             buffers: Buffers::new(alloc),
             routings: Vec::new(alloc),
@@ -62,6 +62,7 @@ impl Reader {
     pub(crate) fn accept(&mut self, line: &[u8]) -> Result<(), Refusal>
         requires ready { IsReady self.old }
         requires room { length self.old.texts.arena < 2 ^ 32 - 1 }
+        requires lists { length self.old.bits < 2 ^ 32 - 1 }
         ensures taken { IfOk result (λ _. TakesLine self.old line.now self.new) }
         ensures refused { IfErr result (ForCause (RefusesLine self.old line.now)) }
     {
@@ -97,11 +98,11 @@ impl Reader {
         text: &'a [u8],
     ) -> Result<Option<&'a [u8]>, Refusal>
         requires chosen { IsChosen self.old.buffers }
-        requires few { head.bits.count ≤ 64 }
+        requires few { head.count ≤ 64 }
         ensures taken { IfOk result (λ rest. MatchOption rest (self.new ≡ self.old) (λ rest. BeginsWithPair text.now rest.now (λ words. TakesItem self.old chip (Below.Buffers head) words self.new))) }
         ensures refused { IfErr result (ForCause (λ cause. (rest : List ℕ) × BeginsWithPair text.now rest (λ words. RefusesItem self.old chip (Below.Buffers head) words cause))) }
     {
-        match choice_line(chip.nets, head.bits.len(), text) {
+        match choice_line(chip.nets, head.count as usize, text) {
             None => Ok(None),
             Some(line) => match self.buffers.add(link(head, line.choice)) {
                 Err(refusal) => Err(refusal),
@@ -117,11 +118,11 @@ impl Reader {
         head: LinkHead,
         text: &'a [u8],
     ) -> Result<Option<&'a [u8]>, Refusal>
-        requires { head.bits.count ≤ 64 }
+        requires { head.count ≤ 64 }
         ensures taken { IfOk result (λ rest. MatchOption rest (self.new ≡ self.old) (λ rest. BeginsWithPair text.now rest.now (λ words. TakesItem self.old chip (Below.Routings head) words self.new))) }
         ensures refused { IfErr result (Reports None) }
     {
-        match choice_line(chip.nets, head.bits.len(), text) {
+        match choice_line(chip.nets, head.count as usize, text) {
             None => Ok(None),
             Some(line) => match self.routings.push(link(head, line.choice)) {
                 Err(e) => Err(Refusal::Memory(AllocError::from(e))),
@@ -132,7 +133,8 @@ impl Reader {
 
     /// Takes a statement.
     fn accept_statement(&mut self, line: &[u8]) -> Result<(), Refusal>
-        requires { IsReady self.old }
+        requires ready { IsReady self.old }
+        requires lists { length self.old.bits < 2 ^ 32 - 1 }
         ensures taken { IfOk result (λ _. TakesStatement self.old line.now self.new) }
         ensures refused { IfErr result (ForCause (StatementRefusal self.old line.now)) }
     {
@@ -163,6 +165,7 @@ impl Reader {
     fn accept_words(&mut self, words: &[u8]) -> Result<(), Refusal>
         requires ready { IsReady self.old }
         requires room { length self.old.texts.arena < 2 ^ 32 - 1 }
+        requires lists { length self.old.bits < 2 ^ 32 - 1 }
         requires some { has_none (words_in words.now) ≡ false }
         ensures taken { IfOk result (λ _. TakesWords self.old self.old.chip (words_in words.now) self.new) }
         ensures refused { IfErr result (ForCause (RefusesWords self.old self.old.chip (words_in words.now))) }
@@ -177,6 +180,7 @@ impl Reader {
     fn accept_item(&mut self, chip: Chip, words: &[u8]) -> Result<(), Refusal>
         requires ready { IsReady self.old }
         requires room { length self.old.texts.arena < 2 ^ 32 - 1 }
+        requires lists { length self.old.bits < 2 ^ 32 - 1 }
         ensures taken { IfOk result (λ _. TakesItem self.old chip self.old.below (words_in words.now) self.new) }
         ensures refused { IfErr result (ForCause (RefusesItem self.old chip self.old.below (words_in words.now))) }
     {
@@ -196,6 +200,7 @@ impl Reader {
     fn accept_function(&mut self, kind: TileKind, words: &[u8]) -> Result<(), Refusal>
         requires indexed { IsIndexed self.old.texts }
         requires room { length self.old.texts.arena < 2 ^ 32 - 1 }
+        requires lists { length self.old.bits < 2 ^ 32 - 1 }
         ensures taken { IfOk result (λ _. PushesFunction kind (words_in words.now) self.old self.new) }
         ensures refused { IfErr result (Reports (result_err (function_of kind (words_in words.now)))) }
     {
@@ -258,11 +263,11 @@ impl Reader {
     /// Takes a line of a `.buffer`.
     fn accept_buffer(&mut self, nets: u32, head: LinkHead, words: &[u8]) -> Result<(), Refusal>
         requires chosen { IsChosen self.old.buffers }
-        requires few { head.bits.count ≤ 64 }
+        requires few { head.count ≤ 64 }
         ensures taken { IfOk result (λ _. PushesBuffer nets head (words_in words.now) self.old self.new) }
         ensures refused { IfErr result (ForCause (BufferRefusal nets head (words_in words.now) self.old)) }
     {
-        match choice_item(nets, head.bits.len(), words) {
+        match choice_item(nets, head.count as usize, words) {
             Err(cause) => Err(Refusal::Cause(cause)),
             Ok(choice) => self.buffers.add(link(head, choice)),
         }
@@ -305,13 +310,13 @@ fn push_routing(
     head: LinkHead,
     words: &[u8],
 ) -> Result<(), Refusal>
-    requires { head.bits.count ≤ 64 }
+    requires { head.count ≤ 64 }
     ensures taken { MatchResult result
         (λ _. PushesRouting nets head (words_in words.now) routings.old.items routings.new.items)
-        (Reports (result_err (choice_of nets head.bits.count (words_in words.now)))) }
+        (Reports (result_err (choice_of nets head.count (words_in words.now)))) }
     ensures unchanged { OnErr result (routings.new.items ≡ routings.old.items) }
 {
-    match choice_item(nets, head.bits.len(), words) {
+    match choice_item(nets, head.count as usize, words) {
         Err(cause) => Err(Refusal::Cause(cause)),
         Ok(choice) => {
             routings.push(link(head, choice)).map_err(AllocError::from)?;

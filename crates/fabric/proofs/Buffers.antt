@@ -14,7 +14,7 @@ use Rattle.net_extract.specs.Links.{places_on}
 use Rattle.fabric.specs.Buffers.{buffer_if, buffers_at}
 use Rattle.fabric.proofs.Lists.{StandsIn, numbered-stand}
 
-module _ (bits : List RowCol) where
+module _ (bits : List (List RowCol)) where
   line-there : (place : ℕ) (found : Option LinkLine) (link : Link) → option_map (link_line bits) found ≡ Some link → buffer_if place found ≡ buffer_of (place, link) ∷ []
   line-there place None link is = absurd cc
   line-there place (Some line) link is = let same : link_line bits line ≡ link = cc in ap (λ l. buffer_of (place, l) ∷ []) same

@@ -47,7 +47,7 @@ find-no_position p xs none =
 -- ---- functions
 
 -- a function that was found by its place
-pub record IsFound (texts : List (List ℕ)) (bits : List RowCol) (functions : List Function) (kind : TileKind) (name : List ℕ) (function : Function) : Type 0 where
+pub record IsFound (texts : List (List ℕ)) (bits : List (List RowCol)) (functions : List Function) (kind : TileKind) (name : List ℕ) (function : Function) : Type 0 where
   pub named : find (is_function kind name) (function_lines texts bits functions) ≡ Some (function_line texts bits function)
   pub bits_in : All (IsBitIn (columns_of kind)) (bits_named bits function.bits)
 
@@ -55,14 +55,14 @@ cond-inside : (passes : Bool) (n m length : ℕ) → (passes ≡ true → n < le
 cond-inside true n m length inside found = let same : n ≡ m = cc in omega (arith, inside refl)
 cond-inside false n m length inside found = absurd cc
 
-pub place_inside : (texts : List (List ℕ)) (bits : List RowCol) (functions : List Function) (kind : TileKind) (name : List ℕ) (place : ℕ)
+pub place_inside : (texts : List (List ℕ)) (bits : List (List RowCol)) (functions : List Function) (kind : TileKind) (name : List ℕ) (place : ℕ)
     → function_place kind name (function_lines texts bits functions) ≡ Some place → place < length functions
 unfolding function_place
 place_inside texts bits functions kind name place found =
     let lines : List FunctionLine = function_lines texts bits functions in
     omega (arith, cond-inside (nat_lt (position_or_len (is_function kind name) lines) (length lines)) (position_or_len (is_function kind name) lines) place (length lines) (ltb-true (position_or_len (is_function kind name) lines) (length lines)) found, length-map functions (function_line texts bits))
 
-pub is_found : (texts : List (List ℕ)) (bits : List RowCol) (functions : List Function) (kind : TileKind) (name : List ℕ) (place : ℕ) (function : Function)
+pub is_found : (texts : List (List ℕ)) (bits : List (List RowCol)) (functions : List Function) (kind : TileKind) (name : List ℕ) (place : ℕ) (function : Function)
     → All IsFunctionLine (function_lines texts bits functions)
     → function_place kind name (function_lines texts bits functions) ≡ Some place → function ≡ get_or functions place function
     → IsFound texts bits functions kind name function
@@ -109,7 +109,7 @@ length-bits_at image x y bits = length-map bits (λ bit. tile_bit_of image x y b
 
 -- ---- tests that pass at some place
 
-pub any_line-none : (test : FunctionLine → Bool) (texts : List (List ℕ)) (bits : List RowCol) (functions : List Function)
+pub any_line-none : (test : FunctionLine → Bool) (texts : List (List ℕ)) (bits : List (List RowCol)) (functions : List Function)
     → ((k : ℕ) (d : Function) → k < length functions → test (function_line texts bits (get_or functions k d)) ≡ false)
     → list_any test (function_lines texts bits functions) ≡ false
 any_line-none test texts bits [] none = refl
@@ -118,13 +118,13 @@ any_line-none test texts bits (function ∷ functions) none =
     rw (first, any_line-none test texts bits functions (λ k d inside. none (suc k) d (omega arith))) refl
 
 -- the function of a place
-line_at : (texts : List (List ℕ)) (bits : List RowCol) (functions : List Function) (k : ℕ) (function : Function)
+line_at : (texts : List (List ℕ)) (bits : List (List RowCol)) (functions : List Function) (k : ℕ) (function : Function)
     → k < length functions → function ≡ get_or functions k function
     → get_or (function_lines texts bits functions) k (function_line texts bits function) ≡ function_line texts bits function
 line_at texts bits functions k function inside is =
     get_or-map (function_line texts bits) functions k function (function_line texts bits function) inside ∙ ap (function_line texts bits) (sym is)
 
-pub any_line-at : (test : FunctionLine → Bool) (texts : List (List ℕ)) (bits : List RowCol) (functions : List Function) (k : ℕ) (function : Function)
+pub any_line-at : (test : FunctionLine → Bool) (texts : List (List ℕ)) (bits : List (List RowCol)) (functions : List Function) (k : ℕ) (function : Function)
     → k < length functions → function ≡ get_or functions k function → test (function_line texts bits function) ≡ true
     → list_any test (function_lines texts bits functions) ≡ true
 any_line-at test texts bits functions k function inside is passes =
@@ -133,7 +133,7 @@ any_line-at test texts bits functions k function inside is passes =
     (ap test (line_at texts bits functions k function inside is) ∙ passes)
 
 -- its bits are those of a tile of its kind
-pub line_bits-in : (texts : List (List ℕ)) (bits : List RowCol) (functions : List Function) (k : ℕ) (function : Function)
+pub line_bits-in : (texts : List (List ℕ)) (bits : List (List RowCol)) (functions : List Function) (k : ℕ) (function : Function)
     → All IsFunctionLine (function_lines texts bits functions) → k < length functions → function ≡ get_or functions k function
     → All (IsBitIn (columns_of function.kind)) (bits_named bits function.bits)
 line_bits-in texts bits functions k function fit inside is =

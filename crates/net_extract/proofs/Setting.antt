@@ -61,7 +61,7 @@ links_on-push image links link =
     ∙ ap (λ last. map on_link (filter test (numbered links)) ++ last) (last_on-is image (length links) link)
 
 -- the same over the lines that are kept
-lines-push : (image : Configuration) (table : List RowCol) (lines : List LinkLine) (i : ℕ) (d : LinkLine) → i < length lines
+lines-push : (image : Configuration) (table : List (List RowCol)) (lines : List LinkLine) (i : ℕ) (d : LinkLine) → i < length lines
     → links_on image (link_lines table (take (i + 1) lines)) ≡ links_on image (link_lines table (take i lines)) ++ last_on image i (link_line table (get_or lines i d))
 lines-push image table lines i d inside =
     let line = get_or lines i d in
@@ -71,7 +71,7 @@ lines-push image table lines i d inside =
     ∙ links_on-push image (link_lines table (take i lines)) (link_line table line)
     ∙ ap (λ n. links_on image (link_lines table (take i lines)) ++ last_on image n (link_line table line)) count
 
-pub lines-more_on : (image : Configuration) (table : List RowCol) (lines : List LinkLine) (i place : ℕ) (d : LinkLine) (before after : List OnLink) → i < length lines
+pub lines-more_on : (image : Configuration) (table : List (List RowCol)) (lines : List LinkLine) (i place : ℕ) (d : LinkLine) (before after : List OnLink) → i < length lines
     → is_link_on image (link_line table (get_or lines i d)) ≡ true → place ≡ i
     → before ≡ links_on image (link_lines table (take i lines))
     → after ≡ before ++ record { place = place; src = (get_or lines i d).src; dst = (get_or lines i d).dst } ∷ []
@@ -80,13 +80,13 @@ lines-more_on image table lines i place d before after inside passes place_is be
     after_is ∙ ap₂ (λ front n. front ++ record { place = n; src = (get_or lines i d).src; dst = (get_or lines i d).dst } ∷ []) before_is place_is
     ∙ sym (lines-push image table lines i d inside ∙ rw passes refl)
 
-pub lines-more_off : (image : Configuration) (table : List RowCol) (lines : List LinkLine) (i : ℕ) (d : LinkLine) (before : List OnLink) → i < length lines
+pub lines-more_off : (image : Configuration) (table : List (List RowCol)) (lines : List LinkLine) (i : ℕ) (d : LinkLine) (before : List OnLink) → i < length lines
     → is_link_on image (link_line table (get_or lines i d)) ≡ false
     → before ≡ links_on image (link_lines table (take i lines))
     → before ≡ links_on image (link_lines table (take (i + 1) lines))
 lines-more_off image table lines i d before inside off before_is =
     before_is ∙ sym (lines-push image table lines i d inside ∙ rw (off, append-nil) refl)
 
-pub line-fits : (chip : Chip) (table : List RowCol) (lines : List LinkLine) (i : ℕ) (d : LinkLine) → i < length lines → All (IsLink chip) (link_lines table lines) → IsLink chip (link_line table (get_or lines i d))
+pub line-fits : (chip : Chip) (table : List (List RowCol)) (lines : List LinkLine) (i : ℕ) (d : LinkLine) → i < length lines → All (IsLink chip) (link_lines table lines) → IsLink chip (link_line table (get_or lines i d))
 line-fits chip table lines i d inside fit =
     subst (IsLink chip) (get_or-map (link_line table) lines i d (link_line table d) inside) (fit i (link_line table d) (omega (arith, length-map lines (link_line table))))

@@ -15,7 +15,7 @@ add_if_on-requires-clause-fit c = all-at (IsLink c.args.db.now.chip) (link_line 
 
 pub loop-index-preserved : goal.loop-index-preserved
 loop-index-preserved c =
-    let fit = all-at (IsLink c.args.db.now.chip) (link_line c.args.db.now.bits) c.args.links.now c.loop-index.index (record { x = 0; y = 0; dst = 0; src = 0; bits = record { start = 0; count = 0 }; values = 0 }) c.requires.fit c.loop-index-test.true in
+    let fit = all-at (IsLink c.args.db.now.chip) (link_line c.args.db.now.bits) c.args.links.now c.loop-index.index (record { x = 0; y = 0; dst = 0; src = 0; bits = record { place = 0 }; values = 0 }) c.requires.fit c.loop-index-test.true in
     AreLists-more (configuration_of c.args.image.now) (link_lines c.args.db.now.bits c.args.links.now) c.loop-index.index (lists_of c.loop-index.lists.items) (lists_of c.add_if_on.new.lists.items) _
     (line-at (link_line c.args.db.now.bits) c.args.links.now c.loop-index.index _ c.loop-index-test.true)
     (x-below c.args.db.now.chip.device _ _ fit.kind fit.tile) (y-below c.args.db.now.chip.device _ _ fit.kind fit.tile) c.loop-index.invariant c.in_ok-add_if_on.ensures

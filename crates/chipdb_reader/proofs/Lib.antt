@@ -36,6 +36,8 @@ pub mod Ends
 pub mod Feeding
 -- a reader of pieces, by what its feed of lines tells
 pub mod Fed
+-- what is answered of the bytes of a source or a file
+pub mod Sources
 -- look-ups by ids find what look-ups by names would
 pub mod Found
 -- lines that say something name tiles, bits and nets that the device has

@@ -61,3 +61,7 @@ lack_of reader = lack_in (refusal_of reader.lines)
 pub record StandsFor (text : List ℕ) (reader : Intake) : Type 0 where
   pub fed : reader.fed ≡ length text
   pub has : FeedsTo taken_by refused_with tt text reader.lines
+
+-- the same as a taker of pieces tells it
+abbrev pub stands_for : Unit {0} → Intake → List ℕ → Type 0
+stands_for setting reader text = StandsFor text reader

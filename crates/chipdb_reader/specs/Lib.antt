@@ -13,3 +13,4 @@ pub mod Fit
 pub mod Inside
 pub mod NameIndex
 pub mod Feeding
+pub mod Sources

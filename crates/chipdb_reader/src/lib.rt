@@ -1,7 +1,7 @@
 //! Chip databases: the text that tells of a device which bits its functions have, and how its nets are linked.
 //!
 //! The text has lines; a line that begins with a dot is a statement, and the lines that follow belong to it. [`read`] makes
-//! a [`ChipDb`] of it or tells its first faulty line. The look-ups of a `ChipDb` take no memory.
+//! a [`ChipDb`] of it or tells its first faulty line; [`DbReader`] takes it in pieces. The look-ups of a `ChipDb` take no memory.
 #![tactic(auto)]
 
 mod buffers;
@@ -14,6 +14,7 @@ mod name_index;
 mod nets;
 mod reader;
 mod reading;
+mod source;
 mod texts;
 
 pub use chip_db::ChipDb;
@@ -23,3 +24,4 @@ pub use items::{Extra, Function, LinkLine, NetName, PinXy, TileXy8};
 pub use name_arena::NameId;
 pub use plane_map::{DeviceName, Place, RowCol, TileKind};
 pub use reader::{DbReader, read};
+pub use source::{SourceDbFault, read_file, read_from};

@@ -1,6 +1,10 @@
 // Databases read: their faults, and what is looked up in them.
+ghost use Rattle.std.specs.Prelude.{◌<◌, ◌^◌};
 
-use chipdb_reader::{ChipDb, DbCause, DbFault, PinXy, TileXy8, read};
+use chipdb_reader::{
+    ChipDb, DbCause, DbFault, PinXy, SourceDbFault, TileXy8, read, read_file, read_from,
+};
+use ice_io::{MemFiles, MemSource, NamedFile};
 use plane_map::{DeviceName, Place, RowCol, TileKind};
 use sample_images::CELL;
 use std::alloc::{AllocError, Global};
@@ -160,4 +164,66 @@ fn small_is_read(alloc: Global) -> Result<bool, DbFault> {
 fn other_is_read(alloc: Global) -> Result<bool, DbFault> {
     let db = read_short(alloc, OTHER)?;
     Ok(has_firsts(&db) && has_links(&db))
+}
+
+/// The small database, given one byte a call; the listed reads fail.
+fn source_of(alloc: Global, failing: &[u64]) -> Result<MemSource, AllocError> {
+    Ok(MemSource::new(CELL.to_vec(alloc)?, 1, failing.to_vec(alloc)?))
+}
+
+/// Whether the look-ups in what a source gives are those of the small database.
+fn is_read_from(alloc: Global, source: &mut MemSource, limit: usize) -> Result<bool, SourceDbFault>
+    requires { limit < 2 ^ 32 }
+{
+    match read_from(alloc, source, limit) {
+        Err(fault) => Err(fault),
+        Ok(db) => Ok(has_nets(&db) && has_link(&db) && has_functions(&db)),
+    }
+}
+
+fn source_is_read(alloc: Global, limit: usize, failing: &[u64]) -> Result<bool, SourceDbFault>
+    requires { limit < 2 ^ 32 }
+{
+    match source_of(alloc, failing) {
+        Err(e) => Err(SourceDbFault::Memory(e)),
+        Ok(mut source) => is_read_from(alloc, &mut source, limit),
+    }
+}
+
+#[test]
+fn reads_a_source(rt: HostRuntime) {
+    assert!(rt; source_is_read(rt.alloc(), 10_000, &[]) == Ok(true));
+    assert!(rt; source_is_read(rt.alloc(), 10, &[]) == Err(SourceDbFault::TooLong));
+    assert!(rt; source_is_read(rt.alloc(), 10_000, &[3]) == Err(SourceDbFault::Failed));
+}
+
+/// The small database in a file `db`, of which a call gives seven bytes.
+fn files_of(alloc: Global) -> Result<MemFiles, AllocError> {
+    let mut files = Vec::new(alloc);
+    files.push(NamedFile {
+        name: String::from_str(alloc, "db")?,
+        bytes: CELL.to_vec(alloc)?,
+    })?;
+    MemFiles::new(alloc, files, "out", 1, 7, Vec::new(alloc))
+}
+
+/// Whether the look-ups in what a file has are those of the small database.
+fn is_read_in(alloc: Global, files: &mut MemFiles, name: &str) -> Result<bool, SourceDbFault> {
+    match read_file(alloc, files, name, 10_000) {
+        Err(fault) => Err(fault),
+        Ok(db) => Ok(has_nets(&db) && has_link(&db) && has_functions(&db)),
+    }
+}
+
+fn file_is_read(alloc: Global, name: &str) -> Result<bool, SourceDbFault> {
+    match files_of(alloc) {
+        Err(e) => Err(SourceDbFault::Memory(e)),
+        Ok(mut files) => is_read_in(alloc, &mut files, name),
+    }
+}
+
+#[test]
+fn reads_a_file(rt: HostRuntime) {
+    assert!(rt; file_is_read(rt.alloc(), "db") == Ok(true));
+    assert!(rt; file_is_read(rt.alloc(), "other") == Err(SourceDbFault::Failed));
 }

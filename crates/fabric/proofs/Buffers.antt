@@ -1,6 +1,6 @@
 -- The buffers at the places of those that are on are the buffers that are on.
-use Rattle.std.proofs.Common.{◌≡◌, ℕ, List, [], ◌∷◌, ◌++◌, map, refl, sym, ap, subst, ◌∙◌}
-use Rattle.std.specs.Prelude.{All, Option, Some, None, filter, flat_map, option_map, slice_get}
+use Rattle.std.proofs.Common.{◌≡◌, ℕ, List, [], ◌∷◌, ◌++◌, map, refl, sym, ap, ◌∙◌}
+use Rattle.std.specs.Prelude.{All, Option, Some, None, filter, option_map, slice_get}
 use Rattle.std.proofs.lemmas.Option.{slice_get-map}
 use Rattle.std.proofs.lemmas.List.Elements.{All-head, All-tail, All-filter}
 use Rattle.plane_map.specs.declared.tile.RowCol.{RowCol}
@@ -9,7 +9,7 @@ use Rattle.chipdb_reader.specs.declared.items.LinkLine.{LinkLine}
 use Rattle.chipdb_reader.specs.Database.{Link}
 use Rattle.chipdb_reader.specs.Kept.{Kept, link_line, link_lines, database_in}
 use Rattle.net_extract.specs.On.{is_link_on}
-use Rattle.net_extract.specs.Fabric.{Buffer, buffer_of, buffers_of, numbered}
+use Rattle.net_extract.specs.Fabric.{buffer_of, buffers_of, numbered}
 use Rattle.net_extract.specs.Links.{places_on}
 use Rattle.fabric.specs.Buffers.{buffer_if, buffers_at}
 use Rattle.fabric.proofs.Lists.{StandsIn, numbered-stand}

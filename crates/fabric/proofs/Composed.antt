@@ -3,11 +3,11 @@ use Rattle.std.specs.Prelude.{All, filter, flat_map, not, Some, None}
 use Rattle.plane_map.specs.Layout.{kind_of}
 use Rattle.plane_map.specs.declared.device.DeviceName.{DeviceName}
 use Rattle.plane_map.specs.declared.tile.TileKind.TheVariants.{RamB}
-use Rattle.std.proofs.Common.{arith, ◌≡◌, ℕ, ◌^◌, ◌≤◌, List, map, length, refl, sym, ap, subst, ◌∙◌}
+use Rattle.std.proofs.Common.{arith, ◌≡◌, ℕ, ◌≤◌, List, map, sym, ap, subst, ◌∙◌}
 use Rattle.ice_image.specs.Configuration.{Configuration}
 use Rattle.chipdb_reader.specs.Database.{Database}
 use Rattle.chipdb_reader.specs.Fit.{IsFit}
-use Rattle.net_extract.specs.Links.{LinkSet, AreLinks}
+use Rattle.net_extract.specs.Links.{AreLinks}
 use Rattle.net_extract.specs.Cells.{cells_of, sets_of}
 use Rattle.net_extract.specs.Rams.{rams_of}
 use Rattle.net_extract.specs.Pins.{pins_of, globals_of}
@@ -16,7 +16,7 @@ use Rattle.net_extract.specs.declared.ram.RamCell.{RamCell}
 use Rattle.net_extract.specs.declared.pin.Pin.{Pin}
 use Rattle.net_extract.specs.Tiles.{each_below}
 use Rattle.net_extract.specs.Faults.{fabric_fault}
-use Rattle.net_extract.specs.Fabric.{fabric_of, buffers_of, inputs_of}
+use Rattle.net_extract.specs.Fabric.{fabric_of, buffers_of}
 use Rattle.net_extract.proofs.Within.{fabric-in}
 use Rattle.fabric_wiring.specs.declared.parts.Parts.{Parts}
 use Rattle.fabric_wiring.specs.Parts.{ArePartsOf, buffer_of}

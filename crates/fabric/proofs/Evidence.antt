@@ -1,7 +1,7 @@
 -- The first of some faults has what it tells.
-use Rattle.std.proofs.Common.{◌≡◌, ℕ, zero, suc, ◌+◌, ◌<◌, ◌≤◌, Bool, true, false, List, [], ◌∷◌, ◌++◌, length, refl, sym, ap, subst, ◌∙◌, arith, inl, inr}
+use Rattle.std.proofs.Common.{◌≡◌, ℕ, zero, suc, ◌<◌, ◌≤◌, Bool, true, false, List, [], ◌∷◌, ◌++◌, length, refl, sym, ap, subst, ◌∙◌, arith, inl, inr}
 use Rattle.std.specs.Prelude.{Option, Some, None, Contains, flat_map, slice_index, get_or, ◌⊎◌}
-use Rattle.std.proofs.lemmas.Bool.{cases_lt, false≢true}
+use Rattle.std.proofs.lemmas.Bool.{false≢true}
 use Rattle.plane_map.specs.declared.device.DeviceName.{DeviceName}
 use Rattle.place_search.specs.Places.{gathered_below}
 use Rattle.net_extract.specs.declared.driver.Driver.{Driver}
@@ -15,7 +15,7 @@ use Rattle.place_search.proofs.Places.{gathered_below-none}
 use Rattle.net_extract.proofs.Firsts.{first_of-alone}
 use Rattle.net_extract.specs.Wiring.{Wiring, wiring_of, is_on_cycle, IsCycle}
 use Rattle.net_extract.proofs.Cycles.{IsBounded, is_on_cycle-whole}
-use Rattle.fabric_wiring.specs.Rows.{is_marked, ReadsByDriven, wiring_of as rows_wiring}
+use Rattle.fabric_wiring.specs.Rows.{ReadsByDriven, wiring_of as rows_wiring}
 use Rattle.net_extract.specs.Joins.{class_of}
 use Rattle.net_extract.specs.Clocks.{ClockEnd, LeadsTo, User, users_of, clock_end}
 use Rattle.net_extract.specs.Clocks.ClockEnd.{at_pin, undriven, logic}
@@ -29,7 +29,7 @@ use Rattle.fabric_wiring.specs.Wires.{AreAlike}
 use Rattle.fabric_wiring.proofs.Alike.{is_on_cycle-alike, cycle-alike}
 use Rattle.net_extract.proofs.OneValue.{count-is}
 use Rattle.fabric.specs.Causes.{of_drivers}
-use Rattle.fabric.specs.Faults.{IsCause, AreTwoDrivers, IsCycleFrom, IsUnclocked}
+use Rattle.fabric.specs.Faults.{HasDriversApart, IsCause, AreTwoDrivers, IsCycleFrom, IsUnclocked}
 
 -- ---- the first item of lists
 
@@ -57,19 +57,27 @@ first-flat_map given (x ∷ xs) item is =
 
 -- ---- two drivers
 
-two-drivers : (fabric : Fabric) (class : ℕ) (drives : List Drive) (net : ℕ) (first second : Driver) → drivers_of fabric class ≡ drives
+two-drivers : (fabric : Fabric) → HasDriversApart fabric → (class : ℕ) (drives : List Drive) (net : ℕ) (first second : Driver) → drivers_of fabric class ≡ drives
     → first_of (drivers_fault class drives) ≡ Some (Fault.two_drivers net first second) → AreTwoDrivers fabric net first second
-two-drivers fabric class [] net first second drive is = absurd cc
-two-drivers fabric class (one ∷ []) net first second drive is = absurd cc
-two-drivers fabric class (one ∷ two ∷ rest) net first second drive is =
+two-drivers fabric apart class [] net first second drive is = absurd cc
+two-drivers fabric apart class (one ∷ []) net first second drive is = absurd cc
+two-drivers fabric apart class (one ∷ two ∷ rest) net first second drive is =
     let same : class ≡ net = cc in
-    record { one = one; two = two; rest = rest; drive = ap (drivers_of fabric) (sym same) ∙ drive; first_is = cc; second_is = cc }
+    record {
+      one = one;
+      two = two;
+      rest = rest;
+      drive = ap (drivers_of fabric) (sym same) ∙ drive;
+      first_is = cc;
+      second_is = cc;
+      differ = λ one_driver. apart class one two rest drive (cc);
+    }
 
-pub drivers-evidence : (fabric : Fabric) (net : ℕ) (first second : Driver) → first_of (driver_faults fabric) ≡ Some (Fault.two_drivers net first second) → AreTwoDrivers fabric net first second
+pub drivers-evidence : (fabric : Fabric) → HasDriversApart fabric → (net : ℕ) (first second : Driver) → first_of (driver_faults fabric) ≡ Some (Fault.two_drivers net first second) → AreTwoDrivers fabric net first second
 unfolding driver_faults
-drivers-evidence fabric net first second is =
+drivers-evidence fabric apart net first second is =
     let found = first-gathered fabric.nets (λ class. drivers_fault class (drivers_of fabric class)) _ is in
-    two-drivers fabric found.0 (drivers_of fabric found.0) net first second refl found.1
+    two-drivers fabric apart found.0 (drivers_of fabric found.0) net first second refl found.1
 
 -- ---- clocks
 
@@ -173,9 +181,9 @@ module _ (device : DeviceName) (fabric : Fabric) where
       no-cause is = rw (single, open_, is) refl
 
   -- a refusal of the fabric's drivers, cycles or clocks is one of the fabric
-  pub drivers-told : (fault : DriverFault) → IsDriverCause (first_of (driver_faults fabric)) fault → IsCause device fabric (fabric_fault device fabric) (of_drivers fault)
-  drivers-told (drivers.TwoDrivers net first second) is = (drivers-cause _ is, drivers-evidence fabric net first second is)
-  drivers-told (drivers.Memory failed) is = tt
+  pub drivers-told : HasDriversApart fabric → (fault : DriverFault) → IsDriverCause (first_of (driver_faults fabric)) fault → IsCause device fabric (fabric_fault device fabric) (of_drivers fault)
+  drivers-told apart (drivers.TwoDrivers net first second) is = (drivers-cause _ is, drivers-evidence fabric apart net first second is)
+  drivers-told apart (drivers.Memory failed) is = tt
 
   -- the same refusal for another fault
   pub same-cause : (one two : Option Fault) → ((cause : Fault) → one ≡ Some cause → two ≡ Some cause) → (fault : FabricFault) → IsCause device fabric one fault → IsCause device fabric two fault

@@ -1,14 +1,11 @@
 -- A cause of the parts is the cause of the whole, where nothing before it is wrong.
-use Rattle.std.proofs.Common.{◌≡◌, ℕ, Bool, true, false, List, [], ◌∷◌, refl, sym, ap, subst, ◌∙◌}
+use Rattle.std.proofs.Common.{◌≡◌, [], refl, sym, subst, ◌∙◌}
 use Rattle.std.specs.Prelude.{◌↔◌, Option, Some, None, Result, Ok, Err, IfErr, OnOk}
 use Rattle.std.specs.Result.{IsErrAnd}
-use Rattle.plane_map.specs.declared.device.DeviceName.{DeviceName}
-use Rattle.plane_map.specs.Devices.{is_same_device}
 use Rattle.plane_map.proofs.Devices.{same-device, other-device}
 use Rattle.ice_image.specs.Configuration.{Configuration}
 use Rattle.chipdb_reader.specs.Database.{Database}
 use Rattle.place_search.specs.Places.{or_else}
-use Rattle.net_extract.specs.Tiles.{first_of}
 use Rattle.net_extract.specs.Fabric.{fabric_of}
 use Rattle.net_extract.specs.Faults.{Fault, device_faults, pins_fault, rams_fault, cells_fault, fabric_fault, design_fault}
 use Rattle.net_extract.specs.declared.fault.LinkFault.{LinkFault}

@@ -1,5 +1,5 @@
 -- When a design is that of a database and an image.
-use Rattle.std.specs.Prelude.{◌≡◌, ℕ, ◌^◌, ◌≤◌, ◌==◌, List, find, slice_get, option_map, option_and_then, Option, Some, None}
+use Rattle.std.specs.Prelude.{◌≡◌, ℕ, ◌^◌, ◌≤◌, ◌==◌, List, find, slice_get, option_map, Option, None}
 use Rattle.ice_image.specs.Configuration.{Configuration}
 use Rattle.chipdb_reader.specs.Database.{Database}
 use Rattle.chipdb_reader.specs.Fit.{IsFit}

@@ -1,5 +1,5 @@
 -- Why a database and an image aren't taken, with the evidence.
-use Rattle.std.specs.Prelude.{◌≡◌, ℕ, ◌<◌, List, ◌∷◌, Contains, Option, Some, None}
+use Rattle.std.specs.Prelude.{◌≡◌, ◌≢◌, ℕ, ◌<◌, List, ◌∷◌, Contains, Option, Some, None}
 use Rattle.ice_image.specs.Configuration.{Configuration}
 use Rattle.net_extract.specs.declared.driver.Driver.{Driver}
 use Rattle.net_extract.specs.declared.driver.ClockUser.{ClockUser}
@@ -8,7 +8,7 @@ use Rattle.net_extract.specs.Fabric.{Fabric}
 use Rattle.net_extract.specs.Drivers.{Drive, drivers_of}
 use Rattle.net_extract.specs.Wiring.{wiring_of, IsCycle}
 use Rattle.net_extract.specs.Joins.{class_of}
-use Rattle.net_extract.specs.Clocks.{LeadsTo, User, users_of, clock_end}
+use Rattle.net_extract.specs.Clocks.{LeadsTo, users_of, clock_end}
 use Rattle.net_extract.specs.Clocks.ClockEnd.{logic}
 use Rattle.chipdb_reader.specs.Database.{Database}
 use Rattle.net_extract.specs.Faults.{Fault, pins_fault, rams_fault, cells_fault}
@@ -18,7 +18,11 @@ use Rattle.fabric.specs.declared.fault.FabricFault.TheVariants.{Device, Pll, Pin
 
 -- ---- evidence
 
--- two drivers of a class, the first two of all
+-- the first two drivers of each class differ
+abbrev pub HasDriversApart : Fabric → Type 0
+HasDriversApart fabric = (class : ℕ) (one two : Drive) (rest : List Drive) → drivers_of fabric class ≡ one ∷ two ∷ rest → one.driver ≢ two.driver
+
+-- two different drivers of a class, the first two of all
 pub record AreTwoDrivers (fabric : Fabric) (class : ℕ) (first second : Driver) : Type 0 where
   pub one : Drive
   pub two : Drive
@@ -26,6 +30,7 @@ pub record AreTwoDrivers (fabric : Fabric) (class : ℕ) (first second : Driver)
   pub drive : drivers_of fabric class ≡ one ∷ two ∷ rest
   pub first_is : one.driver ≡ first
   pub second_is : two.driver ≡ second
+  pub differ : first ≢ second
 
 -- A cycle that begins with a class: each class depends on the next, and the last one on the first. No cycle has a lesser class.
 pub record IsCycleFrom (fabric : Fabric) (class : ℕ) (cycle : List ℕ) : Type 0 where

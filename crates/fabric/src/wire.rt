@@ -14,7 +14,7 @@ ghost use Rattle.net_extract.specs.Joins.{class_of};
 ghost use Rattle.fabric_wiring.specs.Parts.{ArePartsOf};
 ghost use Rattle.fabric_wiring.specs.DriverLists.{AreDriversOf};
 ghost use Rattle.fabric_wiring.specs.Ends.{AreEndsOf};
-ghost use Rattle.fabric.specs.Faults.{IsCause};
+ghost use Rattle.fabric.specs.Faults.{HasDriversApart, IsCause};
 
 use crate::fault::FabricFault;
 use crate::order::order;
@@ -65,6 +65,7 @@ pub(crate) fn wire(
     ghost fabric: { Fabric }
     requires parts { ArePartsOf fabric parts.now }
     requires lower { All (λ ram. kind_of (device_of image.now) ram.x ram.y ≡ Some RamB) parts.now.rams.items }
+    requires apart { HasDriversApart fabric }
     ensures few { OnOk result (fabric.nets ≤ u32.MAX) }
     ensures drivers { IfOk result (λ wired. AreDriversOf fabric wired.drivers) }
     ensures order { IfOk result (λ wired. IsWriteOrder (wiring_of fabric) wired.order.items) }

@@ -43,3 +43,7 @@ pub mod InOrder
 pub mod Listed
 -- nets and places that a database names are its device's
 pub mod Nets
+-- lists in which each item is apart from all behind it
+pub mod Apart
+-- no driver of a database and an image stands twice
+pub mod Once

@@ -1,6 +1,6 @@
 -- For which cause a database and an image aren't taken: the first cause, with the least that has it. Each list of faults is in
 -- the order of what has them.
-use Rattle.std.specs.Prelude.{ℕ, Bool, true, false, List, [], ◌∷◌, flat_map, if◌then◌else◌, Option, Some, None}
+use Rattle.std.specs.Prelude.{ℕ, List, [], ◌∷◌, flat_map, if◌then◌else◌, Option, Some, None}
 use Rattle.plane_map.specs.declared.device.DeviceName.{DeviceName}
 use Rattle.plane_map.specs.Devices.{is_same_device}
 use Rattle.plane_map.specs.declared.tile.TileKind.TheVariants.{Io, Logic}

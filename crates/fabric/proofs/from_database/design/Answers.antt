@@ -1,15 +1,13 @@
-use Rattle.std.proofs.Common.{◌≡◌, ◌<◌, List, length, refl, sym, ap, ◌∙◌, subst}
+use Rattle.std.proofs.Common.{◌≡◌, refl, sym, ap, ◌∙◌, subst}
 use Rattle.std.specs.Prelude.{None, filter, not}
-use Rattle.plane_map.specs.Layout.{kind_of}
-use Rattle.plane_map.specs.declared.tile.TileKind.TheVariants.{RamB}
 use Rattle.ice_image.specs.Either.{configuration_of, device_of}
 use Rattle.chipdb_reader.specs.Kept.{database_in}
-use Rattle.net_extract.specs.declared.ram.RamCell.{RamCell}
 use Rattle.net_extract.specs.Fabric.{fabric_of}
 use Rattle.net_extract.specs.Faults.{fabric_fault}
 use Rattle.net_extract.proofs.Runs.{design-run}
 use Rattle.net_extract.proofs.Within.{fabric-within}
-use Rattle.net_extract.proofs.Taken.{design-taken, taken-value}
+use Rattle.net_extract.proofs.Taken.{taken-value}
+use Rattle.net_extract.proofs.Once.{first-differ}
 use Rattle.fabric.specs.Faults.{IsCause}
 use Rattle.fabric.proofs.Refused.{told, fabric-left}
 use Rattle.fabric.proofs.Evidence.{same-cause}
@@ -22,7 +20,10 @@ pub wire-requires : goal.wire-requires
 wire-requires c =
     let same : (configuration_of c.args.image.now).layout.device ≡ device_of c.args.image.now = refl in (
       c.in_ok-parts.ensures.parts,
-      rams-kept (database_in c.args.db.now) (configuration_of c.args.image.now) (device_of c.args.image.now) same c.in_ok-parts.parts.rams.items c.in_ok-parts.ensures.parts.rams,
+      (
+        rams-kept (database_in c.args.db.now) (configuration_of c.args.image.now) (device_of c.args.image.now) same c.in_ok-parts.parts.rams.items c.in_ok-parts.ensures.parts.rams,
+        first-differ (database_in c.args.db.now) (configuration_of c.args.image.now),
+      ),
     )
 
 pub returns-in_err-wired-clause-refused : goal.returns-in_err-wired-clause-refused

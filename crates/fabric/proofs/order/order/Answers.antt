@@ -1,4 +1,3 @@
-use Rattle.std.proofs.Common.{◌≡◌, ◌≤◌, length}
 use Rattle.fabric_wiring.specs.Rows.{wiring_of}
 use Rattle.fabric.proofs.Refused.{on-ok}
 use Rattle.fabric.proofs.Evidence.{nets-few}

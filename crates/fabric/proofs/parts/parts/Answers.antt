@@ -1,7 +1,6 @@
-use Rattle.std.proofs.Common.{◌≡◌, map, refl, sym, ap, ◌∙◌}
+use Rattle.std.proofs.Common.{ap, ◌∙◌}
 use Rattle.ice_image.specs.Either.{configuration_of}
 use Rattle.chipdb_reader.specs.Kept.{database_in}
-use Rattle.net_extract.proofs.Within.{fabric-in}
 use Rattle.fabric.specs.Buffers.{buffers_at}
 use Rattle.fabric.proofs.Buffers.{buffers-on}
 use Rattle.fabric.proofs.Refused.{links-cause, pins-cause, rams-cause, cells-cause, told}

@@ -1,4 +1,4 @@
-use Rattle.std.proofs.Common.{◌≡◌, sym}
+use Rattle.std.proofs.Common.{sym}
 use Rattle.fabric.proofs.Evidence.{clocks-evidence}
 use Rattle.fabric.proofs.wire.clocked.Goals as goal
 

@@ -1,4 +1,4 @@
-use Rattle.std.proofs.Common.{◌≡◌, refl, sym, ap, ◌∙◌, subst}
+use Rattle.std.proofs.Common.{◌≡◌, sym, subst}
 use Rattle.std.specs.Prelude.{None}
 use Rattle.net_extract.specs.Tiles.{first_of}
 use Rattle.net_extract.specs.Faults.{clock_faults}
@@ -18,7 +18,7 @@ clocked-requires g c = (
 
 pub returns-in_err-drivers-clause-refused : goal.returns-in_err-drivers-clause-refused
 returns-in_err-drivers-clause-refused g c =
-    told c.from_residual.result _ _ c.from_residual.ensures.1 (drivers-told c.args.db.now.chip.device g.fabric c.in_err-drivers.field-0.0 c.in_err-drivers.ensures.refused)
+    told c.from_residual.result _ _ c.from_residual.ensures.1 (drivers-told c.args.db.now.chip.device g.fabric c.requires.1.1 c.in_err-drivers.field-0.0 c.in_err-drivers.ensures.refused)
 
 pub returns-in_err-order-clause-refused : goal.returns-in_err-order-clause-refused
 returns-in_err-order-clause-refused g c =

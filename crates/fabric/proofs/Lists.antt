@@ -1,24 +1,14 @@
 -- Lists with their places, lists over tiles, and lists of parts of one length.
-use Rattle.std.proofs.Common.{◌≡◌, ℕ, zero, suc, ◌+◌, ◌*◌, ◌<◌, ◌≤◌, Bool, true, false, List, [], ◌∷◌, ◌++◌, length, map, get_or, take, drop, refl, sym, ap, subst, ◌∙◌, arith, inl, inr}
-use Rattle.std.specs.Prelude.{All, Option, Some, None, filter, flat_map, slice_get, if◌then◌else◌}
-use Rattle.std.proofs.lemmas.Bool.{cases_Bool}
-use Rattle.std.proofs.lemmas.List.{map-append, get_or-append-add}
-use Rattle.place_search.specs.Places.{gathered_below}
-use Rattle.net_extract.specs.Tiles.{over_grid, over_tiles, each_below}
+use Rattle.std.proofs.Common.{◌≡◌, ℕ, zero, suc, ◌+◌, ◌*◌, ◌<◌, Bool, true, false, List, [], ◌∷◌, ◌++◌, length, map, get_or, refl, sym, ap, subst, ◌∙◌, arith}
+use Rattle.std.specs.Prelude.{All, Some, flat_map, slice_get, if◌then◌else◌}
+use Rattle.std.proofs.lemmas.List.{get_or-append-add}
 use Rattle.net_extract.specs.Fabric.{numbered_from, numbered}
 use Rattle.std.proofs.lemmas.List.Elements.{All-nil, All-cons}
-use Rattle.std.proofs.Common.{append_assoc, zero-add, suc-add, zero-mul, suc-mul, length-append}
+use Rattle.std.proofs.Common.{append_assoc, zero-mul, suc-mul, length-append}
 use Rattle.std.proofs.Math.ListN.{get_or-append}
 use Rattle.shared_lemmas.proofs.Pushes.{slice_get-behind}
 
 -- ---- lists over places
-
--- a change of each item of what places give
-pub map-gathered : {A B : Type 0} (n : ℕ) (change : A → B) (given : ℕ → List A) → map change (gathered_below n given) ≡ gathered_below n (λ k. map change (given k))
-unfolding gathered_below
-map-gathered zero change given = refl
-map-gathered (suc n) change given =
-    map-append change (gathered_below n given) (given n) ∙ ap (λ before. before ++ map change (given n)) (map-gathered n change given)
 
 pub map-if : {A B : Type 0} (passes : Bool) (change : A → B) (list : List A) → map change (if passes then list else []) ≡ (if passes then map change list else [])
 map-if true change list = refl

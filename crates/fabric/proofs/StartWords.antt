@@ -1,6 +1,6 @@
 -- The words that are read for the RAMs of an image are their start words.
-use Rattle.std.proofs.Common.{◌≡◌, ℕ, ◌+◌, ◌*◌, ◌<◌, Bool, List, [], ◌∷◌, length, map, get_or, refl, sym, ap, subst, ◌∙◌, inl, inr}
-use Rattle.std.specs.Prelude.{All, Option, Some, flat_map, if◌then◌else◌}
+use Rattle.std.proofs.Common.{◌≡◌, ℕ, ◌*◌, ◌<◌, Bool, List, [], ◌∷◌, length, map, get_or, refl, sym, ap, subst, ◌∙◌, inl, inr}
+use Rattle.std.specs.Prelude.{All, Some, flat_map, if◌then◌else◌}
 use Rattle.std.proofs.lemmas.Bool.{cases_Bool}
 use Rattle.std.proofs.lemmas.List.Elements.{All-nil}
 use Rattle.bit_plane.specs.BitList.{word_of}
@@ -10,17 +10,17 @@ use Rattle.chipdb_lines.specs.Statements.{is_kind_there}
 use Rattle.chipdb_reader.specs.Database.{Database}
 use Rattle.ice_image.specs.Configuration.{Configuration}
 use Rattle.ice_image.specs.Bits.{ram_word_of}
-use Rattle.place_search.specs.Places.{gathered_below}
+use Rattle.place_search.proofs.Gathered.{map-gathered_below}
 use Rattle.place_search.proofs.Places.{gathered_below-same}
 use Rattle.net_extract.specs.declared.ram.RamCell.{RamCell}
-use Rattle.net_extract.specs.Tiles.{over_grid, over_tiles, at_kind, each_below}
+use Rattle.net_extract.specs.Tiles.{over_grid, at_kind, each_below}
 use Rattle.net_extract.specs.Rams.{is_ram_used, ram_at, rams_of, over_rams, start_word, start_words}
 use Rattle.net_extract.specs.Fabric.{fabric_of}
 use Rattle.net_extract.proofs.Within.{All-over_grid, All-if, All-single}
 use Rattle.net_extract.proofs.OneValue.{each_below-length, each_below-at}
 use Rattle.net_extract.proofs.InOrder.{is_kind_there-is}
-use Rattle.fabric.specs.Kept.{AreWordsOf, word_in}
-use Rattle.fabric.proofs.Lists.{map-gathered, map-if, item-of_part, count-of_parts}
+use Rattle.fabric.specs.Kept.{AreWordsOf}
+use Rattle.fabric.proofs.Lists.{map-if, item-of_part, count-of_parts}
 
 module _ (db : Database) (image : Configuration) where
   -- ---- each RAM has a lower tile
@@ -62,9 +62,9 @@ module _ (db : Database) (image : Configuration) where
   start-words : map words_of (rams_of db image) ≡ over_rams db image (λ x y. start_words image x y ∷ [])
   unfolding rams_of over_grid
   start-words =
-      map-gathered (grid_height image.layout.device) words_of _
+      map-gathered_below words_of (grid_height image.layout.device) _
       ∙ gathered_below-same (grid_height image.layout.device) _ _ (λ y low.
-      map-gathered (grid_width image.layout.device) words_of _ ∙ gathered_below-same (grid_width image.layout.device) _ _ (λ x left. used-words x y))
+      map-gathered_below words_of (grid_width image.layout.device) _ ∙ gathered_below-same (grid_width image.layout.device) _ _ (λ x left. used-words x y))
 
   start-is : (fabric_of db image).start ≡ map words_of (rams_of db image)
   unfolding fabric_of

@@ -1,12 +1,13 @@
 -- One class more is written.
-use Rattle.std.proofs.Common.{◌≡◌, ◌≢◌, ℕ, ◌<◌, ◌≤◌, Bool, true, false, not, inl, inr, List, [], ◌∷◌, ◌++◌, length, take, get_or, set, refl, sym, ap, ◌∙◌, subst, arith, get_or-set_same, get_or-set_other}
+use Rattle.std.proofs.Common.{◌≡◌, ◌≢◌, ℕ, ◌<◌, Bool, true, false, not, inl, inr, List, [], ◌∷◌, ◌++◌, length, take, get_or, set, refl, sym, ap, ◌∙◌, subst, arith, get_or-set_same, get_or-set_other}
 use Rattle.std.specs.Ordering.{nat_cmp}
-use Rattle.std.specs.Ordering.{is_eq, is_gt}
+use Rattle.std.specs.Ordering.{is_eq}
 use Rattle.std.specs.declared.cmp.Ordering.TheVariants.{Less, Greater}
 use Rattle.std.specs.Cmp.{nat_cmp_is}
 use Rattle.std.specs.BTreeMap.{is_at}
 use Rattle.std.specs.BTreeSet.{BTreeSet, contains, Updates, IsLowerBound}
 use Rattle.std.proofs.lemmas.Bool.{cases_lt, cases_eq, cases_Bool, false_from_ne_true}
+use Rattle.std.proofs.lemmas.Map.Keys.{le_from_not_gt}
 use Rattle.std.proofs.lemmas.List.{take-append-le, length-append, get_or_append_left, get_or_push, take_at}
 use Rattle.net_extract.specs.Wiring.{Wiring, has, depends, IsReady, IsLeastReady}
 use Rattle.net_extract.proofs.Order.{has-none, least-same}
@@ -22,13 +23,6 @@ at-apart a b apart =
     elim (cases_lt a b) [
       | inl less ↦ ap is_eq (sym (nat_cmp_is a b Less less))
       | inr more ↦ let greater : b < a = omega (arith, apart) in ap is_eq (sym (nat_cmp_is a b Greater greater))
-    ]
-
-lower-bound : (a b : ℕ) → is_gt (nat_cmp a b) ≡ false → a ≤ b
-lower-bound a b not_greater =
-    elim (cases_lt b a) [
-      | inl less ↦ absurd (cc (ap is_gt (sym (nat_cmp_is a b Greater less)), not_greater))
-      | inr more ↦ more
     ]
 
 -- marks with one more that is set
@@ -104,7 +98,7 @@ module _ (wiring : Wiring) (old new : ℕ → Bool) (class : ℕ) (marks : Marks
       → HoldsAllBut wiring old (λ k. false) set → IsLeastReady wiring old class
   popped-least set held least ready all = record {
     ready = ready class held;
-    least = λ other rival. lower-bound class other (least other (all other rival refl));
+    least = λ other rival. le_from_not_gt class other (least other (all other rival refl));
   }
 
   -- without it the set holds what can be written once it is

@@ -6,7 +6,7 @@ use Rattle.shared_lemmas.proofs.Lists.{flat_map-push}
 use Rattle.net_extract.specs.Fabric.{numbered_from, numbered}
 
 -- an item is added at the end
-numbered_from-push : {A : Type 0} (place : ℕ) (items : List A) (item : A) → numbered_from place (items ++ item ∷ []) ≡ numbered_from place items ++ (place + length items, item) ∷ []
+pub numbered_from-push : {A : Type 0} (place : ℕ) (items : List A) (item : A) → numbered_from place (items ++ item ∷ []) ≡ numbered_from place items ++ (place + length items, item) ∷ []
 unfolding numbered_from
 numbered_from-push place [] item = let same : place + 0 ≡ place = omega arith in rw same refl
 numbered_from-push {A} place (head ∷ items) item =

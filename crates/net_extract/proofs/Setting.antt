@@ -1,6 +1,6 @@
 -- Links that are on: by their bits, and one after the other.
-use Rattle.std.proofs.Common.{◌≡◌, ℕ, zero, suc, ◌+◌, ◌/◌, ◌%◌, ◌<◌, Bool, true, false, cond, List, [], ◌∷◌, ◌++◌, length, get_or, take, map, refl, sym, ap, ap₂, ◌∙◌, subst, arith, inl, inr, append-nil, zero-add, add-zero, add-suc, suc-add}
-use Rattle.std.specs.Prelude.{◌↔◌, IsTrue, filter, All, ◌==◌}
+use Rattle.std.proofs.Common.{◌≡◌, ℕ, ◌+◌, ◌<◌, Bool, true, false, cond, List, [], ◌∷◌, ◌++◌, length, get_or, take, map, refl, sym, ap, ap₂, ◌∙◌, subst, arith, inl, inr, append-nil, zero-add}
+use Rattle.std.specs.Prelude.{◌↔◌, IsTrue, filter, All}
 use Rattle.std.specs.Bool.{beq}
 use Rattle.std.specs.Cmp.Lexicographic.{pointwise}
 use Rattle.std.proofs.lemmas.Bool.{cases_Bool}
@@ -18,6 +18,7 @@ use Rattle.chipdb_reader.specs.Fit.{IsLink}
 use Rattle.chipdb_reader.specs.Kept.{link_line, link_lines}
 use Rattle.net_extract.specs.On.{bits_at, is_link_on}
 use Rattle.net_extract.specs.Fabric.{numbered, numbered_from}
+use Rattle.net_extract.proofs.Numbered.{numbered_from-push}
 use Rattle.net_extract.specs.declared.on.OnLink.{OnLink}
 use Rattle.net_extract.specs.Found.{on_link, links_on}
 
@@ -34,11 +35,6 @@ values-tell image x y bits values result tells =
 pub links_on-none : (image : Configuration) → links_on image [] ≡ []
 unfolding links_on numbered_from
 links_on-none image = refl
-
-numbered_from-push : (n : ℕ) (links : List Link) (link : Link) → numbered_from n (links ++ link ∷ []) ≡ numbered_from n links ++ (n + length links, link) ∷ []
-unfolding numbered_from
-numbered_from-push n [] link = rw add-zero refl
-numbered_from-push n (first ∷ links) link = ap (λ rest. (n, first) ∷ rest) (numbered_from-push (suc n) links link ∙ rw (add-suc, suc-add) refl)
 
 -- one more link
 abbrev last_on : Configuration → ℕ → Link → List OnLink

@@ -90,12 +90,12 @@ start-named m = record {
 
 -- ---- an event
 
-names-input : (inputs : List (List ℕ × Bool)) (pin : ℕ) (bit : Bool) → names_of (with_input inputs pin bit) ≡ names_of inputs
+pub names-input : (inputs : List (List ℕ × Bool)) (pin : ℕ) (bit : Bool) → names_of (with_input inputs pin bit) ≡ names_of inputs
 names-input [] pin bit = refl
 names-input (input ∷ inputs) zero bit = refl
 names-input (input ∷ inputs) (suc pin) bit = ap (λ names. input.0 ∷ names) (names-input inputs pin bit)
 
-values-input : (inputs : List (List ℕ × Bool)) (pin : ℕ) (bit : Bool) → values_of (with_input inputs pin bit) ≡ set (values_of inputs) pin bit
+pub values-input : (inputs : List (List ℕ × Bool)) (pin : ℕ) (bit : Bool) → values_of (with_input inputs pin bit) ≡ set (values_of inputs) pin bit
 values-input [] pin bit = refl
 values-input (input ∷ inputs) zero bit = refl
 values-input (input ∷ inputs) (suc pin) bit = ap (λ values. input.1 ∷ values) (values-input inputs pin bit)

@@ -17,13 +17,14 @@ use Rattle.net_extract.specs.declared.ram.RamCell.{RamCell}
 use Rattle.net_extract.specs.declared.pin.Pin.{Pin}
 use Rattle.net_extract.specs.Tiles.{each_below}
 use Rattle.net_extract.specs.Fabric.{Fabric, numbered_from, numbered, inputs_of, flips_of}
+use Rattle.net_extract.proofs.Apart.{apart-numbered}
 use Rattle.net_extract.specs.Steps.{Entry, start_state, IsFirst}
 use Rattle.net_extract.specs.Wiring.{wiring_of, IsWriteOrder}
 use Rattle.net_extract.proofs.OneValue.{IsWithin}
 use Rattle.vlog_emit.specs.Names.{port_name, flip_name, register_name, memory_name}
 use Rattle.vlog_emit.specs.Written.{port_of, flip_register, read_register, ram_memory, start_item, start_items, items_of, module_of}
 use Rattle.vlog_emit.specs.Matching.{HasValues, Matches}
-use Rattle.vlog_emit.proofs.Lists.{Apart-numbered, map-map, map-numbered, made-names, made-values}
+use Rattle.vlog_emit.proofs.Lists.{NamesDiffer, map-map, map-numbered, made-names, made-values}
 use Rattle.vlog_emit.proofs.Sections.{is_in, Skips, fold-section, flat_map-section, registers-section, words-section, memories-section, starts-section}
 use Rattle.vlog_emit.proofs.Fills.{FillsOwn, filled}
 use Rattle.vlog_emit.proofs.Settled.{IsWritable, Holding, holding-moved, settled-matches, word-pick}
@@ -240,7 +241,7 @@ module _ (fabric : Fabric) (within : IsWithin fabric) (writable : IsWritable fab
       ∙ (ap (fold start_step (flat_map memory_start (items_of fabric order))) (starts-section fabric order)
       ∙ (ap (λ given. fold start_step given (flat_map (start_items fabric) (numbered fabric.rams))) blank-memories
       ∙ filled (λ (place : ℕ × RamCell). memory_name place.1) start_step (start_items fabric) (λ place old. started 256 (get_or fabric.start place.0 []) old)
-      (starts-fill fabric) (λ place. replicate 256 0) (numbered fabric.rams) (Apart-numbered memory_name 0 fabric.rams writable.memories)))
+      (starts-fill fabric) (λ place. replicate 256 0) (numbered fabric.rams) (apart-numbered (NamesDiffer memory_name) 0 fabric.rams writable.memories)))
 
   memories-hold : HasValues (map (λ (place : ℕ × RamCell). (memory_name place.1, started 256 (get_or fabric.start place.0 []) (replicate 256 0))) (numbered fabric.rams))
       (map memory_name fabric.rams) (map (map word_of) fabric.start)

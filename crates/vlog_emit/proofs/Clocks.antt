@@ -12,6 +12,7 @@ use Rattle.net_extract.specs.declared.ram.RamCell.{RamCell}
 use Rattle.net_extract.specs.declared.pin.Pin.{Pin}
 use Rattle.net_extract.specs.Joins.{class_of}
 use Rattle.net_extract.specs.Fabric.{Fabric, outputs_of, flips_of}
+use Rattle.net_extract.proofs.Apart.{apart-filter, All-every}
 use Rattle.net_extract.specs.Drivers.{is_driven}
 use Rattle.net_extract.specs.Clocks.{ClockEnd, LeadsTo, clock_end}
 use Rattle.net_extract.specs.Clocks.ClockEnd.{at_pin, undriven, logic}
@@ -21,12 +22,12 @@ use Rattle.net_extract.proofs.OneValue.{IsWithin}
 use Rattle.vlog_emit.specs.Names.{port_name, flip_name, register_name, memory_name}
 use Rattle.vlog_emit.specs.Rights.{input_name}
 use Rattle.vlog_emit.specs.Written.{end_name, clock_name, clocked, output_assign, flip_item, flip_items, read_item, read_items, write_item, write_items}
-use Rattle.vlog_emit.proofs.Lists.{Apart, Apart-filter, names-absent}
+use Rattle.vlog_emit.proofs.Lists.{NamesDiffer, Apart, names-absent}
 use Rattle.vlog_emit.proofs.Settled.{IsWritable, port-no_flip}
 use Rattle.vlog_emit.proofs.Beginning.{IsPorted, IsStarted}
 use Rattle.vlog_emit.proofs.Ticks.{leads-place}
 use Rattle.vlog_emit.proofs.Grown.{grown, Grows}
-use Rattle.vlog_emit.proofs.Declared.{every, port-no_register, port-no_memory, flip-no_register, flip-no_memory, register-no_memory}
+use Rattle.vlog_emit.proofs.Declared.{port-no_register, port-no_memory, flip-no_register, flip-no_memory, register-no_memory}
 use Rattle.vlog_emit.proofs.Used.{IsThere, Knows, there-more}
 use Rattle.vlog_emit.proofs.Known.{Stands, stands-more}
 use Rattle.vlog_emit.proofs.Assigned.{Assigned, grows-assigned, output-one, output-allowed}
@@ -140,8 +141,8 @@ module _ (fabric : Fabric) (writable : IsWritable fabric) (scope : Scope) (stand
   outputs-grow =
       let found =
       grows-assigned 6 port_name (output_assign fabric) (output-one fabric) (λ pin. IsThere scope (port_name pin) sort.Output) scope.declared outputs-next
-      (outputs_of fabric) standing.stands.outputs (Apart-filter port_name (λ pin. pin.output) fabric.pins writable.ports) scope (omega (arith, standing.section)) refl
-      (every (λ pin. All (λ n. bytes_eq n (port_name pin) ≡ false) scope.assigned)
+      (outputs_of fabric) standing.stands.outputs (apart-filter (NamesDiffer port_name) (λ pin. pin.output) fabric.pins writable.ports) scope (omega (arith, standing.section)) refl
+      (All-every (λ pin. All (λ n. bytes_eq n (port_name pin) ≡ false) scope.assigned)
       (λ pin. subst (All (λ n. bytes_eq n (port_name pin) ≡ false)) (sym standing.assigned_is) (All-nil (λ n. bytes_eq n (port_name pin) ≡ false))) (outputs_of fabric)) in
       (found.0, standing-after fabric 5 6 [] (map port_name (outputs_of fabric)) scope (fold grown scope (map (output_assign fabric) (outputs_of fabric))) standing found.1)
 
@@ -198,9 +199,9 @@ module _ (fabric : Fabric) (within : IsWithin fabric) (writable : IsWritable fab
     flips-tick =
         let found =
         grows-assigned 7 (λ (pair : Lc × List ℕ). flip_name pair.0) (λ (pair : Lc × List ℕ). flip_item fabric pair.0 pair.1) (flip-one fabric) IsFlip scope.declared flips-next
-        (flip_pairs fabric) flips-are (pairs-apart (λ lc. clock_name fabric lc.clk) flip_name (flips_of fabric) (Apart-filter flip_name (λ lc. lc.flip) fabric.lcs writable.flips))
+        (flip_pairs fabric) flips-are (pairs-apart (λ lc. clock_name fabric lc.clk) flip_name (flips_of fabric) (apart-filter (NamesDiffer flip_name) (λ lc. lc.flip) fabric.lcs writable.flips))
         scope (omega (arith, standing.section)) refl
-        (every (λ (pair : Lc × List ℕ). All (λ n. bytes_eq n (flip_name pair.0) ≡ false) scope.assigned)
+        (All-every (λ (pair : Lc × List ℕ). All (λ n. bytes_eq n (flip_name pair.0) ≡ false) scope.assigned)
         (λ pair. subst (All (λ n. bytes_eq n (flip_name pair.0) ≡ false)) (sym standing.assigned_is)
         (names-absent port_name (outputs_of fabric) (flip_name pair.0) (λ pin. port-no_flip pin pair.0))) (flip_pairs fabric)) in
         subst (λ items. Grows scope items × Standing fabric 7 (after_flips fabric) (fold grown scope items)) (sym (clocked-map (λ lc. clock_name fabric lc.clk) (flip_item fabric) (flips_of fabric)))
@@ -242,7 +243,7 @@ module _ (fabric : Fabric) (within : IsWithin fabric) (writable : IsWritable fab
         grows-assigned 8 (λ (pair : RamCell × List ℕ). register_name pair.0) (λ (pair : RamCell × List ℕ). read_item fabric pair.0 pair.1) (read-one fabric) IsRead scope.declared reads-next
         (read_pairs fabric) reads-are (pairs-apart (λ ram. clock_name fabric ram.rclk) register_name fabric.rams writable.registers)
         scope (omega (arith, standing.section)) refl
-        (every (λ (pair : RamCell × List ℕ). All (λ n. bytes_eq n (register_name pair.0) ≡ false) scope.assigned)
+        (All-every (λ (pair : RamCell × List ℕ). All (λ n. bytes_eq n (register_name pair.0) ≡ false) scope.assigned)
         (λ pair. subst (All (λ n. bytes_eq n (register_name pair.0) ≡ false)) (sym standing.assigned_is) (reads-away pair.0)) (read_pairs fabric)) in
         subst (λ items. Grows scope items × Standing fabric 8 (after_reads fabric) (fold grown scope items)) (sym (clocked-map (λ ram. clock_name fabric ram.rclk) (read_item fabric) fabric.rams))
         (found.0, standing-after fabric 7 8 _ _ scope (fold grown scope (map (λ (pair : RamCell × List ℕ). read_item fabric pair.0 pair.1) (read_pairs fabric))) standing found.1)
@@ -284,7 +285,7 @@ module _ (fabric : Fabric) (within : IsWithin fabric) (writable : IsWritable fab
         grows-assigned 9 (λ (pair : RamCell × List ℕ). memory_name pair.0) (λ (pair : RamCell × List ℕ). write_item fabric pair.0 pair.1) (write-one fabric) IsWrite scope.declared writes-next
         (write_pairs fabric) writes-are (pairs-apart (λ ram. clock_name fabric ram.wclk) memory_name fabric.rams writable.memories)
         scope (omega (arith, standing.section)) refl
-        (every (λ (pair : RamCell × List ℕ). All (λ n. bytes_eq n (memory_name pair.0) ≡ false) scope.assigned)
+        (All-every (λ (pair : RamCell × List ℕ). All (λ n. bytes_eq n (memory_name pair.0) ≡ false) scope.assigned)
         (λ pair. subst (All (λ n. bytes_eq n (memory_name pair.0) ≡ false)) (sym standing.assigned_is) (writes-away pair.0)) (write_pairs fabric)) in
         subst (λ items. Grows scope items × Standing fabric 9 (after_writes fabric) (fold grown scope items)) (sym (clocked-map (λ ram. clock_name fabric ram.wclk) (write_item fabric) fabric.rams))
         (found.0, standing-after fabric 8 9 _ _ scope (fold grown scope (map (λ (pair : RamCell × List ℕ). write_item fabric pair.0 pair.1) (write_pairs fabric))) standing found.1)

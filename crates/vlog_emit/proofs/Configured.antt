@@ -1,7 +1,7 @@
 -- What holds of the fabric that a database and an image configure: its names are apart, its RAMs have all their ports and start
 -- words, and its drivers name parts that it has.
 use Rattle.std.proofs.Common.{◌≡◌, ℕ, zero, suc, ◌+◌, ◌<◌, Bool, true, false, List, [], ◌∷◌, ◌++◌, length, refl, sym, ap, ◌∙◌, subst, arith}
-use Rattle.std.specs.Prelude.{All, Contains, Option, Some, None, bytes_eq, not, filter, flat_map, if◌then◌else◌}
+use Rattle.std.specs.Prelude.{All, Contains, Option, Some, None, not, filter, flat_map, if◌then◌else◌}
 use Rattle.std.proofs.lemmas.List.{length-append}
 use Rattle.std.proofs.lemmas.List.Elements.{All-nil, All-cons, All-head, All-tail, All-append, All-weaker, All-contains}
 use Rattle.shared_lemmas.proofs.Bytes.{bytes_eq-apart}
@@ -31,10 +31,11 @@ use Rattle.net_extract.specs.Drivers.Rule.{pin_bit, sent_back, lut_entry, flip_b
 use Rattle.net_extract.proofs.OneValue.{each_below-length}
 use Rattle.net_extract.proofs.Within.{All-flat_map, All-item_if, All-if, All-single, All-over_tiles, All-numbered}
 use Rattle.vlog_emit.specs.Names.{two_numbers, three_numbers, port_name, flip_name, register_name, memory_name}
-use Rattle.vlog_emit.proofs.Lists.{Apart}
+use Rattle.vlog_emit.proofs.Lists.{NamesDiffer, Apart}
 use Rattle.vlog_emit.proofs.Rights.{IsPlaceIn}
 use Rattle.vlog_emit.proofs.Beginning.{IsStarted, IsPorted}
-use Rattle.vlog_emit.proofs.Apart.{IsSmall, two-same, three-same, Apart-gathered, Apart-item_if, Apart-if, Apart-over_tiles}
+use Rattle.net_extract.proofs.Apart.{apart-item_if, apart-gathered, apart-over_tiles}
+use Rattle.vlog_emit.proofs.Apart.{IsSmall, two-same, three-same}
 
 -- ---- lists
 
@@ -132,18 +133,18 @@ module _ (db : Database) (image : Configuration) where
   pub ports-apart : Apart port_name (pins_of db image)
   unfolding pins_of
   ports-apart =
-      Apart-over_tiles port_name PinSmall (λ pin. pin.x) (λ pin. pin.y)
+      apart-over_tiles (NamesDiffer port_name) PinSmall (λ pin. pin.x) (λ pin. pin.y)
       (λ a b of_a of_b other. bytes_eq-apart (port_name a) (port_name b) (λ same. other (pin-places a b of_a of_b same).0))
       (λ a b of_a of_b other. bytes_eq-apart (port_name a) (port_name b) (λ same. other (pin-places a b of_a of_b same).1))
       image.layout.device Io (λ x y. gathered_below 2 (port_at db image x y))
       (λ x y left low. All-gathered_below (λ pin. PinSmall pin × (pin.x ≡ x) × (pin.y ≡ y)) 2 (port_at db image x y)
       (λ n few. All-item_if (λ pin. PinSmall pin × (pin.x ≡ x) × (pin.y ≡ y)) (is_port (pintype_of db image x y n)) (pin_with db x y n (pintype_of db image x y n))
       (pin-at x y n (pintype_of db image x y n) left low few)))
-      (λ x y left low. Apart-gathered port_name PinSmall (λ pin. pin.n)
+      (λ x y left low. apart-gathered (NamesDiffer port_name) PinSmall (λ pin. pin.n)
       (λ a b of_a of_b other. bytes_eq-apart (port_name a) (port_name b) (λ same. other (pin-places a b of_a of_b same).2)) 2 (port_at db image x y)
       (λ n few. All-item_if (λ pin. PinSmall pin × (pin.n ≡ n)) (is_port (pintype_of db image x y n)) (pin_with db x y n (pintype_of db image x y n))
       ((pin-at x y n (pintype_of db image x y n) left low few).0, pin-number x y n (pintype_of db image x y n)))
-      (λ n few. Apart-item_if port_name (is_port (pintype_of db image x y n)) (pin_with db x y n (pintype_of db image x y n))))
+      (λ n few. apart-item_if (NamesDiffer port_name) (is_port (pintype_of db image x y n)) (pin_with db x y n (pintype_of db image x y n))))
 
   -- ---- cells
 
@@ -160,18 +161,18 @@ module _ (db : Database) (image : Configuration) where
   pub cells-apart : Apart flip_name (cells_of db image)
   unfolding cells_of cells_at
   cells-apart =
-      Apart-over_tiles flip_name CellSmall (λ lc. lc.x) (λ lc. lc.y)
+      apart-over_tiles (NamesDiffer flip_name) CellSmall (λ lc. lc.x) (λ lc. lc.y)
       (λ a b of_a of_b other. bytes_eq-apart (flip_name a) (flip_name b) (λ same. other (cell-places a b of_a of_b same).0))
       (λ a b of_a of_b other. bytes_eq-apart (flip_name a) (flip_name b) (λ same. other (cell-places a b of_a of_b same).1))
       image.layout.device Logic (cells_at db image)
       (λ x y left low. All-gathered_below (λ lc. CellSmall lc × (lc.x ≡ x) × (lc.y ≡ y)) 8 (used_cell db image x y)
       (λ i few. All-item_if (λ lc. CellSmall lc × (lc.x ≡ x) × (lc.y ≡ y)) _ (cell_with db image x y i (cell_bits db image x y i))
       (cell-at x y i (cell_bits db image x y i) left low few)))
-      (λ x y left low. Apart-gathered flip_name CellSmall (λ lc. lc.i)
+      (λ x y left low. apart-gathered (NamesDiffer flip_name) CellSmall (λ lc. lc.i)
       (λ a b of_a of_b other. bytes_eq-apart (flip_name a) (flip_name b) (λ same. other (cell-places a b of_a of_b same).2)) 8 (used_cell db image x y)
       (λ i few. All-item_if (λ lc. CellSmall lc × (lc.i ≡ i)) _ (cell_with db image x y i (cell_bits db image x y i))
       ((cell-at x y i (cell_bits db image x y i) left low few).0, cell-number x y i (cell_bits db image x y i)))
-      (λ i few. Apart-item_if flip_name _ (cell_with db image x y i (cell_bits db image x y i))))
+      (λ i few. apart-item_if (NamesDiffer flip_name) _ (cell_with db image x y i (cell_bits db image x y i))))
 
   -- ---- RAMs
 
@@ -184,13 +185,13 @@ module _ (db : Database) (image : Configuration) where
   pub rams-apart : (name : RamCell → List ℕ) → ((a b : RamCell) → RamSmall a → RamSmall b → name a ≡ name b → (a.x ≡ b.x) × (a.y ≡ b.y)) → Apart name (rams_of db image)
   unfolding rams_of
   rams-apart name places =
-      Apart-over_tiles name RamSmall (λ ram. ram.x) (λ ram. ram.y)
+      apart-over_tiles (NamesDiffer name) RamSmall (λ ram. ram.x) (λ ram. ram.y)
       (λ a b of_a of_b other. bytes_eq-apart (name a) (name b) (λ same. other (places a b of_a of_b same).0))
       (λ a b of_a of_b other. bytes_eq-apart (name a) (name b) (λ same. other (places a b of_a of_b same).1))
       image.layout.device RamB (λ x y. if is_ram_used db image x y then ram_at db image x y ∷ [] else [])
       (λ x y left low. All-if (λ ram. RamSmall ram × (ram.x ≡ x) × (ram.y ≡ y)) (is_ram_used db image x y) (ram_at db image x y ∷ [])
       (All-single (λ ram. RamSmall ram × (ram.x ≡ x) × (ram.y ≡ y)) (ram_at db image x y) (ram-placed x y left low)))
-      (λ x y left low. Apart-if name (is_ram_used db image x y) (ram_at db image x y ∷ []) (All-nil (λ ram. bytes_eq (name (ram_at db image x y)) (name ram) ≡ false), tt))
+      (λ x y left low. apart-item_if (NamesDiffer name) (is_ram_used db image x y) (ram_at db image x y))
 
   -- ---- start words and ports
 

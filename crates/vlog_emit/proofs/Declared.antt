@@ -18,9 +18,10 @@ use Rattle.net_extract.specs.declared.cell.Lc.{Lc}
 use Rattle.net_extract.specs.declared.ram.RamCell.{RamCell}
 use Rattle.net_extract.specs.declared.pin.Pin.{Pin}
 use Rattle.net_extract.specs.Fabric.{Fabric, flips_of}
+use Rattle.net_extract.proofs.Apart.{apart-filter, All-every}
 use Rattle.vlog_emit.specs.Names.{port_name, flip_name, register_name, memory_name}
 use Rattle.vlog_emit.specs.Written.{port_of, flip_register, read_register, ram_memory}
-use Rattle.vlog_emit.proofs.Lists.{Apart, Apart-filter, names-absent, map-map}
+use Rattle.vlog_emit.proofs.Lists.{NamesDiffer, Apart, names-absent, map-map}
 use Rattle.vlog_emit.proofs.Settled.{IsWritable, port-no_flip}
 use Rattle.vlog_emit.proofs.Grown.{grown, grown-section, grown-declared, grown-assigned, grown-started, Grows, Grows-append}
 
@@ -128,10 +129,6 @@ pub register-no_memory : (a b : RamCell) → bytes_eq (register_name a) (memory_
 unfolding register_name memory_name
 register-no_memory a b = refl
 
-pub every : {X : Type 0} (P : X → Type 0) → ((x : X) → P x) → (xs : List X) → All P xs
-every P each [] = All-nil P
-every P each (x ∷ xs) = All-cons P x xs (each x) (every P each xs)
-
 -- what ports and state declare
 abbrev pub state_names : Fabric → List (List ℕ × Sort)
 state_names fabric =
@@ -175,8 +172,8 @@ module _ (fabric : Fabric) (writable : IsWritable fabric) (named : AreNamed fabr
       × Declared scope-ports (fold grown scope-ports (map flip_register (flips_of fabric))) 2 (map (λ lc. (flip_name lc, sort.Register)) (flips_of fabric))
   flips-grow =
       grows-declared 2 sort.Register flip_name flip_register flips-one (flips_of fabric) scope-ports (omega (arith, ports-low))
-      (All-filter (λ lc. lc.flip) (λ lc. IsName (flip_name lc)) fabric.lcs named.flips) (Apart-filter flip_name (λ lc. lc.flip) fabric.lcs writable.flips)
-      (every (λ lc. All (λ n. bytes_eq n (flip_name lc) ≡ false) (names_of scope-ports.declared)) (λ lc.
+      (All-filter (λ lc. lc.flip) (λ lc. IsName (flip_name lc)) fabric.lcs named.flips) (apart-filter (NamesDiffer flip_name) (λ lc. lc.flip) fabric.lcs writable.flips)
+      (All-every (λ lc. All (λ n. bytes_eq n (flip_name lc) ≡ false) (names_of scope-ports.declared)) (λ lc.
       subst (All (λ n. bytes_eq n (flip_name lc) ≡ false)) (sym ports-names) (names-absent port_name fabric.pins (flip_name lc) (λ pin. port-no_flip pin lc))) (flips_of fabric))
 
   scope-flips : Scope
@@ -196,7 +193,7 @@ module _ (fabric : Fabric) (writable : IsWritable fabric) (named : AreNamed fabr
   registers-grow =
       grows-declared 3 sort.Word register_name read_register registers-one fabric.rams scope-flips (omega (arith, flips-grow.1.section))
       named.registers writable.registers
-      (every (λ ram. All (λ n. bytes_eq n (register_name ram) ≡ false) (names_of scope-flips.declared)) (λ ram.
+      (All-every (λ ram. All (λ n. bytes_eq n (register_name ram) ≡ false) (names_of scope-flips.declared)) (λ ram.
       subst (All (λ n. bytes_eq n (register_name ram) ≡ false)) (sym flips-names)
       (All-append (λ n. bytes_eq n (register_name ram) ≡ false) (map port_name fabric.pins) (map flip_name (flips_of fabric))
       (names-absent port_name fabric.pins (register_name ram) (λ pin. port-no_register pin ram))
@@ -219,7 +216,7 @@ module _ (fabric : Fabric) (writable : IsWritable fabric) (named : AreNamed fabr
   memories-grow =
       grows-declared 4 sort.Memory memory_name ram_memory memories-one fabric.rams scope-registers (omega (arith, registers-grow.1.section))
       named.memories writable.memories
-      (every (λ ram. All (λ n. bytes_eq n (memory_name ram) ≡ false) (names_of scope-registers.declared)) (λ ram.
+      (All-every (λ ram. All (λ n. bytes_eq n (memory_name ram) ≡ false) (names_of scope-registers.declared)) (λ ram.
       subst (All (λ n. bytes_eq n (memory_name ram) ≡ false)) (sym registers-names)
       (All-append (λ n. bytes_eq n (memory_name ram) ≡ false) (map port_name fabric.pins ++ map flip_name (flips_of fabric)) (map register_name fabric.rams)
       (All-append (λ n. bytes_eq n (memory_name ram) ≡ false) (map port_name fabric.pins) (map flip_name (flips_of fabric))

@@ -1,5 +1,5 @@
 -- The run of the written module and the run of the fabric match after the start and after each event of each list.
-use Rattle.std.proofs.Common.{◌≡◌, ℕ, zero, suc, ◌+◌, ◌<◌, Bool, true, false, List, [], ◌∷◌, ◌++◌, length, map, get_or, set, fold, refl, sym, ap, ◌∙◌, subst, arith, inl, inr, map-id}
+use Rattle.std.proofs.Common.{◌≡◌, ℕ, suc, ◌+◌, ◌<◌, Bool, true, false, List, [], ◌∷◌, ◌++◌, length, map, get_or, set, fold, refl, sym, ap, ◌∙◌, subst, arith, inl, inr, map-id}
 use Rattle.std.specs.Prelude.{All, Contains, Option, Some, None, flat_map}
 use Rattle.std.specs.List.{AllZip}
 use Rattle.std.proofs.lemmas.Bool.{cases_Bool}
@@ -16,9 +16,11 @@ use Rattle.vlog_module.specs.Parts.{Parts}
 use Rattle.vlog_cycle.specs.Entries.{Entry as ModuleEntry}
 use Rattle.vlog_cycle.specs.Named.{names_of, values_of}
 use Rattle.vlog_cycle.specs.Run.{readable, register_step, word_step, memory_step, with_input, changed, is_same_bit, input_bit, followed, run_from, start, module_run}
+use Rattle.vlog_cycle.proofs.Entering.{names-input, values-input}
 use Rattle.net_extract.specs.declared.cell.Lc.{Lc}
 use Rattle.net_extract.specs.declared.ram.RamCell.{RamCell}
 use Rattle.net_extract.specs.Fabric.{Fabric, numbered_from, numbered, inputs_of, flips_of}
+use Rattle.net_extract.proofs.Apart.{apart-filter, apart-numbered}
 use Rattle.net_extract.specs.Drivers.{is_driven}
 use Rattle.net_extract.specs.Values.{State, bit_in, is_connected}
 use Rattle.net_extract.specs.Steps.{has_edge, flip_after, words_after, register_after, state_after, Event, Entry, IsEntry, Follows, FollowEach, IsRun}
@@ -30,7 +32,7 @@ use Rattle.net_extract.proofs.Runs.{IsPlaced, IsClocked, clock_bit, flip-good, r
 use Rattle.vlog_emit.specs.Names.{port_name, flip_name, register_name, memory_name}
 use Rattle.vlog_emit.specs.Written.{clock_name, flip_items, read_items, write_items, items_of, module_of}
 use Rattle.vlog_emit.specs.Matching.{HasValues, Matches, module_event}
-use Rattle.vlog_emit.proofs.Lists.{Apart-filter, Apart-numbered, flat_map-numbered, map-map, entries-are, made-names, made-values, value_in-at}
+use Rattle.vlog_emit.proofs.Lists.{NamesDiffer, flat_map-numbered, map-map, entries-are, made-names, made-values, value_in-at}
 use Rattle.vlog_emit.proofs.Sections.{fold-section, flips-section, reads-section, writes-section}
 use Rattle.vlog_emit.proofs.Fills.{FillsOwn, filled}
 use Rattle.vlog_emit.proofs.Rights.{Gives}
@@ -45,16 +47,6 @@ use Rattle.vlog_emit.proofs.Clocked.{register-skips, word-skips, memory-skips, f
 values-count : {X A : Type 0} (name : X → List ℕ) (xs : List X) (entries : List (List ℕ × A)) (values : List A) → HasValues entries (map name xs) values → length values ≡ length xs
 values-count name xs entries values has =
     omega (arith, ap length has.valued, ap length has.named, length-map entries (λ entry. entry.1), length-map entries (λ entry. entry.0), length-map xs name)
-
-with_input-names : (inputs : List (List ℕ × Bool)) (pin : ℕ) (bit : Bool) → names_of (with_input inputs pin bit) ≡ names_of inputs
-with_input-names [] pin bit = refl
-with_input-names (input ∷ inputs) zero bit = refl
-with_input-names (input ∷ inputs) (suc pin) bit = ap (λ list. input.0 ∷ list) (with_input-names inputs pin bit)
-
-with_input-values : (inputs : List (List ℕ × Bool)) (pin : ℕ) (bit : Bool) → values_of (with_input inputs pin bit) ≡ set (values_of inputs) pin bit
-with_input-values [] pin bit = refl
-with_input-values (input ∷ inputs) zero bit = refl
-with_input-values (input ∷ inputs) (suc pin) bit = ap (λ list. input.1 ∷ list) (with_input-values inputs pin bit)
 
 same-bits : (bit old : Bool) → is_same_bit bit old ≡ true → old ≡ bit
 same-bits true true same = refl
@@ -164,8 +156,8 @@ module _ (device : DeviceName) (fabric : Fabric) (taken : fabric_fault device fa
 
       inputs-after : HasValues (with_input held.inputs event.pin event.bit) (map port_name (inputs_of fabric)) after.pins
       inputs-after = record {
-        named = with_input-names held.inputs event.pin event.bit ∙ match.inputs.named;
-        valued = with_input-values held.inputs event.pin event.bit ∙ (ap (λ values. set values event.pin event.bit) match.inputs.valued ∙ sym follows.pins);
+        named = names-input held.inputs event.pin event.bit ∙ match.inputs.named;
+        valued = values-input held.inputs event.pin event.bit ∙ (ap (λ values. set values event.pin event.bit) match.inputs.valued ∙ sym follows.pins);
       }
 
       -- the memory at a RAM's place
@@ -205,7 +197,7 @@ module _ (device : DeviceName) (fabric : Fabric) (taken : fabric_fault device fa
           ∙ (ap (λ given. fold step given (flat_map (λ (place : ℕ × Lc). flip_items fabric place.1) (numbered (flips_of fabric))))
           (entries-are flip_name false (flips_of fabric) before.state.flips held.registers match.registers.named match.registers.valued)
           ∙ filled (λ (place : ℕ × Lc). flip_name place.1) step (λ place. flip_items fabric place.1) flip_new flips-fill (λ place. get_or before.state.flips place.0 false)
-          (numbered (flips_of fabric)) (Apart-numbered flip_name 0 (flips_of fabric) (Apart-filter flip_name (λ lc. lc.flip) fabric.lcs writable.flips))))
+          (numbered (flips_of fabric)) (apart-numbered (NamesDiffer flip_name) 0 (flips_of fabric) (apart-filter (NamesDiffer flip_name) (λ lc. lc.flip) fabric.lcs writable.flips))))
 
       flips-after : map (λ (place : ℕ × Lc). flip_new place (get_or before.state.flips place.0 false)) (numbered (flips_of fabric)) ≡ after.state.flips
       unfolding state_after
@@ -243,7 +235,7 @@ module _ (device : DeviceName) (fabric : Fabric) (taken : fabric_fault device fa
           ∙ (ap (λ given. fold step given (flat_map (λ (place : ℕ × RamCell). read_items fabric place.1) (numbered fabric.rams)))
           (entries-are register_name 0 fabric.rams (map word_of before.state.registers) held.words match.words.named match.words.valued)
           ∙ filled (λ (place : ℕ × RamCell). register_name place.1) step (λ place. read_items fabric place.1) read_new reads-fill (λ place. get_or (map word_of before.state.registers) place.0 0)
-          (numbered fabric.rams) (Apart-numbered register_name 0 fabric.rams writable.registers)))
+          (numbered fabric.rams) (apart-numbered (NamesDiffer register_name) 0 fabric.rams writable.registers)))
 
       read-goods : All (λ (place : ℕ × RamCell). IsClocked fabric place.1.rclk) (numbered fabric.rams)
       read-goods =
@@ -290,7 +282,7 @@ module _ (device : DeviceName) (fabric : Fabric) (taken : fabric_fault device fa
           ∙ (ap (λ given. fold step given (flat_map (λ (place : ℕ × RamCell). write_items fabric place.1) (numbered fabric.rams)))
           (entries-are memory_name [] fabric.rams (map (map word_of) before.state.words) held.memories match.memories.named match.memories.valued)
           ∙ filled (λ (place : ℕ × RamCell). memory_name place.1) step (λ place. write_items fabric place.1) write_new writes-fill (λ place. get_or (map (map word_of) before.state.words) place.0 [])
-          (numbered fabric.rams) (Apart-numbered memory_name 0 fabric.rams writable.memories)))
+          (numbered fabric.rams) (apart-numbered (NamesDiffer memory_name) 0 fabric.rams writable.memories)))
 
       write-goods : All (λ (place : ℕ × RamCell). IsClocked fabric place.1.wclk × IsPorted place.1) (numbered fabric.rams)
       write-goods =

@@ -15,11 +15,12 @@ use Rattle.vlog_cycle.specs.Named.{names_of}
 use Rattle.net_extract.specs.declared.ram.RamCell.{RamCell}
 use Rattle.net_extract.specs.declared.pin.Pin.{Pin}
 use Rattle.net_extract.specs.Fabric.{Fabric, inputs_of, outputs_of, flips_of}
+use Rattle.net_extract.proofs.Apart.{apart-filter}
 use Rattle.net_extract.specs.Wiring.{has}
 use Rattle.net_extract.proofs.Order.{has-none, has-cases}
 use Rattle.vlog_emit.specs.Names.{port_name, flip_name, register_name, memory_name, wire_name}
 use Rattle.vlog_emit.specs.Written.{port_of}
-use Rattle.vlog_emit.proofs.Lists.{Apart, Apart-filter, value_in-front, value_in-behind, names-absent, map-map, All-pick}
+use Rattle.vlog_emit.proofs.Lists.{NamesDiffer, Apart, value_in-front, value_in-behind, names-absent, map-map, All-pick}
 use Rattle.vlog_emit.proofs.Settled.{IsWritable, port-no_flip, port-no_wire, flip-no_wire}
 use Rattle.vlog_emit.proofs.Declared.{AreNamed, StateLeft, port-no_register, port-no_memory, flip-no_register, flip-no_memory, register-no_memory}
 use Rattle.vlog_emit.proofs.Used.{IsThere, Knows, there-more}
@@ -152,7 +153,7 @@ module _ (fabric : Fabric) (writable : IsWritable fabric) (named : AreNamed fabr
   flip-sorts =
       subst (λ list. All (IsSorted flip_name (λ lc. sort.Register) list) (flips_of fabric)) (sym state-is)
       (sorted-front flip_name (λ lc. sort.Register) ((ports ++ flips) ++ words) memories (flips_of fabric)
-      (sorted-between flip_name (λ lc. sort.Register) ports words (flips_of fabric) (Apart-filter flip_name (λ lc. lc.flip) fabric.lcs writable.flips)
+      (sorted-between flip_name (λ lc. sort.Register) ports words (flips_of fabric) (apart-filter (NamesDiffer flip_name) (λ lc. lc.flip) fabric.lcs writable.flips)
       (λ lc. no-name-of port_name (λ pin. port_sort (port_of pin)) fabric.pins (flip_name lc) (λ pin. port-no_flip pin lc))))
 
   word-sorts : All (IsSorted register_name (λ ram. sort.Word) scope.declared) fabric.rams

@@ -18,7 +18,7 @@ pub mod Ticks
 pub mod Clocked
 -- the run of the written module and the run of the fabric match after the start and after each event of each list
 pub mod Headline
--- the names of a configured fabric's parts are apart: no two pins, cells or RAMs stand at one place
+-- names with other numbers are apart
 pub mod Apart
 -- what holds of the fabric that a database and an image configure: its names are apart, its RAMs have all their ports and start
 -- words, and its drivers name parts that it has

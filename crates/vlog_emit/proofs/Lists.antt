@@ -1,42 +1,25 @@
 -- Lists of names with their values.
-use Rattle.std.proofs.Common.{◌≡◌, ℕ, zero, suc, ◌<◌, Bool, false, List, [], ◌∷◌, ◌++◌, length, map, get_or, refl, sym, ap, ◌∙◌, subst, arith, inl, inr, append_assoc}
-use Rattle.std.specs.Prelude.{All, Some, filter, flat_map, bytes_eq}
+use Rattle.std.proofs.Common.{◌≡◌, ℕ, zero, suc, ◌<◌, false, List, [], ◌∷◌, ◌++◌, length, map, get_or, refl, sym, ap, ◌∙◌, subst, arith, inl, inr, append_assoc}
+use Rattle.std.specs.Prelude.{All, Some, flat_map, bytes_eq}
 use Rattle.std.proofs.lemmas.Bool.{cases_Bool}
 use Rattle.std.proofs.lemmas.List.{length_push}
-use Rattle.std.proofs.lemmas.List.Elements.{All-nil, All-cons, All-head, All-tail, All-filter}
+use Rattle.std.proofs.lemmas.List.Elements.{All-nil, All-cons, All-head, All-tail}
 use Rattle.std.proofs.Math.Seq.{get_or-append_seam}
 use Rattle.shared_lemmas.proofs.Bytes.{bytes_eq-same}
 use Rattle.vlog_module.specs.Maps.{value_in}
 use Rattle.vlog_cycle.specs.Named.{names_of, values_of}
 use Rattle.net_extract.specs.Fabric.{numbered_from, numbered}
+use Rattle.net_extract.proofs.Apart.{AreApart}
 
 -- ---- names
 
+-- two items have different names
+abbrev pub NamesDiffer : {X : Type 0} → (X → List ℕ) → X → X → Type 0
+NamesDiffer name one two = bytes_eq (name one) (name two) ≡ false
+
 -- items whose names are apart
 abbrev pub Apart : {X : Type 0} → (X → List ℕ) → List X → Type 0
-Apart name [] = Unit {0}
-Apart name (x ∷ xs) = All (λ y. bytes_eq (name x) (name y) ≡ false) xs × Apart name xs
-
-module _ {X : Type 0} (name : X → List ℕ) where
-  pub Apart-filter : (test : X → Bool) (xs : List X) → Apart name xs → Apart name (filter test xs)
-  Apart-filter test [] apart = tt
-  Apart-filter test (x ∷ xs) apart =
-      elim (cases_Bool (test x)) [
-        | inl here ↦ rw here (All-filter test (λ y. bytes_eq (name x) (name y) ≡ false) xs apart.0, Apart-filter test xs apart.1)
-        | inr away ↦ rw away (Apart-filter test xs apart.1)
-      ]
-
-  All-behind : (P : X → Type 0) (place : ℕ) (xs : List X) → All P xs → All (λ (pair : ℕ × X). P pair.1) (numbered_from place xs)
-  unfolding numbered_from
-  All-behind P place [] all = All-nil (λ (pair : ℕ × X). P pair.1)
-  All-behind P place (x ∷ xs) all =
-      All-cons (λ (pair : ℕ × X). P pair.1) (place, x) (numbered_from (suc place) xs) (All-head P x xs all) (All-behind P (suc place) xs (All-tail P x xs all))
-
-  pub Apart-numbered : (place : ℕ) (xs : List X) → Apart name xs → Apart (λ (pair : ℕ × X). name pair.1) (numbered_from place xs)
-  unfolding numbered_from
-  Apart-numbered place [] apart = tt
-  Apart-numbered place (x ∷ xs) apart =
-      (All-behind (λ y. bytes_eq (name x) (name y) ≡ false) (suc place) xs apart.0, Apart-numbered (suc place) xs apart.1)
+Apart name xs = AreApart (NamesDiffer name) xs
 
 -- ---- places
 

@@ -7,10 +7,8 @@ use Rattle.std.proofs.lemmas.List.Elements.{All-nil, All-head, All-tail, All-map
 use Rattle.plane_map.proofs.Grids.{kind_of-inside}
 use Rattle.place_search.proofs.Gathered.{All-gathered_below, Contains-gathered_below}
 use Rattle.shared_lemmas.proofs.Tests.{first_true}
-use Rattle.plane_map.specs.declared.device.DeviceName.{DeviceName}
 use Rattle.plane_map.specs.Devices.{is_same_device}
 use Rattle.plane_map.proofs.Devices.{one-device}
-use Rattle.plane_map.specs.declared.device.DeviceName.TheVariants.{K1, K8}
 use Rattle.plane_map.specs.declared.tile.TileKind.TheVariants.{Io}
 use Rattle.plane_map.specs.Layout.{kind_of, grid_width, grid_height}
 use Rattle.ice_image.specs.Configuration.{Configuration}

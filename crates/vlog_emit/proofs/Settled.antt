@@ -18,6 +18,7 @@ use Rattle.vlog_cycle.specs.Run.{output_start, wire_step, output_step, settled}
 use Rattle.net_extract.specs.declared.cell.Lc.{Lc}
 use Rattle.net_extract.specs.declared.pin.Pin.{Pin}
 use Rattle.net_extract.specs.Fabric.{Fabric, inputs_of, outputs_of, flips_of}
+use Rattle.net_extract.proofs.Apart.{apart-filter}
 use Rattle.net_extract.specs.Drivers.{Drive, drives_of, is_driven}
 use Rattle.net_extract.specs.Values.{State, input_or_0, bit_in, is_connected, IsConsistent}
 use Rattle.net_extract.specs.Steps.{Entry, output_values, IsEntry}
@@ -30,7 +31,7 @@ use Rattle.vlog_emit.specs.Names.{port_name, flip_name, register_name, memory_na
 use Rattle.vlog_emit.specs.Rights.{atom_or_0, input_name, flip_at, register_at, class_right}
 use Rattle.vlog_emit.specs.Written.{port_of, class_wire, output_assign, items_of, module_of}
 use Rattle.vlog_emit.specs.Matching.{HasValues, HasWires, Matches}
-use Rattle.vlog_emit.proofs.Lists.{Apart, Apart-filter, value_in-front, value_in-behind, value_in-at, names-absent, map-map}
+use Rattle.vlog_emit.proofs.Lists.{NamesDiffer, Apart, value_in-front, value_in-behind, value_in-at, names-absent, map-map}
 use Rattle.vlog_emit.proofs.Sections.{Skips, fold-section, wires-section, assigns-section}
 use Rattle.vlog_emit.proofs.Fills.{FillsOwn, filled}
 use Rattle.vlog_emit.proofs.Rights.{IsPlaceIn, Gives, atom-value, class-written}
@@ -164,10 +165,10 @@ output-fills fabric from = record {
 module _ (fabric : Fabric) (within : IsWithin fabric) (writable : IsWritable fabric) (state : State) (pins v : List Bool) (is : IsConsistent fabric state pins v)
     (inputs registers : List (List ℕ × Bool)) (words : List (List ℕ × ℕ)) (holding : Holding fabric state pins inputs registers words) where
   inputs-apart : Apart port_name (inputs_of fabric)
-  inputs-apart = Apart-filter port_name (λ pin. not pin.output) fabric.pins writable.ports
+  inputs-apart = apart-filter (NamesDiffer port_name) (λ pin. not pin.output) fabric.pins writable.ports
 
   flips-apart : Apart flip_name (flips_of fabric)
-  flips-apart = Apart-filter flip_name (λ lc. lc.flip) fabric.lcs writable.flips
+  flips-apart = apart-filter (NamesDiffer flip_name) (λ lc. lc.flip) fabric.lcs writable.flips
 
   pin-there : (place : ℕ) → place < length (inputs_of fabric) → value_in inputs (input_name fabric place) ≡ Some (get_or pins place false)
   pin-there place there =
@@ -301,7 +302,7 @@ module _ (fabric : Fabric) (within : IsWithin fabric) (writable : IsWritable fab
         (assigns-section fabric order ∙ sym (flat_map_single (output_assign fabric) (outputs_of fabric)))
         ∙ (ap (λ given. fold (output_step from_all) given (flat_map (λ pin. output_assign fabric pin ∷ []) (outputs_of fabric))) (outputs-start fabric.pins)
         ∙ filled port_name (output_step from_all) (λ pin. output_assign fabric pin ∷ []) (λ pin old. atom_value from_all (atom_or_0 fabric pin.dout))
-        (output-fills fabric from_all) (λ pin. false) (outputs_of fabric) (Apart-filter port_name (λ pin. pin.output) fabric.pins writable.ports)))
+        (output-fills fabric from_all) (λ pin. false) (outputs_of fabric) (apart-filter (NamesDiffer port_name) (λ pin. pin.output) fabric.pins writable.ports)))
 
     outputs-hold : HasValues (map (λ pin. (port_name pin, atom_value from_all (atom_or_0 fabric pin.dout))) (outputs_of fabric))
         (map port_name (outputs_of fabric)) (output_values fabric v)

@@ -12,6 +12,7 @@ use Rattle.vlog_cycle.specs.Numbered.{numbered as counted}
 use Rattle.vlog_cycle.specs.Run.{input_names, pin_of, is_pin, is_edge, is_same_bit}
 use Rattle.net_extract.specs.declared.pin.Pin.{Pin}
 use Rattle.net_extract.specs.Fabric.{Fabric, inputs_of}
+use Rattle.net_extract.proofs.Apart.{apart-filter}
 use Rattle.net_extract.specs.Drivers.{Rule, is_driven}
 use Rattle.net_extract.specs.Drivers.Rule.{pin_bit, sent_back, lut_entry, flip_bit, carry_out, one, register_bit, copied}
 use Rattle.net_extract.specs.Values.{bit_in}
@@ -29,7 +30,7 @@ use Rattle.vlog_emit.specs.Names.{port_name}
 use Rattle.vlog_emit.specs.Rights.{input_name}
 use Rattle.vlog_emit.specs.Written.{end_name, clock_name, port_of}
 use Rattle.vlog_emit.specs.Matching.{module_event}
-use Rattle.vlog_emit.proofs.Lists.{Apart, Apart-filter, All-pick, map-map}
+use Rattle.vlog_emit.proofs.Lists.{NamesDiffer, Apart, All-pick, map-map}
 use Rattle.vlog_emit.proofs.Rights.{IsPlaceIn}
 use Rattle.vlog_emit.proofs.Settled.{IsWritable}
 use Rattle.vlog_emit.proofs.Beginning.{inputs-start}
@@ -79,7 +80,7 @@ pub pin-place : (fabric : Fabric) → IsWritable fabric → (place : ℕ) → pl
 pin-place fabric writable place there =
     let zero_more : 0 + place ≡ place = omega arith in
     ap (λ names. value_in (counted 0 names) (input_name fabric place)) (input_names-are fabric.pins)
-    ∙ (pin-from port_name (inputs_of fabric) 0 place (Apart-filter port_name (λ pin. not pin.output) fabric.pins writable.ports) there
+    ∙ (pin-from port_name (inputs_of fabric) 0 place (apart-filter (NamesDiffer port_name) (λ pin. not pin.output) fabric.pins writable.ports) there
     ∙ ap (λ n. Some n) zero_more)
 
 -- ---- chains end at pins that are there

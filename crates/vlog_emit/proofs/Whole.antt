@@ -11,6 +11,7 @@ use Rattle.vlog_module.specs.Names.{IsName}
 use Rattle.vlog_module.specs.WellFormed.{Scope, scope_of, IsRight, IsComplete, IsModule}
 use Rattle.net_extract.specs.declared.ram.RamCell.{RamCell}
 use Rattle.net_extract.specs.Fabric.{Fabric, numbered, outputs_of, flips_of}
+use Rattle.net_extract.proofs.Apart.{apart-numbered, All-every}
 use Rattle.net_extract.specs.Drivers.{is_driven}
 use Rattle.net_extract.specs.Wiring.{wiring_of, has, IsWriteOrder}
 use Rattle.net_extract.proofs.Order.{order-continues}
@@ -19,12 +20,12 @@ use Rattle.net_extract.proofs.Within.{All-numbered}
 use Rattle.vlog_emit.specs.Names.{port_name, memory_name, wire_name}
 use Rattle.vlog_emit.specs.Rights.{class_right}
 use Rattle.vlog_emit.specs.Written.{port_of, flip_register, read_register, ram_memory, class_wire, output_assign, flip_items, read_items, write_items, start_items, items_of, module_of}
-use Rattle.vlog_emit.proofs.Lists.{Apart-numbered, map-map, value_in-behind}
+use Rattle.vlog_emit.proofs.Lists.{NamesDiffer, map-map, value_in-behind}
 use Rattle.vlog_emit.proofs.Settled.{IsWritable}
 use Rattle.vlog_emit.proofs.Beginning.{IsStarted}
 use Rattle.vlog_emit.proofs.Named.{wire-named, distinct-names}
 use Rattle.vlog_emit.proofs.Grown.{grown, Grows, Grows-append, grows-begun}
-use Rattle.vlog_emit.proofs.Declared.{AreNamed, StateLeft, Declared, every, state-grows, state-left}
+use Rattle.vlog_emit.proofs.Declared.{AreNamed, StateLeft, Declared, state-grows, state-left}
 use Rattle.vlog_emit.proofs.Used.{IsThere}
 use Rattle.vlog_emit.proofs.Wired.{wires-grow}
 use Rattle.vlog_emit.proofs.Known.{Stands, stands-more, stands-knows, state-stands, state-no_wire, state-knows, wire-listed}
@@ -76,9 +77,9 @@ module _ (fabric : Fabric) (within : IsWithin fabric) (writable : IsWritable fab
 
   starts-end : (scope : Scope) → Standing fabric 9 (after_writes fabric) scope → Grows scope (flat_map (start_items fabric) (numbered fabric.rams))
   starts-end scope standing =
-      all-start fabric shapely.words (numbered fabric.rams) (Apart-numbered memory_name 0 fabric.rams writable.memories) scope (omega (arith, standing.section))
+      all-start fabric shapely.words (numbered fabric.rams) (apart-numbered (NamesDiffer memory_name) 0 fabric.rams writable.memories) scope (omega (arith, standing.section))
       (All-numbered (λ ram. IsThere scope (memory_name ram) sort.Memory) 0 fabric.rams standing.stands.memories)
-      (every (λ (place : ℕ × RamCell). NotStarted scope.started place.1)
+      (All-every (λ (place : ℕ × RamCell). NotStarted scope.started place.1)
       (λ place. subst (λ list. NotStarted list place.1) (sym standing.started_is) (All-nil (λ (p : List ℕ × ℕ). bytes_eq p.0 (memory_name place.1) ≡ false))) (numbered fabric.rams))
 
   clocked-end : (scope : Scope) → Standing fabric 6 (map port_name (outputs_of fabric)) scope

@@ -3,6 +3,7 @@ use Rattle.std.proofs.Common.{◌≡◌, ℕ, ◌+◌, ◌<◌, ◌≤◌, Bool,
 use Rattle.std.specs.List.{list_any}
 use Rattle.std.proofs.lemmas.List.{take_all}
 use Rattle.std.proofs.lemmas.List.Folds.{list_any_more}
+use Rattle.std.proofs.Math.Bool.{or_assoc}
 use Rattle.bit_plane.specs.Rows.{Rows, IsGrid, bit_at, blank}
 use Rattle.bit_plane.proofs.Grids.{IsGrid-blank, bit_at-blank}
 use Rattle.tile_bits.specs.Inside.{Adds, Knows}
@@ -11,13 +12,9 @@ or-false : (a b : Bool) → b ≡ false → a ≡ (a || b)
 or-false true b is = refl
 or-false false b is = sym is
 
-or-assoc : (a b c : Bool) → ((a || b) || c) ≡ (a || (b || c))
-or-assoc true b c = refl
-or-assoc false b c = refl
-
 or-more : (a b c old mid new all : Bool) → mid ≡ (old || a) → new ≡ (mid || b) → all ≡ (a || b) → new ≡ (old || all)
 or-more a b c old mid new all first second same =
-    second ∙ ap (λ m. m || b) first ∙ or-assoc old a b ∙ ap (λ t. old || t) (sym same)
+    second ∙ ap (λ m. m || b) first ∙ or_assoc old a b ∙ ap (λ t. old || t) (sym same)
 
 module _ (before : Rows) where
   -- no bit is added

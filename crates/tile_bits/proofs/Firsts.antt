@@ -1,5 +1,6 @@
 -- The first item of each key: items that are put into an index from the last to the first.
 use Rattle.std.proofs.Common.{◌≡◌, ℕ, ◌+◌, ◌-◌, ◌<◌, ◌≤◌, Bool, ◌&&◌, ◌==◌, true, false, cond, List, [], length, get_or, drop, refl, sym, ap, ◌∙◌, subst, arith}
+use Rattle.std.proofs.Math.Bool.{and_assoc}
 use Rattle.std.specs.Prelude.{find, option_map, Option, Some, None}
 use Rattle.std.specs.declared.cmp.Ordering.{Ordering}
 use Rattle.std.specs.declared.cmp.Ordering.TheVariants.{Less, Equal, Greater}
@@ -29,17 +30,13 @@ is_eq-then Less b = refl
 is_eq-then Equal b = refl
 is_eq-then Greater b = refl
 
-and-left : (a b c : Bool) → (a && (b && c)) ≡ ((a && b) && c)
-and-left true b c = refl
-and-left false b c = refl
-
 -- places are the same key where all their parts are
 pub place-ties : (a b : Place) → is_eq (place_cmp (place_key a) (place_key b)) ≡ is_same_place a b
 place-ties a b =
     is_eq-then (nat_cmp a.bank b.bank) (ordering_then (nat_cmp a.px b.px) (nat_cmp a.py b.py))
     ∙ ap (λ t. is_eq (nat_cmp a.bank b.bank) && t) (is_eq-then (nat_cmp a.px b.px) (nat_cmp a.py b.py))
     ∙ (λ i. sym (unsigned_ties a.bank b.bank) i && (sym (unsigned_ties a.px b.px) i && sym (unsigned_ties a.py b.py) i))
-    ∙ and-left (a.bank == b.bank) (a.px == b.px) (a.py == b.py)
+    ∙ sym (and_assoc (a.bank == b.bank) (a.px == b.px) (a.py == b.py))
 
 -- no item so far
 finds-none : {A : Type 0} (test : A → Bool) (items : List A) (n : ℕ) (found : Option A) → length items ≤ n → found ≡ None → found ≡ find test (drop n items)

@@ -2,12 +2,12 @@
 use Rattle.std.proofs.Common.{◌≡◌, Bool, true, false, cond, ◌||◌, None, ltb, ℕ, ◌+◌, ◌<◌, ◌≤◌, List, [], ◌∷◌, ◌++◌, length, get_or, map, take, Some, refl, sym, ap, ◌∙◌, subst, arith, append_assoc, append-nil}
 use Rattle.std.specs.Prelude.{slice_get, find, position, All, Option, option_map}
 use Rattle.std.specs.List.{list_any, position_or_len}
-use Rattle.std.proofs.lemmas.Bool.{ltb-true, ltb-false}
-use Rattle.std.proofs.lemmas.List.Folds.{find_at}
-use Rattle.std.proofs.lemmas.Option.{slice_get-get_or, slice_get-map, slice_get_within, slice_get_past, get_or_from_slice_get}
+use Rattle.std.proofs.lemmas.Bool.{ltb-true}
+use Rattle.std.proofs.lemmas.Option.{cond_some, slice_get-get_or, slice_get-map, slice_get_within, get_or_from_slice_get}
 use Rattle.std.proofs.lemmas.List.{get_or-map, length-map, take_more, take_all, map_push}
 use Rattle.place_search.specs.Places.{gathered_below}
 use Rattle.place_search.proofs.Places.{gathered_below-more}
+use Rattle.net_extract.proofs.Listed.{find-at_position}
 
 -- one place more, behind what was there
 pub gathered-next : {A : Type 0} (n : ℕ) (given : ℕ → List A) (first now after here : List A) → now ≡ first ++ gathered_below n given → after ≡ now ++ here → here ≡ given n → after ≡ first ++ gathered_below (n + 1) given
@@ -82,29 +82,14 @@ any-map f (x ∷ xs) = ap (λ b. f x || b) (any-map f xs)
 
 -- ---- the first place that passes
 
-module _ (n : ℕ) where
-  chosen : (b : Bool) (k : ℕ) → cond b (Some n) None ≡ Some k → (b ≡ true) × (n ≡ k)
-  chosen true k is = (refl, cc)
-  chosen false k is = absurd cc
-
-  missed : (b : Bool) → cond b (Some n) None ≡ None → b ≡ false
-  missed true is = absurd cc
-  missed false is = refl
-
 module _ {A : Type 0} (p : A → Bool) (xs : List A) where
   -- it is in the list
   pub position-below : (k : ℕ) → position p xs ≡ Some k → k < length xs
   position-below k here =
-      let is = chosen (position_or_len p xs) (ltb (position_or_len p xs) (length xs)) k here in
+      let is = cond_some (ltb (position_or_len p xs) (length xs)) (position_or_len p xs) k here in
       let lt : position_or_len p xs < length xs = ltb-true (position_or_len p xs) (length xs) is.0 in
       subst (λ n. n < length xs) is.1 lt
 
   -- and the first item that passes stands there
   pub find-some : (k : ℕ) (x : A) → position p xs ≡ Some k → slice_get xs k ≡ Some x → find p xs ≡ Some x
-  find-some k x some here =
-      find_at p xs ∙ ap (slice_get xs) (chosen (position_or_len p xs) (ltb (position_or_len p xs) (length xs)) k some).1 ∙ here
-
-  -- where there is none, no item passes
-  pub find-none : position p xs ≡ None → find p xs ≡ None
-  find-none none =
-      find_at p xs ∙ slice_get_past xs (position_or_len p xs) (ltb-false (position_or_len p xs) (length xs) (missed (position_or_len p xs) (ltb (position_or_len p xs) (length xs)) none))
+  find-some k x some here = find-at_position p xs k some ∙ here

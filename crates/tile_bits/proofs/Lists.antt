@@ -10,6 +10,7 @@ use Rattle.ice_image.specs.Configuration.{Configuration}
 use Rattle.chipdb_reader.specs.Database.{Link}
 use Rattle.net_extract.specs.On.{is_link_on}
 use Rattle.tile_bits.specs.Items.{link_here, is_on_at}
+use Rattle.tile_bits.proofs.Ons.{none-where}
 use Rattle.tile_bits.specs.Inside.{AreLists, lists_of, with_place}
 
 -- a place is added to one of the vectors
@@ -33,10 +34,6 @@ no-link : (p q : Bool) → (p && (q && false)) ≡ false
 no-link true true = refl
 no-link true false = refl
 no-link false q = refl
-
-none-if : {A : Type 0} (test : Bool) (some list : List A) → test ≡ false → list ≡ list ++ (if test then some else [])
-none-if true some list is = absurd cc
-none-if false some list is = sym (append-nil list)
 
 module _ (lists : List (List ℕ)) (lx ly x y n : ℕ) (all : length lists ≡ 4096) (lx_in : lx < 64) (ly_in : ly < 64) (x_in : x < 64) (y_in : y < 64) where
   abbrev added : List (List ℕ)
@@ -63,7 +60,7 @@ module _ (lists : List (List ℕ)) (lx ly x y n : ℕ) (all : length lists ≡ 4
 
   pub with-place : (on : Bool) → get_or (with_place on (64 * ly + lx) n lists) (64 * y + x) [] ≡ get_or lists (64 * y + x) [] ++ (if (lx == x) && ((ly == y) && on) then n ∷ [] else [])
   with-place true = step (lx == x) (ly == y) refl refl
-  with-place false = none-if ((lx == x) && ((ly == y) && false)) (n ∷ []) (get_or lists (64 * y + x) []) (no-link (lx == x) (ly == y))
+  with-place false = none-where ((lx == x) && ((ly == y) && false)) (n ∷ []) (get_or lists (64 * y + x) []) (no-link (lx == x) (ly == y))
 
 length-with : (on : Bool) (at n : ℕ) (lists : List (List ℕ)) → length lists ≡ 4096 → length (with_place on at n lists) ≡ 4096
 length-with true at n lists all = length-set lists at (get_or lists at [] ++ n ∷ []) ∙ all

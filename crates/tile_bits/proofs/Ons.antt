@@ -1,12 +1,6 @@
 -- Items where a test passes.
-use Rattle.std.proofs.Common.{◌≡◌, ℕ, zero, suc, ◌%◌, ◌/◌, append-nil, Bool, true, false, ◌==◌, List, [], ◌∷◌, ◌++◌, length, refl, sym, ap, ◌∙◌, subst}
-use Rattle.std.specs.Prelude.{◌↔◌, IsTrue, if◌then◌else◌}
-use Rattle.std.specs.Bool.{beq}
-use Rattle.std.specs.Cmp.Lexicographic.{pointwise}
-use Rattle.bit_plane.specs.BitList.{word_bits}
-use Rattle.plane_map.specs.declared.tile.RowCol.{RowCol}
-use Rattle.ice_image.specs.Configuration.{Configuration}
-use Rattle.ice_image.specs.Bits.{listed_bits}
+use Rattle.std.proofs.Common.{◌≡◌, ℕ, append-nil, Bool, true, false, List, [], ◌∷◌, ◌++◌, sym, ap, ◌∙◌}
+use Rattle.std.specs.Prelude.{if◌then◌else◌}
 use Rattle.tile_bits.specs.declared.item.Active.TheVariants.{Lc}
 
 -- a cell where a bit is set

@@ -1,12 +1,11 @@
 -- Texts that are written part by part.
-use Rattle.std.proofs.Common.{◌≡◌, ℕ, ◌-◌, ◌<◌, ◌≤◌, ◌%◌, ◌/◌, Bool, true, not, ◌&&◌, ◌==◌, List, [], ◌∷◌, ◌++◌, length, map, Some, refl, sym, ap, ◌∙◌, arith, append_assoc}
+use Rattle.std.proofs.Common.{◌≡◌, ℕ, ◌-◌, ◌<◌, ◌≤◌, ◌%◌, ◌/◌, Bool, not, ◌&&◌, ◌==◌, List, [], ◌∷◌, ◌++◌, length, map, Some, refl, sym, ap, ◌∙◌, arith, append_assoc}
 use Rattle.std.specs.Prelude.{codes, if◌then◌else◌}
 use Rattle.place_search.proofs.Places.{gathered_below-same}
 use Rattle.bit_plane.specs.BitList.{word_bits}
 use Rattle.bit_plane.specs.Rows.{Rows, bit_at}
 use Rattle.bit_plane.proofs.Words.{word_bits-more}
 use Rattle.plane_map.specs.Layout.{kind_of}
-use Rattle.plane_map.specs.declared.device.DeviceName.{DeviceName}
 use Rattle.plane_map.specs.declared.tile.Place.{Place}
 use Rattle.plane_map.specs.declared.tile.TileKind.{TileKind}
 use Rattle.ice_image.specs.Configuration.{Configuration}

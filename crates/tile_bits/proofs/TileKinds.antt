@@ -8,6 +8,7 @@ use Rattle.plane_map.specs.declared.tile.RowCol.{RowCol}
 use Rattle.plane_map.specs.declared.tile.TileBit.{TileBit}
 use Rattle.plane_map.specs.declared.tile.TileKind.{TileKind}
 use Rattle.plane_map.specs.declared.tile.TileKind.TheVariants.{Io, Logic, RamB, RamT}
+use Rattle.plane_map.proofs.Grids.{columns_of-some}
 use Rattle.plane_map.proofs.Places.{tile_bit_x_in, tile_bit_y_in}
 use Rattle.plane_map.proofs.Standard.{standard_is_layout}
 use Rattle.chipdb_reader.specs.Fit.{IsBitIn}
@@ -18,12 +19,6 @@ narrow Io = omega arith
 narrow Logic = omega arith
 narrow RamB = omega arith
 narrow RamT = omega arith
-
-some : (kind : TileKind) → 0 < columns_of kind
-some Io = omega arith
-some Logic = omega arith
-some RamB = omega arith
-some RamT = omega arith
 
 -- bits of a tile are bits of a board of 54 columns
 pub on-board : (kind : TileKind) (bits : List RowCol) → All (IsBitIn (columns_of kind)) bits → All (IsBitIn 54) bits
@@ -45,7 +40,7 @@ module _ (device : DeviceName) (x y : ℕ) (kind : TileKind) (there : kind_of de
   corner = record { x = x; y = y; row = 0; col = 0 }
 
   is-corner : IsTileBit device (record { x = x; y = y; row = 0; col = 0 })
-  is-corner = record { row_in = omega arith; col_in = subst (λ n. 0 < n) (sym (ap columns_in there)) (some kind) }
+  is-corner = record { row_in = omega arith; col_in = subst (λ n. 0 < n) (sym (ap columns_in there)) (columns_of-some kind) }
 
   -- a tile stands in the grid, which is less than 64 wide and high
   pub x-below : x < 64

@@ -1,5 +1,5 @@
 -- Where the cells of a database stand among its functions. Only contracts within this crate cite this.
-use Rattle.std.specs.Prelude.{ℕ, List, [], ◌∷◌, map, get_or, slice_get, Option, None, Some}
+use Rattle.std.specs.Prelude.{ℕ, List, [], ◌∷◌, map, slice_get, Option, None, Some}
 use Rattle.plane_map.specs.declared.tile.RowCol.{RowCol}
 use Rattle.plane_map.specs.declared.tile.TileKind.TheVariants.{Logic}
 use Rattle.chipdb_lines.specs.Items.{FunctionLine}

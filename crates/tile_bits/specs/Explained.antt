@@ -1,5 +1,5 @@
 -- The text that explains a configuration by the names of a database: one concatenation of lines.
-use Rattle.std.specs.Prelude.{◌≡◌, ℕ, Bool, true, false, ◌&&◌, ◌==◌, List, [], ◌∷◌, ◌++◌, map, codes, decimal, find, slice_get, if◌then◌else◌, Option, None, Some}
+use Rattle.std.specs.Prelude.{◌≡◌, ℕ, Bool, ◌&&◌, ◌==◌, List, [], ◌∷◌, ◌++◌, map, codes, decimal, find, slice_get, if◌then◌else◌, Option, None, Some}
 use Rattle.place_search.specs.Places.{any_below, gathered_below}
 use Rattle.text_lines.specs.Written.{text_of}
 use Rattle.bit_plane.specs.BitList.{word_bits}

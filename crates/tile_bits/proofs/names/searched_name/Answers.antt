@@ -5,8 +5,9 @@ use Rattle.chipdb_lines.specs.Items.{NameLine}
 use Rattle.chipdb_reader.specs.Kept.{name_line}
 use Rattle.chipdb_reader.specs.Nets.{names_with}
 use Rattle.chipdb_reader.specs.declared.items.NetName.{NetName}
+use Rattle.net_extract.proofs.Listed.{find-no_position}
 use Rattle.tile_bits.specs.Explained.{is_at}
-use Rattle.tile_bits.proofs.Gathered.{find-map, find-none, find-some, position-below}
+use Rattle.tile_bits.proofs.Gathered.{find-map, find-some, position-below}
 use Rattle.tile_bits.proofs.names.searched_name.Goals as goal
 
 pub returns-in-None : goal.returns-in-None
@@ -17,7 +18,7 @@ returns-in-None c =
     let passes = is_at c.args.at.x c.args.at.y in
     let found = find-map line passes (names_with net names) ∙ ap (option_map line) (find-map (λ (name : NetName). (name, net)) (λ named. passes (line named)) names) in
     sym (ap (option_map (λ (line : NameLine). line.name)) (ap (find passes) (sym c.names_of-names.ensures) ∙ found
-    ∙ ap (λ (name : Option NetName). option_map line (option_map (λ (name : NetName). (name, net)) name)) (find-none (λ (name : NetName). (name.x == c.args.at.x) && (name.y == c.args.at.y)) names (sym c.in-None.ensures))))
+    ∙ ap (λ (name : Option NetName). option_map line (option_map (λ (name : NetName). (name, net)) name)) (find-no_position (λ (name : NetName). (name.x == c.args.at.x) && (name.y == c.args.at.y)) names (sym c.in-None.ensures))))
 
 pub returns-in-Some : goal.returns-in-Some
 returns-in-Some c =

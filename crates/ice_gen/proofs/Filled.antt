@@ -1,11 +1,12 @@
 -- Images that are filled bit by bit.
-use Rattle.std.proofs.Common.{◌≡◌, ◌≢◌, ℕ, ◌+◌, ◌*◌, ◌/◌, ◌%◌, ◌<◌, ◌≤◌, ◌⊎◌, Bool, true, false, ◌&&◌, refl, sym, ap, ◌∙◌, subst, inl, inr, arith, lit≤, Some}
+use Rattle.std.proofs.Common.{◌≡◌, ◌≢◌, ℕ, ◌+◌, ◌*◌, ◌/◌, ◌%◌, ◌<◌, ◌≤◌, ◌⊎◌, Bool, true, false, ◌&&◌, refl, sym, ap, ◌∙◌, subst, inl, inr, arith, Some}
 use Rattle.std.specs.Prelude.{nat_lt, Option}
 use Rattle.std.proofs.lemmas.Bool.{cases_eq, cases_lt, lt-ltb, le-ltb, and_right}
 use Rattle.std.proofs.lemmas.Bool.Decides.{nat_tests}
 use Rattle.plane_map.specs.Layout.{Layout, standard_layout, grid_width, grid_height, cram_width, cram_height, bram_width, bram_height, columns_at, kind_of, IsTileBit, IsWordBit}
 use Rattle.plane_map.specs.declared.tile.TileKind.{TileKind}
 use Rattle.plane_map.specs.declared.tile.TileKind.TheVariants.{Logic, RamB}
+use Rattle.plane_map.proofs.Grids.{grid_width-le, kind_of-inside}
 use Rattle.plane_map.proofs.Layouts.{columns_at-in}
 use Rattle.plane_map.specs.declared.device.DeviceName.{DeviceName}
 use Rattle.plane_map.specs.declared.device.DeviceName.TheVariants.{K1, K8}
@@ -84,14 +85,6 @@ pub lower-narrow : (device : DeviceName) (x y : ℕ) → kind_of device x y ≡ 
 unfolding kind_of
 lower-narrow K1 x y is = grind (arith, nat_tests)
 lower-narrow K8 x y is = grind (arith, nat_tests)
-
-pub lower-in : (device : DeviceName) (x y : ℕ) → kind_of device x y ≡ Some RamB → (x < grid_width device) × (y < grid_height device)
-unfolding kind_of
-lower-in device x y is = grind (arith, nat_tests)
-
-pub grid-most : (device : DeviceName) → grid_width device ≤ 34
-grid-most K1 = lit≤ tt
-grid-most K8 = lit≤ tt
 
 pub width-most : (device : DeviceName) (x y width : ℕ) → columns_at device x y ≡ width → width ≤ 54
 unfolding kind_of
@@ -214,7 +207,7 @@ module _ (device : DeviceName) (seed : ℕ) (image : Configuration) where
   -- behind the last column of the grid
   pub skip-edge : (x y : ℕ) → x ≡ grid_width device → IsFilled device seed (is_tile_before (turn x y 0 0)) image → IsFilled device seed (is_tile_before (turn 0 (y + 1) 0 0)) image
   skip-edge x y last =
-      let most : grid_width device ≤ 34 = grid-most device in
+      let most : grid_width device ≤ 34 = grid_width-le device in
       skip-tiles (turn x y 0 0) (turn 0 (y + 1) 0 0) (omega arith) (λ bit is above below.
       let there = in-grid device bit is in
       let inside = (columns_at-in device bit.x bit.y bit.col is.col_in).0 in
@@ -244,17 +237,17 @@ module _ (device : DeviceName) (seed : ℕ) (image : Configuration) where
   -- behind the last column of the grid
   pub skip-ram-edge : (x y : ℕ) → x ≡ grid_width device → IsFilled device seed (is_word_before (word_turn x y 0 0)) image → IsFilled device seed (is_word_before (word_turn 0 (y + 1) 0 0)) image
   skip-ram-edge x y last =
-      let most : grid_width device ≤ 34 = grid-most device in
+      let most : grid_width device ≤ 34 = grid_width-le device in
       skip-words (word_turn x y 0 0) (word_turn 0 (y + 1) 0 0) (omega arith) (λ bit is above below.
       let there = lower-narrow device bit.x bit.y is.lower in
-      let inside = (lower-in device bit.x bit.y is.lower).0 in
+      let inside = (kind_of-inside device bit.x bit.y RamB is.lower).0 in
       absurd (omega (arith, is.bit_in, is.word_in, there.0, inside)))
 
   -- a tile of a kind whose bits are all 0
   pub skip-kind : (x y : ℕ) (kind : Option TileKind) → x < grid_width device → kind_of device x y ≡ kind → ((row col : ℕ) → is_tile_bit device seed kind x y row col ≡ false)
       → IsFilled device seed (is_tile_before (turn x y 0 0)) image → IsFilled device seed (is_tile_before (turn (x + 1) y 0 0)) image
   skip-kind x y kind column there zero =
-      let most : grid_width device ≤ 34 = grid-most device in
+      let most : grid_width device ≤ 34 = grid_width-le device in
       skip-tile x y (omega arith) (λ bit is x_is y_is.
       let P : ℕ → ℕ → Type 0 = λ a b. is_tile_bit device seed (kind_of device a b) a b bit.row bit.col ≡ false in
       let here : P x y = ap (λ k. is_tile_bit device seed k x y bit.row bit.col) there ∙ zero bit.row bit.col in
@@ -295,11 +288,6 @@ cell-bit-is device seed x y row col j lut choice bit there j_is lut_is choice_is
     ∙ sym (bit_is ∙ ap (λ lut. is_row_bit device j lut choice (row % 2) col) lut_is
     ∙ ap (λ choice. is_row_bit device j (lut_draw seed j) choice (row % 2) col) choice_is
     ∙ ap (λ j. is_row_bit device j (lut_draw seed j) (choice_draw seed j) (row % 2) col) j_is)
-
--- a tile that is there is in the grid
-pub there-in : (device : DeviceName) (x y : ℕ) (kind : TileKind) → kind_of device x y ≡ Some kind → (x < grid_width device) × (y < grid_height device)
-unfolding kind_of
-there-in device x y kind is = grind (arith, nat_tests)
 
 -- the two rows of a cell
 pub cell-filled : (device other : DeviceName) (seed x y i lut choice count : ℕ) (before middle after : Configuration) → other ≡ device → count ≡ 2 * cell_number device x y i → lut ≡ draw seed count → choice ≡ draw seed (count + 1)

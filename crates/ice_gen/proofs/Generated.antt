@@ -13,7 +13,9 @@ use Rattle.ice_image.proofs.Owned.{is_same_place-same, is_same_place-self}
 use Rattle.ice_gen.specs.Database.{pad_drive}
 use Rattle.ice_gen.specs.Image.{is_generated, generated_image}
 use Rattle.ice_gen.specs.Inside.{IsFilled, word_turn, is_word_before}
-use Rattle.ice_gen.proofs.Filled.{lower-narrow, lower-in}
+use Rattle.plane_map.specs.declared.tile.TileKind.TheVariants.{RamB}
+use Rattle.plane_map.proofs.Grids.{kind_of-inside}
+use Rattle.ice_gen.proofs.Filled.{lower-narrow}
 
 module _ (device : DeviceName) (seed : ℕ) where
   -- the bits that count when all tiles and all words are filled
@@ -23,7 +25,7 @@ module _ (device : DeviceName) (seed : ℕ) where
   -- all bits of words are among them
   word-filled : (bit : WordBit) → IsWordBit device bit → is_filled (OfWord bit) ≡ true
   word-filled bit is =
-      let inside = (lower-in device bit.x bit.y is.lower).1 in
+      let inside = (kind_of-inside device bit.x bit.y RamB is.lower).1 in
       let narrow = (lower-narrow device bit.x bit.y is.lower).0 in
       lt-ltb (word_turn bit.x bit.y bit.word bit.bit) (word_turn 0 (grid_height device) 0 0) (omega (arith, is.bit_in, is.word_in, inside, narrow))
 

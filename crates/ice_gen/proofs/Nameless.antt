@@ -1,7 +1,8 @@
 -- Which rows of the grid, and which tiles, give a net no name.
-use Rattle.std.proofs.Common.{◌≡◌, ◌≢◌, ℕ, ◌+◌, ◌-◌, ◌*◌, ◌<◌, ◌≤◌, ◌⊎◌, Bool, true, false, ◌&&◌, ◌||◌, ◌==◌, [], map, refl, ap, ◌∙◌, arith}
+use Rattle.std.proofs.Common.{◌≡◌, ◌≢◌, ℕ, ◌+◌, ◌-◌, ◌*◌, ◌<◌, ◌≤◌, ◌⊎◌, false, ◌&&◌, ◌||◌, ◌==◌, [], map, refl, ap, ◌∙◌, arith}
 use Rattle.std.specs.Prelude.{nat_le, nat_lt, Option, Some, None}
 use Rattle.std.proofs.lemmas.Bool.Decides.{nat_tests}
+use Rattle.std.proofs.lemmas.Bool.{or_parts}
 use Rattle.place_search.specs.Places.{gathered_below}
 use Rattle.place_search.proofs.Places.{gathered_below-none}
 use Rattle.plane_map.specs.Layout.{kind_of, grid_width}
@@ -117,12 +118,6 @@ cells-nameless device net x y none =
     ap (λ j. cell_names device net j i) same ∙ one-nameless device net (cell_number device x y 0) i within none)
 
 pub row-nameless : (device : DeviceName) (net y : ℕ) → (is_shared device net || is_of_row device net y) ≡ false → names_in_row device net y ≡ []
-row-nameless device net y none = row-none device net y (elsewhere device net y (or_false-left _ _ none) (or_false-right _ _ none))
-  where
-    or_false-left : (a b : Bool) → (a || b) ≡ false → a ≡ false
-    or_false-left true b e = e
-    or_false-left false b e = refl
-
-    or_false-right : (a b : Bool) → (a || b) ≡ false → b ≡ false
-    or_false-right true b e = absurd cc
-    or_false-right false b e = e
+row-nameless device net y none =
+    let parts = or_parts (is_shared device net) (is_of_row device net y) none in
+    row-none device net y (elsewhere device net y parts.0 parts.1)

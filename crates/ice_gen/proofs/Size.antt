@@ -14,17 +14,13 @@ use Rattle.plane_map.specs.declared.device.DeviceName.{DeviceName}
 use Rattle.plane_map.specs.declared.device.DeviceName.TheVariants.{K1, K8}
 use Rattle.plane_map.specs.declared.tile.TileKind.{TileKind}
 use Rattle.plane_map.specs.declared.tile.TileKind.TheVariants.{Io, Logic, RamB, RamT}
-use Rattle.ice_gen.proofs.Filled.{grid-most}
+use Rattle.plane_map.proofs.Grids.{grid_width-le, grid_height-le}
 use Rattle.ice_gen.specs.Numbers.{nets, rams, cell_number, ram_number, clock_net, input_net, out_net, in_0_net, address_net, write_net, read_net, in_3_net, read_enable_net, write_enable_net, middle_net}
 use Rattle.plane_map.specs.DeviceWords.{device_word}
 use Rattle.asc_text.specs.Statements.{device_keyword}
 use Rattle.ice_gen.specs.Database.{bit_word, buffer_line, by_all_cells, by_cells, cell_line, cell_names, cell_wire, database_lines, device_line, far_net, generated_database, head_lines, in_0_lines, in_0_statement, in_3_lines, in_3_lines_below, logic_names, ram_names, pin_names, names_by_kind, names_at, names_in_row, name_line, named, near_net, net_lines, numbered, pad_drive_line, pin_type_line, ten_bits}
 
 -- ---- bounds
-
-height-most : (device : DeviceName) → grid_height device ≤ 34
-height-most K1 = lit≤ tt
-height-most K8 = lit≤ tt
 
 in_0-small : (device : DeviceName) (j : ℕ) → j < 10000 → in_0_net device j < 1000000
 in_0-small K1 j few = omega arith
@@ -366,7 +362,7 @@ module _ (device : DeviceName) (n : ℕ) (few : n < 1000000) where
   row-cost : (y : ℕ) → y < 34 → total n (λ net. size (names_in_row device net y)) ≤ grid_width device * 4368
   row-cost y low =
       let tile : ℕ → ℕ → ℕ = λ x net. size (map (name_line x y) (names_at device net x y)) in
-      let most = grid-most device in
+      let most = grid_width-le device in
       let each : (net : ℕ) → net < n → size (names_in_row device net y) ≤ total (grid_width device) (λ x. tile x net) = λ net within.
       let same = size-gathered (grid_width device) (λ x. map (name_line x y) (names_at device net x y)) in omega (arith, same) in
       let all = total-le n (λ net. size (names_in_row device net y)) (λ net. total (grid_width device) (λ x. tile x net)) each in
@@ -376,7 +372,7 @@ module _ (device : DeviceName) (n : ℕ) (few : n < 1000000) where
   rows-cost : total n (λ net. size (gathered_below (grid_height device) (names_in_row device net))) ≤ grid_height device * (grid_width device * 4368)
   rows-cost =
       let row : ℕ → ℕ → ℕ = λ y net. size (names_in_row device net y) in
-      let high = height-most device in
+      let high = grid_height-le device in
       let each : (net : ℕ) → net < n → size (gathered_below (grid_height device) (names_in_row device net)) ≤ total (grid_height device) (λ y. row y net) = λ net within.
       let same = size-gathered (grid_height device) (names_in_row device net) in omega (arith, same) in
       let all = total-le n (λ net. size (gathered_below (grid_height device) (names_in_row device net))) (λ net. total (grid_height device) (λ y. row y net)) each in
@@ -466,8 +462,8 @@ module _ (device : DeviceName) (lines_of : ℕ → ℕ → ℕ → ℕ → List 
 
   all_cells-size : size (by_all_cells device lines_of) ≤ grid_height device * (grid_width device * 800)
   all_cells-size =
-      let most = grid-most device in
-      let high = height-most device in
+      let most = grid_width-le device in
+      let high = grid_height-le device in
       let place : ℕ → ℕ → List (List ℕ) = λ y x. by_cells device (lines_of x y) x y (kind_of device x y) in
       let row : (y : ℕ) → y < grid_height device → size (gathered_below (grid_width device) (place y)) ≤ grid_width device * 800 = λ y low.
       let same = size-gathered (grid_width device) (place y) in
@@ -517,8 +513,8 @@ nets-few K8 = lit< tt
 device-length : (device : DeviceName) → length (device_line device) ≤ 31
 device-length device =
     let name = with_word device_keyword (device_word device) in
-    let wide : grid_width device < 1000000 = omega (arith, grid-most device) in
-    let high : grid_height device < 1000000 = omega (arith, height-most device) in
+    let wide : grid_width device < 1000000 = omega (arith, grid_width-le device) in
+    let high : grid_height device < 1000000 = omega (arith, grid_height-le device) in
     word-behind (grid_line name (grid_width device) (grid_height device)) (decimal (nets device)) 24 6 (grid-length name (grid_width device) (grid_height device) 10 wide high (name-length device)) (few-digits (nets device) (omega (arith, nets-few device)))
 
 pad-length : (device : DeviceName) → length (pad_drive_line device) ≤ 40

@@ -1,6 +1,6 @@
 -- The image of the generated design, which a seed fixes: what each bit is. Draws are counted from 0: two for each cell, and
 -- then one for each word of each RAM.
-use Rattle.std.specs.Prelude.{ℕ, ◌+◌, ◌-◌, ◌*◌, ◌/◌, ◌%◌, Bool, false, not, ◌&&◌, ◌||◌, List, [], ◌∷◌, slice_index, nat_le, nat_lt, ◌==◌, if◌then◌else◌, Option, None, Some}
+use Rattle.std.specs.Prelude.{ℕ, ◌+◌, ◌-◌, ◌*◌, ◌/◌, ◌%◌, Bool, false, not, ◌&&◌, ◌||◌, slice_index, nat_le, nat_lt, ◌==◌, if◌then◌else◌, Option, None, Some}
 use Rattle.place_search.specs.Places.{any_below}
 use Rattle.plane_map.specs.Layout.{standard_layout, kind_of}
 use Rattle.plane_map.specs.declared.device.DeviceName.{DeviceName}

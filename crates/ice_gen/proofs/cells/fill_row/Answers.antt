@@ -7,17 +7,18 @@ use Rattle.ice_image.specs.Bits.{OfTile}
 use Rattle.ice_gen.specs.Numbers.{cell_number}
 use Rattle.ice_gen.specs.Image.{is_row_bit, lut_draw, choice_draw}
 use Rattle.ice_gen.specs.Inside.{is_tile_before, turn}
-use Rattle.ice_gen.proofs.Filled.{cell-bit-is, filled-on, grid-most, skip-columns, there-in}
+use Rattle.plane_map.proofs.Grids.{grid_width-le, kind_of-inside}
+use Rattle.ice_gen.proofs.Filled.{cell-bit-is, filled-on, skip-columns}
 use Rattle.ice_gen.proofs.cells.fill_row.Goals as goal
 
 pub cell_number-j-requires-clause-column : goal.cell_number-j-requires-clause-column
 cell_number-j-requires-clause-column c =
-    let inside = there-in (device_of c.args.image.now) c.args.x c.args.y Logic c.requires.logic in
+    let inside = kind_of-inside (device_of c.args.image.now) c.args.x c.args.y Logic c.requires.logic in
     omega (arith, inside.0, ap grid_width c.device-device.ensures.device, c.from.ensures)
 
 pub cell_number-j-requires-clause-row : goal.cell_number-j-requires-clause-row
 cell_number-j-requires-clause-row c =
-    let inside = there-in (device_of c.args.image.now) c.args.x c.args.y Logic c.requires.logic in
+    let inside = kind_of-inside (device_of c.args.image.now) c.args.x c.args.y Logic c.requires.logic in
     omega (arith, inside.1, ap grid_height c.device-device.ensures.device, c.from-2.ensures)
 
 pub loop-col-preserved : goal.loop-col-preserved
@@ -41,8 +42,8 @@ loop-col-preserved c =
 pub returns-clause-filled : goal.returns-clause-filled
 returns-clause-filled c =
     let device = device_of c.args.image.now in
-    let inside = there-in device c.args.x c.args.y Logic c.requires.logic in
-    let near : c.args.x < 34 = omega (arith, inside.0, grid-most device) in
+    let inside = kind_of-inside device c.args.x c.args.y Logic c.requires.logic in
+    let near : c.args.x < 34 = omega (arith, inside.0, grid_width-le device) in
     let last : c.loop-col.col ≡ 54 = omega arith in
     let j_is : c.cell_number-j.result ≡ cell_number device c.args.x c.args.y (c.args.row / 2) = cc (c.cell_number-j.ensures.number, c.device-device.ensures.device, c.from.ensures, c.from-2.ensures, c.from-3.ensures) in
     λ seed lut_is choice_is filled.

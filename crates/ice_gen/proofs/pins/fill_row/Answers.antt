@@ -6,7 +6,8 @@ use Rattle.ice_image.specs.Either.{configuration_of, device_of}
 use Rattle.ice_image.specs.Bits.{OfTile}
 use Rattle.ice_gen.specs.Image.{is_tile_bit}
 use Rattle.ice_gen.specs.Inside.{is_tile_before, turn}
-use Rattle.ice_gen.proofs.Filled.{filled-on, grid-most, skip-columns, there-in}
+use Rattle.plane_map.proofs.Grids.{grid_width-le, kind_of-inside}
+use Rattle.ice_gen.proofs.Filled.{filled-on, skip-columns}
 use Rattle.ice_gen.proofs.pins.fill_row.Goals as goal
 
 pub loop-col-preserved : goal.loop-col-preserved
@@ -27,8 +28,8 @@ loop-col-preserved c =
 pub returns-clause-filled : goal.returns-clause-filled
 returns-clause-filled c =
     let device = device_of c.args.image.now in
-    let inside = there-in device c.args.x c.args.y Io c.requires.io in
-    let near : c.args.x < 34 = omega (arith, inside.0, grid-most device) in
+    let inside = kind_of-inside device c.args.x c.args.y Io c.requires.io in
+    let near : c.args.x < 34 = omega (arith, inside.0, grid_width-le device) in
     let last : c.loop-col.col ≡ 18 = omega arith in
     λ seed filled.
     skip-columns device seed (configuration_of c.loop-col.image) c.args.x c.args.y c.args.row c.loop-col.col near (ap columns_in c.requires.io ∙ sym last) c.requires.row (c.loop-col.invariant.1 seed filled)

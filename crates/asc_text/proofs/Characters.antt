@@ -5,11 +5,13 @@ use Rattle.std.proofs.lemmas.Bool.{cases_eq, eq-eqb, cases_lt, cases_Bool, and_p
 use Rattle.std.proofs.lemmas.Bool.Decides.{nat_tests}
 use Rattle.std.proofs.lemmas.List.{get_or_past}
 use Rattle.text_lines.specs.Lines.{lines_of, line_at, trimmed}
-use Rattle.place_search.specs.Places.{any_below, least_below, first_below, or_here, or_else}
+use Rattle.place_search.specs.Places.{any_below, first_below, or_else}
 use Rattle.place_search.proofs.Places.{any_below-at, any_below-place, least_below-first, first_below-sum}
+use Rattle.place_search.proofs.Found.{or_else-first, or_else-other, any_below-clear, least_below-place, first_below-clear}
 use Rattle.layout_file.specs.declared.layouts.Layouts.{Layouts}
 use Rattle.layout_file.specs.Layouts.{layout_for, AreLayouts}
 use Rattle.asc_text.proofs.HasRead.{layout_for-device}
+use Rattle.asc_text.proofs.Depths.{depth_after, depth-first, depth-step, depth_after-next}
 use Rattle.plane_map.specs.Layout.{Layout, IsLayout, kind_of, IsTileBit, IsWordBit}
 use Rattle.plane_map.specs.declared.device.DeviceName.{DeviceName}
 use Rattle.plane_map.specs.declared.tile.TileKind.{TileKind}
@@ -29,7 +31,7 @@ use Rattle.ice_image.specs.declared.any.AnyImage.{AnyImage}
 use Rattle.asc_text.specs.declared.file.Symbol.{Symbol as NetName}
 use Rattle.asc_text.specs.Statements.{statement_in, begins_with_dot}
 use Rattle.asc_text.specs.Rows.{row_bit, memory_bit, is_memory_line}
-use Rattle.asc_text.specs.Blocks.{has_rows, depth_after, depth_at, statement_over, statement_at, device_in, device_before}
+use Rattle.asc_text.specs.Blocks.{has_rows, depth_at, statement_over, statement_at, device_in, device_before}
 use Rattle.asc_text.specs.Faults.{cause_if, is_same_kind, kind_cause, tile_cause, missing_device, unknown_device, stands_before, names_tile, names_ram, statement_cause, cause_at, fault_at, fault_with, asc_fault_of}
 use Rattle.asc_text.specs.Meaning.{row_sets, line_sets, sets_bit, is_set_before, comment_before, settings_before, image_before, image_for, asc_image_of, AscMeans}
 use Rattle.asc_text.specs.Characters.{tile_statement, ram_statement, character_below, character_of, names_extra, is_named_extra, digit_bit_below, digit_bit_of, is_said, HasBits}
@@ -44,56 +46,11 @@ same_test true b there back = sym (there refl)
 same_test false true there back = back refl
 same_test false false there back = refl
 
--- no value gives no first part
-or_else-first : {A : Type 0} (a b : Option A) → or_else a b ≡ None → a ≡ None
-or_else-first None b none = refl
-or_else-first (Some value) b none = none
-
--- nor a second one
-or_else-second : {A : Type 0} (a b : Option A) → or_else a b ≡ None → b ≡ None
-or_else-second None b none = none
-or_else-second (Some value) b none = absurd cc
-
--- a test that passes nowhere below a bound
-none_below : (n k : ℕ) (test : ℕ → Bool) → any_below n test ≡ false → k < n → test k ≡ false
-none_below n k test none below =
-    elim (cases_Bool (test k)) [
-      | inl here ↦ absurd (both_ways (any_below n test) none (any_below-at n k test below here))
-      | inr other ↦ other
-    ]
-
--- the least place below one more bound
-least_step : (n k : ℕ) (test : ℕ → Bool) (found : Option ℕ) (passes : Bool) → ((j : ℕ) → found ≡ Some j → (j < n) × (test j ≡ true)) → test n ≡ passes → or_here found passes n ≡ Some k
-    → (k < suc n) × (test k ≡ true)
-least_step n k test (Some earlier) passes before here is =
-    let facts = before k is in
-    (omega (arith, facts.0), facts.1)
-least_step n k test None true before here is =
-    let same : n ≡ k = cc in
-    (omega arith, ap test (sym same) ∙ here)
-least_step n k test None false before here is = absurd cc
-
--- the least place below a bound is below it, and passes
-least_below-place : (n k : ℕ) (test : ℕ → Bool) → least_below n test ≡ Some k → (k < n) × (test k ≡ true)
-unfolding least_below
-least_below-place zero k test is = absurd cc
-least_below-place (suc n) k test is = least_step n k test (least_below n test) (test n) (λ j found. least_below-place n j test found) refl is
-
 -- a first value stays the first
 first_below-later : {A : Type 0} (n m : ℕ) (given : ℕ → Option A) (value : A) → first_below n given ≡ Some value → n ≤ m → first_below m given ≡ Some value
 first_below-later n m given value is within =
     let more : n + (m - n) ≡ m = omega arith in
     ap (λ k. first_below k given) (sym more) ∙ first_below-sum n (m - n) given ∙ ap (λ v. or_else v (first_below (m - n) (λ k. given (n + k)))) is
-
--- without a first value there is none
-first_below-each : {A : Type 0} (n k : ℕ) (given : ℕ → Option A) → first_below n given ≡ None → k < n → given k ≡ None
-unfolding first_below
-first_below-each zero k given none below = absurd (omega arith)
-first_below-each (suc n) k given none below =
-    elim (cases_eq k n) [
-      | inl last ↦ ap given last ∙ or_else-second (first_below n given) (given n) none
-      | inr before ↦ first_below-each n k given (or_else-first (first_below n given) (given n) none) (omega arith)
-    ]
 
 -- ---- where a line stands
 
@@ -120,10 +77,9 @@ record Under (lines : List (List ℕ)) (k depth : ℕ) : Type 0 where
 
 -- a line at some depth is one
 under : (lines : List (List ℕ)) (k depth : ℕ) → depth_at lines k ≡ depth → 0 < depth → Under lines k depth
-unfolding depth_at
-under lines zero depth is some = absurd (omega arith)
+under lines zero depth is some = absurd (omega (arith, depth-first lines))
 under lines (suc k) depth is some =
-    elim (depth_after-some (depth_at lines k) depth (has_rows (statement_in (line_at lines k))) is some) [
+    elim (depth_after-some (depth_at lines k) depth (has_rows (statement_in (line_at lines k))) (sym (depth-step lines k) ∙ is) some) [
       | inl first ↦
           let back : suc k - depth ≡ k = omega (arith, first.2) in
           record { within = omega (arith, first.2); few = omega (arith, first.2); top = ap (depth_at lines) back ∙ first.0; opens = ap (λ h. has_rows (statement_in (line_at lines h))) back ∙ first.1 }
@@ -144,20 +100,15 @@ under lines (suc k) depth is some =
       | inr before ↦ omega arith
     ]
 
--- one line deeper
-depth_after-next : (depth : ℕ) (opens : Bool) → 0 < depth → depth < 16 → depth_after depth opens ≡ depth + 1
-depth_after-next depth opens some below = grind (arith, nat_tests)
-
 -- the sixteen lines below a statement
 below : (lines : List (List ℕ)) (h r : ℕ) → depth_at lines h ≡ 0 → has_rows (statement_in (line_at lines h)) ≡ true → r < 16 → depth_at lines (h + suc r) ≡ suc r
-unfolding depth_at
 below lines h zero top opens within =
     let next : h + 1 ≡ suc h = omega arith in
-    rw next ((λ i. depth_after (top i) (opens i)))
+    rw next (depth-step lines h ∙ (λ i. depth_after (top i) (opens i)))
 below lines h (suc r) top opens within =
     let next : h + suc (suc r) ≡ suc (h + suc r) = omega arith in
     let before : depth_at lines (h + suc r) ≡ suc r = below lines h r top opens (omega arith) in
-    rw next (ap (λ depth. depth_after depth (has_rows (statement_in (line_at lines (h + suc r))))) before ∙ depth_after-next (suc r) _ (omega arith) within ∙ omega arith)
+    rw next (depth-step lines (h + suc r) ∙ ap (λ depth. depth_after depth (has_rows (statement_in (line_at lines (h + suc r))))) before ∙ depth_after-next (suc r) _ (omega arith) within ∙ omega arith)
 
 -- belong to it
 over : (lines : List (List ℕ)) (h r : ℕ) → depth_at lines h ≡ 0 → has_rows (statement_in (line_at lines h)) ≡ true → r < 16 → statement_over lines (h + suc r) ≡ statement_in (line_at lines h)
@@ -271,7 +222,7 @@ tile_needs (Some device) repeated kind x y rest none = (
   device,
   refl,
   no_kind_cause (kind_of device x y) kind (or_else-first (kind_cause (kind_of device x y) kind) _ none),
-  no_cause repeated Repeated (or_else-first (cause_if repeated Repeated) rest (or_else-second (kind_cause (kind_of device x y) kind) (or_else (cause_if repeated Repeated) rest) none)),
+  no_cause repeated Repeated (or_else-first (cause_if repeated Repeated) rest (or_else-other (kind_cause (kind_of device x y) kind) (or_else (cause_if repeated Repeated) rest) none)),
 )
 
 -- and one of a RAM's contents
@@ -283,7 +234,7 @@ ram_needs (Some device) repeated x y rest none = (
   device,
   refl,
   no_kind_cause (kind_of device x y) RamB (or_else-first (kind_cause (kind_of device x y) RamB) _ none),
-  no_cause repeated Repeated (or_else-first (cause_if repeated Repeated) rest (or_else-second (kind_cause (kind_of device x y) RamB) (or_else (cause_if repeated Repeated) rest) none)),
+  no_cause repeated Repeated (or_else-first (cause_if repeated Repeated) rest (or_else-other (kind_cause (kind_of device x y) RamB) (or_else (cause_if repeated Repeated) rest) none)),
 )
 
 -- a tile's statement stands first, and names a tile of its kind
@@ -295,7 +246,7 @@ tile_head layouts lines device h kind x y accepted within top said =
     let needs = tile_needs (device_before lines h) (stands_before lines h (names_tile x y)) kind x y _ (unfaulty layouts lines device h (Tile kind x y) accepted within top said) in
     let same : needs.0 ≡ device = one_device layouts lines device needs.0 h accepted within needs.1 in
     let here : test h ≡ true = ap (names_tile x y) (top_at lines h top ∙ said) ∙ grind (arith, nat_tests) in
-    (ap (λ d. kind_of d x y) (sym same) ∙ needs.2, least_below-first (length lines) h test within (λ j before. none_below h j test needs.3 before) here)
+    (ap (λ d. kind_of d x y) (sym same) ∙ needs.2, least_below-first (length lines) h test within (λ j before. any_below-clear h j test needs.3 before) here)
 
 -- and so does one of a RAM's contents
 ram_head : (layouts : Layouts) (lines : List (List ℕ)) (device : DeviceName) (h x y : ℕ) → Accepted layouts lines device → h < length lines → depth_at lines h ≡ 0 → statement_in (line_at lines h) ≡ Some (RamData x y)
@@ -306,7 +257,7 @@ ram_head layouts lines device h x y accepted within top said =
     let needs = ram_needs (device_before lines h) (stands_before lines h (names_ram x y)) x y _ (unfaulty layouts lines device h (RamData x y) accepted within top said) in
     let same : needs.0 ≡ device = one_device layouts lines device needs.0 h accepted within needs.1 in
     let here : test h ≡ true = ap (names_ram x y) (top_at lines h top ∙ said) ∙ grind (arith, nat_tests) in
-    (ap (λ d. kind_of d x y) (sym same) ∙ needs.2, least_below-first (length lines) h test within (λ j before. none_below h j test needs.3 before) here)
+    (ap (λ d. kind_of d x y) (sym same) ∙ needs.2, least_below-first (length lines) h test within (λ j before. any_below-clear h j test needs.3 before) here)
 
 -- a statement to which no lines belong is at depth 0
 alone_top : (lines : List (List ℕ)) (k : ℕ) (statement : Option Statement) → statement_over lines k ≡ statement → has_rows statement ≡ false → depth_at lines k ≡ 0
@@ -377,8 +328,8 @@ unfolding tile_statement is_set_before
 character_sets layouts lines device bit None accepted is_bit is reads = absurd cc
 character_sets layouts lines device bit (Some h) accepted is_bit is reads =
     let n = length lines in
-    let facts = least_below-place n h (λ k. names_tile bit.x bit.y (statement_at lines k)) is in
-    let named = named_tile bit.x bit.y (statement_at lines h) facts.1 in
+    let facts = least_below-place n (λ k. names_tile bit.x bit.y (statement_at lines k)) h is in
+    let named = named_tile bit.x bit.y (statement_at lines h) facts.passes in
     let kind : TileKind = named.0 in
     let top = at_top lines h (Tile kind bit.x bit.y) named.1 in
     let opens : has_rows (statement_in (line_at lines h)) ≡ true = ap has_rows top.1 in
@@ -510,8 +461,8 @@ unfolding ram_statement is_set_before
 digit_sets layouts lines device at None accepted is_bit is reads = absurd cc
 digit_sets layouts lines device at (Some h) accepted is_bit is reads =
     let n = length lines in
-    let facts = least_below-place n h (λ k. names_ram at.x at.y (statement_at lines k)) is in
-    let named = named_ram at.x at.y (statement_at lines h) facts.1 in
+    let facts = least_below-place n (λ k. names_ram at.x at.y (statement_at lines k)) h is in
+    let named = named_ram at.x at.y (statement_at lines h) facts.passes in
     let top = at_top lines h (RamData at.x at.y) named in
     let opens : has_rows (statement_in (line_at lines h)) ≡ true = ap has_rows top.1 in
     let row : ℕ = at.word / 16 in
@@ -529,7 +480,7 @@ digit_sets layouts lines device at (Some h) accepted is_bit is reads =
     (and_from ((at.x == at.x) && (at.y == at.y)) (suc row - 1 == row) (and_from (at.x == at.x) (at.y == at.y) (eq-eqb at.x at.x refl) (eq-eqb at.y at.y refl)) (eq-eqb (suc row - 1) row back)) here
     in
     let sets : sets_bit (Some (RamData at.x at.y)) (suc row) line (OfWord at) ≡ true = and_from (line_sets at.x at.y (suc row - 1) line (OfWord at)) (nat_lt 0 (suc row)) line_here (lt-ltb 0 (suc row) (omega arith)) in
-    any_below-at n k (λ k. sets_bit (statement_over lines k) (depth_at lines k) (trimmed (line_at lines k)) (OfWord at)) (ram_within layouts lines device h at.x at.y row accepted facts.0 top.0 top.1 row_in)
+    any_below-at n k (λ k. sets_bit (statement_over lines k) (depth_at lines k) (trimmed (line_at lines k)) (OfWord at)) (ram_within layouts lines device h at.x at.y row accepted facts.within top.0 top.1 row_in)
     ((λ i. sets_bit (said i) (deep i) line (OfWord at)) ∙ sets)
 
 -- a bit of a word is set exactly where it is among the word's digits
@@ -582,7 +533,7 @@ unfolding asc_fault_of asc_image_of
 bits_of_text layouts text image symbols are whole means =
     let lines = lines_of text in
     configured_bits layouts text image (device_before lines (length lines)) are whole refl
-    (λ k within. no_fault (cause_at layouts lines k) (k + 1) _ (first_below-each (length lines + 1) k (fault_at layouts lines) means.accepted (omega arith)))
+    (λ k within. no_fault (cause_at layouts lines k) (k + 1) _ (first_below-clear (length lines + 1) k (fault_at layouts lines) means.accepted (omega arith)))
     means.configures
 
 -- the same of what is answered

@@ -17,10 +17,11 @@ use Rattle.asc_text.specs.declared.statement.Statement.{Statement}
 use Rattle.asc_text.specs.declared.statement.Statement.TheVariants.{Comment}
 use Rattle.asc_text.specs.declared.fault.AscCause.TheVariants.{CommentByte}
 use Rattle.asc_text.specs.Statements.{comment_keyword, statement_in, begins_with_dot}
-use Rattle.asc_text.specs.Blocks.{has_rows, depth_after, depth_at, statement_over, statement_at, dot_before, is_comment, device_in, device_before}
+use Rattle.asc_text.specs.Blocks.{has_rows, depth_at, statement_over, statement_at, dot_before, is_comment, device_in, device_before}
 use Rattle.asc_text.specs.Faults.{cause_if, is_printable, is_in_comment, comment_cause, statement_cause, cause_at}
 use Rattle.asc_text.specs.Meaning.{sets_bit, is_set_before, warm_boot_in, range_in, no_sleep_in, is_that_line, comment_line, comment_from, comment_before}
 use Rattle.asc_text.specs.Canonical.{comment_lines}
+use Rattle.asc_text.proofs.Depths.{depth_after, depth-first, depth-step}
 use Rattle.asc_text.proofs.PieceRead.{Stands, piece_sets}
 use Rattle.asc_text.proofs.PiecesRead.{some_piece, some_piece-one, first_piece, first_piece-one, Holds, any_below-head, cause_at-statement}
 use Rattle.asc_text.proofs.Spelled.{plain-literal}
@@ -69,14 +70,16 @@ first-says lines count is = ap statement_in is.head
 
 -- none of them belongs to a statement
 depth-none : (lines : List (List ℕ)) (count : ℕ) → Commented lines count → (k : ℕ) → k ≤ suc count → depth_at lines k ≡ 0
-unfolding depth_at
-depth-none lines count is zero within = refl
-depth-none lines count is (suc zero) within = ap (λ says. depth_after 0 (has_rows says)) (first-says lines count is)
+depth-none lines count is zero within = depth-first lines
+depth-none lines count is (suc zero) within =
+    depth-step lines 0
+    ∙ ap (λ depth. depth_after depth (has_rows (statement_in (line_at lines 0)))) (depth-first lines)
+    ∙ ap (λ says. depth_after 0 (has_rows says)) (first-says lines count is)
 depth-none lines count is (suc (suc k)) within =
     let before : depth_at lines (suc k) ≡ 0 = depth-none lines count is (suc k) (omega arith) in
     let line = line_at lines (suc k) in
     let none : statement_in line ≡ None = no-statement line (no-dot line (is.rest k (omega arith))) in
-    λ i. depth_after (before i) (has_rows (none i))
+    depth-step lines (suc k) ∙ (λ i. depth_after (before i) (has_rows (none i)))
 
 record Reads (lines : List (List ℕ)) (count : ℕ) : Type 0 where
   first_over : statement_over lines 0 ≡ Some Comment
@@ -171,9 +174,9 @@ holds-comment layouts lines count is =
 
 -- before the first line nothing is said
 holds-nothing : (layouts : Layouts) (lines : List (List ℕ)) → Holds layouts lines 0 []
-unfolding depth_at any_below first_below device_before is_set_before some_piece first_piece
+unfolding any_below first_below device_before is_set_before some_piece first_piece
 holds-nothing layouts lines = record {
-  top = refl;
+  top = depth-first lines;
   sound = λ k within. absurd (omega arith);
   any = λ test none. refl;
   device = refl;

@@ -26,6 +26,7 @@ use Rattle.asc_text.specs.Meaning.{AscMeans, asc_image_of, asc_symbols_of, image
 use Rattle.asc_text.specs.inside.Reading.{ReaderState, begun, Finishes, Takes, TakesDotted, dotted_refusal, line_refusal, end_refusal, statement_of, settings_in}
 use Rattle.ice_image.specs.Bits.{Bit, OfTile, OfWord, Extra, IsBit, bit_of}
 use Rattle.ice_image.proofs.Bits.{image_from-is}
+use Rattle.asc_text.proofs.Depths.{depth-first}
 use Rattle.asc_text.proofs.HasRead.{HasRead, HasGiven, HasBits, HasImage, IsAt, device_known}
 use Rattle.asc_text.proofs.Given.{HasGiven-none}
 use Rattle.asc_text.proofs.CommentSteps.{HasComment-none}
@@ -37,14 +38,13 @@ use Rattle.asc_text.proofs.Refusals.{line_refused, line_fault, end_refused, end_
 -- ---- the beginning
 
 pub HasRead-none : (layouts : Layouts) (lines : List (List ℕ)) (s : ReaderState) → AreLayouts layouts → s ≡ begun layouts → HasRead layouts lines 0 s
-unfolding depth_at
 HasRead-none layouts lines s are is =
     let P : ReaderState → Type 0 = λ t. HasRead layouts lines 0 t in
     subst P (sym is) (record {
       devices = are;
       under = refl;
       fit = λ k lt. absurd (omega arith);
-      stands = refl;
+      stands = depth-first lines;
       given = HasGiven-none layouts lines;
       image = SetsNone-none lines;
       comment = HasComment-none lines;

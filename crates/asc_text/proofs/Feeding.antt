@@ -1,5 +1,5 @@
 -- The lines of a text that comes in pieces: what the lines so far give, and what they say of the text.
-use Rattle.std.proofs.Common.{◌≡◌, ℕ, zero, suc, ◌<◌, ◌≤◌, inl, inr, refl, ◌+◌, List, [], ◌++◌, length, sym, ap, subst, ◌∙◌, append_assoc, append-nil, arith}
+use Rattle.std.proofs.Common.{◌≡◌, ℕ, zero, suc, ◌<◌, ◌≤◌, inl, inr, refl, ◌+◌, List, [], ◌++◌, length, sym, ap, subst, ◌∙◌, append_assoc, arith}
 use Rattle.std.specs.Prelude.{Option, Some, None, Result, Ok, Err, IfOk, IfErr, OnOk}
 use Rattle.std.proofs.lemmas.List.{length-append}
 use Rattle.std.proofs.lemmas.Bool.{cases_lt}
@@ -14,11 +14,10 @@ use Rattle.asc_text.specs.declared.fault.AscFault.{AscFault}
 use Rattle.asc_text.specs.declared.fault.AscCause.{AscCause}
 use Rattle.asc_text.specs.declared.fault.TileXy.{TileXy}
 use Rattle.asc_text.specs.declared.reading.asc_lines.AscLines.{AscLines}
-use Rattle.asc_text.specs.declared.reading.reader.Reader.{Reader}
 use Rattle.asc_text.specs.Blocks.{statement_over}
-use Rattle.asc_text.specs.Faults.{Fault, Tells, asc_fault_of, cause_at, fault_at, fault_with, tile_named}
+use Rattle.asc_text.specs.Faults.{Fault, asc_fault_of, cause_at, fault_at, fault_with, tile_named}
 use Rattle.asc_text.specs.Ended.{IsFaultless}
-use Rattle.asc_text.specs.inside.Reading.{ReaderState, state_of, begun}
+use Rattle.asc_text.specs.inside.Reading.{state_of, begun}
 use Rattle.asc_text.specs.inside.LinesTaken.{TakesEach, StopsIn}
 use Rattle.asc_text.specs.inside.Feeding.{HasTaken, Refuses}
 use Rattle.asc_text.proofs.HasRead.{HasRead}

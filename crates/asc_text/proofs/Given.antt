@@ -1,10 +1,9 @@
 -- What the statements give, with one line more.
-use Rattle.std.proofs.Common.{◌≡◌, ℕ, ◌+◌, ◌*◌, ◌<◌, Bool, false, ◌||◌, ◌&&◌, ◌==◌, List, [], ◌∷◌, ◌++◌, append-nil, refl, sym, ap, ◌∙◌, inl, inr, arith, replicate}
+use Rattle.std.proofs.Common.{◌≡◌, ℕ, ◌+◌, ◌*◌, ◌<◌, Bool, false, ◌||◌, ◌&&◌, ◌==◌, List, refl, sym, ap, ◌∙◌, inl, inr, arith, replicate}
 use Rattle.std.specs.Prelude.{Option, Some, None, is_some}
 use Rattle.std.proofs.lemmas.Bool.{cases_eq, eq-eqb, ne_eqb}
 use Rattle.std.proofs.lemmas.List.{get_or-replicate}
 use Rattle.std.proofs.Math.Bool.{or-false}
-use Rattle.text_lines.specs.Lines.{line_at}
 use Rattle.place_search.specs.Places.{any_below, first_below, or_else}
 use Rattle.place_search.proofs.Places.{or_else-none, any_below-more, first_below-more}
 use Rattle.layout_file.specs.declared.layouts.Layouts.{Layouts}

@@ -40,6 +40,8 @@ pub mod TileSets
 pub mod Gains
 -- the comment, with one line more
 pub mod CommentSteps
+-- how deep a line is among the sixteen of a statement
+pub mod Depths
 -- lines by their first byte
 pub mod Dotted
 -- from what is kept to what a text means, and to its first faulty line

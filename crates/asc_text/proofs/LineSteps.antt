@@ -1,19 +1,15 @@
 -- What is kept after a line is what the lines say with that line.
-use Rattle.std.proofs.Common.{◌≡◌, ◌≢◌, ℕ, ◌+◌, ◌-◌, ◌<◌, Bool, true, false, not, ◌||◌, ◌&&◌, ◌==◌, if◌then◌else◌, List, [], ◌∷◌, length, get_or, refl, sym, ap, ◌∙◌, subst, inl, inr, arith, add-one}
+use Rattle.std.proofs.Common.{◌≡◌, ◌≢◌, ℕ, ◌+◌, ◌-◌, ◌<◌, Bool, true, false, not, ◌&&◌, if◌then◌else◌, List, length, refl, sym, ap, ◌∙◌, subst, inl, inr, arith, add-one}
 use Rattle.std.specs.Prelude.{Option, Some, None, nat_lt}
-use Rattle.std.specs.List.{list_all}
-use Rattle.std.proofs.lemmas.Bool.{cases_Bool, cases_eq, eq-eqb, ne_eqb, lt-ltb, and_parts, eqb-true}
+use Rattle.std.proofs.lemmas.Bool.{cases_Bool, cases_eq, eq-eqb, ne_eqb, lt-ltb, and_parts}
 use Rattle.text_lines.specs.Lines.{line_at, trimmed}
-use Rattle.text_lines.proofs.Blanks.{dot-trimmed}
 use Rattle.layout_file.specs.declared.layouts.Layouts.{Layouts}
 use Rattle.plane_map.specs.Layout.{kind_of, columns_of}
 use Rattle.plane_map.specs.declared.tile.TileKind.{TileKind}
 use Rattle.plane_map.specs.declared.tile.TileKind.TheVariants.{RamB}
 use Rattle.ice_image.specs.Either.{device_of}
 use Rattle.ice_image.specs.declared.any.AnyImage.{AnyImage}
-use Rattle.hex.specs.Hex.{is_hex_digit}
 use Rattle.asc_text.specs.declared.statement.Statement.TheVariants.{Tile, RamData}
-use Rattle.asc_text.specs.declared.fault.AscCause.{AscCause}
 use Rattle.asc_text.specs.declared.fault.AscCause.TheVariants.{Row as RowCause, Hex}
 use Rattle.asc_text.specs.declared.reading.reader.Expected.{Expected}
 use Rattle.asc_text.specs.declared.reading.reader.Expected.TheVariants.{Statement as AnyStatement, Row, Memory}
@@ -21,9 +17,10 @@ use Rattle.asc_text.specs.Statements.{statement_in, begins_with_dot}
 use Rattle.asc_text.specs.Rows.{is_row, is_memory_line, memory_bytes}
 use Rattle.asc_text.specs.inside.Gains.{bytes_set}
 use Rattle.asc_text.specs.Meaning.{row_sets, line_sets}
+use Rattle.asc_text.proofs.Depths.{depth_after, depth-step}
 use Rattle.asc_text.proofs.Gains.{bytes-line}
 use Rattle.ice_image.specs.Bits.{Bit}
-use Rattle.asc_text.specs.Blocks.{depth_at, statement_over, statement_at, depth_after, has_rows}
+use Rattle.asc_text.specs.Blocks.{depth_at, statement_over, statement_at, has_rows}
 use Rattle.asc_text.specs.Faults.{cause_at, cause_if}
 use Rattle.asc_text.specs.inside.Reading.{ReaderState, HasKind, ImageGains, TakesRow, TakesMemory, before_row, before_memory, after_text, with_line}
 use Rattle.asc_text.proofs.Dotted.{none_without_dot, passes, row-dotless, memory-dotless}
@@ -36,8 +33,7 @@ use Rattle.asc_text.proofs.Refusals.{over_is}
 -- ---- places
 
 pub depth-more : (lines : List (List ℕ)) (n : ℕ) → depth_at lines (n + 1) ≡ depth_after (depth_at lines n) (has_rows (statement_in (line_at lines n)))
-unfolding depth_at
-depth-more lines n = rw add-one refl
+depth-more lines n = rw add-one (depth-step lines n)
 
 -- a line of the sixteen is no statement
 at-row : (lines : List (List ℕ)) (n row : ℕ) → depth_at lines n ≡ row + 1 → statement_at lines n ≡ None

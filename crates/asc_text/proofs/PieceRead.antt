@@ -1,7 +1,6 @@
 -- Lines as pieces: a statement with the lines that belong to it. What a piece says where it stands among the lines of a text.
 use Rattle.std.proofs.Common.{◌≡◌, ℕ, zero, suc, ◌+◌, ◌-◌, ◌<◌, ◌≤◌, Bool, true, false, List, ◌∷◌, length, refl, sym, ap, ◌∙◌, arith, Some, None, if◌then◌else◌}
 use Rattle.std.proofs.lemmas.Bool.{ne_eqb}
-use Rattle.std.proofs.lemmas.Bool.Decides.{nat_tests}
 use Rattle.std.specs.Prelude.{All}
 use Rattle.text_lines.specs.Lines.{line_at, trimmed}
 use Rattle.text_lines.specs.Written.{IsPlain}
@@ -9,8 +8,9 @@ use Rattle.place_search.specs.Places.{any_below}
 use Rattle.ice_image.specs.Bits.{Bit}
 use Rattle.asc_text.specs.declared.statement.Statement.{Statement}
 use Rattle.asc_text.specs.Statements.{statement_in, begins_with_dot}
-use Rattle.asc_text.specs.Blocks.{has_rows, depth_after, depth_at, statement_over, statement_at, is_comment}
+use Rattle.asc_text.specs.Blocks.{has_rows, depth_at, statement_over, statement_at, is_comment}
 use Rattle.asc_text.specs.Meaning.{sets_bit}
+use Rattle.asc_text.proofs.Depths.{depth_after, depth-step, depth_after-next}
 
 -- ---- pieces
 
@@ -53,10 +53,6 @@ line-head lines part n line stands =
     let same : n + 0 ≡ n = omega arith in
     rw same at (stands.same 0 (omega arith))
 
--- one line deeper
-depth_after-next : (depth : ℕ) (opens : Bool) → 0 < depth → depth < 16 → depth_after depth opens ≡ depth + 1
-depth_after-next depth opens some below = grind (arith, nat_tests)
-
 -- a statement with a line below it has sixteen
 opens-some : (opens : Bool) (count r : ℕ) → count ≡ rows_below opens → r < count → (opens ≡ true) × (r < 16)
 opens-some true count r is below = (refl, omega arith)
@@ -65,32 +61,30 @@ opens-some false count r is below = absurd (omega arith)
 -- how deep a line of a piece stands
 depth-in : (lines : List (List ℕ)) (n : ℕ) (piece : Piece) → IsPiece piece → Stands lines n (piece_lines piece) → depth_at lines n ≡ 0
     → (r : ℕ) → r ≤ length piece.rows → depth_at lines (n + r) ≡ r
-unfolding depth_at
 depth-in lines n piece is stands top zero within = let same : n + 0 ≡ n = omega arith in rw same top
 depth-in lines n piece is stands top (suc zero) within =
     let next : n + 1 ≡ suc n = omega arith in
     let opens : has_rows (Some piece.statement) ≡ true = (opens-some (has_rows (Some piece.statement)) (length piece.rows) 0 is.count (omega arith)).0 in
     let says : statement_in (line_at lines n) ≡ Some piece.statement = ap statement_in (line-head lines piece.rows n piece.head stands) ∙ is.spells in
-    rw next ((λ i. depth_after (top i) (has_rows (says i))) ∙ ap (λ opens. depth_after 0 opens) opens)
+    rw next (depth-step lines n ∙ (λ i. depth_after (top i) (has_rows (says i))) ∙ ap (λ opens. depth_after 0 opens) opens)
 depth-in lines n piece is stands top (suc (suc r)) within =
     let next : n + suc (suc r) ≡ suc (n + suc r) = omega arith in
     let below = opens-some (has_rows (Some piece.statement)) (length piece.rows) (suc r) is.count (omega arith) in
     let before : depth_at lines (n + suc r) ≡ suc r = depth-in lines n piece is stands top (suc r) (omega arith) in
-    rw next (ap (λ depth. depth_after depth (has_rows (statement_in (line_at lines (n + suc r))))) before ∙ depth_after-next (suc r) _ (omega arith) below.1 ∙ omega arith)
+    rw next (depth-step lines (n + suc r) ∙ ap (λ depth. depth_after depth (has_rows (statement_in (line_at lines (n + suc r))))) before ∙ depth_after-next (suc r) _ (omega arith) below.1 ∙ omega arith)
 
 -- the depth behind the last line of a piece
 depth-behind : (lines : List (List ℕ)) (n : ℕ) (opens : Bool) (count : ℕ) → count ≡ rows_below opens → depth_at lines (n + count) ≡ count
     → (0 ≡ count → has_rows (statement_in (line_at lines n)) ≡ opens) → depth_at lines (n + suc count) ≡ 0
-unfolding depth_at
 depth-behind lines n true count is last opens =
     let next : n + suc count ≡ suc (n + count) = omega arith in
-    rw next (ap (λ depth. depth_after depth (has_rows (statement_in (line_at lines (n + count))))) (last ∙ is))
+    rw next (depth-step lines (n + count) ∙ ap (λ depth. depth_after depth (has_rows (statement_in (line_at lines (n + count))))) (last ∙ is))
 depth-behind lines n false count is last opens =
     let next : n + suc count ≡ suc n = omega arith in
     let same : n + count ≡ n = omega arith in
     let top : depth_at lines n ≡ 0 = ap (depth_at lines) (sym same) ∙ last ∙ is in
     let none : has_rows (statement_in (line_at lines n)) ≡ false = opens (sym is) in
-    rw next ((λ i. depth_after (top i) (none i)))
+    rw next (depth-step lines n ∙ (λ i. depth_after (top i) (none i)))
 
 -- the line behind a piece belongs to no statement
 depth-next : (lines : List (List ℕ)) (n : ℕ) (piece : Piece) → IsPiece piece → Stands lines n (piece_lines piece) → depth_at lines n ≡ 0 → depth_at lines (n + suc (length piece.rows)) ≡ 0

@@ -20,8 +20,7 @@ use Rattle.ice_image.specs.Bits.{tile_bit_of, number_bit}
 use Rattle.ice_image.specs.Configuration.{Configuration}
 use Rattle.plane_map.specs.DeviceWords.{device_word}
 use Rattle.asc_text.specs.Statements.{tile_keyword, device_keyword}
-use Rattle.asc_text.specs.inside.Head.{head_lines}
-use Rattle.asc_text.specs.Canonical.{with_word, comment_lines, warm_boot_lines, range_lines, no_sleep_lines, all_tile_lines, all_extra_lines, canonical_lines, asc_text_of, bit_character, row_line, grid_line, tile_lines, ram_lines, lines_of_tile_at}
+use Rattle.asc_text.specs.Canonical.{with_word, head_lines, comment_lines, warm_boot_lines, range_lines, no_sleep_lines, all_tile_lines, all_extra_lines, canonical_lines, asc_text_of, bit_character, row_line, grid_line, tile_lines, ram_lines, lines_of_tile_at}
 
 -- ---- lines
 

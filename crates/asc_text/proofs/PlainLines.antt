@@ -10,7 +10,7 @@ use Rattle.asc_text.specs.Meaning.{row_sets}
 use Rattle.asc_text.specs.declared.reading.reader.Expected.{Expected}
 use Rattle.asc_text.specs.declared.reading.reader.Expected.TheVariants.{Statement as AnyStatement, Row, Memory}
 use Rattle.asc_text.specs.inside.Gains.{bytes_set}
-use Rattle.asc_text.specs.inside.Reading.{ReaderState, GainsBits, TakesFirst, TakesLines, TakesRows, TakesMemoryLines, row_refusal, memory_refusal, is_lf_at, before_row, before_memory}
+use Rattle.asc_text.specs.inside.Reading.{ReaderState, GainsBits, TakesFirst, TakesBelow, TakesLines, row_refusal, memory_refusal, is_lf_at, before_row, before_memory}
 use Rattle.asc_text.proofs.FirstLines.{taken-row, taken-memory}
 
 -- a line of sixteen is not the end of them
@@ -53,8 +53,8 @@ row-first s kind x y row width before after text small wide at is gains =
 
 -- one more
 pub more-rows : (kind : TileKind) (x y first row width : ℕ) (before : Option AnyImage) (middle after : AnyImage) (text left : List ℕ) → first ≤ row → row < 16 → columns_of kind ≡ width
-    → TakesRows kind x y first before text (row - first) left (Some middle) → is_lf_at left width ≡ true → is_row width (take width left) ≡ true
-    → GainsBits middle after (row_sets x y row (take width left)) → TakesRows kind x y first before text (row + 1 - first) (drop (width + 1) left) (Some after)
+    → TakesBelow (Row kind x y) first before text (row - first) left (Some middle) → is_lf_at left width ≡ true → is_row width (take width left) ≡ true
+    → GainsBits middle after (row_sets x y row (take width left)) → TakesBelow (Row kind x y) first before text (row + 1 - first) (drop (width + 1) left) (Some after)
 more-rows kind x y first row width before middle after text left from small wide taken at is gains s image expected =
     one-more s (before_row kind x y) first row middle after text left (drop (width + 1) left) from (taken s image expected) (row-first s kind x y row width middle after left small wide at is gains)
 
@@ -74,7 +74,7 @@ memory-first s x y row before after text small at is gains =
 
 -- one more
 pub more-memory_lines : (x y first row : ℕ) (before : Option AnyImage) (middle after : AnyImage) (text left : List ℕ) → first ≤ row → row < 16
-    → TakesMemoryLines x y first before text (row - first) left (Some middle) → is_lf_at left 64 ≡ true → is_memory_line (take 64 left) ≡ true
-    → GainsBits middle after (bytes_set x y row (memory_bytes (take 64 left))) → TakesMemoryLines x y first before text (row + 1 - first) (drop 65 left) (Some after)
+    → TakesBelow (Memory x y) first before text (row - first) left (Some middle) → is_lf_at left 64 ≡ true → is_memory_line (take 64 left) ≡ true
+    → GainsBits middle after (bytes_set x y row (memory_bytes (take 64 left))) → TakesBelow (Memory x y) first before text (row + 1 - first) (drop 65 left) (Some after)
 more-memory_lines x y first row before middle after text left from small taken at is gains s image expected =
     one-more s (before_memory x y) first row middle after text left (drop 65 left) from (taken s image expected) (memory-first s x y row middle after left small at is gains)

@@ -1,29 +1,27 @@
 -- Which lines of a text that can be read are the statements of RAMs, and which lines stand below them.
-use Rattle.std.proofs.Common.{◌≡◌, ◌≢◌, ℕ, zero, suc, ◌+◌, ◌-◌, ◌<◌, ◌≤◌, Bool, true, false, not, ◌||◌, ◌==◌, List, [], ◌∷◌, length, get_or, drop, refl, sym, ap, ◌∙◌, inl, inr, arith, add-one}
+use Rattle.std.proofs.Common.{◌≡◌, ◌≢◌, ℕ, zero, suc, ◌+◌, ◌-◌, ◌<◌, ◌≤◌, Bool, true, false, ◌==◌, List, [], ◌∷◌, length, drop, refl, sym, ap, ◌∙◌, inl, inr, arith, add-one}
 use Rattle.std.specs.Prelude.{Option, Some, None, bytes_eq, nat_lt, if◌then◌else◌}
-use Rattle.std.specs.List.{list_all}
-use Rattle.std.proofs.lemmas.Bool.{cases_lt, cases_Bool, and_parts, false≢true, lt-ltb, le-ltb, lt-leb, ne_eqb, eqb-true}
+use Rattle.std.proofs.lemmas.Bool.{cases_lt, cases_Bool, and_parts, false≢true, lt-ltb, le-ltb, lt-leb, ne_eqb}
 use Rattle.std.proofs.lemmas.Slice.Eq.{bytes_eq-Decides}
 use Rattle.std.proofs.lemmas.List.{get_or-drop, get_or_past}
 use Rattle.text_lines.specs.Lines.{lines_of, line_at, trimmed}
 use Rattle.text_lines.specs.Words.{first_word, behind_word, words_of, number_of, numbers_of}
 use Rattle.text_lines.specs.declared.words.Separators.TheVariants.{Spaces}
-use Rattle.text_lines.proofs.Blanks.{dot-trimmed}
 use Rattle.layout_file.specs.declared.layouts.Layouts.{Layouts}
-use Rattle.plane_map.specs.Layout.{columns_of}
 use Rattle.plane_map.specs.declared.tile.TileKind.{TileKind}
 use Rattle.plane_map.specs.declared.tile.TileKind.TheVariants.{Io, Logic, RamB, RamT}
 use Rattle.asc_text.specs.declared.statement.Statement.{Statement}
 use Rattle.asc_text.specs.declared.statement.Statement.TheVariants.{Comment, Device, WarmBoot, FrequencyRange, NoSleep, Tile, RamData, ExtraBit, Symbol}
 use Rattle.asc_text.specs.declared.fault.TileXy.{TileXy}
 use Rattle.asc_text.specs.declared.fault.AscCause.{AscCause}
-use Rattle.asc_text.specs.declared.fault.AscCause.TheVariants.{Row, Hex}
+use Rattle.asc_text.specs.declared.fault.AscCause.TheVariants.{Hex}
 use Rattle.asc_text.specs.Statements.{begins_with_dot, statement_in, spelled, comment_keyword, device_keyword, warm_boot_keyword, range_keyword, no_sleep_keyword, tile_keyword, ram_data_keyword, extra_bit_keyword, symbol_keyword, device_of_words, warm_boot_of_words, range_of_words, no_sleep_of_words, tile_of_numbers, ram_data_of_numbers, extra_bit_of_numbers, symbol_of_parts, name_behind}
-use Rattle.asc_text.specs.Rows.{is_row, is_memory_line}
+use Rattle.asc_text.specs.Rows.{is_memory_line}
 use Rattle.asc_text.specs.Blocks.{has_rows, depth_at, statement_over, statement_at}
-use Rattle.asc_text.specs.Faults.{asc_fault_of, fault_at, fault_with, cause_at, cause_if, row_cause, statement_cause, tile_named}
+use Rattle.asc_text.specs.Faults.{asc_fault_of, fault_at, fault_with, cause_at, row_cause, statement_cause, tile_named}
 use Rattle.asc_text.specs.Rams.{is_ram_data, is_in_ram, below_statement, is_ram_line, BeginsWithRam}
 use Rattle.place_search.proofs.Found.{first_below-clear}
+use Rattle.asc_text.proofs.Depths.{depth-first, depth-step, depth_after-next}
 use Rattle.asc_text.proofs.Dotted.{dotless-below, passes}
 
 -- ---- the words of a statement
@@ -158,17 +156,13 @@ fine-statement layouts lines n none flat within dot missing =
 -- ---- depths
 
 after-flat : (lines : List (List ℕ)) (n : ℕ) → depth_at lines n ≡ 0 → depth_at lines (suc n) ≡ (if has_rows (statement_in (line_at lines n)) then 1 else 0)
-unfolding depth_at
-after-flat lines n flat = rw flat refl
+after-flat lines n flat = depth-step lines n ∙ rw flat refl
 
 after-last : (lines : List (List ℕ)) (n : ℕ) → depth_at lines n ≡ 16 → depth_at lines (suc n) ≡ 0
-unfolding depth_at
-after-last lines n last = rw last refl
+after-last lines n last = depth-step lines n ∙ rw last refl
 
 after-inner : (lines : List (List ℕ)) (n : ℕ) → 0 < depth_at lines n → depth_at lines n < 16 → depth_at lines (suc n) ≡ depth_at lines n + 1
-unfolding depth_at
-after-inner lines n deep inner =
-    rw (ne_eqb (depth_at lines n) 0 (λ e. omega arith), ne_eqb (depth_at lines n) 16 (λ e. omega arith)) refl
+after-inner lines n deep inner = depth-step lines n ∙ depth_after-next (depth_at lines n) _ deep inner
 
 over-flat : (lines : List (List ℕ)) (n : ℕ) → depth_at lines (suc n) ≡ 1 → statement_over lines (suc n) ≡ statement_in (line_at lines n)
 unfolding statement_over
@@ -189,10 +183,6 @@ at-flat lines n flat = rw flat refl
 pub at-deep : (lines : List (List ℕ)) (n : ℕ) → 0 < depth_at lines n → statement_at lines n ≡ None
 unfolding statement_at
 at-deep lines n deep = rw (ne_eqb (depth_at lines n) 0 (λ e. omega arith)) refl
-
-depth-first : (lines : List (List ℕ)) → depth_at lines 0 ≡ 0
-unfolding depth_at
-depth-first lines = refl
 
 opened-inner : (opens : Bool) (depth : ℕ) → depth ≡ (if opens then 1 else 0) → 0 < depth → depth ≡ 1
 opened-inner true depth is deep = is

@@ -28,7 +28,7 @@ use Rattle.asc_text.specs.inside.TileSets.{has_tile}
 use Rattle.asc_text.specs.Rows.{is_row, is_memory_line}
 use Rattle.ice_image.specs.Owned.{is_extra}
 use Rattle.asc_text.specs.Blocks.{statement_over, device_before}
-use Rattle.asc_text.specs.Faults.{cause_at, end_cause, statement_cause, is_repeated, missing_device, unknown_device, tile_cause, kind_cause, extra_cause, setting_cause, cause_if, tile_named, fault_at, fault_with}
+use Rattle.asc_text.specs.Faults.{extra_place, cause_at, end_cause, statement_cause, is_repeated, missing_device, unknown_device, tile_cause, kind_cause, extra_cause, setting_cause, cause_if, tile_named, fault_at, fault_with}
 use Rattle.asc_text.specs.inside.Reading.{ReaderState, statement_refusal, dotted_refusal, setting_refusal, tile_refusal, extra_refusal, line_refusal, end_refusal, statement_of}
 use Rattle.asc_text.proofs.HasRead.{HasRead, HasGiven, HasImage, HasComment, IsAt, device_known}
 use Rattle.place_search.proofs.Places.{or_else-none}
@@ -126,7 +126,7 @@ chain-ram layouts (Some image) x y repeated named same =
 chain-extra : (layouts : Layouts) (lines : List (List ℕ)) (n : ℕ) (image : Option AnyImage) (bank x y : ℕ) → HasImage layouts lines n image → chain layouts (device_known image) false (ExtraBit bank x y) ≡ extra_refusal image bank x y
 chain-extra layouts lines n None bank x y has = refl
 chain-extra layouts lines n (Some image) bank x y has =
-    let refusal : Layout → Option AscCause = λ layout. cause_if (not (is_extra layout (record { bank = bank; px = x; py = y }))) ExtraPlace in
+    let refusal : Layout → Option AscCause = λ layout. cause_if (not (is_extra layout (extra_place bank x y))) ExtraPlace in
     or_else-none (refusal (layout_for layouts (device_of image))) ∙ ap refusal (sym has.layout)
 
 some-device : (image : Option AnyImage) → is_some (device_known image) ≡ is_some image

@@ -21,9 +21,10 @@ use Rattle.asc_text.specs.declared.reading.reader.Expected.TheVariants.{Statemen
 use Rattle.asc_text.specs.Statements.{statement_in, begins_with_dot}
 use Rattle.asc_text.specs.inside.TileSets.{has_tile}
 use Rattle.asc_text.specs.Meaning.{extra_sets}
-use Rattle.asc_text.specs.Blocks.{depth_at, statement_over, statement_at, depth_after, has_rows, is_comment}
-use Rattle.asc_text.specs.Faults.{cause_at, cause_if, kind_cause, is_same_kind, unknown_device}
+use Rattle.asc_text.specs.Blocks.{depth_at, statement_over, statement_at, has_rows, is_comment}
+use Rattle.asc_text.specs.Faults.{extra_place, cause_at, cause_if, kind_cause, is_same_kind, unknown_device}
 use Rattle.asc_text.specs.inside.Reading.{ReaderState, HasKind, IsBlank, TakesStatement, statement_refusal, setting_refusal, tile_refusal}
+use Rattle.asc_text.proofs.Depths.{depth_after}
 use Rattle.asc_text.proofs.HasRead.{HasRead, HasComment, HasImage, IsAt, device_known}
 use Rattle.asc_text.proofs.Given.{Follows, HasGiven-more}
 use Rattle.asc_text.proofs.CommentSteps.{comment-begins, comment-ends}
@@ -171,7 +172,7 @@ follows s new (RamData x y) are none takes =
     subst P (sym takes.0) (record { warm_boot = refl; warm_boot_known = refl; range = refl; range_known = refl; no_sleep = refl; no_sleep_known = refl; device = refl; device_known = refl; tiles = refl; rams = takes.1 })
 follows s new (ExtraBit bank x y) are none takes =
     let P : ReaderState → Type 0 = λ t. Follows s (Some (ExtraBit bank x y)) t in
-    let same = same_device s.image new.image (extra_sets (record { bank = bank; px = x; py = y })) takes.1 in
+    let same = same_device s.image new.image (extra_sets (extra_place bank x y)) takes.1 in
     subst P (sym takes.0) (record { warm_boot = refl; warm_boot_known = refl; range = refl; range_known = refl; no_sleep = refl; no_sleep_known = refl; device = same; device_known = refl; tiles = refl; rams = refl })
 follows s new (Symbol net) are none takes =
     let P : ReaderState → Type 0 = λ t. Follows s (Some (Symbol net)) t in
@@ -206,7 +207,7 @@ image-after layouts lines n s new (RamData x y) are same has none takes depth ov
     let P : ReaderState → Type 0 = λ t. HasImage layouts lines (n + 1) t.image in
     subst P (sym takes.0) (image-stays layouts lines n s.image has (λ bit. rw (over, depth) (and-false _)))
 image-after layouts lines n s new (ExtraBit bank x y) are same has none takes depth over =
-    image-gains layouts lines n s.image new.image (extra_sets (record { bank = bank; px = x; py = y })) has takes.1 (λ bit. rw over refl)
+    image-gains layouts lines n s.image new.image (extra_sets (extra_place bank x y)) has takes.1 (λ bit. rw over refl)
 image-after layouts lines n s new (Symbol net) are same has none takes depth over =
     let P : ReaderState → Type 0 = λ t. HasImage layouts lines (n + 1) t.image in
     subst P (sym takes) (image-stays layouts lines n s.image has (λ bit. rw over refl))

@@ -1,5 +1,5 @@
 -- The names that a text gives to nets are those of its lines, each read by itself.
-use Rattle.std.proofs.Common.{◌≡◌, ℕ, suc, ◌+◌, ◌<◌, false, List, [], ◌∷◌, ◌++◌, length, refl, sym, ap, ◌∙◌, append_assoc, append-nil, inl, inr, arith}
+use Rattle.std.proofs.Common.{◌≡◌, ℕ, suc, ◌+◌, ◌<◌, List, [], ◌∷◌, ◌++◌, length, refl, sym, ap, ◌∙◌, append_assoc, append-nil, inl, inr, arith}
 use Rattle.std.specs.Prelude.{None}
 use Rattle.std.proofs.lemmas.Bool.{cases_lt}
 use Rattle.text_lines.specs.Lines.{lines_of, line_at}
@@ -8,7 +8,7 @@ use Rattle.place_search.proofs.Places.{gathered_below-same, gathered_below-sum}
 use Rattle.layout_file.specs.declared.layouts.Layouts.{Layouts}
 use Rattle.asc_text.specs.declared.file.Symbol.{Symbol as NetName}
 use Rattle.asc_text.specs.Blocks.{depth_at, statement_at}
-use Rattle.asc_text.specs.Statements.{statement_in, begins_with_dot}
+use Rattle.asc_text.specs.Statements.{statement_in}
 use Rattle.asc_text.specs.Faults.{asc_fault_of}
 use Rattle.asc_text.specs.Meaning.{symbol_in, symbols_before, asc_symbols_of}
 use Rattle.asc_text.specs.inside.Symbols.{symbols_in}

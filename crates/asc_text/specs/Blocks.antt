@@ -1,5 +1,5 @@
 -- Which statement a line belongs to. Indexes count from 0.
-use Rattle.std.specs.Prelude.{ℕ, zero, suc, ◌+◌, ◌-◌, Bool, true, false, List, ◌==◌, if◌then◌else◌, Option, Some, None}
+use Rattle.std.specs.Prelude.{ℕ, zero, suc, ◌+◌, ◌-◌, Bool, true, false, not, ◌&&◌, List, nat_le, ◌==◌, if◌then◌else◌, Option, Some, None}
 use Rattle.text_lines.specs.Lines.{line_at}
 use Rattle.place_search.specs.Places.{last_below, first_below}
 use Rattle.plane_map.specs.declared.device.DeviceName.{DeviceName}
@@ -13,18 +13,26 @@ has_rows (Some (Tile kind x y)) = true
 has_rows (Some (RamData x y)) = true
 has_rows statement = false
 
--- The depth of the line after one of that depth; `opens` tells whether that one is a statement to which lines belong. The
--- depth is 0 outside, and 1 to 16 on the sixteen lines.
-abbrev pub depth_after : ℕ → Bool → ℕ
-depth_after depth opens =
-    if depth == 0 then (if opens then 1 else 0)
-    else if depth == 16 then 0
-    else depth + 1
+-- whether a line is one of the sixteen below a line
+abbrev pub is_below : Option ℕ → ℕ → Bool
+is_below None n = false
+is_below (Some k) n = nat_le n (k + 16)
+
+-- Of the lines before a line, the last to which sixteen lines belong: it is a statement that has them, and not itself one of the
+-- sixteen below another.
+unfoldable pub opened_before : List (List ℕ) → ℕ → Option ℕ
+opened_before lines zero = None
+opened_before lines (suc n) =
+    if has_rows (statement_in (line_at lines n)) && not (is_below (opened_before lines n) n) then Some n else opened_before lines n
+
+-- how far a line is below a line, where it is one of the sixteen below it, and else 0
+abbrev pub depth_below : Option ℕ → ℕ → ℕ
+depth_below None n = 0
+depth_below (Some k) n = if nat_le n (k + 16) then n - k else 0
 
 -- How far a line is below the statement whose sixteen lines it is among, whatever it says, and 0 where it is among none.
 unfoldable pub depth_at : List (List ℕ) → ℕ → ℕ
-depth_at lines zero = 0
-depth_at lines (suc n) = depth_after (depth_at lines n) (has_rows (statement_in (line_at lines n)))
+depth_at lines n = depth_below (opened_before lines n) n
 
 -- the statement whose sixteen lines a line is among, or else the statement that the line is
 unfoldable pub statement_over : List (List ℕ) → ℕ → Option Statement

@@ -41,6 +41,15 @@ abbrev pub no_sleep_lines : Bool → List (List ℕ)
 no_sleep_lines true = with_word no_sleep_keyword (switch_word true) ∷ []
 no_sleep_lines false = []
 
+-- the comment, the device and the settings
+abbrev pub head_lines : Configuration → List (List ℕ)
+head_lines image =
+    comment_lines image.comment
+    ++ with_word device_keyword (device_word image.layout.device) ∷ []
+    ++ warm_boot_lines image.settings.warm_boot
+    ++ range_lines image.settings.range
+    ++ no_sleep_lines image.settings.no_sleep
+
 -- ---- tiles
 
 -- a keyword, and the column and the row of the grid
@@ -99,14 +108,7 @@ all_extra_lines image = map extra_line (set_extras image)
 -- ---- the whole
 
 unfoldable pub canonical_lines : Configuration → List (List ℕ)
-canonical_lines image =
-    comment_lines image.comment
-    ++ with_word device_keyword (device_word image.layout.device) ∷ []
-    ++ warm_boot_lines image.settings.warm_boot
-    ++ range_lines image.settings.range
-    ++ no_sleep_lines image.settings.no_sleep
-    ++ all_tile_lines image
-    ++ all_extra_lines image
+canonical_lines image = head_lines image ++ all_tile_lines image ++ all_extra_lines image
 
 -- each line ends with LF
 unfoldable pub asc_text_of : Configuration → List ℕ

@@ -13,7 +13,7 @@ use Rattle.asc_text.specs.declared.statement.Statement.TheVariants.{ExtraBit}
 use Rattle.asc_text.specs.Rows.{row_bit, memory_bit}
 use Rattle.asc_text.specs.Blocks.{statement_at}
 use Rattle.ice_image.specs.Owned.{is_same_place}
-use Rattle.asc_text.specs.Faults.{names_tile, names_ram}
+use Rattle.asc_text.specs.Faults.{names_tile, names_ram, extra_place}
 
 -- ---- tiles
 
@@ -34,7 +34,7 @@ character_of lines bit = character_below lines (tile_statement lines bit.x bit.y
 
 -- whether a statement is that of the extra bit at a place
 abbrev pub names_extra : Place → Option Statement → Bool
-names_extra at (Some (ExtraBit bank x y)) = is_same_place (record { bank = bank; px = x; py = y }) at
+names_extra at (Some (ExtraBit bank x y)) = is_same_place (extra_place bank x y) at
 names_extra at statement = false
 
 -- whether some statement is

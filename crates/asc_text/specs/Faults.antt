@@ -6,6 +6,7 @@ use Rattle.place_search.specs.Places.{any_below, first_below, or_else}
 use Rattle.plane_map.specs.Layout.{kind_of, columns_of}
 use Rattle.plane_map.specs.declared.device.DeviceName.{DeviceName}
 use Rattle.plane_map.specs.declared.tile.TileKind.{TileKind}
+use Rattle.plane_map.specs.declared.tile.Place.{Place}
 use Rattle.plane_map.specs.declared.tile.TileKind.TheVariants.{Io, Logic, RamB, RamT}
 use Rattle.asc_text.specs.declared.statement.Statement.{Statement}
 use Rattle.asc_text.specs.declared.statement.Statement.TheVariants.{Device, WarmBoot, FrequencyRange, NoSleep, Tile, RamData, ExtraBit}
@@ -106,10 +107,14 @@ is_repeated lines n (Tile kind x y) = stands_before lines n (names_tile x y)
 is_repeated lines n (RamData x y) = stands_before lines n (names_ram x y)
 is_repeated lines n statement = false
 
+-- the place that the statement of an extra bit names
+abbrev pub extra_place : ℕ → ℕ → ℕ → Place
+extra_place bank x y = record { bank = bank; px = x; py = y }
+
 -- a place outside the planes, or one that belongs to a tile
 abbrev pub extra_cause : Layouts → Option DeviceName → Statement → Option AscCause
 extra_cause layouts (Some device) (ExtraBit bank x y) =
-    cause_if (not (is_extra (layout_for layouts device) (record { bank = bank; px = x; py = y }))) ExtraPlace
+    cause_if (not (is_extra (layout_for layouts device) (extra_place bank x y))) ExtraPlace
 extra_cause layouts device statement = None
 
 -- a word that is not a value of the setting

@@ -19,7 +19,7 @@ use Rattle.asc_text.specs.Statements.{begins_with_dot, name_in}
 use Rattle.asc_text.specs.Rows.{row_bit, memory_bit}
 use Rattle.asc_text.specs.Blocks.{depth_at, statement_over, statement_at, dot_before, is_comment, device_before}
 use Rattle.ice_image.specs.Owned.{is_same_place}
-use Rattle.asc_text.specs.Faults.{asc_fault_of}
+use Rattle.asc_text.specs.Faults.{asc_fault_of, extra_place}
 
 -- ---- settings
 
@@ -88,7 +88,7 @@ extra_sets place bit = false
 abbrev pub sets_bit : Option Statement → ℕ → List ℕ → Bit → Bool
 sets_bit (Some (Tile kind x y)) depth line bit = row_sets x y (depth - 1) line bit && nat_lt 0 depth
 sets_bit (Some (RamData x y)) depth line bit = line_sets x y (depth - 1) line bit && nat_lt 0 depth
-sets_bit (Some (ExtraBit bank x y)) depth line bit = extra_sets (record { bank = bank; px = x; py = y }) bit
+sets_bit (Some (ExtraBit bank x y)) depth line bit = extra_sets (extra_place bank x y) bit
 sets_bit statement depth line bit = false
 
 -- A bit is 1 exactly where some line sets it.

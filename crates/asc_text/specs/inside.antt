@@ -8,5 +8,4 @@ pub mod Feeding
 pub mod RowNumbers
 pub mod Room
 pub mod Sent
-pub mod Head
 pub mod Symbols

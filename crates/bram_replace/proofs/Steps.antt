@@ -10,7 +10,7 @@ use Rattle.place_search.proofs.Places.{gathered_below-more, gathered_below-none,
 use Rattle.text_lines.specs.Lines.{lines_of, whole_lines_of, line_at}
 use Rattle.layout_file.specs.Layouts.{standard_layouts}
 use Rattle.asc_text.specs.Statements.{statement_in}
-use Rattle.asc_text.specs.Blocks.{depth_at, statement_at}
+use Rattle.asc_text.specs.Blocks.{depth_at, opened_before, statement_at}
 use Rattle.asc_text.specs.Faults.{asc_fault_of}
 use Rattle.bram_replace.specs.HexText.{Contents}
 use Rattle.bram_replace.specs.Columns.{column_count}
@@ -34,7 +34,7 @@ pub record Progress (from to : Contents) (text left out found : List ℕ) : Type
 -- ---- before the first line
 
 outside-first : (lines : List (List ℕ)) → is_in_ram lines 0 ≡ false
-unfolding depth_at
+unfolding depth_at opened_before
 outside-first lines = refl
 
 pub Progress-none : (from to : Contents) (text found : List ℕ) → found ≡ replicate (column_count from) 0 → Progress from to text text [] found

@@ -8,7 +8,7 @@ use Rattle.hex.specs.Hex.{encode_with, decode_pairs}
 use Rattle.bit_plane.specs.BitList.{word_of}
 use Rattle.asc_text.specs.Rows.{memory_bytes}
 use Rattle.asc_text.specs.Statements.{statement_in}
-use Rattle.asc_text.specs.Blocks.{depth_at, statement_over, statement_at}
+use Rattle.asc_text.specs.Blocks.{depth_at, opened_before, statement_over, statement_at}
 use Rattle.bram_replace.specs.declared.fault.BramFault.TheVariants.{Shape, SameColumns}
 use Rattle.bram_replace.specs.declared.fault.HexFault.TheVariants.{Digit, Width, Depth}
 use Rattle.bram_replace.specs.HexText.{Contents, before_comment, hex_fault_of, bits_in, contents_of}
@@ -120,10 +120,10 @@ line_stays = refl
 
 -- lines outside of RAMs stay, with their ends
 text_stays : replaced (codes ".device 1k \r\n\n.comment\nA") old_words new_words ≡ codes ".device 1k \r\n\n.comment\nA"
-unfolding lines_of whole_lines_of trimmed words_of pieces_of from_word number_of numbers_of statement_in depth_at statement_over line_after replaced gathered_below
+unfolding lines_of whole_lines_of trimmed words_of pieces_of from_word number_of numbers_of statement_in depth_at opened_before statement_over line_after replaced gathered_below
 text_stays = refl
 
 -- and no column is found
 none_found : found_in (codes ".device 1k \r\n") old_words ≡ 0 ∷ 0 ∷ 0 ∷ 0 ∷ []
-unfolding lines_of trimmed words_of pieces_of from_word number_of numbers_of statement_in depth_at statement_at found_in gathered_below
+unfolding lines_of trimmed words_of pieces_of from_word number_of numbers_of statement_in depth_at opened_before statement_at found_in gathered_below
 none_found = refl

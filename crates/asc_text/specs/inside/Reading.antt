@@ -32,7 +32,7 @@ use Rattle.asc_text.specs.Statements.{statement_in, begins_with_dot}
 use Rattle.asc_text.specs.inside.TileSets.{has_tile}
 use Rattle.asc_text.specs.Rows.{is_row, is_memory_line, memory_bytes}
 use Rattle.ice_image.specs.Owned.{is_extra}
-use Rattle.asc_text.specs.Faults.{cause_if, unknown_device, kind_cause, comment_cause, stray_cause}
+use Rattle.asc_text.specs.Faults.{cause_if, extra_place, unknown_device, kind_cause, comment_cause, stray_cause}
 use Rattle.asc_text.specs.inside.Gains.{bytes_set}
 use Rattle.asc_text.specs.Meaning.{row_sets, extra_sets}
 use Rattle.ice_image.specs.Bits.{Bit, Gains}
@@ -125,7 +125,7 @@ tile_refusal (Some image) kind x y = kind_cause (kind_of (device_of image) x y) 
 -- what is wrong with the place of an extra bit
 abbrev pub extra_refusal : Option AnyImage → ℕ → ℕ → ℕ → Option AscCause
 extra_refusal None bank x y = Some NoDevice
-extra_refusal (Some image) bank x y = cause_if (not (is_extra (configuration_of image).layout (record { bank = bank; px = x; py = y }))) ExtraPlace
+extra_refusal (Some image) bank x y = cause_if (not (is_extra (configuration_of image).layout (extra_place bank x y))) ExtraPlace
 
 -- what is wrong with a statement
 abbrev pub statement_refusal : ReaderState → Statement → Option AscCause
@@ -206,13 +206,17 @@ with_line (Some lines) line = Some (lines ++ line ∷ [])
 abbrev pub after_text : ReaderState → List ℕ → ReaderState
 after_text s line = record s { comment = if s.in_comment && nat_lt 0 (length line) then with_line s.comment line else s.comment }
 
--- what is expected behind the rows of a tile before that one: it, or a statement behind all sixteen
-abbrev pub before_row : TileKind → ℕ → ℕ → ℕ → Expected
-before_row kind x y row = if row == 16 then AnyStatement else Row kind x y row
+-- what is expected behind the lines below a statement before that one: it, or a statement behind all sixteen
+abbrev pub before_line : (ℕ → Expected) → ℕ → Expected
+before_line line row = if row == 16 then AnyStatement else line row
 
--- what is expected behind the lines of a RAM's contents before that one: it, or a statement behind all sixteen
+-- the same of the rows of a tile
+abbrev pub before_row : TileKind → ℕ → ℕ → ℕ → Expected
+before_row kind x y row = before_line (Row kind x y) row
+
+-- and of the lines of a RAM's contents
 abbrev pub before_memory : ℕ → ℕ → ℕ → Expected
-before_memory x y row = if row == 16 then AnyStatement else Memory x y row
+before_memory x y row = before_line (Memory x y) row
 
 -- what a statement changes
 abbrev pub TakesStatement : ReaderState → Statement → ReaderState → Type 0
@@ -224,7 +228,7 @@ TakesStatement s (NoSleep setting) new = new ≡ record s { no_sleep = setting }
 TakesStatement s (Tile kind x y) new = (new ≡ record s { tiles = new.tiles; expected = Row kind x y 0 }) × HasInserted x y s.tiles new.tiles
 TakesStatement s (RamData x y) new = (new ≡ record s { rams = new.rams; expected = Memory x y 0 }) × HasInserted x y s.rams new.rams
 TakesStatement s (ExtraBit bank x y) new = (new ≡ record s { image = new.image })
-    × ImageGains s.image new.image (extra_sets (record { bank = bank; px = x; py = y }))
+    × ImageGains s.image new.image (extra_sets (extra_place bank x y))
 TakesStatement s (Symbol net) new = new ≡ s
 
 -- a line that isn't of this form is refused
@@ -264,15 +268,10 @@ abbrev pub TakesLines : ReaderState → List ℕ → ℕ → List ℕ → Reader
 TakesLines s text zero rest new = (rest ≡ text) × (new ≡ s)
 TakesLines s text (suc count) rest new = (middle : List ℕ) × (between : ReaderState) × TakesLines s text count middle between × TakesFirst between middle rest new
 
--- that many rows of a tile were taken into an image, from that row on
-abbrev pub TakesRows : TileKind → ℕ → ℕ → ℕ → Option AnyImage → List ℕ → ℕ → List ℕ → Option AnyImage → Type 0
-TakesRows kind x y row before text count rest after = (s : ReaderState) → s.image ≡ before → s.expected ≡ Row kind x y row
-    → TakesLines s text count rest (record s { image = after; expected = before_row kind x y (row + count) })
-
--- that many lines of a RAM's contents were taken into an image, from that line on
-abbrev pub TakesMemoryLines : ℕ → ℕ → ℕ → Option AnyImage → List ℕ → ℕ → List ℕ → Option AnyImage → Type 0
-TakesMemoryLines x y row before text count rest after = (s : ReaderState) → s.image ≡ before → s.expected ≡ Memory x y row
-    → TakesLines s text count rest (record s { image = after; expected = before_memory x y (row + count) })
+-- that many of the lines below a statement were taken into an image, from that one on
+abbrev pub TakesBelow : (ℕ → Expected) → ℕ → Option AnyImage → List ℕ → ℕ → List ℕ → Option AnyImage → Type 0
+TakesBelow line row before text count rest after = (s : ReaderState) → s.image ≡ before → s.expected ≡ line row
+    → TakesLines s text count rest (record s { image = after; expected = before_line line (row + count) })
 
 -- ---- the end
 

@@ -61,6 +61,7 @@ fn number_before_name(text: &[u8]) -> Option<u32>
 }
 
 /// The statement of a line by its words.
+#[inline(never)]
 fn statement_by_words(line: &[u8]) -> Option<Statement>
     ensures { result ≡ spelled (first_word Spaces line.now) (behind_word Spaces line.now) }
 {

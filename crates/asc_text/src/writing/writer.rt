@@ -8,8 +8,7 @@ ghost use Rattle.ice_image.specs.Either.{configuration_of};
 ghost use Rattle.ice_image.specs.CommentLines.{IsCommentLine};
 ghost use Rattle.plane_map.specs.DeviceWords.{device_word};
 ghost use Rattle.asc_text.specs.Statements.{device_keyword, comment_keyword};
-ghost use Rattle.asc_text.specs.Canonical.{asc_text_of, comment_lines, with_word, warm_boot_lines, range_lines, no_sleep_lines};
-ghost use Rattle.asc_text.specs.inside.Head.{head_lines};
+ghost use Rattle.asc_text.specs.Canonical.{asc_text_of, head_lines, comment_lines, with_word, warm_boot_lines, range_lines, no_sleep_lines};
 ghost use Rattle.asc_text.specs.Meaning.{AscMeans};
 
 use crate::writing::extras::append_extra_bits;

@@ -9,7 +9,7 @@ ghost use Rattle.asc_text.specs.Rows.{is_row, is_memory_line, row_bit, memory_by
 ghost use Rattle.asc_text.specs.Meaning.{row_sets};
 ghost use Rattle.asc_text.specs.declared.reading.reader.Expected.TheVariants.{Row, Memory};
 ghost use Rattle.asc_text.specs.inside.Gains.{bytes_set};
-ghost use Rattle.asc_text.specs.inside.Reading.{state_of, HasKind, IsReady, TakesLines, TakesRows, TakesMemoryLines, GainsBits, is_lf_at};
+ghost use Rattle.asc_text.specs.inside.Reading.{state_of, HasKind, IsReady, TakesBelow, TakesLines, GainsBits, is_lf_at};
 
 use crate::reading::bits::set_memory_line;
 use crate::reading::reader::{Expected, Reader};
@@ -86,7 +86,7 @@ fn set_rows<'a>(
 ) -> TakenLines<'a>
     requires row { row < 16 }
     ensures within { row + result.count ≤ 16 }
-    ensures taken { TakesRows kind x y row image.old text.now result.count result.rest.now image.new }
+    ensures taken { TakesBelow (Row kind x y) row image.old text.now result.count result.rest.now image.new }
 {
     match image {
         Some(image) => set_rows_of_tile(image, kind, x, y, row, text),
@@ -109,7 +109,7 @@ fn set_rows_of_tile<'a>(
 ) -> TakenLines<'a>
     requires row { row < 16 }
     ensures within { row + result.count ≤ 16 }
-    ensures taken { TakesRows kind x y row (Some image.old) text.now result.count result.rest.now (Some image.new) }
+    ensures taken { TakesBelow (Row kind x y) row (Some image.old) text.now result.count result.rest.now (Some image.new) }
 {
     match image.tile_runs(x, y) {
         // Each width is written out, so that each has code of its own.
@@ -140,7 +140,7 @@ fn set_rows_of_width<'a>(
     requires short { width ≤ 64 }
     ensures within { first + result.count ≤ 16 }
     ensures taken { (kind : TileKind) → columns_of kind ≡ width
-        → TakesRows kind runs.x runs.y first (Some image.old) text.now result.count result.rest.now (Some image.new) }
+        → TakesBelow (Row kind runs.x runs.y) first (Some image.old) text.now result.count result.rest.now (Some image.new) }
 {
     let mut row = first;
     let mut left = text;
@@ -207,7 +207,7 @@ fn set_memory_lines<'a>(
     requires there { HasKind image.old x y TileKind.RamB }
     requires row { row < 16 }
     ensures within { row + result.count ≤ 16 }
-    ensures taken { TakesMemoryLines x y row image.old text.now result.count result.rest.now image.new }
+    ensures taken { TakesBelow (Memory x y) row image.old text.now result.count result.rest.now image.new }
 {
     match image {
         Some(image) => set_lines_of_ram(image, x, y, row, text),
@@ -229,7 +229,7 @@ fn set_lines_of_ram<'a>(
     requires there { kind_of (device_of image.old) x y ≡ Some TileKind.RamB }
     requires row { first < 16 }
     ensures within { first + result.count ≤ 16 }
-    ensures taken { TakesMemoryLines x y first (Some image.old) text.now result.count result.rest.now (Some image.new) }
+    ensures taken { TakesBelow (Memory x y) first (Some image.old) text.now result.count result.rest.now (Some image.new) }
 {
     let mut row = first;
     let mut left = text;

@@ -3,7 +3,7 @@ ghost use Rattle.std.specs.Prelude.{◌≡◌, ◌<◌, [], Some, None, true, If
 ghost use Rattle.ice_image.specs.Configuration.{blank_image, IsWhole};
 ghost use Rattle.ice_image.specs.Either.{configuration_of};
 ghost use Rattle.asc_text.specs.Meaning.{extra_sets};
-ghost use Rattle.asc_text.specs.Faults.{tile_named};
+ghost use Rattle.asc_text.specs.Faults.{extra_place, tile_named};
 ghost use Rattle.asc_text.specs.inside.Reading.{state_of, statement_refusal, setting_refusal, tile_refusal, extra_refusal, TakesStatement, Reports, ImageGains, HasKind};
 
 use crate::fault::{AscCause, TileXy};
@@ -149,7 +149,7 @@ fn tile_refusal(image: &Option<AnyImage>, kind: TileKind, x: u32, y: u32) -> Opt
 
 /// Sets an extra bit.
 fn set_extra_bit(image: &mut Option<AnyImage>, bank: u32, x: u32, y: u32) -> Result<(), AscCause>
-    ensures taken { OnOk result (ImageGains image.old image.new (extra_sets (record { bank = bank; px = x; py = y }))) }
+    ensures taken { OnOk result (ImageGains image.old image.new (extra_sets (extra_place bank x y))) }
     ensures accepted { OnOk result (extra_refusal image.old bank x y ≡ None) }
     ensures refused { IfErr result (λ cause. extra_refusal image.old bank x y ≡ Some cause) }
 {

@@ -1,5 +1,3 @@
-use Rattle.std.proofs.Common.{◌≡◌, [], refl, sym, ap, ◌∙◌, ◌++◌, List, ℕ}
-use Rattle.std.proofs.lemmas.List.{append-nil}
 use Rattle.text_lines.specs.Lines.{lines_of}
 use Rattle.asc_text.specs.inside.Symbols.{symbols_in}
 use Rattle.asc_text.proofs.Symbols.{symbols-more, symbols-all}

@@ -1,6 +1,5 @@
 use Rattle.std.proofs.Common.{◌++◌}
 use Rattle.std.proofs.lemmas.Result.{on_ok_weaker}
-use Rattle.text_lines.specs.Feeding.{refusal_of, taker_of}
 use Rattle.asc_text.proofs.Feeding.{front-of, taken-faultless}
 use Rattle.asc_text.proofs.reading.asc_reader.AscReader.feed.Goals as goal
 

@@ -1,6 +1,5 @@
 use Rattle.std.proofs.Common.{◌≡◌}
 use Rattle.std.specs.Prelude.{None}
-use Rattle.text_lines.specs.Lines.{lines_of}
 use Rattle.ice_image.specs.Either.{configuration_of}
 use Rattle.asc_text.specs.Faults.{Tells, asc_fault_of}
 use Rattle.asc_text.specs.Feeding.{StandsFor}

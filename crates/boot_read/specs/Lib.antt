@@ -1,0 +1,6 @@
+pub mod Headers
+pub mod Parts
+pub mod Meaning
+pub mod Faults
+pub mod Reading
+pub mod Joined

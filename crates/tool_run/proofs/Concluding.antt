@@ -75,10 +75,10 @@ concluded_run by task bytes made status files middle new_files input new_input o
       exact = foretold-texts task contents left texts (IsStatusFor status) are (λ needs.
           exact-answer task needs answer status k.statuses (λ zero_is. let w = whole zero_is in (w.0, w.2)) (λ four_is. let w = part four_is in (w.0, w.2)) (λ refusal. let r = refused refusal in (r.0, r.1)));
       untouched = k.untouched;
-      kept = λ not_zero not_four. ap by.contents (k.kept not_zero not_four) ∙ l.same_contents;
+      kept = λ not_zero not_four. k.kept not_zero not_four ∙ l.same_contents;
       unstored = λ why. elim why [
         | inl no_target ↦ ap by.store_faults (k.unasked no_target) ∙ l.same_store_faults
-        | inr not_made ↦ ap by.store_faults (k.kept not_made.0 not_made.1) ∙ l.same_store_faults
+        | inr not_made ↦ k.unstored not_made.0 not_made.1 ∙ l.same_store_faults
       ];
       aside = k.aside;
       unread = l.unread;

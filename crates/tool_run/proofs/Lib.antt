@@ -8,8 +8,8 @@ mod Loading
 mod Reaching
 -- from loading and delivering to what a run does
 mod Outcomes
--- the last need behind the others
-mod Fronts
+-- texts that are kept one after the other
+mod Keeping
 -- from what was made of the needs, and what became of it, to what a run does
 mod Concluding
 -- what all tools know of the tasks of their command lines

@@ -1,5 +1,5 @@
 -- What a load gives, and why it stops.
-use Rattle.std.proofs.Common.{◌≡◌, ℕ, zero, suc, ◌+◌, ◌^◌, ◌<◌, ◌≤◌, Bool, true, false, not, ◌||◌, List, [], ◌∷◌, ◌++◌, length, get_or, take, drop, refl, sym, ap, subst, ◌∙◌, inl, inr, arith, append_assoc}
+use Rattle.std.proofs.Common.{◌≡◌, ℕ, zero, suc, ◌+◌, ◌^◌, ◌<◌, ◌≤◌, Bool, true, false, not, ◌||◌, List, [], ◌∷◌, ◌++◌, length, get_or, take, drop, refl, sym, ap, subst, ◌∙◌, inl, inr, arith}
 use Rattle.std.specs.Prelude.{Option, None, Some, IsSome, IsErrOf, Err, IsSomeAnd, MatchOption, replicate, map}
 use Rattle.std.specs.FinMap.{get}
 use Rattle.std.specs.declared.alloc.AllocError.{AllocError}
@@ -113,32 +113,6 @@ stops_behind contents steady left input_faults before behind need texts loads lo
   untried = passes.untried;
 }
 stops_behind contents steady left input_faults before behind need texts loads loads_now new_loads input new_input Memory are le memory = tt
-
--- a need that is reached, with others behind all
-reaches_front : (contents : Option FileMap) (left : Option (List ℕ)) (front back : List Need) (need : Need) → Reaches contents left front need → Reaches contents left (front ++ back) need
-reaches_front contents left front back need r = record {
-  before = r.before;
-  behind = r.behind ++ back;
-  texts = r.texts;
-  order = ap (λ (all : List Need). all ++ back) r.order ∙ append_assoc r.before (need ∷ r.behind) back;
-  read = r.read;
-}
-
--- it stopped before others
-pub stops_front : {I : Type 0} (contents : Option FileMap) (steady : Bool) (left : I → Option (List ℕ)) (input_faults : I → ℕ) (front back : List Need) (loads new_loads : ℕ) (input new_input : I) (stop : LoadStop)
-    → StopsLoading contents steady left input_faults front loads new_loads input new_input stop → StopsLoading contents steady left input_faults (front ++ back) loads new_loads input new_input stop
-stops_front contents steady left input_faults front back loads new_loads input new_input (Failed load) fails = record {
-  reached = reaches_front contents (left input) front back (need_of load) fails.reached;
-  rose = fails.rose;
-  lacks = fails.lacks;
-  untried = fails.untried;
-}
-stops_front contents steady left input_faults front back loads new_loads input new_input (TooLong load) passes = record {
-  reached = reaches_front contents (left input) front back (need_of load) passes.reached;
-  longer = passes.longer;
-  untried = passes.untried;
-}
-stops_front contents steady left input_faults front back loads new_loads input new_input Memory stops = tt
 
 -- a need behind others that have texts was tried
 pub one-reached : {I : Type 0} (contents : Option FileMap) (left : I → Option (List ℕ)) (before behind : List Need) (need : Need) (texts : List (List ℕ)) (input new_input : I) → AreTextsOf contents (left input) before texts

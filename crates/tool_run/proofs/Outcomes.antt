@@ -1,5 +1,5 @@
 -- From loading and delivering to what a run does.
-use Rattle.std.proofs.Common.{◌≡◌, ◌⊎◌, ◌≤◌, ℕ, Bool, true, false, not, List, [], ◌∷◌, ◌++◌, refl, sym, ap, subst, ◌∙◌, inl, inr, arith}
+use Rattle.std.proofs.Common.{◌≡◌, ◌⊎◌, ◌≤◌, ℕ, Bool, true, false, not, List, [], ◌∷◌, refl, sym, ap, subst, ◌∙◌, inl, inr, arith}
 use Rattle.std.specs.Prelude.{Option, None, Some, Result, Ok, Err, IfOk, IfErr, MatchOption}
 use Rattle.std.proofs.lemmas.Bool.{cases_Bool, or_left, or_right}
 use Rattle.ice_io.specs.Faults.{Rose}
@@ -106,13 +106,13 @@ pub gives_of : {M : Type 0} (bytes : M → List ℕ) (made : Result M Stop) (ans
 gives_of bytes (Ok content) answer done stops = done
 gives_of bytes (Err stop) answer done stops = stops
 
--- and so where they are made of what was taken behind others
-pub gives_taken : {M : Type 0} (bytes : M → List ℕ) (made : Result M Stop) (answer : List (List ℕ) → Answer) (takes : List (List ℕ) → List ℕ → Type 0) (texts : List (List ℕ)) (taken : List ℕ)
-    → IfOk made (λ content. (before : List (List ℕ)) (last : List ℕ) → takes before last → answer (before ++ last ∷ []) ≡ Done (bytes content))
-    → IfErr made (λ stop. (before : List (List ℕ)) (last : List ℕ) → takes before last → StopsWith (answer (before ++ last ∷ [])) stop)
-    → takes texts taken → Gives bytes (answer (texts ++ taken ∷ [])) made
-gives_taken bytes (Ok content) answer takes texts taken done stops has = done texts taken has
-gives_taken bytes (Err stop) answer takes texts taken done stops has = stops texts taken has
+-- and so where they are made of texts that were taken
+pub gives_taken : {M : Type 0} (bytes : M → List ℕ) (made : Result M Stop) (answer : List (List ℕ) → Answer) (takes : List (List ℕ) → Type 0) (texts : List (List ℕ))
+    → IfOk made (λ content. (taken : List (List ℕ)) → takes taken → answer taken ≡ Done (bytes content))
+    → IfErr made (λ stop. (taken : List (List ℕ)) → takes taken → StopsWith (answer taken) stop)
+    → takes texts → Gives bytes (answer texts) made
+gives_taken bytes (Ok content) answer takes texts done stops has = done texts has
+gives_taken bytes (Err stop) answer takes texts done stops has = stops texts has
 
 pub refuses : (task : Task) (needs : List Need) (answer : Answer) (status : ℕ) (said : List ℕ) (S : List ℕ → Type 0) → RefusesWith answer status said → S (line_of task.tool_name said)
     → ((answered task needs answer).status ≡ status) × S (answered task needs answer).message

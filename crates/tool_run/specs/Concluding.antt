@@ -26,7 +26,8 @@ pub record Concludes {F O E M : Type 0} (contents : F → Option FileMap) (store
   pub target_line : status ≡ 4 → Writes (line_of tool_name (write_failed target)) (told errors) (told new_errors) (error_faults errors) (error_faults new_errors)
   pub memory : status ≡ 5 → Writes (line_of tool_name out_of_memory) (told errors) (told new_errors) (error_faults errors) (error_faults new_errors)
   pub untouched : status ≢ 0 → status ≢ 4 → new_output ≡ output
-  pub kept : status ≢ 0 → status ≢ 4 → new_files ≡ files
+  pub kept : status ≢ 0 → status ≢ 4 → contents new_files ≡ contents files
+  pub unstored : status ≢ 0 → status ≢ 4 → store_faults new_files ≡ store_faults files
   pub aside : target ≢ None → new_output ≡ output
   pub unasked : target ≡ None → new_files ≡ files
 

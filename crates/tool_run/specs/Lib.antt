@@ -3,9 +3,11 @@ pub mod Lines
 pub mod Tasks
 pub mod Effects
 pub mod Loads
+pub mod Keeping
 pub mod Stops
 pub mod Answering
 pub mod Concluding
 pub mod Jobs
 pub mod Runs
 pub mod AtOnce
+pub mod Collected

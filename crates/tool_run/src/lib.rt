@@ -2,7 +2,7 @@
 //! that to a file or to standard output, and tells a failure in one line on standard error.
 //!
 //! A `Tool` makes its answer of all that it loaded, and the answer is whole before its first byte goes out. A `PieceTool`
-//! takes its last need in pieces, and its answer is made while it is written.
+//! takes its needs in pieces, and its answer is made while it is written.
 //!
 //! `Task` (in `specs/Tasks.antt`) says what a command line asks for, and `outcome_of` what comes of it where nothing fails
 //! from outside. `Does` (in `specs/Runs.antt`) says what a run of a task does to files and streams, by its status, whether or not
@@ -11,8 +11,10 @@
 
 mod answering;
 mod at_once;
+mod collected;
 mod delivery;
 mod help;
+mod keeper;
 mod line;
 mod load;
 mod loaded;
@@ -22,6 +24,7 @@ mod tool;
 mod tool_taker;
 
 pub use at_once::{AtOnce, answer_at_once};
+pub use collected::Collected;
 pub use help::asks_for_help;
 pub use line::{Number, Phrase, Refusal, decimal, text};
 pub use load::Load;

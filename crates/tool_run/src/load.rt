@@ -4,9 +4,11 @@ ghost use Rattle.std.specs.declared.alloc.AllocError.{AllocError};
 ghost use Rattle.std.specs.Io.KnownBytes.{IsAtEnd};
 ghost use Rattle.ice_io.specs.Takers.{TakesMore};
 ghost use Rattle.tool_run.specs.Needs.{IsSound, is_stream, need_of, reads_files, reads_input};
+ghost use Rattle.tool_run.specs.Keeping.{KeepsTexts};
 ghost use Rattle.tool_run.specs.Loads.{AreTextsOf, IsReached, IsTextOf, StopsLoading};
 
-use ice_io::{Files, Source, TakeFault, Taker, feed_all, read_all};
+use crate::keeper::Keeper;
+use ice_io::{Files, Source, TakeFault, Taker, feed_all, load_into, read_all};
 use std::alloc::{AllocError, AllocFailed, Global};
 
 /// Bytes that a tool needs: those of a file, or of standard input where there is no name.
@@ -51,8 +53,8 @@ fn stop_of(fault: TakeFault, load: Load<'_>) -> LoadStop<'_>
     }
 }
 
-// The bytes of one need.
-fn load_one<'a, F: Files, I: Source>(
+/// The bytes of one need.
+pub(crate) fn load_one<'a, F: Files, I: Source>(
     alloc: Global,
     load: Load<'a>,
     files: &mut F,
@@ -83,41 +85,8 @@ fn load_one<'a, F: Files, I: Source>(
     }
 }
 
-/// Appends the bytes of each need, in order. The first that fails decides.
-pub(crate) fn load_all<'a, F: Files, I: Source>(
-    alloc: Global,
-    loads: &[Load<'a>],
-    files: &mut F,
-    input: &mut I,
-    texts: &mut Vec<Vec<u8>>,
-) -> Result<(), LoadStop<'a>>
-    requires { IsSound (map need_of loads.now) }
-    ensures texts { OnOk result ((read : List (List ℕ)) × AreTextsOf (F.contents files.old) (I.left input.old) (map need_of loads.now) read
-        × (map vec_items texts.new.items ≡ map vec_items texts.old.items ++ read)) }
-    ensures count { OnOk result (length texts.new.items ≡ length texts.old.items + length loads.now) }
-    ensures stops { IfErr result (StopsLoading (F.contents files.old) (F.steady files.old) I.left I.faults (map need_of loads.now)
-        (F.load_faults files.old) (F.load_faults files.new) input.old input.new) }
-    ensures end { OnOk result (reads_input (map need_of loads.now) ≡ true → IsAtEnd (I.left input.new)) }
-
-    ensures same_contents { F.contents files.new ≡ F.contents files.old }
-    ensures same_steady { F.steady files.new ≡ F.steady files.old }
-    ensures same_store_faults { F.store_faults files.new ≡ F.store_faults files.old }
-    ensures load_faults { F.load_faults files.old ≤ F.load_faults files.new }
-    ensures unread { reads_input (map need_of loads.now) ≡ false → input.new ≡ input.old }
-    ensures unreached { IsReached (F.contents files.old) I.left (map need_of loads.now) input.old input.new }
-    ensures unasked { reads_files (map need_of loads.now) ≡ false → files.new ≡ files.old }
-{
-    for load in loads {
-        match load_one(alloc, *load, files, input) {
-            Ok(bytes) => texts.push(bytes)?,
-            Err(stop) => return Err(stop),
-        }
-    }
-    Ok(())
-}
-
 /// Gives the bytes of one need to a taker, in pieces.
-pub(crate) fn load_into<'a, K: Taker, F: Files, I: Source>(
+pub(crate) fn feed_one<'a, K: Taker, F: Files, I: Source>(
     alloc: Global,
     load: Load<'a>,
     files: &mut F,
@@ -133,12 +102,14 @@ pub(crate) fn load_into<'a, K: Taker, F: Files, I: Source>(
     ensures end { OnOk result (is_stream (need_of load.entry).name ≡ true → IsAtEnd (I.left input.new)) }
 
     ensures same_contents { F.contents files.new ≡ F.contents files.old }
+    ensures same_steady { F.steady files.new ≡ F.steady files.old }
     ensures same_store_faults { F.store_faults files.new ≡ F.store_faults files.old }
+    ensures load_faults { F.load_faults files.old ≤ F.load_faults files.new }
     ensures unread { is_stream (need_of load.entry).name ≡ false → input.new ≡ input.old }
     ensures unasked { is_stream (need_of load.entry).name ≡ true → files.new ≡ files.old }
 {
     match load.name {
-        Some(name) => match files.load_into(alloc, name, load.limit, taker) {
+        Some(name) => match load_into(alloc, files, name, load.limit, taker) {
             Ok(()) => Ok(()),
             Err(fault) => Err(stop_of(fault, load)),
         },
@@ -147,4 +118,35 @@ pub(crate) fn load_into<'a, K: Taker, F: Files, I: Source>(
             Err(fault) => Err(stop_of(fault, load)),
         },
     }
+}
+
+/// Loads the text of each need into a keeper, in order. The first that fails decides.
+pub(crate) fn load_all<'a, K: Keeper, F: Files, I: Source>(
+    alloc: Global,
+    loads: &[Load<'a>],
+    files: &mut F,
+    input: &mut I,
+    keeper: &mut K,
+) -> Result<(), LoadStop<'a>>
+    requires sound { IsSound (map need_of loads.now) }
+    requires ready { K.is_ready keeper.old }
+    ensures texts { OnOk result ((texts : List (List ℕ)) × AreTextsOf (F.contents files.old) (I.left input.old) (map need_of loads.now) texts
+        × KeepsTexts K.has_kept keeper.old keeper.new texts) }
+    ensures stops { IfErr result (StopsLoading (F.contents files.old) (F.steady files.old) I.left I.faults (map need_of loads.now)
+        (F.load_faults files.old) (F.load_faults files.new) input.old input.new) }
+    ensures end { OnOk result (reads_input (map need_of loads.now) ≡ true → IsAtEnd (I.left input.new)) }
+
+    ensures same_contents { F.contents files.new ≡ F.contents files.old }
+    ensures same_store_faults { F.store_faults files.new ≡ F.store_faults files.old }
+    ensures unread { reads_input (map need_of loads.now) ≡ false → input.new ≡ input.old }
+    ensures unreached { IsReached (F.contents files.old) I.left (map need_of loads.now) input.old input.new }
+    ensures unasked { reads_files (map need_of loads.now) ≡ false → files.new ≡ files.old }
+{
+    for load in loads {
+        match keeper.keep_text(alloc, *load, files, input) {
+            Ok(()) => {}
+            Err(stop) => return Err(stop),
+        }
+    }
+    Ok(())
 }

@@ -1,5 +1,5 @@
 // A task from its loads to its target.
-ghost use Rattle.std.specs.Prelude.{◌≡◌, ◌+◌, length, map};
+ghost use Rattle.std.specs.Prelude.{◌≡◌, map};
 ghost use Rattle.tool_run.specs.Needs.{IsSound, need_of, text_of};
 ghost use Rattle.tool_run.specs.Lines.{line_of, out_of_memory, source_name, target_name};
 ghost use Rattle.tool_run.specs.Tasks.{Task};
@@ -9,7 +9,7 @@ ghost use Rattle.tool_run.specs.Jobs.{task_of};
 ghost use Rattle.tool_run.specs.Runs.{Does, outside, scene};
 
 use crate::answering::{answer_in_pieces, answer_whole};
-use crate::delivery::deliver;
+use crate::delivery::{Undelivered, deliver};
 use crate::line::{Phrase, Refusal, decimal, text, write_named, write_refusal};
 use crate::load::{Load, LoadStop};
 use crate::piece_tool::PieceTool;
@@ -57,6 +57,7 @@ fn write_out_of_memory<E: Sink>(errors: &mut E, tool_name: &str)
 
 // Delivers what the tool made, or says why there is nothing.
 fn conclude<C: Content, F: Files, O: Sink, E: Sink>(
+    alloc: Global,
     job: &Job<'_>,
     made: Result<C, Stop>,
     files: &mut F,
@@ -67,12 +68,16 @@ fn conclude<C: Content, F: Files, O: Sink, E: Sink>(
         files.old files.new output.old output.new errors.old errors.new }
 {
     match made {
-        Ok(content) => match deliver(job.target, content, files, output) {
+        Ok(content) => match deliver(alloc, job.target, content, files, output) {
             Ok(()) => 0,
-            Err(_) => {
+            Err(Undelivered::Failed) => {
                 let name = target_name(job.target);
                 write_named(errors, job.tool_name, "write failed: ", name, text(""));
                 4
+            }
+            Err(Undelivered::Memory) => {
+                write_out_of_memory(errors, job.tool_name);
+                5
             }
         },
         Err(Stop::Refused(refusal)) => {
@@ -131,14 +136,14 @@ pub fn perform<T: Tool, F: Files, I: Source, O: Sink, E: Sink>(
         (scene files.old input.old output.old errors.old) (scene files.new input.new output.new errors.new) }
 {
     match answer_whole(alloc, tool, job.loads, files, input) {
-        Ok(made) => conclude(job, made, files, output, errors),
+        Ok(made) => conclude(alloc, job, made, files, output, errors),
         Err(stop) => tell_stop(errors, job.tool_name, stop),
     }
 }
 
-/// Performs the job as `perform` does, but the tool takes its last load in pieces, as they are read, and its answer is made
-/// while it is written. The tool refuses, if it does, after its last load was read to the end and before the first byte goes
-/// out, so the statuses are the same.
+/// Performs the job as `perform` does, but the tool takes its loads in pieces, as they are read, and its answer is made while it
+/// is written. The tool refuses, if it does, after its last load was read to the end and before the first byte goes out, so the
+/// statuses are the same.
 pub fn perform_in_pieces<T: PieceTool, F: Files, I: Source, O: Sink, E: Sink>(
     alloc: Global,
     tool: &T,
@@ -148,14 +153,13 @@ pub fn perform_in_pieces<T: PieceTool, F: Files, I: Source, O: Sink, E: Sink>(
     output: &mut O,
     errors: &mut E,
 ) -> u8
-    requires sound { IsSound (map need_of job.now.loads.now) }
-    requires count { length job.now.loads.now ≡ T.before tool.now + 1 }
+    requires { IsSound (map need_of job.now.loads.now) }
     ensures { Does (outside F.contents F.steady F.load_faults F.store_faults I.left I.faults O.held O.faults E.held E.faults)
         (task_of job.now (T.answer_of tool.now)) result
         (scene files.old input.old output.old errors.old) (scene files.new input.new output.new errors.new) }
 {
     match answer_in_pieces(alloc, tool, job.loads, files, input) {
-        Ok(made) => conclude(job, made, files, output, errors),
+        Ok(made) => conclude(alloc, job, made, files, output, errors),
         Err(stop) => tell_stop(errors, job.tool_name, stop),
     }
 }

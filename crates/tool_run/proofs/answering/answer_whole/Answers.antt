@@ -1,4 +1,4 @@
-use Rattle.std.proofs.Common.{◌≡◌, ◌∙◌, ◌++◌, ℕ, List, ap, subst, sym}
+use Rattle.std.proofs.Common.{◌≡◌, [], List, ℕ, ap, subst, sym}
 use Rattle.std.specs.Prelude.{map, vec_items}
 use Rattle.tool_run.specs.Needs.{need_of}
 use Rattle.tool_run.specs.Loads.{AreTextsOf}
@@ -8,9 +8,9 @@ use Rattle.tool_run.proofs.answering.answer_whole.Goals as goal
 pub returns-in-Ok : goal.returns-in-Ok
 returns-in-Ok g c =
     let needs = map need_of c.args.loads.now in
-    let texts = map vec_items c.load_all.new.texts.items in
+    let texts = map vec_items c.load_all.new.keeper.items in
     let l = c.in-Ok.ensures in
-    let read : texts ≡ l.texts.0 = l.texts.2 ∙ ap (λ old. map vec_items old ++ l.texts.0) c.new-loaded.ensures.items in
+    let read : texts ≡ l.texts.0 = l.texts.2 tt [] (ap (map vec_items) c.new-loaded.ensures.items) in
     record {
       made = (
         texts,

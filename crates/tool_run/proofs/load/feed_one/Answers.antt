@@ -1,14 +1,14 @@
 use Rattle.std.proofs.Common.{ap}
 use Rattle.tool_run.specs.Needs.{text_of}
 use Rattle.tool_run.proofs.Loading.{failed-is, file_stops, input_stops}
-use Rattle.tool_run.proofs.load.load_into.Goals as goal
+use Rattle.tool_run.proofs.load.feed_one.Goals as goal
 
 pub returns-in-Err-clause-stops : goal.returns-in-Err-clause-stops
 returns-in-Err-clause-stops g c =
     let e = c.stop_of.ensures in
     let f = c.in-Err.ensures in
     file_stops (g.F.Files.contents c.args.files.now) (g.F.Files.steady c.args.files.now) g.I.Source.left g.I.Source.faults c.args.load c.in-Some.name.now
-    (g.F.Files.load_faults c.args.files.now) (g.F.Files.load_faults c.load_into.new.self) c.args.input.now c.in-Err.fault c.stop_of.result
+    (g.F.Files.load_faults c.args.files.now) (g.F.Files.load_faults c.load_into.new.files) c.args.input.now c.in-Err.fault c.stop_of.result
     (ap text_of c.in-Some.is) (λ is. f.failed (failed-is c.in-Err.fault _ is)) (λ is. f.lacks (failed-is c.in-Err.fault _ is)) (λ is. f.too_long (failed-is c.in-Err.fault _ is)) e.failed e.too_long e.memory
 
 pub returns-in-Err-feed_all-clause-stops : goal.returns-in-Err-feed_all-clause-stops

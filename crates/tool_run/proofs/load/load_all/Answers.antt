@@ -1,13 +1,13 @@
-use Rattle.std.proofs.Common.{◌≡◌, ◌+◌, length, length-append, ◌++◌, ◌∷◌, [], List, false, drop, take, get_or, sym, ap, subst, ◌∙◌, arith, append_assoc}
-use Rattle.std.specs.Prelude.{None, map, vec_items}
+use Rattle.std.proofs.Common.{◌+◌, ◌++◌, ◌∷◌, [], List, false, drop, take, get_or, sym, ap, subst, ◌∙◌, arith}
+use Rattle.std.specs.Prelude.{None, map}
 use Rattle.std.specs.Io.KnownBytes.{IsAtEnd}
-use Rattle.std.proofs.lemmas.List.{map_push}
 use Rattle.std.proofs.lemmas.List.Folds.{list_any-append}
 use Rattle.tool_run.specs.declared.load.Load.{Load}
 use Rattle.tool_run.specs.Needs.{Need, is_stream, need_of, reads_input}
 use Rattle.tool_run.specs.Loads.{AreTextsOf, IsReached, IsTextOf, StopsLoading}
 use Rattle.std.proofs.Math.Bool.{or-false}
 use Rattle.std.proofs.lemmas.Bool.{or_parts}
+use Rattle.tool_run.proofs.Keeping.{KeepsTexts-trans}
 use Rattle.tool_run.proofs.Loading.{end-here, file-at, file-before, limit-at, one-reached, split-need, stops_behind, stops_now, stream-at, take-need, take-needs, texts-append}
 use Rattle.tool_run.proofs.load.load_all.Goals as goal
 
@@ -15,42 +15,19 @@ use Rattle.tool_run.proofs.load.load_all.Goals as goal
 none : Load
 none = record { name = None; limit = 0 }
 
-pub load_one-requires : goal.load_one-requires
+pub keep_text-requires-clause-limit : goal.keep_text-requires-clause-limit
 unfolding none
-load_one-requires g c = limit-at c.args.loads.now c.loop-load.load-index none c.loop-load-test.true c.requires
-
-pub returns-in_err-push-in-Ok-clause-unread : goal.returns-in_err-push-in-Ok-clause-unread
-unfolding none
-returns-in_err-push-in-Ok-clause-unread g c = λ unread.
-    c.in-Ok.ensures.unread (file-at c.args.loads.now c.loop-load.load-index none c.loop-load-test.true unread) ∙ c.loop-load.invariant.unread unread
+keep_text-requires-clause-limit g c = limit-at c.args.loads.now c.loop-load.load-index none c.loop-load-test.true c.requires.sound
 
 pub returns-in-Err-clause-unread : goal.returns-in-Err-clause-unread
 unfolding none
 returns-in-Err-clause-unread g c = λ unread.
     c.in-Err.ensures.unread (file-at c.args.loads.now c.loop-load.load-index none c.loop-load-test.true unread) ∙ c.loop-load.invariant.unread unread
 
-pub returns-in_err-push-in-Ok-clause-unasked : goal.returns-in_err-push-in-Ok-clause-unasked
-unfolding none
-returns-in_err-push-in-Ok-clause-unasked g c = λ unasked.
-    c.in-Ok.ensures.unasked (stream-at c.args.loads.now c.loop-load.load-index none c.loop-load-test.true unasked) ∙ c.loop-load.invariant.unasked unasked
-
 pub returns-in-Err-clause-unasked : goal.returns-in-Err-clause-unasked
 unfolding none
 returns-in-Err-clause-unasked g c = λ unasked.
     c.in-Err.ensures.unasked (stream-at c.args.loads.now c.loop-load.load-index none c.loop-load-test.true unasked) ∙ c.loop-load.invariant.unasked unasked
-
-pub returns-in_err-push-in-Ok-clause-unreached : goal.returns-in_err-push-in-Ok-clause-unreached
-unfolding none
-returns-in_err-push-in-Ok-clause-unreached g c =
-    let F = g.F.Files in
-    let I = g.I.Source in
-    let k = c.loop-load.load-index in
-    let needs = map need_of c.args.loads.now in
-    let need = need_of (get_or c.args.loads.now k none) in
-    let i = c.loop-load.invariant in
-    let same = i.untried c.loop-load-test.true in
-    subst (λ (all : List Need). IsReached (F.contents c.args.files.now) I.left all c.args.input.now c.load_one.new.input) (sym (split-need c.args.loads.now k none c.loop-load-test.true))
-    (one-reached (F.contents c.args.files.now) I.left (take k needs) (drop (k + 1) needs) need i.texts.0 c.args.input.now c.load_one.new.input i.texts.1 (λ file. c.in-Ok.ensures.unread file ∙ same))
 
 pub returns-in-Err-clause-unreached : goal.returns-in-Err-clause-unreached
 unfolding none
@@ -62,8 +39,8 @@ returns-in-Err-clause-unreached g c =
     let need = need_of (get_or c.args.loads.now k none) in
     let i = c.loop-load.invariant in
     let same = i.untried c.loop-load-test.true in
-    subst (λ (all : List Need). IsReached (F.contents c.args.files.now) I.left all c.args.input.now c.load_one.new.input) (sym (split-need c.args.loads.now k none c.loop-load-test.true))
-    (one-reached (F.contents c.args.files.now) I.left (take k needs) (drop (k + 1) needs) need i.texts.0 c.args.input.now c.load_one.new.input i.texts.1 (λ file. c.in-Err.ensures.unread file ∙ same))
+    subst (λ (all : List Need). IsReached (F.contents c.args.files.now) I.left all c.args.input.now c.keep_text.new.input) (sym (split-need c.args.loads.now k none c.loop-load-test.true))
+    (one-reached (F.contents c.args.files.now) I.left (take k needs) (drop (k + 1) needs) need i.texts.0 c.args.input.now c.keep_text.new.input i.texts.1 (λ file. c.in-Err.ensures.unread file ∙ same))
 
 pub returns-in-Err-clause-stops : goal.returns-in-Err-clause-stops
 unfolding none
@@ -74,7 +51,7 @@ returns-in-Err-clause-stops g c =
     let needs = map need_of c.args.loads.now in
     let need = need_of (get_or c.args.loads.now k none) in
     let old = c.loop-load in
-    let new = c.load_one.new in
+    let new = c.keep_text.new in
     let i = c.loop-load.invariant in
     let stops : List Need → Type 0 = λ all. StopsLoading (F.contents c.args.files.now) (F.steady c.args.files.now) I.left I.faults all (F.load_faults c.args.files.now) (F.load_faults new.files) c.args.input.now new.input c.in-Err.stop in
     subst stops (sym (split-need c.args.loads.now k none c.loop-load-test.true))
@@ -96,22 +73,20 @@ loop-load-preserved g c =
     let i = c.loop-load.invariant in
     let e = c.in-Ok.ensures in
     let old = c.loop-load in
-    let new = c.load_one.new in
-    let bytes = c.in-Ok.bytes.items in
+    let new = c.keep_text.new in
+    let bytes = e.text.0 in
     let contents = F.contents c.args.files.now in
     let left = I.left c.args.input.now in
     let same = i.untried lt in
-    let here : IsTextOf contents left need bytes = subst (λ known. IsTextOf known left need bytes) i.same_contents (subst (λ source. IsTextOf (F.contents old.files) (I.left source) need bytes) same e.text) in
-    let pushed : map vec_items c.push.new.self.items ≡ map vec_items old.texts.items ++ bytes ∷ [] = rw c.in_ok-push-in-Ok.ensures.items (map_push vec_items old.texts.items c.in-Ok.bytes) in
-    let one_more : length c.push.new.self.items ≡ length old.texts.items + 1 = ap length c.in_ok-push-in-Ok.ensures.items ∙ length-append old.texts.items (c.in-Ok.bytes ∷ []) in
+    let here : IsTextOf contents left need bytes = subst (λ known. IsTextOf known left need bytes) i.same_contents (subst (λ source. IsTextOf (F.contents old.files) (I.left source) need bytes) same e.text.1) in
     record {
       texts = (
         i.texts.0 ++ bytes ∷ [],
         subst (λ (all : List Need). AreTextsOf contents left all (i.texts.0 ++ bytes ∷ [])) (sym (take-need loads k none lt)) (texts-append contents left before (need ∷ []) i.texts.0 (bytes ∷ []) i.texts.1 (here, tt)),
-        pushed ∙ ap (λ front. front ++ bytes ∷ []) i.texts.2 ∙ append_assoc (map vec_items c.args.texts.now.items) i.texts.0 (bytes ∷ []),
+        KeepsTexts-trans g.K.Keeper.has_kept c.args.keeper.now old.keeper new.self i.texts.0 (bytes ∷ []) i.texts.2 e.text.2,
       );
-      count = omega (arith, i.count, one_more);
-      untried = λ more. e.unread (file-before loads k none c.requires (omega (arith, more))) ∙ same;
+      ready = e.ready;
+      untried = λ more. e.unread (file-before loads k none c.requires.sound (omega (arith, more))) ∙ same;
       unread = λ unread. e.unread (file-at loads k none lt unread) ∙ i.unread unread;
       unreached = subst (λ (all : List Need). IsReached contents I.left all c.args.input.now new.input) (sym (split-need loads k none lt))
           (one-reached contents I.left before (drop (k + 1) needs) need i.texts.0 c.args.input.now new.input i.texts.1 (λ file. e.unread file ∙ same));

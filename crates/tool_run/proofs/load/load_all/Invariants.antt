@@ -1,7 +1,8 @@
-use Rattle.std.proofs.Common.{◌≡◌, ◌+◌, ◌<◌, ◌≤◌, ◌++◌, length, ℕ, List, true, false, take}
-use Rattle.std.specs.Prelude.{map, vec_items}
+use Rattle.std.proofs.Common.{◌≡◌, ◌<◌, ◌≤◌, length, ℕ, List, true, false, take}
+use Rattle.std.specs.Prelude.{map}
 use Rattle.std.specs.Io.KnownBytes.{IsAtEnd}
 use Rattle.tool_run.specs.Needs.{need_of, reads_input, reads_files}
+use Rattle.tool_run.specs.Keeping.{KeepsTexts}
 use Rattle.tool_run.specs.Loads.{AreTextsOf, IsReached}
 use Rattle.tool_run.proofs.load.load_all.Given as goal
 
@@ -13,8 +14,8 @@ invariant-loop-load g l =
     let needs = map need_of l.loads in
     let before = take l.load-index needs in
     record {
-      texts : (read : List (List ℕ)) × AreTextsOf (F.contents l.fn.files) (I.left l.fn.input) before read × (map vec_items l.texts.items ≡ map vec_items l.fn.texts.items ++ read);
-      count : length l.texts.items ≡ length l.fn.texts.items + l.load-index;
+      texts : (texts : List (List ℕ)) × AreTextsOf (F.contents l.fn.files) (I.left l.fn.input) before texts × KeepsTexts g.K.Keeper.has_kept l.fn.keeper l.keeper texts;
+      ready : g.K.Keeper.is_ready l.keeper;
       untried : l.load-index < length l.loads → l.input ≡ l.fn.input;
       unread : reads_input needs ≡ false → l.input ≡ l.fn.input;
       unreached : IsReached (F.contents l.fn.files) I.left needs l.fn.input l.input;

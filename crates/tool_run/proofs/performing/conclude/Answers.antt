@@ -2,11 +2,13 @@ use Rattle.std.proofs.Common.{◌++◌, ◌∙◌, ℕ, List, codes, ap, subst, 
 use Rattle.std.proofs.lemmas.List.{append-nil}
 use Rattle.tool_run.specs.Lines.{line_of, phrase_text}
 use Rattle.tool_run.specs.Effects.{Writes}
+use Rattle.tool_run.proofs.Loading.{failed-is}
 use Rattle.tool_run.proofs.performing.conclude.Goals as goal
 
-pub returns-in-Err : goal.returns-in-Err
-returns-in-Err g c =
-    let e = c.in-Err.ensures in
+pub returns-in-Err-Failed : goal.returns-in-Err-Failed
+returns-in-Err-Failed g c =
+    let e = c.in-Err-Failed.ensures in
+    let failed = failed-is {T = Unit {0}} c.in-Err-Failed.field-0 _ c.in-Err-Failed.field-0-is in
     let writes : List ℕ → Type 0 = λ said. Writes (line_of c.args.job.now.tool_name.now said) (g.E.Sink.held c.args.errors.now) (g.E.Sink.held c.write_named.new.errors) (g.E.Sink.faults c.args.errors.now) (g.E.Sink.faults c.write_named.new.errors) in
     let said = codes "write failed: " ++ c.target_name-name.result.now in
     record {
@@ -14,12 +16,13 @@ returns-in-Err g c =
       whole = λ zero_is. absurd (omega arith);
       silent = λ zero_is. absurd (omega arith);
       refused = λ refusal. absurd (grind arith);
-      part = λ four_is. rw c.in-Ok.is e.part;
-      rose = λ four_is. e.failed;
+      part = λ four_is. rw c.in-Ok.is (e.part failed);
+      rose = λ four_is. e.failed failed;
       target_line = λ four_is. subst writes (ap (λ phrase. said ++ phrase_text phrase) c.text.ensures ∙ append-nil said ∙ ap (λ name. codes "write failed: " ++ name) c.target_name-name.ensures) c.write_named.ensures;
       memory = λ five_is. absurd (omega arith);
       untouched = λ not_zero not_four. absurd (not_four refl);
       kept = λ not_zero not_four. absurd (not_four refl);
+      unstored = λ not_zero not_four. absurd (not_four refl);
       aside = e.aside;
       unasked = e.same_files;
     }

@@ -1,8 +1,8 @@
 // Files and streams, of the system and in memory.
 
 use ice_io::{
-    DirFiles, Failed, Files, MemFiles, MemSink, MemSource, NamedFile, PutFault, Source, StdSink,
-    StdSource, StoreFault, TakeFault, Taker, read_all, write_whole,
+    ContentFault, DirFiles, Failed, Files, MemFiles, MemSink, MemSource, NamedFile, PutFault,
+    Source, StdSink, StdSource, StoreFault, TakeFault, Taker, load_into, read_all, write_whole,
 };
 use std::alloc::{AllocError, Global};
 use std::fs;
@@ -113,7 +113,10 @@ pub(super) fn is_kept_in_pieces<F: Files>(
     bytes: &[u8],
     limit: u32,
 ) -> Result<bool, TakeFault> {
-    if files.store_content(name, bytes.to_vec(alloc)?).is_err() {
+    if files
+        .store_content(alloc, name, bytes.to_vec(alloc)?)
+        .is_err()
+    {
         return Ok(false);
     }
     let mut compared = Compared {
@@ -121,7 +124,7 @@ pub(super) fn is_kept_in_pieces<F: Files>(
         taken: 0,
         are_same: true,
     };
-    files.load_into(alloc, name, limit as usize, &mut compared)?;
+    load_into(alloc, files, name, limit as usize, &mut compared)?;
     Ok(compared.are_same && compared.taken == bytes.len() as u64)
 }
 
@@ -157,8 +160,8 @@ fn faults_of_real_files_are_told(rt: HostRuntime) -> Result<(), Fail> {
         let fault = StoreFault::Failed { opened, written: 0 };
         assert_eq!(rt; files.store(name, b"abc"), Err(fault));
         assert_eq!(rt;
-            files.store_content(name, b"abc".to_vec(rt.alloc())?),
-            Err(fault)
+            files.store_content(rt.alloc(), name, b"abc".to_vec(rt.alloc())?),
+            Err(ContentFault::Store(fault))
         );
     }
     let missing = files.load(rt.alloc(), "ice_io_missing", 3);
@@ -168,8 +171,9 @@ fn faults_of_real_files_are_told(rt: HostRuntime) -> Result<(), Fail> {
         taken: 0,
         are_same: true,
     };
-    let missing = files.load_into(rt.alloc(), "ice_io_missing", 3, &mut compared);
+    let missing = load_into(rt.alloc(), &mut files, "ice_io_missing", 3, &mut compared);
     assert!(rt; matches!(missing, Err(TakeFault::Failed)));
+    assert_eq!(rt; files.read_at("ice_io_missing", 0, &mut [0]), Err(Failed));
     Ok(())
 }
 
@@ -188,6 +192,42 @@ fn files_in_memory_are_stored_and_loaded(rt: HostRuntime) -> Result<(), Fail> {
         Ok(true)
     );
     assert_eq!(rt; files.bytes_of("a"), Some(b"abc".as_slice()));
+    Ok(())
+}
+
+/// What a read of a part gives: the bytes at the front of the buffer, or its failure.
+pub(super) fn part_at<'a, F: Files>(
+    files: &mut F,
+    name: &str,
+    at: u64,
+    into: &'a mut [u8],
+) -> Result<&'a [u8], Failed> {
+    match files.read_at(name, at, into) {
+        Ok(count) => Ok(&into[..count]),
+        Err(Failed) => Err(Failed),
+    }
+}
+
+#[test]
+fn a_file_in_memory_is_read_in_parts(rt: HostRuntime) -> Result<(), Fail> {
+    let alloc = rt.alloc();
+    let mut given = Vec::new(alloc);
+    given.push(NamedFile {
+        name: String::from_str(alloc, "a")?,
+        bytes: b"abcde".to_vec(alloc)?,
+    })?;
+    let mut files = MemFiles::new(alloc, given, "b", 0, 2, [3].to_vec(alloc)?)?;
+    for (name, at, want) in [
+        ("a", 0, Ok(b"ab".as_slice())),
+        ("a", 2, Ok(b"cd".as_slice())),
+        ("a", 4, Err(Failed)),
+        ("a", 4, Ok(b"e".as_slice())),
+        ("a", 5, Ok(b"".as_slice())),
+        ("a", u64::MAX, Ok(b"".as_slice())),
+        ("b", 0, Err(Failed)),
+    ] {
+        assert_eq!(rt; part_at(&mut files, name, at, &mut [0; 3]), want);
+    }
     Ok(())
 }
 

@@ -3,14 +3,13 @@ ghost use Rattle.std.specs.Prelude.{◌≡◌, ◌∷◌, [], codes, if◌then�
 ghost use Rattle.tool_run.specs.Tasks.{Done, Refused};
 ghost use Rattle.tool_run.specs.Stops.{StopsWith};
 
-use ice_io::{
-    Content, Files, MemFiles, MemSink, MemSource, NamedFile, StoreFault, TakeFault, Taker,
-};
+use ice_io::{Failed, Files, MemFiles, MemSink, MemSource, NamedFile, StoreFault, TakeFault};
 use std::alloc::{AllocError, Global};
 use std::test::Fail;
 use tool_run::{Job, Load, PieceTool, Refusal, Stop, Tool, perform, perform_in_pieces, text};
 
-/// Files that note each call: `l` for a load, `p` for one in pieces and `s` for a store, and the name.
+/// Files that note each call: `l` for a load, `p` for the first part of one in pieces and `s` for a store, and the name. They
+/// have the three calls alone that are required of files.
 #[derive(Drop)]
 struct Watched<F: Files> {
     files: F,
@@ -41,25 +40,16 @@ impl<F: Files> Files for Watched<F> {
         self.files.load(alloc, name, limit)
     }
 
-    fn load_into<T: Taker>(
-        &mut self,
-        alloc: Global,
-        name: &str,
-        limit: usize,
-        taker: &mut T,
-    ) -> Result<(), TakeFault> {
-        self.note(" p ", name);
-        self.files.load_into(alloc, name, limit, taker)
+    fn read_at(&mut self, name: &str, at: u64, into: &mut [u8]) -> Result<usize, Failed> {
+        if at == 0 {
+            self.note(" p ", name);
+        }
+        self.files.read_at(name, at, into)
     }
 
     fn store(&mut self, name: &str, bytes: &[u8]) -> Result<(), StoreFault> {
         self.note(" s ", name);
         self.files.store(name, bytes)
-    }
-
-    fn store_content<C: Content>(&mut self, name: &str, content: C) -> Result<(), StoreFault> {
-        self.note(" s ", name);
-        self.files.store_content(name, content)
     }
 }
 
@@ -106,19 +96,19 @@ impl PieceTool for Stamp {
 
     ghost answer_of = { λ tool texts. if tool.refuses then Refused (codes "no") else Done (33 ∷ []) };
 
-    ghost before = { λ tool. 1 };
-
     ghost takes = { λ tool texts intake bytes. Unit {0} };
 
     ghost fed = { λ intake. 0 };
 
-    fn begin(&self, _alloc: Global, _loaded: &Vec<Vec<u8>>) -> bool {
+    fn begin(&self, _alloc: Global) -> bool {
         false
     }
 
     fn feed(&self, intake: &mut bool, piece: &[u8]) {
         *intake |= !piece.is_empty();
     }
+
+    fn close(&self, _alloc: Global, _intake: &mut bool) {}
 
     fn finish(&self, alloc: Global, _intake: bool) -> Result<Vec<u8>, Stop> {
         stamp_answer(alloc, self.refuses)
@@ -212,14 +202,14 @@ fn calls_are(
 #[test]
 fn files_are_loaded_in_their_order_and_stored_once(rt: HostRuntime) -> Result<(), Fail> {
     for (first, second, limit, refuses, room, status, whole, in_pieces) in [
-        ("a", "b", 9, false, 9, 0, " l a l b s out", " l a p b s out"),
-        ("b", "a", 9, false, 9, 0, " l b l a s out", " l b p a s out"),
-        ("a", "a", 9, false, 9, 0, " l a l a s out", " l a p a s out"),
-        ("x", "b", 9, false, 9, 3, " l x", " l x"),
-        ("a", "x", 9, false, 9, 3, " l a l x", " l a p x"),
-        ("a", "b", 1, false, 9, 6, " l a l b", " l a p b"),
-        ("a", "b", 9, true, 9, 1, " l a l b", " l a p b"),
-        ("a", "b", 9, false, 0, 4, " l a l b s out", " l a p b s out"),
+        ("a", "b", 9, false, 9, 0, " l a l b s out", " p a p b s out"),
+        ("b", "a", 9, false, 9, 0, " l b l a s out", " p b p a s out"),
+        ("a", "a", 9, false, 9, 0, " l a l a s out", " p a p a s out"),
+        ("x", "b", 9, false, 9, 3, " l x", " p x"),
+        ("a", "x", 9, false, 9, 3, " l a l x", " p a p x"),
+        ("a", "b", 1, false, 9, 6, " l a l b", " p a p b"),
+        ("a", "b", 9, true, 9, 1, " l a l b", " p a p b"),
+        ("a", "b", 9, false, 0, 4, " l a l b s out", " p a p b s out"),
     ] {
         let run = Run {
             first,

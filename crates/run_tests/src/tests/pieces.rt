@@ -1,4 +1,4 @@
-// A tool that takes its input in pieces, from a file or standard input.
+// A tool that takes what it needs in pieces, from files or standard input.
 ghost use Rattle.std.specs.Prelude.{◌≡◌, ◌∷◌, [], ◌%◌, codes, if◌then◌else◌, IfOk, IfErr};
 ghost use Rattle.tool_run.specs.Tasks.{Done, Refused};
 ghost use Rattle.tool_run.specs.Stops.{StopsWith};
@@ -8,19 +8,19 @@ use std::alloc::{AllocError, Global};
 use std::test::Fail;
 use tool_run::{Job, Load, PieceTool, Refusal, Stop, perform_in_pieces, text};
 
-/// Counts the bytes of its last need, and refuses a byte 0 among them.
+/// Counts the bytes of its needs, by 256, and refuses a byte 0 among them.
 struct Counting;
 
 #[derive(Drop)]
 struct Count {
-    bytes: u64,
+    bytes: u8,
     has_zero: bool,
 }
 
 /// The answer to a count.
-fn answer_to(alloc: Global, bytes: u64, has_zero: bool) -> Result<Vec<u8>, Stop>
-    ensures bytes { IfOk result (λ made. (if has_zero then Refused (codes "zero") else Done (bytes % 256 ∷ [])) ≡ Done made.items) }
-    ensures stops { IfErr result (StopsWith (if has_zero then Refused (codes "zero") else Done (bytes % 256 ∷ []))) }
+fn answer_to(alloc: Global, bytes: u8, has_zero: bool) -> Result<Vec<u8>, Stop>
+    ensures bytes { IfOk result (λ made. (if has_zero then Refused (codes "zero") else Done (bytes ∷ [])) ≡ Done made.items) }
+    ensures stops { IfErr result (StopsWith (if has_zero then Refused (codes "zero") else Done (bytes ∷ []))) }
 {
     if has_zero {
         return Err(Stop::Refused(Refusal {
@@ -30,27 +30,26 @@ fn answer_to(alloc: Global, bytes: u64, has_zero: bool) -> Result<Vec<u8>, Stop>
             fourth: text(""),
         }));
     }
-    Ok(Vec::from_slice(alloc, &[(bytes % 256) as u8])?)
+    Ok(Vec::from_slice(alloc, &[bytes])?)
 }
 
 impl PieceTool for Counting {
-    ghost use Rattle.std.specs.Prelude.{◌≡◌, ◌∷◌, [], ◌-◌, ◌%◌, length, codes, get_or, nat_eq, if◌then◌else◌};
-    ghost use Rattle.std.specs.List.{list_any};
+    ghost use Rattle.std.specs.Prelude.{◌≡◌, ◌∷◌, [], ◌++◌, ◌%◌, length, codes, nat_eq, if◌then◌else◌};
+    ghost use Rattle.std.specs.List.{concat, list_any};
     ghost use Rattle.tool_run.specs.Tasks.{Done, Refused};
 
     type Intake = Count;
 
     type Made = Vec<u8>;
 
-    ghost answer_of = { λ tool texts. if list_any (λ byte. nat_eq byte 0) (get_or texts (length texts - 1) []) then Refused (codes "zero") else Done (length (get_or texts (length texts - 1) []) % 256 ∷ []) };
+    ghost answer_of = { λ tool texts. if list_any (λ byte. nat_eq byte 0) (concat texts) then Refused (codes "zero") else Done (length (concat texts) % 256 ∷ []) };
 
-    ghost before = { λ tool. 0 };
+    ghost takes = { λ tool texts count bytes. (count.bytes ≡ length (concat texts ++ bytes) % 256)
+        × (count.has_zero ≡ list_any (λ byte. nat_eq byte 0) (concat texts ++ bytes)) };
 
-    ghost takes = { λ tool texts count bytes. (count.bytes ≡ length bytes) × (count.has_zero ≡ list_any (λ byte. nat_eq byte 0) bytes) };
+    ghost fed = { λ count. 0 };
 
-    ghost fed = { λ count. count.bytes };
-
-    fn begin(&self, _alloc: Global, _loaded: &Vec<Vec<u8>>) -> Count {
+    fn begin(&self, _alloc: Global) -> Count {
         Count {
             bytes: 0,
             has_zero: false,
@@ -58,9 +57,11 @@ impl PieceTool for Counting {
     }
 
     fn feed(&self, count: &mut Count, piece: &[u8]) {
-        count.bytes += piece.len() as u64;
+        count.bytes = ((count.bytes as usize + piece.len()) % 256) as u8;
         count.has_zero |= piece.contains(&0);
     }
+
+    fn close(&self, _alloc: Global, _count: &mut Count) {}
 
     fn finish(&self, alloc: Global, count: Count) -> Result<Vec<u8>, Stop> {
         answer_to(alloc, count.bytes, count.has_zero)
@@ -210,8 +211,16 @@ fn an_input_is_taken_in_pieces(rt: HostRuntime) -> Result<(), Fail> {
         ),
         (
             file,
-            b"abc".as_slice(),
+            b"a\0cdefgh".as_slice(),
             [2].as_slice(),
+            3,
+            [].as_slice(),
+            "count: read failed: in\n",
+        ),
+        (
+            file,
+            b"abc".as_slice(),
+            [3].as_slice(),
             4,
             [].as_slice(),
             "count: write failed: out\n",

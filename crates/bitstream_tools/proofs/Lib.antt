@@ -4,3 +4,5 @@ mod Images
 mod InPieces
 -- What the records of packing and unpacking say of the answers
 mod Packed
+-- A stop that tells the fault of a boot file
+mod SplitStops

@@ -1,14 +1,17 @@
-//! The tools that read and write bitstreams and their texts: `icepack`, `iceunpack`, `icemulti` and `icebram`.
+//! The tools that read and write bitstreams and their texts: `icepack`, `iceunpack`, `icemulti`, `icesplit` and `icebram`.
 //!
 //! Each tool is one module, with its command line, its usage line and what it makes of what it loads. The function that
 //! runs it has one clause: a run does the task that the arguments ask for.
 #![tactic(auto)]
 
+mod boot_lines;
 mod bram;
 mod faults;
 mod multi;
 mod pack;
 mod packing;
+mod split;
+mod split_faults;
 mod taking;
 mod unpack;
 mod unpacking;
@@ -16,4 +19,5 @@ mod unpacking;
 pub use bram::{ICEBRAM_HELP, ICEBRAM_USAGE, run_icebram};
 pub use multi::{ICEMULTI_HELP, ICEMULTI_USAGE, run_icemulti};
 pub use pack::{ICEPACK_HELP, ICEPACK_USAGE, run_icepack};
+pub use split::{ICESPLIT_HELP, ICESPLIT_USAGE, run_icesplit};
 pub use unpack::{ICEUNPACK_HELP, ICEUNPACK_USAGE, run_iceunpack};

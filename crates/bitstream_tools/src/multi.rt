@@ -76,8 +76,8 @@ fn short_number(text: &str) -> Option<u32>
     }
 }
 
-// The number of an option that may be missing: nothing where it isn't written so.
-fn number_given(text: Option<&str>) -> Option<Option<u32>>
+/// The number of an option that may be missing: nothing where it isn't written so.
+pub(crate) fn number_given(text: Option<&str>) -> Option<Option<u32>>
     ensures { result ≡ number_given (text_of text.entry) }
 {
     match text {

@@ -58,8 +58,8 @@ pub fn asc_refusal(line: u64, tile: Option<TileXy>, cause: AscCause) -> Refusal
     }
 }
 
-// What is wrong with a bitstream, behind a colon, and the value that a check found.
-fn bin_cause(cause: BinCause) -> Phrase
+/// What is wrong with a bitstream, behind a colon, and the value that a check found.
+pub fn bin_cause(cause: BinCause) -> Phrase
     ensures { phrase_text result ≡ codes ": " ++ bin_cause_text cause }
 {
     match cause {

@@ -23,7 +23,7 @@ pub use commands::{
     with,
 };
 pub use database::{DB_LIMIT, read_database};
-pub use faults::{asc_refusal, bin_refusal};
+pub use faults::{asc_refusal, bin_cause, bin_refusal};
 pub use image::{IMAGE_LIMIT, read_image};
 pub use layouts::{LAYOUT_LIMIT, behind_layout, layouts_for, with_layout};
 pub use refusals::{refusal, whole};

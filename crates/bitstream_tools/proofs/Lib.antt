@@ -1,7 +1,7 @@
 -- The images of a boot file, as files that are loaded
 mod Images
--- An input that comes in pieces, behind what was loaded before it
-mod InPieces
+-- The first text behind the layout file, and the answer that is made of it
+mod FirstText
 -- What the records of packing and unpacking say of the answers
 mod Packed
 -- A stop that tells the fault of a boot file

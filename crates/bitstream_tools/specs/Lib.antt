@@ -3,8 +3,8 @@ pub mod Faults
 pub mod Laws
 pub mod Multi
 pub mod Pack
+pub mod Reading
 pub mod Split
 pub mod SplitFaults
 pub mod SplitLaws
-pub mod Taking
 pub mod Unpack

@@ -10,9 +10,9 @@ mod faults;
 mod multi;
 mod pack;
 mod packing;
+mod reading;
 mod split;
 mod split_faults;
-mod taking;
 mod unpack;
 mod unpacking;
 

@@ -5,15 +5,16 @@ ghost use Rattle.tool_run.specs.Needs.{text_of};
 ghost use Rattle.tool_run.specs.Runs.{Does, outside, scene};
 ghost use Rattle.bitstream_tools.specs.Pack.{icepack_command, icepack_outcome, icepack_task_by, icepack_task_for, icepack_task_of, pack_task};
 
-use crate::packing::{begin, feed, finish};
-use crate::taking::Taking;
+use crate::packing::packed_after;
+use crate::reading::First;
 use crate::unpack::{Names, names_in, unpack_between};
 use asc_text::AscReader;
 use clap::{ArgMatches, Command};
 use ice_io::{Files, Sink, Source};
 use std::alloc::{AllocError, Global};
 use tool_parts::{
-    CommandLine, LAYOUT_LIMIT, flag, has_flag, long_option, positional, run_tool, with, with_layout,
+    CommandLine, LAYOUT_LIMIT, Taking, flag, has_flag, long_option, positional, run_tool, with,
+    with_layout,
 };
 use tool_run::{AtOnce, Job, Load, PieceTool, Stop, answer_at_once, perform_in_pieces};
 
@@ -51,42 +52,45 @@ failed; 4 writing failed; 5 out of memory; 6 FILE or the input is longer than
 its limit.
 ";
 
-/// Packs the text that it takes, under the layouts of a file that it loads before where one is named. The flash stays awake
+/// Packs the text that it takes, under the layouts of a file that it takes before where one is named. The flash stays awake
 /// where `no_sleep` is true, whatever the text says.
 #[derive(Clone, Copy, Debug, PartialEq, Eq)]
 pub(crate) struct Pack {
-    /// Whether a layout file is loaded first.
+    /// Whether a layout file comes first.
     pub(crate) named: bool,
     pub(crate) no_sleep: bool,
 }
 
 impl PieceTool for Pack {
     ghost use Rattle.asc_text.specs.Feeding.{StandsFor, fed_to};
+    ghost use Rattle.tool_parts.specs.Taking.{IsTaking, fed_of};
     ghost use Rattle.bitstream_tools.specs.Pack.{pack_answer};
-    ghost use Rattle.bitstream_tools.specs.Taking.{fed_of, loads_before, IsTaking};
+    ghost use Rattle.bitstream_tools.specs.Reading.{TakesFirst, fed_first};
 
-    type Intake = Taking<AscReader>;
+    type Intake = Taking<First<AscReader>>;
 
     type Made = Vec<u8>;
 
     ghost answer_of = { λ tool texts. pack_answer tool.named tool.no_sleep texts };
 
-    ghost before = { λ tool. loads_before tool.named };
+    ghost takes = { λ tool texts packing bytes. IsTaking (TakesFirst StandsFor) tool.named texts bytes packing };
 
-    ghost takes = { λ tool texts packing text. IsTaking StandsFor tool.named texts text packing };
+    ghost fed = { fed_of (fed_first fed_to) };
 
-    ghost fed = { fed_of fed_to };
-
-    fn begin(&self, alloc: Global, loaded: &Vec<Vec<u8>>) -> Taking<AscReader> {
-        begin(alloc, self.named, loaded)
+    fn begin(&self, alloc: Global) -> Taking<First<AscReader>> {
+        Taking::begin(alloc, self.named)
     }
 
-    fn feed(&self, packing: &mut Taking<AscReader>, piece: &[u8]) {
-        feed(self.named, packing, piece);
+    fn feed(&self, packing: &mut Taking<First<AscReader>>, piece: &[u8]) {
+        packing.feed(piece);
     }
 
-    fn finish(&self, alloc: Global, packing: Taking<AscReader>) -> Result<Vec<u8>, Stop> {
-        finish(alloc, self.named, self.no_sleep, packing)
+    fn close(&self, alloc: Global, packing: &mut Taking<First<AscReader>>) {
+        packing.close(alloc);
+    }
+
+    fn finish(&self, alloc: Global, packing: Taking<First<AscReader>>) -> Result<Vec<u8>, Stop> {
+        packed_after(alloc, self.named, self.no_sleep, packing)
     }
 }
 

@@ -5,15 +5,15 @@ ghost use Rattle.tool_run.specs.Runs.{Does, outside, scene};
 ghost use Rattle.tool_run.specs.Needs.{text_of};
 ghost use Rattle.bitstream_tools.specs.Unpack.{iceunpack_command, iceunpack_outcome, iceunpack_task_by, unpack_task};
 
-use crate::taking::Taking;
-use crate::unpacking::{begin, feed, finish};
+use crate::reading::First;
+use crate::unpacking::unpacked_after;
 use asc_text::CanonicalText;
 use bin_stream::Decoder;
 use clap::{ArgMatches, Command};
 use ice_io::{Files, Sink, Source};
 use std::alloc::{AllocError, Global};
 use tool_parts::{
-    CommandLine, LAYOUT_LIMIT, long_option, positional, run_tool, value, with, with_layout,
+    CommandLine, LAYOUT_LIMIT, Taking, long_option, positional, run_tool, value, with, with_layout,
 };
 use tool_run::{Job, Load, PieceTool, Stop, perform_in_pieces};
 
@@ -49,40 +49,47 @@ its limit.
 /// The most bytes of a bitstream.
 pub(crate) const STREAM_LIMIT: usize = 4_194_304;
 
-/// Unpacks the bitstream that it takes, under the layouts of a file that it loads before where one is named.
+/// Unpacks the bitstream that it takes, under the layouts of a file that it takes before where one is named.
 #[derive(Clone, Copy, Debug, PartialEq, Eq)]
 pub(crate) struct Unpack {
-    /// Whether a layout file is loaded first.
+    /// Whether a layout file comes first.
     pub(crate) named: bool,
 }
 
 impl PieceTool for Unpack {
     ghost use Rattle.bin_stream.specs.Decoding.{StandsFor, fed_to};
-    ghost use Rattle.bitstream_tools.specs.Taking.{fed_of, loads_before, IsTaking};
+    ghost use Rattle.tool_parts.specs.Taking.{IsTaking, fed_of};
+    ghost use Rattle.bitstream_tools.specs.Reading.{TakesFirst, fed_first};
     ghost use Rattle.bitstream_tools.specs.Unpack.{unpack_answer};
 
-    type Intake = Taking<Decoder>;
+    type Intake = Taking<First<Decoder>>;
 
     type Made = CanonicalText;
 
     ghost answer_of = { λ tool texts. unpack_answer tool.named texts };
 
-    ghost before = { λ tool. loads_before tool.named };
+    ghost takes = { λ tool texts unpacking bytes. IsTaking (TakesFirst StandsFor) tool.named texts bytes unpacking };
 
-    ghost takes = { λ tool texts unpacking bytes. IsTaking StandsFor tool.named texts bytes unpacking };
+    ghost fed = { fed_of (fed_first fed_to) };
 
-    ghost fed = { fed_of fed_to };
-
-    fn begin(&self, alloc: Global, loaded: &Vec<Vec<u8>>) -> Taking<Decoder> {
-        begin(alloc, self.named, loaded)
+    fn begin(&self, alloc: Global) -> Taking<First<Decoder>> {
+        Taking::begin(alloc, self.named)
     }
 
-    fn feed(&self, unpacking: &mut Taking<Decoder>, piece: &[u8]) {
-        feed(self.named, unpacking, piece);
+    fn feed(&self, unpacking: &mut Taking<First<Decoder>>, piece: &[u8]) {
+        unpacking.feed(piece);
     }
 
-    fn finish(&self, alloc: Global, unpacking: Taking<Decoder>) -> Result<CanonicalText, Stop> {
-        finish(alloc, self.named, unpacking)
+    fn close(&self, alloc: Global, unpacking: &mut Taking<First<Decoder>>) {
+        unpacking.close(alloc);
+    }
+
+    fn finish(
+        &self,
+        alloc: Global,
+        unpacking: Taking<First<Decoder>>,
+    ) -> Result<CanonicalText, Stop> {
+        unpacked_after(alloc, self.named, unpacking)
     }
 }
 

@@ -1,5 +1,5 @@
 -- What holds of a database that is read: it is fit, and has few nets.
-use Rattle.std.proofs.Common.{◌≡◌, ℕ, zero, suc, ◌^◌, ◌≤◌, Bool, true, false, List, [], ◌∷◌, length, refl, inl, inr, arith, subst}
+use Rattle.std.proofs.Common.{◌≡◌, ℕ, zero, suc, ◌^◌, ◌≤◌, Bool, true, false, List, [], ◌∷◌, length, refl, inl, inr, arith, subst, sym}
 use Rattle.std.specs.Prelude.{◌&&◌, ◌==◌, nat_le, IfSome, Option, Some, None, Ok, if◌then◌else◌, get_or, drop}
 use Rattle.std.proofs.lemmas.Bool.{cases_Bool, leb-true}
 use Rattle.shared_lemmas.proofs.Tests.{second_true}
@@ -18,7 +18,7 @@ use Rattle.chipdb_reader.specs.Blocks.{chip_before, chip_by, chip_in}
 use Rattle.chipdb_reader.specs.Database.{Database, database_of}
 use Rattle.chipdb_reader.specs.Faults.{DbMeans, Fault, db_fault_of}
 use Rattle.chipdb_reader.specs.Fit.{IsFit}
-use Rattle.chipdb_reader.proofs.FitPlaces.{means-fit}
+use Rattle.chipdb_reader.proofs.FitPlaces.{database-fit}
 use Rattle.tool_parts.specs.Databases.{database_by, database_read, database_with}
 
 -- ---- a device has few nets
@@ -96,7 +96,7 @@ unfolding database_read
 read-means bytes db is = means-by bytes (db_fault_of bytes) db refl is
 
 pub read-fit : (bytes : List ℕ) (db : Database) → database_read bytes ≡ Ok db → IsFit db
-read-fit bytes db is = means-fit bytes db (read-means bytes db is)
+read-fit bytes db is = let means = read-means bytes db is in subst IsFit (sym means.lines) (database-fit db.chip (lines_of bytes) means.device)
 
 pub read-few : (bytes : List ℕ) (db : Database) → database_read bytes ≡ Ok db → db.chip.nets ≤ 2 ^ 64
 read-few bytes db is =

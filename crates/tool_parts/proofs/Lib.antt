@@ -8,3 +8,7 @@ pub mod Appended
 pub mod UnderLayouts
 -- What holds of a database that is read
 pub mod Databases
+-- Texts that come in pieces behind the layout file
+mod Takings
+-- A chip database and an image that came in pieces, and what a tool answers of them
+mod DesignInputs

@@ -1,10 +1,11 @@
 // A chip database from its text.
-ghost use Rattle.std.specs.Prelude.{◌≡◌, Ok, IfOk, IfErr};
+ghost use Rattle.std.specs.Prelude.{◌≡◌, ℕ, List, Ok, IfOk, IfErr};
+ghost use Rattle.chipdb_reader.specs.Feeding.{StandsFor};
 ghost use Rattle.chipdb_reader.specs.Kept.{database_in};
 ghost use Rattle.tool_parts.specs.Databases.{database_read, StopsDatabase};
 
 use crate::faults::db_refusal;
-use chipdb_reader::{ChipDb, DbFault, read};
+use chipdb_reader::{ChipDb, DbFault, DbReader, read};
 use std::alloc::Global;
 use tool_run::Stop;
 
@@ -22,6 +23,19 @@ pub fn read_database(alloc: Global, bytes: &[u8]) -> Result<ChipDb, Stop>
         return Err(Stop::Memory);
     }
     match read(alloc, bytes) {
+        Ok(db) => Ok(db),
+        Err(DbFault::At { line, cause }) => Err(Stop::Refused(db_refusal(line, cause))),
+        Err(DbFault::Memory(_)) => Err(Stop::Memory),
+    }
+}
+
+/// The database of what was fed to a reader, or what is told of its first fault.
+#[tactic(auto, unfolding(crate::specs::Databases::database_read))]
+pub(crate) fn finish_database(reader: DbReader) -> Result<ChipDb, Stop>
+    ensures database { IfOk result (λ db. (text : List ℕ) → StandsFor text reader → database_read text ≡ Ok (database_in db)) }
+    ensures stops { IfErr result (λ stop. (text : List ℕ) → StandsFor text reader → StopsDatabase (database_read text) stop) }
+{
+    match reader.finish() {
         Ok(db) => Ok(db),
         Err(DbFault::At { line, cause }) => Err(Stop::Refused(db_refusal(line, cause))),
         Err(DbFault::Memory(_)) => Err(Stop::Memory),

@@ -42,9 +42,9 @@ pub fn behind_layout(named: bool, loaded: &[Vec<u8>], place: usize) -> &[u8]
     loaded_at(loaded, if named { place + 1 } else { place })
 }
 
-// The layouts that a layout file gives, or what is told of its first faulty line.
+/// The layouts that a layout file gives, or what is told of its first faulty line.
 #[tactic(auto, unfolding(crate::specs::Layouts::layouts_read))]
-fn layouts_in(bytes: &[u8]) -> Result<Layouts, Stop>
+pub(crate) fn layouts_in(bytes: &[u8]) -> Result<Layouts, Stop>
     ensures layouts { IfOk result (λ layouts. layouts_read bytes.now ≡ Ok layouts) }
     ensures devices { IfOk result AreLayouts }
     ensures stops { IfErr result (StopsLayouts (layouts_read bytes.now)) }

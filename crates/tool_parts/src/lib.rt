@@ -12,19 +12,23 @@
 
 mod commands;
 mod database;
+mod design_input;
 mod faults;
 mod image;
 mod layouts;
 mod refusals;
 mod running;
+mod taking;
 
 pub use commands::{
     flag, has_flag, long_option, parse, positional, required, several, short_option, value, values,
     with,
 };
 pub use database::{DB_LIMIT, read_database};
+pub use design_input::DesignInput;
 pub use faults::{asc_refusal, bin_cause, bin_refusal};
 pub use image::{IMAGE_LIMIT, read_image};
 pub use layouts::{LAYOUT_LIMIT, behind_layout, layouts_for, with_layout};
 pub use refusals::{refusal, whole};
 pub use running::{CommandLine, run_tool};
+pub use taking::{Taking, TextTaker};

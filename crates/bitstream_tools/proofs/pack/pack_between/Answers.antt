@@ -6,8 +6,8 @@ use Rattle.bitstream_tools.specs.Pack.{icepack_name, pack_answer, text_limit}
 use Rattle.tool_parts.proofs.UnderLayouts.{named-is, needs-are, needs-sound, one-sound}
 use Rattle.bitstream_tools.proofs.pack.pack_between.Goals as goal
 
-pub perform_in_pieces-requires-clause-sound : goal.perform_in_pieces-requires-clause-sound
-perform_in_pieces-requires-clause-sound g c =
+pub perform_in_pieces-requires : goal.perform_in_pieces-requires
+perform_in_pieces-requires g c =
     let names = c.args.names in
     let needed = needs-are names.layout (record { name = names.input; limit = text_limit } ∷ []) c.with_layout.result.now c.with_layout.ensures in
     subst (λ (needs : List Need). IsSound needs) (sym needed) (needs-sound (text_of names.layout) _ (one-sound _ (omega arith)))

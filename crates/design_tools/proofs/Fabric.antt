@@ -4,6 +4,7 @@ use Rattle.std.specs.Prelude.{Option, Some, None, Result, Ok, Err, get_or, codes
 use Rattle.clap.specs.Words.{Row, Text, first_of, matches_of}
 use Rattle.layout_file.specs.declared.layouts.Layouts.{Layouts}
 use Rattle.tool_parts.specs.Layouts.{answer_under, behind_layout, layouts_for}
+use Rattle.tool_parts.specs.DesignInput.{answer_of_both, answer_to_both}
 use Rattle.ice_image.specs.Configuration.{Configuration}
 use Rattle.chipdb_reader.specs.Database.{Database}
 use Rattle.chipdb_reader.specs.Fit.{IsFit}
@@ -30,7 +31,7 @@ use Rattle.design_tools.specs.declared.request.TheConstants.{ICEBOX_VLOG_HELP}
 use Rattle.design_tools.specs.Names.{name_given}
 use Rattle.design_parts.specs.Lines.{fabric_events}
 use Rattle.design_parts.specs.Order.{write_order}
-use Rattle.design_tools.specs.Vlog.{icebox_vlog, written_module, written_of, written_under, written_with, vlog_command, vlog_name, vlog_outcome, vlog_task_by, vlog_task_of, vlog_usage}
+use Rattle.design_tools.specs.Vlog.{icebox_vlog, written, written_module, written_with, vlog_command, vlog_name, vlog_outcome, vlog_task_by, vlog_task_of, vlog_usage}
 use Rattle.design_tools.specs.Fabric.{PromisesFabric, SpellsFabric, WritesFabric, names_layout}
 use Rattle.tool_parts.proofs.Appended.{helped-kept}
 use Rattle.tool_parts.proofs.Databases.{read-few, read-fit}
@@ -82,7 +83,7 @@ module _ (name : List ℕ) (named : IsName name) (behind : Bool) (texts : List (
   image_text = get_or texts (behind_layout behind 1) []
 
   done-of : (layouts : Layouts) (db : Result Database (List ℕ)) (image : Result Configuration (List ℕ))
-      → layouts_for behind texts ≡ Ok layouts → database_read db_text ≡ db → image_read layouts image_text ≡ image → written_of name db image ≡ Done bytes → WritesFabric behind texts bytes
+      → layouts_for behind texts ≡ Ok layouts → database_read db_text ≡ db → image_read layouts image_text ≡ image → answer_of_both db image (written name) ≡ Done bytes → WritesFabric behind texts bytes
   done-of layouts (Err text) image layouts_are db_is image_is done = absurd cc
   done-of layouts (Ok db) (Err text) layouts_are db_is image_is done = absurd cc
   done-of layouts (Ok db) (Ok image) layouts_are db_is image_is done = record {
@@ -95,7 +96,7 @@ module _ (name : List ℕ) (named : IsName name) (behind : Bool) (texts : List (
     spells = done-with name named db image (read-fit db_text db db_is) (read-few db_text db db_is) bytes (design_fault db image) refl done;
   }
 
-  done-under : (read : Result Layouts (List ℕ)) → layouts_for behind texts ≡ read → answer_under read (written_under name db_text image_text) ≡ Done bytes → WritesFabric behind texts bytes
+  done-under : (read : Result Layouts (List ℕ)) → layouts_for behind texts ≡ read → answer_under read (answer_to_both (written name) db_text image_text) ≡ Done bytes → WritesFabric behind texts bytes
   done-under (Ok layouts) are done = done-of layouts (database_read db_text) (image_read layouts image_text) are refl refl done
   done-under (Err text) are done = absurd cc
 

@@ -1,7 +1,6 @@
 -- `icebox_vlog`: the module of a database and an image.
-use Rattle.std.specs.Prelude.{ℕ, Bool, List, [], ◌∷◌, codes, get_or, is_some, Option, None, Some, Result, Ok, Err}
+use Rattle.std.specs.Prelude.{ℕ, Bool, List, [], ◌∷◌, codes, is_some, Option, None, Some}
 use Rattle.clap.specs.Words.{App, Row, Text, first_of}
-use Rattle.layout_file.specs.declared.layouts.Layouts.{Layouts}
 use Rattle.ice_image.specs.Configuration.{Configuration}
 use Rattle.chipdb_reader.specs.Database.{Database}
 use Rattle.vlog_module.specs.Parts.{Parts}
@@ -14,11 +13,10 @@ use Rattle.tool_run.specs.Needs.{text_of}
 use Rattle.tool_run.specs.Tasks.{Answer, Done, Refused, Task, usage_error}
 use Rattle.tool_parts.specs.Outcomes.{Manual, outcome}
 use Rattle.tool_parts.specs.Commands.{command, long_option, positional, short_option}
-use Rattle.tool_parts.specs.Layouts.{answer_under, behind_layout, layouts_for, with_layout}
+use Rattle.tool_parts.specs.DesignInput.{input_answer}
+use Rattle.tool_parts.specs.Layouts.{with_layout}
 use Rattle.tool_parts.specs.Images.{image_limit}
 use Rattle.tool_parts.specs.Databases.{database_limit}
-use Rattle.tool_parts.specs.Images.{image_read}
-use Rattle.tool_parts.specs.Databases.{database_read}
 use Rattle.design_tools.specs.declared.name.ModuleName.{ModuleName}
 use Rattle.design_tools.specs.declared.request.Request.{Request}
 use Rattle.design_tools.specs.declared.request.TheConstants.{ICEBOX_VLOG_HELP}
@@ -40,21 +38,9 @@ written_with name db image (Some fault) = Refused (design_fault_text fault)
 abbrev pub written : List ℕ → Database → Configuration → Answer
 written name db image = written_with name db image (design_fault db image)
 
--- the database is read before the image
-abbrev pub written_of : List ℕ → Result Database (List ℕ) → Result Configuration (List ℕ) → Answer
-written_of name (Err text) image = Refused text
-written_of name (Ok db) (Err text) = Refused text
-written_of name (Ok db) (Ok image) = written name db image
-
--- the same for the bytes of both under layouts
-abbrev pub written_under : List ℕ → List ℕ → List ℕ → Layouts → Answer
-written_under name db image layouts = written_of name (database_read db) (image_read layouts image)
-
--- `named` tells whether a layout file was loaded before the others
+-- `named` tells whether a layout file was taken before the others
 abbrev pub vlog_answer : Bool → List ℕ → List (List ℕ) → Answer
-vlog_answer named name texts =
-    answer_under (layouts_for named texts)
-    (written_under name (get_or texts (behind_layout named 0) []) (get_or texts (behind_layout named 1) []))
+vlog_answer named name texts = input_answer named (written name) texts
 
 -- ---- the arguments
 

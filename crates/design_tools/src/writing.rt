@@ -1,6 +1,5 @@
 // `icebox_vlog`: the module of an image.
-ghost use Rattle.std.specs.Prelude.{◌≡◌, map, string_bytes, vec_items, IfOk, IfErr, Some};
-ghost use Rattle.layout_file.specs.Layouts.{AreLayouts};
+ghost use Rattle.std.specs.Prelude.{◌≡◌, [], ℕ, Bool, List, map, string_bytes, IfOk, IfErr, Some};
 ghost use Rattle.ice_image.specs.Configuration.{Configuration};
 ghost use Rattle.ice_image.specs.Either.{configuration_of};
 ghost use Rattle.chipdb_reader.specs.Database.{Database};
@@ -10,8 +9,10 @@ ghost use Rattle.fabric.specs.Design.{IsDesignOf};
 ghost use Rattle.tool_run.specs.Runs.{Does, outside, scene};
 ghost use Rattle.tool_run.specs.Stops.{StopsWith};
 ghost use Rattle.tool_run.specs.Tasks.{Done};
+ghost use Rattle.tool_parts.specs.DesignInput.{TakesInput};
+ghost use Rattle.tool_parts.specs.Taking.{IsTaking};
 ghost use Rattle.design_tools.specs.Fabric.{PromisesFabric};
-ghost use Rattle.design_tools.specs.Vlog.{vlog_answer, vlog_outcome, vlog_task_for, written, written_under};
+ghost use Rattle.design_tools.specs.Vlog.{vlog_answer, vlog_outcome, vlog_task_for, written};
 
 use crate::name::ModuleName;
 use crate::request::{ICEBOX_VLOG_HELP, ICEBOX_VLOG_USAGE, Request, command, request_in};
@@ -21,72 +22,67 @@ use design_parts::design_stop;
 use fabric::{Design, design};
 use ice_image::AnyImage;
 use ice_io::{Files, Sink, Source};
-use layout_file::Layouts;
 use std::alloc::{AllocError, Global};
 use tool_parts::{
-    CommandLine, DB_LIMIT, IMAGE_LIMIT, LAYOUT_LIMIT, behind_layout, layouts_for, read_database,
-    read_image, run_tool, with_layout,
+    CommandLine, DB_LIMIT, DesignInput, IMAGE_LIMIT, LAYOUT_LIMIT, Taking, run_tool, with_layout,
 };
-use tool_run::{AtOnce, Job, Load, Stop, Tool, answer_at_once, perform};
+use tool_run::{AtOnce, Job, Load, PieceTool, Stop, answer_at_once, perform_in_pieces};
 use vlog_text::print;
 use vlog_write::emit;
 
-/// Writes the module of a database and an image, with a name. The image is read under the layouts of a file that is loaded first
-/// where one is named.
+/// Writes the module of a database and an image, with a name. The image is read under the layouts of a file that comes first where
+/// one is named.
 #[derive(Clone, Copy, Debug, PartialEq, Eq)]
 pub(crate) struct Writing<'a> {
-    /// Whether a layout file is loaded first.
+    /// Whether a layout file comes first.
     pub(crate) named: bool,
     pub(crate) name: ModuleName<'a>,
 }
 
-impl<'a> Tool for Writing<'a> {
-    ghost use Rattle.design_tools.specs.Fabric.{PromisesFabric};
+impl<'a> PieceTool for Writing<'a> {
+    ghost use Rattle.tool_parts.specs.DesignInput.{TakesInput, fed_input};
+    ghost use Rattle.tool_parts.specs.Taking.{IsTaking, fed_of};
     ghost use Rattle.design_tools.specs.Vlog.{vlog_answer};
+
+    type Intake = Taking<DesignInput>;
+
+    type Made = Vec<u8>;
 
     ghost answer_of = { λ tool texts. vlog_answer tool.named tool.name.text.now texts };
 
-    fn answer(&self, alloc: Global, loaded: &Vec<Vec<u8>>) -> Result<Vec<u8>, Stop> {
-        written_from(alloc, self.named, self.name.text.as_bytes(), loaded)
+    ghost takes = { λ tool texts taking bytes. IsTaking TakesInput tool.named texts bytes taking };
+
+    ghost fed = { fed_of fed_input };
+
+    fn begin(&self, alloc: Global) -> Taking<DesignInput> {
+        Taking::begin(alloc, self.named)
+    }
+
+    fn feed(&self, taking: &mut Taking<DesignInput>, piece: &[u8]) {
+        taking.feed(piece);
+    }
+
+    fn close(&self, alloc: Global, taking: &mut Taking<DesignInput>) {
+        taking.close(alloc);
+    }
+
+    fn finish(&self, alloc: Global, taking: Taking<DesignInput>) -> Result<Vec<u8>, Stop> {
+        written_after(alloc, self.name.text.as_bytes(), taking)
     }
 }
 
-// The module of the database and the image that were loaded.
-#[tactic(auto, using(tool_parts::proofs::UnderLayouts::stops_under))]
-fn written_from(
-    alloc: Global,
-    named: bool,
-    name: &[u8],
-    loaded: &[Vec<u8>],
-) -> Result<Vec<u8>, Stop>
+// The module of the database and the image, after the last piece of both.
+fn written_after(alloc: Global, name: &[u8], taking: Taking<DesignInput>) -> Result<Vec<u8>, Stop>
     requires { IsName name.now }
-    ensures bytes { IfOk result (λ bytes. vlog_answer named name.now (map vec_items loaded.now) ≡ Done bytes.items) }
-    ensures stops { IfErr result (StopsWith (vlog_answer named name.now (map vec_items loaded.now))) }
+    ensures bytes { IfOk result (λ bytes. (named : Bool) (texts : List (List ℕ)) → IsTaking TakesInput named texts [] taking
+        → vlog_answer named name.now texts ≡ Done bytes.items) }
+    ensures stops { IfErr result (λ stop. (named : Bool) (texts : List (List ℕ)) → IsTaking TakesInput named texts [] taking
+        → StopsWith (vlog_answer named name.now texts) stop) }
 {
-    let db = behind_layout(named, loaded, 0);
-    let image = behind_layout(named, loaded, 1);
-    match layouts_for(named, loaded) {
-        Ok(layouts) => written_by(alloc, db, image, name, layouts),
+    match DesignInput::read(alloc, taking) {
+        Ok((db, image)) => text_of(alloc, &db, &image, name),
         Err(stop) => Err(stop),
     }
-}
-
-// The module of a database and an image, both in bytes.
-fn written_by(
-    alloc: Global,
-    db: &[u8],
-    image: &[u8],
-    name: &[u8],
-    layouts: Layouts,
-) -> Result<Vec<u8>, Stop>
-    requires named { IsName name.now }
-    requires layouts { AreLayouts layouts }
-    ensures bytes { IfOk result (λ bytes. written_under name.now db.now image.now layouts ≡ Done bytes.items) }
-    ensures stops { IfErr result (StopsWith (written_under name.now db.now image.now layouts)) }
-{
-    let db = read_database(alloc, db)?;
-    let image = read_image(alloc, image, layouts)?;
-    text_of(alloc, &db, &image, name)
 }
 
 // The module of a database and an image.
@@ -147,7 +143,7 @@ fn write_files<F: Files, I: Source, O: Sink, E: Sink>(
         loads: with_layout(request.layout, &loads),
         target: None,
     };
-    perform(alloc, &tool, &job, files, input, output, errors)
+    perform_in_pieces(alloc, &tool, &job, files, input, output, errors)
 }
 
 // Does what the arguments ask for.

@@ -1,10 +1,9 @@
 -- `icebox_explain`: what the set bits of an image mean.
-use Rattle.std.specs.Prelude.{ℕ, ◌==◌, Bool, List, [], ◌∷◌, codes, get_or, is_some, option_map, Option, None, Some, Result, Ok, Err}
+use Rattle.std.specs.Prelude.{ℕ, ◌==◌, Bool, List, [], ◌∷◌, codes, is_some, option_map, Option, None, Some}
 use Rattle.std.specs.List.{before_first, after_first}
 use Rattle.clap.specs.Words.{App, Row, Text, first_of}
 use Rattle.text_lines.specs.Words.{number_of}
 use Rattle.asc_text.specs.declared.fault.TileXy.{TileXy}
-use Rattle.layout_file.specs.declared.layouts.Layouts.{Layouts}
 use Rattle.ice_image.specs.Configuration.{Configuration}
 use Rattle.chipdb_reader.specs.Database.{Database}
 use Rattle.tile_bits.specs.declared.fault.ExplainFault.{ExplainFault}
@@ -13,12 +12,13 @@ use Rattle.tool_run.specs.Needs.{text_of}
 use Rattle.tool_run.specs.Tasks.{Answer, Done, Refused, Task, usage_error}
 use Rattle.tool_parts.specs.Outcomes.{Manual, outcome}
 use Rattle.tool_parts.specs.Commands.{command, long_option, positional, short_option}
-use Rattle.tool_parts.specs.Layouts.{answer_under, behind_layout, layouts_for, with_layout}
+use Rattle.tool_parts.specs.DesignInput.{input_answer}
+use Rattle.tool_parts.specs.Layouts.{with_layout}
 use Rattle.fabric_tools.specs.declared.request.Request.{Request}
 use Rattle.fabric_tools.specs.declared.request.TheConstants.{ICEBOX_EXPLAIN_HELP}
 use Rattle.fabric_tools.specs.Faults.{explain_fault_text}
-use Rattle.tool_parts.specs.Images.{image_limit, image_read}
-use Rattle.tool_parts.specs.Databases.{database_limit, database_read}
+use Rattle.tool_parts.specs.Images.{image_limit}
+use Rattle.tool_parts.specs.Databases.{database_limit}
 
 -- ---- the answer
 
@@ -30,21 +30,9 @@ told_with text (Some fault) = Refused (explain_fault_text fault)
 abbrev pub told : Database → Configuration → Option TileXy → Answer
 told database image only = told_with (explained database image only) (explain_fault_of database image only)
 
--- the database is read before the image
-abbrev pub explained_of : Option TileXy → Result Database (List ℕ) → Result Configuration (List ℕ) → Answer
-explained_of only (Err text) image = Refused text
-explained_of only (Ok database) (Err text) = Refused text
-explained_of only (Ok database) (Ok image) = told database image only
-
--- the same for the bytes of both under layouts
-abbrev pub explained_under : Option TileXy → List ℕ → List ℕ → Layouts → Answer
-explained_under only db image layouts = explained_of only (database_read db) (image_read layouts image)
-
--- `named` tells whether a layout file was loaded before the others
+-- `named` tells whether a layout file was taken before the others
 abbrev pub explain_answer : Bool → Option TileXy → List (List ℕ) → Answer
-explain_answer named only texts =
-    answer_under (layouts_for named texts)
-    (explained_under only (get_or texts (behind_layout named 0) []) (get_or texts (behind_layout named 1) []))
+explain_answer named only texts = input_answer named (λ db image. told db image only) texts
 
 -- ---- the arguments
 

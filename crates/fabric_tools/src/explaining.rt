@@ -1,12 +1,13 @@
 // `icebox_explain`: what the set bits of an image mean.
-ghost use Rattle.std.specs.Prelude.{◌≡◌, map, string_bytes, vec_items, IfOk, IfErr, Some};
-ghost use Rattle.layout_file.specs.Layouts.{AreLayouts};
+ghost use Rattle.std.specs.Prelude.{◌≡◌, [], ℕ, Bool, List, map, string_bytes, IfOk, IfErr, Some};
 ghost use Rattle.chipdb_reader.specs.Kept.{database_in};
 ghost use Rattle.tool_run.specs.Needs.{text_of};
 ghost use Rattle.tool_run.specs.Runs.{Does, outside, scene};
 ghost use Rattle.tool_run.specs.Stops.{StopsWith};
 ghost use Rattle.tool_run.specs.Tasks.{Done};
-ghost use Rattle.fabric_tools.specs.Explain.{explain_answer, explain_outcome, explain_task_for, explained_under, told};
+ghost use Rattle.tool_parts.specs.DesignInput.{TakesInput};
+ghost use Rattle.tool_parts.specs.Taking.{IsTaking};
+ghost use Rattle.fabric_tools.specs.Explain.{explain_answer, explain_outcome, explain_task_for, told};
 ghost use Rattle.ice_image.specs.Either.{configuration_of};
 
 use crate::faults::explain_refusal;
@@ -16,63 +17,69 @@ use chipdb_reader::ChipDb;
 use clap::{ArgMatches, Command};
 use ice_image::AnyImage;
 use ice_io::{Files, Sink, Source};
-use layout_file::Layouts;
 use std::alloc::{AllocError, Global};
 use tile_bits::{ExplainFault, explain};
 use tool_parts::{
-    CommandLine, DB_LIMIT, IMAGE_LIMIT, LAYOUT_LIMIT, behind_layout, layouts_for, read_database,
-    read_image, run_tool, with_layout,
+    CommandLine, DB_LIMIT, DesignInput, IMAGE_LIMIT, LAYOUT_LIMIT, Taking, run_tool, with_layout,
 };
-use tool_run::{AtOnce, Job, Load, Stop, Tool, answer_at_once, perform};
+use tool_run::{AtOnce, Job, Load, PieceTool, Stop, answer_at_once, perform_in_pieces};
 
-/// Explains an image by a database: one tile, or all. The image is read under the layouts of a file that is loaded first where
-/// one is named.
+/// Explains an image by a database: one tile, or all. The image is read under the layouts of a file that comes first where one is
+/// named.
 #[derive(Clone, Copy, Debug, PartialEq, Eq)]
 pub(crate) struct Explaining {
-    /// Whether a layout file is loaded first.
+    /// Whether a layout file comes first.
     pub(crate) named: bool,
     pub(crate) only: Option<TileXy>,
 }
 
-impl Tool for Explaining {
+impl PieceTool for Explaining {
+    ghost use Rattle.tool_parts.specs.DesignInput.{TakesInput, fed_input};
+    ghost use Rattle.tool_parts.specs.Taking.{IsTaking, fed_of};
     ghost use Rattle.fabric_tools.specs.Explain.{explain_answer};
+
+    type Intake = Taking<DesignInput>;
+
+    type Made = Vec<u8>;
 
     ghost answer_of = { λ tool texts. explain_answer tool.named tool.only texts };
 
-    fn answer(&self, alloc: Global, loaded: &Vec<Vec<u8>>) -> Result<Vec<u8>, Stop> {
-        explained_from(alloc, *self, loaded)
+    ghost takes = { λ tool texts taking bytes. IsTaking TakesInput tool.named texts bytes taking };
+
+    ghost fed = { fed_of fed_input };
+
+    fn begin(&self, alloc: Global) -> Taking<DesignInput> {
+        Taking::begin(alloc, self.named)
+    }
+
+    fn feed(&self, taking: &mut Taking<DesignInput>, piece: &[u8]) {
+        taking.feed(piece);
+    }
+
+    fn close(&self, alloc: Global, taking: &mut Taking<DesignInput>) {
+        taking.close(alloc);
+    }
+
+    fn finish(&self, alloc: Global, taking: Taking<DesignInput>) -> Result<Vec<u8>, Stop> {
+        explained_after(alloc, self.only, taking)
     }
 }
 
-// What the image that was loaded means by the database that was.
-#[tactic(auto, using(tool_parts::proofs::UnderLayouts::stops_under))]
-fn explained_from(alloc: Global, tool: Explaining, loaded: &[Vec<u8>]) -> Result<Vec<u8>, Stop>
-    ensures bytes { IfOk result (λ bytes. explain_answer tool.named tool.only (map vec_items loaded.now) ≡ Done bytes.items) }
-    ensures stops { IfErr result (StopsWith (explain_answer tool.named tool.only (map vec_items loaded.now))) }
+// What the image means by the database, after the last piece of both.
+fn explained_after(
+    alloc: Global,
+    only: Option<TileXy>,
+    taking: Taking<DesignInput>,
+) -> Result<Vec<u8>, Stop>
+    ensures bytes { IfOk result (λ bytes. (named : Bool) (texts : List (List ℕ)) → IsTaking TakesInput named texts [] taking
+        → explain_answer named only texts ≡ Done bytes.items) }
+    ensures stops { IfErr result (λ stop. (named : Bool) (texts : List (List ℕ)) → IsTaking TakesInput named texts [] taking
+        → StopsWith (explain_answer named only texts) stop) }
 {
-    let db = behind_layout(tool.named, loaded, 0);
-    let image = behind_layout(tool.named, loaded, 1);
-    match layouts_for(tool.named, loaded) {
-        Ok(layouts) => explained_by(alloc, db, image, tool.only, layouts),
+    match DesignInput::read(alloc, taking) {
+        Ok((db, image)) => text_of(alloc, &db, &image, only),
         Err(stop) => Err(stop),
     }
-}
-
-// What an image means by a database, both in bytes.
-fn explained_by(
-    alloc: Global,
-    db: &[u8],
-    image: &[u8],
-    only: Option<TileXy>,
-    layouts: Layouts,
-) -> Result<Vec<u8>, Stop>
-    requires { AreLayouts layouts }
-    ensures bytes { IfOk result (λ bytes. explained_under only db.now image.now layouts ≡ Done bytes.items) }
-    ensures stops { IfErr result (StopsWith (explained_under only db.now image.now layouts)) }
-{
-    let db = read_database(alloc, db)?;
-    let image = read_image(alloc, image, layouts)?;
-    text_of(alloc, &db, &image, only)
 }
 
 // What an image means by a database.
@@ -128,7 +135,7 @@ fn explain_files<F: Files, I: Source, O: Sink, E: Sink>(
         loads: with_layout(request.layout, &loads),
         target: None,
     };
-    perform(alloc, &tool, &job, files, input, output, errors)
+    perform_in_pieces(alloc, &tool, &job, files, input, output, errors)
 }
 
 // Does what the arguments ask for, where they are taken.

@@ -9,8 +9,8 @@ use Rattle.tool_parts.specs.Databases.{database_limit}
 use Rattle.design_tools.specs.Vlog.{vlog_answer, vlog_name}
 use Rattle.design_tools.proofs.writing.write_files.Goals as goal
 
-pub perform-requires : goal.perform-requires
-perform-requires g c =
+pub perform_in_pieces-requires : goal.perform_in_pieces-requires
+perform_in_pieces-requires g c =
     let request = c.args.request in
     let needed = needs-are request.layout (record { name = Some request.db; limit = database_limit } ∷ record { name = request.image; limit = image_limit } ∷ []) c.with_layout.result.now c.with_layout.ensures in
     subst (λ (needs : List Need). IsSound needs) (sym needed) (needs-sound (text_of request.layout) _ (file-sound _ database_limit _ (omega arith) (one-sound _ (omega arith))))
@@ -21,4 +21,4 @@ returns g c =
     let needed = needs-are request.layout (record { name = Some request.db; limit = database_limit } ∷ record { name = request.image; limit = image_limit } ∷ []) c.with_layout.result.now c.with_layout.ensures in
     let task : List Need → Bool → Task =
     λ needs named. record { tool_name = vlog_name; needs = needs; target = None; answer = vlog_answer named request.name.text.now } in
-    Does-same _ _ _ _ _ _ (ap₂ task needed (c.is_some.ensures ∙ named-is request.layout)) c.perform.ensures
+    Does-same _ _ _ _ _ _ (ap₂ task needed (c.is_some.ensures ∙ named-is request.layout)) c.perform_in_pieces.ensures

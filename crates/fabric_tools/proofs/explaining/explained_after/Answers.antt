@@ -1,0 +1,18 @@
+use Rattle.std.proofs.Common.{◌∙◌, subst, sym}
+use Rattle.std.proofs.lemmas.Result.{IfOk-weaker, IfErr-weaker}
+use Rattle.tool_run.specs.Stops.{StopsWith}
+use Rattle.tool_run.specs.Tasks.{Answer}
+use Rattle.fabric_tools.specs.Explain.{told}
+use Rattle.fabric_tools.proofs.explaining.explained_after.Goals as goal
+
+pub returns-in-Ok-clause-bytes : goal.returns-in-Ok-clause-bytes
+returns-in-Ok-clause-bytes c =
+    IfOk-weaker c.text_of.result _ _ (λ bytes is named texts taking. c.in-Ok.ensures.read named texts (λ db image. told db image c.args.only) taking ∙ is) c.text_of.ensures.bytes
+
+pub returns-in-Ok-clause-stops : goal.returns-in-Ok-clause-stops
+returns-in-Ok-clause-stops c =
+    IfErr-weaker c.text_of.result _ _ (λ stop stops named texts taking.
+    subst (λ (answer : Answer). StopsWith answer stop) (sym (c.in-Ok.ensures.read named texts (λ db image. told db image c.args.only) taking)) stops) c.text_of.ensures.stops
+
+pub returns-in-Err-clause-stops : goal.returns-in-Err-clause-stops
+returns-in-Err-clause-stops c = λ named texts taking. c.in-Err.ensures.stops named texts (λ db image. told db image c.args.only) taking

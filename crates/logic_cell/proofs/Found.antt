@@ -1,5 +1,5 @@
 -- Nets that are set.
-use Rattle.std.proofs.Common.{◌≡◌, ℕ, Bool, true, false, List, [], ◌∷◌, refl, ap}
+use Rattle.std.proofs.Common.{◌≡◌, ℕ, Bool, true, false, [], ◌∷◌, refl, ap}
 use Rattle.std.specs.Prelude.{Option, Some, None, if◌then◌else◌}
 use Rattle.net_extract.specs.Cells.{set_with}
 use Rattle.net_extract.specs.declared.cell.CarrySet.{CarrySet}

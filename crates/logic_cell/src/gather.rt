@@ -29,6 +29,14 @@ pub fn cells(alloc: Global, db: &ChipDb, image: &AnyImage) -> Result<Cells, LcFa
     cells_in(alloc, db, image, &tiles)
 }
 
+/// The used cells of an image, by tile and index, whether or not they can be taken into a design.
+pub fn used_cells(alloc: Global, db: &ChipDb, image: &AnyImage) -> Result<Vec<Lc>, AllocError>
+    ensures { IfOk result (λ lcs. lcs.items ≡ cells_of (database_in db.now) (configuration_of image.now)) }
+{
+    let tiles = tiles_of_image(alloc, image, TileKind::Logic)?;
+    used_cells_in(alloc, db, image, &tiles)
+}
+
 /// Finds the cells in the logic tiles of the image.
 fn cells_in(
     alloc: Global,
@@ -50,14 +58,14 @@ fn cells_in(
             i: at.i,
         }),
         None => Ok(Cells {
-            lcs: used_cells(alloc, db, image, tiles)?,
+            lcs: used_cells_in(alloc, db, image, tiles)?,
             sets: carry_sets(alloc, db, image, tiles)?,
         }),
     }
 }
 
 /// The used cells of tiles.
-fn used_cells(
+fn used_cells_in(
     alloc: Global,
     db: &ChipDb,
     image: &AnyImage,

@@ -9,4 +9,4 @@ mod ports;
 
 pub use cell::Cells;
 pub use fault::LcFault;
-pub use gather::cells;
+pub use gather::{cells, used_cells};

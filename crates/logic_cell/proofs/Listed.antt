@@ -1,0 +1,36 @@
+-- What is gathered over the tiles in their order is what is gathered over the list of the tiles.
+use Rattle.std.proofs.Common.{◌≡◌, List, ap, sym, ◌∙◌}
+use Rattle.std.specs.List.{flat_map}
+use Rattle.plane_map.specs.declared.tile.TileKind.TheVariants.{Logic}
+use Rattle.ice_image.specs.Configuration.{Configuration}
+use Rattle.chipdb_reader.specs.Database.{Database}
+use Rattle.chipdb_reader.specs.declared.items.TileXy8.{TileXy8}
+use Rattle.net_extract.specs.Cells.{cells_of, cells_at, sets_of, sets_at}
+use Rattle.net_extract.specs.declared.cell.Lc.{Lc}
+use Rattle.net_extract.specs.declared.cell.CarrySet.{CarrySet}
+use Rattle.net_extract.specs.Faults.{Fault, cells_fault, async_faults}
+use Rattle.net_extract.specs.Tiles.{first_of}
+use Rattle.net_extract.specs.TilesOfKind.{tiles_of}
+use Rattle.net_extract.proofs.InOrder.{over_tiles-listed}
+use Rattle.logic_cell.specs.Faults.{async_faults_in}
+
+pub faults_listed : (db : Database) (image : Configuration) (tiles : List TileXy8) → tiles ≡ tiles_of image.layout.device Logic
+    → cells_fault db image ≡ first_of (flat_map (λ (tile : TileXy8). async_faults_in db image tile.x tile.y) tiles)
+unfolding cells_fault async_faults
+faults_listed db image tiles all =
+    let given : TileXy8 → List Fault = λ tile. async_faults_in db image tile.x tile.y in
+    ap first_of (over_tiles-listed image.layout.device Logic (async_faults_in db image) ∙ ap (flat_map given) (sym all))
+
+pub cells_listed : (db : Database) (image : Configuration) (tiles : List TileXy8) → tiles ≡ tiles_of image.layout.device Logic
+    → flat_map (λ (tile : TileXy8). cells_at db image tile.x tile.y) tiles ≡ cells_of db image
+unfolding cells_of
+cells_listed db image tiles all =
+    let given : TileXy8 → List Lc = λ tile. cells_at db image tile.x tile.y in
+    ap (flat_map given) all ∙ sym (over_tiles-listed image.layout.device Logic (cells_at db image))
+
+pub sets_listed : (db : Database) (image : Configuration) (tiles : List TileXy8) → tiles ≡ tiles_of image.layout.device Logic
+    → flat_map (λ (tile : TileXy8). sets_at db image tile.x tile.y) tiles ≡ sets_of db image
+unfolding sets_of
+sets_listed db image tiles all =
+    let given : TileXy8 → List CarrySet = λ tile. sets_at db image tile.x tile.y in
+    ap (flat_map given) all ∙ sym (over_tiles-listed image.layout.device Logic (sets_at db image))

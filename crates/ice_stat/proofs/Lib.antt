@@ -1,0 +1,8 @@
+-- counts that are those of a database and an image, one by one
+pub mod Counted
+-- bits that are 1: of a byte, and of a plane
+pub mod Ones
+-- links that are on
+pub mod Links
+-- the refusals of links, pins and RAMs are those of the counts
+pub mod Refused

@@ -1,0 +1,23 @@
+-- The refusals of links, pins and RAMs, as those of the counts.
+use Rattle.net_extract.specs.declared.fault.LinkFault.{LinkFault}
+use Rattle.net_extract.specs.declared.fault.LinkFault.TheVariants as links
+use Rattle.io_cell.specs.declared.fault.PinFault.{PinFault}
+use Rattle.io_cell.specs.declared.fault.PinFault.TheVariants as pins
+use Rattle.block_ram.specs.declared.fault.RamFault.{RamFault}
+use Rattle.block_ram.specs.declared.fault.RamFault.TheVariants as rams
+use Rattle.ice_stat.specs.declared.fault.StatFault.{StatFault}
+use Rattle.ice_stat.specs.declared.fault.StatFault.TheVariants.{Device, Pins, Rams, Memory}
+
+abbrev pub of_links : LinkFault → StatFault
+of_links links.Device = Device
+of_links (links.Memory failed) = Memory failed
+
+abbrev pub of_pins : PinFault → StatFault
+of_pins (pins.Pll x y) = Pins (pins.Pll x y)
+of_pins (pins.PinMode x y pio pintype) = Pins (pins.PinMode x y pio pintype)
+of_pins (pins.Memory failed) = Memory failed
+
+abbrev pub of_rams : RamFault → StatFault
+of_rams (rams.Mode x y read write) = Rams (rams.Mode x y read write)
+of_rams (rams.Cascade x y) = Rams (rams.Cascade x y)
+of_rams (rams.Memory failed) = Memory failed

@@ -1,0 +1,36 @@
+-- For which cause nothing is counted of a database and an image.
+use Rattle.std.specs.Prelude.{◌≡◌, Option, Some}
+use Rattle.ice_image.specs.Configuration.{Configuration}
+use Rattle.chipdb_reader.specs.Database.{Database}
+use Rattle.place_search.specs.Places.{or_else}
+use Rattle.net_extract.specs.Tiles.{first_of}
+use Rattle.net_extract.specs.Faults.{Fault, device_faults, pins_fault, rams_fault}
+use Rattle.io_cell.specs.declared.fault.PinFault.{PinFault}
+use Rattle.io_cell.specs.declared.fault.PinFault.TheVariants as pins
+use Rattle.block_ram.specs.declared.fault.RamFault.{RamFault}
+use Rattle.block_ram.specs.declared.fault.RamFault.TheVariants as rams
+use Rattle.ice_stat.specs.declared.fault.StatFault.{StatFault}
+use Rattle.ice_stat.specs.declared.fault.StatFault.TheVariants.{Device, Pins, Rams, Memory}
+
+-- the first cause: the devices differ, the pins aren't taken, or the RAMs aren't taken
+unfoldable pub stat_fault : Database → Configuration → Option Fault
+stat_fault db image = or_else (first_of (device_faults db image)) (or_else (pins_fault db image) (rams_fault db image))
+
+-- a refusal for pins tells their fault; it isn't one for memory
+abbrev pub IsPinCause : Option Fault → PinFault → Type 0
+IsPinCause fault (pins.Pll x y) = fault ≡ Some (Fault.pll x y)
+IsPinCause fault (pins.PinMode x y pio pintype) = fault ≡ Some (Fault.pin_mode x y pio pintype)
+IsPinCause fault (pins.Memory failed) = ⊥
+
+-- a refusal for RAMs tells their fault; it isn't one for memory
+abbrev pub IsRamCause : Option Fault → RamFault → Type 0
+IsRamCause fault (rams.Mode x y read write) = fault ≡ Some (Fault.mode x y read write)
+IsRamCause fault (rams.Cascade x y) = fault ≡ Some (Fault.cascade x y)
+IsRamCause fault (rams.Memory failed) = ⊥
+
+-- a refusal tells the fault, or that memory ran out
+abbrev pub IsCause : Option Fault → StatFault → Type 0
+IsCause fault Device = fault ≡ Some Fault.other_device
+IsCause fault (Pins cause) = IsPinCause fault cause
+IsCause fault (Rams cause) = IsRamCause fault cause
+IsCause fault (Memory failed) = Unit {0}

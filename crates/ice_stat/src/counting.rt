@@ -1,0 +1,57 @@
+// Counts what an image uses.
+ghost use Rattle.std.specs.Prelude.{◌≡◌, IfOk, IfErr, OnOk, None};
+ghost use Rattle.ice_image.specs.Either.{configuration_of};
+ghost use Rattle.chipdb_reader.specs.Kept.{database_in};
+ghost use Rattle.ice_stat.specs.Counts.{counts_of, stat_text};
+ghost use Rattle.ice_stat.specs.Faults.{IsCause, stat_fault};
+
+use crate::bits::set_bits;
+use crate::cells::{carries, flops};
+use crate::counts::{Counts, text_of};
+use crate::fault::StatFault;
+use crate::globals::globals;
+use block_ram::rams;
+use chipdb_reader::ChipDb;
+use ice_image::AnyImage;
+use io_cell::pins;
+use logic_cell::used_cells;
+use net_extract::links;
+use std::alloc::Global;
+
+/// Counts what an image uses by a database: the text of ten lines, each a word, a space and a number.
+///
+/// # Errors
+/// The first cause why the two aren't counted, in the order of [`StatFault`].
+pub fn stat(alloc: Global, db: &ChipDb, image: &AnyImage) -> Result<Vec<u8>, StatFault>
+    ensures text { IfOk result (λ text. text.items ≡ stat_text (counts_of (database_in db.now) (configuration_of image.now))) }
+    ensures taken { OnOk result (stat_fault (database_in db.now) (configuration_of image.now) ≡ None) }
+    ensures refused { IfErr result (IsCause (stat_fault (database_in db.now) (configuration_of image.now))) }
+{
+    let counts = counts(alloc, db, image)?;
+    Ok(text_of(alloc, &counts)?)
+}
+
+/// The counts.
+fn counts(alloc: Global, db: &ChipDb, image: &AnyImage) -> Result<Counts, StatFault>
+    ensures counts { IfOk result (λ counts. counts ≡ counts_of (database_in db.now) (configuration_of image.now)) }
+    ensures taken { OnOk result (stat_fault (database_in db.now) (configuration_of image.now) ≡ None) }
+    ensures refused { IfErr result (IsCause (stat_fault (database_in db.now) (configuration_of image.now))) }
+{
+    let links = links(alloc, db, image)?;
+    let pins = pins(alloc, db, image, &links)?;
+    let rams = rams(alloc, db, image, &links)?;
+    let cells = used_cells(alloc, db, image)?;
+    let extras = image.extra_bits(alloc)?;
+    Ok(Counts {
+        luts: cells.len(),
+        flops: flops(&cells),
+        carries: carries(&cells),
+        rams: rams.len(),
+        pins: pins.pins.len(),
+        globals: globals(&pins.globals),
+        buffers: links.buffers().len(),
+        routings: links.routings().len(),
+        bits: set_bits(alloc, image)?,
+        extra: extras.len(),
+    })
+}

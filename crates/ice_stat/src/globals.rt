@@ -1,0 +1,26 @@
+// Globals that drive a net.
+ghost use Rattle.std.specs.Prelude.{◌≡◌, ◌==◌, length};
+ghost use Rattle.std.specs.List.{list_any};
+ghost use Rattle.ice_stat.specs.Counts.{globals_among};
+
+use net_extract::GlobalNet;
+
+/// How many globals drive some of these nets.
+pub(crate) fn globals(nets: &[GlobalNet]) -> usize
+    ensures { result ≡ length (globals_among nets.now) }
+{
+    let mut count = 0;
+    for g in 0..8 {
+        if drives(nets, g) {
+            count += 1;
+        }
+    }
+    count
+}
+
+/// Whether a global drives one of these nets.
+fn drives(nets: &[GlobalNet], g: u8) -> bool
+    ensures { result ≡ list_any (λ global. global.g == g) nets.now }
+{
+    nets.iter().any(|net| net.g == g)
+}

@@ -7,6 +7,7 @@ ghost use Rattle.chipdb_reader.specs.Kept.{database_in};
 ghost use Rattle.net_extract.specs.Links.{AreLinks};
 
 mod cells;
+mod counts;
 mod databases;
 mod designs;
 mod drives;

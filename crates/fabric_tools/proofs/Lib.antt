@@ -1,0 +1,2 @@
+-- What is told where nothing is counted
+mod Counted

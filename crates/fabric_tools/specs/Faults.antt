@@ -1,5 +1,10 @@
 -- What a tool says of a fault.
 use Rattle.std.specs.Prelude.{ℕ, List, ◌++◌, codes, decimal}
+use Rattle.fabric.specs.declared.fault.FabricFault.{FabricFault}
+use Rattle.fabric.specs.declared.fault.FabricFault.TheVariants.{Device as DesignDevice, Memory as DesignMemory}
+use Rattle.fabric.specs.Causes.{of_pins, of_rams}
+use Rattle.ice_stat.specs.declared.fault.StatFault.{StatFault}
+use Rattle.ice_stat.specs.declared.fault.StatFault.TheVariants.{Device as CountsDevice, Pins, Rams, Memory as CountsMemory}
 use Rattle.tile_bits.specs.declared.fault.ExplainFault.{ExplainFault}
 use Rattle.tile_bits.specs.declared.fault.ExplainFault.TheVariants.{Device as OtherDevice, NoTile, Memory}
 
@@ -8,3 +13,10 @@ abbrev pub explain_fault_text : ExplainFault → List ℕ
 explain_fault_text OtherDevice = codes "Device"
 explain_fault_text (NoTile x y) = codes "tile " ++ decimal x ++ codes " " ++ decimal y ++ codes ": NoTile"
 explain_fault_text (Memory e) = codes "out of memory"
+
+-- why nothing is counted, as why there is no design
+abbrev pub of_counts : StatFault → FabricFault
+of_counts CountsDevice = DesignDevice
+of_counts (Pins fault) = of_pins fault
+of_counts (Rams fault) = of_rams fault
+of_counts (CountsMemory failed) = DesignMemory failed

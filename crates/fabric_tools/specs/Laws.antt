@@ -1,9 +1,10 @@
--- What holds of the command line of `icebox_explain`: its command is simple, and each task is told under its name.
+-- What holds of the command lines of `icebox_explain` and `icebox_stat`: each command is simple, and each task is told under the tool's name.
 use Rattle.std.specs.Prelude.{◌≡◌, true, List, codes, refl, Option, None, Some}
 use Rattle.clap.specs.Words.{Row, Text, first_of, is_simple_and_free}
 use Rattle.clap.proofs.OnLiterals.{clap_on_literals}
 use Rattle.asc_text.specs.declared.fault.TileXy.{TileXy}
 use Rattle.fabric_tools.specs.Explain.{explain_command, explain_name, explain_task_by, explain_task_of, tile_given}
+use Rattle.fabric_tools.specs.Stat.{stat_command, stat_name, stat_task_by, stat_task_of}
 
 pub explain-simple : is_simple_and_free explain_command ≡ true
 unfolding clap_on_literals
@@ -16,3 +17,16 @@ of-speaks None layout db image = refl
 
 pub explain-speaks : (rows : List Row) → (explain_task_by rows).tool_name ≡ explain_name
 explain-speaks rows = of-speaks (tile_given (first_of (codes "tile") rows)) (first_of (codes "layout") rows) (first_of (codes "db") rows) (first_of (codes "image") rows)
+
+-- ---- the same of `icebox_stat`
+
+pub stat-simple : is_simple_and_free stat_command ≡ true
+unfolding clap_on_literals
+stat-simple = refl
+
+stat_of-speaks : (db image : Option Text) → (stat_task_of db image).tool_name ≡ stat_name
+stat_of-speaks (Some db) image = refl
+stat_of-speaks None image = refl
+
+pub stat-speaks : (rows : List Row) → (stat_task_by rows).tool_name ≡ stat_name
+stat-speaks rows = stat_of-speaks (first_of (codes "db") rows) (first_of (codes "image") rows)

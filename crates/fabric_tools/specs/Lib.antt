@@ -1,3 +1,4 @@
 pub mod Faults
 pub mod Explain
+pub mod Stat
 pub mod Laws

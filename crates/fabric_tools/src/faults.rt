@@ -1,11 +1,15 @@
 // What a tool says of a fault.
 ghost use Rattle.std.specs.Prelude.{◌≡◌};
 ghost use Rattle.tool_run.specs.Lines.{refusal_text};
-ghost use Rattle.fabric_tools.specs.Faults.{explain_fault_text};
+ghost use Rattle.design_parts.specs.Faults.{told_fault, StopsFor};
+ghost use Rattle.fabric_tools.specs.Faults.{explain_fault_text, of_counts};
 
+use design_parts::design_stop;
+use fabric::FabricFault;
+use ice_stat::StatFault;
 use tile_bits::ExplainFault;
 use tool_parts::whole;
-use tool_run::{Refusal, decimal, text};
+use tool_run::{Refusal, Stop, decimal, text};
 
 /// Why nothing is explained.
 pub(crate) fn explain_refusal(fault: ExplainFault) -> Refusal
@@ -20,5 +24,24 @@ pub(crate) fn explain_refusal(fault: ExplainFault) -> Refusal
             fourth: text(""),
         },
         ExplainFault::Memory(_) => whole("out of memory"),
+    }
+}
+
+/// Why nothing is counted: it is told in the words for a design.
+pub(crate) fn stat_stop(fault: StatFault) -> Stop
+    ensures { StopsFor (told_fault (of_counts fault)) result }
+{
+    design_stop(&design_fault(fault))
+}
+
+// Why there would be no design either.
+fn design_fault(fault: StatFault) -> FabricFault
+    ensures { result ≡ of_counts fault }
+{
+    match fault {
+        StatFault::Device => FabricFault::Device,
+        StatFault::Pins(fault) => FabricFault::from(fault),
+        StatFault::Rams(fault) => FabricFault::from(fault),
+        StatFault::Memory(failed) => FabricFault::Memory(failed),
     }
 }

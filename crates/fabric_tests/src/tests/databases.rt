@@ -10,7 +10,7 @@ use sample_images::CELL;
 use std::alloc::{AllocError, Global};
 
 /// A small database of an 8k.
-const OTHER: &[u8] = b".device 8k 34 34 4
+pub(super) const OTHER: &[u8] = b".device 8k 34 34 4
 .gbufin
 0 16 3
 33 17 3

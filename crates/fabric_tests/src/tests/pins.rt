@@ -6,7 +6,7 @@ use sample_images::SampleBit;
 use std::alloc::Global;
 
 /// Two pins, a PLL, and a global with a pad and a tile.
-const PINS: &[u8] = b".device 1k 14 18 5
+pub(super) const PINS: &[u8] = b".device 1k 14 18 5
 .io_tile_bits 18 16
 IOB_0.PINTYPE_0 B0[0]
 IOB_0.PINTYPE_1 B1[0]
@@ -34,7 +34,12 @@ padin_glb_netwk.2 0 330 143
 ";
 
 /// The bits of an input pin and of an output pin that can be read.
-const TWO_PINS: [SampleBit; 4] = [(0, 1, 0, 0), (0, 2, 0, 0), (0, 2, 3, 0), (0, 2, 4, 0)];
+pub(super) const TWO_PINS: [SampleBit; 4] = [
+    (0, 1, 0, 0),
+    (0, 2, 0, 0),
+    (0, 2, 3, 0),
+    (0, 2, 4, 0),
+];
 
 /// What these bits give.
 const FOUND: [Pin; 2] = [

@@ -5,7 +5,7 @@ use sample_images::SampleBit;
 use std::alloc::Global;
 
 /// A RAM with some of its nets at its lower tile and some at its upper one, and a buffer that reads a bit of it.
-const RAM: &[u8] = b".device 1k 14 18 6
+pub(super) const RAM: &[u8] = b".device 1k 14 18 6
 .ramb_tile_bits 42 16
 NegClk B5[0]
 RamCascade.CBIT_4 B3[0]

@@ -1,0 +1,47 @@
+-- What is told of an image and a database that are counted, and of those that aren't.
+use Rattle.std.proofs.Common.{◌≡◌, ℕ, List, refl, sym, ap, ◌∙◌}
+use Rattle.std.specs.Prelude.{Option, None, Some}
+use Rattle.ice_image.specs.Configuration.{Configuration}
+use Rattle.chipdb_reader.specs.Database.{Database}
+use Rattle.net_extract.specs.Faults.{Fault}
+use Rattle.io_cell.specs.declared.fault.PinFault.TheVariants as pins
+use Rattle.block_ram.specs.declared.fault.RamFault.TheVariants as rams
+use Rattle.ice_stat.specs.declared.fault.StatFault.{StatFault}
+use Rattle.ice_stat.specs.declared.fault.StatFault.TheVariants.{Device, Pins, Rams, Memory as OutOfMemory}
+use Rattle.ice_stat.specs.Counts.{counts_of, stat_text}
+use Rattle.ice_stat.specs.Faults.{IsCause, stat_fault}
+use Rattle.tool_run.specs.declared.tool.Stop.{Stop}
+use Rattle.tool_run.specs.declared.tool.Stop.TheVariants.{Refused, UsageError, Memory}
+use Rattle.tool_run.specs.Stops.{StopsWith}
+use Rattle.tool_run.specs.Tasks.{Done, Refused as Refuses}
+use Rattle.design_parts.specs.Faults.{StopsFor, told_fault}
+use Rattle.fabric_tools.specs.Faults.{of_counts}
+use Rattle.fabric_tools.specs.Stat.{counted, counted_with}
+
+-- the cause of a refusal is the fault that it tells
+cause-told : (cause : Option Fault) (fault : StatFault) (one : Fault) → IsCause cause fault → told_fault (of_counts fault) ≡ Some one → cause ≡ Some one
+cause-told cause Device one is told = is ∙ told
+cause-told cause (Pins (pins.Pll x y)) one is told = is ∙ told
+cause-told cause (Pins (pins.PinMode x y pio pintype)) one is told = is ∙ told
+cause-told cause (Pins (pins.Memory failed)) one is told = absurd is
+cause-told cause (Rams (rams.Mode x y read write)) one is told = is ∙ told
+cause-told cause (Rams (rams.Cascade x y)) one is told = is ∙ told
+cause-told cause (Rams (rams.Memory failed)) one is told = absurd is
+cause-told cause (OutOfMemory failed) one is told = cc
+
+module _ (db : Database) (image : Configuration) where
+  -- a tool that tells the fault stops as it has to
+  stops-told : (cause told : Option Fault) (stop : Stop) → ((one : Fault) → told ≡ Some one → cause ≡ Some one) → StopsFor told stop → StopsWith (counted_with db image cause) stop
+  stops-told cause (Some fault) (Refused refusal) same stops = ap (counted_with db image) (same fault refl) ∙ ap Refuses stops
+  stops-told cause None Memory same stops = tt
+  stops-told cause (Some fault) (UsageError refusal) same stops = absurd stops
+  stops-told cause (Some fault) Memory same stops = tt
+  stops-told cause None (Refused refusal) same stops = absurd stops
+  stops-told cause None (UsageError refusal) same stops = absurd stops
+
+  pub stops_counted : (cause : Option Fault) (fault : StatFault) (stop : Stop) → IsCause cause fault → StopsFor (told_fault (of_counts fault)) stop → StopsWith (counted_with db image cause) stop
+  stops_counted cause fault stop is stops = stops-told cause (told_fault (of_counts fault)) stop (λ one told. cause-told cause fault one is told) stops
+
+  -- the text of the counts, where nothing is wrong
+  pub counted_done : (text : List ℕ) → stat_fault db image ≡ None → text ≡ stat_text (counts_of db image) → counted db image ≡ Done text
+  counted_done text taken is = ap (counted_with db image) taken ∙ ap Done (sym is)

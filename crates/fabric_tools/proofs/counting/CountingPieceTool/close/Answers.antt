@@ -1,0 +1,5 @@
+use Rattle.std.proofs.Common.{false}
+use Rattle.fabric_tools.proofs.counting.CountingPieceTool.close.Goals as goal
+
+pub returns-clause-closed : goal.returns-clause-closed
+returns-clause-closed c = λ texts bytes taking. c.close.ensures.closed false texts bytes taking

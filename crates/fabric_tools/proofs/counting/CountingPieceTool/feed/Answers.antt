@@ -1,0 +1,5 @@
+use Rattle.std.proofs.Common.{false}
+use Rattle.fabric_tools.proofs.counting.CountingPieceTool.feed.Goals as goal
+
+pub returns-clause-taken : goal.returns-clause-taken
+returns-clause-taken c = λ texts bytes taking. c.feed.ensures.taken false texts bytes taking

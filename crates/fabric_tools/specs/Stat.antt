@@ -1,0 +1,75 @@
+-- `icebox_stat`: what an image uses of its device.
+use Rattle.std.specs.Prelude.{ℕ, List, [], ◌∷◌, false, codes, Option, None, Some}
+use Rattle.clap.specs.Words.{App, Row, Text, first_of}
+use Rattle.ice_image.specs.Configuration.{Configuration}
+use Rattle.chipdb_reader.specs.Database.{Database}
+use Rattle.net_extract.specs.Faults.{Fault}
+use Rattle.ice_stat.specs.Counts.{counts_of, stat_text}
+use Rattle.ice_stat.specs.Faults.{stat_fault}
+use Rattle.tool_run.specs.Needs.{text_of}
+use Rattle.tool_run.specs.Tasks.{Answer, Done, Refused, Task, usage_error}
+use Rattle.tool_parts.specs.Outcomes.{Manual, outcome}
+use Rattle.tool_parts.specs.Commands.{command, positional, required}
+use Rattle.tool_parts.specs.DesignInput.{input_answer}
+use Rattle.tool_parts.specs.Images.{image_limit}
+use Rattle.tool_parts.specs.Databases.{database_limit}
+use Rattle.design_parts.specs.Faults.{design_fault_text}
+use Rattle.fabric_tools.specs.declared.counting.Inputs.{Inputs}
+use Rattle.fabric_tools.specs.declared.counting.TheConstants.{ICEBOX_STAT_HELP}
+
+-- ---- the answer
+
+abbrev pub counted_with : Database → Configuration → Option Fault → Answer
+counted_with db image None = Done (stat_text (counts_of db image))
+counted_with db image (Some fault) = Refused (design_fault_text fault)
+
+-- the counts, or why there are none
+abbrev pub counted : Database → Configuration → Answer
+counted db image = counted_with db image (stat_fault db image)
+
+-- the database is read before the image, which is read under the standard layouts
+abbrev pub stat_answer : List (List ℕ) → Answer
+stat_answer texts = input_answer false counted texts
+
+-- ---- the arguments
+
+abbrev pub stat_name : List ℕ
+stat_name = codes "icebox_stat"
+
+abbrev pub stat_usage : List ℕ
+stat_usage = codes "icebox_stat DB [IMAGE]"
+
+abbrev pub stat_command : App
+stat_command = command stat_name (required (codes "db") ∷ positional (codes "image") ∷ [])
+
+-- ---- the task
+
+-- the database, and the image from a file or from standard input
+abbrev pub count_task : Text → Option Text → Task
+count_task db image = record {
+  tool_name = stat_name;
+  needs = record { name = Some db; limit = database_limit } ∷ record { name = image; limit = image_limit } ∷ [];
+  target = None;
+  answer = stat_answer;
+}
+
+-- there has to be a database
+abbrev pub stat_task_of : Option Text → Option Text → Task
+stat_task_of (Some db) image = count_task db image
+stat_task_of None image = usage_error stat_name stat_usage
+
+abbrev pub stat_task_by : List Row → Task
+stat_task_by rows = stat_task_of (first_of (codes "db") rows) (first_of (codes "image") rows)
+
+-- the tool
+abbrev pub icebox_stat : Manual
+icebox_stat = record { name = stat_name; usage = stat_usage; help = ICEBOX_STAT_HELP.now; app = stat_command; task = stat_task_by }
+
+-- what the arguments of `icebox_stat` ask for, its help among that
+abbrev pub stat_outcome : List Text → Task
+stat_outcome args = outcome icebox_stat args
+
+-- the task of the inputs that were found in the arguments
+abbrev pub stat_task_for : Option Inputs → Task
+stat_task_for None = usage_error stat_name stat_usage
+stat_task_for (Some inputs) = count_task inputs.db.now (text_of inputs.image)

@@ -1,0 +1,281 @@
+// `icebox_stat`: what an image uses of its device.
+ghost use Rattle.std.specs.Prelude.{◌≡◌, [], ℕ, List, false, map, string_bytes, IfOk, IfErr, Some};
+ghost use Rattle.clap.specs.Words.{app_of, found_of, rows_of};
+ghost use Rattle.ice_image.specs.Either.{configuration_of};
+ghost use Rattle.chipdb_reader.specs.Kept.{database_in};
+ghost use Rattle.tool_run.specs.Needs.{text_of};
+ghost use Rattle.tool_run.specs.Runs.{Does, outside, scene};
+ghost use Rattle.tool_run.specs.Stops.{StopsWith};
+ghost use Rattle.tool_run.specs.Tasks.{Done};
+ghost use Rattle.tool_parts.specs.DesignInput.{TakesInput};
+ghost use Rattle.tool_parts.specs.Taking.{IsTaking};
+ghost use Rattle.fabric_tools.specs.Stat.{counted, stat_answer, stat_command, stat_outcome, stat_task_by, stat_task_for, stat_task_of};
+
+use crate::faults::stat_stop;
+use chipdb_reader::ChipDb;
+use clap::{ArgMatches, Command};
+use ice_image::AnyImage;
+use ice_io::{Files, Sink, Source};
+use ice_stat::stat;
+use std::alloc::{AllocError, Global};
+use tool_parts::{
+    CommandLine, DB_LIMIT, DesignInput, IMAGE_LIMIT, Taking, positional, required, run_tool, value,
+    with,
+};
+use tool_run::{AtOnce, Job, Load, PieceTool, Stop, answer_at_once, perform_in_pieces};
+
+/// The command line of `icebox_stat`.
+pub const ICEBOX_STAT_USAGE: &str = "icebox_stat DB [IMAGE]";
+
+/// The help of `icebox_stat`, at most 80 columns wide.
+pub const ICEBOX_STAT_HELP: &str = "\
+icebox_stat: counts what an image uses of its device, by a chip database.
+
+Usage: icebox_stat DB [IMAGE]
+
+  DB        the chip database of the image's device
+  IMAGE     a bitstream (.bin) or a text (.asc); standard input if it is missing
+
+icebox_stat writes ten lines, each a word, a space and a number:
+
+  luts      logic cells that are used
+  flops     those with a flip-flop
+  carries   those that carry
+  rams      block RAMs that are read
+  pins      pins that are ports
+  globals   global nets with a driver
+  buffers   buffers that are on
+  routings  routings that are on
+  bits      bits of the configuration planes that are 1, extra bits among them
+  extra     extra bits that are 1
+
+The image is read under the standard layout.
+
+Example: icebox_stat chipdb-1k.txt blink.asc
+
+Limits: a database has at most 268435456 bytes, an image 16777216.
+
+A database or an image with a fault is refused, and told by the first fault. An
+image is refused for these causes, looked for in this order:
+
+  Device        the database is for another device: take the one for yours
+  Pll           a PLL is used
+  PinMode       a pin of another kind than a plain input or output; the six
+                digits are the bits of its type
+  Mode          a block RAM whose words aren't 16 bits wide where it is read or
+                written
+  Cascade       block RAMs that are chained
+
+Exit status: 0 done; 1 the database or the image is refused, with its first
+fault; 2 the command line isn't taken; 3 reading failed; 4 writing failed; 5 out
+of memory; 6 an input is longer than its limit.
+";
+
+/// Counts what an image uses, by a database.
+#[derive(Clone, Copy, Debug, PartialEq, Eq)]
+pub(crate) struct Counting;
+
+impl PieceTool for Counting {
+    ghost use Rattle.tool_parts.specs.DesignInput.{TakesInput, fed_input};
+    ghost use Rattle.tool_parts.specs.Taking.{IsTaking, fed_of};
+    ghost use Rattle.fabric_tools.specs.Stat.{stat_answer};
+
+    type Intake = Taking<DesignInput>;
+
+    type Made = Vec<u8>;
+
+    ghost answer_of = { λ tool texts. stat_answer texts };
+
+    ghost takes = { λ tool texts taking bytes. IsTaking TakesInput false texts bytes taking };
+
+    ghost fed = { fed_of fed_input };
+
+    fn begin(&self, alloc: Global) -> Taking<DesignInput> {
+        Taking::begin(alloc, false)
+    }
+
+    fn feed(&self, taking: &mut Taking<DesignInput>, piece: &[u8]) {
+        taking.feed(piece);
+    }
+
+    fn close(&self, alloc: Global, taking: &mut Taking<DesignInput>) {
+        taking.close(alloc);
+    }
+
+    fn finish(&self, alloc: Global, taking: Taking<DesignInput>) -> Result<Vec<u8>, Stop> {
+        counted_after(alloc, taking)
+    }
+}
+
+// The counts, after the last piece of both.
+fn counted_after(alloc: Global, taking: Taking<DesignInput>) -> Result<Vec<u8>, Stop>
+    ensures bytes { IfOk result (λ bytes. (texts : List (List ℕ)) → IsTaking TakesInput false texts [] taking
+        → stat_answer texts ≡ Done bytes.items) }
+    ensures stops { IfErr result (λ stop. (texts : List (List ℕ)) → IsTaking TakesInput false texts [] taking
+        → StopsWith (stat_answer texts) stop) }
+{
+    match DesignInput::read(alloc, taking) {
+        Ok((db, image)) => count_text(alloc, &db, &image),
+        Err(stop) => Err(stop),
+    }
+}
+
+// The counts of an image by a database.
+#[tactic(auto, using(crate::proofs::Counted::stops_counted, crate::proofs::Counted::counted_done))]
+fn count_text(alloc: Global, db: &ChipDb, image: &AnyImage) -> Result<Vec<u8>, Stop>
+    ensures bytes { IfOk result (λ bytes. counted (database_in db.now) (configuration_of image.now) ≡ Done bytes.items) }
+    ensures stops { IfErr result (StopsWith (counted (database_in db.now) (configuration_of image.now))) }
+{
+    match stat(alloc, db, image) {
+        Ok(text) => Ok(text),
+        Err(fault) => Err(stat_stop(fault)),
+    }
+}
+
+/// What the arguments ask for: a database and an image.
+#[derive(Clone, Copy)]
+pub(crate) struct Inputs<'a> {
+    pub(crate) db: &'a str,
+    pub(crate) image: Option<&'a str>,
+}
+
+// The command line as `clap` reads it.
+fn command<'a>(alloc: Global) -> Result<Command<'a>, AllocError>
+    ensures { IfOk result (λ command. app_of command ≡ stat_command) }
+{
+    let command = Command::new(alloc, "icebox_stat");
+    let command = with(command, required(alloc, "db"))?;
+    with(command, positional(alloc, "image"))
+}
+
+// What the arguments ask for by what was found in them: there has to be a database.
+fn wanted<'a>(db: Option<&'a str>, image: Option<&'a str>) -> Option<Inputs<'a>>
+    ensures { stat_task_for result ≡ stat_task_of (text_of db.entry) (text_of image.entry) }
+{
+    match db {
+        Some(db) => Some(Inputs { db, image }),
+        None => None,
+    }
+}
+
+// What was found in the arguments asks for.
+fn inputs_in<'a>(matches: &ArgMatches<'a>) -> Option<Inputs<'a>>
+    ensures { stat_task_for result ≡ stat_task_by (rows_of (found_of matches.now)) }
+{
+    let db = value(matches, "db");
+    let image = value(matches, "image");
+    wanted(db, image)
+}
+
+// Counts by the files of the arguments.
+fn count_files<F: Files, I: Source, O: Sink, E: Sink>(
+    alloc: Global,
+    inputs: Inputs<'_>,
+    files: &mut F,
+    input: &mut I,
+    output: &mut O,
+    errors: &mut E,
+) -> u8
+    ensures { Does (outside F.contents F.steady F.load_faults F.store_faults I.left I.faults O.held O.faults E.held E.faults)
+        (stat_task_for (Some inputs.entry)) result
+        (scene files.old input.old output.old errors.old) (scene files.new input.new output.new errors.new) }
+{
+    let loads = [
+        Load {
+            name: Some(inputs.db),
+            limit: DB_LIMIT,
+        },
+        Load {
+            name: inputs.image,
+            limit: IMAGE_LIMIT,
+        },
+    ];
+    let job = Job {
+        tool_name: "icebox_stat",
+        loads: &loads,
+        target: None,
+    };
+    perform_in_pieces(alloc, &Counting, &job, files, input, output, errors)
+}
+
+// Does what the arguments ask for, where they are taken.
+fn do_inputs<F: Files, I: Source, O: Sink, E: Sink>(
+    alloc: Global,
+    inputs: Option<Inputs<'_>>,
+    files: &mut F,
+    input: &mut I,
+    output: &mut O,
+    errors: &mut E,
+) -> u8
+    ensures { Does (outside F.contents F.steady F.load_faults F.store_faults I.left I.faults O.held O.faults E.held E.faults)
+        (stat_task_for inputs.entry) result
+        (scene files.old input.old output.old errors.old) (scene files.new input.new output.new errors.new) }
+{
+    match inputs {
+        Some(inputs) => count_files(alloc, inputs, files, input, output, errors),
+        None => {
+            let answer = AtOnce::UsageError(ICEBOX_STAT_USAGE);
+            answer_at_once(alloc, "icebox_stat", answer, files, input, output, errors)
+        }
+    }
+}
+
+/// `icebox_stat` by its command line.
+#[derive(Clone, Copy, Debug, PartialEq, Eq)]
+pub(crate) struct IceboxStat;
+
+impl CommandLine for IceboxStat {
+    ghost use Rattle.fabric_tools.specs.Stat.{icebox_stat};
+    ghost use Rattle.fabric_tools.specs.Laws.{stat-simple, stat-speaks};
+
+    ghost manual = { icebox_stat };
+
+    fn name(&self) -> &'static str {
+        "icebox_stat"
+    }
+
+    fn usage(&self) -> &'static str {
+        ICEBOX_STAT_USAGE
+    }
+
+    fn help(&self) -> &'static str {
+        ICEBOX_STAT_HELP
+    }
+
+    fn command<'a>(&self, alloc: Global) -> Result<Command<'a>, AllocError> {
+        command(alloc)
+    }
+
+    fn perform<F: Files, I: Source, O: Sink, E: Sink>(
+        &self,
+        alloc: Global,
+        matches: &ArgMatches<'_>,
+        files: &mut F,
+        input: &mut I,
+        output: &mut O,
+        errors: &mut E,
+    ) -> u8 {
+        let inputs = inputs_in(matches);
+        do_inputs(alloc, inputs, files, input, output, errors)
+    }
+
+    ghost simple = { stat-simple };
+
+    ghost speaks = { stat-speaks };
+}
+
+/// Runs `icebox_stat` with these arguments, of which the first is its name.
+pub fn run_icebox_stat<F: Files, I: Source, O: Sink, E: Sink>(
+    alloc: Global,
+    args: &[String],
+    files: &mut F,
+    input: &mut I,
+    output: &mut O,
+    errors: &mut E,
+) -> u8
+    ensures { Does (outside F.contents F.steady F.load_faults F.store_faults I.left I.faults O.held O.faults E.held E.faults)
+        (stat_outcome (map string_bytes args.now)) result
+        (scene files.old input.old output.old errors.old) (scene files.new input.new output.new errors.new) }
+{
+    run_tool(alloc, &IceboxStat, args, files, input, output, errors)
+}

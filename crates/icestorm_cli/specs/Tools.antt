@@ -4,13 +4,15 @@ use Rattle.tool_run.specs.Tasks.{Answer, Done, Task, at_once, usage_error}
 use Rattle.bitstream_tools.specs.Bram.{icebram_outcome}
 use Rattle.bitstream_tools.specs.Multi.{icemulti_outcome}
 use Rattle.bitstream_tools.specs.Pack.{icepack_outcome}
+use Rattle.bitstream_tools.specs.Split.{icesplit_outcome}
 use Rattle.bitstream_tools.specs.Unpack.{iceunpack_outcome}
 use Rattle.fabric_tools.specs.Explain.{explain_outcome}
+use Rattle.fabric_tools.specs.Stat.{stat_outcome}
 use Rattle.module_tools.specs.Vlogrun.{vlogrun_outcome}
 use Rattle.design_tools.specs.Vlog.{vlog_outcome}
 use Rattle.job_tools.specs.Selfrun.{IsSelfrunAnswer, selfrun_outcome}
 use Rattle.icestorm_cli.specs.declared.tool.Tool.{Tool}
-use Rattle.icestorm_cli.specs.declared.tool.Tool.TheVariants.{Icepack, Iceunpack, Icemulti, Icebram, IceboxExplain, IceboxVlog, Vlogrun, Selfrun}
+use Rattle.icestorm_cli.specs.declared.tool.Tool.TheVariants.{Icepack, Iceunpack, Icemulti, Icesplit, Icebram, IceboxExplain, IceboxStat, IceboxVlog, Vlogrun, Selfrun}
 use Rattle.icestorm_cli.specs.declared.tool.TheConstants.{HELP, VERSION}
 
 -- the tool that a word names
@@ -19,8 +21,10 @@ tool_named word =
     if bytes_eq word (codes "icepack") then Some Icepack
     else if bytes_eq word (codes "iceunpack") then Some Iceunpack
     else if bytes_eq word (codes "icemulti") then Some Icemulti
+    else if bytes_eq word (codes "icesplit") then Some Icesplit
     else if bytes_eq word (codes "icebram") then Some Icebram
     else if bytes_eq word (codes "icebox_explain") then Some IceboxExplain
+    else if bytes_eq word (codes "icebox_stat") then Some IceboxStat
     else if bytes_eq word (codes "icebox_vlog") then Some IceboxVlog
     else if bytes_eq word (codes "vlogrun") then Some Vlogrun
     else if bytes_eq word (codes "selfrun") then Some Selfrun
@@ -54,8 +58,10 @@ abbrev pub IsOutcomeOf : Option Tool → List (List ℕ) → Task → Type 0
 IsOutcomeOf (Some Icepack) args task = task ≡ icepack_outcome args
 IsOutcomeOf (Some Iceunpack) args task = task ≡ iceunpack_outcome args
 IsOutcomeOf (Some Icemulti) args task = task ≡ icemulti_outcome args
+IsOutcomeOf (Some Icesplit) args task = task ≡ icesplit_outcome args
 IsOutcomeOf (Some Icebram) args task = task ≡ icebram_outcome args
 IsOutcomeOf (Some IceboxExplain) args task = task ≡ explain_outcome args
+IsOutcomeOf (Some IceboxStat) args task = task ≡ stat_outcome args
 IsOutcomeOf (Some IceboxVlog) args task = task ≡ vlog_outcome args
 IsOutcomeOf (Some Vlogrun) args task = task ≡ vlogrun_outcome args
 IsOutcomeOf (Some Selfrun) args task = (answer : Answer) × IsSelfrunAnswer args answer × (task ≡ selfrun_outcome args answer)

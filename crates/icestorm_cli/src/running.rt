@@ -10,9 +10,9 @@ ghost use Rattle.icestorm_cli.specs.Runs.{PromisesRun};
 ghost use Rattle.icestorm_cli.specs.Tools.{IsOutcome, other_outcome, own_outcome, program_name, tool_of};
 
 use crate::tool::{HELP, Tool, VERSION, tool_of};
-use bitstream_tools::{run_icebram, run_icemulti, run_icepack, run_iceunpack};
+use bitstream_tools::{run_icebram, run_icemulti, run_icepack, run_icesplit, run_iceunpack};
 use design_tools::run_icebox_vlog;
-use fabric_tools::run_icebox_explain;
+use fabric_tools::{run_icebox_explain, run_icebox_stat};
 use ice_io::{Files, Sink, Source};
 use job_tools::run_selfrun;
 use module_tools::run_vlogrun;
@@ -68,10 +68,12 @@ pub fn run<F: Files, I: Source, O: Sink, E: Sink>(
         Some(Tool::Icepack) => run_icepack(alloc, args, files, input, output, errors),
         Some(Tool::Iceunpack) => run_iceunpack(alloc, args, files, input, output, errors),
         Some(Tool::Icemulti) => run_icemulti(alloc, args, files, input, output, errors),
+        Some(Tool::Icesplit) => run_icesplit(alloc, args, files, input, output, errors),
         Some(Tool::Icebram) => run_icebram(alloc, args, files, input, output, errors),
         Some(Tool::IceboxExplain) => {
             run_icebox_explain(alloc, args, files, input, output, errors)
         }
+        Some(Tool::IceboxStat) => run_icebox_stat(alloc, args, files, input, output, errors),
         Some(Tool::IceboxVlog) => run_icebox_vlog(alloc, args, files, input, output, errors),
         Some(Tool::Vlogrun) => run_vlogrun(alloc, args, files, input, output, errors),
         Some(Tool::Selfrun) => run_selfrun(alloc, args, files, input, output, errors),

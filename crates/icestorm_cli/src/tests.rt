@@ -2,6 +2,7 @@
 ghost use Rattle.std.specs.Prelude.{◌≤◌};
 
 mod answering;
+mod counting;
 mod explaining;
 mod failing;
 mod generating;
@@ -13,6 +14,7 @@ mod packing;
 mod refusing;
 mod replacing;
 mod small;
+mod splitting;
 mod unpacking;
 mod writing;
 

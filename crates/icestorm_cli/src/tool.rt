@@ -11,10 +11,14 @@ pub enum Tool {
     Iceunpack,
     /// Bitstreams to a boot file.
     Icemulti,
+    /// A boot file to its images.
+    Icesplit,
     /// Other contents of RAMs in a text.
     Icebram,
     /// Bits explained.
     IceboxExplain,
+    /// What an image uses, counted.
+    IceboxStat,
     /// The module of an image.
     IceboxVlog,
     /// A run of a module.
@@ -39,9 +43,11 @@ Tools:
   icepack      packs a text (.asc) into a bitstream (.bin)
   iceunpack    unpacks a bitstream (.bin) into a text (.asc)
   icemulti     joins up to four bitstreams to one boot file
+  icesplit     tells what a boot file holds, or takes an image out of it
   icebram      replaces the contents of RAMs in a text, without a new routing
   icebox_explain
                tells what the set bits of an image mean
+  icebox_stat  counts what an image uses
   icebox_vlog  writes the design of an image in a subset of Verilog
   vlogrun      runs a module of that subset over a list of events
   selfrun      makes a design from a number and takes it through all other tools
@@ -72,8 +78,10 @@ fn tool_named(word: &str) -> Option<Tool>
         "icepack" => Some(Tool::Icepack),
         "iceunpack" => Some(Tool::Iceunpack),
         "icemulti" => Some(Tool::Icemulti),
+        "icesplit" => Some(Tool::Icesplit),
         "icebram" => Some(Tool::Icebram),
         "icebox_explain" => Some(Tool::IceboxExplain),
+        "icebox_stat" => Some(Tool::IceboxStat),
         "icebox_vlog" => Some(Tool::IceboxVlog),
         "vlogrun" => Some(Tool::Vlogrun),
         "selfrun" => Some(Tool::Selfrun),

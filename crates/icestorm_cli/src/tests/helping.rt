@@ -1,10 +1,12 @@
 // The help of each tool: it shows the tool's command line, and a line for each option and value with its own words.
 use bitstream_tools::{
     ICEBRAM_HELP, ICEBRAM_USAGE, ICEMULTI_HELP, ICEMULTI_USAGE, ICEPACK_HELP, ICEPACK_USAGE,
-    ICEUNPACK_HELP, ICEUNPACK_USAGE,
+    ICESPLIT_HELP, ICESPLIT_USAGE, ICEUNPACK_HELP, ICEUNPACK_USAGE,
 };
 use design_tools::{ICEBOX_VLOG_HELP, ICEBOX_VLOG_USAGE};
-use fabric_tools::{ICEBOX_EXPLAIN_HELP, ICEBOX_EXPLAIN_USAGE};
+use fabric_tools::{
+    ICEBOX_EXPLAIN_HELP, ICEBOX_EXPLAIN_USAGE, ICEBOX_STAT_HELP, ICEBOX_STAT_USAGE,
+};
 use job_tools::{SELFRUN_HELP, SELFRUN_USAGE};
 use module_tools::{VLOGRUN_HELP, VLOGRUN_USAGE};
 
@@ -16,7 +18,7 @@ struct Help {
     heads: &'static [&'static str],
 }
 
-static HELPS: [Help; 8] = [
+static HELPS: [Help; 10] = [
     Help {
         help: ICEPACK_HELP,
         usage: ICEPACK_USAGE,
@@ -50,6 +52,15 @@ static HELPS: [Help; 8] = [
         ],
     },
     Help {
+        help: ICESPLIT_HELP,
+        usage: ICESPLIT_USAGE,
+        heads: &[
+            "  BOOT      a boot file, as icemulti writes it",
+            "  OUTPUT    the lines or the bitstream;",
+            "  -x N      takes image N out",
+        ],
+    },
+    Help {
         help: ICEBRAM_HELP,
         usage: ICEBRAM_USAGE,
         heads: &[
@@ -67,6 +78,14 @@ static HELPS: [Help; 8] = [
             "  IMAGE     a bitstream (.bin) or a text (.asc);",
             "  -t \"X Y\"  explains the tile at column X and row Y alone",
             "  --layout FILE",
+        ],
+    },
+    Help {
+        help: ICEBOX_STAT_HELP,
+        usage: ICEBOX_STAT_USAGE,
+        heads: &[
+            "  DB        the chip database",
+            "  IMAGE     a bitstream (.bin) or a text (.asc);",
         ],
     },
     Help {

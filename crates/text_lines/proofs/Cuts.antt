@@ -1,11 +1,12 @@
 -- A text cut at its first byte that passes a test, as an end of a line or a separator of words.
-use Rattle.std.proofs.Common.{◌≡◌, ℕ, ◌+◌, ◌<◌, ◌≤◌, Bool, true, false, not, List, ◌∷◌, ◌++◌, length, take, drop, get_or, refl, ap, ◌∙◌, arith, inl, inr}
-use Rattle.std.proofs.lemmas.Bool.{cases_lt, cases_Bool, lt-ltb, ltb-true, not-true, and_parts, both_ways}
+use Rattle.std.proofs.Common.{◌≡◌, ℕ, ◌+◌, ◌<◌, ◌≤◌, Bool, true, false, not, List, ◌∷◌, ◌++◌, length, take, drop, get_or, refl, ap, sym, ◌∙◌, arith, le_refl, inl, inr}
+use Rattle.std.proofs.lemmas.Bool.{cases_lt, cases_Bool, le-ltb, lt-ltb, ltb-true, not-true, and_parts, both_ways}
 use Rattle.std.proofs.lemmas.List.Folds.{list_any_at}
 use Rattle.std.proofs.lemmas.List.{length-take-le, take_all, get_or-take}
 use Rattle.std.proofs.lemmas.List.Sums.{prefix_len-le-length, position_or_len_is, split_at_first, passes_at_first, fails_before_first}
-use Rattle.std.specs.Prelude.{◌&&◌, None, Some, All, nat_lt, position}
+use Rattle.std.specs.Prelude.{◌&&◌, Option, None, Some, All, cond, nat_lt, position}
 use Rattle.std.specs.List.{list_any, position_or_len}
+use Rattle.memchr.specs.Find.{IsFirstByte}
 
 -- the end is within the text
 pub end-within : (test : ℕ → Bool) (bytes : List ℕ) → position_or_len test bytes ≤ length bytes
@@ -57,3 +58,26 @@ position_or_len-here test bytes i here =
           absurd (both_ways (list_any test (take i bytes)) none (list_any_at test (take i bytes) k 0 (omega arith) (ap test (get_or-take i bytes k 0 before) ∙ passes)))
       | inr fails ↦ fails
     ]) (λ _. inside.1)
+
+-- what can't be true
+false-from : (b : Bool) → ¬ (b ≡ true) → b ≡ false
+false-from b cannot = elim (cases_Bool b) [
+  | inl is ↦ absurd (cannot is)
+  | inr other ↦ other
+]
+
+-- the position by the place of the first byte that passes
+position-at : (test : ℕ → Bool) (bytes : List ℕ) (place : ℕ) → position_or_len test bytes ≡ place → position test bytes ≡ cond (nat_lt place (length bytes)) (Some place) None
+position-at test bytes place is = ap (λ end. cond (nat_lt end (length bytes)) (Some end) None) is
+
+-- a search for the first byte that passes finds its position
+pub position_of_first : (test : ℕ → Bool) (bytes : List ℕ) (found : Option ℕ) → IsFirstByte test bytes found → found ≡ position test bytes
+position_of_first test bytes None nowhere =
+    let end : position_or_len test bytes ≡ length bytes =
+    position_or_len_is test bytes (length bytes) 0 (le_refl (length bytes)) (λ k before. false-from (test (get_or bytes k 0)) (nowhere k (omega arith) before)) (λ lt. absurd (omega arith)) in
+    sym (position-at test bytes (length bytes) end ∙ rw (le-ltb (length bytes) (length bytes) (le_refl (length bytes))) refl)
+position_of_first test bytes (Some place) found =
+    let within : place < length bytes = found.0.high in
+    let here : position_or_len test bytes ≡ place =
+    position_or_len_is test bytes place 0 (omega arith) (λ k before. false-from (test (get_or bytes k 0)) (found.0.before k (omega arith) before)) (λ _. found.1) in
+    sym (position-at test bytes place here ∙ rw (lt-ltb place (length bytes) within) refl)

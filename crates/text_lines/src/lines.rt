@@ -3,6 +3,8 @@ ghost use Rattle.std.specs.Prelude.{◌≡◌, ◌∷◌, ◌++◌, [], ◌<◌,
 ghost use Rattle.std.specs.List.{list_any, position_or_len};
 ghost use Rattle.text_lines.specs.Lines.{is_blank, lines_of, trimmed, whole_lines_of};
 
+use memchr::memchr;
+
 /// The first line of a text, and what follows it.
 #[derive(Clone, Copy, Debug, PartialEq, Eq)]
 pub struct FirstLine<'a> {
@@ -116,5 +118,5 @@ fn has_lf(bytes: &[u8]) -> bool
 pub fn first_lf(text: &[u8]) -> Option<usize>
     ensures { result ≡ position (λ byte. byte == 10) text.now }
 {
-    text.iter().position(|byte| *byte == b'\n')
+    memchr(b'\n', text)
 }

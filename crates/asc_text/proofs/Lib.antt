@@ -70,6 +70,8 @@ mod Worked
 pub mod Pieces
 -- texts that are written to a sink piece by piece
 pub mod Sent
+-- lines that name nets, taken one after the other
+pub mod NameLines
 -- lines in their usual form, taken one after the other
 pub mod PlainLines
 -- which lines of a text that can be read are the statements of RAMs, and which lines stand below them

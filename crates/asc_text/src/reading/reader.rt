@@ -5,6 +5,7 @@ ghost use Rattle.asc_text.specs.Statements.{begins_with_dot};
 
 mod blocks;
 mod lines;
+mod names;
 mod plain;
 mod statements;
 

@@ -38,6 +38,20 @@ pub(crate) fn statement_in(line: &[u8]) -> Option<Statement>
     }
 }
 
+/// The net that the line names, where it is `.sym NET NAME` with one space before the number. Such a line may be a statement where
+/// this finds none.
+#[tactic(auto, unfolding(crate::specs::Statements::statement_in))]
+#[inline(always)]
+pub(crate) fn plain_symbol_in(line: &[u8]) -> Option<u32>
+    ensures { IfSome result (λ net. statement_in line.now ≡ Some (Symbol net)) }
+{
+    if begins_with_dot(line) {
+        plain_symbol(trimmed(line))
+    } else {
+        None
+    }
+}
+
 /// The net of `.sym NET NAME` with one space before the number, as most such lines have it. It looks at no byte of the name but
 /// the first.
 fn plain_symbol(line: &[u8]) -> Option<u32>

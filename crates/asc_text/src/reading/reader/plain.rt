@@ -1,4 +1,5 @@
-// Lines in their usual form: rows of a tile and digits of a RAM's contents with LF right behind, as most lines of a text are.
+// Lines in their usual form: rows of a tile and digits of a RAM's contents with LF right behind, as most lines of a text are, and
+// names of nets.
 ghost use Rattle.std.specs.Prelude.{◌≡◌, ℕ, ◌+◌, ◌<◌, ◌≤◌, true, Some, take, IfSome};
 ghost use Rattle.std.specs.Bool.{MatchBool};
 ghost use Rattle.plane_map.specs.Layout.{columns_of, kind_of};
@@ -12,6 +13,7 @@ ghost use Rattle.asc_text.specs.inside.Gains.{bytes_set};
 ghost use Rattle.asc_text.specs.inside.Reading.{state_of, HasKind, IsReady, TakesBelow, TakesLines, GainsBits, is_lf_at};
 
 use crate::reading::bits::set_memory_line;
+use crate::reading::reader::names::take_names;
 use crate::reading::reader::{Expected, Reader};
 use crate::reading::rows::{memory_bytes, ones_of};
 use ice_image::AnyImage;
@@ -27,18 +29,20 @@ pub(crate) struct TakenLines<'a> {
 }
 
 impl Reader {
-    /// Takes the lines at the front of a text that are the expected rows or digits with LF right behind. There may be none. The
-    /// line behind them is left to `accept_any`.
+    /// Takes the lines at the front of a text that are the expected rows or digits with LF right behind, or name nets in their usual
+    /// form. There may be none. The line behind them is left to `accept_any`.
     #[inline(always)]
     pub(crate) fn accept_plain<'a>(&mut self, text: &'a [u8]) -> TakenLines<'a>
         requires ready { IsReady self.old.image self.old.expected }
         ensures { TakesLines (state_of self.old) text.now result.count result.rest.now (state_of self.new) }
     {
         match self.expected {
-            Expected::Statement => TakenLines {
+            // A line that goes on with a comment is another one.
+            Expected::Statement if self.in_comment => TakenLines {
                 count: 0,
                 rest: text,
             },
+            Expected::Statement => take_names(text),
             Expected::Row { kind, x, y, row } => self.accept_rows(kind, x, y, row, text),
             Expected::Memory { x, y, row } => self.accept_memory_lines(x, y, row, text),
         }

@@ -1,16 +1,14 @@
 -- The lines of a file of memory words, one after the other.
-use Rattle.std.proofs.Common.{◌≡◌, ℕ, zero, suc, ◌+◌, ◌-◌, ◌*◌, ◌<◌, ◌≤◌, Bool, true, false, ◌&&◌, ◌==◌, cond, List, [], ◌∷◌, ◌++◌, length, get_or, take, take_while, drop, refl, sym, ap, ◌∙◌, subst, inl, inr, arith, length-drop, length-append}
-use Rattle.std.specs.Prelude.{Option, Some, None, map, if◌then◌else◌}
+use Rattle.std.proofs.Common.{◌≡◌, ℕ, suc, ◌+◌, ◌*◌, ◌<◌, ◌≤◌, Bool, ◌&&◌, ◌==◌, List, [], ◌∷◌, ◌++◌, length, drop, refl, sym, ap, ◌∙◌, subst, inl, inr, arith, length-append}
+use Rattle.std.specs.Prelude.{Option, Some, None, map}
 use Rattle.std.proofs.lemmas.Bool.{cases_lt, cases_Bool}
 use Rattle.shared_lemmas.proofs.Cuts.{drop_end}
 use Rattle.place_search.specs.Places.{or_else}
 use Rattle.place_search.proofs.Places.{first_below-none, first_below-first, gathered_below-more, gathered_below-none}
 use Rattle.text_lines.specs.Lines.{lines_of, whole_lines_of, line_at, with_byte, is_at_lf}
-use Rattle.text_lines.specs.Words.{words_of}
-use Rattle.text_lines.specs.declared.words.Separators.TheVariants.{Whitespace}
 use Rattle.bram_replace.specs.declared.fault.HexFault.{HexFault}
 use Rattle.bram_replace.specs.declared.fault.HexFault.TheVariants.{Digit, Width, Depth, Memory}
-use Rattle.bram_replace.specs.HexText.{Contents, all_words, before_comment, begins_comment, contents_of, depth_cause, digits_set, hex_fault_of, line_cause, words_before, words_cause, words_in, bits_in, TellsHex}
+use Rattle.bram_replace.specs.HexText.{all_words, before_comment, begins_comment, contents_of, depth_cause, digits_set, hex_fault_of, line_cause, words_before, words_cause, words_in, bits_in, TellsHex}
 use Rattle.bram_replace.specs.Collected.{Holds}
 
 -- ---- lengths

@@ -1,17 +1,16 @@
 -- Words of hexadecimal digits, one after the other.
-use Rattle.std.proofs.Common.{◌≡◌, ◌≢◌, ℕ, zero, suc, ◌+◌, ◌-◌, ◌*◌, ◌<◌, ◌≤◌, Bool, true, false, not, ◌&&◌, ◌||◌, ◌==◌, cond, List, [], ◌∷◌, ◌++◌, length, get_or, take, drop, refl, sym, ap, ap₂, ◌∙◌, subst, inl, inr, arith, take_while, append-nil, append_assoc, length-append, length-drop, add-one}
-use Rattle.std.specs.Prelude.{Option, Some, None, Result, Ok, Err, filter, flat_map, reverse, nat_lt, nat_le, unwrap_or, is_some, if◌then◌else◌, OnOk, IfErr}
+use Rattle.std.proofs.Common.{◌≡◌, ℕ, suc, ◌+◌, ◌-◌, ◌*◌, ◌<◌, ◌≤◌, Bool, true, false, not, ◌&&◌, ◌||◌, ◌==◌, cond, List, [], ◌∷◌, ◌++◌, length, get_or, take, drop, refl, sym, ap, ◌∙◌, subst, inl, inr, arith, take_while, append-nil, append_assoc, length-append, length-drop}
+use Rattle.std.specs.Prelude.{Option, Some, None, flat_map, reverse, nat_lt, nat_le, unwrap_or, is_some, if◌then◌else◌}
 use Rattle.std.specs.List.{list_all, list_any}
 use Rattle.std.proofs.lemmas.Bool.{cases_lt, cases_Bool, and_parts, false≢true, eqb-true, ltb-false, lt-ltb, le-ltb, lt-leb, le-leb, or_right, or_parts, not-false}
 use Rattle.std.proofs.Math.Bool.{or-true, or-false}
-use Rattle.std.proofs.lemmas.Bool.Decides.{nat_tests}
 use Rattle.std.proofs.lemmas.List.{take_more, take_all, drop_all, drop_more, reverse-append}
-use Rattle.std.proofs.lemmas.List.Folds.{list_any-append, list_all-append}
+use Rattle.std.proofs.lemmas.List.Folds.{list_any-append}
 use Rattle.std.proofs.lemmas.Grind.{flat_map-append}
 use Rattle.std.proofs.lemmas.List.Sums.{take_while-cons}
 use Rattle.std.specs.Option.{option_map_or}
 use Rattle.hex.specs.Hex.{is_hex_digit, hex_digit_value}
-use Rattle.text_lines.specs.Words.{words_of, first_word, behind_word, from_word, is_separator}
+use Rattle.text_lines.specs.Words.{first_word, behind_word, from_word, is_separator}
 use Rattle.text_lines.proofs.Spaced.{length-from_word}
 use Rattle.text_lines.specs.declared.words.Separators.TheVariants.{Whitespace}
 use Rattle.bram_replace.specs.declared.fault.HexFault.{HexFault}

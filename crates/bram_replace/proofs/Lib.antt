@@ -22,3 +22,5 @@ pub mod Rams
 pub mod Putting
 -- a text that can be read, with its RAMs replaced line by line
 pub mod Steps
+-- lines that are passed over up to the next RAM
+pub mod Passed

@@ -1,16 +1,16 @@
 -- Words kept as one list of bits.
-use Rattle.std.proofs.Common.{◌≡◌, ℕ, zero, suc, ◌+◌, ◌-◌, ◌*◌, ◌/◌, ◌%◌, ◌^◌, ◌<◌, ◌≤◌, Bool, true, false, not, ◌&&◌, ◌==◌, cond, List, [], ◌∷◌, ◌++◌, length, get_or, take, drop, refl, sym, ap, ap₂, ◌∙◌, subst, inl, inr, arith, length-append}
-use Rattle.std.specs.Prelude.{Option, Some, None, map, flat_map, if◌then◌else◌}
+use Rattle.std.proofs.Common.{◌≡◌, ℕ, suc, ◌+◌, ◌*◌, ◌/◌, ◌%◌, ◌^◌, ◌<◌, ◌≤◌, Bool, false, List, [], ◌∷◌, length, get_or, refl, sym, ap, ap₂, ◌∙◌, subst, arith, length-append}
+use Rattle.std.specs.Prelude.{Some, None, map, flat_map}
 use Rattle.std.specs.List.{list_any}
-use Rattle.std.proofs.lemmas.Bool.{cases_lt, cases_Bool, false≢true, or_parts}
-use Rattle.std.proofs.lemmas.List.{take_at, drop_at, length-map}
-use Rattle.std.proofs.lemmas.Nat.{mul-le, mod_below, div-mul-add, mod-mul-add}
+use Rattle.std.proofs.lemmas.Bool.{or_parts}
+use Rattle.std.proofs.lemmas.List.{take_at, drop_at}
+use Rattle.std.proofs.lemmas.Nat.{mul-le, mod_below}
 use Rattle.std.proofs.Math.Nat.{mul-div_cancel_left, div-mul-le_self, div-lt_iff_lt-mul, mul-div-le}
-use Rattle.bit_plane.specs.Rows.{rows_of, bit_at}
+use Rattle.bit_plane.specs.Rows.{rows_of}
 use Rattle.bit_plane.proofs.Grids.{length-rows_of, bit_at-rows_of}
-use Rattle.bram_replace.specs.HexText.{Contents, bits_in, digits_in, digits_set, is_misfit}
-use Rattle.bram_replace.specs.Collected.{Holds, IsMemory, digits_known, memory_of}
-use Rattle.bram_replace.specs.Columns.{bit_in, column_bit, column_count, width_of}
+use Rattle.bram_replace.specs.HexText.{Contents, bits_in, digits_set, is_misfit}
+use Rattle.bram_replace.specs.Collected.{Holds, digits_known, memory_of}
+use Rattle.bram_replace.specs.Columns.{column_bit, column_count}
 use Rattle.bram_replace.specs.Packed.{packed}
 use Rattle.bram_replace.proofs.HexWords.{length-bits_in, misfit-parts}
 use Rattle.bram_replace.proofs.Packing.{packed-same}

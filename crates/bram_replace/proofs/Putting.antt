@@ -1,19 +1,17 @@
 -- The bits of a RAM, written one after the other.
-use Rattle.std.proofs.Common.{◌≡◌, ◌≢◌, ℕ, zero, suc, ◌+◌, ◌-◌, ◌*◌, ◌/◌, ◌%◌, ◌^◌, ◌<◌, ◌≤◌, Bool, true, false, not, ◌&&◌, ◌==◌, List, [], ◌∷◌, ◌++◌, length, get_or, set, drop, refl, sym, ap, ap₂, ◌∙◌, subst, inl, inr, arith, add-one, length-append, length-drop}
-use Rattle.std.specs.Prelude.{Option, Some, None, map, nat_lt, if◌then◌else◌}
-use Rattle.std.specs.List.{range_with_len}
+use Rattle.std.proofs.Common.{◌≡◌, ◌≢◌, ℕ, suc, ◌+◌, ◌-◌, ◌*◌, ◌/◌, ◌%◌, ◌^◌, ◌<◌, ◌≤◌, Bool, true, false, ◌&&◌, ◌==◌, List, [], ◌∷◌, length, get_or, set, drop, refl, sym, ap, ap₂, ◌∙◌, subst, inl, inr, arith, add-one, length-append}
+use Rattle.std.specs.Prelude.{Option, Some, None, nat_lt, if◌then◌else◌}
 use Rattle.std.proofs.Math.Nat.{div-div-eq-div-mul, two-pow-succ}
-use Rattle.std.proofs.lemmas.Bool.{cases_lt, cases_eq, cases_Bool, false≢true, eq-eqb, ne_eqb, lt-ltb, le-ltb, and_parts, eqb-true}
-use Rattle.std.proofs.lemmas.List.{get_or_past, get_or-set_same, get_or-set_other, drop_all}
+use Rattle.std.proofs.lemmas.Bool.{cases_lt, cases_eq, false≢true, eq-eqb, ne_eqb, lt-ltb, le-ltb, and_parts, eqb-true}
+use Rattle.std.proofs.lemmas.List.{get_or_past, get_or-set_same, get_or-set_other}
 use Rattle.shared_lemmas.proofs.Cuts.{drop_cons, drop_none}
 use Rattle.place_search.specs.Places.{gathered_below}
 use Rattle.place_search.proofs.Places.{gathered_below-more}
 use Rattle.text_lines.specs.Lines.{lines_of, whole_lines_of, line_at, trimmed, before_rest, is_blank}
-use Rattle.bit_plane.specs.BitList.{word_of}
 use Rattle.asc_text.specs.Rows.{is_memory_line, memory_bit, memory_bytes, memory_word}
 use Rattle.bram_replace.specs.HexText.{Contents}
 use Rattle.bram_replace.specs.Columns.{column_at, column_bit, column_count, column_from, is_same, match_of, same_fault}
-use Rattle.bram_replace.specs.Packed.{word_from, packed}
+use Rattle.bram_replace.specs.Packed.{word_from}
 use Rattle.bram_replace.specs.Replaced.{RamBits, ram_bits, ram_column, bit_from, bits_after, bit_found, word_with}
 use Rattle.asc_text.specs.Rams.{BeginsWithRam}
 use Rattle.bram_replace.specs.Rams.{AreAlike, listed}

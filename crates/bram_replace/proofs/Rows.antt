@@ -1,21 +1,20 @@
 -- The lines and the bits of a RAM.
-use Rattle.std.proofs.Common.{◌≡◌, ◌≢◌, ℕ, zero, suc, ◌+◌, ◌-◌, ◌*◌, ◌/◌, ◌%◌, ◌^◌, ◌<◌, ◌≤◌, Bool, true, false, not, ◌&&◌, ◌==◌, List, [], ◌∷◌, ◌++◌, length, get_or, set, drop, refl, sym, ap, ap₂, ◌∙◌, subst, inl, inr, ◌⊎◌, arith, append-nil, append_assoc}
-use Rattle.std.specs.Prelude.{Option, Some, None, map, if◌then◌else◌}
-use Rattle.std.specs.List.{range_with_len}
+use Rattle.std.proofs.Common.{◌≡◌, ◌≢◌, ℕ, ◌+◌, ◌-◌, ◌*◌, ◌/◌, ◌%◌, ◌<◌, ◌≤◌, Bool, true, false, not, ◌&&◌, ◌==◌, List, [], ◌∷◌, ◌++◌, length, get_or, set, drop, refl, sym, ap, ap₂, ◌∙◌, inl, inr, arith, append_assoc}
+use Rattle.std.specs.Prelude.{if◌then◌else◌}
 use mathlib.Core.Bool.{beq}
-use Rattle.std.proofs.lemmas.Bool.{cases_lt, cases_eq, cases_Bool, false≢true, eq-eqb, ne_eqb, eqb-true}
+use Rattle.std.proofs.lemmas.Bool.{cases_eq, false≢true, eq-eqb, ne_eqb}
 use Rattle.std.proofs.lemmas.List.{get_or-set_same, get_or-set_other}
 use Rattle.place_search.specs.Places.{any_below, gathered_below}
-use Rattle.place_search.proofs.Places.{any_below-same, any_below-none, any_below-at, gathered_below-same, gathered_below-none, gathered_below-more}
-use Rattle.hex.specs.Hex.{encode_with, encode_lower, lower_digits}
+use Rattle.place_search.proofs.Places.{any_below-same, any_below-none, any_below-at, gathered_below-same}
+use Rattle.hex.specs.Hex.{encode_lower}
 use Rattle.bit_plane.specs.BitList.{word_of}
 use Rattle.asc_text.specs.Canonical.{two_bytes}
 use Rattle.bram_replace.specs.HexText.{Contents}
-use Rattle.bram_replace.specs.Columns.{column_at, column_bit, column_from, is_same, is_same_bit, match_of}
+use Rattle.bram_replace.specs.Columns.{column_at, is_same, is_same_bit, match_of}
 use Rattle.bram_replace.specs.Replaced.{RamBits, ram_column, bit_from, bits_after, bit_found, bits_found, changes, word_with, digits_with, memory_line_with}
 use Rattle.bram_replace.specs.Rams.{AreAlike, listed}
 use Rattle.bram_replace.proofs.Made.{made-same, column_from-same}
-use Rattle.bram_replace.proofs.Same.{is_same_bit-refl, is_same_bit-equal}
+use Rattle.bram_replace.proofs.Same.{is_same_bit-refl}
 
 -- ---- the same bits make the same
 

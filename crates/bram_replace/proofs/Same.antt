@@ -1,9 +1,8 @@
 -- Columns that are equal, and columns that are all different.
-use Rattle.std.proofs.Common.{◌≡◌, ℕ, ◌<◌, Bool, true, false, ◌&&◌, ◌==◌, List, [], ◌∷◌, refl, sym, ap, ap₂, ◌∙◌, subst, inl, inr, arith}
-use Rattle.std.specs.Prelude.{Option, Some, None, nat_lt}
+use Rattle.std.proofs.Common.{◌≡◌, ℕ, ◌<◌, Bool, true, false, ◌==◌, List, [], ◌∷◌, refl, sym, ap₂, ◌∙◌, subst, inl, inr, arith}
+use Rattle.std.specs.Prelude.{Option, Some, None}
 use Rattle.std.specs.Option.{option_map}
 use Rattle.std.proofs.lemmas.Bool.{cases_lt, cases_eq, cases_Bool, and_parts, false≢true, lt-ltb, eq-eqb, ne_eqb}
-use Rattle.bram_replace.specs.declared.fault.BramFault.{BramFault}
 use Rattle.bram_replace.specs.declared.fault.BramFault.TheVariants.{SameColumns}
 use Rattle.place_search.specs.Places.{least_below}
 use Rattle.bram_replace.specs.HexText.{Contents}

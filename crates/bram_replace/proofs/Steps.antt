@@ -1,6 +1,6 @@
 -- A text that can be read, with its RAMs replaced line by line.
-use Rattle.std.proofs.Common.{◌≡◌, ℕ, zero, suc, ◌+◌, ◌-◌, ◌*◌, ◌^◌, ◌<◌, ◌≤◌, Bool, true, false, ◌&&◌, List, [], ◌∷◌, ◌++◌, length, get_or, drop, replicate, refl, sym, ap, ap₂, ◌∙◌, subst, inl, inr, arith, append-nil, length-append, drop-drop}
-use Rattle.std.specs.Prelude.{Option, Some, None, if◌then◌else◌}
+use Rattle.std.proofs.Common.{◌≡◌, ℕ, ◌+◌, ◌-◌, ◌^◌, ◌<◌, ◌≤◌, true, false, List, [], ◌∷◌, ◌++◌, length, get_or, drop, replicate, refl, sym, ap, ap₂, ◌∙◌, subst, inl, inr, arith, append-nil, length-append, drop-drop}
+use Rattle.std.specs.Prelude.{None, if◌then◌else◌}
 use Rattle.std.proofs.lemmas.Bool.{cases_lt}
 use Rattle.std.proofs.lemmas.List.{get_or-drop, get_or_past, get_or-replicate, length-replicate}
 use Rattle.std.proofs.lemmas.List.FromFn.{fill_by_all}
@@ -14,7 +14,7 @@ use Rattle.asc_text.specs.Blocks.{depth_at, opened_before, statement_at}
 use Rattle.asc_text.specs.Faults.{asc_fault_of}
 use Rattle.bram_replace.specs.HexText.{Contents}
 use Rattle.bram_replace.specs.Columns.{column_count}
-use Rattle.bram_replace.specs.Replaced.{RamBits, ram_bits, bits_after, bits_found, memory_line_with, line_after, replaced, found_at, count_before, found_in}
+use Rattle.bram_replace.specs.Replaced.{ram_bits, bits_after, bits_found, memory_line_with, line_after, replaced, found_at, count_before, found_in}
 use Rattle.asc_text.specs.Rams.{BeginsWithRam, below_statement, is_ram_data, is_in_ram, is_ram_line}
 use Rattle.bram_replace.proofs.HexLines.{cut-end}
 use Rattle.asc_text.proofs.RamLines.{ram-begins, ram-not, ram-not-at, outside-more, at-flat, row-of, row-end, row-in, row-below, row-none, rows-within, begins}

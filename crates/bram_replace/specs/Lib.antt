@@ -4,3 +4,4 @@ pub mod Columns
 pub mod Packed
 pub mod Replaced
 pub mod Rams
+pub mod Passed

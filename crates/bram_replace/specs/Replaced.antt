@@ -1,6 +1,6 @@
 -- A text with the contents of its RAMs replaced, from two files of memory words: each column of a RAM, which is one bit of
 -- its 256 words, that is equal to a column of the first file becomes the column of that number of the second file.
-use Rattle.std.specs.Prelude.{◌≡◌, ℕ, ◌+◌, ◌-◌, ◌*◌, ◌/◌, ◌%◌, Bool, true, false, not, ◌&&◌, List, [], ◌∷◌, ◌++◌, length, drop, map, nat_lt, ◌==◌, if◌then◌else◌, Option, Some, None}
+use Rattle.std.specs.Prelude.{◌≡◌, ℕ, ◌+◌, ◌-◌, ◌*◌, ◌/◌, ◌%◌, Bool, not, ◌&&◌, List, [], ◌∷◌, ◌++◌, length, drop, map, ◌==◌, if◌then◌else◌, Option, Some, None}
 use Rattle.std.specs.List.{range_with_len}
 use Rattle.place_search.specs.Places.{any_below, gathered_below, or_else}
 use Rattle.text_lines.specs.Lines.{lines_of, whole_lines_of, line_at, trimmed}

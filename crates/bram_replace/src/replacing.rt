@@ -1,5 +1,5 @@
 // RAMs replaced in a whole text.
-ghost use Rattle.std.specs.Prelude.{◌≡◌, ◌<◌, ◌+◌, ◌^◌, ◌++◌, ◌==◌, ◌&&◌, ℕ, None, length, get_or, drop, bytes_eq, IfOk, OnOk, IfErr};
+ghost use Rattle.std.specs.Prelude.{◌≡◌, ◌<◌, ◌+◌, ◌^◌, ◌++◌, ◌==◌, ◌&&◌, ℕ, List, None, length, get_or, drop, bytes_eq, IfOk, OnOk, IfErr};
 ghost use Rattle.place_search.specs.Places.{gathered_below};
 ghost use Rattle.text_lines.specs.Lines.{line_at, lines_of, whole_lines_of};
 ghost use Rattle.text_lines.specs.Words.{first_word};
@@ -8,6 +8,7 @@ ghost use Rattle.asc_text.specs.Faults.{Tells, asc_fault_of};
 ghost use Rattle.asc_text.specs.Statements.{ram_data_keyword};
 ghost use Rattle.bram_replace.specs.Columns.{column_count};
 ghost use Rattle.asc_text.specs.Rams.{BeginsWithRam, is_ram_line};
+ghost use Rattle.bram_replace.specs.Passed.{Passes};
 ghost use Rattle.bram_replace.specs.Replaced.{bits_after, bits_found, bram_fault, found_in, memory_line_with, ram_bits, replaced, text_fault, TellsBram};
 
 use crate::columns::Columns;
@@ -101,11 +102,35 @@ fn replace_rams(
         bytes.extend_from_slice(line.whole)?;
         left = line.rest;
         if !is_ram_data(line.content) {
+            left = append_others(&mut bytes, left)?;
             continue;
         }
         left = replace_ram(left, columns, to, &mut bytes, &mut found)?;
     }
     Ok(Replaced { bytes, found })
+}
+
+/// Appends the lines up to the next statement of a RAM's contents, all at once, and gives the text behind them.
+fn append_others<'a>(bytes: &mut Vec<u8>, text: &'a [u8]) -> Result<&'a [u8], AllocError>
+    ensures { IfOk result (λ rest. (passed : List ℕ) × Passes text.now passed rest.now × (bytes.new.items ≡ bytes.old.items ++ passed)) }
+{
+    let rest = from_ram(text);
+    bytes.extend_from_slice(&text[..text.len() - rest.len()])?;
+    Ok(rest)
+}
+
+/// The text from the next statement of a RAM's contents on: nothing where there is none.
+fn from_ram(text: &[u8]) -> &[u8]
+    ensures { (passed : List ℕ) × Passes text.now passed result.now }
+{
+    let mut left = text;
+    while let Some(line) = first_line(left) {
+        if is_ram_data(line.content) {
+            return left;
+        }
+        left = line.rest;
+    }
+    left
 }
 
 /// Whether the line is the statement of a RAM's contents, in a text that can be read.

@@ -1,4 +1,4 @@
-use Rattle.std.proofs.Common.{drop, sym, ap, ◌∙◌, arith}
+use Rattle.std.proofs.Common.{sym, ap, ◌∙◌, arith}
 use Rattle.std.proofs.lemmas.List.{take_rest}
 use Rattle.bram_replace.specs.HexText.{begins_comment}
 use Rattle.bram_replace.proofs.HexWords.{before_comment-more, before_comment-here, before_comment-all}

@@ -1,6 +1,6 @@
-use Rattle.std.proofs.Common.{◌-◌, ◌++◌, get_or, drop, length, sym, ap, ◌∙◌, arith, append-nil, append_assoc}
+use Rattle.std.proofs.Common.{◌-◌, ◌++◌, get_or, drop, sym, ap, ◌∙◌, arith, append-nil, append_assoc}
 use Rattle.std.specs.Prelude.{flat_map, reverse}
-use Rattle.bram_replace.specs.HexText.{bits_in, byte_bits}
+use Rattle.bram_replace.specs.HexText.{byte_bits}
 use Rattle.bram_replace.proofs.HexWords.{bits_in-none, bits_in-more, bits_in-all}
 use Rattle.bram_replace.proofs.hex_words.push_bits.Goals as goal
 

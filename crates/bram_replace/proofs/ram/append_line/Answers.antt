@@ -1,4 +1,4 @@
-use Rattle.std.proofs.Common.{◌++◌, drop, sym, ap, ◌∙◌}
+use Rattle.std.proofs.Common.{◌++◌, sym, ap, ◌∙◌}
 use Rattle.std.proofs.lemmas.List.{take_rest}
 use Rattle.bram_replace.specs.Rams.{listed}
 use Rattle.bram_replace.proofs.Rows.{line-changed}

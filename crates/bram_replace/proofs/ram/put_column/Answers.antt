@@ -1,4 +1,4 @@
-use Rattle.std.proofs.Common.{refl, arith}
+use Rattle.std.proofs.Common.{arith}
 use Rattle.bram_replace.proofs.Putting.{column-put, column-begun, column-ended}
 use Rattle.bram_replace.proofs.ram.put_column.Goals as goal
 

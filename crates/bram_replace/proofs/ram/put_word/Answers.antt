@@ -1,4 +1,4 @@
-use Rattle.std.proofs.Common.{◌*◌, ◌+◌, refl, ◌∙◌, arith}
+use Rattle.std.proofs.Common.{◌∙◌, arith}
 use Rattle.bram_replace.proofs.Putting.{rest-more, word-there, word-before}
 use Rattle.bram_replace.proofs.ram.put_word.Goals as goal
 

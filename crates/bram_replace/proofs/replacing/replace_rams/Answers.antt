@@ -1,7 +1,8 @@
-use Rattle.std.proofs.Common.{◌≡◌, ◌+◌, ◌^◌, ◌<◌, ◌++◌, length, get_or, take, drop, replicate, sym, ap, ◌∙◌, subst, arith, length-drop}
+use Rattle.std.proofs.Common.{◌≡◌, ◌+◌, ◌^◌, ◌<◌, length, get_or, drop, replicate, sym, ap, ◌∙◌, subst, arith, length-drop}
 use Rattle.std.proofs.lemmas.List.{take_at}
-use Rattle.text_lines.specs.Lines.{lines_of, whole_lines_of}
+use Rattle.text_lines.specs.Lines.{lines_of}
 use Rattle.bram_replace.specs.Replaced.{bits_found, ram_bits}
+use Rattle.bram_replace.proofs.Passed.{Progress-passes, Passes-shorter}
 use Rattle.bram_replace.proofs.Steps.{Progress, Progress-none, Progress-line, Progress-ram, ram-begins-next, room, all-replaced, all-found}
 use Rattle.bram_replace.proofs.replacing.replace_rams.Goals as goal
 
@@ -15,9 +16,21 @@ loop-line-init c =
 
 pub loop-line-preserved-then-not-is_ram_data : goal.loop-line-preserved-then-not-is_ram_data
 loop-line-preserved-then-not-is_ram_data c =
+    let from = c.args.columns.now.file.now in
+    let to = c.args.to.now in
+    let text = c.args.asc.now in
     let line = c.in-Some.line in
-    Progress-line c.args.columns.now.file.now c.args.to.now c.args.asc.now c.loop-line.left.now c.loop-line.bytes.items c.loop-line.found.items line.content.now line.whole.now line.rest.now
-    c.extend_from_slice.new.self.items c.loop-line.invariant c.in-Some.ensures.lines c.in-Some.ensures.whole_lines (sym c.is_ram_data.ensures ∙ c.if-not-is_ram_data.true) c.in_ok-extend_from_slice.ensures.items
+    let found = c.loop-line.found.items in
+    let passed = c.in_ok-left.ensures in
+    Progress-passes from to text line.rest.now c.extend_from_slice.new.self.items found passed.0 c.in_ok-left.left.now c.append_others.new.bytes.items
+    (Progress-line from to text c.loop-line.left.now c.loop-line.bytes.items found line.content.now line.whole.now line.rest.now
+    c.extend_from_slice.new.self.items c.loop-line.invariant c.in-Some.ensures.lines c.in-Some.ensures.whole_lines (sym c.is_ram_data.ensures ∙ c.if-not-is_ram_data.true) c.in_ok-extend_from_slice.ensures.items)
+    passed.1 passed.2
+
+pub loop-line-smaller-then-not-is_ram_data : goal.loop-line-smaller-then-not-is_ram_data
+loop-line-smaller-then-not-is_ram_data c =
+    let passed = c.in_ok-left.ensures in
+    omega (arith, ap length c.in-Some.ensures.lines, Passes-shorter c.in-Some.line.rest.now passed.0 c.in_ok-left.left.now passed.1)
 
 pub replace_ram-requires-clause-begins : goal.replace_ram-requires-clause-begins
 replace_ram-requires-clause-begins c =
@@ -32,7 +45,7 @@ replace_ram-requires-clause-room c column =
 
 pub loop-line-smaller : goal.loop-line-smaller
 loop-line-smaller c =
-    omega (arith, ap length c.in-Some.ensures.lines, ap length c.in_ok-left.ensures.lines, length-drop 16 (lines_of c.in-Some.line.rest.now))
+    omega (arith, ap length c.in-Some.ensures.lines, ap length c.in_ok-left-2.ensures.lines, length-drop 16 (lines_of c.in-Some.line.rest.now))
 
 pub loop-line-preserved : goal.loop-line-preserved
 loop-line-preserved c =
@@ -45,12 +58,12 @@ loop-line-preserved c =
     let size : length counts ≡ c.loop-line.found.len = omega arith in
     let same : length counts ≡ length old = omega arith in
     let back = take_at counts (drop (length counts) old) c.loop-line.found.len size in
-    subst (λ found. Progress from to text c.in_ok-left.left.now c.replace_ram.new.bytes.items found) (sym back)
-    (Progress-ram from to text c.loop-line.left.now c.loop-line.bytes.items old line.content.now line.whole.now line.rest.now c.extend_from_slice.new.self.items c.in_ok-left.left.now
+    subst (λ found. Progress from to text c.in_ok-left-2.left.now c.replace_ram.new.bytes.items found) (sym back)
+    (Progress-ram from to text c.loop-line.left.now c.loop-line.bytes.items old line.content.now line.whole.now line.rest.now c.extend_from_slice.new.self.items c.in_ok-left-2.left.now
     c.replace_ram.new.bytes.items counts c.requires.accepted c.loop-line.invariant c.in-Some.ensures.lines c.in-Some.ensures.whole_lines (sym c.is_ram_data.ensures ∙ c.if-not-is_ram_data.false)
-    c.in_ok-extend_from_slice.ensures.items c.in_ok-left.ensures.bytes
-    (λ column few. c.in_ok-left.ensures.found column few ∙ ap (λ xs. get_or xs column 0 + length (bits_found from (ram_bits (lines_of line.rest.now)) column)) c.deref_mut.ensures.value)
-    same c.in_ok-left.ensures.lines c.in_ok-left.ensures.whole_lines)
+    c.in_ok-extend_from_slice.ensures.items c.in_ok-left-2.ensures.bytes
+    (λ column few. c.in_ok-left-2.ensures.found column few ∙ ap (λ xs. get_or xs column 0 + length (bits_found from (ram_bits (lines_of line.rest.now)) column)) c.deref_mut.ensures.value)
+    same c.in_ok-left-2.ensures.lines c.in_ok-left-2.ensures.whole_lines)
 
 pub returns-clause-bytes : goal.returns-clause-bytes
 returns-clause-bytes c =

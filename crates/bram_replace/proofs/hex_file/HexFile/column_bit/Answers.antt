@@ -1,4 +1,4 @@
-use Rattle.std.proofs.Common.{◌≡◌, ◌+◌, ◌*◌, ◌/◌, ◌%◌, ◌<◌, length, get_or, false, sym, ap, ◌∙◌, subst, arith}
+use Rattle.std.proofs.Common.{◌+◌, ◌*◌, ◌/◌, ◌%◌, ◌<◌, length, get_or, false, sym, ap, ◌∙◌, subst, arith}
 use Rattle.bram_replace.specs.HexText.{Contents}
 use Rattle.bram_replace.specs.Columns.{column_bit, column_count}
 use Rattle.bram_replace.proofs.Memory.{word-fits, bit-within, column_bit-is}

@@ -1,4 +1,4 @@
-use Rattle.std.proofs.Common.{◌≡◌, ℕ, ◌*◌, ◌/◌, ◌<◌, ◌≤◌, Bool, true, false, List, length, refl, sym, ap, ◌∙◌, subst, arith}
+use Rattle.std.proofs.Common.{◌≡◌, ◌*◌, ◌/◌, true, false, length, refl, sym, ap, ◌∙◌, subst, arith}
 use Rattle.bram_replace.specs.HexText.{is_depth}
 use Rattle.bram_replace.specs.Collected.{Holds, IsWidth}
 use Rattle.bram_replace.proofs.Memory.{words-count, memory-words}

@@ -1,11 +1,11 @@
-use Rattle.std.proofs.Common.{◌≡◌, ◌+◌, ◌*◌, ◌≤◌, ◌++◌, ◌∷◌, length, drop, refl, sym, ap, ◌∙◌, subst, arith, []}
+use Rattle.std.proofs.Common.{◌≡◌, ◌+◌, ◌*◌, ◌≤◌, ◌++◌, length, refl, sym, ap, ◌∙◌, subst, arith, []}
 use Rattle.std.specs.Prelude.{None, IfOk, OnOk, IfErr}
 use Rattle.std.proofs.lemmas.Result.{err_from_is_err_and}
 use Rattle.shared_lemmas.proofs.Cuts.{drop_cons}
-use Rattle.text_lines.specs.Lines.{lines_of, whole_lines_of, line_at}
+use Rattle.text_lines.specs.Lines.{lines_of, whole_lines_of}
 use Rattle.text_lines.specs.Words.{words_of}
 use Rattle.text_lines.specs.declared.words.Separators.TheVariants.{Whitespace}
-use Rattle.bram_replace.specs.HexText.{all_words, before_comment, contents_of, depth_cause, digits_set, hex_fault_of, words_cause, words_in, TellsHex}
+use Rattle.bram_replace.specs.HexText.{all_words, digits_set, words_cause, TellsHex}
 use Rattle.bram_replace.specs.Collected.{Holds}
 use Rattle.bram_replace.proofs.HexLines.{ReadSoFar, ReadSoFar-none, ReadSoFar-more, room-more, cut-end, first_fault, end_fault, contents-is}
 use Rattle.bram_replace.proofs.hex_file.HexFile.read.Goals as goal

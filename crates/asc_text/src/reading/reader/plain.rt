@@ -37,7 +37,7 @@ impl Reader {
         ensures { TakesLines (state_of self.old) text.now result.count result.rest.now (state_of self.new) }
     {
         match self.expected {
-            // A line that goes on with a comment is another one.
+            // A name would end the comment, which is left to `accept_any`.
             Expected::Statement if self.in_comment => TakenLines {
                 count: 0,
                 rest: text,

@@ -2,3 +2,5 @@
 pub mod Blocks
 -- names stay where more is written
 pub mod Kept
+-- places in their buckets
+pub mod Places

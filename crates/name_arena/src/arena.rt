@@ -22,6 +22,13 @@ impl Model for NameId {
 }
 
 impl NameId {
+    /// The id that names a place.
+    pub(crate) fn at(place: u32) -> NameId
+        ensures { result ≡ place }
+    {
+        NameId { place }
+    }
+
     /// The place that it names.
     pub fn place(self) -> usize
         ensures { result ≡ self }
@@ -80,7 +87,15 @@ impl NameArena {
         requires { id < length self.now }
         ensures { result.now ≡ slice_index_or self.now id [] }
     {
-        self.chunks.name(self.spans[id.place as usize])
+        self.name(id.place as usize)
+    }
+
+    /// The bytes of the name at a place.
+    pub(crate) fn name(&self, place: usize) -> &[u8]
+        requires { place < length self.now }
+        ensures { result.now ≡ slice_index_or self.now place [] }
+    {
+        self.chunks.name(self.spans[place])
     }
 
     /// Whether the arena has a name of that id, as it has of each of its own.

@@ -3,10 +3,13 @@
 
 mod arena;
 mod block;
+mod chains;
 mod chunk;
 mod chunks;
+mod table;
 
 pub use arena::{NameArena, NameId};
+pub use table::NameTable;
 
 #[cfg(test)]
 mod tests;

@@ -1,5 +1,5 @@
 -- Look-ups by ids find what look-ups by names would.
-use Rattle.std.proofs.Common.{◌≡◌, ℕ, suc, ◌+◌, ◌<◌, Bool, true, false, not, ◌&&◌, cond, eqb, ltb, List, [], ◌∷◌, ◌++◌, length, map, append-nil, refl, sym, ap, ◌∙◌, inl, inr, arith, lit≤, true≢false}
+use Rattle.std.proofs.Common.{◌≡◌, ℕ, suc, ◌+◌, ◌<◌, Bool, true, false, not, ◌&&◌, cond, eqb, ltb, List, [], ◌∷◌, ◌++◌, length, drop, map, append-nil, refl, sym, ap, ◌∙◌, inl, inr, arith, lit≤, true≢false}
 use Rattle.std.specs.Prelude.{Option, Some, None, All, bytes_eq, position, find, flat_map, nat_eq}
 use Rattle.std.specs.Option.{option_map}
 use Rattle.std.specs.List.{prefix_len}
@@ -23,10 +23,9 @@ use Rattle.chipdb_reader.specs.Kept.{name_line, name_lines, function_line, funct
 use Rattle.chipdb_reader.specs.Lookups.{is_name_at, net_at, names_of_net, is_function, function_place, extra_place}
 use Rattle.std.specs.List.{AllByRecursion, IsDistinct}
 use Rattle.std.specs.Map.{keys_of}
-use Rattle.std.specs.declared.vec.Vec.{Vec}
-use Rattle.std.specs.declared.alloc.Global.{Global}
 use Rattle.chipdb_reader.specs.declared.nets.Nets.{Nets}
-use Rattle.chipdb_reader.specs.Nets.{IsNetIndex, earlier_names, is_name, last_names, names_with, net_names, items_of}
+use Rattle.chipdb_reader.specs.declared.nets.Span.{Span}
+use Rattle.chipdb_reader.specs.Nets.{IsNetIndex, earlier_names, found_names, is_name, last_names, names_in, names_with, net_names}
 use Rattle.chipdb_reader.specs.Texts.{IsIndexed, text_at}
 use Rattle.chipdb_reader.proofs.NameSteps.{text-tie}
 
@@ -176,51 +175,52 @@ names_of_net-append : (net : ℕ) (xs ys : List NameLine) → names_of_net net (
 unfolding names_of_net
 names_of_net-append net xs ys = filter-append (λ (line : NameLine). eqb line.net net) xs ys
 
-abbrev entry_names : ℕ × Vec NetName Global → List (NetName × ℕ)
-entry_names entry = names_with entry.0 entry.1.items
+abbrev entry_names : List NetName → ℕ × Span → List (NetName × ℕ)
+entry_names all entry = names_with entry.0 (names_in all entry.1)
 
 -- no entry has the net
-names-absent : (texts : List (List ℕ)) (net : ℕ) (entries : List (ℕ × Vec NetName Global)) → AllByRecursion (λ other. nat_eq net other ≡ false) (keys_of entries) → names_of_net net (name_lines texts (flat_map entry_names entries)) ≡ []
+names-absent : (texts : List (List ℕ)) (all : List NetName) (net : ℕ) (entries : List (ℕ × Span)) → AllByRecursion (λ other. nat_eq net other ≡ false) (keys_of entries) → names_of_net net (name_lines texts (flat_map (entry_names all) entries)) ≡ []
 unfolding names_of_net
-names-absent texts net [] all = refl
-names-absent texts net (e ∷ entries) all =
-    let apart : eqb e.0 net ≡ false = eqb-turned e.0 net ∙ all.0 in
-    ap (names_of_net net) (map-append (name_line texts) (entry_names e) (flat_map entry_names entries))
-    ∙ names_of_net-append net (name_lines texts (entry_names e)) (name_lines texts (flat_map entry_names entries))
-    ∙ ap (λ ls. ls ++ names_of_net net (name_lines texts (flat_map entry_names entries))) (filter-no texts net e.0 e.1.items apart)
-    ∙ names-absent texts net entries all.1
+names-absent texts all net [] none = refl
+names-absent texts all net (e ∷ entries) none =
+    let apart : eqb e.0 net ≡ false = eqb-turned e.0 net ∙ none.0 in
+    ap (names_of_net net) (map-append (name_line texts) (entry_names all e) (flat_map (entry_names all) entries))
+    ∙ names_of_net-append net (name_lines texts (entry_names all e)) (name_lines texts (flat_map (entry_names all) entries))
+    ∙ ap (λ ls. ls ++ names_of_net net (name_lines texts (flat_map (entry_names all) entries))) (filter-no texts net e.0 (names_in all e.1) apart)
+    ∙ names-absent texts all net entries none.1
 
 -- the names of a net are those of its entry
-pub names-found : (texts : List (List ℕ)) (net : ℕ) (entries : List (ℕ × Vec NetName Global)) → IsDistinct nat_eq (keys_of entries)
-    → names_of_net net (name_lines texts (flat_map entry_names entries)) ≡ name_lines texts (names_with net (items_of (lookup (nat_eq net) entries)))
+pub names-found : (texts : List (List ℕ)) (all : List NetName) (net : ℕ) (entries : List (ℕ × Span)) → IsDistinct nat_eq (keys_of entries)
+    → names_of_net net (name_lines texts (flat_map (entry_names all) entries)) ≡ name_lines texts (names_with net (found_names all (lookup (nat_eq net) entries)))
 unfolding names_of_net IsDistinct
-names-found texts net [] distinct = refl
-names-found texts net (e ∷ entries) distinct =
+names-found texts all net [] distinct = refl
+names-found texts all net (e ∷ entries) distinct =
     let split =
-    ap (names_of_net net) (map-append (name_line texts) (entry_names e) (flat_map entry_names entries))
-    ∙ names_of_net-append net (name_lines texts (entry_names e)) (name_lines texts (flat_map entry_names entries)) in
+    ap (names_of_net net) (map-append (name_line texts) (entry_names all e) (flat_map (entry_names all) entries))
+    ∙ names_of_net-append net (name_lines texts (entry_names all e)) (name_lines texts (flat_map (entry_names all) entries)) in
     elim (cases_eq net e.0) [
       | inl same ↦
           let here : eqb e.0 net ≡ true = eq-eqb e.0 net (sym same) in
           let key : nat_eq net e.0 ≡ true = eq-eqb net e.0 same in
           let others : AllByRecursion (λ other. nat_eq net other ≡ false) (keys_of entries) = rw same distinct.0 in
-          let found : items_of (lookup (nat_eq net) (e ∷ entries)) ≡ e.1.items = rw key refl in
-          split ∙ ap (λ ls. ls ++ names_of_net net (name_lines texts (flat_map entry_names entries))) (filter-one texts net e.0 e.1.items here)
-          ∙ ap (λ ls. name_lines texts (entry_names e) ++ ls) (names-absent texts net entries others)
-          ∙ append-nil (name_lines texts (entry_names e))
-          ∙ ap (λ n. name_lines texts (names_with n e.1.items)) (sym same) ∙ ap (λ ns. name_lines texts (names_with net ns)) (sym found)
+          let found : found_names all (lookup (nat_eq net) (e ∷ entries)) ≡ (names_in all e.1) = rw key refl in
+          split ∙ ap (λ ls. ls ++ names_of_net net (name_lines texts (flat_map (entry_names all) entries))) (filter-one texts net e.0 (names_in all e.1) here)
+          ∙ ap (λ ls. name_lines texts (entry_names all e) ++ ls) (names-absent texts all net entries others)
+          ∙ append-nil (name_lines texts (entry_names all e))
+          ∙ ap (λ n. name_lines texts (names_with n (names_in all e.1))) (sym same) ∙ ap (λ ns. name_lines texts (names_with net ns)) (sym found)
       | inr other ↦
           let apart : eqb e.0 net ≡ false = ne_eqb e.0 net (λ s. other (sym s)) in
           let key : nat_eq net e.0 ≡ false = ne_eqb net e.0 other in
           let found : lookup (nat_eq net) (e ∷ entries) ≡ lookup (nat_eq net) entries = rw key refl in
-          split ∙ ap (λ ls. ls ++ names_of_net net (name_lines texts (flat_map entry_names entries))) (filter-no texts net e.0 e.1.items apart)
-          ∙ names-found texts net entries distinct.1
-          ∙ ap (λ o. name_lines texts (names_with net (items_of o))) (sym found)
+          split ∙ ap (λ ls. ls ++ names_of_net net (name_lines texts (flat_map (entry_names all) entries))) (filter-no texts net e.0 (names_in all e.1) apart)
+          ∙ names-found texts all net entries distinct.1
+          ∙ ap (λ o. name_lines texts (names_with net (found_names all o))) (sym found)
     ]
 
 -- the names of a net, where all nets are earlier ones
 pub net-names-found : (texts : List (List ℕ)) (nets : Nets) (net : ℕ) → IsNetIndex nets → nets.last ≡ None → name_lines texts (names_with net (earlier_names nets net)) ≡ names_of_net net (name_lines texts (net_names nets))
 net-names-found texts nets net indexed closed =
-    let all : net_names nets ≡ flat_map entry_names nets.earlier.entries =
-    ap (λ o. flat_map entry_names nets.earlier.entries ++ last_names o nets.names.items) closed ∙ append-nil (flat_map entry_names nets.earlier.entries) in
-    sym (ap (λ ns. names_of_net net (name_lines texts ns)) all ∙ names-found texts net nets.earlier.entries indexed.unique)
+    let all : List NetName = nets.names.items in
+    let whole : net_names nets ≡ flat_map (entry_names all) nets.earlier.entries =
+    ap (λ o. flat_map (entry_names all) nets.earlier.entries ++ last_names o (drop nets.start all)) closed ∙ append-nil (flat_map (entry_names all) nets.earlier.entries) in
+    sym (ap (λ ns. names_of_net net (name_lines texts ns)) whole ∙ names-found texts all net nets.earlier.entries indexed.unique)

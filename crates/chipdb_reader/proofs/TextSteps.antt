@@ -10,16 +10,6 @@ use Rattle.place_search.specs.Places.{or_else}
 use Rattle.chipdb_reader.specs.Texts.{text_at}
 use Rattle.chipdb_reader.proofs.Searches.{lookup-push, position-push, bytes_eq-same}
 
--- the index finds one name more
-pub found-push : {K : Type 0} (bytes : K → List ℕ) (entries : List (K × ℕ)) (texts : List (List ℕ)) (key : K) (id : ℕ)
-    → ((q : List ℕ) → lookup (λ k. bytes_eq q (bytes k)) entries ≡ position (bytes_eq q) texts) → id ≡ length texts
-    → (q : List ℕ) → lookup (λ k. bytes_eq q (bytes k)) (entries ++ (key, id) ∷ []) ≡ position (bytes_eq q) (texts ++ bytes key ∷ [])
-found-push bytes entries texts key id found last q =
-    lookup-push (λ k. bytes_eq q (bytes k)) entries (key, id)
-    ∙ ap (λ o. or_else o (cond (bytes_eq q (bytes key)) (Some id) None)) (found q)
-    ∙ ap (λ n. or_else (position (bytes_eq q) texts) (cond (bytes_eq q (bytes key)) (Some n) None)) last
-    ∙ sym (position-push (bytes_eq q) texts (bytes key))
-
 -- a new name is found at the end
 pub position-new : (texts : List (List ℕ)) (text : List ℕ) → position (bytes_eq text) texts ≡ None → position (bytes_eq text) (texts ++ text ∷ []) ≡ Some (length texts)
 position-new texts text none = position-push (bytes_eq text) texts text ∙ rw (none, bytes_eq-same text) refl

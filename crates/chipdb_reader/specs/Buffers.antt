@@ -1,5 +1,5 @@
 -- Lines of `.buffer` statements, and the index from the values of the last statement's lines to their nets.
-use Rattle.std.specs.Prelude.{◌≡◌, ℕ, true, false, ◌≤◌, List, [], ◌∷◌, ◌++◌, length, drop, map, nat_eq, ◌==◌, if◌then◌else◌, Option, Some, None}
+use Rattle.std.specs.Prelude.{◌≡◌, ℕ, true, false, ◌≤◌, ◌%◌, List, [], ◌∷◌, ◌++◌, length, drop, get_or, map, nat_eq, ◌==◌, if◌then◌else◌, Option, Some, None}
 use Rattle.std.specs.Ordering.{nat_cmp}
 use Rattle.std.specs.BTreeMap.{get}
 use Rattle.std.specs.Map.{lookup}
@@ -7,6 +7,7 @@ use Rattle.chipdb_lines.specs.declared.cause.DbCause.{DbCause}
 use Rattle.chipdb_lines.specs.declared.cause.DbCause.TheVariants.{ValuesTwice}
 use Rattle.chipdb_reader.specs.declared.items.LinkLine.{LinkLine}
 use Rattle.chipdb_reader.specs.declared.buffers.Buffers.{Buffers}
+use Rattle.chipdb_reader.specs.declared.buffers.TheConstants.{MARKS}
 
 -- the values of lines with their nets
 abbrev pub choices_of : List LinkLine → List (ℕ × ℕ)
@@ -16,8 +17,9 @@ choices_of lines = map (λ line. (line.values, line.src)) lines
 abbrev pub chosen_src : Buffers → ℕ → Option ℕ
 chosen_src buffers values = lookup (nat_eq values) (choices_of (drop buffers.start buffers.lines.items))
 
--- the index has the nets of the last statement's lines, or nothing where they aren't in it
+-- the index has the nets of the last statement's lines, or nothing where they aren't in it; values without a mark are none of theirs
 pub record IsChosen (buffers : Buffers) : Type 0 where
+  pub marked : (values : ℕ) → get_or buffers.marks (values % MARKS) true ≡ false → chosen_src buffers values ≡ None
   pub found : buffers.is_indexed ≡ true → (values : ℕ) → get nat_cmp buffers.chosen values ≡ chosen_src buffers values
   pub unused : buffers.is_indexed ≡ false → (values : ℕ) → get nat_cmp buffers.chosen values ≡ None
   pub within : buffers.start ≤ length buffers.lines.items

@@ -1,15 +1,13 @@
--- Names by their places, and the index from a name to its place.
+-- Names by their places.
 use Rattle.std.specs.Prelude.{◌≡◌, ℕ, ◌<◌, ◌≤◌, List, [], ◌++◌, length, get_or, bytes_eq, position, Some}
-use Rattle.std.specs.Map.{lookup}
 use Rattle.chipdb_reader.specs.declared.texts.Texts.{Texts}
 
 -- the name of a place, and nothing past the last
 abbrev pub text_at : List (List ℕ) → ℕ → List ℕ
 text_at texts id = get_or texts id []
 
--- the index finds each name at its place, and no name has two places
+-- no name has two places
 pub record IsIndexed (texts : Texts) : Type 0 where
-  pub found : (text : List ℕ) → lookup (λ key. bytes_eq text key.items) texts.ids.entries ≡ position (bytes_eq text) texts.arena
   pub apart : (id : ℕ) → id < length texts.arena → position (bytes_eq (text_at texts.arena id)) texts.arena ≡ Some id
 
 -- a name has a place; it is a new one, the next, where it had none

@@ -1,5 +1,5 @@
 // The lines of `.buffer` statements.
-ghost use Rattle.std.specs.Prelude.{◌≡◌, [], ℕ, true, false, None, Some, cond, find, nat_eq, option_map, IfOk, IfErr, OnOk};
+ghost use Rattle.std.specs.Prelude.{◌≡◌, ◌≢◌, [], ℕ, ◌<◌, ◌%◌, true, false, None, Some, cond, find, get_or, length, nat_eq, option_map, IfOk, IfErr, OnOk};
 ghost use Rattle.chipdb_lines.specs.Kept.{Reports};
 ghost use Rattle.std.specs.Ordering.{nat_cmp};
 ghost use Rattle.std.specs.BTreeMap.{get, is_at};
@@ -14,12 +14,17 @@ use std::collections::BTreeMap;
 /// How many lines of a statement are looked through; where it has more, they are looked up in an index, for speed alone.
 const FEW: usize = 16;
 
+/// How many marks there are.
+const MARKS: usize = 64;
+
 /// Lines of `.buffer` statements, and the choices of the statement that came last.
 #[derive(Drop)]
 pub(crate) struct Buffers {
     pub(crate) lines: Vec<LinkLine>,
     /// Where the lines of the last statement begin.
     start: usize,
+    /// By the remainders of values: those of the last statement's lines are marked. They are there for speed alone.
+    marks: [bool; MARKS],
     /// Whether they are in the index.
     is_indexed: bool,
     /// The index: the net that each of their values choose. It is empty where they aren't in it.
@@ -37,6 +42,7 @@ impl Buffers {
         Buffers {
             lines: Vec::new(alloc),
             start: 0,
+            marks: [false; MARKS],
             is_indexed: false,
             chosen: BTreeMap::new(alloc),
         }
@@ -54,6 +60,7 @@ impl Buffers {
         ensures { BeginsBuffers self.old self.new }
     {
         self.start = self.lines.len();
+        self.marks = [false; MARKS];
         self.is_indexed = false;
         self.chosen.clear();
     }
@@ -78,7 +85,9 @@ impl Buffers {
         requires { IsChosen self.now }
         ensures { result ≡ chosen_src self.now values }
     {
-        if self.is_indexed {
+        if !self.marks[mark_of(values)] {
+            None
+        } else if self.is_indexed {
             self.chosen.get(&values).copied()
         } else {
             first_src(&self.lines[self.start..], values)
@@ -111,6 +120,7 @@ impl Buffers {
         ensures refused { IfErr result (Reports None) }
     {
         self.lines.push(line).map_err(AllocError::from)?;
+        set_mark(&mut self.marks, line.values);
         Ok(())
     }
 
@@ -126,6 +136,7 @@ impl Buffers {
             .insert(line.values, line.src)
             .map_err(AllocError::from)?;
         self.lines.push(line).map_err(AllocError::from)?;
+        set_mark(&mut self.marks, line.values);
         Ok(())
     }
 
@@ -139,6 +150,22 @@ impl Buffers {
         self.is_indexed = true;
         Ok(())
     }
+}
+
+/// The place of the mark for values.
+fn mark_of(values: u64) -> usize
+    ensures is { result ≡ values % MARKS }
+    ensures inside { result < MARKS }
+{
+    (values % MARKS as u64) as usize
+}
+
+/// Sets the mark for values.
+fn set_mark(marks: &mut [bool; MARKS], values: u64)
+    ensures here { get_or marks.new (values % MARKS) true ≡ true }
+    ensures others { (k : ℕ) → k ≢ values % MARKS → get_or marks.new k true ≡ get_or marks.old k true }
+{
+    marks[mark_of(values)] = true;
 }
 
 /// The net of the first line with these values.

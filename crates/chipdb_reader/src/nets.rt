@@ -1,5 +1,5 @@
 // The nets of a database and their names.
-ghost use Rattle.std.specs.Prelude.{◌≡◌, ℕ, [], false, None, Some, is_some, if◌then◌else◌, IfOk, IfErr, OnOk};
+ghost use Rattle.std.specs.Prelude.{◌≡◌, ◌+◌, ◌≤◌, ℕ, [], false, None, Some, is_some, if◌then◌else◌, IfOk, IfErr, OnOk};
 ghost use Rattle.chipdb_lines.specs.Kept.{Reports};
 
 use crate::items::NetName;
@@ -7,20 +7,27 @@ use crate::name_index::NameIndex;
 use chipdb_lines::{DbCause, Refusal};
 use indexmap::IndexMap;
 use std::alloc::{AllocError, Global};
-use std::mem;
+
+/// Where the names of a net stand among those of all nets.
+#[derive(Clone, Copy)]
+struct Span {
+    start: u32,
+    count: u32,
+}
 
 /// Nets with their names, and an index from a place and a name to the net.
 #[derive(Drop)]
 pub(crate) struct Nets {
-    /// The nets that were begun before the last, and their names, in the order of the text.
-    earlier: IndexMap<u32, Vec<NetName>>,
+    /// The names of all nets, in the order of the text.
+    names: Vec<NetName>,
+    /// The nets that were begun before the last, in the order of the text, and where the names of each stand.
+    earlier: IndexMap<u32, Span>,
     /// The net that was begun last.
     last: Option<u32>,
-    /// The names of that net.
-    names: Vec<NetName>,
+    /// Where the names of that net begin.
+    start: usize,
     /// The net of each name.
     index: NameIndex,
-    alloc: Global,
 }
 
 impl Nets {
@@ -34,11 +41,11 @@ impl Nets {
         ensures no_net { (net : ℕ) → has_net result net ≡ false }
     {
         Nets {
+            names: Vec::new(alloc),
             earlier: IndexMap::new(alloc),
             last: None,
-            names: Vec::new(alloc),
+            start: 0,
             index: NameIndex::new(alloc),
-            alloc,
         }
     }
 
@@ -74,9 +81,11 @@ impl Nets {
         requires last { self.old.last ≡ Some net }
         ensures { IfOk result (λ _. ClosesNet self.old self.new) }
     {
-        let names = mem::replace(&mut self.names, Vec::new(self.alloc));
-        self.earlier.insert(net, names).map_err(AllocError::from)?;
+        let end = self.names.len();
+        let span = span_between(self.start, end)?;
+        self.earlier.insert(net, span).map_err(AllocError::from)?;
         self.last = None;
+        self.start = end;
         Ok(())
     }
 
@@ -108,7 +117,32 @@ impl Nets {
     {
         match self.earlier.get(&net) {
             None => &[],
-            Some(names) => names,
+            Some(span) => names_in(&self.names, *span),
         }
     }
+}
+
+ghost use Rattle.chipdb_reader.specs.Nets.{names_in};
+
+/// Names from one place up to another. There is no memory for so many names that a place takes more than four bytes.
+fn span_between(start: usize, end: usize) -> Result<Span, AllocError>
+    requires { start ≤ end }
+    ensures { IfOk result (λ span. (span.start ≡ start) × (span.start + span.count ≡ end)) }
+{
+    if end <= u32::MAX as usize {
+        Ok(Span {
+            start: start as u32,
+            count: (end - start) as u32,
+        })
+    } else {
+        Err(AllocError)
+    }
+}
+
+/// The names of a net, as far as they are there.
+fn names_in(names: &[NetName], span: Span) -> &[NetName]
+    ensures { result.now ≡ names_in names.now span }
+{
+    let rest = &names[names.len().min(span.start as usize)..];
+    &rest[..rest.len().min(span.count as usize)]
 }

@@ -2,16 +2,13 @@
 ghost use Rattle.std.specs.Prelude.{◌≡◌, ◌-◌, ◌^◌, ◌<◌, [], bytes_eq, length, position, slice_index_or, None, IfOk};
 ghost use Rattle.chipdb_reader.specs.Texts.{text_at};
 
-use indexmap::IndexMap;
-use name_arena::{NameArena, NameId};
+use name_arena::{NameId, NameTable};
 use std::alloc::{AllocError, Global};
 
 /// Names without repeats, by their ids and by their bytes.
 #[derive(Drop)]
 pub(crate) struct Texts {
-    arena: NameArena,
-    ids: IndexMap<Vec<u8>, NameId>,
-    alloc: Global,
+    arena: NameTable,
 }
 
 impl Texts {
@@ -23,9 +20,7 @@ impl Texts {
         ensures indexed { IsIndexed result }
     {
         Texts {
-            arena: NameArena::new(alloc),
-            ids: IndexMap::new(alloc),
-            alloc,
+            arena: NameTable::new(alloc),
         }
     }
 
@@ -45,7 +40,7 @@ impl Texts {
         requires { IsIndexed self.now }
         ensures { result ≡ position (bytes_eq text.now) self.now.arena }
     {
-        self.ids.get(text).copied()
+        self.arena.find(text)
     }
 
     /// The id of a name; where it isn't kept it is added.
@@ -67,9 +62,6 @@ impl Texts {
         requires room { length self.old.arena < 2 ^ 32 - 1 }
         ensures { IfOk result (Interns self.old self.new text.now) }
     {
-        let key = Vec::from_slice(self.alloc, text)?;
-        let id = self.arena.push(text)?;
-        self.ids.insert(key, id).map_err(AllocError::from)?;
-        Ok(id)
+        self.arena.push(text)
     }
 }

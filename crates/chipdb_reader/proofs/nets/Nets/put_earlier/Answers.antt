@@ -1,4 +1,4 @@
-use Rattle.std.proofs.Common.{refl, ap, ◌∙◌}
+use Rattle.std.proofs.Common.{◌≡◌, refl, ◌∙◌, length, arith}
 use Rattle.std.specs.Prelude.{None}
 use Rattle.chipdb_reader.proofs.NetChanges.{closes-net}
 use Rattle.chipdb_reader.proofs.Outcomes.{ok-fact}
@@ -6,8 +6,9 @@ use Rattle.chipdb_reader.proofs.nets.Nets.put_earlier.Goals as goal
 
 pub returns : goal.returns
 returns c =
-    closes-net c.args.self.now (record { earlier = c.insert.new.self; last = None; names = c.replace-names.new.dest; index = c.args.self.now.index; alloc = c.args.self.now.alloc })
-    c.args.net c.replace-names.result c.requires.indexed c.requires.last c.replace-names.ensures.value
+    let size : c.len-end.result ≡ length c.args.self.now.names.items = omega (arith, c.len-end.ensures, c.args.self.now.names.ok.0) in
+    closes-net c.args.self.now (record { names = c.args.self.now.names; earlier = c.insert.new.self; last = None; start = c.len-end.result; index = c.args.self.now.index })
+    c.args.net c.in_ok-span.span c.requires.indexed c.requires.last c.in_ok-span.ensures.0 (c.in_ok-span.ensures.1 ∙ size)
     (ok-fact c.insert.result c.map_err.result c.in_ok-map_err.field-0 _ c.map_err.ensures.variant c.in_ok-map_err.was c.insert.ensures.entries)
     (ok-fact c.insert.result c.map_err.result c.in_ok-map_err.field-0 _ c.map_err.ensures.variant c.in_ok-map_err.was c.insert.ensures.updates)
-    c.insert.ensures.unique refl (ap (λ v. v.items) c.replace-names.ensures.after ∙ c.new.ensures.items) refl
+    c.insert.ensures.unique refl refl size refl

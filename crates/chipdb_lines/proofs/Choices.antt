@@ -44,7 +44,7 @@ number-is word number is =
 pub number-digits : (word : List ℕ) (number : ℕ) → number_of word ≡ Some number → list_all is_ascii_digit word ≡ true
 number-digits word number is = (and_parts (nat_lt 0 (length word) && nat_le (length word) 9) (list_all is_ascii_digit word) (number-is word number is)).1
 
-number-high : (word : List ℕ) (number : ℕ) → number_of word ≡ Some number → All (λ byte. 32 < byte) word
+pub number-high : (word : List ℕ) (number : ℕ) → number_of word ≡ Some number → All (λ byte. 32 < byte) word
 number-high word number is = all-high is_ascii_digit word digit-high (number-digits word number is)
 
 weaker : (word : List ℕ) → All (λ byte. 32 < byte) word → All (λ byte. 32 ≤ byte) word

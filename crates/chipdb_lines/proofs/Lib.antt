@@ -12,3 +12,7 @@ pub mod Choices
 pub mod Missed
 -- a name with one space before it and one between its numbers
 pub mod Named
+-- a statement of links with one space between its words
+pub mod Headed
+-- a bit's word at the front of others
+pub mod OneBit

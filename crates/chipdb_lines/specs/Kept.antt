@@ -1,5 +1,5 @@
 -- What is kept of lines: lists of bits in one table, by their places in it.
-use Rattle.std.specs.Prelude.{◌≡◌, ℕ, ◌^◌, ◌<◌, ◌≤◌, true, false, ◌||◌, List, [], ◌∷◌, ◌++◌, length, get_or, map, ◌==◌, Option, Some, Result, Ok, Err}
+use Rattle.std.specs.Prelude.{◌≡◌, ℕ, ◌^◌, ◌<◌, ◌≤◌, true, false, ◌||◌, List, [], ◌∷◌, ◌++◌, length, get_or, map, ◌==◌, Option, Some, None, Result, Ok, Err}
 use Rattle.std.specs.Result.{result_err, MatchResult}
 use Rattle.bit_plane.specs.BitList.{word_bits}
 use Rattle.plane_map.specs.declared.tile.RowCol.{RowCol}
@@ -20,12 +20,23 @@ use Rattle.chipdb_lines.specs.Statements.{Block, passed, of_device, global_input
 use Rattle.text_lines.specs.Lines.{lines_of}
 use Rattle.std.specs.List.{list_all}
 use Rattle.text_lines.specs.Written.{IsPlain}
-use Rattle.chipdb_lines.specs.Words.{is_statement, own_words, words_in}
+use Rattle.chipdb_lines.specs.Words.{bit_of, is_statement, own_words, words_in}
 use Rattle.chipdb_lines.specs.Items.{LinkChoice, choice_of, FunctionLine, ExtraLine, NameLine}
 
 -- the bits of a list, and nothing past the last
 abbrev pub bits_named : List (List RowCol) → BitList → List RowCol
 bits_named lists list = get_or lists list.place []
+
+-- a word names that bit, by its row and column, or none
+abbrev pub NamesBit : List ℕ → Option (ℕ × ℕ) → Type 0
+NamesBit word None = bit_of word ≡ None
+NamesBit word (Some bit) = bit_of word ≡ Some (record { row = bit.0; col = bit.1 })
+
+-- words with one that names that bit or none before the others
+pub record StartsWithWord (words : List (List ℕ)) (bit : Option (ℕ × ℕ)) (rest : List (List ℕ)) : Type 0 where
+  pub word : List ℕ
+  pub words_are : words ≡ word ∷ rest
+  pub names : NamesBit word bit
 
 -- a table to which a list was added, and no others; the list has at most 64 bits
 pub record AddsList (old new : List (List RowCol)) (list : BitList) : Type 0 where

@@ -1,5 +1,5 @@
 // Bits of tiles: words such as `B1[36]`, and lists of them in one table.
-ghost use Rattle.std.specs.Prelude.{◌≡◌, ◌≤◌, ◌<◌, ◌-◌, ◌^◌, ◌++◌, ◌∷◌, [], ℕ, List, ◌&&◌, nat_lt, length, true, false, IfOk, MatchOption, MatchResult, position, Some, None, if◌then◌else◌, is_some, OnErr, OnOk};
+ghost use Rattle.std.specs.Prelude.{◌≡◌, ◌≤◌, ◌<◌, ◌-◌, ◌^◌, ◌++◌, ◌∷◌, [], ℕ, List, ◌&&◌, ◌==◌, get_or, nat_lt, length, true, false, IfOk, IfSome, MatchOption, MatchResult, position, Some, None, if◌then◌else◌, is_some, OnErr, OnOk};
 ghost use Rattle.std.specs.Bool.{MatchBool};
 ghost use Rattle.std.specs.List.{position_or_len, before_first, after_first};
 ghost use Rattle.std.specs.Result.{result_err};
@@ -7,7 +7,7 @@ ghost use Rattle.plane_map.specs.declared.tile.RowCol.{RowCol as Bit};
 ghost use Rattle.chipdb_lines.specs.Words.{bit_by, bit_of, bits_of, is_bracket, words_in};
 ghost use Rattle.chipdb_lines.specs.Statements.{is_in_columns, tile_bits_of};
 ghost use Rattle.chipdb_lines.specs.Spans.{bits_in, AddsSpan, Extends, IsSpanOf};
-ghost use Rattle.chipdb_lines.specs.Kept.{bits_named, AddsList, Reports, Tells};
+ghost use Rattle.chipdb_lines.specs.Kept.{bits_named, AddsList, NamesBit, Reports, StartsWithWord, Tells};
 ghost use Rattle.text_lines.specs.Words.{number_of};
 ghost use Rattle.chipdb_lines.specs.declared.cause.DbCause.TheVariants.{BitName, BitRange};
 
@@ -15,7 +15,7 @@ use crate::cause::{DbCause, Refusal};
 use plane_map::RowCol;
 use std::alloc::{AllocError, Global};
 use std::marker::Model;
-use text_lines::{Separators, number, split_word};
+use text_lines::{Separators, number, number_before, split_word};
 
 /// A list of bits of a table, by its place among the table's lists, counted from 0.
 #[derive(Clone, Copy, Debug, PartialEq, Eq)]
@@ -138,11 +138,11 @@ fn push_each(bits: &mut Vec<RowCol>, columns: usize, words: &[u8]) -> Result<Spa
 {
     let start = bits.len();
     let mut left = words;
-    while let Some((word, rest)) = split_word(Separators::SpacesAndTabs, left) {
-        if !push_bit(bits, columns, word)? {
-            return Err(Refusal::Cause(cause_before(rest)));
+    while let Some(next) = next_bit(left) {
+        if !push_bit(bits, columns, next.bit)? {
+            return Err(Refusal::Cause(cause_before(next.rest)));
         }
-        left = rest;
+        left = next.rest;
     }
     let count = bits.len() - start;
     if count <= 64 {
@@ -155,17 +155,21 @@ fn push_each(bits: &mut Vec<RowCol>, columns: usize, words: &[u8]) -> Result<Spa
     }
 }
 
-/// Adds the bit that a word names to a table, and tells whether it is a bit of the tile; else nothing is added.
-fn push_bit(bits: &mut Vec<RowCol>, columns: usize, word: &[u8]) -> Result<bool, Refusal>
+/// Adds a word's bit to a table, where it names one, and tells whether it is a bit of the tile; else nothing is added.
+fn push_bit(
+    bits: &mut Vec<RowCol>,
+    columns: usize,
+    bit: Option<(u32, u32)>,
+) -> Result<bool, Refusal>
     requires { columns ≤ 256 }
-    ensures named { MatchResult result
+    ensures named { (word : List ℕ) → NamesBit word bit → MatchResult result
         (λ is_there. MatchBool is_there
-        ((bit : RowCol) × (bit_of word.now ≡ Some bit) × (is_in_columns columns bit ≡ true) × (bits.new.items ≡ bits.old.items ++ bit ∷ []))
-        ((bit : RowCol) × (bit_of word.now ≡ Some bit) × (is_in_columns columns bit ≡ false) × (bits.new.items ≡ bits.old.items)))
-        (λ refusal. Reports (if is_some (bit_of word.now) then None else Some BitName) refusal) }
+        ((bit : RowCol) × (bit_of word ≡ Some bit) × (is_in_columns columns bit ≡ true) × (bits.new.items ≡ bits.old.items ++ bit ∷ []))
+        ((bit : RowCol) × (bit_of word ≡ Some bit) × (is_in_columns columns bit ≡ false) × (bits.new.items ≡ bits.old.items)))
+        (λ refusal. Reports (if is_some (bit_of word) then None else Some BitName) refusal) }
     ensures unchanged { OnErr result (bits.new.items ≡ bits.old.items) }
 {
-    match bit_of(word) {
+    match bit {
         None => Err(Refusal::Cause(DbCause::BitName)),
         Some((row, col)) if row < 16 && (col as usize) < columns => {
             bits.push(RowCol {
@@ -176,6 +180,96 @@ fn push_bit(bits: &mut Vec<RowCol>, columns: usize, word: &[u8]) -> Result<bool,
             Ok(true)
         }
         Some(_) => Ok(false),
+    }
+}
+
+/// A word's row and column, where it names a bit, and what stands behind the word.
+#[derive(Clone, Copy)]
+struct NextBit<'a> {
+    bit: Option<(u32, u32)>,
+    rest: &'a [u8],
+}
+
+/// The next word's bit: none where there is no word.
+fn next_bit(words: &[u8]) -> Option<NextBit<'_>>
+    ensures words { MatchOption result (words_in words.now ≡ []) (λ next. StartsWithWord (words_in words.now) next.bit (words_in next.rest.now)) }
+    ensures shorter { IfSome result (λ next. length next.rest.now < length words.now) }
+{
+    match usual_bit(words) {
+        Some(next) => Some(next),
+        None => spaced_bit(words),
+    }
+}
+
+/// The same where no more than one space stands before the word, and one behind it or none at the end: none of other words, and
+/// none of one that names no bit. It is there for speed alone.
+fn usual_bit(words: &[u8]) -> Option<NextBit<'_>>
+    ensures words { IfSome result (λ next. StartsWithWord (words_in words.now) next.bit (words_in next.rest.now)) }
+    ensures shorter { IfSome result (λ next. length next.rest.now < length words.now) }
+{
+    match words {
+        [b' ', behind @ ..] => bit_behind_space(behind),
+        _ => bit_in_front(words),
+    }
+}
+
+/// The same behind a space.
+fn bit_behind_space(words: &[u8]) -> Option<NextBit<'_>>
+    ensures words { IfSome result (λ next. StartsWithWord (words_in (32 ∷ words.now)) next.bit (words_in next.rest.now)) }
+    ensures shorter { IfSome result (λ next. length next.rest.now < length words.now) }
+{
+    bit_in_front(words)
+}
+
+/// The same where no space stands before the word.
+fn bit_in_front(words: &[u8]) -> Option<NextBit<'_>>
+    ensures words { IfSome result (λ next. StartsWithWord (words_in words.now) next.bit (words_in next.rest.now)) }
+    ensures shorter { IfSome result (λ next. length next.rest.now < length words.now) }
+{
+    match words {
+        [b'B', behind @ ..] => bit_behind(behind),
+        _ => None,
+    }
+}
+
+/// The same behind `B`.
+fn bit_behind(words: &[u8]) -> Option<NextBit<'_>>
+    ensures words { IfSome result (λ next. StartsWithWord (words_in (66 ∷ words.now)) next.bit (words_in next.rest.now)) }
+    ensures shorter { IfSome result (λ next. length next.rest.now < length words.now) }
+{
+    let (row, behind) = number_before(b'[', words)?;
+    let (col, rest) = number_before(b']', behind)?;
+    if ends_word(rest) {
+        Some(NextBit {
+            bit: Some((row, col)),
+            rest,
+        })
+    } else {
+        None
+    }
+}
+
+/// Whether a word before the text ends where it does, or before a space.
+fn ends_word(rest: &[u8]) -> bool
+    ensures { result ≡ (get_or rest.now 0 32 == 32) }
+{
+    match rest {
+        [] => true,
+        [byte, ..] => *byte == b' ',
+    }
+}
+
+/// The next word's bit, whatever parts the words.
+fn spaced_bit(words: &[u8]) -> Option<NextBit<'_>>
+    ensures words { MatchOption result (words_in words.now ≡ []) (λ next. StartsWithWord (words_in words.now) next.bit (words_in next.rest.now)) }
+    ensures shorter { IfSome result (λ next. length next.rest.now < length words.now) }
+{
+    match split_word(Separators::SpacesAndTabs, words) {
+        None => None,
+        Some((word, rest)) => Some(NextBit {
+            bit: bit_of(word),
+            rest,
+        }),
     }
 }
 

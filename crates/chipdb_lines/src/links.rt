@@ -1,5 +1,5 @@
 // The statements `.buffer` and `.routing`, and their lines.
-ghost use Rattle.std.specs.Prelude.{◌≡◌, ◌≤◌, ◌<◌, ◌-◌, ◌^◌, ◌∷◌, ◌++◌, ◌==◌, ◌&&◌, ◌||◌, get_or, length, nat_lt, IfOk, MatchOption, OnErr, false};
+ghost use Rattle.std.specs.Prelude.{◌≡◌, ◌≤◌, ◌<◌, ◌-◌, ◌^◌, ◌∷◌, ◌++◌, ◌==◌, ◌&&◌, ◌||◌, get_or, length, nat_lt, IfOk, IfSome, MatchOption, OnErr, false};
 ghost use Rattle.std.specs.Bool.{OnTrue};
 ghost use Rattle.std.specs.List.{list_all};
 ghost use Rattle.plane_map.specs.Layout.{kind_of};
@@ -34,8 +34,57 @@ pub struct Choice {
 }
 
 /// What the words `X Y DST BIT ...` say. Their list is added to a table.
-#[tactic(auto, unfolding(crate::specs::Statements::link_of_words, text_lines::specs::Words::numbers_of))]
 pub(crate) fn link_head(chip: Chip, words: &[u8], bits: &mut BitTable) -> Result<LinkHead, Refusal>
+    requires { length bits.old < 2 ^ 32 - 1 }
+    ensures unchanged { OnErr result (bits.new ≡ bits.old) }
+    ensures added { IfOk result (AddsHead bits.old bits.new) }
+    ensures says { Tells (link_of_words chip (words_in words.now)) (head_named bits.new) result }
+{
+    match usual_head(words) {
+        Some(head) => link_into(chip, head.x, head.y, head.dst, head.bits, bits),
+        None => spaced_head(chip, words, bits),
+    }
+}
+
+/// A tile, a net, and the words of at least one bit.
+#[derive(Clone, Copy)]
+struct UsualHead<'a> {
+    x: u32,
+    y: u32,
+    dst: u32,
+    bits: &'a [u8],
+}
+
+/// The same where one space stands before each of the words `X`, `Y` and `DST`, and one behind them: none of other words, and none
+/// of words with which something is wrong. It is there for speed alone.
+fn usual_head(words: &[u8]) -> Option<UsualHead<'_>>
+    ensures { IfSome result (λ head. (chip : Chip)
+        → link_of_words chip (words_in words.now) ≡ link_at chip.nets head.x head.y head.dst (kind_of chip.device head.x head.y) (words_in head.bits.now)) }
+{
+    match words {
+        [b' ', behind @ ..] => head_behind_space(behind),
+        _ => None,
+    }
+}
+
+/// The same behind the first space.
+fn head_behind_space(words: &[u8]) -> Option<UsualHead<'_>>
+    ensures { IfSome result (λ head. (chip : Chip)
+        → link_of_words chip (words_in (32 ∷ words.now)) ≡ link_at chip.nets head.x head.y head.dst (kind_of chip.device head.x head.y) (words_in head.bits.now)) }
+{
+    let (x, behind) = number_before(b' ', words)?;
+    let (y, behind) = number_before(b' ', behind)?;
+    let (dst, bits) = number_before(b' ', behind)?;
+    if has_no_word(bits) {
+        None
+    } else {
+        Some(UsualHead { x, y, dst, bits })
+    }
+}
+
+/// What the words `X Y DST BIT ...` say, whatever parts them.
+#[tactic(auto, unfolding(crate::specs::Statements::link_of_words, text_lines::specs::Words::numbers_of))]
+fn spaced_head(chip: Chip, words: &[u8], bits: &mut BitTable) -> Result<LinkHead, Refusal>
     requires { length bits.old < 2 ^ 32 - 1 }
     ensures unchanged { OnErr result (bits.new ≡ bits.old) }
     ensures added { IfOk result (AddsHead bits.old bits.new) }

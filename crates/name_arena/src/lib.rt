@@ -1,4 +1,5 @@
-//! An arena of names: byte strings that are added one after another and named by their places.
+//! Names: byte strings that are added one after another and named by their places, in an arena, or in a table that finds them
+//! again by their bytes.
 #![tactic(auto)]
 
 mod arena;

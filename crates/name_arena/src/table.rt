@@ -7,8 +7,8 @@ use crate::chains::Chains;
 use std::alloc::{AllocError, Global};
 use std::marker::Model;
 
-/// Names in the order in which they were added, each kept once, and an index from their bytes to their ids. Contracts see the
-/// list of them.
+/// Names in the order in which they were added, and an index from their bytes, which are kept once, to their ids. Contracts see
+/// the list of them.
 #[derive(Drop)]
 pub struct NameTable {
     alloc: Global,

@@ -74,3 +74,44 @@ fn names_of_a_chunk_each_are_got_again(rt: HostRuntime) {
 fn names_of_one_byte_are_got_again(rt: HostRuntime) {
     assert!(rt; keeps_names(rt.alloc(), 1_000, 1) == Ok(true));
 }
+
+/// Adds the beginnings of some bytes to a table, the shortest one first.
+fn push_beginnings(table: &mut NameTable, bytes: &[u8]) -> Result<(), AllocError> {
+    for count in 0..bytes.len() {
+        if table.len() < 1_000_000 {
+            table.push(&bytes[..count])?;
+        }
+    }
+    Ok(())
+}
+
+/// Whether a name is found at a place.
+fn is_found(table: &NameTable, name: &[u8], place: usize) -> bool {
+    match table.find(name) {
+        None => false,
+        Some(id) => id.place() == place && table.has(id) && table.get(id) == name,
+    }
+}
+
+/// Whether each of the beginnings of some bytes is found at its place.
+fn is_each_found(table: &NameTable, bytes: &[u8]) -> bool {
+    for place in 0..bytes.len() {
+        if !is_found(table, &bytes[..place], place) {
+            return false;
+        }
+    }
+    true
+}
+
+/// Whether the beginnings of so many bytes are found, and all of the bytes, which weren't added, aren't.
+fn finds_beginnings(alloc: Global, count: usize) -> Result<bool, AllocError> {
+    let bytes = some_bytes(alloc, count)?;
+    let mut table = NameTable::new(alloc);
+    push_beginnings(&mut table, &bytes)?;
+    Ok(is_each_found(&table, &bytes) && table.find(&bytes).is_none())
+}
+
+#[test]
+fn names_are_found_again(rt: HostRuntime) {
+    assert!(rt; finds_beginnings(rt.alloc(), 2_500) == Ok(true));
+}

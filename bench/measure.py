@@ -51,6 +51,21 @@ def wall_times(command, source, work):
     return times[1:]
 
 
+def usage_of(command, source):
+    """What the system counts of a run with that file as its standard input, whose standard output isn't kept."""
+    streams = [(os.POSIX_SPAWN_OPEN, 0, source, os.O_RDONLY, 0), (os.POSIX_SPAWN_OPEN, 1, os.devnull, os.O_WRONLY, 0)]
+    _, status, usage = os.wait4(os.posix_spawnp(command[0], command, os.environ, file_actions=streams), 0)
+    if status != 0:
+        raise subprocess.CalledProcessError(status, command)
+    return usage
+
+
+def processor_time(command, source=os.devnull):
+    """The seconds of processor time (user and system) of a run."""
+    usage = usage_of(command, source)
+    return usage.ru_utime + usage.ru_stime
+
+
 def peak_memory(command, source, work):
     """KiB of a run at its peak."""
     if os.access(GNU_TIME, os.X_OK):
@@ -58,11 +73,7 @@ def peak_memory(command, source, work):
         run([GNU_TIME, "-f", "%M", "-o", report] + command, source, check=True)
         with open(report) as file:
             return int(file.read())
-    streams = [(os.POSIX_SPAWN_OPEN, 0, source, os.O_RDONLY, 0), (os.POSIX_SPAWN_OPEN, 1, os.devnull, os.O_WRONLY, 0)]
-    _, status, usage = os.wait4(os.posix_spawnp(command[0], command, os.environ, file_actions=streams), 0)
-    if status != 0:
-        raise subprocess.CalledProcessError(status, command)
-    return usage.ru_maxrss
+    return usage_of(command, source).ru_maxrss
 
 
 def measure(commands, source, work):
@@ -79,23 +90,23 @@ def measure(commands, source, work):
         ours, theirs, ratio, low, high, memory[0], memory[1], memory[0] / memory[1])
 
 
-def line_of(tool, name, commands, source, work):
+def line_of(tool, name, commands, source, work, measured=measure):
     """The table's line of two commands with that standard input, and whether both are taken. `OUTPUT` among their words is a file
-    that each of them writes."""
-    head = "%-10s %-13s" % (tool, name)
+    that each of them writes. What is `measured` of them gives the line's part behind the name."""
+    head = "%-14s %-13s" % (tool, name)
     commands = [[os.path.join(work, output) if word == "OUTPUT" else word for word in command]
                 for command, output in zip(commands, ("first.out", "second.out"))]
     refusing = [shlex.join(command) for command in commands
                 if run(command, source, stderr=subprocess.DEVNULL).returncode != 0]
     if refusing:
         return "%s refused: %s" % (head, ", ".join(refusing)), False
-    return "%s %s" % (head, measure(commands, source, work)), True
+    return "%s %s" % (head, measured(commands, source, work)), True
 
 
 def write_table(first, second, lines, work):
     """Writes a table of commands with their names at its head, and tells whether all were taken."""
     heads = ("tool", "input", first + " ms", second + " ms", "ratio", "", first + " KiB", second + " KiB", "ratio")
-    print("%-10s %-13s %9s %9s %6s %14s %9s %9s %6s" % heads)
+    print("%-14s %-13s %9s %9s %6s %14s %9s %9s %6s" % heads)
     all_taken = True
     for tool, name, commands, source in lines:
         line, taken = line_of(tool, name, commands, source, work)

@@ -56,7 +56,7 @@ def usage_of(command, source):
     streams = [(os.POSIX_SPAWN_OPEN, 0, source, os.O_RDONLY, 0), (os.POSIX_SPAWN_OPEN, 1, os.devnull, os.O_WRONLY, 0)]
     _, status, usage = os.wait4(os.posix_spawnp(command[0], command, os.environ, file_actions=streams), 0)
     if status != 0:
-        raise subprocess.CalledProcessError(status, command)
+        raise subprocess.CalledProcessError(os.waitstatus_to_exitcode(status), command)
     return usage
 
 

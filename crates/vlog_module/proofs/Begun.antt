@@ -1,5 +1,5 @@
 -- Modules that grow item by item.
-use Rattle.std.proofs.Common.{◌≡◌, ℕ, zero, suc, List, [], ◌∷◌, ◌++◌, map, take, Some, slice_get, bytes_eq, All, ◌⊎◌, inl, inr, refl, sym, ap}
+use Rattle.std.proofs.Common.{◌≡◌, ℕ, zero, suc, List, [], ◌∷◌, ◌++◌, map, take, Some, slice_get, bytes_eq, All, ◌⊎◌, inl, inr, refl, ap}
 use Rattle.std.specs.List.{IsDistinct}
 use Rattle.vlog_module.specs.declared.item.Item.{Item}
 use Rattle.vlog_module.specs.declared.modules.Port.{Port}

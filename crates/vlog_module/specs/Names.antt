@@ -21,7 +21,7 @@ unfoldable pub reserved_words : List (List ℕ)
 reserved_words =
     codes "module" ∷ codes "endmodule" ∷ codes "input" ∷ codes "output" ∷ codes "reg" ∷ codes "wire" ∷ codes "assign"
     ∷ codes "always" ∷ codes "posedge" ∷ codes "negedge" ∷ codes "if" ∷ codes "begin" ∷ codes "end" ∷ codes "else"
-    ∷ codes "initial" ∷ []
+    ∷ codes "initial" ∷ codes "or" ∷ []
 
 abbrev pub is_reserved : List ℕ → Bool
 is_reserved bytes = list_any (λ word. bytes_eq word bytes) reserved_words

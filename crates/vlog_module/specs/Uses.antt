@@ -1,14 +1,14 @@
 -- The names of an item: what it declares, reads and assigns, from left to right in its text.
-use Rattle.std.specs.Prelude.{ℕ, List, [], ◌∷◌, ◌++◌}
+use Rattle.std.specs.Prelude.{ℕ, Bool, List, [], ◌∷◌, ◌++◌}
 use Rattle.vlog_module.specs.declared.sort.Sort.{Sort}
 use Rattle.vlog_module.specs.declared.sort.Sort.TheVariants.{Input, Output, Register, Word, Memory, Wire}
 use Rattle.vlog_module.specs.declared.atoms.Atom.{Atom}
 use Rattle.vlog_module.specs.declared.atoms.Atom.TheVariants.{Bit, Whole, Part}
 use Rattle.vlog_module.specs.declared.item.Lut.{Lut}
 use Rattle.vlog_module.specs.declared.item.Right.{Right}
-use Rattle.vlog_module.specs.declared.item.Right.TheVariants.{Bit as RightBit, Whole as RightWhole, Part as RightPart, Lut as RightLut, Majority}
+use Rattle.vlog_module.specs.declared.item.Right.TheVariants.{Bit as RightBit, Whole as RightWhole, Part as RightPart, Lut as RightLut, Majority, Choose}
 use Rattle.vlog_module.specs.declared.item.Item.{Item}
-use Rattle.vlog_module.specs.declared.item.Item.TheVariants.{Register as RegisterItem, Word as WordItem, Memory as MemoryItem, Wire as WireItem, Assign, Flip, Read, Write, Start}
+use Rattle.vlog_module.specs.declared.item.Item.TheVariants.{Register as RegisterItem, Word as WordItem, Memory as MemoryItem, Wire as WireItem, Assign, Flip, FlipAtOnce, SetAtOnce, Read, Write, Start}
 
 -- how an item uses a name
 pub data Use : Type 0 where
@@ -22,6 +22,10 @@ pub data Use : Type 0 where
   Takes : (sort : Sort) (name : List ℕ) → Use
   -- it assigns what the name is
   Assigns : (sort : Sort) (name : List ℕ) → Use
+  -- it reads the register that the name is, but for the time in which this wire is 1, when the value is the bit
+  Chooses : (reset : List ℕ) (set : Bool) (name : List ℕ) → Use
+  -- it assigns the register that the name is, which becomes the bit at once where this wire is 1
+  AssignsAtOnce : (reset : List ℕ) (set : Bool) (name : List ℕ) → Use
   -- it gives word k of the memory its start
   Starts : (name : List ℕ) (k : ℕ) → Use
 
@@ -32,6 +36,8 @@ used_name (Reads name) = name
 used_name (ReadsBit name k) = name
 used_name (Takes sort name) = name
 used_name (Assigns sort name) = name
+used_name (Chooses reset set name) = name
+used_name (AssignsAtOnce reset set name) = name
 used_name (Starts name k) = name
 
 abbrev pub atom_uses : Atom → List Use
@@ -53,6 +59,7 @@ right_uses (RightWhole name) = Reads name ∷ []
 right_uses (RightPart name k) = ReadsBit name k ∷ []
 right_uses (RightLut lut) = lut_uses lut
 right_uses (Majority a b c) = atom_uses a ++ atom_uses b ++ atom_uses c
+right_uses (Choose reset set target) = Takes Wire reset ∷ Chooses reset set target ∷ []
 
 -- the names of an item, without those that its text repeats
 abbrev pub uses_of : Item → List Use
@@ -63,6 +70,9 @@ uses_of (WireItem name right) = Declares Wire name ∷ right_uses right
 uses_of (Assign name value) = Assigns Output name ∷ atom_uses value
 uses_of (Flip falling clock enable reset set target lut) =
     Takes Input clock ∷ (atom_uses enable ++ atom_uses reset ++ Assigns Register target ∷ lut_uses lut)
+uses_of (FlipAtOnce falling clock reset set target enable lut) =
+    Takes Input clock ∷ Takes Wire reset ∷ AssignsAtOnce reset set target ∷ (atom_uses enable ++ lut_uses lut)
+uses_of (SetAtOnce reset set target) = Takes Wire reset ∷ AssignsAtOnce reset set target ∷ []
 uses_of (Read falling clock clock_enable enable target memory address) =
     Takes Input clock
     ∷ (atom_uses clock_enable ++ atom_uses enable ++ Assigns Word target ∷ Takes Memory memory ∷ atoms_uses address)

@@ -1,20 +1,20 @@
 -- Well-formed modules: which items may stand after others.
-use Rattle.std.specs.Prelude.{◌≡◌, ℕ, ◌<◌, ◌≤◌, nat_le, Bool, true, false, not, ◌&&◌, ◌||◌, ◌==◌, List, [], ◌∷◌, ◌++◌, Option, Some, None, is_none, bytes_eq, fold, map, flat_map, length, take, slice_get, if◌then◌else◌, IsTrue, All}
+use Rattle.std.specs.Prelude.{◌≡◌, ℕ, ◌<◌, ◌≤◌, Bool, true, false, not, ◌&&◌, ◌||◌, ◌==◌, List, [], ◌∷◌, ◌++◌, Option, Some, None, is_none, bytes_eq, fold, map, flat_map, length, take, slice_get, if◌then◌else◌, IsTrue, All}
+use Rattle.std.specs.Bool.{beq}
 use Rattle.std.specs.List.{list_all, list_any, IsDistinct}
 use Rattle.vlog_module.specs.declared.sort.Sort.{Sort}
 use Rattle.vlog_module.specs.declared.sort.Sort.TheVariants.{Input, Output, Register, Word, Memory, Wire}
-use Rattle.vlog_module.specs.declared.atoms.Atom.{Atom}
 use Rattle.vlog_module.specs.declared.item.Lut.{Lut}
 use Rattle.vlog_module.specs.declared.item.Right.{Right}
-use Rattle.vlog_module.specs.declared.item.Right.TheVariants.{Bit as RightBit, Whole as RightWhole, Part as RightPart, Lut as RightLut, Majority}
+use Rattle.vlog_module.specs.declared.item.Right.TheVariants.{Lut as RightLut}
 use Rattle.vlog_module.specs.declared.item.Item.{Item}
-use Rattle.vlog_module.specs.declared.item.Item.TheVariants.{Register as RegisterItem, Word as WordItem, Memory as MemoryItem, Wire as WireItem, Assign, Flip, Read, Write, Start}
+use Rattle.vlog_module.specs.declared.item.Item.TheVariants.{Register as RegisterItem, Word as WordItem, Memory as MemoryItem, Wire as WireItem, Assign, Flip, FlipAtOnce, SetAtOnce, Read, Write, Start}
 use Rattle.vlog_module.specs.declared.modules.Port.{Port}
 use Rattle.vlog_module.specs.Maps.{value_in}
 use Rattle.vlog_module.specs.Names.{IsName}
 use Rattle.vlog_module.specs.Parts.{Parts}
-use Rattle.vlog_module.specs.Uses.{Use, uses_of, used_name}
-use Rattle.vlog_module.specs.Uses.Use.{Declares, Reads, ReadsBit, Takes, Assigns, Starts}
+use Rattle.vlog_module.specs.Uses.{Use, uses_of, right_uses, used_name}
+use Rattle.vlog_module.specs.Uses.Use.{Declares, Reads, ReadsBit, Takes, Assigns, Chooses, AssignsAtOnce, Starts}
 
 -- ---- what stands before an item
 
@@ -26,6 +26,8 @@ section_of (MemoryItem name) = 4
 section_of (WireItem name right) = 5
 section_of (Assign name value) = 6
 section_of (Flip falling clock enable reset set target lut) = 7
+section_of (FlipAtOnce falling clock reset set target enable lut) = 7
+section_of (SetAtOnce reset set target) = 7
 section_of (Read falling clock clock_enable enable target memory address) = 8
 section_of (Write falling clock clock_enable enable memory address mask bits) = 9
 section_of (Start memory k word) = 10
@@ -41,6 +43,7 @@ declared_by _ = []
 -- a name that is assigned
 abbrev pub assigned_by : Use → List (List ℕ)
 assigned_by (Assigns sort name) = name ∷ []
+assigned_by (AssignsAtOnce reset set name) = name ∷ []
 assigned_by _ = []
 
 -- a memory and the place of a word of it that is given its start
@@ -48,10 +51,27 @@ abbrev pub started_by : Use → List (List ℕ × ℕ)
 started_by (Starts name k) = (name, k) ∷ []
 started_by _ = []
 
--- what items leave for those after them: the section of the last one, the declared names, and what is assigned
+-- how a wire reads a register: as it is, or but for the time in which a wire is 1, when the value is a bit
+pub data Reading : Type 0 where
+  plainly : Reading
+  unless : (reset : List ℕ) (set : Bool) → Reading
+
+-- a name that is read, and how
+abbrev pub read_by : Use → List (List ℕ × Reading)
+read_by (Reads name) = (name, plainly) ∷ []
+read_by (Chooses reset set name) = (name, unless reset set) ∷ []
+read_by _ = []
+
+-- what a wire reads
+abbrev pub wire_readings : Item → List (List ℕ × Reading)
+wire_readings (WireItem name right) = flat_map read_by (right_uses right)
+wire_readings _ = []
+
+-- what items leave for those after them: the section of the last one, the declared names, what wires read, and what is assigned
 pub record Scope : Type 0 where
   pub section : ℕ
   pub declared : List (List ℕ × Sort)
+  pub read : List (List ℕ × Reading)
   pub assigned : List (List ℕ)
   pub started : List (List ℕ × ℕ)
 
@@ -60,6 +80,7 @@ abbrev pub scope_of : List Port → List Item → Scope
 scope_of ports items = record {
   section = fold (λ before item. section_of item) 1 items;
   declared = map (λ port. (port.name, port_sort port)) ports ++ flat_map declared_by (flat_map uses_of items);
+  read = flat_map wire_readings items;
   assigned = flat_map assigned_by (flat_map uses_of items);
   started = flat_map started_by (flat_map uses_of items);
 }
@@ -92,19 +113,32 @@ has_bit (Some Register) = true
 has_bit (Some Wire) = true
 has_bit _ = false
 
--- whether the name is declared before as what it is used as
+-- whether a register is read but for the time in which this wire is 1, when the value is this bit
+abbrev pub is_unless : List ℕ → Bool → Reading → Bool
+is_unless reset set plainly = false
+is_unless reset set (unless other bit) = bytes_eq other reset && beq bit set
+
+-- whether each wire that reads the register does so but for the time in which this wire is 1
+abbrev pub is_read_unless : List (List ℕ × Reading) → List ℕ → Bool → List ℕ → Bool
+is_read_unless readings reset set name = list_all (λ one. not (bytes_eq one.0 name) || is_unless reset set one.1) readings
+
+-- whether the name is declared before as what it is used as, and a register that is assigned at once is read accordingly
 abbrev pub is_known : Scope → Use → Bool
 is_known scope (Declares sort name) = true
 is_known scope (Reads name) = has_bit (sort_in scope.declared name)
 is_known scope (ReadsBit name k) = is_sort Word (sort_in scope.declared name)
 is_known scope (Takes sort name) = is_sort sort (sort_in scope.declared name)
 is_known scope (Assigns sort name) = is_sort sort (sort_in scope.declared name)
+is_known scope (Chooses reset set name) = is_sort Register (sort_in scope.declared name)
+is_known scope (AssignsAtOnce reset set name) =
+    is_sort Register (sort_in scope.declared name) && is_read_unless scope.read reset set name
 is_known scope (Starts name k) = is_sort Memory (sort_in scope.declared name)
 
 -- whether nothing before declares the same name, or assigns the same
 abbrev pub is_first : Scope → Use → Bool
 is_first scope (Declares sort name) = is_none (sort_in scope.declared name)
 is_first scope (Assigns sort name) = not (list_any (λ other. bytes_eq other name) scope.assigned)
+is_first scope (AssignsAtOnce reset set name) = not (list_any (λ other. bytes_eq other name) scope.assigned)
 is_first scope (Starts name k) = not (list_any (λ other. bytes_eq other.0 name && (other.1 == k)) scope.started)
 is_first scope _ = true
 
@@ -127,6 +161,7 @@ abbrev pub IsShaped : Item → Type 0
 IsShaped (WordItem name start) = start < 65536
 IsShaped (WireItem name right) = IsRight right
 IsShaped (Flip falling clock enable reset set target lut) = IsLut lut
+IsShaped (FlipAtOnce falling clock reset set target enable lut) = IsLut lut
 IsShaped (Read falling clock clock_enable enable target memory address) = length address ≡ 8
 IsShaped (Write falling clock clock_enable enable memory address mask bits) =
     (length address ≡ 8) × (length mask ≡ 16) × (length bits ≡ 16)

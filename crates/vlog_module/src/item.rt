@@ -19,11 +19,24 @@ pub enum Right {
     /// An input, a register of one bit or an earlier wire.
     Whole(Name),
     /// Bit `k` of a register of 16 bits; bit 0 is the lowest.
-    Part { name: Name, k: u8 },
+    Part {
+        name: Name,
+        k: u8,
+    },
     /// A table of four atoms.
     Lut(Lut),
     /// What two of three atoms have: `(a & b) | (a & c) | (b & c)`.
-    Majority { a: Atom, b: Atom, c: Atom },
+    Majority {
+        a: Atom,
+        b: Atom,
+        c: Atom,
+    },
+    /// `reset ? set : target`: the bit where an earlier wire is 1, else a register of one bit.
+    Choose {
+        reset: Name,
+        set: bool,
+        target: Name,
+    },
 }
 
 /// An item. A module lists its items so that their sections, in the order below, don't fall.
@@ -63,6 +76,25 @@ pub enum Item {
         set: bool,
         target: Name,
         lut: Lut,
+    },
+    /// `always @(EDGE clock or posedge reset) if (reset) target <= set; else if (enable) target <= lut;`
+    FlipAtOnce {
+        /// Whether the edge of the clock is `negedge`.
+        falling: bool,
+        clock: Name,
+        /// A wire.
+        reset: Name,
+        set: bool,
+        target: Name,
+        enable: Atom,
+        lut: Lut,
+    },
+    /// `always @(posedge reset) target <= set;`: a flip-flop without a clock.
+    SetAtOnce {
+        /// A wire.
+        reset: Name,
+        set: bool,
+        target: Name,
     },
     /// `always @(EDGE clock) if (clock_enable & enable) target <= memory[address];`
     Read {

@@ -77,7 +77,7 @@ fn is_letter(byte: u8) -> bool
 }
 
 /// The words that the language keeps for itself.
-const RESERVED: [&str; 15] = [
+const RESERVED: [&str; 16] = [
     "module",
     "endmodule",
     "input",
@@ -93,6 +93,7 @@ const RESERVED: [&str; 15] = [
     "end",
     "else",
     "initial",
+    "or",
 ];
 
 /// Whether bytes are a reserved word.

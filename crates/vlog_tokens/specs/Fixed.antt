@@ -2,7 +2,7 @@
 use Rattle.std.specs.Prelude.{ℕ, ◌&&◌, List, ◌==◌, if◌then◌else◌, Option, Some, None, codes}
 use Rattle.std.specs.Str.{bytes_eq}
 use Rattle.vlog_tokens.specs.declared.fixed.Fixed.{Fixed}
-use Rattle.vlog_tokens.specs.declared.fixed.Fixed.TheVariants.{OpenParen, CloseParen, OpenBracket, CloseBracket, OpenBrace, CloseBrace, Comma, Semicolon, Colon, Equals, LessEquals, And, Or, Not, ShiftRight, At, Module, Endmodule, Input, Output, Reg, Wire, Assign, Always, Posedge, Negedge, If, Begin, End, Else, Initial}
+use Rattle.vlog_tokens.specs.declared.fixed.Fixed.TheVariants.{OpenParen, CloseParen, OpenBracket, CloseBracket, OpenBrace, CloseBrace, Comma, Semicolon, Colon, Equals, LessEquals, And, Or, Not, ShiftRight, At, Question, Module, Endmodule, Input, Output, Reg, Wire, Assign, Always, Posedge, Negedge, If, Begin, End, Else, Initial, OrEdge}
 
 -- how each is spelled
 abbrev pub fixed_text : Fixed → List ℕ
@@ -22,6 +22,7 @@ fixed_text Or = codes "|"
 fixed_text Not = codes "~"
 fixed_text ShiftRight = codes ">>"
 fixed_text At = codes "@"
+fixed_text Question = codes "?"
 fixed_text Module = codes "module"
 fixed_text Endmodule = codes "endmodule"
 fixed_text Input = codes "input"
@@ -37,6 +38,7 @@ fixed_text Begin = codes "begin"
 fixed_text End = codes "end"
 fixed_text Else = codes "else"
 fixed_text Initial = codes "initial"
+fixed_text OrEdge = codes "or"
 
 -- the reserved word of a spelling
 unfoldable pub word_of : List ℕ → Option Fixed
@@ -56,6 +58,7 @@ word_of text =
     if bytes_eq text (codes "end") then Some End else
     if bytes_eq text (codes "else") then Some Else else
     if bytes_eq text (codes "initial") then Some Initial else
+    if bytes_eq text (codes "or") then Some OrEdge else
     None
 
 -- the sign of two bytes
@@ -82,4 +85,5 @@ sign_of byte =
     if byte == 124 then Some Or else
     if byte == 126 then Some Not else
     if byte == 64 then Some At else
+    if byte == 63 then Some Question else
     None

@@ -21,6 +21,7 @@ pub enum Fixed {
     Not,
     ShiftRight,
     At,
+    Question,
     Module,
     Endmodule,
     Input,
@@ -36,6 +37,8 @@ pub enum Fixed {
     End,
     Else,
     Initial,
+    /// The word `or` between two edges.
+    OrEdge,
 }
 
 impl Fixed {
@@ -60,6 +63,7 @@ impl Fixed {
             Fixed::Not => b"~",
             Fixed::ShiftRight => b">>",
             Fixed::At => b"@",
+            Fixed::Question => b"?",
             Fixed::Module => b"module",
             Fixed::Endmodule => b"endmodule",
             Fixed::Input => b"input",
@@ -75,6 +79,7 @@ impl Fixed {
             Fixed::End => b"end",
             Fixed::Else => b"else",
             Fixed::Initial => b"initial",
+            Fixed::OrEdge => b"or",
         }
     }
 }
@@ -114,6 +119,8 @@ pub fn fixed_word(text: &[u8]) -> Option<Fixed>
         Some(Fixed::Else)
     } else if text == b"initial".as_slice() {
         Some(Fixed::Initial)
+    } else if text == b"or".as_slice() {
+        Some(Fixed::OrEdge)
     } else {
         None
     }
@@ -166,6 +173,8 @@ pub(crate) fn fixed_sign(byte: u8) -> Option<Fixed>
         Some(Fixed::Not)
     } else if byte == b'@' {
         Some(Fixed::At)
+    } else if byte == b'?' {
+        Some(Fixed::Question)
     } else {
         None
     }

@@ -1,10 +1,7 @@
 -- Bytes at places, and the first place that passes.
-use Rattle.std.proofs.Common.{◌≡◌, ℕ, ◌<◌, ◌≤◌, Bool, not, List, length, get_or, refl, arith, inl, inr}
-use Rattle.std.proofs.lemmas.Bool.{cases_lt, lt-ltb}
+use Rattle.std.proofs.Common.{◌≡◌, ℕ, ◌<◌, List, length, get_or, arith, inl, inr}
+use Rattle.std.proofs.lemmas.Bool.{cases_lt}
 use Rattle.std.proofs.lemmas.List.{get_or_past}
-use Rattle.std.proofs.lemmas.List.Sums.{prefix_len-le-length}
-use Rattle.std.specs.Prelude.{None, Some, position}
-use Rattle.std.specs.List.{position_or_len}
 
 -- a byte that isn't 0 stands within the text
 pub present : (bytes : List ℕ) (place : ℕ) → 0 < get_or bytes place 0 → place < length bytes

@@ -35,6 +35,7 @@ fixed-sort sign.Or = as_sign 124 refl refl refl refl
 fixed-sort sign.Not = as_sign 126 refl refl refl refl
 fixed-sort sign.ShiftRight = as_pair 62 62 refl refl refl refl
 fixed-sort sign.At = as_sign 64 refl refl refl refl
+fixed-sort sign.Question = as_sign 63 refl refl refl refl
 fixed-sort sign.Module = as_word refl refl refl
 fixed-sort sign.Endmodule = as_word refl refl refl
 fixed-sort sign.Input = as_word refl refl refl
@@ -50,6 +51,7 @@ fixed-sort sign.Begin = as_word refl refl refl
 fixed-sort sign.End = as_word refl refl refl
 fixed-sort sign.Else = as_word refl refl refl
 fixed-sort sign.Initial = as_word refl refl refl
+fixed-sort sign.OrEdge = as_word refl refl refl
 
 -- ---- what is found by a spelling has that spelling
 
@@ -75,6 +77,7 @@ all_words =
     (codes "end", sign.End) ∷
     (codes "else", sign.Else) ∷
     (codes "initial", sign.Initial) ∷
+    (codes "or", sign.OrEdge) ∷
     []
 
 abbrev all_signs : List (ℕ × Fixed)
@@ -93,6 +96,7 @@ all_signs =
     (124, sign.Or) ∷
     (126, sign.Not) ∷
     (64, sign.At) ∷
+    (63, sign.Question) ∷
     []
 
 -- each of the words stands beside its spelling

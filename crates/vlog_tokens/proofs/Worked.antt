@@ -1,7 +1,7 @@
 -- The definition of tokens on small texts.
 use Rattle.std.proofs.Common.{◌≡◌, true, false, [], ◌∷◌, refl}
 use Rattle.std.specs.Prelude.{codes}
-use Rattle.vlog_tokens.specs.declared.fixed.Fixed.TheVariants.{Equals, LessEquals, Reg, Semicolon, ShiftRight}
+use Rattle.vlog_tokens.specs.declared.fixed.Fixed.TheVariants.{Equals, LessEquals, OrEdge, Question, Reg, Semicolon, ShiftRight}
 use Rattle.vlog_tokens.specs.Fixed.{pair_of, sign_of, word_of}
 use Rattle.vlog_tokens.specs.Tokens.{digits_length, digits_token, front_length, front_token, name_or_word, sign_length, sign_token, spot, spots_from, spots_of}
 use Rattle.vlog_tokens.specs.Tokens.{TokenValue as token}
@@ -28,3 +28,8 @@ shorter = refl
 strays : spots_of (codes " /\t<\r\n>") ≡ spot 1 token.stray ∷ spot 3 token.stray ∷ spot 6 token.stray ∷ []
 unfolding spots_from front_token front_length digits_token digits_length sign_token sign_length name_or_word word_of pair_of sign_of
 strays = refl
+
+-- `or` is a reserved word, and a name may begin with it
+no_name : spots_of (codes "s?or ore") ≡ spot 0 (token.name (codes "s")) ∷ spot 1 (token.fixed Question) ∷ spot 2 (token.fixed OrEdge) ∷ spot 5 (token.name (codes "ore")) ∷ []
+unfolding spots_from front_token front_length digits_token digits_length sign_token sign_length name_or_word word_of pair_of sign_of
+no_name = refl

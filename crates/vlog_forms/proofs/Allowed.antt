@@ -1,6 +1,6 @@
 -- An item without a fault is allowed.
-use Rattle.std.proofs.Common.{◌≡◌, ℕ, zero, suc, ◌<◌, ◌≤◌, Bool, true, false, not, ◌&&◌, List, [], ◌∷◌, length, drop, reverse, refl, ap, sym, ◌∙◌, subst, arith, inl, inr}
-use Rattle.std.proofs.lemmas.Bool.{leb-true, cases_lt, lt-ltb, and_parts, ltb-false}
+use Rattle.std.proofs.Common.{◌≡◌, ℕ, ◌+◌, zero, suc, ◌<◌, ◌≤◌, Bool, true, false, not, ◌&&◌, List, [], ◌∷◌, length, drop, reverse, refl, ap, sym, ◌∙◌, subst, arith}
+use Rattle.std.proofs.lemmas.Bool.{leb-true, and_parts, ltb-false}
 use Rattle.std.proofs.lemmas.List.{length-reverse}
 use Rattle.std.proofs.lemmas.List.Elements.{All-nil, All-cons, All-append}
 use Rattle.std.specs.Prelude.{Option, Some, None, if◌then◌else◌, nat_le, nat_lt, All, IsTrue}
@@ -14,7 +14,7 @@ use Rattle.vlog_forms.specs.declared.form.Form.{Form}
 use Rattle.vlog_forms.specs.declared.form.Form.TheVariants as form
 use Rattle.vlog_forms.specs.declared.fault.VlogCause.TheVariants.{Order, Undeclared, AssignedTwice}
 use Rattle.vlog_forms.specs.declared.slot.Role.{Role}
-use Rattle.vlog_forms.specs.declared.slot.Role.TheVariants.{Declares, Reads, ReadsBit, Takes, Assigns, Starts}
+use Rattle.vlog_forms.specs.declared.slot.Role.TheVariants.{Declares, Reads, ReadsBit, Takes, Assigns, Chooses, AssignsAtOnce, Starts}
 use Rattle.vlog_forms.specs.declared.slot.Slot.{Slot}
 use Rattle.vlog_forms.specs.declared.slot.Slot.TheVariants as slot
 use Rattle.vlog_forms.specs.Values.{Value}
@@ -22,7 +22,7 @@ use Rattle.vlog_forms.specs.Values.Value.{Name, Edge, Bit, Word, Index, AnAtom}
 use Rattle.vlog_forms.specs.Layout.{slots_of}
 use Rattle.vlog_forms.specs.Items.{item_of, index_in, word_in, atoms_in, behind}
 use Rattle.vlog_forms.specs.Reading.{Found, values_of}
-use Rattle.vlog_forms.specs.Outcome.{Fault, fault, role_use, value_uses, uses_in, use_fault, or_fault, name_fault, item_fault}
+use Rattle.vlog_forms.specs.Outcome.{Fault, fault, role_use, value_uses, uses_from, uses_in, use_fault, or_fault, fault_from, name_fault, item_fault}
 use Rattle.vlog_forms.proofs.SlotLists.{FitAll}
 use Rattle.vlog_forms.proofs.Rebuilt.{rebuilt-fit, is_item, values-rebuilt}
 use Rattle.vlog_forms.proofs.Uses.{uses-of-values}
@@ -53,14 +53,16 @@ or_parts : (one other : Option Fault) → or_fault one other ≡ None → (one �
 or_parts (Some fault) other none = absurd cc
 or_parts None other none = (refl, none)
 
-names-allowed : (scope : Scope) (found : List Found) → name_fault scope found ≡ None → All (Known scope) (uses_in (values_of found)) × All (First scope) (uses_in (values_of found))
-names-allowed scope [] none = (All-nil (Known scope), All-nil (First scope))
-names-allowed scope (one ∷ found) none =
-    let uses : List Use = value_uses one.value (index_in (values_of found)) in
-    let parts = or_parts (use_fault scope one.offset uses) (name_fault scope found) none in
+names-allowed : (scope : Scope) (all : List Value) (place : ℕ) (found : List Found) → fault_from scope all place found ≡ None
+    → All (Known scope) (uses_from all place (values_of found)) × All (First scope) (uses_from all place (values_of found))
+names-allowed scope all place [] none = (All-nil (Known scope), All-nil (First scope))
+names-allowed scope all place (one ∷ found) none =
+    let uses : List Use = value_uses one.value all place in
+    let others : List Use = uses_from all (place + 1) (values_of found) in
+    let parts = or_parts (use_fault scope one.offset uses) (fault_from scope all (place + 1) found) none in
     let here = uses-allowed scope one.offset uses parts.0 in
-    let more = names-allowed scope found parts.1 in
-    (All-append (Known scope) uses (uses_in (values_of found)) here.0 more.0, All-append (First scope) uses (uses_in (values_of found)) here.1 more.1)
+    let more = names-allowed scope all (place + 1) found parts.1 in
+    (All-append (Known scope) uses others here.0 more.0, All-append (First scope) uses others here.1 more.1)
 
 -- ---- numbers in range
 
@@ -105,39 +107,62 @@ are_limited [] = true
 are_limited (slot.Name role ∷ slots) = role_within role (next_limit slots) && are_limited slots
 are_limited (_ ∷ slots) = are_limited slots
 
-role-ranged : (role : Role) (name : List ℕ) (k limit : ℕ) → k ≤ limit → role_within role limit ≡ true → IsInRange (role_use role name k)
-role-ranged (Declares sort) name k limit within limited = tt
-role-ranged Reads name k limit within limited = tt
-role-ranged ReadsBit name k limit within limited = let top : limit ≤ 15 = leb-true limit 15 limited in omega arith
-role-ranged (Takes sort) name k limit within limited = tt
-role-ranged (Assigns sort) name k limit within limited = tt
-role-ranged Starts name k limit within limited = let top : limit ≤ 255 = leb-true limit 255 limited in omega arith
+role-ranged : (role : Role) (all : List Value) (place : ℕ) (name : List ℕ) (limit : ℕ) → index_in (behind (place + 1) all) ≤ limit → role_within role limit ≡ true → IsInRange (role_use role all place name)
+role-ranged (Declares sort) all place name limit within limited = tt
+role-ranged Reads all place name limit within limited = tt
+role-ranged ReadsBit all place name limit within limited = let top : limit ≤ 15 = leb-true limit 15 limited in omega arith
+role-ranged (Takes sort) all place name limit within limited = tt
+role-ranged (Assigns sort) all place name limit within limited = tt
+role-ranged Chooses all place name limit within limited = tt
+role-ranged AssignsAtOnce all place name limit within limited = tt
+role-ranged Starts all place name limit within limited = let top : limit ≤ 255 = leb-true limit 255 limited in omega arith
 
-uses-ranged : (slots : List Slot) (values : List Value) → FitAll slots values → are_limited slots ≡ true → All IsInRange (uses_in values)
+behind-next : (n : ℕ) (values : List Value) → behind (suc n) values ≡ drop 1 (behind n values)
+unfolding behind
+behind-next zero values = refl
+behind-next (suc n) values = behind-next n (drop 1 values)
+
+behind-none : (values : List Value) → behind 0 values ≡ values
+unfolding behind
+behind-none values = refl
+
+-- the values behind the first of those that stand from a place on
+rest-behind : (all : List Value) (place : ℕ) (value : Value) (values : List Value) → behind place all ≡ value ∷ values → behind (place + 1) all ≡ values
+rest-behind all place value values is =
+    let one : place + 1 ≡ suc place = omega arith in
+    ap (λ n. behind n all) one ∙ behind-next place all ∙ ap (drop 1) is
+
+uses-ranged : (slots : List Slot) (all : List Value) (place : ℕ) (values : List Value) → behind place all ≡ values → FitAll slots values → are_limited slots ≡ true
+    → All IsInRange (uses_from all place values)
 unfolding FitAll are_limited
-uses-ranged [] [] fit limited = All-nil IsInRange
-uses-ranged [] (value ∷ values) fit limited = absurd fit
-uses-ranged (slot.Name role ∷ slots) (Name other name ∷ values) fit limited =
+uses-ranged [] all place [] is fit limited = All-nil IsInRange
+uses-ranged [] all place (value ∷ values) is fit limited = absurd fit
+uses-ranged (slot.Name role ∷ slots) all place (Name other name ∷ values) is fit limited =
+    let rest : behind (place + 1) all ≡ values = rest-behind all place (Name other name) values is in
     let parts = and_parts (role_within role (next_limit slots)) (are_limited slots) limited in
     let here : role_within other (next_limit slots) ≡ true = ap (λ r. role_within r (next_limit slots)) fit.0 ∙ parts.0 in
-    All-cons IsInRange (role_use other name (index_in values)) (uses_in values)
-    (role-ranged other name (index_in values) (next_limit slots) (index-within slots values fit.1) here) (uses-ranged slots values fit.1 parts.1)
-uses-ranged (slot.Edge ∷ slots) (Edge falling ∷ values) fit limited = uses-ranged slots values fit.1 limited
-uses-ranged (slot.Bit ∷ slots) (Bit bit ∷ values) fit limited = uses-ranged slots values fit.1 limited
-uses-ranged (slot.Word ∷ slots) (Word word ∷ values) fit limited = uses-ranged slots values fit.1 limited
-uses-ranged (slot.Index limit ∷ slots) (Index k ∷ values) fit limited = uses-ranged slots values fit.1 limited
-uses-ranged (slot.Atom ∷ slots) (AnAtom (atom.Bit bit) ∷ values) fit limited = uses-ranged slots values fit.1 limited
-uses-ranged (slot.Atom ∷ slots) (AnAtom (atom.Whole name) ∷ values) fit limited =
-    All-cons IsInRange (ReadsName name) (uses_in values) tt (uses-ranged slots values fit.1 limited)
-uses-ranged (slot.Atom ∷ slots) (AnAtom (atom.Part name k) ∷ values) fit limited =
-    All-cons IsInRange (ReadsPart name k) (uses_in values) (leb-true k 15 fit.0) (uses-ranged slots values fit.1 limited)
-uses-ranged (slot.Space ∷ slots) values fit limited = uses-ranged slots values fit.1 limited
-uses-ranged (slot.Fixed fixed ∷ slots) values fit limited = uses-ranged slots values fit.1 limited
-uses-ranged (slot.Literal number ∷ slots) values fit limited = uses-ranged slots values fit.1 limited
-uses-ranged (slot.Again place ∷ slots) values fit limited = uses-ranged slots values fit.1 limited
-uses-ranged (slot.AtomsAgain first n ∷ slots) values fit limited = uses-ranged slots values fit.1 limited
-uses-ranged (slot.Atoms n ∷ slots) values fit limited = uses-ranged slots values fit.1 limited
-uses-ranged (wanted ∷ slots) values fit limited = absurd fit.0
+    let within : index_in (behind (place + 1) all) ≤ next_limit slots
+    = subst (λ (v : List Value). index_in v ≤ next_limit slots) (sym rest) (index-within slots values fit.1) in
+    All-cons IsInRange (role_use other all place name) (uses_from all (place + 1) values)
+    (role-ranged other all place name (next_limit slots) within here) (uses-ranged slots all (place + 1) values rest fit.1 parts.1)
+uses-ranged (slot.Edge ∷ slots) all place (Edge falling ∷ values) is fit limited = uses-ranged slots all (place + 1) values (rest-behind all place (Edge falling) values is) fit.1 limited
+uses-ranged (slot.Bit ∷ slots) all place (Bit bit ∷ values) is fit limited = uses-ranged slots all (place + 1) values (rest-behind all place (Bit bit) values is) fit.1 limited
+uses-ranged (slot.Word ∷ slots) all place (Word word ∷ values) is fit limited = uses-ranged slots all (place + 1) values (rest-behind all place (Word word) values is) fit.1 limited
+uses-ranged (slot.Index limit ∷ slots) all place (Index k ∷ values) is fit limited = uses-ranged slots all (place + 1) values (rest-behind all place (Index k) values is) fit.1 limited
+uses-ranged (slot.Atom ∷ slots) all place (AnAtom (atom.Bit bit) ∷ values) is fit limited = uses-ranged slots all (place + 1) values (rest-behind all place (AnAtom (atom.Bit bit)) values is) fit.1 limited
+uses-ranged (slot.Atom ∷ slots) all place (AnAtom (atom.Whole name) ∷ values) is fit limited =
+    All-cons IsInRange (ReadsName name) (uses_from all (place + 1) values) tt
+    (uses-ranged slots all (place + 1) values (rest-behind all place (AnAtom (atom.Whole name)) values is) fit.1 limited)
+uses-ranged (slot.Atom ∷ slots) all place (AnAtom (atom.Part name k) ∷ values) is fit limited =
+    All-cons IsInRange (ReadsPart name k) (uses_from all (place + 1) values) (leb-true k 15 fit.0)
+    (uses-ranged slots all (place + 1) values (rest-behind all place (AnAtom (atom.Part name k)) values is) fit.1 limited)
+uses-ranged (slot.Space ∷ slots) all place values is fit limited = uses-ranged slots all place values is fit.1 limited
+uses-ranged (slot.Fixed fixed ∷ slots) all place values is fit limited = uses-ranged slots all place values is fit.1 limited
+uses-ranged (slot.Literal number ∷ slots) all place values is fit limited = uses-ranged slots all place values is fit.1 limited
+uses-ranged (slot.Again place_before ∷ slots) all place values is fit limited = uses-ranged slots all place values is fit.1 limited
+uses-ranged (slot.AtomsAgain first n ∷ slots) all place values is fit limited = uses-ranged slots all place values is fit.1 limited
+uses-ranged (slot.Atoms n ∷ slots) all place values is fit limited = uses-ranged slots all place values is fit.1 limited
+uses-ranged (wanted ∷ slots) all place values is fit limited = absurd fit.0
 
 form-limited : (one : Form) → are_limited (slots_of one) ≡ true
 unfolding slots_of are_limited next_limit
@@ -151,8 +176,11 @@ form-limited form.WireWhole = refl
 form-limited form.WirePart = refl
 form-limited form.WireLut = refl
 form-limited form.WireMajority = refl
+form-limited form.WireChoose = refl
 form-limited form.Assign = refl
 form-limited form.Flip = refl
+form-limited form.FlipAtOnce = refl
+form-limited form.SetAtOnce = refl
 form-limited form.Read = refl
 form-limited form.Write = refl
 form-limited form.Start = refl
@@ -163,25 +191,29 @@ form-limited form.End = refl
 abbrev Named : Use → Type 0
 Named used = IsName (used_name used)
 
-role-named : (role : Role) (name : List ℕ) (k : ℕ) → IsName name → Named (role_use role name k)
-role-named (Declares sort) name k named = named
-role-named Reads name k named = named
-role-named ReadsBit name k named = named
-role-named (Takes sort) name k named = named
-role-named (Assigns sort) name k named = named
-role-named Starts name k named = named
+role-named : (role : Role) (all : List Value) (place : ℕ) (name : List ℕ) → IsName name → Named (role_use role all place name)
+role-named (Declares sort) all place name named = named
+role-named Reads all place name named = named
+role-named ReadsBit all place name named = named
+role-named (Takes sort) all place name named = named
+role-named (Assigns sort) all place name named = named
+role-named Chooses all place name named = named
+role-named AssignsAtOnce all place name named = named
+role-named Starts all place name named = named
 
-uses-named : (values : List Value) → AreSoundValues values → All Named (uses_in values)
-uses-named [] sound = All-nil Named
-uses-named (Name role name ∷ values) sound =
-    All-cons Named (role_use role name (index_in values)) (uses_in values) (role-named role name (index_in values) sound.0) (uses-named values sound.1)
-uses-named (Edge falling ∷ values) sound = uses-named values sound.1
-uses-named (Bit bit ∷ values) sound = uses-named values sound.1
-uses-named (Word word ∷ values) sound = uses-named values sound.1
-uses-named (Index k ∷ values) sound = uses-named values sound.1
-uses-named (AnAtom (atom.Bit bit) ∷ values) sound = uses-named values sound.1
-uses-named (AnAtom (atom.Whole name) ∷ values) sound = All-cons Named (ReadsName name) (uses_in values) sound.0 (uses-named values sound.1)
-uses-named (AnAtom (atom.Part name k) ∷ values) sound = All-cons Named (ReadsPart name k) (uses_in values) sound.0 (uses-named values sound.1)
+uses-named : (all : List Value) (place : ℕ) (values : List Value) → AreSoundValues values → All Named (uses_from all place values)
+uses-named all place [] sound = All-nil Named
+uses-named all place (Name role name ∷ values) sound =
+    All-cons Named (role_use role all place name) (uses_from all (place + 1) values) (role-named role all place name sound.0) (uses-named all (place + 1) values sound.1)
+uses-named all place (Edge falling ∷ values) sound = uses-named all (place + 1) values sound.1
+uses-named all place (Bit bit ∷ values) sound = uses-named all (place + 1) values sound.1
+uses-named all place (Word word ∷ values) sound = uses-named all (place + 1) values sound.1
+uses-named all place (Index k ∷ values) sound = uses-named all (place + 1) values sound.1
+uses-named all place (AnAtom (atom.Bit bit) ∷ values) sound = uses-named all (place + 1) values sound.1
+uses-named all place (AnAtom (atom.Whole name) ∷ values) sound =
+    All-cons Named (ReadsName name) (uses_from all (place + 1) values) sound.0 (uses-named all (place + 1) values sound.1)
+uses-named all place (AnAtom (atom.Part name k) ∷ values) sound =
+    All-cons Named (ReadsPart name k) (uses_from all (place + 1) values) sound.0 (uses-named all (place + 1) values sound.1)
 
 -- ---- sizes
 
@@ -220,8 +252,11 @@ item-shaped form.WireWhole v sound = tt
 item-shaped form.WirePart v sound = tt
 item-shaped form.WireLut v sound = (word-small (behind 1 v) (sound-behind 1 v sound), list-count 4 (drop 1 (behind 1 v)))
 item-shaped form.WireMajority v sound = tt
+item-shaped form.WireChoose v sound = tt
 item-shaped form.Assign v sound = tt
 item-shaped form.Flip v sound = (word-small (behind 6 v) (sound-behind 6 v sound), list-count 4 (drop 1 (behind 6 v)))
+item-shaped form.FlipAtOnce v sound = (word-small (behind 6 v) (sound-behind 6 v sound), list-count 4 (drop 1 (behind 6 v)))
+item-shaped form.SetAtOnce v sound = tt
 item-shaped form.Read v sound = list-count 8 (behind 6 v)
 item-shaped form.Write v sound = (list-count 8 (behind 5 v), list-count 16 (behind 13 v), list-count 16 (behind 29 v))
 item-shaped form.Start v sound = word-small (behind 2 v) (sound-behind 2 v sound)
@@ -240,12 +275,12 @@ item-allowed scope offset one found is fit sound none =
     let made : Item = item_of one v in
     let parts = fault_case (nat_lt (section_of made) scope.section) offset (name_fault scope found) none in
     let uses : uses_in v ≡ uses_of made = ap uses_in (sym (values-rebuilt one v is ∙ rebuilt-fit (slots_of one) v fit)) ∙ uses-of-values made in
-    let names = names-allowed scope found parts.1 in
+    let names = names-allowed scope v 0 found parts.1 in
     record {
       shaped = item-shaped one v sound;
       ordered = ltb-false (section_of made) scope.section parts.0;
-      named = subst (All Named) uses (uses-named v sound);
-      in_range = subst (All IsInRange) uses (uses-ranged (slots_of one) v fit (form-limited one));
+      named = subst (All Named) uses (uses-named v 0 v sound);
+      in_range = subst (All IsInRange) uses (uses-ranged (slots_of one) v 0 v (behind-none v) fit (form-limited one));
       known = subst (All (Known scope)) uses names.0;
       first = subst (All (First scope)) uses names.1;
     }

@@ -24,12 +24,15 @@ among-all form.WireWhole = later (later (later (later (later (later here)))))
 among-all form.WirePart = later (later (later (later (later (later (later here))))))
 among-all form.WireLut = later (later (later (later (later (later (later (later here)))))))
 among-all form.WireMajority = later (later (later (later (later (later (later (later (later here))))))))
-among-all form.Assign = later (later (later (later (later (later (later (later (later (later here)))))))))
-among-all form.Flip = later (later (later (later (later (later (later (later (later (later (later here))))))))))
-among-all form.Read = later (later (later (later (later (later (later (later (later (later (later (later here)))))))))))
-among-all form.Write = later (later (later (later (later (later (later (later (later (later (later (later (later here))))))))))))
-among-all form.Start = later (later (later (later (later (later (later (later (later (later (later (later (later (later here)))))))))))))
-among-all form.End = later (later (later (later (later (later (later (later (later (later (later (later (later (later (later here))))))))))))))
+among-all form.WireChoose = later (later (later (later (later (later (later (later (later (later here)))))))))
+among-all form.Assign = later (later (later (later (later (later (later (later (later (later (later here))))))))))
+among-all form.Flip = later (later (later (later (later (later (later (later (later (later (later (later here)))))))))))
+among-all form.FlipAtOnce = later (later (later (later (later (later (later (later (later (later (later (later (later here))))))))))))
+among-all form.SetAtOnce = later (later (later (later (later (later (later (later (later (later (later (later (later (later here)))))))))))))
+among-all form.Read = later (later (later (later (later (later (later (later (later (later (later (later (later (later (later here))))))))))))))
+among-all form.Write = later (later (later (later (later (later (later (later (later (later (later (later (later (later (later (later here)))))))))))))))
+among-all form.Start = later (later (later (later (later (later (later (later (later (later (later (later (later (later (later (later (later here))))))))))))))))
+among-all form.End = later (later (later (later (later (later (later (later (later (later (later (later (later (later (later (later (later (later here)))))))))))))))))
 
 -- a form that was read
 pub record IsRead (end : ℕ) (given : List Found) (forms : List Form) (spots : List Spot) (whole : Whole) : Type 0 where
@@ -89,8 +92,11 @@ form-sound form.WireWhole = record { closed = refl; before = refl }
 form-sound form.WirePart = record { closed = refl; before = refl }
 form-sound form.WireLut = record { closed = refl; before = refl }
 form-sound form.WireMajority = record { closed = refl; before = refl }
+form-sound form.WireChoose = record { closed = refl; before = refl }
 form-sound form.Assign = record { closed = refl; before = refl }
 form-sound form.Flip = record { closed = refl; before = refl }
+form-sound form.FlipAtOnce = record { closed = refl; before = refl }
+form-sound form.SetAtOnce = record { closed = refl; before = refl }
 form-sound form.Read = record { closed = refl; before = refl }
 form-sound form.Write = record { closed = refl; before = refl }
 form-sound form.Start = record { closed = refl; before = refl }

@@ -1,9 +1,9 @@
 -- The items of a well-formed module are read without a fault.
-use Rattle.std.proofs.Common.{◌≡◌, ℕ, zero, suc, ◌<◌, ◌≤◌, Bool, true, false, not, List, [], ◌∷◌, ◌++◌, length, refl, ap, sym, ◌∙◌, subst, append_assoc, arith}
-use Rattle.std.proofs.lemmas.Bool.{le-leb, ltb-true, le-ltb}
+use Rattle.std.proofs.Common.{◌≡◌, ℕ, ◌+◌, zero, suc, ◌<◌, true, false, not, List, [], ◌∷◌, ◌++◌, length, refl, ap, sym, ◌∙◌, subst, append_assoc, arith}
+use Rattle.std.proofs.lemmas.Bool.{le-leb, le-ltb}
 use Rattle.std.proofs.lemmas.List.{append-nil}
 use Rattle.std.proofs.lemmas.List.Elements.{All-head, All-tail}
-use Rattle.std.specs.Prelude.{Ok, Err, Some, None, if◌then◌else◌, nat_le, nat_lt, All, flat_map, IsTrue}
+use Rattle.std.specs.Prelude.{Ok, Err, Some, None, if◌then◌else◌, nat_le, All, flat_map, IsTrue}
 use Rattle.vlog_tokens.specs.declared.fixed.Fixed.TheVariants as sign
 use Rattle.vlog_tokens.specs.Tokens.{TokenValue, Spot}
 use Rattle.vlog_tokens.specs.Tokens.{TokenValue as token}
@@ -21,29 +21,32 @@ use Rattle.vlog_forms.specs.declared.fault.VlogCause.TheVariants.{Order, Undecla
 use Rattle.vlog_forms.specs.Values.{Value}
 use Rattle.vlog_forms.specs.Values.Value.{Name, Edge, Bit, Word, Index, AnAtom}
 use Rattle.vlog_forms.specs.Layout.{slots_of}
-use Rattle.vlog_forms.specs.Items.{item_of, item_form, item_values, item_tokens, tokens_in, index_in}
+use Rattle.vlog_forms.specs.Items.{item_of, item_form, item_values, item_tokens, tokens_in}
 use Rattle.vlog_forms.specs.Reading.{Found, values_of, offset_of, Whole}
-use Rattle.vlog_forms.specs.Outcome.{fault, role_use, value_uses, uses_in, use_fault, or_fault, name_fault, item_fault, unless_fault, after, are_assigned, at_end, ending, is_end, module_of, with_item, item_outcome, items_outcome}
+use Rattle.vlog_forms.specs.Outcome.{fault, role_use, value_uses, uses_from, uses_in, use_fault, or_fault, fault_from, name_fault, item_fault, unless_fault, after, are_assigned, at_end, ending, is_end, module_of, with_item, item_outcome, items_outcome}
 use Rattle.vlog_forms.proofs.Rebuilt.{item-back}
 use Rattle.vlog_forms.proofs.Uses.{uses-of-values}
 use Rattle.vlog_forms.proofs.ItemRead.{AreRanged, AreSmall, are_indexless, ranged-small, item-read, end-read}
 
 -- ---- numbers in range
 
-small-uses : (values : List Value) → All IsInRange (uses_in values) → AreSmall values
-small-uses [] ranged = tt
-small-uses (AnAtom (atom.Bit bit) ∷ values) ranged = (tt, small-uses values ranged)
-small-uses (AnAtom (atom.Whole name) ∷ values) ranged = (tt, small-uses values (All-tail IsInRange (Reads name) (uses_in values) ranged))
-small-uses (AnAtom (atom.Part name k) ∷ values) ranged =
-    (le-leb k 15 (All-head IsInRange (ReadsBit name k) (uses_in values) ranged), small-uses values (All-tail IsInRange (ReadsBit name k) (uses_in values) ranged))
-small-uses (Name role name ∷ values) ranged = small-uses values (All-tail IsInRange (role_use role name (index_in values)) (uses_in values) ranged)
-small-uses (Edge falling ∷ values) ranged = small-uses values ranged
-small-uses (Bit bit ∷ values) ranged = small-uses values ranged
-small-uses (Word word ∷ values) ranged = small-uses values ranged
-small-uses (Index k ∷ values) ranged = small-uses values ranged
+small-uses : (all : List Value) (place : ℕ) (values : List Value) → All IsInRange (uses_from all place values) → AreSmall values
+small-uses all place [] ranged = tt
+small-uses all place (AnAtom (atom.Bit bit) ∷ values) ranged = (tt, small-uses all (place + 1) values ranged)
+small-uses all place (AnAtom (atom.Whole name) ∷ values) ranged =
+    (tt, small-uses all (place + 1) values (All-tail IsInRange (Reads name) (uses_from all (place + 1) values) ranged))
+small-uses all place (AnAtom (atom.Part name k) ∷ values) ranged =
+    let more : List Use = uses_from all (place + 1) values in
+    (le-leb k 15 (All-head IsInRange (ReadsBit name k) more ranged), small-uses all (place + 1) values (All-tail IsInRange (ReadsBit name k) more ranged))
+small-uses all place (Name role name ∷ values) ranged =
+    small-uses all (place + 1) values (All-tail IsInRange (role_use role all place name) (uses_from all (place + 1) values) ranged)
+small-uses all place (Edge falling ∷ values) ranged = small-uses all (place + 1) values ranged
+small-uses all place (Bit bit ∷ values) ranged = small-uses all (place + 1) values ranged
+small-uses all place (Word word ∷ values) ranged = small-uses all (place + 1) values ranged
+small-uses all place (Index k ∷ values) ranged = small-uses all (place + 1) values ranged
 
 item-small : (one : Item) → All IsInRange (uses_of one) → AreSmall (item_values one)
-item-small one ranged = small-uses (item_values one) (subst (All IsInRange) (sym (uses-of-values one)) ranged)
+item-small one ranged = small-uses (item_values one) 0 (item_values one) (subst (All IsInRange) (sym (uses-of-values one)) ranged)
 
 -- the numbers of an item are in the ranges of its form
 pub item-ranged : (one : Item) → All IsInRange (uses_of one) → AreRanged (slots_of (item_form one)) (item_values one)
@@ -58,9 +61,15 @@ item-ranged (item.Wire name (right.Part source k)) ranged =
     (tt, (tt, (tt, (tt, (tt, (tt, (tt, (tt, (small, (tt, (tt, tt)))))))))))
 item-ranged (item.Wire name (right.Lut lut)) ranged = ranged-small (slots_of form.WireLut) (item_values (item.Wire name (right.Lut lut))) refl (item-small (item.Wire name (right.Lut lut)) ranged)
 item-ranged (item.Wire name (right.Majority a b c)) ranged = ranged-small (slots_of form.WireMajority) (item_values (item.Wire name (right.Majority a b c))) refl (item-small (item.Wire name (right.Majority a b c)) ranged)
+item-ranged (item.Wire name (right.Choose reset set target)) ranged =
+    ranged-small (slots_of form.WireChoose) (item_values (item.Wire name (right.Choose reset set target))) refl (item-small (item.Wire name (right.Choose reset set target)) ranged)
 item-ranged (item.Assign name value) ranged = ranged-small (slots_of form.Assign) (item_values (item.Assign name value)) refl (item-small (item.Assign name value) ranged)
 item-ranged (item.Flip falling clock enable reset set target lut) ranged =
     ranged-small (slots_of form.Flip) (item_values (item.Flip falling clock enable reset set target lut)) refl (item-small (item.Flip falling clock enable reset set target lut) ranged)
+item-ranged (item.FlipAtOnce falling clock reset set target enable lut) ranged =
+    ranged-small (slots_of form.FlipAtOnce) (item_values (item.FlipAtOnce falling clock reset set target enable lut)) refl (item-small (item.FlipAtOnce falling clock reset set target enable lut) ranged)
+item-ranged (item.SetAtOnce reset set target) ranged =
+    ranged-small (slots_of form.SetAtOnce) (item_values (item.SetAtOnce reset set target)) refl (item-small (item.SetAtOnce reset set target) ranged)
 item-ranged (item.Read falling clock clock_enable enable target memory address) ranged =
     ranged-small (slots_of form.Read) (item_values (item.Read falling clock clock_enable enable target memory address)) refl (item-small (item.Read falling clock clock_enable enable target memory address) ranged)
 item-ranged (item.Write falling clock clock_enable enable memory address mask bits) ranged =
@@ -90,20 +99,22 @@ All-front P (x ∷ xs) ys all =
     front P x xs one more zero d lt = one
     front P x xs one more (suc k) d lt = more k d (omega arith)
 
-pub name-none : (scope : Scope) (found : List Found) → All (λ used. IsTrue (is_known scope used)) (uses_in (values_of found)) → All (λ used. IsTrue (is_first scope used)) (uses_in (values_of found)) → name_fault scope found ≡ None
-name-none scope [] known first = refl
-name-none scope (one ∷ found) known first =
-    let uses : List Use = value_uses one.value (index_in (values_of found)) in
-    let k = All-front (λ used. IsTrue (is_known scope used)) uses (uses_in (values_of found)) known in
-    let f = All-front (λ used. IsTrue (is_first scope used)) uses (uses_in (values_of found)) first in
-    ap (λ one. or_fault one (name_fault scope found)) (use-none scope one.offset uses k.0 f.0) ∙ name-none scope found k.1 f.1
+pub name-none : (scope : Scope) (all : List Value) (place : ℕ) (found : List Found) → All (λ used. IsTrue (is_known scope used)) (uses_from all place (values_of found))
+    → All (λ used. IsTrue (is_first scope used)) (uses_from all place (values_of found)) → fault_from scope all place found ≡ None
+name-none scope all place [] known first = refl
+name-none scope all place (one ∷ found) known first =
+    let uses : List Use = value_uses one.value all place in
+    let more : List Use = uses_from all (place + 1) (values_of found) in
+    let k = All-front (λ used. IsTrue (is_known scope used)) uses more known in
+    let f = All-front (λ used. IsTrue (is_first scope used)) uses more first in
+    ap (λ one. or_fault one (fault_from scope all (place + 1) found)) (use-none scope one.offset uses k.0 f.0) ∙ name-none scope all (place + 1) found k.1 f.1
 
 -- an item that is allowed has no fault
 pub item-none : (scope : Scope) (offset : ℕ) (one : Item) (found : List Found) → IsAllowed scope one → values_of found ≡ item_values one → item_fault scope offset one found ≡ None
 item-none scope offset one found allowed is =
     let uses : uses_in (values_of found) ≡ uses_of one = ap uses_in is ∙ uses-of-values one in
     ap (λ b. if b then Some (fault offset Order) else name_fault scope found) (le-ltb (section_of one) scope.section allowed.ordered)
-    ∙ name-none scope found (subst (All (λ used. IsTrue (is_known scope used))) (sym uses) allowed.known) (subst (All (λ used. IsTrue (is_first scope used))) (sym uses) allowed.first)
+    ∙ name-none scope (values_of found) 0 found (subst (All (λ used. IsTrue (is_known scope used))) (sym uses) allowed.known) (subst (All (λ used. IsTrue (is_first scope used))) (sym uses) allowed.first)
 
 -- ---- items one after another
 
@@ -121,8 +132,11 @@ item-not_end (item.Wire name (right.Whole source)) = refl
 item-not_end (item.Wire name (right.Part source k)) = refl
 item-not_end (item.Wire name (right.Lut lut)) = refl
 item-not_end (item.Wire name (right.Majority a b c)) = refl
+item-not_end (item.Wire name (right.Choose reset set target)) = refl
 item-not_end (item.Assign name value) = refl
 item-not_end (item.Flip falling clock enable reset set target lut) = refl
+item-not_end (item.FlipAtOnce falling clock reset set target enable lut) = refl
+item-not_end (item.SetAtOnce reset set target) = refl
 item-not_end (item.Read falling clock clock_enable enable target memory address) = refl
 item-not_end (item.Write falling clock clock_enable enable memory address mask bits) = refl
 item-not_end (item.Start memory k word) = refl

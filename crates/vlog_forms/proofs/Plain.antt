@@ -2,9 +2,8 @@
 use Rattle.std.proofs.Common.{◌≡◌, ℕ, zero, suc, ◌<◌, ◌≤◌, ◌+◌, ◌-◌, ◌*◌, ◌/◌, ◌%◌, ◌==◌, Bool, true, false, not, ◌&&◌, ◌||◌, List, [], ◌∷◌, ◌++◌, length, take, drop, get_or, map, refl, ap, sym, ◌∙◌, cond, arith}
 use Rattle.std.proofs.lemmas.Bool.Decides.{nat_tests}
 use Rattle.std.proofs.lemmas.List.{take_at, drop_at, length-append}
-use Rattle.std.specs.Prelude.{if◌then◌else◌, codes, bytes_eq, Option, Some, None}
+use Rattle.std.specs.Prelude.{if◌then◌else◌, codes, bytes_eq, Some, None}
 use Rattle.std.specs.List.{list_all, list_any}
-use Rattle.std.proofs.lemmas.Slice.Eq.{bytes_eq-Decides}
 use Rattle.std.proofs.lemmas.Bool.{and_parts, not-true, or_left, or_parts}
 use Rattle.vlog_tokens.proofs.Spelled.{all_words, among}
 use Rattle.shared_lemmas.proofs.Bytes.{apart_turned}
@@ -121,6 +120,7 @@ is_reserved_word sign.Or = false
 is_reserved_word sign.Not = false
 is_reserved_word sign.ShiftRight = false
 is_reserved_word sign.At = false
+is_reserved_word sign.Question = false
 is_reserved_word _ = true
 
 pub fixed-front : (fixed : Fixed) (rest : List ℕ) → (is_reserved_word fixed ≡ true → closes rest ≡ true) → FrontIs (fixed_text fixed) rest (token.fixed fixed)
@@ -141,6 +141,7 @@ fixed-front sign.Or rest shut = record { some = omega arith; unblank = refl; tok
 fixed-front sign.Not rest shut = record { some = omega arith; unblank = refl; token = refl; length = refl }
 fixed-front sign.ShiftRight rest shut = record { some = omega arith; unblank = refl; token = refl; length = refl }
 fixed-front sign.At rest shut = record { some = omega arith; unblank = refl; token = refl; length = refl }
+fixed-front sign.Question rest shut = record { some = omega arith; unblank = refl; token = refl; length = refl }
 fixed-front sign.Module rest shut = word-front (codes "module") rest refl refl (shut refl)
 fixed-front sign.Endmodule rest shut = word-front (codes "endmodule") rest refl refl (shut refl)
 fixed-front sign.Input rest shut = word-front (codes "input") rest refl refl (shut refl)
@@ -156,6 +157,7 @@ fixed-front sign.Begin rest shut = word-front (codes "begin") rest refl refl (sh
 fixed-front sign.End rest shut = word-front (codes "end") rest refl refl (shut refl)
 fixed-front sign.Else rest shut = word-front (codes "else") rest refl refl (shut refl)
 fixed-front sign.Initial rest shut = word-front (codes "initial") rest refl refl (shut refl)
+fixed-front sign.OrEdge rest shut = word-front (codes "or") rest refl refl (shut refl)
 
 abbrev first_of : (List ℕ × Fixed) → List ℕ
 first_of word = word.0

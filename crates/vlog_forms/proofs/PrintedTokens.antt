@@ -1,5 +1,5 @@
 -- The printed text of a well-formed module is a spelling of it.
-use Rattle.std.proofs.Common.{◌≡◌, ℕ, ◌<◌, ◌≤◌, Bool, true, false, List, [], ◌∷◌, ◌++◌, map, reverse, refl, ap, sym, ◌∙◌, subst, append_assoc, arith}
+use Rattle.std.proofs.Common.{◌≡◌, ℕ, ◌+◌, ◌<◌, ◌≤◌, Bool, true, false, List, [], ◌∷◌, ◌++◌, map, reverse, refl, ap, sym, ◌∙◌, subst, append_assoc, arith}
 use Rattle.std.proofs.lemmas.List.Elements.{All-head, All-tail}
 use Rattle.std.specs.Prelude.{All, flat_map, codes}
 use Rattle.vlog_tokens.specs.declared.fixed.Fixed.TheVariants as sign
@@ -24,8 +24,8 @@ use Rattle.vlog_forms.specs.declared.slot.Role.TheVariants as role
 use Rattle.vlog_forms.specs.Values.{Value}
 use Rattle.vlog_forms.specs.Values.Value.{Name, Edge, Bit, Word, Index, AnAtom}
 use Rattle.vlog_forms.specs.Layout.{slots_of}
-use Rattle.vlog_forms.specs.Items.{item_form, item_values, item_tokens, atoms_values, index_in, port_form, port_tokens, names_tokens, more_names, module_tokens, IsSpelling}
-use Rattle.vlog_forms.specs.Outcome.{role_use, uses_in}
+use Rattle.vlog_forms.specs.Items.{item_form, item_values, item_tokens, atoms_values, port_form, port_tokens, names_tokens, more_names, module_tokens, IsSpelling}
+use Rattle.vlog_forms.specs.Outcome.{role_use, uses_from, uses_in}
 use Rattle.vlog_forms.specs.Printed.{written, line_of, item_line, port_line, names_text, more_names_text, printed}
 use Rattle.vlog_forms.proofs.Plain.{plain, plain-blank, plain-front, closes, fixed-front, name-front}
 use Rattle.vlog_forms.proofs.SlotLists.{FitAll, are_before}
@@ -48,34 +48,39 @@ AreNumbers (value ∷ values) = AreNumbers values
 abbrev HasName : Use → Type 0
 HasName used = IsName (used_name used)
 
-role-name : (one : Role) (name : List ℕ) (k : ℕ) → HasName (role_use one name k) → IsName name
-role-name (role.Declares sort) name k named = named
-role-name role.Reads name k named = named
-role-name role.ReadsBit name k named = named
-role-name (role.Takes sort) name k named = named
-role-name (role.Assigns sort) name k named = named
-role-name role.Starts name k named = named
+role-name : (one : Role) (all : List Value) (place : ℕ) (name : List ℕ) → HasName (role_use one all place name) → IsName name
+role-name (role.Declares sort) all place name named = named
+role-name role.Reads all place name named = named
+role-name role.ReadsBit all place name named = named
+role-name (role.Takes sort) all place name named = named
+role-name (role.Assigns sort) all place name named = named
+role-name role.Chooses all place name named = named
+role-name role.AssignsAtOnce all place name named = named
+role-name role.Starts all place name named = named
 
-writable : (values : List Value) → All HasName (uses_in values) → All IsInRange (uses_in values) → AreNumbers values → AreWritable values
-writable [] named ranged small = tt
-writable (Name one name ∷ values) named ranged small =
-    let used : Use = role_use one name (index_in values) in (
-      role-name one name (index_in values) (All-head HasName used (uses_in values) named),
-      writable values (All-tail HasName used (uses_in values) named) (All-tail IsInRange used (uses_in values) ranged) small,
+writable : (all : List Value) (place : ℕ) (values : List Value) → All HasName (uses_from all place values) → All IsInRange (uses_from all place values) → AreNumbers values → AreWritable values
+writable all place [] named ranged small = tt
+writable all place (Name one name ∷ values) named ranged small =
+    let used : Use = role_use one all place name in
+    let more : List Use = uses_from all (place + 1) values in (
+      role-name one all place name (All-head HasName used more named),
+      writable all (place + 1) values (All-tail HasName used more named) (All-tail IsInRange used more ranged) small,
     )
-writable (Edge falling ∷ values) named ranged small = (tt, writable values named ranged small)
-writable (Bit bit ∷ values) named ranged small = (tt, writable values named ranged small)
-writable (Word word ∷ values) named ranged small = (small.0, writable values named ranged small.1)
-writable (Index k ∷ values) named ranged small = (small.0, writable values named ranged small.1)
-writable (AnAtom (atom.Bit bit) ∷ values) named ranged small = (tt, writable values named ranged small)
-writable (AnAtom (atom.Whole name) ∷ values) named ranged small = (
-  All-head HasName (Reads name) (uses_in values) named,
-  writable values (All-tail HasName (Reads name) (uses_in values) named) (All-tail IsInRange (Reads name) (uses_in values) ranged) small,
-)
-writable (AnAtom (atom.Part name k) ∷ values) named ranged small =
-    let bound : k ≤ 15 = All-head IsInRange (ReadsBit name k) (uses_in values) ranged in (
-      (All-head HasName (ReadsBit name k) (uses_in values) named, omega arith),
-      writable values (All-tail HasName (ReadsBit name k) (uses_in values) named) (All-tail IsInRange (ReadsBit name k) (uses_in values) ranged) small,
+writable all place (Edge falling ∷ values) named ranged small = (tt, writable all (place + 1) values named ranged small)
+writable all place (Bit bit ∷ values) named ranged small = (tt, writable all (place + 1) values named ranged small)
+writable all place (Word word ∷ values) named ranged small = (small.0, writable all (place + 1) values named ranged small.1)
+writable all place (Index k ∷ values) named ranged small = (small.0, writable all (place + 1) values named ranged small.1)
+writable all place (AnAtom (atom.Bit bit) ∷ values) named ranged small = (tt, writable all (place + 1) values named ranged small)
+writable all place (AnAtom (atom.Whole name) ∷ values) named ranged small =
+    let more : List Use = uses_from all (place + 1) values in (
+      All-head HasName (Reads name) more named,
+      writable all (place + 1) values (All-tail HasName (Reads name) more named) (All-tail IsInRange (Reads name) more ranged) small,
+    )
+writable all place (AnAtom (atom.Part name k) ∷ values) named ranged small =
+    let more : List Use = uses_from all (place + 1) values in
+    let bound : k ≤ 15 = All-head IsInRange (ReadsBit name k) more ranged in (
+      (All-head HasName (ReadsBit name k) more named, omega arith),
+      writable all (place + 1) values (All-tail HasName (ReadsBit name k) more named) (All-tail IsInRange (ReadsBit name k) more ranged) small,
     )
 
 atoms-numbers : (list : List Atom) (values : List Value) → AreNumbers values → AreNumbers (map AnAtom list ++ values)
@@ -97,8 +102,11 @@ item-numbers (item.Wire name (right.Part source k)) shaped ranged =
     (omega arith, tt)
 item-numbers (item.Wire name (right.Lut lut)) shaped ranged = (shaped.0, atoms-alone (reverse lut.ins))
 item-numbers (item.Wire name (right.Majority a b c)) shaped ranged = tt
+item-numbers (item.Wire name (right.Choose reset set target)) shaped ranged = tt
 item-numbers (item.Assign name value) shaped ranged = tt
 item-numbers (item.Flip falling clock enable reset set target lut) shaped ranged = (shaped.0, atoms-alone (reverse lut.ins))
+item-numbers (item.FlipAtOnce falling clock reset set target enable lut) shaped ranged = (shaped.0, atoms-alone (reverse lut.ins))
+item-numbers (item.SetAtOnce reset set target) shaped ranged = tt
 item-numbers (item.Read falling clock clock_enable enable target memory address) shaped ranged = atoms-alone (reverse address)
 item-numbers (item.Write falling clock clock_enable enable memory address mask bits) shaped ranged =
     atoms-numbers (reverse address) (atoms_values mask ++ atoms_values bits) (atoms-numbers (reverse mask) (atoms_values bits) (atoms-alone (reverse bits)))
@@ -118,8 +126,11 @@ form-shut form.WireWhole = refl
 form-shut form.WirePart = refl
 form-shut form.WireLut = refl
 form-shut form.WireMajority = refl
+form-shut form.WireChoose = refl
 form-shut form.Assign = refl
 form-shut form.Flip = refl
+form-shut form.FlipAtOnce = refl
+form-shut form.SetAtOnce = refl
 form-shut form.Read = refl
 form-shut form.Write = refl
 form-shut form.Start = refl
@@ -143,7 +154,7 @@ item-plain scope one rest allowed =
     let before : are_before 0 (slots_of form) ≡ true = ap (λ n. are_before n (slots_of form)) (sym (none-given form (form-is one))) ∙ (form-sound form).before in
     line-plain (written (slots_of form) [] (item_values one)) rest (item_tokens one)
     (plain-written (slots_of form) [] (item_values one) (10 ∷ rest) (form-shut form) before tt
-    (writable (item_values one) named ranged (item-numbers one allowed.shaped allowed.in_range))
+    (writable (item_values one) 0 (item_values one) named ranged (item-numbers one allowed.shaped allowed.in_range))
     (item-fits one allowed.shaped (item-ranged one allowed.in_range)) refl)
 
 items-plain : (ports : List Port) (before items : List Item) (rest : List ℕ) → MayFollow ports before items → plain (flat_map item_line items ++ rest) ≡ flat_map item_tokens items ++ plain rest

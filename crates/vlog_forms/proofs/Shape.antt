@@ -35,7 +35,8 @@ behind_atom [] = []
 abbrev right_shape : TokenValue → List TokenValue → Form
 right_shape (token.bit bit) tokens = form.WireBit
 right_shape (token.word word) tokens = form.WireLut
-right_shape (token.name name) tokens = if is_at sign.OpenBracket tokens 0 then form.WirePart else form.WireWhole
+right_shape (token.name name) tokens =
+    if is_at sign.OpenBracket tokens 0 then form.WirePart else if is_at sign.Question tokens 0 then form.WireChoose else form.WireWhole
 right_shape _ tokens = form.WireMajority
 
 abbrev wire_shape : List TokenValue → Form
@@ -48,13 +49,20 @@ clocked_shape tokens =
     else if is_at sign.OpenBracket (behind_atom (drop 1 tokens)) 2 then form.Write
     else form.Read
 
+-- behind `always`: the word `or` stands behind the clock, or `if` behind the edge, or neither
+abbrev always_shape : List TokenValue → Form
+always_shape tokens =
+    if is_at sign.OrEdge tokens 4 then form.FlipAtOnce
+    else if is_at sign.If tokens 5 then clocked_shape (behind_atom (drop 7 tokens))
+    else form.SetAtOnce
+
 unfoldable pub shape : List TokenValue → Form
 shape tokens =
     if is_at sign.Reg tokens 0 then
     (if is_at sign.OpenBracket tokens 1 then (if is_at sign.Equals tokens 7 then form.Word else form.Memory) else form.Register)
     else if is_at sign.Wire tokens 0 then wire_shape (drop 3 tokens)
     else if is_at sign.Assign tokens 0 then form.Assign
-    else if is_at sign.Always tokens 0 then clocked_shape (behind_atom (drop 8 tokens))
+    else if is_at sign.Always tokens 0 then always_shape (drop 1 tokens)
     else if is_at sign.Initial tokens 0 then form.Start
     else if is_at sign.Input tokens 0 then form.Input
     else if is_at sign.Output tokens 0 then form.Output
@@ -118,6 +126,17 @@ unfolding slots_of
 write-item falling clock one other target values tail =
     write-shape (drop 21 (slots_of form.Write)) (role.Takes sort.Input) (role.Assigns sort.Memory) falling clock values tail one other target
 
+reset-shape : (slots : List Slot) (clock_role : Role) (falling : Bool) (clock : List ℕ) (values : List Value) (tail : List TokenValue)
+    → shape (filled (slot.Fixed sign.Always ∷ slot.Space ∷ slot.Fixed sign.At ∷ slot.Fixed sign.OpenParen ∷ slot.Edge ∷ slot.Space ∷ slot.Name clock_role ∷ slot.Space ∷ slot.Fixed sign.OrEdge ∷ slots) []
+    (Edge falling ∷ Name clock_role clock ∷ values) ++ tail) ≡ form.FlipAtOnce
+unfolding shape filled
+reset-shape slots clock_role falling clock values tail = refl
+
+reset-item : (falling : Bool) (clock : List ℕ) (values : List Value) (tail : List TokenValue)
+    → shape (filled (slots_of form.FlipAtOnce) [] (Edge falling ∷ Name (role.Takes sort.Input) clock ∷ values) ++ tail) ≡ form.FlipAtOnce
+unfolding slots_of
+reset-item falling clock values tail = reset-shape (drop 9 (slots_of form.FlipAtOnce)) (role.Takes sort.Input) falling clock values tail
+
 lut-item : (slots : List Slot) (name : List ℕ) (word : ℕ) (values : List Value) (tail : List TokenValue)
     → shape (filled (slot.Fixed sign.Wire ∷ slot.Space ∷ slot.Name (role.Declares sort.Wire) ∷ slot.Space ∷ slot.Fixed sign.Equals ∷ slot.Space ∷ slot.Word ∷ slots) []
     (Name (role.Declares sort.Wire) name ∷ Word word ∷ values) ++ tail) ≡ form.WireLut
@@ -133,6 +152,7 @@ lut-wire name word values tail = lut-item (drop 7 (slots_of form.WireLut)) name 
 abbrev is_small : Item → Bool
 is_small (item.Wire name (right.Lut lut)) = false
 is_small (item.Flip falling clock enable reset set target lut) = false
+is_small (item.FlipAtOnce falling clock reset set target enable lut) = false
 is_small (item.Read falling clock clock_enable enable target memory address) = false
 is_small (item.Write falling clock clock_enable enable memory address mask bits) = false
 is_small _ = true
@@ -146,7 +166,9 @@ small-shape (item.Wire name (right.Bit bit)) tail small = refl
 small-shape (item.Wire name (right.Whole source)) tail small = refl
 small-shape (item.Wire name (right.Part source k)) tail small = refl
 small-shape (item.Wire name (right.Majority a b c)) tail small = refl
+small-shape (item.Wire name (right.Choose reset set target)) tail small = refl
 small-shape (item.Assign name value) tail small = refl
+small-shape (item.SetAtOnce reset set target) tail small = refl
 small-shape (item.Start memory k word) tail small = refl
 small-shape one tail small = absurd cc
 
@@ -160,9 +182,13 @@ item-shape (item.Wire name (right.Whole source)) tail = small-shape (item.Wire n
 item-shape (item.Wire name (right.Part source k)) tail = small-shape (item.Wire name (right.Part source k)) tail refl
 item-shape (item.Wire name (right.Lut lut)) tail = lut-wire name lut.word (atoms_values lut.ins) tail
 item-shape (item.Wire name (right.Majority a b c)) tail = small-shape (item.Wire name (right.Majority a b c)) tail refl
+item-shape (item.Wire name (right.Choose reset set target)) tail = small-shape (item.Wire name (right.Choose reset set target)) tail refl
 item-shape (item.Assign name value) tail = small-shape (item.Assign name value) tail refl
 item-shape (item.Flip falling clock enable reset set target lut) tail =
     flip-item falling clock enable (AnAtom reset ∷ Name (role.Assigns sort.Register) target ∷ Bit set ∷ lut_values lut) tail
+item-shape (item.FlipAtOnce falling clock reset set target enable lut) tail =
+    reset-item falling clock (Name (role.Takes sort.Wire) reset ∷ Name role.AssignsAtOnce target ∷ Bit set ∷ AnAtom enable ∷ lut_values lut) tail
+item-shape (item.SetAtOnce reset set target) tail = small-shape (item.SetAtOnce reset set target) tail refl
 item-shape (item.Read falling clock clock_enable enable target memory address) tail =
     read-item falling clock clock_enable enable target (Name (role.Takes sort.Memory) memory ∷ atoms_values address) tail
 item-shape (item.Write falling clock clock_enable enable memory address mask bits) tail =

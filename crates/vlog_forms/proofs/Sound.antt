@@ -1,14 +1,12 @@
 -- The names of tokens are names, their words have 16 bits, and so have those of the values that are read.
-use Rattle.std.proofs.Common.{◌≡◌, ℕ, zero, suc, ◌<◌, ◌+◌, ◌-◌, ◌*◌, ◌==◌, Bool, true, false, not, ◌&&◌, ◌||◌, List, [], ◌∷◌, ◌++◌, take, drop, map, cond, refl, ap, sym, ◌∙◌, subst, arith}
+use Rattle.std.proofs.Common.{◌≡◌, ℕ, zero, suc, ◌<◌, ◌+◌, ◌-◌, ◌*◌, ◌==◌, Bool, true, false, not, List, [], ◌∷◌, ◌++◌, take, drop, map, cond, refl, ap, ◌∙◌, subst, arith}
 use Rattle.std.proofs.lemmas.Bool.Decides.{nat_tests}
-use Rattle.std.proofs.lemmas.Slice.Eq.{bytes_eq-Decides}
-use Rattle.std.specs.Prelude.{Ok, Option, Some, None, if◌then◌else◌, codes, bytes_eq}
+use Rattle.std.specs.Prelude.{Ok, Option, Some, None, if◌then◌else◌, bytes_eq}
 use Rattle.std.specs.List.{list_all, list_any}
 use Rattle.std.proofs.lemmas.Bool.{and_from, or_from, or_left}
 use Rattle.vlog_tokens.proofs.Spelled.{all_words, among}
 use Rattle.shared_lemmas.proofs.Bytes.{apart_turned}
 use Rattle.vlog_tokens.specs.declared.fixed.Fixed.{Fixed}
-use Rattle.vlog_tokens.specs.declared.fixed.Fixed.TheVariants as sign
 use Rattle.vlog_tokens.specs.Bytes.{is_blank, is_letter, is_digit, is_name_byte, byte_at, hex_value, is_bit_text, is_word_text, word_value, number_value}
 use Rattle.vlog_tokens.specs.Fixed.{word_of, pair_of, sign_of}
 use Rattle.vlog_tokens.specs.Tokens.{TokenValue, Spot, spot, spots_from, spots_at, front_token, front_length, name_length, name_or_word, word_or_name, digits_token, sign_token, first_sign}

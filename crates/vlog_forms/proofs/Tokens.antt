@@ -37,6 +37,7 @@ back-text sign.Or = refl
 back-text sign.Not = refl
 back-text sign.ShiftRight = refl
 back-text sign.At = refl
+back-text sign.Question = refl
 back-text sign.Module = refl
 back-text sign.Endmodule = refl
 back-text sign.Input = refl
@@ -52,6 +53,7 @@ back-text sign.Begin = refl
 back-text sign.End = refl
 back-text sign.Else = refl
 back-text sign.Initial = refl
+back-text sign.OrEdge = refl
 
 -- each has a spelling of its own
 pub fixed_text-apart : (one other : Fixed) → fixed_text one ≡ fixed_text other → one ≡ other

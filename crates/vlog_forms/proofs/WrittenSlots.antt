@@ -168,6 +168,7 @@ sign-closes sign.Or rest free = refl
 sign-closes sign.Not rest free = refl
 sign-closes sign.ShiftRight rest free = refl
 sign-closes sign.At rest free = refl
+sign-closes sign.Question rest free = refl
 sign-closes fixed rest free = absurd cc
 
 written-closes : (slots : List Slot) (before after : List Value) (rest : List ℕ) → begins_shut slots ≡ true → closes rest ≡ true → closes (written slots before after ++ rest) ≡ true

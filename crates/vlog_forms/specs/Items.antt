@@ -16,7 +16,7 @@ use Rattle.vlog_module.specs.Parts.{Parts}
 use Rattle.vlog_module.specs.WellFormed.{IsModule}
 use Rattle.vlog_forms.specs.declared.form.Form.{Form}
 use Rattle.vlog_forms.specs.declared.form.Form.TheVariants as form
-use Rattle.vlog_forms.specs.declared.slot.Role.TheVariants.{Declares, Reads, ReadsBit, Takes, Assigns, Starts}
+use Rattle.vlog_forms.specs.declared.slot.Role.TheVariants.{Declares, Reads, ReadsBit, Takes, Assigns, Chooses, AssignsAtOnce, Starts}
 use Rattle.vlog_forms.specs.Values.{Value}
 use Rattle.vlog_forms.specs.Values.Value.{Name, Edge, Bit, Word, Index, AnAtom}
 use Rattle.vlog_forms.specs.Layout.{slots_of, filled}
@@ -33,6 +33,7 @@ wire_form (right.Whole name) = form.WireWhole
 wire_form (right.Part name k) = form.WirePart
 wire_form (right.Lut lut) = form.WireLut
 wire_form (right.Majority a b c) = form.WireMajority
+wire_form (right.Choose reset set target) = form.WireChoose
 
 abbrev pub item_form : Item → Form
 item_form (item.Register name start) = form.Register
@@ -41,6 +42,8 @@ item_form (item.Memory name) = form.Memory
 item_form (item.Wire name right) = wire_form right
 item_form (item.Assign name value) = form.Assign
 item_form (item.Flip falling clock enable reset set target lut) = form.Flip
+item_form (item.FlipAtOnce falling clock reset set target enable lut) = form.FlipAtOnce
+item_form (item.SetAtOnce reset set target) = form.SetAtOnce
 item_form (item.Read falling clock clock_enable enable target memory address) = form.Read
 item_form (item.Write falling clock clock_enable enable memory address mask bits) = form.Write
 item_form (item.Start memory k word) = form.Start
@@ -54,6 +57,7 @@ right_values (right.Whole name) = Name Reads name ∷ []
 right_values (right.Part name k) = Name ReadsBit name ∷ Index k ∷ []
 right_values (right.Lut lut) = lut_values lut
 right_values (right.Majority a b c) = AnAtom a ∷ AnAtom b ∷ AnAtom c ∷ []
+right_values (right.Choose reset set target) = Name (Takes sort.Wire) reset ∷ Bit set ∷ Name Chooses target ∷ []
 
 abbrev pub item_values : Item → List Value
 item_values (item.Register name start) = Name (Declares sort.Register) name ∷ Bit start ∷ []
@@ -64,6 +68,11 @@ item_values (item.Assign name value) = Name (Assigns sort.Output) name ∷ AnAto
 item_values (item.Flip falling clock enable reset set target lut) =
     Edge falling ∷ Name (Takes sort.Input) clock ∷ AnAtom enable ∷ AnAtom reset ∷ Name (Assigns sort.Register) target ∷ Bit set
     ∷ lut_values lut
+item_values (item.FlipAtOnce falling clock reset set target enable lut) =
+    Edge falling ∷ Name (Takes sort.Input) clock ∷ Name (Takes sort.Wire) reset ∷ Name AssignsAtOnce target ∷ Bit set
+    ∷ AnAtom enable ∷ lut_values lut
+item_values (item.SetAtOnce reset set target) =
+    Name (Takes sort.Wire) reset ∷ Name AssignsAtOnce target ∷ Bit set ∷ []
 item_values (item.Read falling clock clock_enable enable target memory address) =
     Edge falling ∷ Name (Takes sort.Input) clock ∷ AnAtom clock_enable ∷ AnAtom enable ∷ Name (Assigns sort.Word) target
     ∷ Name (Takes sort.Memory) memory ∷ atoms_values address
@@ -163,10 +172,16 @@ item_of form.WirePart v = item.Wire (name_in v) (right.Part (name_in (behind 1 v
 item_of form.WireLut v = item.Wire (name_in v) (right.Lut (lut_in (behind 1 v)))
 item_of form.WireMajority v =
     item.Wire (name_in v) (right.Majority (atom_in (behind 1 v)) (atom_in (behind 2 v)) (atom_in (behind 3 v)))
+item_of form.WireChoose v =
+    item.Wire (name_in v) (right.Choose (name_in (behind 1 v)) (bit_in (behind 2 v)) (name_in (behind 3 v)))
 item_of form.Assign v = item.Assign (name_in v) (atom_in (behind 1 v))
 item_of form.Flip v =
     item.Flip (edge_in v) (name_in (behind 1 v)) (atom_in (behind 2 v)) (atom_in (behind 3 v)) (bit_in (behind 5 v))
     (name_in (behind 4 v)) (lut_in (behind 6 v))
+item_of form.FlipAtOnce v =
+    item.FlipAtOnce (edge_in v) (name_in (behind 1 v)) (name_in (behind 2 v)) (bit_in (behind 4 v)) (name_in (behind 3 v))
+    (atom_in (behind 5 v)) (lut_in (behind 6 v))
+item_of form.SetAtOnce v = item.SetAtOnce (name_in v) (bit_in (behind 2 v)) (name_in (behind 1 v))
 item_of form.Read v =
     item.Read (edge_in v) (name_in (behind 1 v)) (atom_in (behind 2 v)) (atom_in (behind 3 v)) (name_in (behind 4 v))
     (name_in (behind 5 v)) (reverse (atoms_in 8 (behind 6 v)))

@@ -1,5 +1,5 @@
 -- What a text is: a module, or the first fault of the text.
-use Rattle.std.specs.Prelude.{ℕ, zero, suc, nat_lt, Bool, true, false, not, ◌||◌, List, [], ◌∷◌, ◌++◌, length, Option, Some, None, Result, Ok, Err, bytes_eq, if◌then◌else◌}
+use Rattle.std.specs.Prelude.{ℕ, zero, suc, ◌+◌, ◌-◌, nat_lt, Bool, true, false, not, ◌||◌, List, [], ◌∷◌, ◌++◌, length, Option, Some, None, Result, Ok, Err, bytes_eq, if◌then◌else◌}
 use Rattle.std.specs.List.{list_all, list_any}
 use Rattle.vlog_tokens.specs.declared.fixed.Fixed.TheVariants as sign
 use Rattle.vlog_tokens.specs.Tokens.{TokenValue, Spot, spots_of}
@@ -17,12 +17,12 @@ use Rattle.vlog_forms.specs.declared.fault.VlogCause.TheVariants.{Syntax, Order,
 use Rattle.vlog_forms.specs.declared.form.Form.{Form}
 use Rattle.vlog_forms.specs.declared.form.Form.TheVariants as form
 use Rattle.vlog_forms.specs.declared.slot.Role.{Role}
-use Rattle.vlog_forms.specs.declared.slot.Role.TheVariants.{Declares, Reads, ReadsBit, Takes, Assigns, Starts}
+use Rattle.vlog_forms.specs.declared.slot.Role.TheVariants.{Declares, Reads, ReadsBit, Takes, Assigns, Chooses, AssignsAtOnce, Starts}
 use Rattle.vlog_forms.specs.declared.slot.Slot.{Slot}
 use Rattle.vlog_forms.specs.declared.slot.Slot.TheVariants as slot
 use Rattle.vlog_forms.specs.Values.{Value, is_same_token}
 use Rattle.vlog_forms.specs.Values.Value.{Name, AnAtom}
-use Rattle.vlog_forms.specs.Items.{item_of, name_in, index_in}
+use Rattle.vlog_forms.specs.Items.{item_of, behind, name_in, bit_in, index_in}
 use Rattle.vlog_forms.specs.Reading.{Found, found_at, values_of, offset_of, read_tokens, Reading, read_slots, Whole, read_forms, port_forms, all_forms}
 
 -- a fault: an offset of the text, and the cause
@@ -35,25 +35,34 @@ fault offset cause = record { offset = offset; cause = cause }
 
 -- ---- the names of an item
 
--- how a name in a role is used; an index may follow it
-abbrev pub role_use : Role → List ℕ → ℕ → Use
-role_use (Declares sort) name k = use_as.Declares sort name
-role_use Reads name k = use_as.Reads name
-role_use ReadsBit name k = use_as.ReadsBit name k
-role_use (Takes sort) name k = use_as.Takes sort name
-role_use (Assigns sort) name k = use_as.Assigns sort name
-role_use Starts name k = use_as.Starts name k
+-- how a name in a role is used, which has a place among the values of its item
+abbrev pub role_use : Role → List Value → ℕ → List ℕ → Use
+role_use (Declares sort) values place name = use_as.Declares sort name
+role_use Reads values place name = use_as.Reads name
+role_use ReadsBit values place name = use_as.ReadsBit name (index_in (behind (place + 1) values))
+role_use (Takes sort) values place name = use_as.Takes sort name
+role_use (Assigns sort) values place name = use_as.Assigns sort name
+role_use Chooses values place name =
+    use_as.Chooses (name_in (behind (place - 2) values)) (bit_in (behind (place - 1) values)) name
+role_use AssignsAtOnce values place name =
+    use_as.AssignsAtOnce (name_in (behind (place - 1) values)) (bit_in (behind (place + 1) values)) name
+role_use Starts values place name = use_as.Starts name (index_in (behind (place + 1) values))
 
-abbrev pub value_uses : Value → ℕ → List Use
-value_uses (Name role name) k = role_use role name k ∷ []
-value_uses (AnAtom (atom.Whole name)) k = use_as.Reads name ∷ []
-value_uses (AnAtom (atom.Part name part)) k = use_as.ReadsBit name part ∷ []
-value_uses _ k = []
+-- the names of a value, which has a place among the values of its item
+abbrev pub value_uses : Value → List Value → ℕ → List Use
+value_uses (Name role name) values place = role_use role values place name ∷ []
+value_uses (AnAtom (atom.Whole name)) values place = use_as.Reads name ∷ []
+value_uses (AnAtom (atom.Part name k)) values place = use_as.ReadsBit name k ∷ []
+value_uses _ values place = []
+
+-- the names of the last values of an item, which stand from a place on
+abbrev pub uses_from : List Value → ℕ → List Value → List Use
+uses_from values place [] = []
+uses_from values place (value ∷ more) = value_uses value values place ++ uses_from values (place + 1) more
 
 -- the names of values from left to right
 abbrev pub uses_in : List Value → List Use
-uses_in [] = []
-uses_in (value ∷ values) = value_uses value (index_in values) ++ uses_in values
+uses_in values = uses_from values 0 values
 
 -- the first use that isn't allowed
 abbrev pub use_fault : Scope → ℕ → List Use → Option Fault
@@ -67,11 +76,15 @@ abbrev pub or_fault : Option Fault → Option Fault → Option Fault
 or_fault (Some one) other = Some one
 or_fault None other = other
 
--- the first name, from left to right, that isn't there, is of the wrong sort, or is declared or assigned before
+-- the first fault among the names of the last values of an item, which stand from a place on
+abbrev pub fault_from : Scope → List Value → ℕ → List Found → Option Fault
+fault_from scope values place [] = None
+fault_from scope values place (one ∷ more) =
+    or_fault (use_fault scope one.offset (value_uses one.value values place)) (fault_from scope values (place + 1) more)
+
+-- the first name, from left to right, that isn't there, isn't what it is used as, or is declared or assigned before
 abbrev pub name_fault : Scope → List Found → Option Fault
-name_fault scope [] = None
-name_fault scope (one ∷ found) =
-    or_fault (use_fault scope one.offset (value_uses one.value (index_in (values_of found)))) (name_fault scope found)
+name_fault scope found = fault_from scope (values_of found) 0 found
 
 -- the fault of an item that is whole and begins at this offset
 abbrev pub item_fault : Scope → ℕ → Item → List Found → Option Fault

@@ -4,7 +4,7 @@ use Rattle.vlog_tokens.specs.declared.fixed.Fixed.TheVariants as sign
 use Rattle.vlog_module.specs.declared.sort.Sort.TheVariants as sort
 use Rattle.vlog_forms.specs.declared.form.Form.{Form}
 use Rattle.vlog_forms.specs.declared.form.Form.TheVariants as form
-use Rattle.vlog_forms.specs.declared.slot.Role.TheVariants.{Declares, Reads, ReadsBit, Takes, Assigns, Starts}
+use Rattle.vlog_forms.specs.declared.slot.Role.TheVariants.{Declares, Reads, ReadsBit, Takes, Assigns, Chooses, AssignsAtOnce, Starts}
 use Rattle.vlog_forms.specs.declared.slot.Slot.{Slot}
 use Rattle.vlog_forms.specs.declared.slot.Slot.TheVariants.{Space, Fixed, Literal, Again, AtomsAgain, Name, Edge, Bit, Word, Index, Atom, Atoms}
 
@@ -42,6 +42,10 @@ table form.WireMajority =
     Fixed sign.Or ∷ Space ∷ Fixed sign.OpenParen ∷ Again 1 ∷ Space ∷ Fixed sign.And ∷ Space ∷ Atom ∷
     Fixed sign.CloseParen ∷ Space ∷ Fixed sign.Or ∷ Space ∷ Fixed sign.OpenParen ∷ Again 2 ∷ Space ∷
     Fixed sign.And ∷ Space ∷ Again 3 ∷ Fixed sign.CloseParen ∷ Fixed sign.Semicolon ∷ []
+table form.WireChoose =
+    Fixed sign.Wire ∷ Space ∷ Name (Declares sort.Wire) ∷ Space ∷ Fixed sign.Equals ∷ Space ∷
+    Name (Takes sort.Wire) ∷ Space ∷ Fixed sign.Question ∷ Space ∷ Bit ∷ Space ∷ Fixed sign.Colon ∷ Space ∷
+    Name Chooses ∷ Fixed sign.Semicolon ∷ []
 table form.Assign =
     Fixed sign.Assign ∷ Space ∷ Name (Assigns sort.Output) ∷ Space ∷ Fixed sign.Equals ∷ Space ∷ Atom ∷
     Fixed sign.Semicolon ∷ []
@@ -53,6 +57,18 @@ table form.Flip =
     Fixed sign.LessEquals ∷ Space ∷ Bit ∷ Fixed sign.Semicolon ∷ Space ∷ Fixed sign.Else ∷ Space ∷ Again 4 ∷
     Space ∷ Fixed sign.LessEquals ∷ Space ∷ Word ∷ Space ∷ Fixed sign.ShiftRight ∷ Space ∷ Atoms 4 ∷
     Fixed sign.Semicolon ∷ Space ∷ Fixed sign.End ∷ []
+table form.FlipAtOnce =
+    Fixed sign.Always ∷ Space ∷ Fixed sign.At ∷ Fixed sign.OpenParen ∷ Edge ∷ Space ∷
+    Name (Takes sort.Input) ∷ Space ∷ Fixed sign.OrEdge ∷ Space ∷ Fixed sign.Posedge ∷ Space ∷
+    Name (Takes sort.Wire) ∷ Fixed sign.CloseParen ∷ Space ∷ Fixed sign.If ∷ Space ∷ Fixed sign.OpenParen ∷
+    Again 2 ∷ Fixed sign.CloseParen ∷ Space ∷ Name AssignsAtOnce ∷ Space ∷ Fixed sign.LessEquals ∷ Space ∷ Bit ∷
+    Fixed sign.Semicolon ∷ Space ∷ Fixed sign.Else ∷ Space ∷ Fixed sign.If ∷ Space ∷ Fixed sign.OpenParen ∷ Atom ∷
+    Fixed sign.CloseParen ∷ Space ∷ Again 3 ∷ Space ∷ Fixed sign.LessEquals ∷ Space ∷ Word ∷ Space ∷
+    Fixed sign.ShiftRight ∷ Space ∷ Atoms 4 ∷ Fixed sign.Semicolon ∷ []
+table form.SetAtOnce =
+    Fixed sign.Always ∷ Space ∷ Fixed sign.At ∷ Fixed sign.OpenParen ∷ Fixed sign.Posedge ∷ Space ∷
+    Name (Takes sort.Wire) ∷ Fixed sign.CloseParen ∷ Space ∷ Name AssignsAtOnce ∷ Space ∷ Fixed sign.LessEquals ∷
+    Space ∷ Bit ∷ Fixed sign.Semicolon ∷ []
 table form.Read =
     Fixed sign.Always ∷ Space ∷ Fixed sign.At ∷ Fixed sign.OpenParen ∷ Edge ∷ Space ∷
     Name (Takes sort.Input) ∷ Fixed sign.CloseParen ∷ Space ∷ Fixed sign.If ∷ Space ∷ Fixed sign.OpenParen ∷

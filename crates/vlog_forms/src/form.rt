@@ -23,10 +23,16 @@ pub enum Form {
     WireLut,
     /// `wire NAME = (a & b) | (a & c) | (b & c);`
     WireMajority,
+    /// `wire NAME = SR ? BIT : REG;`
+    WireChoose,
     /// `assign NAME = ATOM;`
     Assign,
     /// `always @(EDGE NAME) if (ATOM) begin if (ATOM) NAME <= BIT; else NAME <= LUT; end`
     Flip,
+    /// `always @(EDGE NAME or posedge SR) if (SR) REG <= BIT; else if (ATOM) REG <= LUT;`
+    FlipAtOnce,
+    /// `always @(posedge SR) REG <= BIT;`
+    SetAtOnce,
     /// `always @(EDGE NAME) if (ATOM & ATOM) NAME <= NAME[ADDR];`
     Read,
     /// `always @(EDGE NAME) if (ATOM & ATOM) NAME[ADDR] <= (NAME[ADDR] & BITS16) | (BITS16 & ~BITS16);`

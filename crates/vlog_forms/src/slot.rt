@@ -10,13 +10,17 @@ pub enum Role {
     Declares(Sort),
     /// It reads the value of one bit that the name has.
     Reads,
-    /// It reads the bit of a register of 16 bits whose index follows.
+    /// It reads the bit of a register of 16 bits whose index is the next value.
     ReadsBit,
     /// It takes the name for a clock or a memory.
     Takes(Sort),
     /// It assigns what the name is.
     Assigns(Sort),
-    /// It gives the word of a memory whose index follows its start.
+    /// It reads a register but for the time in which a wire is 1, when the value is a bit: the two values before it.
+    Chooses,
+    /// It assigns a register, which becomes a bit, the next value, at once where a wire, the value before it, is 1.
+    AssignsAtOnce,
+    /// It gives the word of a memory whose index is the next value its start.
     Starts,
 }
 

@@ -42,6 +42,17 @@ pub flip-made : (v : List Value) (falling : Bool) (clock : List ℕ) (enable res
 unfolding item_of
 flip-made v falling clock enable reset set target lut a b c d e f g = let first : falling ≡ edge_in v = a ∙ ap edge_in (behind-zero v) in cc
 
+pub flip_at_once-made : (v : List Value) (falling : Bool) (clock reset : List ℕ) (set : Bool) (target : List ℕ) (enable : Atom) (lut : Lut)
+    → falling ≡ edge_in (behind 0 v) → clock ≡ name_in (behind 1 v) → reset ≡ name_in (behind 2 v) → set ≡ bit_in (behind 4 v) → target ≡ name_in (behind 3 v)
+    → enable ≡ atom_in (behind 5 v) → lut ≡ lut_in (behind 6 v) → item.FlipAtOnce falling clock reset set target enable lut ≡ item_of form.FlipAtOnce v
+unfolding item_of
+flip_at_once-made v falling clock reset set target enable lut a b c d e f g = let first : falling ≡ edge_in v = a ∙ ap edge_in (behind-zero v) in cc
+
+pub set_at_once-made : (v : List Value) (reset : List ℕ) (set : Bool) (target : List ℕ) → reset ≡ name_in (behind 0 v) → set ≡ bit_in (behind 2 v) → target ≡ name_in (behind 1 v)
+    → item.SetAtOnce reset set target ≡ item_of form.SetAtOnce v
+unfolding item_of
+set_at_once-made v reset set target a b c = let first : reset ≡ name_in v = a ∙ ap name_in (behind-zero v) in cc
+
 pub read-made : (v : List Value) (falling : Bool) (clock : List ℕ) (clock_enable enable : Atom) (target memory : List ℕ) (address : List Atom)
     → falling ≡ edge_in (behind 0 v) → clock ≡ name_in (behind 1 v) → clock_enable ≡ atom_in (behind 2 v) → enable ≡ atom_in (behind 3 v)
     → target ≡ name_in (behind 4 v) → memory ≡ name_in (behind 5 v) → address ≡ reverse (atoms_in 8 (behind 6 v))
@@ -91,3 +102,8 @@ pub wire_majority-made : (v : List Value) (name : List ℕ) (x y z : Atom) → n
     → item.Wire name (right.Majority x y z) ≡ item_of form.WireMajority v
 unfolding item_of
 wire_majority-made v name x y z a b d e = let first : name ≡ name_in v = wire-made v name a in cc
+
+pub wire_choose-made : (v : List Value) (name reset : List ℕ) (set : Bool) (target : List ℕ) → name ≡ name_in (behind 0 v) → reset ≡ name_in (behind 1 v) → set ≡ bit_in (behind 2 v) → target ≡ name_in (behind 3 v)
+    → item.Wire name (right.Choose reset set target) ≡ item_of form.WireChoose v
+unfolding item_of
+wire_choose-made v name reset set target a b d e = let first : name ≡ name_in v = wire-made v name a in cc

@@ -26,8 +26,11 @@ pub fn item_of(alloc: Global, form: Form, values: &[Found<'_>]) -> Result<Item, 
         Form::WirePart => wire_part_of(alloc, values),
         Form::WireLut => wire_lut_of(alloc, values),
         Form::WireMajority => wire_majority_of(alloc, values),
+        Form::WireChoose => wire_choose_of(alloc, values),
         Form::Assign => assign_of(alloc, values),
         Form::Flip => flip_of(alloc, values),
+        Form::FlipAtOnce => flip_at_once_of(alloc, values),
+        Form::SetAtOnce => set_at_once_of(alloc, values),
         Form::Read => read_of(alloc, values),
         Form::Write => write_of(alloc, values),
         Form::Start => start_of(alloc, values),
@@ -129,6 +132,22 @@ fn wire_majority_of(alloc: Global, values: &[Found<'_>]) -> Result<Item, AllocEr
     Ok(Item::Wire { name, right })
 }
 
+/// A wire that reads a register but for the time in which another wire is 1.
+fn wire_choose_of(alloc: Global, values: &[Found<'_>]) -> Result<Item, AllocError>
+    requires { AreNamed (values_of (all_found values.now)) }
+    ensures { IfOk result (λ item. item ≡ item_of Form.WireChoose (values_of (all_found values.now))) }
+{
+    let name = name_at(alloc, values, 0)?;
+    let reset = name_at(alloc, values, 1)?;
+    let target = name_at(alloc, values, 3)?;
+    let right = Right::Choose {
+        reset,
+        set: bit_at(values, 2),
+        target,
+    };
+    Ok(Item::Wire { name, right })
+}
+
 /// The value of an output.
 fn assign_of(alloc: Global, values: &[Found<'_>]) -> Result<Item, AllocError>
     requires { AreNamed (values_of (all_found values.now)) }
@@ -170,6 +189,41 @@ fn flip_of(alloc: Global, values: &[Found<'_>]) -> Result<Item, AllocError>
         set: bit_at(values, 5),
         target,
         lut,
+    })
+}
+
+/// A flip-flop that a wire sets at once.
+fn flip_at_once_of(alloc: Global, values: &[Found<'_>]) -> Result<Item, AllocError>
+    requires { AreNamed (values_of (all_found values.now)) }
+    ensures { IfOk result (λ item. item ≡ item_of Form.FlipAtOnce (values_of (all_found values.now))) }
+{
+    let clock = name_at(alloc, values, 1)?;
+    let reset = name_at(alloc, values, 2)?;
+    let target = name_at(alloc, values, 3)?;
+    let enable = atom_at(alloc, values, 5)?;
+    let lut = lut_at(alloc, values, 6)?;
+    Ok(Item::FlipAtOnce {
+        falling: edge_at(values, 0),
+        clock,
+        reset,
+        set: bit_at(values, 4),
+        target,
+        enable,
+        lut,
+    })
+}
+
+/// A flip-flop without a clock, which a wire sets at once.
+fn set_at_once_of(alloc: Global, values: &[Found<'_>]) -> Result<Item, AllocError>
+    requires { AreNamed (values_of (all_found values.now)) }
+    ensures { IfOk result (λ item. item ≡ item_of Form.SetAtOnce (values_of (all_found values.now))) }
+{
+    let reset = name_at(alloc, values, 0)?;
+    let target = name_at(alloc, values, 1)?;
+    Ok(Item::SetAtOnce {
+        reset,
+        set: bit_at(values, 2),
+        target,
     })
 }
 

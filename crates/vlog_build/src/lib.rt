@@ -5,4 +5,4 @@ mod items;
 mod values;
 
 pub use items::item_of;
-pub use values::name_at;
+pub use values::{bit_at, index_at, name_at, text_at};

@@ -84,10 +84,9 @@ pub fn name_at(alloc: Global, values: &[Found<'_>], place: usize) -> Result<Name
 }
 
 /// The text of the name of a place; `x` where none stands there.
-fn text_at<'a>(values: &[Found<'a>], place: usize) -> &'a [u8]
-    requires { AreNamed (values_of (all_found values.now)) }
+pub fn text_at<'a>(values: &[Found<'a>], place: usize) -> &'a [u8]
     ensures text { result.now ≡ name_in (behind place (values_of (all_found values.now))) }
-    ensures named { IsName result.now }
+    ensures named { AreNamed (values_of (all_found values.now)) → IsName result.now }
 {
     match value_at(values, place) {
         Some(value) => text_of(value),
@@ -98,9 +97,8 @@ fn text_at<'a>(values: &[Found<'a>], place: usize) -> &'a [u8]
 /// The text of the name that a value is; `x` where it is none.
 #[tactic(auto, unfolding(vlog_module::specs::Names::is_name, vlog_module::specs::Names::reserved_words))]
 fn text_of<'a>(value: Value<'a>) -> &'a [u8]
-    requires { IsNamed (seen value) }
     ensures text { (rest : List Meant) → result.now ≡ name_in (seen value.entry ∷ rest) }
-    ensures named { IsName result.now }
+    ensures named { IsNamed (seen value.entry) → IsName result.now }
 {
     match value {
         Value::Name(_, name) => name,
@@ -141,7 +139,7 @@ fn edge_of(value: Value<'_>) -> bool
 }
 
 /// The bit of a place; 0 where none stands there.
-pub(crate) fn bit_at(values: &[Found<'_>], place: usize) -> bool
+pub fn bit_at(values: &[Found<'_>], place: usize) -> bool
     ensures { result ≡ bit_in (behind place (values_of (all_found values.now))) }
 {
     match value_at(values, place) {
@@ -193,7 +191,7 @@ fn word_of(value: Value<'_>) -> u16
 }
 
 /// The index of a place; 0 where none stands there.
-pub(crate) fn index_at(values: &[Found<'_>], place: usize) -> u8
+pub fn index_at(values: &[Found<'_>], place: usize) -> u8
     ensures { result ≡ index_in (behind place (values_of (all_found values.now))) }
 {
     match value_at(values, place) {

@@ -20,6 +20,8 @@ pub(crate) fn item_form(item: &Item) -> Form
         Item::Wire { right, .. } => wire_form(right),
         Item::Assign { .. } => Form::Assign,
         Item::Flip { .. } => Form::Flip,
+        Item::FlipAtOnce { .. } => Form::FlipAtOnce,
+        Item::SetAtOnce { .. } => Form::SetAtOnce,
         Item::Read { .. } => Form::Read,
         Item::Write { .. } => Form::Write,
         Item::Start { .. } => Form::Start,
@@ -36,6 +38,7 @@ fn wire_form(right: &Right) -> Form
         Right::Part { .. } => Form::WirePart,
         Right::Lut(_) => Form::WireLut,
         Right::Majority { .. } => Form::WireMajority,
+        Right::Choose { .. } => Form::WireChoose,
     }
 }
 
@@ -84,6 +87,22 @@ fn push_item<'a>(values: &mut Vec<Value<'a>>, item: &'a Item) -> Result<(), Allo
             push(values, Value::Bit(*set))?;
             push_lut(values, lut)
         }
+        Item::FlipAtOnce {
+            falling,
+            clock,
+            reset,
+            set,
+            target,
+            enable,
+            lut,
+        } => {
+            push(values, Value::Edge(*falling))?;
+            push_name(values, Role::Takes(Sort::Input), clock)?;
+            push_at_once(values, reset, *set, target)?;
+            push_atom(values, enable)?;
+            push_lut(values, lut)
+        }
+        Item::SetAtOnce { reset, set, target } => push_at_once(values, reset, *set, target),
         Item::Read {
             falling,
             clock,
@@ -139,6 +158,21 @@ fn push_clocked<'a>(
     push_atom(values, second)
 }
 
+/// Adds a wire, the register that it sets at once, and the bit.
+fn push_at_once<'a>(
+    values: &mut Vec<Value<'a>>,
+    reset: &'a Name,
+    set: bool,
+    target: &'a Name,
+) -> Result<(), AllocError>
+    ensures { OnOk result (all_seen values.new.items ≡ all_seen values.old.items
+        ++ value.Name (Role.Takes Sort.Wire) reset.now ∷ value.Name Role.AssignsAtOnce target.now ∷ value.Bit set ∷ []) }
+{
+    push_name(values, Role::Takes(Sort::Wire), reset)?;
+    push_name(values, Role::AssignsAtOnce, target)?;
+    push(values, Value::Bit(set))
+}
+
 /// Adds the values of a right side.
 fn push_right<'a>(values: &mut Vec<Value<'a>>, right: &'a Right) -> Result<(), AllocError>
     ensures { OnOk result (all_seen values.new.items ≡ all_seen values.old.items ++ right_values right.now) }
@@ -155,6 +189,11 @@ fn push_right<'a>(values: &mut Vec<Value<'a>>, right: &'a Right) -> Result<(), A
             push_atom(values, a)?;
             push_atom(values, b)?;
             push_atom(values, c)
+        }
+        Right::Choose { reset, set, target } => {
+            push_name(values, Role::Takes(Sort::Wire), reset)?;
+            push(values, Value::Bit(*set))?;
+            push_name(values, Role::Chooses, target)
         }
     }
 }

@@ -1,8 +1,8 @@
--- Names, sorts and words that are kept, each once.
-use Rattle.std.specs.Prelude.{ℕ, Bool, ◌&&◌, ◌==◌, List, [], ◌∷◌, ◌++◌, is_some, bytes_eq, if◌then◌else◌}
+-- Names, sorts, readings and words that are kept, each once.
+use Rattle.std.specs.Prelude.{ℕ, Bool, true, ◌&&◌, ◌==◌, List, [], ◌∷◌, ◌++◌, Option, Some, None, is_some, bytes_eq, if◌then◌else◌}
 use Rattle.std.specs.List.{list_any}
 use Rattle.vlog_module.specs.declared.sort.Sort.{Sort}
-use Rattle.vlog_module.specs.WellFormed.{sort_in}
+use Rattle.vlog_module.specs.WellFormed.{Reading, sort_in, is_unless}
 
 -- whether a name is among others
 abbrev pub has_name : List (List ℕ) → List ℕ → Bool
@@ -21,3 +21,8 @@ with_word words memory place = if has_word words memory place then words else wo
 
 abbrev pub with_sort : List (List ℕ × Sort) → List ℕ → Sort → List (List ℕ × Sort)
 with_sort declared name sort = if is_some (sort_in declared name) then declared else declared ++ (name, sort) ∷ []
+
+-- whether a name, by how it is read if it is, is only read but for the time in which this wire is 1, when the value is this bit
+abbrev pub is_only_unless : Option Reading → List ℕ → Bool → Bool
+is_only_unless (Some reading) reset set = is_unless reset set reading
+is_only_unless None reset set = true

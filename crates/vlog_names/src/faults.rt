@@ -1,18 +1,20 @@
 // Faults of names.
-ghost use Rattle.std.specs.Prelude.{◌≡◌, [], ◌∷◌, IfOk};
+ghost use Rattle.std.specs.Prelude.{◌≡◌, ◌+◌, ◌≤◌, ◌<◌, [], ◌∷◌, length, IfOk};
 ghost use Rattle.std.specs.Option.{option_map};
 ghost use Rattle.vlog_module.specs.WellFormed.{Scope};
-ghost use Rattle.vlog_forms.specs.Items.{index_in, name_in};
+ghost use Rattle.vlog_forms.specs.Items.{name_in};
 ghost use Rattle.vlog_forms.specs.Values.{seen};
 ghost use Rattle.vlog_forms.specs.Reading.{values_of};
-ghost use Rattle.vlog_forms.specs.Outcome.{name_fault, role_use, twice_fault, use_fault, value_uses};
+ghost use Rattle.vlog_forms.specs.Outcome.{fault_from, name_fault, twice_fault, use_fault, value_uses};
 ghost use Rattle.vlog_read.specs.Found.{all_found};
-ghost use Rattle.vlog_names.specs.Scopes.{Holds, seen_fault};
+ghost use Rattle.vlog_names.specs.Scopes.{Holds};
+ghost use Rattle.vlog_names.specs.Seen.{seen_fault, seen_use};
 
-use crate::names::{Names, next_index};
+use crate::names::Names;
 use crate::set::NameSet;
+use crate::uses::{Use, use_of};
 use std::alloc::{AllocError, Global};
-use vlog_forms::{Role, Value, VlogCause};
+use vlog_forms::{Value, VlogCause};
 use vlog_read::Found;
 
 /// A fault: an offset of the text, and the cause.
@@ -22,42 +24,56 @@ pub struct Fault {
     pub cause: VlogCause,
 }
 
-/// The first name, from left to right, that isn't there, is of the wrong sort, or is declared or assigned before.
-pub fn name_fault(names: &Names<'_>, found: &[Found<'_>]) -> Option<Fault>
-    ensures { (scope : Scope) → Holds names.now scope → option_map seen_fault result ≡ name_fault scope (all_found found.now) }
+/// The first name, from left to right, that isn't there, isn't what it is used as, or is declared or assigned before.
+pub fn name_fault<'a>(names: &Names<'_>, values: &[Found<'a>]) -> Option<Fault>
+    ensures { (scope : Scope) → Holds names.now scope → option_map seen_fault result ≡ name_fault scope (all_found values.now) }
 {
-    match found {
+    fault_from(names, values, 0, values)
+}
+
+/// The first fault among the names of the last values of an item, which stand from a place on.
+fn fault_from<'a>(
+    names: &Names<'_>,
+    values: &[Found<'a>],
+    place: usize,
+    more: &[Found<'a>],
+) -> Option<Fault>
+    requires { place + length more.now ≤ length values.now }
+    ensures { (scope : Scope) → Holds names.now scope
+        → option_map seen_fault result ≡ fault_from scope (values_of (all_found values.now)) place (all_found more.now) }
+{
+    match more {
         [] => None,
-        [one, rest @ ..] => match value_fault(names, *one, next_index(rest)) {
+        [one, rest @ ..] => match value_fault(names, *one, values, place) {
             Some(fault) => Some(fault),
-            None => name_fault(names, rest),
+            None => fault_from(names, values, place + 1, rest),
         },
     }
 }
 
-/// Whether the name of a value is at fault. An index may follow the value.
-fn value_fault(names: &Names<'_>, one: Found<'_>, k: u8) -> Option<Fault>
+/// Whether the name of a value is at fault, which has a place among the values of its item.
+fn value_fault(
+    names: &Names<'_>,
+    one: Found<'_>,
+    values: &[Found<'_>],
+    place: usize,
+) -> Option<Fault>
+    requires { place < length values.now }
     ensures { (scope : Scope) → Holds names.now scope
-        → option_map seen_fault result ≡ use_fault scope one.entry.at (value_uses (seen one.entry.value) k) }
+        → option_map seen_fault result ≡ use_fault scope one.entry.at (value_uses (seen one.entry.value) (values_of (all_found values.now)) place) }
 {
-    match one.value {
-        Value::Name(role, name) => use_fault(names, one.at, role, name, k),
-        Value::AtomName(name) => use_fault(names, one.at, Role::Reads, name, k),
-        Value::AtomPart(name, part) => use_fault(names, one.at, Role::ReadsBit, name, part),
-        Value::Edge(_) => None,
-        Value::Bit(_) => None,
-        Value::Word(_) => None,
-        Value::Index(_) => None,
-        Value::AtomBit(_) => None,
+    match use_of(one.value, values, place) {
+        Some(used) => use_fault(names, one.at, used),
+        None => None,
     }
 }
 
-/// Whether a name that is used in a role is at fault.
-fn use_fault(names: &Names<'_>, at: usize, role: Role, name: &[u8], k: u8) -> Option<Fault>
-    ensures { (scope : Scope) → Holds names.now scope → option_map seen_fault result ≡ use_fault scope at (role_use role name.now k ∷ []) }
+/// Whether a name that is used is at fault.
+fn use_fault(names: &Names<'_>, at: usize, used: Use<'_>) -> Option<Fault>
+    ensures { (scope : Scope) → Holds names.now scope → option_map seen_fault result ≡ use_fault scope at (seen_use used.entry ∷ []) }
 {
-    if names.is_known(role, name) {
-        if names.is_first(role, name, k) {
+    if names.is_known(used) {
+        if names.is_first(used) {
             None
         } else {
             Some(Fault {

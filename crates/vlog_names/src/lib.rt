@@ -5,9 +5,12 @@
 
 mod faults;
 mod names;
+mod readings;
 mod set;
 mod sorts;
+mod uses;
 mod words;
 
 pub use faults::{Fault, name_fault, text_of, twice_fault};
 pub use names::Names;
+pub use uses::{Reset, Use};

@@ -1,27 +1,31 @@
 // The names of a module so far.
-ghost use Rattle.std.specs.Prelude.{◌≡◌, ℕ, [], ◌∷◌, OnOk};
+ghost use Rattle.std.specs.Prelude.{◌≡◌, ◌+◌, ◌≤◌, ◌<◌, [], ◌∷◌, length, OnOk};
 ghost use Rattle.vlog_module.specs.WellFormed.{has_bit, is_first, is_known, is_same_sort, is_sort, Scope};
-ghost use Rattle.vlog_forms.specs.Items.{index_in};
-ghost use Rattle.vlog_forms.specs.Outcome.{role_use, uses_in, value_uses};
+ghost use Rattle.vlog_forms.specs.Outcome.{uses_from, uses_in, value_uses};
 ghost use Rattle.vlog_forms.specs.Reading.{values_of};
 ghost use Rattle.vlog_forms.specs.Values.{seen};
 ghost use Rattle.vlog_read.specs.Found.{all_found};
 ghost use Rattle.vlog_names.specs.Kept.{has_name};
 ghost use Rattle.vlog_names.specs.Scopes.{Holds, entered};
+ghost use Rattle.vlog_names.specs.Seen.{seen_use};
 
+use crate::readings::{Reading, ReadingMap};
 use crate::set::NameSet;
 use crate::sorts::SortMap;
+use crate::uses::{Use, use_of};
 use crate::words::WordSet;
 use std::alloc::{AllocError, Global};
 use std::marker::Model;
-use vlog_forms::{Role, Value};
+use vlog_forms::Value;
 use vlog_module::Sort;
 use vlog_read::Found;
 
-/// What the ports and the items so far declare and assign.
+/// What the ports and the items so far declare, read and assign.
 #[derive(Drop)]
 pub struct Names<'a> {
     declared: SortMap<'a>,
+    /// What wires read.
+    read: ReadingMap<'a>,
     assigned: NameSet<'a>,
     started: WordSet<'a>,
 }
@@ -31,18 +35,20 @@ impl<'a> Model for Names<'a> {
 
     ghost Value = { Known };
 
-    ghost view = { λ names. record { declared = names.declared; assigned = names.assigned; started = names.started } };
+    ghost view = { λ names. record { declared = names.declared; read = names.read; assigned = names.assigned; started = names.started } };
 }
 
 impl<'a> Names<'a> {
     /// No names.
     pub fn new(alloc: Global) -> Names<'a>
         ensures declared { result.declared ≡ [] }
+        ensures read { result.read ≡ [] }
         ensures assigned { result.assigned ≡ [] }
         ensures started { result.started ≡ [] }
     {
         Names {
             declared: SortMap::new(alloc),
+            read: ReadingMap::new(alloc),
             assigned: NameSet::new(alloc),
             started: WordSet::new(alloc),
         }
@@ -55,74 +61,113 @@ impl<'a> Names<'a> {
         self.assigned.contains(name)
     }
 
-    /// Enters what values declare and assign.
-    pub fn enter(&mut self, found: &[Found<'a>]) -> Result<(), AllocError>
-        ensures { OnOk result ((scope : Scope) → Holds self.old scope → Holds self.new (entered scope (uses_in (values_of (all_found found.now))))) }
+    /// Enters what the values of a wire, or of another item, declare, read and assign.
+    pub fn enter(&mut self, values: &[Found<'a>], wire: bool) -> Result<(), AllocError>
+        ensures { OnOk result ((scope : Scope) → Holds self.old scope
+            → Holds self.new (entered scope wire (uses_in (values_of (all_found values.now))))) }
     {
-        match found {
+        self.enter_from(values, 0, values, wire)
+    }
+
+    /// Enters the same of the last values of an item, which stand from a place on.
+    fn enter_from(
+        &mut self,
+        values: &[Found<'a>],
+        place: usize,
+        more: &[Found<'a>],
+        wire: bool,
+    ) -> Result<(), AllocError>
+        requires { place + length more.now ≤ length values.now }
+        ensures { OnOk result ((scope : Scope) → Holds self.old scope
+            → Holds self.new (entered scope wire (uses_from (values_of (all_found values.now)) place (values_of (all_found more.now))))) }
+    {
+        match more {
             [] => Ok(()),
-            [one, rest @ ..] => match self.enter_value(one.value, next_index(rest)) {
-                Ok(()) => self.enter(rest),
+            [one, rest @ ..] => match self.enter_value(one.value, values, place, wire) {
+                Ok(()) => self.enter_from(values, place + 1, rest, wire),
                 Err(refused) => Err(refused),
             },
         }
     }
 
-    /// Enters what a value declares or assigns. An index may follow it.
-    fn enter_value(&mut self, value: Value<'a>, k: u8) -> Result<(), AllocError>
-        ensures { OnOk result ((scope : Scope) → Holds self.old scope → Holds self.new (entered scope (value_uses (seen value.entry) k))) }
+    /// Enters the same of a value, which has a place among the values of its item.
+    fn enter_value(
+        &mut self,
+        value: Value<'a>,
+        values: &[Found<'a>],
+        place: usize,
+        wire: bool,
+    ) -> Result<(), AllocError>
+        requires { place < length values.now }
+        ensures { OnOk result ((scope : Scope) → Holds self.old scope
+            → Holds self.new (entered scope wire (value_uses (seen value.entry) (values_of (all_found values.now)) place))) }
     {
-        match value {
-            Value::Name(role, name) => self.enter_use(role, name, k),
-            Value::Edge(_) => Ok(()),
-            Value::Bit(_) => Ok(()),
-            Value::Word(_) => Ok(()),
-            Value::Index(_) => Ok(()),
-            Value::AtomBit(_) => Ok(()),
-            Value::AtomName(_) => Ok(()),
-            Value::AtomPart(_, _) => Ok(()),
+        match use_of(value, values, place) {
+            Some(used) => self.enter_use(used, wire),
+            None => Ok(()),
         }
     }
 
-    /// Enters a name that is used in a role. An index may follow it.
-    pub fn enter_use(&mut self, role: Role, name: &'a [u8], k: u8) -> Result<(), AllocError>
-        ensures { OnOk result ((scope : Scope) → Holds self.old scope → Holds self.new (entered scope (role_use role name.now k ∷ []))) }
+    /// Enters a name that a wire, or another item, uses.
+    pub fn enter_use(&mut self, used: Use<'a>, wire: bool) -> Result<(), AllocError>
+        ensures { OnOk result ((scope : Scope) → Holds self.old scope → Holds self.new (entered scope wire (seen_use used.entry ∷ []))) }
     {
-        match role {
-            Role::Declares(sort) => self.declared.push(name, sort),
-            Role::Assigns(_) => self.assigned.push(name),
-            Role::Starts => self.started.push(name, k),
-            Role::Reads => Ok(()),
-            Role::ReadsBit => Ok(()),
-            Role::Takes(_) => Ok(()),
+        match used {
+            Use::Declares(sort, name) => self.declared.push(name, sort),
+            Use::Reads(name) => {
+                if wire {
+                    self.read.push(name, Reading::Plainly)
+                } else {
+                    Ok(())
+                }
+            }
+            Use::Chooses(reset, name) => {
+                if wire {
+                    self.read.push(name, Reading::Unless(reset))
+                } else {
+                    Ok(())
+                }
+            }
+            Use::Assigns(_, name) => self.assigned.push(name),
+            Use::AssignsAtOnce(_, name) => self.assigned.push(name),
+            Use::Starts(name, k) => self.started.push(name, k),
+            Use::ReadsBit(_, _) => Ok(()),
+            Use::Takes(_, _) => Ok(()),
         }
     }
 
-    /// Whether a name that is used in a role is declared as what it is used as.
-    pub(crate) fn is_known(&self, role: Role, name: &[u8]) -> bool
-        ensures { (scope : Scope) (k : ℕ) → Holds self.now scope → result ≡ is_known scope (role_use role name.now k) }
+    /// Whether a name is declared as what it is used as, and a register that a wire sets at once is read accordingly.
+    pub(crate) fn is_known(&self, used: Use<'_>) -> bool
+        ensures { (scope : Scope) → Holds self.now scope → result ≡ is_known scope (seen_use used.entry) }
     {
-        match role {
-            Role::Declares(_) => true,
-            Role::Reads => has_bit(self.declared.get(name)),
-            Role::ReadsBit => is_sort(Sort::Word, self.declared.get(name)),
-            Role::Takes(sort) => is_sort(sort, self.declared.get(name)),
-            Role::Assigns(sort) => is_sort(sort, self.declared.get(name)),
-            Role::Starts => is_sort(Sort::Memory, self.declared.get(name)),
+        match used {
+            Use::Declares(_, _) => true,
+            Use::Reads(name) => has_bit(self.declared.get(name)),
+            Use::ReadsBit(name, _) => is_sort(Sort::Word, self.declared.get(name)),
+            Use::Takes(sort, name) => is_sort(sort, self.declared.get(name)),
+            Use::Assigns(sort, name) => is_sort(sort, self.declared.get(name)),
+            Use::Chooses(_, name) => is_sort(Sort::Register, self.declared.get(name)),
+            Use::AssignsAtOnce(reset, name) => {
+                is_sort(Sort::Register, self.declared.get(name))
+                    && self.read.is_only_unless(name, reset)
+            }
+            Use::Starts(name, _) => is_sort(Sort::Memory, self.declared.get(name)),
         }
     }
 
-    /// Whether nothing so far declares or assigns the same. An index may follow the name.
-    pub(crate) fn is_first(&self, role: Role, name: &[u8], k: u8) -> bool
-        ensures { (scope : Scope) → Holds self.now scope → result ≡ is_first scope (role_use role name.now k) }
+    /// Whether nothing so far declares or assigns the same.
+    pub(crate) fn is_first(&self, used: Use<'_>) -> bool
+        ensures { (scope : Scope) → Holds self.now scope → result ≡ is_first scope (seen_use used.entry) }
     {
-        match role {
-            Role::Declares(_) => self.declared.get(name).is_none(),
-            Role::Assigns(_) => !self.assigned.contains(name),
-            Role::Starts => !self.started.contains(name, k),
-            Role::Reads => true,
-            Role::ReadsBit => true,
-            Role::Takes(_) => true,
+        match used {
+            Use::Declares(_, name) => self.declared.get(name).is_none(),
+            Use::Assigns(_, name) => !self.assigned.contains(name),
+            Use::AssignsAtOnce(_, name) => !self.assigned.contains(name),
+            Use::Starts(name, k) => !self.started.contains(name, k),
+            Use::Reads(_) => true,
+            Use::ReadsBit(_, _) => true,
+            Use::Takes(_, _) => true,
+            Use::Chooses(_, _) => true,
         }
     }
 }
@@ -157,30 +202,4 @@ fn is_same_sort(one: Sort, other: Sort) -> bool
     ensures { result ≡ is_same_sort one other }
 {
     one as u8 == other as u8
-}
-
-/// The index that values begin with; 0 where they begin with none.
-pub(crate) fn next_index(found: &[Found<'_>]) -> u8
-    ensures { result ≡ index_in (values_of (all_found found.now)) }
-{
-    match found {
-        [] => 0,
-        [first, ..] => index_of(first.value),
-    }
-}
-
-/// The index that a value is; 0 where it is none.
-fn index_of(value: Value<'_>) -> u8
-    ensures { result ≡ index_in (seen value.entry ∷ []) }
-{
-    match value {
-        Value::Index(k) => k,
-        Value::Name(_, _) => 0,
-        Value::Edge(_) => 0,
-        Value::Bit(_) => 0,
-        Value::Word(_) => 0,
-        Value::AtomBit(_) => 0,
-        Value::AtomName(_) => 0,
-        Value::AtomPart(_, _) => 0,
-    }
 }

@@ -20,7 +20,7 @@ use Rattle.vlog_read.specs.Readings.{StopsAt}
 use Rattle.vlog_build.specs.Named.{AreNamed}
 use Rattle.vlog_build.proofs.Named.{named-sound}
 use Rattle.vlog_names.specs.declared.faults.Fault as kept
-use Rattle.vlog_names.specs.Scopes.{seen_fault}
+use Rattle.vlog_names.specs.Seen.{seen_fault}
 use Rattle.vlog_parse.specs.Answers.{RefusesAt, refusal_of}
 
 -- ---- the names of a header

@@ -5,7 +5,7 @@ use Rattle.vlog_forms.specs.declared.fault.VlogCause.TheVariants.{Syntax}
 use Rattle.vlog_forms.specs.Outcome.{Fault, fault}
 use Rattle.vlog_read.specs.declared.stop.Stop.{Stop}
 use Rattle.vlog_read.specs.declared.stop.Stop.TheVariants as stop
-use Rattle.vlog_names.specs.Scopes.{seen_fault}
+use Rattle.vlog_names.specs.Seen.{seen_fault}
 use Rattle.vlog_parse.specs.declared.fault.Refusal.{Refusal}
 use Rattle.vlog_parse.specs.declared.fault.Refusal.TheVariants as refusal
 use Rattle.vlog_parse.specs.declared.fault.VlogFault.{VlogFault}

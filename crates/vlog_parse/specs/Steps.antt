@@ -4,7 +4,7 @@ use Rattle.vlog_tokens.specs.Tokens.{Spot, spots_at}
 use Rattle.vlog_module.specs.declared.modules.Port.{Port}
 use Rattle.vlog_module.specs.Parts.{Parts}
 use Rattle.vlog_forms.specs.Outcome.{Fault, items_outcome}
-use Rattle.vlog_names.specs.Scopes.{seen_fault}
+use Rattle.vlog_names.specs.Seen.{seen_fault}
 use Rattle.vlog_parse.specs.declared.fault.Refusal.{Refusal}
 use Rattle.vlog_parse.specs.declared.fault.Refusal.TheVariants as refusal
 use Rattle.vlog_parse.specs.declared.items.Step.{Step}

@@ -6,12 +6,12 @@ ghost use Rattle.vlog_module.specs.WellFormed.{section_of};
 ghost use Rattle.vlog_forms.specs.Outcome.{module_of, port_of, uses_in, with_item};
 ghost use Rattle.vlog_forms.specs.Reading.{values_of};
 ghost use Rattle.vlog_read.specs.Found.{all_found};
+ghost use Rattle.vlog_names.specs.Scopes.{is_wire};
 ghost use Rattle.vlog_parse.specs.Drafts.{IsKept, so_far};
 
 use std::alloc::{AllocError, Global};
-use vlog_forms::Role;
 use vlog_module::{Item, Name, Port, Sort};
-use vlog_names::Names;
+use vlog_names::{Names, Use};
 use vlog_read::Found;
 
 /// The parts of a module that were read, and what is kept of their names.
@@ -53,7 +53,7 @@ pub(crate) fn push_port<'a>(
     ensures kept { OnOk result (IsKept draft.new) }
 {
     let sort = port_sort(output);
-    draft.names.enter_use(Role::Declares(sort), name, 0)?;
+    draft.names.enter_use(Use::Declares(sort, name), false)?;
     let name = Name::new(alloc, name)?;
     draft.ports.push(Port { name, output })?;
     Ok(())
@@ -77,10 +77,17 @@ pub(crate) fn push_item<'a>(
     ensures parts { OnOk result (so_far draft.new ≡ with_item (so_far draft.old) item) }
     ensures kept { OnOk result (IsKept draft.new) }
 {
-    draft.names.enter(values)?;
+    draft.names.enter(values, is_wire(&item))?;
     draft.section = section_of(&item);
     draft.items.push(item)?;
     Ok(())
+}
+
+/// Whether an item is a wire.
+fn is_wire(item: &Item) -> bool
+    ensures { result ≡ is_wire item.now }
+{
+    matches!(item, Item::Wire { .. })
 }
 
 /// The section of an item.
@@ -94,6 +101,8 @@ pub(crate) fn section_of(item: &Item) -> u8
         Item::Wire { .. } => 5,
         Item::Assign { .. } => 6,
         Item::Flip { .. } => 7,
+        Item::FlipAtOnce { .. } => 7,
+        Item::SetAtOnce { .. } => 7,
         Item::Read { .. } => 8,
         Item::Write { .. } => 9,
         Item::Start { .. } => 10,

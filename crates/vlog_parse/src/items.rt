@@ -9,7 +9,7 @@ ghost use Rattle.vlog_forms.specs.Outcome.{after, is_end, item_fault, item_outco
 ghost use Rattle.vlog_read.specs.Found.{all_found};
 ghost use Rattle.vlog_read.specs.Readings.{whole_of};
 ghost use Rattle.vlog_build.specs.Named.{AreNamed};
-ghost use Rattle.vlog_names.specs.Scopes.{seen_fault};
+ghost use Rattle.vlog_names.specs.Seen.{seen_fault};
 ghost use Rattle.vlog_parse.specs.Drafts.{IsKept, next_scope, so_far};
 ghost use Rattle.vlog_parse.specs.Steps.{Adds, Ends, IsAt, IsBehind, Steps, items_from};
 

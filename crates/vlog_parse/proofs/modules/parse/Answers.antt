@@ -1,6 +1,6 @@
 use Rattle.vlog_forms.proofs.Spelled.{one-module}
 use Rattle.vlog_forms.proofs.Whole.{outcome-spells}
-use Rattle.vlog_names.specs.Scopes.{seen_fault}
+use Rattle.vlog_names.specs.Seen.{seen_fault}
 use Rattle.vlog_parse.proofs.Outcomes.{taken, told, not-taken}
 use Rattle.vlog_parse.proofs.modules.parse.Goals as goal
 

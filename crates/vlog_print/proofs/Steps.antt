@@ -1,8 +1,8 @@
 -- What slots add to a text, step by step.
-use Rattle.std.proofs.Common.{◌≡◌, ℕ, zero, suc, ◌<◌, ◌≤◌, ◌+◌, ◌-◌, Bool, true, false, List, [], ◌∷◌, ◌++◌, length, get_or, take, drop, map, refl, ap, sym, ◌∙◌, arith, append_assoc}
+use Rattle.std.proofs.Common.{◌≡◌, ℕ, zero, suc, ◌<◌, ◌≤◌, ◌+◌, ◌-◌, true, false, List, [], ◌∷◌, ◌++◌, length, get_or, take, drop, map, refl, ap, sym, ◌∙◌, arith, append_assoc}
 use Rattle.std.proofs.lemmas.Option.{get_or_from_slice_get}
-use Rattle.std.proofs.lemmas.List.{reverse-append, append-nil, drop_more, take_more, get_or-map, length-map, take_all, drop_all}
-use Rattle.std.specs.Prelude.{if◌then◌else◌, flat_map, slice_get, Some, reverse, Result, Ok, Err, OnOk, IfOk}
+use Rattle.std.proofs.lemmas.List.{reverse-append, append-nil, drop_more, take_more, get_or-map, length-map, drop_all}
+use Rattle.std.specs.Prelude.{slice_get, Some, reverse}
 use Rattle.vlog_module.specs.declared.atoms.Atom.{Atom}
 use Rattle.vlog_forms.specs.Values.Value.{AnAtom}
 use Rattle.vlog_tokens.specs.Fixed.{fixed_text}
@@ -12,7 +12,7 @@ use Rattle.vlog_forms.specs.declared.slot.Slot.{Slot}
 use Rattle.vlog_forms.specs.declared.slot.Slot.TheVariants as slot
 use Rattle.vlog_forms.specs.declared.value.Value as read
 use Rattle.vlog_forms.specs.Values.{Value, seen, value_tokens, tokens_at}
-use Rattle.vlog_forms.specs.Layout.{takes_value, exact_tokens, first_tokens, more_slots, atom_slots, again_slots, first_again_slots}
+use Rattle.vlog_forms.specs.Layout.{takes_value, exact_tokens, more_slots, atom_slots, again_slots, first_again_slots}
 use Rattle.vlog_forms.specs.Printed.{decimal_text, space_text, tokens_text, written, line_of}
 use Rattle.vlog_forms.proofs.WrittenSlots.{written-passed, written-took, written-none}
 use Rattle.vlog_print.specs.Rest.{all_seen, with_rest}

@@ -1,4 +1,4 @@
-use Rattle.std.proofs.Common.{◌≡◌, ◌++◌, ◌∷◌, [], take, drop, length, flat_map, ap, sym, ◌∙◌, subst, arith, List}
+use Rattle.std.proofs.Common.{sym, subst}
 use Rattle.std.proofs.lemmas.Result.{IfOk-weaker}
 use Rattle.vlog_forms.specs.Items.{IsSpelling}
 use Rattle.vlog_forms.proofs.PrintedTokens.{printed-spells}

@@ -1,4 +1,4 @@
-use Rattle.std.proofs.Common.{◌≡◌, ◌++◌, ◌∷◌, [], take, drop, length, flat_map, ap, sym, ◌∙◌, subst, arith, List}
+use Rattle.std.proofs.Common.{◌++◌, [], flat_map, ap, ◌∙◌}
 use Rattle.std.proofs.lemmas.Result.{on_ok_weaker}
 use Rattle.vlog_forms.specs.Table.{table}
 use Rattle.vlog_forms.specs.Layout.{parts_of, slots_of}

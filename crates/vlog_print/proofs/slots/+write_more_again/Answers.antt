@@ -1,11 +1,8 @@
-use Rattle.std.proofs.Common.{◌≡◌, ◌≤◌, ◌+◌, ◌-◌, ◌++◌, ◌∷◌, [], take, length, ap, sym, ◌∙◌, subst, arith, ℕ, List, refl, ◌<◌}
-use Rattle.std.specs.Prelude.{OnOk, IfOk}
+use Rattle.std.proofs.Common.{◌+◌, ◌-◌, ◌++◌, take, ap, sym, ◌∙◌, arith}
 use Rattle.std.proofs.lemmas.Result.{on_ok_weaker}
 use Rattle.vlog_forms.specs.Layout.{again_slots}
 use Rattle.vlog_forms.specs.Printed.{tokens_text}
 use Rattle.vlog_forms.specs.Values.{tokens_at}
-use Rattle.vlog_forms.specs.declared.slot.Slot.{Slot}
-use Rattle.vlog_forms.specs.declared.slot.Slot.TheVariants as slot
 use Rattle.vlog_print.specs.Rest.{all_seen, with_rest}
 use Rattle.vlog_print.proofs.Steps.{again-none, again-some}
 use Rattle.vlog_print.proofs.slots.+write_more_again.Goals as goal

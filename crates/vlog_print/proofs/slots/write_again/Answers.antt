@@ -1,10 +1,8 @@
-use Rattle.std.proofs.Common.{◌≡◌, ◌≤◌, ◌+◌, ◌-◌, ◌++◌, ◌∷◌, [], take, length, ap, sym, ◌∙◌, subst, arith, ℕ, List, refl, ◌<◌}
-use Rattle.std.specs.Prelude.{OnOk, IfOk}
+use Rattle.std.proofs.Common.{◌≡◌, ◌≤◌, ◌++◌, take, length, ap, sym, ◌∙◌, subst, arith}
+use Rattle.std.specs.Prelude.{OnOk}
 use Rattle.std.proofs.lemmas.List.{append-nil, length-take}
 use Rattle.vlog_forms.specs.Printed.{tokens_text}
-use Rattle.vlog_forms.specs.declared.slot.Slot.{Slot}
-use Rattle.vlog_forms.specs.declared.slot.Slot.TheVariants as slot
-use Rattle.vlog_print.specs.Rest.{all_seen, with_rest}
+use Rattle.vlog_print.specs.Rest.{all_seen}
 use Rattle.vlog_print.proofs.Steps.{tokens_at-place, tokens_at-past}
 use Rattle.vlog_print.proofs.slots.write_again.Goals as goal
 

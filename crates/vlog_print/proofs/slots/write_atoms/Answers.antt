@@ -1,9 +1,7 @@
-use Rattle.std.proofs.Common.{◌≡◌, ◌≤◌, ◌+◌, ◌-◌, ◌++◌, ◌∷◌, [], take, length, ap, sym, ◌∙◌, subst, arith, ℕ, List, refl, ◌<◌}
-use Rattle.std.specs.Prelude.{OnOk, IfOk}
+use Rattle.std.proofs.Common.{◌-◌, ◌++◌, ◌∷◌, [], ap, sym, ◌∙◌, arith, refl}
 use Rattle.std.proofs.lemmas.Result.{IfOk-weaker}
-use Rattle.vlog_forms.specs.declared.slot.Slot.{Slot}
 use Rattle.vlog_forms.specs.declared.slot.Slot.TheVariants as slot
-use Rattle.vlog_print.specs.Rest.{all_seen, with_rest}
+use Rattle.vlog_print.specs.Rest.{with_rest}
 use Rattle.vlog_print.proofs.Steps.{atoms-none, atoms-some}
 use Rattle.vlog_forms.specs.Layout.{more_slots}
 use Rattle.vlog_print.proofs.slots.write_atoms.Goals as goal

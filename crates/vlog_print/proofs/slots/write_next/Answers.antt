@@ -1,8 +1,5 @@
-use Rattle.std.proofs.Common.{◌≡◌, ◌≤◌, ◌+◌, ◌-◌, ◌++◌, ◌∷◌, [], take, length, ap, sym, ◌∙◌, subst, arith, ℕ, List, refl, ◌<◌}
-use Rattle.std.specs.Prelude.{OnOk, IfOk}
-use Rattle.vlog_forms.specs.declared.slot.Slot.{Slot}
-use Rattle.vlog_forms.specs.declared.slot.Slot.TheVariants as slot
-use Rattle.vlog_print.specs.Rest.{all_seen, with_rest}
+use Rattle.std.proofs.Common.{◌+◌, ap, sym, ◌∙◌}
+use Rattle.vlog_print.specs.Rest.{with_rest}
 use Rattle.vlog_print.proofs.Steps.{rest-took, rest-missing}
 use Rattle.vlog_print.proofs.slots.write_next.Goals as goal
 

@@ -1,10 +1,7 @@
-use Rattle.std.proofs.Common.{◌≡◌, ◌≤◌, ◌+◌, ◌-◌, ◌++◌, ◌∷◌, [], take, length, ap, sym, ◌∙◌, subst, arith, ℕ, List, refl, ◌<◌}
-use Rattle.std.specs.Prelude.{OnOk, IfOk}
+use Rattle.std.proofs.Common.{◌≡◌, ◌++◌, take, ap, sym, ◌∙◌}
 use Rattle.vlog_forms.specs.Layout.{parts_of}
 use Rattle.vlog_forms.specs.Printed.{tokens_text}
 use Rattle.vlog_forms.specs.Values.{tokens_at}
-use Rattle.vlog_forms.specs.declared.slot.Slot.{Slot}
-use Rattle.vlog_forms.specs.declared.slot.Slot.TheVariants as slot
 use Rattle.vlog_print.specs.Rest.{all_seen, with_rest}
 use Rattle.vlog_print.proofs.Steps.{rest-space, rest-fixed, rest-literal, rest-again}
 use Rattle.vlog_print.proofs.slots.write_slot.Goals as goal

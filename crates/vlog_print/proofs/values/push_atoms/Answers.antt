@@ -1,6 +1,4 @@
-use Rattle.std.proofs.Common.{◌≡◌, ◌≤◌, ◌+◌, ◌-◌, ◌++◌, ◌∷◌, [], take, length, ap, sym, ◌∙◌, subst, arith, ℕ, List, refl, ◌<◌}
-use Rattle.std.specs.Prelude.{OnOk, IfOk}
-use Rattle.std.proofs.lemmas.Option.{slice_get_within}
+use Rattle.std.proofs.Common.{◌≡◌, ◌+◌, ◌-◌, ◌++◌, take, length, ap, ◌∙◌, arith, ℕ, ◌<◌}
 use Rattle.std.specs.Prelude.{map, reverse}
 use Rattle.vlog_forms.specs.Values.Value.{AnAtom}
 use Rattle.vlog_print.specs.Rest.{all_seen}

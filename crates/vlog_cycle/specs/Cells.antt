@@ -4,7 +4,7 @@ use Rattle.vlog_cycle.specs.declared.gates.Gate.{Gate}
 use Rattle.vlog_cycle.specs.declared.plan.Operand.{Operand}
 use Rattle.vlog_cycle.specs.declared.plan.Operand.TheVariants.{Constant, Slot, Part}
 use Rattle.vlog_cycle.specs.declared.plan.Rule.{Rule}
-use Rattle.vlog_cycle.specs.declared.plan.Rule.TheVariants.{Copy, Lookup, Majority}
+use Rattle.vlog_cycle.specs.declared.plan.Rule.TheVariants.{Copy, Lookup, Majority, Choose}
 use Rattle.vlog_cycle.specs.declared.plan.Wire.{Wire}
 use Rattle.vlog_cycle.specs.Values.{bit_of, number_of}
 
@@ -48,12 +48,16 @@ gate_cells bits words (Copy operand) =
 gate_cells bits words (Lookup table) = map (operand_cell bits words) table.ins
 gate_cells bits words (Majority a b c) =
     operand_cell bits words a ∷ operand_cell bits words b ∷ operand_cell bits words c ∷ zero_cell bits words ∷ []
+gate_cells bits words (Choose reset set target) =
+    operand_cell bits words reset ∷ operand_cell bits words target ∷ zero_cell bits words ∷ zero_cell bits words ∷ []
 
--- a copy is 1 where its first cell is; two of three are 1 at 3, 5, 6 and 7
+-- a copy is 1 where its first cell is; two of three are 1 at 3, 5, 6 and 7; of a choice between 1 and a target the
+-- table is 1 at 1, 2 and 3, of one between 0 and a target at 2
 abbrev pub gate_table : Rule → ℕ
 gate_table (Copy operand) = 2
 gate_table (Lookup table) = table.word
 gate_table (Majority a b c) = 232
+gate_table (Choose reset set target) = if set then 14 else 4
 
 abbrev pub gate_of : ℕ → ℕ → Wire → Gate
 gate_of bits words wire = record { slot = wire.slot; ins = gate_cells bits words wire.rule; table = gate_table wire.rule }

@@ -1,21 +1,22 @@
 -- Items over slots, made of the items of a module.
-use Rattle.std.specs.Prelude.{ℕ, false, List, [], ◌∷◌, ◌++◌, Option, Some, None, fold, map, flat_map, length, if◌then◌else◌}
+use Rattle.std.specs.Prelude.{ℕ, Bool, true, false, List, [], ◌∷◌, ◌++◌, Option, Some, None, fold, map, flat_map, length, if◌then◌else◌}
 use Rattle.vlog_module.specs.declared.atoms.Atom.{Atom}
 use Rattle.vlog_module.specs.declared.atoms.Atom.TheVariants.{Bit, Whole, Part}
 use Rattle.vlog_module.specs.declared.item.Lut.{Lut}
 use Rattle.vlog_module.specs.declared.item.Right.{Right}
-use Rattle.vlog_module.specs.declared.item.Right.TheVariants.{Bit as RightBit, Whole as RightWhole, Part as RightPart, Lut as RightLut, Majority as RightMajority}
+use Rattle.vlog_module.specs.declared.item.Right.TheVariants.{Bit as RightBit, Whole as RightWhole, Part as RightPart, Lut as RightLut, Majority as RightMajority, Choose as RightChoose}
 use Rattle.vlog_module.specs.declared.item.Item.{Item}
-use Rattle.vlog_module.specs.declared.item.Item.TheVariants.{Wire as WireItem, Assign, Flip as FlipItem, Read as ReadItem, Write as WriteItem}
+use Rattle.vlog_module.specs.declared.item.Item.TheVariants.{Wire as WireItem, Assign, Flip as FlipItem, FlipAtOnce as FlipAtOnceItem, SetAtOnce as SetAtOnceItem, Read as ReadItem, Write as WriteItem}
 use Rattle.vlog_module.specs.declared.modules.Port.{Port}
 use Rattle.vlog_module.specs.Maps.{value_in}
 use Rattle.vlog_cycle.specs.declared.plan.Operand.{Operand}
 use Rattle.vlog_cycle.specs.declared.plan.Operand.TheVariants.{Constant, Slot, Part as PartOperand}
 use Rattle.vlog_cycle.specs.declared.plan.Table.{Table}
 use Rattle.vlog_cycle.specs.declared.plan.Rule.{Rule}
-use Rattle.vlog_cycle.specs.declared.plan.Rule.TheVariants.{Copy, Lookup, Majority}
+use Rattle.vlog_cycle.specs.declared.plan.Rule.TheVariants.{Copy, Lookup, Majority, Choose}
 use Rattle.vlog_cycle.specs.declared.plan.Wire.{Wire}
 use Rattle.vlog_cycle.specs.declared.plan.Flip.{Flip}
+use Rattle.vlog_cycle.specs.declared.plan.Settle.{Settle}
 use Rattle.vlog_cycle.specs.declared.plan.Read.{Read}
 use Rattle.vlog_cycle.specs.declared.plan.Write.{Write}
 use Rattle.vlog_cycle.specs.Entries.{put}
@@ -59,6 +60,7 @@ rule_of bits words (RightWhole name) = Copy (slot_operand (bits name))
 rule_of bits words (RightPart name k) = Copy (part_operand (words name) k)
 rule_of bits words (RightLut lut) = Lookup (table_of bits words lut)
 rule_of bits words (RightMajority a b c) = Majority (operand_of bits words a) (operand_of bits words b) (operand_of bits words c)
+rule_of bits words (RightChoose reset set target) = Choose (slot_operand (bits reset)) set (slot_operand (bits target))
 
 -- the wires of items, where these names of one bit stand before them
 abbrev pub wires_of : (List ℕ → Option ℕ) → List (List ℕ) → List Item → List Wire
@@ -90,6 +92,20 @@ abbrev pub of_three : {A : Type 0} → Option ℕ → Option ℕ → Option ℕ 
 of_three (Some a) b c make = of_two b c (make a)
 of_three None b c make = None
 
+-- a flip-flop that a wire sets at once, by its clock
+abbrev pub flip_at_once_of : Places → Item → Option Flip
+flip_at_once_of at (FlipAtOnceItem falling clock reset set target enable lut) =
+    of_two (at.pins clock) (at.registers target) (λ pin slot. record {
+      edge = record { pin = pin; falling = falling };
+      enable = operand_of at.bits at.words enable;
+      reset = slot_operand (at.bits reset);
+      set = set;
+      at_once = true;
+      target = slot;
+      table = table_of at.bits at.words lut;
+    })
+flip_at_once_of at _ = None
+
 abbrev pub flip_of : Places → Item → Option Flip
 flip_of at (FlipItem falling clock enable reset set target lut) =
     of_two (at.pins clock) (at.registers target) (λ pin slot. record {
@@ -97,10 +113,20 @@ flip_of at (FlipItem falling clock enable reset set target lut) =
       enable = operand_of at.bits at.words enable;
       reset = operand_of at.bits at.words reset;
       set = set;
+      at_once = false;
       target = slot;
       table = table_of at.bits at.words lut;
     })
-flip_of at _ = None
+flip_of at item = flip_at_once_of at item
+
+-- a register that a wire sets at once
+abbrev pub settle_over : Places → List ℕ → Bool → List ℕ → Option Settle
+settle_over at reset set target = of_two (at.bits reset) (at.registers target) (λ wire slot. record { wire = wire; set = set; target = slot })
+
+abbrev pub settle_of : Places → Item → Option Settle
+settle_of at (FlipAtOnceItem falling clock reset set target enable lut) = settle_over at reset set target
+settle_of at (SetAtOnceItem reset set target) = settle_over at reset set target
+settle_of at _ = None
 
 abbrev pub read_of : Places → Item → Option Read
 read_of at (ReadItem falling clock clock_enable enable target memory address) =

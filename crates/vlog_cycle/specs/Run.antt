@@ -1,7 +1,9 @@
 -- The run of a module over a list of events: what it holds after the start, and after each event.
-use Rattle.std.specs.Prelude.{ℕ, zero, suc, ◌-◌, Bool, true, false, not, ◌&&◌, ◌==◌, List, [], ◌∷◌, ◌++◌, Option, Some, None, fold, map, flat_map, get_or, replicate, slice_set, unwrap_or, bit_and, bit_or, if◌then◌else◌}
+use Rattle.std.specs.Prelude.{ℕ, zero, suc, ◌-◌, Bool, true, false, not, ◌&&◌, ◌||◌, ◌==◌, List, [], ◌∷◌, ◌++◌, Option, Some, None, fold, map, flat_map, get_or, replicate, slice_set, unwrap_or, bit_and, bit_or, if◌then◌else◌}
+use Rattle.std.specs.Option.{option_map}
 use Rattle.vlog_module.specs.declared.item.Item.{Item}
-use Rattle.vlog_module.specs.declared.item.Item.TheVariants.{Register, Word, Memory, Wire, Assign, Flip, Read, Write, Start}
+use Rattle.vlog_module.specs.declared.item.Item.TheVariants.{Register, Word, Memory, Wire, Assign, Flip, FlipAtOnce, SetAtOnce, Read, Write, Start}
+use Rattle.vlog_module.specs.declared.atoms.Atom.TheVariants.{Whole}
 use Rattle.vlog_module.specs.declared.modules.Port.{Port}
 use Rattle.vlog_module.specs.Maps.{value_in}
 use Rattle.vlog_module.specs.Parts.{Parts}
@@ -29,13 +31,20 @@ input_names ports = names_of (flat_map input_start ports)
 abbrev pub pin_of : List Port → List ℕ → Option ℕ
 pin_of ports name = value_in (numbered 0 (input_names ports)) name
 
--- ---- wires and outputs, once the rest is known
+-- ---- wires, registers and outputs, once the rest is known
 
 -- a wire has the value of its right side, which reads no later wire
 abbrev pub wire_step : List (List ℕ × Bool) → List (List ℕ × ℕ) → List (List ℕ × Bool) → Item → List (List ℕ × Bool)
 wire_step known words wires (Wire name right) =
     wires ++ (name, right_value (record { bits = known ++ wires; words = words }) right) ∷ []
 wire_step known words wires _ = wires
+
+-- a register that a wire sets at once has its bit where the wire is 1
+abbrev pub settle_step : Readable → List (List ℕ × Bool) → Item → List (List ℕ × Bool)
+settle_step from registers (FlipAtOnce falling clock reset set target enable lut) =
+    if atom_value from (Whole reset) then put registers target set else registers
+settle_step from registers (SetAtOnce reset set target) = if atom_value from (Whole reset) then put registers target set else registers
+settle_step from registers _ = registers
 
 -- an output has the value of its atom
 abbrev pub output_step : Readable → List (List ℕ × Bool) → Item → List (List ℕ × Bool)
@@ -46,17 +55,19 @@ output_step from outputs _ = outputs
 abbrev pub readable : Entry → Readable
 readable entry = record { bits = entry.inputs ++ entry.registers ++ entry.wires; words = entry.words }
 
--- the entry of these inputs, registers and memories: the wires in the order of the text, and the outputs
+-- the entry of these inputs, registers and memories, in three steps: the wires in the order of the text, from the registers
+-- as they are; then the registers that wires set at once; then the outputs, from the registers that have settled
 unfoldable pub settled : Parts → List (List ℕ × Bool) → List (List ℕ × Bool) → List (List ℕ × ℕ) → List (List ℕ × List ℕ) → Entry
 settled m inputs registers words memories =
     let wires = fold (wire_step (inputs ++ registers) words) [] m.items in
+    let rested = fold (settle_step (record { bits = inputs ++ registers ++ wires; words = words })) registers m.items in
     record {
       inputs = inputs;
-      registers = registers;
+      registers = rested;
       words = words;
       memories = memories;
       wires = wires;
-      outputs = fold (output_step (record { bits = inputs ++ registers ++ wires; words = words }))
+      outputs = fold (output_step (record { bits = inputs ++ rested ++ wires; words = words }))
           (flat_map output_start m.ports) m.items;
     }
 
@@ -109,38 +120,68 @@ is_edge falling bit = if falling then not bit else bit
 abbrev pub is_clocked : Parts → Event → Bool → List ℕ → Bool
 is_clocked m event falling clock = is_pin event.pin (pin_of m.ports clock) && is_edge falling event.bit
 
--- the word of a memory at an address, to be put into a register
-abbrev pub put_read : List (List ℕ × ℕ) → List ℕ → Option (List ℕ) → ℕ → List (List ℕ × ℕ)
-put_read words target (Some memory) address = put words target (get_or memory address 0)
-put_read words target None address = words
-
 -- a word whose bits stay where the mask is 1, and are new elsewhere: `(word & mask) | (bits & ~mask)`
 abbrev pub masked : ℕ → ℕ → ℕ → ℕ
 masked word mask bits = bit_or (bit_and word mask) (bit_and bits (65535 - mask))
 
--- what a clocked item assigns is computed from the entry before
+-- what a clocked item assigns at an event is computed from the entry before
+
+-- the register that an item assigns, and its next bit
+abbrev pub next_bit : Parts → Entry → Event → Item → Option (List ℕ × Bool)
+next_bit m before event (Flip falling clock enable reset set target lut) =
+    if is_clocked m event falling clock && atom_value (readable before) enable
+    then Some (target, if atom_value (readable before) reset then set else lut_value (readable before) lut)
+    else None
+next_bit m before event (FlipAtOnce falling clock reset set target enable lut) =
+    if is_clocked m event falling clock && (atom_value (readable before) (Whole reset) || atom_value (readable before) enable)
+    then Some (target, if atom_value (readable before) (Whole reset) then set else lut_value (readable before) lut)
+    else None
+next_bit m before event _ = None
+
+-- the register that an item assigns, and its next word: none where there is no such memory
+abbrev pub next_word : Parts → Entry → Event → Item → Option (List ℕ × ℕ)
+next_word m before event (Read falling clock clock_enable enable target memory address) =
+    if is_clocked m event falling clock && atom_value (readable before) clock_enable && atom_value (readable before) enable
+    then option_map (λ words. (target, get_or words (atoms_value (readable before) address) 0)) (value_in before.memories memory)
+    else None
+next_word m before event _ = None
+
+-- a word for a place in a memory
+pub record Put : Type 0 where
+  pub memory : List ℕ
+  pub address : ℕ
+  pub word : ℕ
+
+-- the word that an item puts in a memory
+abbrev pub next_put : Parts → Entry → Event → Item → Option Put
+next_put m before event (Write falling clock clock_enable enable memory address mask bits) =
+    let at = atoms_value (readable before) address in
+    if is_clocked m event falling clock && atom_value (readable before) clock_enable && atom_value (readable before) enable
+    then Some (record {
+      memory = memory;
+      address = at;
+      word = masked (get_or (words_of before.memories memory) at 0) (atoms_value (readable before) mask) (atoms_value (readable before) bits);
+    })
+    else None
+next_put m before event _ = None
+
+-- a name gets what is assigned, where anything is
+abbrev pub put_given : {A : Type 0} → List (List ℕ × A) → Option (List ℕ × A) → List (List ℕ × A)
+put_given entries (Some given) = put entries given.0 given.1
+put_given entries None = entries
+
+abbrev pub put_given_word : List (List ℕ × List ℕ) → Option Put → List (List ℕ × List ℕ)
+put_given_word memories (Some given) = put_word memories given.memory given.address given.word
+put_given_word memories None = memories
 
 abbrev pub register_step : Parts → Entry → Event → List (List ℕ × Bool) → Item → List (List ℕ × Bool)
-register_step m before event registers (Flip falling clock enable reset set target lut) =
-    if is_clocked m event falling clock && atom_value (readable before) enable
-    then put registers target (if atom_value (readable before) reset then set else lut_value (readable before) lut)
-    else registers
-register_step m before event registers _ = registers
+register_step m before event registers item = put_given registers (next_bit m before event item)
 
 abbrev pub word_step : Parts → Entry → Event → List (List ℕ × ℕ) → Item → List (List ℕ × ℕ)
-word_step m before event words (Read falling clock clock_enable enable target memory address) =
-    if is_clocked m event falling clock && atom_value (readable before) clock_enable && atom_value (readable before) enable
-    then put_read words target (value_in before.memories memory) (atoms_value (readable before) address)
-    else words
-word_step m before event words _ = words
+word_step m before event words item = put_given words (next_word m before event item)
 
 abbrev pub memory_step : Parts → Entry → Event → List (List ℕ × List ℕ) → Item → List (List ℕ × List ℕ)
-memory_step m before event memories (Write falling clock clock_enable enable memory address mask bits) =
-    if is_clocked m event falling clock && atom_value (readable before) clock_enable && atom_value (readable before) enable
-    then put_word memories memory (atoms_value (readable before) address)
-    (masked (get_or (words_of before.memories memory) (atoms_value (readable before) address) 0) (atoms_value (readable before) mask) (atoms_value (readable before) bits))
-    else memories
-memory_step m before event memories _ = memories
+memory_step m before event memories item = put_given_word memories (next_put m before event item)
 
 -- an input gets a bit
 abbrev pub with_input : List (List ℕ × Bool) → ℕ → Bool → List (List ℕ × Bool)

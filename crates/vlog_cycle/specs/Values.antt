@@ -5,7 +5,7 @@ use Rattle.vlog_module.specs.declared.atoms.Atom.{Atom}
 use Rattle.vlog_module.specs.declared.atoms.Atom.TheVariants.{Bit, Whole, Part}
 use Rattle.vlog_module.specs.declared.item.Lut.{Lut}
 use Rattle.vlog_module.specs.declared.item.Right.{Right}
-use Rattle.vlog_module.specs.declared.item.Right.TheVariants.{Bit as RightBit, Whole as RightWhole, Part as RightPart, Lut as RightLut, Majority}
+use Rattle.vlog_module.specs.declared.item.Right.TheVariants.{Bit as RightBit, Whole as RightWhole, Part as RightPart, Lut as RightLut, Majority, Choose}
 use Rattle.vlog_module.specs.Maps.{value_in}
 
 -- the values that an atom can read: those of the names of one bit, and the registers of 16 bits
@@ -46,3 +46,4 @@ right_value from (RightWhole name) = atom_value from (Whole name)
 right_value from (RightPart name k) = atom_value from (Part name k)
 right_value from (RightLut lut) = lut_value from lut
 right_value from (Majority a b c) = majority (atom_value from a) (atom_value from b) (atom_value from c)
+right_value from (Choose reset set target) = if atom_value from (Whole reset) then set else atom_value from (Whole target)

@@ -1,11 +1,11 @@
 // Wires over one list of bits: those of names, then the bits of words, then 0 and 1.
 ghost use Rattle.std.specs.Prelude.{◌≡◌, ◌<◌, ◌≤◌, ◌^◌, ◌+◌, ◌*◌, List, fold, length, map, nat_lt, slice_set, IfOk, if◌then◌else◌};
 ghost use Rattle.vlog_cycle.specs.Cells.{cell_at, cells_of, gate_cells, gate_of, gate_slot, gate_table, gate_value, operand_cell, part_at, parts_below};
-ghost use Rattle.vlog_cycle.specs.Steps.{wire_slot};
+ghost use Rattle.vlog_cycle.specs.Steps.{settle_slot, settle_slots, wire_slot};
 ghost use Rattle.vlog_cycle.specs.Values.{number_of};
 ghost use Rattle.vlog_cycle.specs.declared.plan.Wire.{Wire as wire_of};
 
-use crate::plan::{Operand, Rule, Wire};
+use crate::plan::{Operand, Rule, Settle, Wire};
 use crate::steps::{bit_at, bit_of, copy_bits, set_bit, word_at};
 use std::alloc::{AllocError, Global};
 
@@ -80,6 +80,12 @@ fn gate_cells(bits: usize, words: usize, rule: &Rule) -> [usize; 4]
             operand_cell(bits, words, *c),
             zero,
         ],
+        Rule::Choose { reset, target, .. } => [
+            operand_cell(bits, words, *reset),
+            operand_cell(bits, words, *target),
+            zero,
+            zero,
+        ],
     }
 }
 
@@ -91,6 +97,7 @@ fn gate_table(rule: &Rule) -> u16
         Rule::Copy(_) => 2,
         Rule::Lookup(table) => table.word,
         Rule::Majority { .. } => 232,
+        Rule::Choose { set, .. } => if *set { 14 } else { 4 },
     }
 }
 
@@ -189,12 +196,31 @@ fn fill_cells(bits: &[bool], words: &[u16], cells: &mut [bool])
     copy_bits(&[false, true], constants);
 }
 
-/// Gives each wire its value, one after the other.
-pub(crate) fn settle(gates: &[Gate], words: &[u16], bits: &mut [bool], cells: &mut [bool])
+/// Gives registers that wires set at once their bits, as the first bits have the wires.
+fn run_settles(settles: &[Settle], bits: &[bool], next: &mut [bool])
+    ensures { next.new ≡ fold (settle_slot bits.now) next.old settles.now }
+{
+    for settle in settles {
+        if bit_at(bits, settle.wire) {
+            set_bit(next, settle.target, settle.set);
+        }
+    }
+}
+
+/// Gives each wire its value, one after the other, and then registers that wires set at once their bits.
+pub(crate) fn settle(
+    gates: &[Gate],
+    settles: &[Settle],
+    words: &[u16],
+    bits: &mut [bool],
+    cells: &mut [bool],
+)
     requires { length cells.old ≡ length bits.old + 16 * length words.now + 2 }
-    ensures { (wires : List wire_of) → gates.now ≡ map (gate_of (length bits.old) (length words.now)) wires → bits.new ≡ fold (wire_slot words.now) bits.old wires }
+    ensures { (wires : List wire_of) → gates.now ≡ map (gate_of (length bits.old) (length words.now)) wires
+        → bits.new ≡ settle_slots settles.now (fold (wire_slot words.now) bits.old wires) }
 {
     fill_cells(bits, words, cells);
     run_gates(gates, bits.len(), cells);
     copy_bits(&cells[..bits.len()], bits);
+    run_settles(settles, &cells[..bits.len()], bits);
 }

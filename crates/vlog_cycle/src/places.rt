@@ -4,10 +4,10 @@ ghost use Rattle.std.specs.List.{filter_map};
 ghost use Rattle.std.specs.Option.{option_to_list};
 ghost use Rattle.vlog_module.specs.WellFormed.{IsLut, IsRight, IsShaped};
 ghost use Rattle.vlog_cycle.specs.Slots.{slot_of};
-ghost use Rattle.vlog_cycle.specs.Plans.{operand_of, operands_of, part_operand, slot_operand, table_of, rule_of, flip_of, read_of, write_of};
+ghost use Rattle.vlog_cycle.specs.Plans.{operand_of, operands_of, part_operand, slot_operand, table_of, rule_of, flip_at_once_of, flip_of, settle_of, settle_over, read_of, write_of};
 ghost use Rattle.vlog_cycle.specs.Found.{places_in};
 
-use crate::plan::{Edge, Flip, Operand, Read, Rule, Table, Write};
+use crate::plan::{Edge, Flip, Operand, Read, Rule, Settle, Table, Write};
 use crate::slots::Slots;
 use std::alloc::{AllocError, Global};
 use vlog_module::{Atom, Atoms, Item, Lut, Right};
@@ -95,6 +95,11 @@ pub(crate) fn rule_of(bits: &Slots, words: &Slots, right: &Right) -> Rule
             b: operand_of(bits, words, b),
             c: operand_of(bits, words, c),
         },
+        Right::Choose { reset, set, target } => Rule::Choose {
+            reset: slot_operand(bits, reset.bytes()),
+            set: *set,
+            target: slot_operand(bits, target.bytes()),
+        },
     }
 }
 
@@ -123,12 +128,71 @@ fn flip_of(places: &Places, item: &Item) -> Option<Flip>
                 enable: operand_of(&places.bits, &places.words, enable),
                 reset: operand_of(&places.bits, &places.words, reset),
                 set: *set,
+                at_once: false,
+                target,
+                table: table_of(&places.bits, &places.words, lut),
+            })
+        }
+        _ => flip_at_once_of(places, item),
+    }
+}
+
+/// The flip-flop of an item that a wire sets at once, where it has a clock.
+fn flip_at_once_of(places: &Places, item: &Item) -> Option<Flip>
+    requires { IsShaped item.now }
+    ensures { result ≡ flip_at_once_of (places_in places.now) item.now }
+{
+    match item {
+        Item::FlipAtOnce {
+            falling,
+            clock,
+            reset,
+            set,
+            target,
+            enable,
+            lut,
+        } => {
+            let pin = places.pins.slot(clock.bytes())?;
+            let target = places.registers.slot(target.bytes())?;
+            Some(Flip {
+                edge: Edge {
+                    pin,
+                    falling: *falling,
+                },
+                enable: operand_of(&places.bits, &places.words, enable),
+                reset: slot_operand(&places.bits, reset.bytes()),
+                set: *set,
+                at_once: true,
                 target,
                 table: table_of(&places.bits, &places.words, lut),
             })
         }
         _ => None,
     }
+}
+
+/// The register of an item that a wire sets at once, where it is one.
+fn settle_of(places: &Places, item: &Item) -> Option<Settle>
+    ensures { result ≡ settle_of (places_in places.now) item.now }
+{
+    match item {
+        Item::FlipAtOnce {
+            reset, set, target, ..
+        } => settle_over(places, reset.bytes(), *set, target.bytes()),
+        Item::SetAtOnce { reset, set, target } => {
+            settle_over(places, reset.bytes(), *set, target.bytes())
+        }
+        _ => None,
+    }
+}
+
+/// A register that a wire sets at once, where both are found.
+fn settle_over(places: &Places, reset: &[u8], set: bool, target: &[u8]) -> Option<Settle>
+    ensures { result ≡ settle_over (places_in places.now) reset.now set target.now }
+{
+    let wire = places.bits.slot(reset)?;
+    let target = places.registers.slot(target)?;
+    Some(Settle { wire, set, target })
 }
 
 /// The read of an item, where it is one.
@@ -214,6 +278,21 @@ pub(crate) fn flips_of(
         push_found(&mut flips, flip_of(places, item))?;
     }
     Ok(flips)
+}
+
+/// The registers of items that wires set at once.
+pub(crate) fn settles_of(
+    alloc: Global,
+    places: &Places,
+    items: &[Item],
+) -> Result<Vec<Settle>, AllocError>
+    ensures { IfOk result (λ settles. settles.items ≡ filter_map (settle_of (places_in places.now)) items.now) }
+{
+    let mut settles = Vec::new(alloc);
+    for item in items {
+        push_found(&mut settles, settle_of(places, item))?;
+    }
+    Ok(settles)
 }
 
 /// The reads of items.

@@ -24,7 +24,17 @@ pub(crate) struct Table {
 pub(crate) enum Rule {
     Copy(Operand),
     Lookup(Table),
-    Majority { a: Operand, b: Operand, c: Operand },
+    Majority {
+        a: Operand,
+        b: Operand,
+        c: Operand,
+    },
+    /// The bit where the first is 1, else the second.
+    Choose {
+        reset: Operand,
+        set: bool,
+        target: Operand,
+    },
 }
 
 /// A wire: its slot, and its right side.
@@ -48,9 +58,21 @@ pub(crate) struct Flip {
     pub(crate) enable: Operand,
     pub(crate) reset: Operand,
     pub(crate) set: bool,
+    /// Whether it is also reset where it isn't enabled.
+    pub(crate) at_once: bool,
     /// The slot of the register.
     pub(crate) target: usize,
     pub(crate) table: Table,
+}
+
+/// A register that a wire sets at once.
+#[derive(Clone, Copy)]
+pub(crate) struct Settle {
+    /// The slot of the wire.
+    pub(crate) wire: usize,
+    pub(crate) set: bool,
+    /// The slot of the register.
+    pub(crate) target: usize,
 }
 
 /// A read of a memory into a register of 16 bits.
@@ -87,6 +109,7 @@ pub(crate) struct Plan {
     /// What the outputs have, in the order of the ports.
     pub(crate) outputs: Vec<Operand>,
     pub(crate) flips: Vec<Flip>,
+    pub(crate) settles: Vec<Settle>,
     pub(crate) reads: Vec<Read>,
     pub(crate) writes: Vec<Write>,
 }

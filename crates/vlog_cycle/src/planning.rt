@@ -6,7 +6,7 @@ ghost use Rattle.vlog_cycle.specs.Steps.{operand_value};
 
 use crate::build::{assign_outputs, blank_outputs};
 use crate::gates::Gate;
-use crate::places::{Places, flips_of, reads_of, writes_of};
+use crate::places::{Places, flips_of, reads_of, settles_of, writes_of};
 use crate::plan::Plan;
 use crate::steps::write_outputs;
 use std::alloc::{AllocError, Global};
@@ -30,6 +30,7 @@ pub(crate) fn plan_of(
         gates,
         outputs: outputs.values,
         flips: flips_of(alloc, places, items)?,
+        settles: settles_of(alloc, places, items)?,
         reads: reads_of(alloc, places, items)?,
         writes: writes_of(alloc, places, items)?,
     })

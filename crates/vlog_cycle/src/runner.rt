@@ -66,7 +66,7 @@ impl Runner {
         let mut cells = cells_room(alloc, &bits, &words)?;
         let gates = gates_of(alloc, bits.len(), words.len(), &wires)?;
         let plan = plan_of(alloc, module, &places, gates)?;
-        settle(&plan.gates, &words, &mut bits, &mut cells);
+        settle(&plan.gates, &plan.settles, &words, &mut bits, &mut cells);
         let outputs = first_outputs(alloc, &plan, &bits, &words)?;
         let next_bits = Vec::from_slice(alloc, &bits)?;
         let next_words = Vec::from_slice(alloc, &words)?;

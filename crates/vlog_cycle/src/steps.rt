@@ -1,7 +1,7 @@
 // What an event does to the bits, words and memories of the slots.
 ghost use Rattle.std.specs.Prelude.{◌≡◌, ◌<◌, ◌≤◌, ◌^◌, ◌+◌, ◌*◌, ◌&&◌, ℕ, List, [], false, length, map, fold, get_or, slice_set, if◌then◌else◌};
 ghost use Rattle.vlog_cycle.specs.Run.{is_edge, is_same_bit, masked};
-ghost use Rattle.vlog_cycle.specs.Steps.{bits_after, flip_slot, is_edge_of, memories_after, operand_value, operands_value, read_slot, set_word, table_value, word_in, words_after, write_slot, written_word};
+ghost use Rattle.vlog_cycle.specs.Steps.{bits_after, flip_slot, is_acting, is_edge_of, memories_after, operand_value, operands_value, read_slot, set_word, table_value, word_in, words_after, write_slot, written_word};
 ghost use Rattle.vlog_cycle.specs.Cells.{gate_of};
 ghost use Rattle.vlog_cycle.specs.Values.{bit_of, number_of};
 ghost use Rattle.vlog_cycle.specs.declared.plan.Wire.{Wire as wire_of};
@@ -97,11 +97,19 @@ fn run_flips(flips: &[Flip], event: Event, bits: &[bool], words: &[u16], next: &
     ensures { next.new ≡ fold (flip_slot event bits.now words.now) next.old flips.now }
 {
     for flip in flips {
-        if is_edge_of(event, flip.edge) && operand_value(bits, words, flip.enable) {
+        if is_edge_of(event, flip.edge) && is_acting(flip, bits, words) {
             let bit = next_bit(flip, bits, words);
             set_bit(next, flip.target, bit);
         }
     }
+}
+
+/// Whether a register gets a bit at its edge.
+fn is_acting(flip: &Flip, bits: &[bool], words: &[u16]) -> bool
+    ensures { result ≡ is_acting bits.now words.now flip.now }
+{
+    operand_value(bits, words, flip.enable)
+        || (flip.at_once && operand_value(bits, words, flip.reset))
 }
 
 /// The next bit of a register.
@@ -316,7 +324,7 @@ pub(crate) fn change(
     copy_bits(next_bits, bits);
     copy_words(next_words, words);
     set_bit(bits, event.pin, event.bit);
-    settle(&plan.gates, words, bits, cells);
+    settle(&plan.gates, &plan.settles, words, bits, cells);
     write_outputs(&plan.outputs, bits, words, outputs);
 }
 

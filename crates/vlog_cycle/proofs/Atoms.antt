@@ -1,12 +1,12 @@
 -- Operands over slots have the values of their atoms.
-use Rattle.std.proofs.Common.{◌≡◌, ℕ, Bool, false, List, [], ◌∷◌, ◌++◌, Option, Some, None, ap, ap₂, append-nil, get_or, refl, sym, ◌∙◌}
+use Rattle.std.proofs.Common.{◌≡◌, ℕ, Bool, false, cond, List, [], ◌∷◌, ◌++◌, Option, Some, None, ap, ap₂, append-nil, get_or, refl, sym, ◌∙◌}
 use Rattle.std.specs.Prelude.{map, unwrap_or}
 use Rattle.std.specs.Option.{option_map, option_map_or}
 use Rattle.vlog_module.specs.declared.atoms.Atom.{Atom}
 use Rattle.vlog_module.specs.declared.atoms.Atom.TheVariants.{Bit, Whole, Part}
 use Rattle.vlog_module.specs.declared.item.Lut.{Lut}
 use Rattle.vlog_module.specs.declared.item.Right.{Right}
-use Rattle.vlog_module.specs.declared.item.Right.TheVariants.{Bit as RightBit, Whole as RightWhole, Part as RightPart, Lut as RightLut, Majority as RightMajority}
+use Rattle.vlog_module.specs.declared.item.Right.TheVariants.{Bit as RightBit, Whole as RightWhole, Part as RightPart, Lut as RightLut, Majority as RightMajority, Choose as RightChoose}
 use Rattle.vlog_module.specs.Maps.{value_in}
 use Rattle.vlog_cycle.specs.Named.{names_of, values_of}
 use Rattle.vlog_cycle.specs.Numbered.{numbered}
@@ -63,6 +63,8 @@ rule-same from behind (RightPart name k) = operand-same from behind (Part name k
 rule-same from behind (RightLut lut) = table-same from behind lut
 rule-same from behind (RightMajority a b c) =
     ap₂ (λ f z. f z) (ap₂ majority (operand-same from behind a) (operand-same from behind b)) (operand-same from behind c)
+rule-same from behind (RightChoose reset set_to target) =
+    ap₂ (λ one other. cond one set_to other) (operand-same from behind (Whole reset)) (operand-same from behind (Whole target))
 
 -- ---- all slots
 

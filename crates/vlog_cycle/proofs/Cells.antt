@@ -8,9 +8,11 @@ use Rattle.std.proofs.lemmas.List.{get_or-append-add, get_or_append_left, get_or
 use Rattle.vlog_cycle.specs.Cells.{cell_at, cells_of, gate_of, gate_slot, gate_value, operand_cell, part_at, parts_below, tail_of, zero_cell}
 use Rattle.vlog_cycle.specs.declared.plan.Operand.{Operand}
 use Rattle.vlog_cycle.specs.declared.plan.Operand.TheVariants.{Constant, Slot, Part}
-use Rattle.vlog_cycle.specs.declared.plan.Rule.TheVariants.{Copy, Lookup, Majority}
+use Rattle.vlog_cycle.specs.declared.plan.Rule.TheVariants.{Copy, Lookup, Majority, Choose}
+use Rattle.vlog_cycle.specs.declared.plan.Plan.{Plan}
+use Rattle.vlog_cycle.specs.declared.plan.Settle.{Settle}
 use Rattle.vlog_cycle.specs.declared.plan.Wire.{Wire}
-use Rattle.vlog_cycle.specs.Steps.{operand_value, rule_value, wire_slot}
+use Rattle.vlog_cycle.specs.Steps.{operand_value, rule_value, settle_slot, settled_slots, wire_slot}
 use Rattle.vlog_cycle.specs.Values.{bit_of, majority, number_of}
 use Rattle.vlog_cycle.proofs.Numbers.{bit_of-high}
 
@@ -117,6 +119,16 @@ majority-table false true false = refl
 majority-table false false true = refl
 majority-table false false false = refl
 
+choose-table : (reset set_to target : Bool) → bit_of (cond set_to 14 4) (number_of (reset ∷ target ∷ false ∷ false ∷ [])) ≡ cond reset set_to target
+choose-table true true true = refl
+choose-table true true false = refl
+choose-table true false true = refl
+choose-table true false false = refl
+choose-table false true true = refl
+choose-table false true false = refl
+choose-table false false true = refl
+choose-table false false false = refl
+
 -- a wire over cells has the value of its right side
 pub gate-same : (bits : List Bool) (words : List ℕ) (wire : Wire) → AreWords words
     → gate_value (cells_of bits words) (gate_of (length bits) (length words) wire) ≡ rule_value bits words wire.rule
@@ -130,6 +142,10 @@ gate-same bits words wire small =
           ap₂ (λ x y. bit_of 232 (number_of (x ∷ y ∷ cell_at (cells_of bits words) (operand_cell (length bits) (length words) c) ∷ cell_at (cells_of bits words) (zero_cell (length bits) (length words)) ∷ []))) (operand-in bits words a small) (operand-in bits words b small)
           ∙ ap₂ (λ z o. bit_of 232 (number_of (operand_value bits words a ∷ operand_value bits words b ∷ z ∷ o ∷ []))) (operand-in bits words c small) zero_is
           ∙ majority-table (operand_value bits words a) (operand_value bits words b) (operand_value bits words c)
+      | Choose reset set_to target ↦
+          ap₂ (λ x y. bit_of (cond set_to 14 4) (number_of (x ∷ y ∷ cell_at (cells_of bits words) (zero_cell (length bits) (length words)) ∷ cell_at (cells_of bits words) (zero_cell (length bits) (length words)) ∷ []))) (operand-in bits words reset small) (operand-in bits words target small)
+          ∙ ap (λ z. bit_of (cond set_to 14 4) (number_of (operand_value bits words reset ∷ operand_value bits words target ∷ z ∷ z ∷ []))) zero_is
+          ∙ choose-table (operand_value bits words reset) set_to (operand_value bits words target)
     ]
 
 set-case : (bits : List Bool) (behind : List Bool) (slot : ℕ) (value : Bool) (b : Bool) → ltb slot (length bits) ≡ b
@@ -157,3 +173,16 @@ gates-same size bits words (wire ∷ wires) small is =
 pub length-settled : (bits : List Bool) (words : List ℕ) (wires : List Wire) → length (fold (wire_slot words) bits wires) ≡ length bits
 length-settled bits words [] = refl
 length-settled bits words (wire ∷ wires) = length-settled (wire_slot words bits wire) words wires ∙ length-set bits wire.slot (rule_value bits words wire.rule)
+
+length-rested : (bits next : List Bool) (settles : List Settle) → length (fold (settle_slot bits) next settles) ≡ length next
+length-rested bits next [] = refl
+length-rested bits next (settle ∷ settles) =
+    length-rested bits (settle_slot bits next settle) settles
+    ∙ (elim (get_or bits settle.wire false) as (λ b. length (cond b (set next settle.target settle.set) next) ≡ length next) [
+      | true ↦ length-set next settle.target settle.set
+      | false ↦ refl
+    ])
+
+pub length-slots : (plan : Plan) (bits : List Bool) (words : List ℕ) (wires : List Wire) → length (settled_slots plan wires words bits) ≡ length bits
+length-slots plan bits words wires =
+    length-rested (fold (wire_slot words) bits wires) (fold (wire_slot words) bits wires) plan.settles.items ∙ length-settled bits words wires

@@ -11,14 +11,15 @@ use Rattle.vlog_cycle.specs.Entries.{Entry}
 use Rattle.vlog_cycle.specs.ModuleSlots.{IsNamed, IsPlan, memory_names, module_wires, places_of, register_names, wire_names, wire_start, word_names}
 use Rattle.vlog_cycle.specs.Named.{names_of, values_of}
 use Rattle.vlog_cycle.specs.Numbered.{numbered}
-use Rattle.vlog_cycle.specs.Plans.{Places, flip_of, outputs_of, read_of, wires_of, write_of}
-use Rattle.vlog_cycle.specs.Run.{changed, followed, input_bit, input_names, input_start, is_same_bit, memory_start, memory_step, readable, register_start, register_step, settled, start, start_step, with_input, word_start, word_step}
-use Rattle.vlog_cycle.specs.Steps.{bits_after, flip_slot, memories_after, operand_value, read_slot, wire_slot, words_after, write_slot}
+use Rattle.vlog_cycle.specs.Plans.{Places, flip_of, outputs_of, read_of, settle_of, wires_of, write_of}
+use Rattle.vlog_cycle.specs.Run.{changed, followed, input_bit, input_names, input_start, is_same_bit, memory_start, memory_step, readable, register_start, register_step, settle_step, settled, start, start_step, wire_step, with_input, word_start, word_step}
+use Rattle.vlog_cycle.specs.Steps.{bits_after, flip_slot, memories_after, operand_value, read_slot, settle_slot, settle_slots, settled_slots, wire_slot, words_after, write_slot}
 use Rattle.vlog_cycle.specs.Values.{Readable}
 use Rattle.vlog_cycle.proofs.Beginning.{names-starts, same-places}
 use Rattle.vlog_cycle.proofs.Clocked.{entry_places, flips-same, names-flips, with_registers}
 use Rattle.vlog_cycle.proofs.Memories.{names-reads, names-writes, reads-same, writes-same}
 use Rattle.vlog_cycle.proofs.Outputs.{outputs-same}
+use Rattle.vlog_cycle.proofs.Settling.{names-rests, rests-same}
 use Rattle.vlog_cycle.proofs.Wires.{names-settled, settle-same}
 
 -- the maps of an entry have the names of the module
@@ -30,12 +31,33 @@ pub record AreNamed (m : Parts) (inputs registers : List (List ℕ × Bool)) (wo
 
 -- ---- a settled entry
 
+-- the entry whose wires have their values, and whose registers are as they were
+abbrev pub unsettled : Parts → List (List ℕ × Bool) → List (List ℕ × Bool) → List (List ℕ × ℕ) → List (List ℕ × List ℕ) → Entry
+unsettled m inputs registers words memories = record {
+  inputs = inputs;
+  registers = registers;
+  words = words;
+  memories = memories;
+  wires = fold (wire_step (inputs ++ registers) words) [] m.items;
+  outputs = [];
+}
+
+unsettled-named : (m : Parts) (inputs registers : List (List ℕ × Bool)) (words : List (List ℕ × ℕ)) (memories : List (List ℕ × List ℕ))
+    → AreNamed m inputs registers words memories → IsNamed m (unsettled m inputs registers words memories)
+unsettled-named m inputs registers words memories named = record {
+  inputs = named.inputs_are;
+  registers = named.registers_are;
+  words = named.words_are;
+  memories = named.memories_are;
+  wires = names-settled (inputs ++ registers) words [] m.items;
+}
+
 pub settled-named : (m : Parts) (inputs registers : List (List ℕ × Bool)) (words : List (List ℕ × ℕ)) (memories : List (List ℕ × List ℕ))
     → AreNamed m inputs registers words memories → IsNamed m (settled m inputs registers words memories)
 unfolding settled
 settled-named m inputs registers words memories named = record {
   inputs = named.inputs_are;
-  registers = named.registers_are;
+  registers = names-rests (readable (unsettled m inputs registers words memories)) registers m.items ∙ named.registers_are;
   words = named.words_are;
   memories = named.memories_are;
   wires = names-settled (inputs ++ registers) words [] m.items;
@@ -53,18 +75,45 @@ places-same m entry named =
     (ap (λ names. value_in (numbered 0 names)) named.words)
     (ap (λ names. value_in (numbered 0 names)) named.memories)
 
+-- the bits, where registers have been given new ones
+pub registers-apart : (entry : Entry) → values_of (readable entry).bits ≡ with_registers entry entry.registers
+registers-apart entry =
+    map-append (λ (e : List ℕ × Bool). e.1) (entry.inputs ++ entry.registers) entry.wires
+    ∙ ap (λ list. list ++ values_of entry.wires) (map-append (λ (e : List ℕ × Bool). e.1) entry.inputs entry.registers)
+    ∙ append_assoc (values_of entry.inputs) (values_of entry.registers) (values_of entry.wires)
+
 -- the wires get their values, whatever they had before
-pub settled-bits : (m : Parts) (inputs registers : List (List ℕ × Bool)) (words : List (List ℕ × ℕ)) (memories : List (List ℕ × List ℕ)) (old : List Bool)
+wired-bits : (m : Parts) (inputs registers : List (List ℕ × Bool)) (words : List (List ℕ × ℕ)) (memories : List (List ℕ × List ℕ)) (old : List Bool)
     → AreNamed m inputs registers words memories → length old ≡ length (wire_names m.items)
-    → fold (wire_slot (values_of words)) (values_of (inputs ++ registers) ++ old) (module_wires m) ≡ values_of (readable (settled m inputs registers words memories)).bits
-unfolding settled
-settled-bits m inputs registers words memories old named size =
+    → fold (wire_slot (values_of words)) (values_of (inputs ++ registers) ++ old) (module_wires m) ≡ values_of (readable (unsettled m inputs registers words memories)).bits
+wired-bits m inputs registers words memories old named size =
     let known : List (List ℕ × Bool) = inputs ++ registers in
     let names : input_names m.ports ++ register_names m.items ≡ names_of (known ++ []) =
     sym (ap names_of (append-nil known) ∙ map-append (λ (e : List ℕ × Bool). e.0) inputs registers ∙ ap₂ (λ a b. a ++ b) named.inputs_are named.registers_are) in
     ap₂ (λ list wires. fold (wire_slot (values_of words)) (values_of list ++ old) wires) (sym (append-nil known))
     (ap₂ (λ find all. wires_of find all m.items) (ap (λ all. value_in (numbered 0 all)) (sym named.words_are)) names)
     ∙ settle-same known words [] m.items old size
+
+-- registers settle
+rested-bits : (m : Parts) (plan : Plan) (inputs registers : List (List ℕ × Bool)) (words : List (List ℕ × ℕ)) (memories : List (List ℕ × List ℕ))
+    → AreNamed m inputs registers words memories → IsPlan m plan
+    → settle_slots plan.settles.items (values_of (readable (unsettled m inputs registers words memories)).bits) ≡ values_of (readable (settled m inputs registers words memories)).bits
+unfolding settled
+rested-bits m plan inputs registers words memories named planned =
+    let entry : Entry = unsettled m inputs registers words memories in
+    let bits : List Bool = values_of (readable entry).bits in
+    ap₂ (fold (settle_slot bits)) (registers-apart entry)
+    (planned.settles ∙ ap (λ (at : Places). filter_map (settle_of at) m.items) (sym (places-same m entry (unsettled-named m inputs registers words memories named))))
+    ∙ rests-same entry registers m.items refl
+    ∙ sym (registers-apart (settled m inputs registers words memories))
+
+-- wires and registers settle, whatever the wires had before
+pub settled-bits : (m : Parts) (plan : Plan) (inputs registers : List (List ℕ × Bool)) (words : List (List ℕ × ℕ)) (memories : List (List ℕ × List ℕ)) (old : List Bool)
+    → AreNamed m inputs registers words memories → IsPlan m plan → length old ≡ length (wire_names m.items)
+    → settled_slots plan (module_wires m) (values_of words) (values_of (inputs ++ registers) ++ old) ≡ values_of (readable (settled m inputs registers words memories)).bits
+settled-bits m plan inputs registers words memories old named planned size =
+    ap (settle_slots plan.settles.items) (wired-bits m inputs registers words memories old named size)
+    ∙ rested-bits m plan inputs registers words memories named planned
 
 -- the outputs get their values
 pub settled-outputs : (m : Parts) (plan : Plan) (inputs registers : List (List ℕ × Bool)) (words : List (List ℕ × ℕ)) (memories : List (List ℕ × List ℕ))
@@ -110,13 +159,6 @@ changed-named m entry event named = record {
   memories_are = names-writes m entry event entry.memories m.items ∙ named.memories;
 }
 
--- the bits, where registers have been given new ones
-pub registers-apart : (entry : Entry) → values_of (readable entry).bits ≡ with_registers entry entry.registers
-registers-apart entry =
-    map-append (λ (e : List ℕ × Bool). e.1) (entry.inputs ++ entry.registers) entry.wires
-    ∙ ap (λ list. list ++ values_of entry.wires) (map-append (λ (e : List ℕ × Bool). e.1) entry.inputs entry.registers)
-    ∙ append_assoc (values_of entry.inputs) (values_of entry.registers) (values_of entry.wires)
-
 pub words-changed : (m : Parts) (plan : Plan) (entry : Entry) (event : Event) → IsNamed m entry → IsPlan m plan
     → words_after plan event (values_of (readable entry).bits) (values_of entry.words) (values_of entry.memories) ≡ values_of (fold (word_step m entry event) entry.words m.items)
 words-changed m plan entry event named planned =
@@ -156,9 +198,9 @@ bits-changed m plan entry event named planned within =
     let words : List (List ℕ × ℕ) = fold (word_step m entry event) entry.words m.items in
     let size : length (values_of entry.wires) ≡ length (wire_names m.items) =
     length-map entry.wires (λ (e : List ℕ × Bool). e.1) ∙ sym (length-map entry.wires (λ (e : List ℕ × Bool). e.0)) ∙ ap length named.wires in
-    ap₂ (λ list bits. fold (wire_slot list) bits (module_wires m)) (words-changed m plan entry event named planned) (registers-changed m plan entry event named planned within)
-    ∙ settled-bits m (with_input entry.inputs event.pin event.bit) (fold (register_step m entry event) entry.registers m.items) words (fold (memory_step m entry event) entry.memories m.items)
-    (values_of entry.wires) (changed-named m entry event named) size
+    ap₂ (settled_slots plan (module_wires m)) (words-changed m plan entry event named planned) (registers-changed m plan entry event named planned within)
+    ∙ settled-bits m plan (with_input entry.inputs event.pin event.bit) (fold (register_step m entry event) entry.registers m.items) words (fold (memory_step m entry event) entry.memories m.items)
+    (values_of entry.wires) (changed-named m entry event named) planned size
 
 -- an input's bit is that of its slot
 pub input-slot : (m : Parts) (entry : Entry) (pin : ℕ) → IsNamed m entry → pin < length (input_names m.ports) → get_or (values_of (readable entry).bits) pin false ≡ input_bit entry pin
@@ -214,8 +256,8 @@ followed-same m entry event same = sym (ap (λ b. cond b entry (changed m entry 
 -- ---- what the slots have at the start
 
 pub record Started (m : Parts) (plan : Plan) (bits : List Bool) (words : List ℕ) : Type 0 where
-  pub bits_are : fold (wire_slot words) bits (module_wires m) ≡ values_of (readable (start m)).bits
-  pub outputs_are : map (operand_value (fold (wire_slot words) bits (module_wires m)) words) plan.outputs.items ≡ values_of (start m).outputs
+  pub bits_are : settled_slots plan (module_wires m) words bits ≡ values_of (readable (start m)).bits
+  pub outputs_are : map (operand_value (settled_slots plan (module_wires m) words bits) words) plan.outputs.items ≡ values_of (start m).outputs
   pub named : IsNamed m (start m)
 
 pub started-values : (m : Parts) (plan : Plan) (bits : List Bool) (words : List ℕ)
@@ -229,9 +271,9 @@ started-values m plan bits words bits_are words_are planned =
     let word_map : List (List ℕ × ℕ) = flat_map word_start m.items in
     let memories : List (List ℕ × List ℕ) = fold start_step (flat_map memory_start m.items) m.items in
     let size : length (values_of wires) ≡ length (wire_names m.items) = length-map wires (λ (e : List ℕ × Bool). e.1) ∙ sym (length-map wires (λ (e : List ℕ × Bool). e.0)) in
-    let settled_bits : fold (wire_slot words) bits (module_wires m) ≡ values_of (readable (start m)).bits =
-    ap₂ (λ w b. fold (wire_slot w) b (module_wires m)) words_are (bits_are ∙ map-append (λ (e : List ℕ × Bool). e.1) (inputs ++ registers) wires)
-    ∙ settled-bits m inputs registers word_map memories (values_of wires) (start-named m) size in
+    let settled_bits : settled_slots plan (module_wires m) words bits ≡ values_of (readable (start m)).bits =
+    ap₂ (settled_slots plan (module_wires m)) words_are (bits_are ∙ map-append (λ (e : List ℕ × Bool). e.1) (inputs ++ registers) wires)
+    ∙ settled-bits m plan inputs registers word_map memories (values_of wires) (start-named m) planned size in
     record {
       bits_are = settled_bits;
       outputs_are = ap₂ (λ b w. map (operand_value b w) plan.outputs.items) settled_bits words_are ∙ settled-outputs m plan inputs registers word_map memories (start-named m) planned;

@@ -1,3 +1,5 @@
+-- what well-formed modules say of registers that wires set at once
+pub mod AtOnce
 -- operands over slots have the values of their atoms
 pub mod Atoms
 -- what the names of a module have at the start
@@ -24,8 +26,16 @@ pub mod Numbers
 pub mod Outputs
 -- what a runner's slots have is what the entry has
 pub mod Reading
+-- registers that have settled stay
+pub mod Resting
 -- runs that go on
 pub mod Runs
+-- registers that wires set at once, over slots and by their names
+pub mod Settling
+-- items over slots, one after the other
+pub mod Stepping
+-- settling twice is settling once
+pub mod Twice
 -- wires over slots
 pub mod Wires
 -- worked values of the definitions

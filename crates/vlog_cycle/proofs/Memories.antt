@@ -15,28 +15,15 @@ use Rattle.vlog_cycle.specs.Entries.{Entry}
 use Rattle.vlog_cycle.specs.Named.{names_of, values_of}
 use Rattle.vlog_cycle.specs.Numbered.{numbered}
 use Rattle.vlog_cycle.specs.Plans.{Places, of_two, of_three, operand_of, operands_of, read_of, write_of}
-use Rattle.vlog_cycle.specs.Run.{input_names, is_clocked, is_edge, is_pin, masked, memory_step, pin_of, put_read, put_word, readable, word_step, words_of}
+use Rattle.vlog_cycle.specs.Run.{Put, input_names, is_clocked, is_edge, is_pin, masked, memory_step, next_put, next_word, pin_of, put_given, put_given_word, put_word, readable, word_step, words_of}
 use Rattle.vlog_cycle.specs.Steps.{operand_value, operands_value, read_slot, set_word, word_in, write_slot}
 use Rattle.vlog_cycle.specs.Values.{Readable, atom_value, atoms_value}
 use Rattle.vlog_cycle.proofs.Atoms.{number-at, operand-at, slots_of}
-use Rattle.vlog_cycle.proofs.Clocked.{cond-out, cond-same, entry_places, fold-cons_option}
+use Rattle.vlog_cycle.proofs.Clocked.{entry_places}
 use Rattle.vlog_cycle.proofs.Lookups.{names-put, put-slots, value_in-slots}
+use Rattle.vlog_cycle.proofs.Stepping.{cond-same, fold-keeps, fold-same, names-given}
 
 -- ---- reads
-
-names-put_read : (words : List (List ℕ × ℕ)) (target : List ℕ) (memory : Option (List ℕ)) (address : ℕ) → names_of (put_read words target memory address) ≡ names_of words
-names-put_read words target (Some memory) address = names-put words target (get_or memory address 0)
-names-put_read words target None address = refl
-
-names-read : (m : Parts) (entry : Entry) (event : Event) (words : List (List ℕ × ℕ)) (item : Item) → names_of (word_step m entry event words item) ≡ names_of words
-names-read m entry event words (ReadItem falling clock clock_enable enable target memory address) =
-    let acts : Bool = is_clocked m event falling clock && atom_value (readable entry) clock_enable && atom_value (readable entry) enable in
-    let put_in : List (List ℕ × ℕ) = put_read words target (value_in entry.memories memory) (atoms_value (readable entry) address) in
-    elim acts as (λ b. names_of (cond b put_in words) ≡ names_of words) [
-      | true ↦ names-put_read words target (value_in entry.memories memory) (atoms_value (readable entry) address)
-      | false ↦ refl
-    ]
-names-read m entry event words other = refl
 
 -- a word of a memory, put in the slot of a register
 abbrev read_into : List ℕ → List (List ℕ) → Option ℕ → Option ℕ → ℕ → List ℕ
@@ -60,18 +47,27 @@ read-slots event bits words memories next falling (Some pin) None (Some place) c
 read-slots event bits words memories next falling (Some pin) (Some slot) None clock_enable enable address = cond-same _ next
 read-slots event bits words memories next falling (Some pin) (Some slot) (Some place) clock_enable enable address = refl
 
+-- what a read assigns, where it acts and there is a memory
+abbrev given_read : Bool → List ℕ → Option (List ℕ) → ℕ → Option (List ℕ × ℕ)
+given_read acts target memory address = cond acts (option_map (λ words. (target, get_or words address 0)) memory) None
+
 -- the word that is read, by slots
 read-placed : (memories : List (List ℕ × List ℕ)) (words : List (List ℕ × ℕ)) (target memory : List ℕ) (address : ℕ)
-    → read_into (values_of words) (values_of memories) (slots_of words target) (slots_of memories memory) address ≡ values_of (put_read words target (value_in memories memory) address)
+    → read_into (values_of words) (values_of memories) (slots_of words target) (slots_of memories memory) address ≡ values_of (put_given words (given_read true target (value_in memories memory) address))
 read-placed memories words target memory address =
     let by_slot : (found : Option ℕ) → read_into (values_of words) (values_of memories) (slots_of words target) found address
-    ≡ values_of (put_read words target (option_map (λ slot. get_or (values_of memories) slot []) found) address) =
+    ≡ values_of (put_given words (given_read true target (option_map (λ slot. get_or (values_of memories) slot []) found) address)) =
     λ found. elim found as (λ f. read_into (values_of words) (values_of memories) (slots_of words target) f address
-    ≡ values_of (put_read words target (option_map (λ slot. get_or (values_of memories) slot []) f) address)) [
+    ≡ values_of (put_given words (given_read true target (option_map (λ slot. get_or (values_of memories) slot []) f) address))) [
       | Some place ↦ sym (put-slots words target (word_in (values_of memories) place address))
       | None ↦ refl
     ] in
-    by_slot (slots_of memories memory) ∙ ap (λ found. values_of (put_read words target found address)) (sym (value_in-slots memories memory []))
+    by_slot (slots_of memories memory) ∙ ap (λ found. values_of (put_given words (given_read true target found address))) (sym (value_in-slots memories memory []))
+
+read-out : (acts : Bool) (words : List (List ℕ × ℕ)) (target : List ℕ) (memory : Option (List ℕ)) (address : ℕ)
+    → cond acts (values_of (put_given words (given_read true target memory address))) (values_of words) ≡ values_of (put_given words (given_read acts target memory address))
+read-out true words target memory address = refl
+read-out false words target memory address = refl
 
 read-step : (m : Parts) (entry : Entry) (event : Event) (words : List (List ℕ × ℕ)) (item : Item)
     → names_of entry.inputs ≡ input_names m.ports → names_of words ≡ names_of entry.words
@@ -85,14 +81,15 @@ read-step m entry event words (ReadItem falling clock clock_enable enable target
     let acts : Bool = is_clocked m event falling clock && atom_value from clock_enable && atom_value from enable in
     let clocked : is_pin event.pin (at.pins clock) ≡ is_pin event.pin (pin_of m.ports clock) = ap (λ names. is_pin event.pin (value_in (numbered 0 names) clock)) inputs in
     let number : ℕ = operands_value bits (values_of entry.words) (operands_of at.bits at.words address) in
-    let placed : read_into next (values_of entry.memories) (at.words target) (at.memories memory) (atoms_value from address) ≡ values_of (put_read words target (value_in entry.memories memory) (atoms_value from address)) =
+    let placed : read_into next (values_of entry.memories) (at.words target) (at.memories memory) (atoms_value from address)
+    ≡ values_of (put_given words (given_read true target (value_in entry.memories memory) (atoms_value from address))) =
     ap (λ names. read_into next (values_of entry.memories) (value_in (numbered 0 names) target) (at.memories memory) (atoms_value from address)) (sym named)
     ∙ read-placed entry.memories words target memory (atoms_value from address) in
     read-slots event bits (values_of entry.words) (values_of entry.memories) next falling (at.pins clock) (at.words target) (at.memories memory) (operand_of at.bits at.words clock_enable) (operand_of at.bits at.words enable) (operands_of at.bits at.words address)
     ∙ ap₂ (λ c e. cond ((c && is_edge falling event.bit) && e && operand_value bits (values_of entry.words) (operand_of at.bits at.words enable)) (read_into next (values_of entry.memories) (at.words target) (at.memories memory) number) next) clocked (operand-at from clock_enable)
     ∙ ap₂ (λ e n. cond (is_clocked m event falling clock && atom_value from clock_enable && e) (read_into next (values_of entry.memories) (at.words target) (at.memories memory) n) next) (operand-at from enable) (number-at from address)
     ∙ ap (λ list. cond acts list next) placed
-    ∙ cond-out values_of acts (put_read words target (value_in entry.memories memory) (atoms_value from address)) words
+    ∙ read-out acts words target (value_in entry.memories memory) (atoms_value from address)
 read-step m entry event words other inputs named = refl
 
 -- the registers of 16 bits after an event
@@ -100,29 +97,28 @@ pub reads-same : (m : Parts) (entry : Entry) (event : Event) (words : List (List
     → names_of entry.inputs ≡ input_names m.ports → names_of words ≡ names_of entry.words
     → fold (read_slot event (values_of (readable entry).bits) (values_of entry.words) (values_of entry.memories)) (values_of words) (filter_map (read_of (entry_places entry)) items)
     ≡ values_of (fold (word_step m entry event) words items)
-reads-same m entry event words [] inputs named = refl
-reads-same m entry event words (item ∷ items) inputs named =
-    let step : List ℕ → Read → List ℕ = read_slot event (values_of (readable entry).bits) (values_of entry.words) (values_of entry.memories) in
-    fold-cons_option step (values_of words) (read_of (entry_places entry) item) (filter_map (read_of (entry_places entry)) items)
-    ∙ ap (λ next. fold step next (filter_map (read_of (entry_places entry)) items)) (read-step m entry event words item inputs named)
-    ∙ reads-same m entry event (word_step m entry event words item) items inputs (names-read m entry event words item ∙ named)
+reads-same m entry event words items inputs named =
+    fold-same (read_slot event (values_of (readable entry).bits) (values_of entry.words) (values_of entry.memories)) (read_of (entry_places entry)) (λ (next : List (List ℕ × ℕ)). values_of next) (word_step m entry event)
+    (λ next. names_of next ≡ names_of entry.words)
+    (λ next item kept. names-given next (next_word m entry event item) ∙ kept)
+    (λ next item kept. read-step m entry event next item inputs kept)
+    words items named
 
 pub names-reads : (m : Parts) (entry : Entry) (event : Event) (words : List (List ℕ × ℕ)) (items : List Item) → names_of (fold (word_step m entry event) words items) ≡ names_of words
-names-reads m entry event words [] = refl
-names-reads m entry event words (item ∷ items) = names-reads m entry event (word_step m entry event words item) items ∙ names-read m entry event words item
+names-reads m entry event words items =
+    fold-keeps (word_step m entry event) (λ next. names_of next ≡ names_of words)
+    (λ next item kept. names-given next (next_word m entry event item) ∙ kept) words items refl
 
 -- ---- writes
 
-names-write : (m : Parts) (entry : Entry) (event : Event) (memories : List (List ℕ × List ℕ)) (item : Item) → names_of (memory_step m entry event memories item) ≡ names_of memories
-names-write m entry event memories (WriteItem falling clock clock_enable enable memory address mask bits) =
-    let from : Readable = readable entry in
-    let acts : Bool = is_clocked m event falling clock && atom_value from clock_enable && atom_value from enable in
-    let word : ℕ = masked (get_or (words_of entry.memories memory) (atoms_value from address) 0) (atoms_value from mask) (atoms_value from bits) in
-    elim acts as (λ b. names_of (cond b (put_word memories memory (atoms_value from address) word) memories) ≡ names_of memories) [
-      | true ↦ names-put memories memory (set (words_of memories memory) (atoms_value from address) word)
-      | false ↦ refl
-    ]
-names-write m entry event memories other = refl
+names-given_word : (memories : List (List ℕ × List ℕ)) (given : Option Put) → names_of (put_given_word memories given) ≡ names_of memories
+names-given_word memories (Some given) = names-put memories given.memory (set (words_of memories given.memory) given.address given.word)
+names-given_word memories None = refl
+
+given_word-out : (acts : Bool) (memories : List (List ℕ × List ℕ)) (given : Put)
+    → cond acts (values_of (put_word memories given.memory given.address given.word)) (values_of memories) ≡ values_of (put_given_word memories (cond acts (Some given) None))
+given_word-out true memories given = refl
+given_word-out false memories given = refl
 
 -- a word of 16 bits, put in the slot of a memory
 abbrev write_into : List (List ℕ) → List (List ℕ) → Option ℕ → ℕ → ℕ → ℕ → List (List ℕ)
@@ -188,7 +184,11 @@ write-step m entry event memories (WriteItem falling clock clock_enable enable m
     ∙ ap₂ (λ e n. cond (is_clocked m event falling clock && atom_value from clock_enable && e) (write_into next before (at.memories memory) n k d) next) (operand-at from enable) (number-at from address)
     ∙ ap₂ (λ n v. cond acts (write_into next before (at.memories memory) (atoms_value from address) n v) next) (number-at from mask) (number-at from data_bits)
     ∙ ap (λ list. cond acts list next) (write-placed entry.memories memories memory (atoms_value from address) (atoms_value from mask) (atoms_value from data_bits) named)
-    ∙ cond-out values_of acts (put_word memories memory (atoms_value from address) (masked (get_or (words_of entry.memories memory) (atoms_value from address) 0) (atoms_value from mask) (atoms_value from data_bits))) memories
+    ∙ given_word-out acts memories (record {
+      memory = memory;
+      address = atoms_value from address;
+      word = masked (get_or (words_of entry.memories memory) (atoms_value from address) 0) (atoms_value from mask) (atoms_value from data_bits);
+    })
 write-step m entry event memories other inputs named = refl
 
 -- the memories after an event
@@ -196,13 +196,14 @@ pub writes-same : (m : Parts) (entry : Entry) (event : Event) (memories : List (
     → names_of entry.inputs ≡ input_names m.ports → names_of memories ≡ names_of entry.memories
     → fold (write_slot event (values_of (readable entry).bits) (values_of entry.words) (values_of entry.memories)) (values_of memories) (filter_map (write_of (entry_places entry)) items)
     ≡ values_of (fold (memory_step m entry event) memories items)
-writes-same m entry event memories [] inputs named = refl
-writes-same m entry event memories (item ∷ items) inputs named =
-    let step : List (List ℕ) → Write → List (List ℕ) = write_slot event (values_of (readable entry).bits) (values_of entry.words) (values_of entry.memories) in
-    fold-cons_option step (values_of memories) (write_of (entry_places entry) item) (filter_map (write_of (entry_places entry)) items)
-    ∙ ap (λ next. fold step next (filter_map (write_of (entry_places entry)) items)) (write-step m entry event memories item inputs named)
-    ∙ writes-same m entry event (memory_step m entry event memories item) items inputs (names-write m entry event memories item ∙ named)
+writes-same m entry event memories items inputs named =
+    fold-same (write_slot event (values_of (readable entry).bits) (values_of entry.words) (values_of entry.memories)) (write_of (entry_places entry)) (λ (next : List (List ℕ × List ℕ)). values_of next) (memory_step m entry event)
+    (λ next. names_of next ≡ names_of entry.memories)
+    (λ next item kept. names-given_word next (next_put m entry event item) ∙ kept)
+    (λ next item kept. write-step m entry event next item inputs kept)
+    memories items named
 
 pub names-writes : (m : Parts) (entry : Entry) (event : Event) (memories : List (List ℕ × List ℕ)) (items : List Item) → names_of (fold (memory_step m entry event) memories items) ≡ names_of memories
-names-writes m entry event memories [] = refl
-names-writes m entry event memories (item ∷ items) = names-writes m entry event (memory_step m entry event memories item) items ∙ names-write m entry event memories item
+names-writes m entry event memories items =
+    fold-keeps (memory_step m entry event) (λ next. names_of next ≡ names_of memories)
+    (λ next item kept. names-given_word next (next_put m entry event item) ∙ kept) memories items refl

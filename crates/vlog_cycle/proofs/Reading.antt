@@ -77,7 +77,7 @@ registers-read runner m entry shows =
 
 -- ---- which names have values
 
-has-value : {A : Type 0} (entries : List (List ℕ × A)) (name : List ℕ) → is_some (value_in entries name) ≡ has_name (names_of entries) name
+pub has-value : {A : Type 0} (entries : List (List ℕ × A)) (name : List ℕ) → is_some (value_in entries name) ≡ has_name (names_of entries) name
 has-value [] name = refl
 has-value {A = A} (entry ∷ entries) name =
     elim (bytes_eq entry.0 name) as (λ b. is_some (cond b (Some entry.1) (value_in entries name)) ≡ (b || has_name (names_of entries) name)) [

@@ -39,6 +39,12 @@ wire_step known words wires (Wire name right) =
     wires ++ (name, right_value (record { bits = known ++ wires; words = words }) right) ∷ []
 wire_step known words wires _ = wires
 
+-- whether a wire sets the register of an item at once
+abbrev pub is_at_once : Item → Bool
+is_at_once (FlipAtOnce falling clock reset set target enable lut) = true
+is_at_once (SetAtOnce reset set target) = true
+is_at_once _ = false
+
 -- a register that a wire sets at once has its bit where the wire is 1
 abbrev pub settle_step : Readable → List (List ℕ × Bool) → Item → List (List ℕ × Bool)
 settle_step from registers (FlipAtOnce falling clock reset set target enable lut) =

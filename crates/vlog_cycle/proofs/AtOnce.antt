@@ -1,6 +1,6 @@
 -- What well-formed modules say of registers that wires set at once.
-use Rattle.std.proofs.Common.{◌≡◌, ℕ, zero, suc, ◌+◌, ◌<◌, ◌≤◌, Bool, true, false, cond, List, [], ◌∷◌, ◌++◌, append_assoc, Option, Some, None, ◌⊎◌, inl, inr, absurd, ap, ap₂, arith, fold, get_or, length, refl, subst, sym, take, drop, ltb, ◌∙◌}
-use Rattle.std.specs.Prelude.{◌||◌, ◌&&◌, not, All, IsTrue, bytes_eq, flat_map, map, slice_get, is_some}
+use Rattle.std.proofs.Common.{◌≡◌, ℕ, zero, suc, ◌+◌, ◌<◌, ◌≤◌, Bool, true, false, cond, List, [], ◌∷◌, ◌++◌, append_assoc, Option, Some, None, ◌⊎◌, inl, inr, ap, ap₂, arith, fold, get_or, length, refl, subst, sym, take, drop, ltb, ◌∙◌}
+use Rattle.std.specs.Prelude.{◌||◌, ◌&&◌, not, All, IsTrue, bytes_eq, flat_map, map, slice_get, unwrap_or}
 use Rattle.std.specs.Bool.{beq}
 use Rattle.std.specs.List.{list_all, list_any}
 use Rattle.std.proofs.lemmas.Bool.{cases_Bool, ltb-false, ltb-true}
@@ -8,7 +8,6 @@ use Rattle.std.proofs.lemmas.List.{take-append-drop}
 use Rattle.std.proofs.lemmas.List.Concat.{flat_map-append}
 use Rattle.std.proofs.lemmas.List.Folds.{list_all-append}
 use Rattle.std.proofs.lemmas.List.Sums.{fold_more}
-use Rattle.std.proofs.Math.Option.{some-injective}
 use Rattle.std.proofs.lemmas.Option.{get_or_from_slice_get, slice_get-get_or, slice_get_within}
 use Rattle.std.proofs.lemmas.Slice.Eq.{bytes_eq-Decides}
 use Rattle.vlog_module.specs.declared.atoms.Atom.{Atom}
@@ -35,7 +34,10 @@ pub record AtOnce : Type 0 where
   pub set_to : Bool
   pub target : List ℕ
 
-pub at_once : Item → Option AtOnce
+some-same : {A : Type 0} (a b : A) → Some a ≡ Some b → a ≡ b
+some-same {A = A} a b is = ap (λ (found : Option A). unwrap_or found a) is
+
+unfoldable pub at_once : Item → Option AtOnce
 at_once (FlipAtOnce falling clock reset set_to target enable lut) = Some (record { reset = reset; set_to = set_to; target = target })
 at_once (SetAtOnce reset set_to target) = Some (record { reset = reset; set_to = set_to; target = target })
 at_once _ = None
@@ -56,12 +58,12 @@ known-in scope (WireItem name right) one allowed is = cc
 known-in scope (Assign name value) one allowed is = cc
 known-in scope (Flip falling clock enable reset set_to target lut) one allowed is = cc
 known-in scope (FlipAtOnce falling clock reset set_to target enable lut) one allowed is =
-    subst (KnownAtOnce scope) (some-injective _ one is) (record {
+    subst (KnownAtOnce scope) (some-same _ one is) (record {
       wire = allowed.known 1 (Takes Input clock) (omega arith);
       register = allowed.known 2 (Takes Input clock) (omega arith);
     })
 known-in scope (SetAtOnce reset set_to target) one allowed is =
-    subst (KnownAtOnce scope) (some-injective _ one is) (record {
+    subst (KnownAtOnce scope) (some-same _ one is) (record {
       wire = allowed.known 0 (Takes Input reset) (omega arith);
       register = allowed.known 1 (Takes Input reset) (omega arith);
     })
@@ -169,8 +171,9 @@ rises m i item zero whole at lt within = absurd (omega arith)
 rises m i item (suc k) whole at lt within =
     let last : Item = get_or m.items k item in
     let here : k < length m.items = omega arith in
+    let by : suc k ≡ k + 1 = omega arith in
     let next : (scope_of m.ports (take (suc k) m.items)).section ≡ section_of last =
-    ap (λ n. (scope_of m.ports (take n m.items)).section) (omega arith) ∙ fold_more (λ before (other : Item). section_of other) 1 m.items k item here in
+    ap (λ n. (scope_of m.ports (take n m.items)).section) by ∙ fold_more (λ before (other : Item). section_of other) 1 m.items k item here in
     elim (cases_Bool (ltb i k)) [
       | inl below ↦
           let ordered : (scope_of m.ports (take k m.items)).section ≤ section_of last = (whole.begun.allowed k last (slice_get-get_or m.items k item here)).ordered in
@@ -185,7 +188,7 @@ all-read : (test : List ℕ × Reading → Bool) (items : List Item) (k : ℕ) (
     → list_all test (wire_readings item) ≡ true
 all-read test [] k item passes at = cc
 all-read test (first ∷ items) zero item passes at =
-    ap (λ x. list_all test (wire_readings x)) (sym (some-injective first item at))
+    ap (λ x. list_all test (wire_readings x)) (sym (some-same first item at))
     ∙ and-left (list_all test (wire_readings first)) (list_all test (flat_map wire_readings items)) (sym (list_all-append test (wire_readings first) (flat_map wire_readings items)) ∙ passes)
 all-read test (first ∷ items) (suc k) item passes at =
     all-read test items k item (and-right (list_all test (wire_readings first)) (list_all test (flat_map wire_readings items)) (sym (list_all-append test (wire_readings first) (flat_map wire_readings items)) ∙ passes)) at
@@ -221,7 +224,7 @@ read-well m i k item wire one whole at is wire_at wire_is =
             | inl first ↦ absurd (omega (arith, seven, wire_is, ordered, rises m i item k whole at (ltb-true i k first) (below-length m.items k wire wire_at)))
             | inr last ↦
                 let same : i ≡ k = omega (arith, ltb-false k i behind, ltb-false i k last) in
-                let one_item : item ≡ wire = some-injective item wire (sym at ∙ ap (slice_get m.items) same ∙ wire_at) in
+                let one_item : item ≡ wire = some-same item wire (sym at ∙ ap (slice_get m.items) same ∙ wire_at) in
                 absurd (omega (arith, seven, wire_is, ap section_of one_item))
           ]
     ]
@@ -271,9 +274,12 @@ item-declares (Read falling clock clock_enable enable target memory address) =
     none-append (atom_uses clock_enable ++ atom_uses enable) (Assigns Word target ∷ Takes Memory memory ∷ atoms_uses address)
     (none-append (atom_uses clock_enable) (atom_uses enable) (atom-none clock_enable) (atom-none enable)) (atoms-none address)
 item-declares (Write falling clock clock_enable enable memory address mask bits) =
-    none-append (atom_uses clock_enable ++ atom_uses enable) (Assigns Memory memory ∷ atoms_uses address ++ atoms_uses mask ++ atoms_uses bits)
-    (none-append (atom_uses clock_enable) (atom_uses enable) (atom-none clock_enable) (atom-none enable))
-    (none-append (atoms_uses address ++ atoms_uses mask) (atoms_uses bits) (none-append (atoms_uses address) (atoms_uses mask) (atoms-none address) (atoms-none mask)) (atoms-none bits))
+    none-append ((atom_uses clock_enable ++ atom_uses enable ++ (Assigns Memory memory ∷ atoms_uses address)) ++ atoms_uses mask) (atoms_uses bits)
+    (none-append (atom_uses clock_enable ++ atom_uses enable ++ (Assigns Memory memory ∷ atoms_uses address)) (atoms_uses mask)
+    (none-append (atom_uses clock_enable ++ atom_uses enable) (Assigns Memory memory ∷ atoms_uses address)
+    (none-append (atom_uses clock_enable) (atom_uses enable) (atom-none clock_enable) (atom-none enable)) (atoms-none address))
+    (atoms-none mask))
+    (atoms-none bits)
 item-declares (Start memory k word) = refl
 
 past-sort : (sort : Sort) (b : Bool) (found : Option Sort) → is_sort Wire (Some sort) ≡ false → cond b (Some sort) found ≡ Some Wire → found ≡ Some Wire

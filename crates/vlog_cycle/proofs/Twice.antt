@@ -1,5 +1,5 @@
 -- In a well-formed module, settling twice is settling once.
-use Rattle.std.proofs.Common.{◌≡◌, ℕ, zero, suc, ◌+◌, ◌<◌, ◌≤◌, Bool, true, false, cond, List, [], ◌∷◌, ◌++◌, Option, Some, None, ◌×◌, inl, inr, absurd, ap, ap₂, arith, fold, flat_map, get_or, length, refl, subst, sym, take, take_all, drop, ◌∙◌}
+use Rattle.std.proofs.Common.{◌≡◌, ℕ, zero, suc, ◌+◌, ◌<◌, ◌≤◌, Bool, true, false, cond, List, [], ◌∷◌, ◌++◌, Option, Some, None, inl, inr, ap, ap₂, arith, fold, flat_map, get_or, length, refl, subst, sym, take, take_all, drop, ◌∙◌}
 use Rattle.std.specs.Prelude.{◌||◌, ◌&&◌, not, All, bytes_eq, is_some, map, slice_get, unwrap_or}
 use Rattle.std.specs.Bool.{beq}
 use Rattle.std.specs.List.{list_all}

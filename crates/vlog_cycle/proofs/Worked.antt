@@ -3,9 +3,9 @@ use Rattle.std.proofs.Common.{◌≡◌, ℕ, Bool, true, false, List, [], ◌�
 use Rattle.std.specs.Prelude.{codes, map}
 use Rattle.vlog_module.specs.declared.atoms.Atom.{Atom}
 use Rattle.vlog_module.specs.declared.atoms.Atom.TheVariants.{Bit, Whole}
-use Rattle.vlog_module.specs.declared.item.Item.TheVariants.{Register, Word, Memory, Wire, Assign, Flip, Read, Write, Start}
+use Rattle.vlog_module.specs.declared.item.Item.TheVariants.{Register, Word, Memory, Wire, Assign, Flip, FlipAtOnce, SetAtOnce, Read, Write, Start}
 use Rattle.vlog_module.specs.declared.item.Lut.{Lut}
-use Rattle.vlog_module.specs.declared.item.Right.TheVariants.{Whole as RightWhole, Lut as RightLut}
+use Rattle.vlog_module.specs.declared.item.Right.TheVariants.{Whole as RightWhole, Lut as RightLut, Choose}
 use Rattle.vlog_module.specs.declared.modules.Port.{Port}
 use Rattle.vlog_module.specs.Parts.{Parts}
 use Rattle.text_lines.specs.Lines.{lines_of, trimmed}
@@ -128,3 +128,34 @@ writes : run_text memory (event 1 true ∷ event 0 true ∷ event 0 false ∷ ev
     ≡ codes "  0000\n  0000\n  1234\n  1234\n  1234\n  ab34\n"
 unfolding run_text module_run run_from followed changed start settled entry_line memory bits_of input output event
 writes = refl
+
+-- ---- registers that a wire sets at once
+
+-- at falling edges of `c` the register gets what it hasn't; it is 1 while `r` is, and the wire that reads it sees that
+toggle : Parts
+toggle = record {
+  name = codes "toggle";
+  ports = input (codes "c") ∷ input (codes "r") ∷ output (codes "q") ∷ output (codes "f") ∷ [];
+  items = Register (codes "ff") false ∷ Wire (codes "n_5") (RightWhole (codes "r")) ∷ Wire (codes "n_2") (Choose (codes "n_5") true (codes "ff"))
+      ∷ Wire (codes "n_1") (RightWhole (codes "n_2")) ∷ Assign (codes "q") (Whole (codes "n_1")) ∷ Assign (codes "f") (Whole (codes "ff"))
+      ∷ FlipAtOnce true (codes "c") (codes "n_5") true (codes "ff") (Bit true) inverter ∷ [];
+}
+
+-- the bit comes with the wire and without an edge, and stays; an edge while the wire is 1 changes nothing
+toggles : run_text toggle (event 1 true ∷ event 1 false ∷ event 0 true ∷ event 0 false ∷ event 1 true ∷ event 0 true ∷ event 0 false ∷ event 1 false ∷ []) true
+    ≡ codes "00 0\n11 1\n11 1\n11 1\n00 0\n11 1\n11 1\n11 1\n11 1\n"
+unfolding run_text module_run run_from followed changed start settled entry_line toggle inverter input output event
+toggles = refl
+
+-- without a clock
+latch : Parts
+latch = record {
+  name = codes "latch";
+  ports = input (codes "r") ∷ output (codes "q") ∷ output (codes "f") ∷ [];
+  items = Register (codes "ff") true ∷ Wire (codes "n_5") (RightWhole (codes "r")) ∷ Wire (codes "n_2") (Choose (codes "n_5") false (codes "ff"))
+      ∷ Assign (codes "q") (Whole (codes "n_2")) ∷ Assign (codes "f") (Whole (codes "ff")) ∷ SetAtOnce (codes "n_5") false (codes "ff") ∷ [];
+}
+
+latches : run_text latch (event 0 true ∷ event 0 false ∷ []) true ≡ codes "11 1\n00 0\n00 0\n"
+unfolding run_text module_run run_from followed changed start settled entry_line latch input output event
+latches = refl

@@ -1,8 +1,7 @@
 -- What well-formed modules say of registers that wires set at once.
-use Rattle.std.proofs.Common.{◌≡◌, ℕ, zero, suc, ◌+◌, ◌<◌, ◌≤◌, Bool, true, false, cond, List, [], ◌∷◌, ◌++◌, append_assoc, Option, Some, None, ◌⊎◌, inl, inr, ap, ap₂, arith, fold, get_or, length, refl, subst, sym, take, drop, ltb, ◌∙◌}
-use Rattle.std.specs.Prelude.{◌||◌, ◌&&◌, not, All, IsTrue, bytes_eq, flat_map, map, slice_get, unwrap_or}
-use Rattle.std.specs.Bool.{beq}
-use Rattle.std.specs.List.{list_all, list_any}
+use Rattle.std.proofs.Common.{◌≡◌, ℕ, zero, suc, ◌+◌, ◌<◌, ◌≤◌, Bool, true, false, cond, List, [], ◌∷◌, ◌++◌, append_assoc, Option, Some, None, inl, inr, ap, ap₂, arith, get_or, length, refl, subst, sym, take, drop, ltb, ◌∙◌}
+use Rattle.std.specs.Prelude.{◌||◌, ◌&&◌, not, IsTrue, bytes_eq, flat_map, map, slice_get, unwrap_or}
+use Rattle.std.specs.List.{list_all}
 use Rattle.std.proofs.lemmas.Bool.{cases_Bool, ltb-false, ltb-true}
 use Rattle.std.proofs.lemmas.List.{take-append-drop}
 use Rattle.std.proofs.lemmas.List.Concat.{flat_map-append}
@@ -14,7 +13,6 @@ use Rattle.vlog_module.specs.declared.atoms.Atom.{Atom}
 use Rattle.vlog_module.specs.declared.atoms.Atom.TheVariants.{Bit, Whole, Part}
 use Rattle.vlog_module.specs.declared.item.Item.{Item}
 use Rattle.vlog_module.specs.declared.item.Item.TheVariants.{Register as RegisterItem, Word as WordItem, Memory as MemoryItem, Wire as WireItem, Assign, Flip, FlipAtOnce, SetAtOnce, Read, Write, Start}
-use Rattle.vlog_module.specs.declared.item.Lut.{Lut}
 use Rattle.vlog_module.specs.declared.item.Right.{Right}
 use Rattle.vlog_module.specs.declared.item.Right.TheVariants.{Bit as RightBit, Whole as RightWhole, Part as RightPart, Lut as RightLut, Majority, Choose}
 use Rattle.vlog_module.specs.declared.modules.Port.{Port}
@@ -24,9 +22,9 @@ use Rattle.vlog_module.specs.Maps.{value_in}
 use Rattle.vlog_module.specs.Parts.{Parts}
 use Rattle.vlog_module.specs.Uses.{Use, atom_uses, atoms_uses, lut_uses, right_uses, uses_of}
 use Rattle.vlog_module.specs.Uses.Use.{Assigns, AssignsAtOnce, Takes}
-use Rattle.vlog_module.specs.WellFormed.{IsAllowed, IsModule, Reading, Scope, declared_by, has_bit, is_known, is_read_unless, is_sort, is_unless, port_sort, scope_of, section_of, sort_in, wire_readings}
-use Rattle.vlog_cycle.specs.ModuleSlots.{wire_names, wire_start}
-use Rattle.vlog_cycle.specs.Named.{has_name, names_of}
+use Rattle.vlog_module.specs.WellFormed.{IsAllowed, IsModule, Reading, Scope, declared_by, is_known, is_read_unless, is_sort, is_unless, port_sort, scope_of, section_of, sort_in, wire_readings}
+use Rattle.vlog_cycle.specs.ModuleSlots.{wire_names}
+use Rattle.vlog_cycle.specs.Named.{has_name}
 
 -- a register that becomes a bit at once where a wire is 1
 pub record AtOnce : Type 0 where
@@ -48,7 +46,6 @@ pub record KnownAtOnce (scope : Scope) (one : AtOnce) : Type 0 where
   pub wire : IsTrue (is_known scope (Takes Wire one.reset))
   pub register : IsTrue (is_known scope (AssignsAtOnce one.reset one.set_to one.target))
 
--- the same for each, by its place
 known-in : (scope : Scope) (item : Item) (one : AtOnce) → IsAllowed scope item → at_once item ≡ Some one → KnownAtOnce scope one
 unfolding at_once
 known-in scope (RegisterItem name start) one allowed is = cc
@@ -136,11 +133,11 @@ pub record IsDeclared (m : Parts) (one : AtOnce) : Type 0 where
   pub wire : sort_in (scope_of m.ports m.items).declared one.reset ≡ Some Wire
   pub register : sort_in (scope_of m.ports m.items).declared one.target ≡ Some Register
 
-and-left : (a b : Bool) → (a && b) ≡ true → a ≡ true
+pub and-left : (a b : Bool) → (a && b) ≡ true → a ≡ true
 and-left true b is = refl
 and-left false b is = cc
 
-and-right : (a b : Bool) → (a && b) ≡ true → b ≡ true
+pub and-right : (a b : Bool) → (a && b) ≡ true → b ≡ true
 and-right true b is = is
 and-right false b is = cc
 

@@ -12,7 +12,7 @@ use Rattle.vlog_cycle.specs.ModuleSlots.{IsNamed, IsPlan, memory_names, module_w
 use Rattle.vlog_cycle.specs.Named.{names_of, values_of}
 use Rattle.vlog_cycle.specs.Numbered.{numbered}
 use Rattle.vlog_cycle.specs.Plans.{Places, flip_of, outputs_of, read_of, settle_of, wires_of, write_of}
-use Rattle.vlog_cycle.specs.Run.{changed, followed, input_bit, input_names, input_start, is_same_bit, memory_start, memory_step, readable, register_start, register_step, settle_step, settled, start, start_step, wire_step, with_input, word_start, word_step}
+use Rattle.vlog_cycle.specs.Run.{changed, followed, input_bit, input_names, input_start, is_same_bit, memory_start, memory_step, readable, register_start, register_step, settled, start, start_step, wire_step, with_input, word_start, word_step}
 use Rattle.vlog_cycle.specs.Steps.{bits_after, flip_slot, memories_after, operand_value, read_slot, settle_slot, settle_slots, settled_slots, wire_slot, words_after, write_slot}
 use Rattle.vlog_cycle.specs.Values.{Readable}
 use Rattle.vlog_cycle.proofs.Beginning.{names-starts, same-places}

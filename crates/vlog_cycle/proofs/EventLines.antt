@@ -1,5 +1,5 @@
 -- Lists of events, line by line.
-use Rattle.std.proofs.Common.{◌≡◌, ℕ, zero, suc, ◌+◌, ◌<◌, ◌≤◌, Bool, true, false, cond, List, [], ◌∷◌, ◌++◌, Option, Some, None, Ok, Err, drop, flat_map, length, get_or, map, take, refl, sym, ap, ◌∙◌, arith, below_more, length-drop}
+use Rattle.std.proofs.Common.{◌≡◌, ℕ, ◌+◌, ◌<◌, Bool, true, false, cond, List, [], ◌∷◌, ◌++◌, Option, Some, None, Ok, Err, flat_map, length, get_or, map, take, refl, sym, ap, ◌∙◌, arith, below_more}
 use Rattle.std.specs.Prelude.{All, bytes_eq}
 use Rattle.std.specs.Option.{option_to_list}
 use Rattle.std.specs.Result.{result_err, result_ok}

@@ -6,9 +6,6 @@ use Rattle.std.specs.Map.{lookup}
 use Rattle.std.proofs.lemmas.List.{get_or_at, set_at, length_push}
 use Rattle.std.proofs.lemmas.Slice.Eq.{bytes_eq-Decides}
 use Rattle.place_search.proofs.Places.{or_else-none}
-use Rattle.shared_lemmas.proofs.Options.{none_from_is_some}
-use Rattle.shared_lemmas.proofs.Bytes.{bytes_eq-turned}
-use Rattle.shared_lemmas.proofs.Tests.{same_test}
 use Rattle.place_search.specs.Places.{or_else}
 use Rattle.vlog_module.specs.Maps.{value_in}
 use Rattle.vlog_cycle.specs.Entries.{put}

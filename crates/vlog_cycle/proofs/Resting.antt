@@ -1,12 +1,11 @@
 -- Registers that have settled stay, and wires have the same values.
-use Rattle.std.proofs.Common.{◌≡◌, ℕ, zero, suc, ◌+◌, ◌<◌, ◌≤◌, Bool, true, false, cond, List, [], ◌∷◌, ◌++◌, append_assoc, Option, Some, None, ◌⊎◌, inl, inr, ap, ap₂, arith, fold, flat_map, get_or, length, refl, subst, sym, take, take_all, drop, ◌∙◌}
-use Rattle.std.specs.Prelude.{All, bytes_eq, is_some, slice_get, unwrap_or}
+use Rattle.std.proofs.Common.{◌≡◌, ℕ, suc, Bool, true, false, cond, List, [], ◌∷◌, Option, Some, None, ◌⊎◌, inl, inr, ap, fold, refl, sym, ◌∙◌}
+use Rattle.std.specs.Prelude.{All, bytes_eq, slice_get}
 use Rattle.std.specs.List.{filter_map}
 use Rattle.std.specs.Option.{option_to_list}
 use Rattle.std.proofs.lemmas.Bool.{cases_Bool}
 use Rattle.std.proofs.lemmas.List.Elements.{All-head, All-tail}
 use Rattle.std.proofs.lemmas.Slice.Eq.{bytes_eq-Decides}
-use Rattle.place_search.specs.Places.{or_else}
 use Rattle.vlog_module.specs.declared.atoms.Atom.TheVariants.{Whole}
 use Rattle.vlog_module.specs.declared.item.Item.{Item}
 use Rattle.vlog_module.specs.declared.item.Item.TheVariants.{FlipAtOnce, SetAtOnce}

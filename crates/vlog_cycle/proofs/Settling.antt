@@ -1,5 +1,5 @@
 -- Registers that wires set at once, over slots and by their names.
-use Rattle.std.proofs.Common.{◌≡◌, ℕ, Bool, true, false, cond, List, [], ◌∷◌, ◌++◌, Option, Some, None, ap, ap₂, fold, get_or, refl, set, sym, ◌∙◌}
+use Rattle.std.proofs.Common.{◌≡◌, ℕ, Bool, true, false, cond, List, Option, Some, None, ap₂, fold, get_or, refl, set, sym, ◌∙◌}
 use Rattle.std.specs.Prelude.{unwrap_or}
 use Rattle.std.specs.List.{filter_map}
 use Rattle.std.specs.Option.{option_map, option_map_or, option_to_list}
@@ -9,7 +9,7 @@ use Rattle.vlog_module.specs.declared.item.Item.TheVariants.{FlipAtOnce, SetAtOn
 use Rattle.vlog_cycle.specs.Entries.{Entry, put}
 use Rattle.vlog_cycle.specs.Named.{names_of, values_of}
 use Rattle.vlog_cycle.specs.Plans.{Places, of_two, settle_of, settle_over}
-use Rattle.vlog_cycle.specs.Run.{put_given, readable, settle_step}
+use Rattle.vlog_cycle.specs.Run.{readable, settle_step}
 use Rattle.vlog_cycle.specs.Steps.{settle_slot}
 use Rattle.vlog_cycle.specs.Values.{Readable, atom_value}
 use Rattle.vlog_cycle.proofs.Clocked.{entry_places, register-placed, with_registers}

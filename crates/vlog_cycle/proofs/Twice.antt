@@ -1,5 +1,5 @@
 -- In a well-formed module, settling twice is settling once.
-use Rattle.std.proofs.Common.{◌≡◌, ℕ, zero, suc, ◌+◌, ◌<◌, ◌≤◌, Bool, true, false, cond, List, [], ◌∷◌, ◌++◌, Option, Some, None, inl, inr, ap, ap₂, arith, fold, flat_map, get_or, length, refl, subst, sym, take, take_all, drop, ◌∙◌}
+use Rattle.std.proofs.Common.{◌≡◌, ℕ, zero, suc, ◌+◌, ◌<◌, ◌≤◌, Bool, true, false, cond, List, [], ◌∷◌, ◌++◌, Option, Some, None, inl, inr, ap, ap₂, arith, fold, flat_map, get_or, length, refl, sym, take, take_all, drop, ◌∙◌}
 use Rattle.std.specs.Prelude.{◌||◌, ◌&&◌, not, All, bytes_eq, is_some, map, slice_get, unwrap_or}
 use Rattle.std.specs.Bool.{beq}
 use Rattle.std.specs.List.{list_all}
@@ -25,11 +25,10 @@ use Rattle.vlog_module.specs.Uses.{Use, atom_uses, atoms_uses, right_uses}
 use Rattle.vlog_module.specs.WellFormed.{IsModule, Reading, read_by, scope_of, sort_in}
 use Rattle.vlog_module.specs.WellFormed.Reading.{plainly, unless}
 use Rattle.vlog_cycle.specs.Entries.{Entry}
-use Rattle.vlog_cycle.specs.ModuleSlots.{wire_names}
-use Rattle.vlog_cycle.specs.Named.{has_name, names_of}
+use Rattle.vlog_cycle.specs.Named.{has_name}
 use Rattle.vlog_cycle.specs.Run.{is_at_once, output_start, output_step, settle_step, settled, wire_step}
 use Rattle.vlog_cycle.specs.Values.{Readable, atom_value, bit_of, majority, number_of, right_value}
-use Rattle.vlog_cycle.proofs.AtOnce.{AtOnce, ChoosesBy, at_once, chooses-by, declared-at, found-more, is_read_well, read-well, wire-apart}
+use Rattle.vlog_cycle.proofs.AtOnce.{AtOnce, ChoosesBy, and-left, and-right, at_once, chooses-by, declared-at, found-more, is_read_well, read-well, wire-apart}
 use Rattle.vlog_cycle.proofs.Reading.{has-value}
 use Rattle.vlog_cycle.proofs.Resting.{rest-kept, rests-alike, rests-plain, rests-twice}
 use Rattle.vlog_cycle.proofs.Wires.{names-settled}
@@ -55,14 +54,6 @@ chosen-test false c d is here = cc
 
 no-both : (b c : Bool) → b ≡ true → b ≡ false → c ≡ false
 no-both b c one zero_bit = absurd cc
-
-and-left : (a b : Bool) → (a && b) ≡ true → a ≡ true
-and-left true b is = refl
-and-left false b is = cc
-
-and-right : (a b : Bool) → (a && b) ≡ true → b ≡ true
-and-right true b is = is
-and-right false b is = cc
 
 choose-alike : (b after set_to value other : Bool) → after ≡ b → (b ≡ false → other ≡ value) → cond after set_to other ≡ cond b set_to value
 choose-alike true after set_to value other same rest = ap (λ x. cond x set_to other) same
@@ -194,9 +185,10 @@ module _ (m : Parts) (inputs registers : List (List ℕ × Bool)) (words : List 
       let there : is_some (value_in done reset) ≡ true =
       has-value done reset ∙ ap (λ names. has_name names reset) (names-settled known words [] (take k m.items)) ∙ by.before in
       let same : value_in all_wires reset ≡ value_in done reset =
-      ap (λ wires. value_in wires reset) rest ∙ later-same known words done (drop k m.items) reset (value_in done reset) refl there in
-      (wire-stays reset by.declared,
-      ap (λ found. unwrap_or found false) (value-append known done reset ∙ ap (or_else (value_in known reset)) (sym same) ∙ sym (value-append known all_wires reset)))
+      ap (λ wires. value_in wires reset) rest ∙ later-same known words done (drop k m.items) reset (value_in done reset) refl there in (
+        wire-stays reset by.declared,
+        ap (λ found. unwrap_or found false) (value-append known done reset ∙ ap (or_else (value_in known reset)) (sym same) ∙ sym (value-append known all_wires reset)),
+      )
 
   wire-alike : (k : ℕ) (item : Item) → slice_get m.items k ≡ Some item → wire_step (inputs ++ rested) words (wires_below k) item ≡ wire_step (inputs ++ registers) words (wires_below k) item
   wire-alike k (Wire name right) at =

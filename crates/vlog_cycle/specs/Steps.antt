@@ -43,7 +43,7 @@ is_edge_of event edge = (edge.pin == event.pin) && is_edge edge.falling event.bi
 
 -- whether a register gets a bit at its edge
 abbrev pub is_acting : List Bool → List ℕ → Flip → Bool
-is_acting bits words flip = (flip.at_once && operand_value bits words flip.reset) || operand_value bits words flip.enable
+is_acting bits words flip = operand_value bits words flip.enable || (flip.at_once && operand_value bits words flip.reset)
 
 abbrev pub flip_slot : Event → List Bool → List ℕ → List Bool → Flip → List Bool
 flip_slot event bits words next flip =

@@ -177,7 +177,10 @@ fn settle_of(places: &Places, item: &Item) -> Option<Settle>
 {
     match item {
         Item::FlipAtOnce {
-            reset, set, target, ..
+            reset,
+            set,
+            target,
+            ..
         } => settle_over(places, reset.bytes(), *set, target.bytes()),
         Item::SetAtOnce { reset, set, target } => {
             settle_over(places, reset.bytes(), *set, target.bytes())

@@ -108,8 +108,8 @@ fn run_flips(flips: &[Flip], event: Event, bits: &[bool], words: &[u16], next: &
 fn is_acting(flip: &Flip, bits: &[bool], words: &[u16]) -> bool
     ensures { result ≡ is_acting bits.now words.now flip.now }
 {
-    (flip.at_once && operand_value(bits, words, flip.reset))
-        || operand_value(bits, words, flip.enable)
+    operand_value(bits, words, flip.enable)
+        || (flip.at_once && operand_value(bits, words, flip.reset))
 }
 
 /// The next bit of a register.

@@ -49,7 +49,7 @@ number_of numbers bits = word_of (map (cell_bit bits) numbers)
 abbrev pub lut_of : List Bool → ℕ
 lut_of bits = number_of entry_bits bits
 
--- the numbers of the bits that enable the carry and the flip-flop, that let a reset set, and that let it act without a clock
+-- the numbers of the bits that enable the carry and the flip-flop, that let a reset set, and that let it act at once
 unfoldable pub flag_bits : List ℕ
 flag_bits = 8 ∷ 9 ∷ 18 ∷ 19 ∷ []
 
@@ -67,7 +67,7 @@ has_flip bits = cell_bit bits 9
 abbrev pub is_setting : List Bool → Bool
 is_setting bits = cell_bit bits 18
 
--- whether a reset acts without a clock
+-- whether a reset acts at once, without a clock
 abbrev pub is_asynchronous : List Bool → Bool
 is_asynchronous bits = cell_bit bits 19
 
@@ -75,9 +75,9 @@ is_asynchronous bits = cell_bit bits 19
 abbrev pub is_used : List Bool → Bool
 is_used bits = list_any (λ bit. bit) bits
 
--- a flip-flop whose reset acts without a clock
-abbrev pub is_async_flip : List Bool → Bool
-is_async_flip bits = has_flip bits && is_asynchronous bits
+-- a flip-flop whose reset acts at once, without a clock
+abbrev pub is_at_once : List Bool → Bool
+is_at_once bits = has_flip bits && is_asynchronous bits
 
 -- ---- the nets of a cell
 
@@ -106,6 +106,7 @@ cell_with db image x y i bits = record {
   carry = has_carry bits;
   flip = has_flip bits;
   «set» = is_setting bits;
+  at_once = is_at_once bits;
   neg = is_function_on db image Logic x y (codes "NegClk");
   ins = each_below 4 (λ k. lutff_net db x y i (ending_in (codes "/in_") k));
   out = lutff_net db x y i (codes "/out");

@@ -1,13 +1,13 @@
 -- Where clocks come from, and what uses them.
 use Rattle.std.specs.Prelude.{◌≡◌, ℕ, zero, suc, ◌&&◌, List, [], ◌∷◌, ◌++◌, map, flat_map, filter, ◌==◌, Option}
 use Rattle.plane_map.specs.declared.device.DeviceName.{DeviceName}
-use Rattle.net_extract.specs.declared.cell.Lc.{Lc}
+use Rattle.net_extract.specs.declared.register.Register.{Register}
 use Rattle.net_extract.specs.declared.ram.RamCell.{RamCell}
 use Rattle.net_extract.specs.declared.driver.ClockUser.{ClockUser}
-use Rattle.net_extract.specs.declared.driver.ClockUser.TheVariants.{Cell, Read, Write}
+use Rattle.net_extract.specs.declared.driver.ClockUser.TheVariants.{Read, Write}
 use Rattle.net_extract.specs.Tiles.{over_grid}
 use Rattle.net_extract.specs.Joins.{class_of}
-use Rattle.net_extract.specs.Fabric.{Fabric, flips_of}
+use Rattle.net_extract.specs.Fabric.{Fabric}
 use Rattle.net_extract.specs.Drivers.{Rule, Drive, drivers_of}
 use Rattle.net_extract.specs.Drivers.Rule.{pin_bit, copied}
 
@@ -68,9 +68,9 @@ pub record User : Type 0 where
   pub user : ClockUser
   pub net : Option ℕ
 
--- a cell with flip-flop
-abbrev pub cell_user : Lc → User
-cell_user lc = record { x = lc.x; y = lc.y; user = Cell lc.i; net = lc.clk }
+-- a register
+abbrev pub register_user : Register → User
+register_user register = record { x = register.x; y = register.y; user = register.user; net = register.clk }
 
 -- the ports of a RAM: the read port goes first
 abbrev pub ram_users : RamCell → List User
@@ -78,10 +78,10 @@ ram_users ram =
     record { x = ram.x; y = ram.y; user = Read; net = ram.rclk }
     ∷ record { x = ram.x; y = ram.y; user = Write; net = ram.wclk } ∷ []
 
--- the users at a tile: cells by index
+-- the users at a tile, registers in their order
 abbrev pub users_at : Fabric → ℕ → ℕ → List User
 users_at fabric x y =
-    map cell_user (filter (λ lc. (lc.x == x) && (lc.y == y)) (flips_of fabric))
+    map register_user (filter (λ register. (register.x == x) && (register.y == y)) fabric.registers)
     ++ flat_map ram_users (filter (λ ram. (ram.x == x) && (ram.y == y)) fabric.rams)
 
 -- all users, by tile

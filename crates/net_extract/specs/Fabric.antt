@@ -4,6 +4,7 @@ use Rattle.ice_image.specs.Configuration.{Configuration}
 use Rattle.chipdb_reader.specs.Database.{Database, Link}
 use Rattle.net_extract.specs.declared.cell.Lc.{Lc}
 use Rattle.net_extract.specs.declared.cell.CarrySet.{CarrySet}
+use Rattle.net_extract.specs.declared.register.Register.{Register}
 use Rattle.net_extract.specs.declared.ram.RamCell.{RamCell}
 use Rattle.net_extract.specs.declared.pin.Pin.{Pin}
 use Rattle.net_extract.specs.declared.pin.GlobalNet.{GlobalNet}
@@ -11,6 +12,7 @@ use Rattle.net_extract.specs.On.{is_link_on}
 use Rattle.net_extract.specs.Cells.{cells_of, sets_of}
 use Rattle.net_extract.specs.Rams.{rams_of, over_rams, start_words}
 use Rattle.net_extract.specs.Pins.{pins_of, globals_of}
+use Rattle.net_extract.specs.Registers.{registers_of}
 
 -- a buffer that is on, by its place among the database's buffers
 pub record Buffer : Type 0 where
@@ -26,6 +28,7 @@ pub record Fabric : Type 0 where
   pub pins : List Pin
   pub globals : List GlobalNet
   pub lcs : List Lc
+  pub registers : List Register
   pub sets : List CarrySet
   pub rams : List RamCell
   pub start : List (List (List Bool))
@@ -65,6 +68,7 @@ fabric_of db image = record {
   pins = pins_of db image;
   globals = globals_of db image;
   lcs = cells_of db image;
+  registers = registers_of (cells_of db image);
   sets = sets_of db image;
   rams = rams_of db image;
   start = over_rams db image (λ x y. start_words image x y ∷ []);
@@ -79,7 +83,3 @@ inputs_of fabric = filter (λ pin. not pin.output) fabric.pins
 -- the output pins
 abbrev pub outputs_of : Fabric → List Pin
 outputs_of fabric = filter (λ pin. pin.output) fabric.pins
-
--- the cells with flip-flops
-abbrev pub flips_of : Fabric → List Lc
-flips_of fabric = filter (λ lc. lc.flip) fabric.lcs

@@ -3,14 +3,13 @@
 use Rattle.std.specs.Prelude.{ℕ, List, [], ◌∷◌, flat_map, if◌then◌else◌, Option, Some, None}
 use Rattle.plane_map.specs.declared.device.DeviceName.{DeviceName}
 use Rattle.plane_map.specs.Devices.{is_same_device}
-use Rattle.plane_map.specs.declared.tile.TileKind.TheVariants.{Io, Logic}
+use Rattle.plane_map.specs.declared.tile.TileKind.TheVariants.{Io}
 use Rattle.ice_image.specs.Configuration.{Configuration}
 use Rattle.chipdb_reader.specs.Database.{Database}
 use Rattle.place_search.specs.Places.{gathered_below, or_else}
 use Rattle.net_extract.specs.declared.driver.Driver.{Driver}
 use Rattle.net_extract.specs.declared.driver.ClockUser.{ClockUser}
 use Rattle.net_extract.specs.Tiles.{over_tiles, item_if, first_of}
-use Rattle.net_extract.specs.Cells.{cell_bits, is_async_flip}
 use Rattle.net_extract.specs.Rams.{over_rams, read_mode, write_mode, is_narrow, is_cascaded}
 use Rattle.net_extract.specs.Pins.{over_pins, pintype_of, is_refused_with, has_pll}
 use Rattle.net_extract.specs.Fabric.{Fabric, fabric_of}
@@ -31,8 +30,6 @@ pub data Fault : Type 0 where
   mode : (x y read write : ℕ) → Fault
   -- a RAM that passes on its address
   cascade : (x y : ℕ) → Fault
-  -- a flip-flop whose reset acts without a clock
-  async : (x y i : ℕ) → Fault
   -- a class with two drivers or more, and the first two
   two_drivers : (net : ℕ) (first second : Driver) → Fault
   -- a class that lies on a cycle
@@ -66,12 +63,6 @@ mode_faults db image = over_rams db image (λ x y.
 
 unfoldable pub cascade_faults : Database → Configuration → List Fault
 cascade_faults db image = over_rams db image (λ x y. item_if (is_cascaded db image x y) (cascade x y))
-
--- ---- cells
-
-unfoldable pub async_faults : Database → Configuration → List Fault
-async_faults db image = over_tiles image.layout.device Logic (λ x y.
-    gathered_below 8 (λ i. item_if (is_async_flip (cell_bits db image x y i)) (async x y i)))
 
 -- ---- drivers
 
@@ -113,10 +104,6 @@ pins_fault db image = or_else (first_of (pll_faults db image)) (first_of (pin_fa
 unfoldable pub rams_fault : Database → Configuration → Option Fault
 rams_fault db image = or_else (first_of (mode_faults db image)) (first_of (cascade_faults db image))
 
--- what is wrong with cells
-unfoldable pub cells_fault : Database → Configuration → Option Fault
-cells_fault db image = first_of (async_faults db image)
-
 -- what is wrong with a fabric
 unfoldable pub fabric_fault : DeviceName → Fabric → Option Fault
 fabric_fault device fabric =
@@ -130,5 +117,4 @@ design_fault db image =
     or_else (first_of (device_faults db image))
     (or_else (pins_fault db image)
     (or_else (rams_fault db image)
-    (or_else (cells_fault db image)
-    (fabric_fault image.layout.device (fabric_of db image)))))
+    (fabric_fault image.layout.device (fabric_of db image))))

@@ -1,11 +1,11 @@
--- What an event changes, and runs.
+-- What an event changes, how registers settle, and runs.
 use Rattle.std.specs.Prelude.{◌≡◌, ℕ, Bool, false, not, ◌&&◌, List, [], ◌∷◌, length, map, get_or, set, replicate, Option, Some, None, if◌then◌else◌}
 use Rattle.bit_plane.specs.BitList.{word_of}
 use Rattle.bit_plane.specs.Rows.{row_from}
-use Rattle.net_extract.specs.declared.cell.Lc.{Lc}
+use Rattle.net_extract.specs.declared.register.Register.{Register}
 use Rattle.net_extract.specs.declared.ram.RamCell.{RamCell}
-use Rattle.net_extract.specs.Fabric.{Fabric, numbered, inputs_of, outputs_of, flips_of}
-use Rattle.net_extract.specs.Values.{State, IsConsistent, input_or_0, input_or_1, lut_value, bit_in, is_connected}
+use Rattle.net_extract.specs.Fabric.{Fabric, numbered, inputs_of, outputs_of}
+use Rattle.net_extract.specs.Values.{State, IsConsistent, input_or_0, input_or_1, lut_value, settled_bit, bit_in, is_connected}
 
 -- ---- edges
 
@@ -15,15 +15,25 @@ has_edge inverted None before after = false
 has_edge inverted (Some net) before after =
     if inverted then before net && not (after net) else not (before net) && after net
 
--- ---- flip-flops
+-- ---- registers
 
--- What a flip-flop becomes at an edge: where its enable is 0 it stays; else where its reset is 1 it becomes the set bit;
--- else it becomes the LUT's value.
-unfoldable pub next_flip : (ℕ → Bool) → (ℕ → Bool) → Lc → Bool → Bool
-next_flip connected bit lc old =
-    if not (input_or_1 connected bit lc.cen) then old
-    else if input_or_0 connected bit lc.sr then lc.«set»
-    else lut_value connected bit lc
+-- what a register becomes at an edge whose reset waits for the clock: where its enable is 0 it stays; else where its reset is 1
+-- it becomes the set bit; else it becomes the LUT's value
+abbrev pub next_in_time : Register → Bool → Bool → Bool → Bool → Bool
+next_in_time register enabled reset made old = if not enabled then old else if reset then register.«set» else made
+
+-- what a register becomes at an edge whose reset acts at once: where its reset is 1 it becomes the set bit; else where its enable is
+-- 0 it stays; else it becomes the LUT's value
+abbrev pub next_at_once : Register → Bool → Bool → Bool → Bool → Bool
+next_at_once register enabled reset made old = if reset then register.«set» else if not enabled then old else made
+
+-- What a register becomes at an edge.
+unfoldable pub next_bit : (ℕ → Bool) → List Bool → (ℕ → Bool) → Register → Bool → Bool
+next_bit connected pins bit register old =
+    let enabled = input_or_1 connected bit register.cen in
+    let reset = input_or_0 connected bit register.sr in
+    let made = lut_value connected pins bit register.table in
+    if register.at_once then next_at_once register enabled reset made old else next_in_time register enabled reset made old
 
 -- ---- RAMs
 
@@ -60,33 +70,43 @@ next_register connected bit ram words register =
 
 -- ---- the next state
 
--- A flip-flop with an edge takes its next value from the bits before, one without an edge keeps its value.
-abbrev pub flip_after : (ℕ → Bool) → (ℕ → Bool) → (ℕ → Bool) → List Bool → ℕ × Lc → Bool
-flip_after connected before after flips place =
-    let old = get_or flips place.0 false in
-    if has_edge place.1.neg place.1.clk before after then next_flip connected before place.1 old else old
+-- A register with an edge takes its next value from the pins and the bits before, one without an edge keeps its value.
+abbrev pub bit_after : (ℕ → Bool) → List Bool → (ℕ → Bool) → (ℕ → Bool) → List Bool → ℕ × Register → Bool
+bit_after connected pins before after bits place =
+    let old = get_or bits place.0 false in
+    if has_edge place.1.neg place.1.clk before after then next_bit connected pins before place.1 old else old
 
 abbrev pub words_after : (ℕ → Bool) → (ℕ → Bool) → (ℕ → Bool) → State → ℕ × RamCell → List (List Bool)
 words_after connected before after state place =
     let old = get_or state.words place.0 [] in
     if has_edge place.1.wneg place.1.wclk before after then next_words connected before place.1 old else old
 
-abbrev pub register_after : (ℕ → Bool) → (ℕ → Bool) → (ℕ → Bool) → State → ℕ × RamCell → List Bool
-register_after connected before after state place =
-    let old = get_or state.registers place.0 [] in
+abbrev pub read_after : (ℕ → Bool) → (ℕ → Bool) → (ℕ → Bool) → State → ℕ × RamCell → List Bool
+read_after connected before after state place =
+    let old = get_or state.reads place.0 [] in
     if has_edge place.1.rneg place.1.rclk before after
     then next_register connected before place.1 (get_or state.words place.0 []) old
     else old
 
--- the state after an event, from the state and the bits of nets before, and the bits of clock nets after
-unfoldable pub state_after : Fabric → State → (ℕ → Bool) → (ℕ → Bool) → State
-state_after fabric state before after =
+-- the next state, from the pins, the state and the bits of nets before an event, and the bits of clock nets after it
+unfoldable pub state_after : Fabric → List Bool → State → (ℕ → Bool) → (ℕ → Bool) → State
+state_after fabric pins state before after =
     let connected = is_connected fabric in
     record {
-      flips = map (flip_after connected before after state.flips) (numbered (flips_of fabric));
-      registers = map (register_after connected before after state) (numbered fabric.rams);
+      bits = map (bit_after connected pins before after state.bits) (numbered fabric.registers);
+      reads = map (read_after connected before after state) (numbered fabric.rams);
       words = map (words_after connected before after state) (numbered fabric.rams);
     }
+
+-- ---- settling
+
+-- the bits of registers once those whose resets act at once have settled
+abbrev pub settled_bits : Fabric → (ℕ → Bool) → List Bool → List Bool
+settled_bits fabric bit bits = map (λ place. settled_bit (is_connected fabric) bit place.1 (get_or bits place.0 false)) (numbered fabric.registers)
+
+-- A state settles by the bits of nets: each register whose reset acts at once and is 1 has its set bit, and all else stays.
+unfoldable pub settled_state : Fabric → (ℕ → Bool) → State → State
+settled_state fabric bit state = record { bits = settled_bits fabric bit state.bits; reads = state.reads; words = state.words }
 
 -- ---- runs
 
@@ -114,13 +134,14 @@ pub record IsEntry (fabric : Fabric) (entry : Entry) : Type 0 where
 pub record Follows (fabric : Fabric) (before : Entry) (event : Event) (after : Entry) : Type 0 where
   pub entry : IsEntry fabric after
   pub pins : after.pins ≡ set before.pins event.pin event.bit
-  pub state : after.state ≡ state_after fabric before.state (bit_in before.v) (bit_in after.v)
+  pub state : after.state
+      ≡ settled_state fabric (bit_in after.v) (state_after fabric before.pins before.state (bit_in before.v) (bit_in after.v))
 
--- at the start all flip-flops and read registers are 0, and the words are those of the image
+-- before it settles at the start, all registers and read registers are 0, and the words are those of the image
 abbrev pub start_state : Fabric → State
 start_state fabric = record {
-  flips = replicate (length (flips_of fabric)) false;
-  registers = replicate (length fabric.rams) (replicate 16 false);
+  bits = replicate (length fabric.registers) false;
+  reads = replicate (length fabric.rams) (replicate 16 false);
   words = fabric.start;
 }
 
@@ -128,7 +149,7 @@ start_state fabric = record {
 pub record IsFirst (fabric : Fabric) (entry : Entry) : Type 0 where
   pub entry_is : IsEntry fabric entry
   pub pins : entry.pins ≡ replicate (length (inputs_of fabric)) false
-  pub state : entry.state ≡ start_state fabric
+  pub state : entry.state ≡ settled_state fabric (bit_in entry.v) (start_state fabric)
 
 -- entries that follow one after the other from an entry on
 abbrev pub FollowEach : Fabric → Entry → List Event → List Entry → Type 0

@@ -1,17 +1,20 @@
 -- The value of each driver, and the values of nets that are consistent with a state and the pins.
 use Rattle.std.specs.Prelude.{◌≡◌, ℕ, ◌+◌, ◌*◌, ◌<◌, Bool, true, false, ◌&&◌, ◌||◌, List, [], length, get_or, Contains, Option, Some, None, if◌then◌else◌}
 use Rattle.bit_plane.specs.BitList.{bit_value, word_bits}
-use Rattle.net_extract.specs.declared.cell.Lc.{Lc}
+use Rattle.net_extract.specs.declared.register.Source.{Source}
+use Rattle.net_extract.specs.declared.register.Source.TheVariants.{Net, Pin as SourcePin}
+use Rattle.net_extract.specs.declared.register.Table.{Table}
+use Rattle.net_extract.specs.declared.register.Register.{Register}
 use Rattle.net_extract.specs.Joins.{class_of}
 use Rattle.net_extract.specs.Fabric.{Fabric}
 use Rattle.net_extract.specs.Drivers.{Rule, Drive, drives_of, is_driven}
-use Rattle.net_extract.specs.Drivers.Rule.{pin_bit, sent_back, lut_entry, flip_bit, carry_out, one, register_bit, copied}
+use Rattle.net_extract.specs.Drivers.Rule.{pin_bit, constant, input, table_entry, majority_of, register_bit, read_bit, copied}
 
--- A state: a bit for each flip-flop, and for each used RAM its read register of 16 bits and its 256 words, each with its
+-- A state: a bit for each register, and for each used RAM its read register of 16 bits and its 256 words, each with its
 -- lowest bit first.
 pub record State : Type 0 where
-  pub flips : List Bool
-  pub registers : List (List Bool)
+  pub bits : List Bool
+  pub reads : List (List Bool)
   pub words : List (List (List Bool))
 
 -- ---- inputs
@@ -29,40 +32,45 @@ input_or_0 connected bit net = input_value connected bit false net
 abbrev pub input_or_1 : (ℕ → Bool) → (ℕ → Bool) → Option ℕ → Bool
 input_or_1 connected bit net = input_value connected bit true net
 
--- input k of a cell
-abbrev pub cell_input : (ℕ → Bool) → (ℕ → Bool) → Lc → ℕ → Bool
-cell_input connected bit lc k = input_or_0 connected bit (get_or lc.ins k None)
+-- what an input of a table reads: a net, or an input pin
+abbrev pub source_value : (ℕ → Bool) → List Bool → (ℕ → Bool) → Source → Bool
+source_value connected pins bit (Net net) = input_or_0 connected bit net
+source_value connected pins bit (SourcePin place) = get_or pins place false
+
+-- input k of a table
+abbrev pub table_input : (ℕ → Bool) → List Bool → (ℕ → Bool) → Table → ℕ → Bool
+table_input connected pins bit table k = source_value connected pins bit (get_or table.ins k (Net None))
 
 -- ---- values of drivers
 
 -- the number of the LUT's entry: in_0 is worth 1, in_1 2, in_2 4 and in_3 8
-abbrev pub entry_number : (ℕ → Bool) → (ℕ → Bool) → Lc → ℕ
-entry_number connected bit lc =
-    bit_value (cell_input connected bit lc 0) + 2 * bit_value (cell_input connected bit lc 1)
-    + 4 * bit_value (cell_input connected bit lc 2) + 8 * bit_value (cell_input connected bit lc 3)
+abbrev pub entry_number : (ℕ → Bool) → List Bool → (ℕ → Bool) → Table → ℕ
+entry_number connected pins bit table =
+    bit_value (table_input connected pins bit table 0) + 2 * bit_value (table_input connected pins bit table 1)
+    + 4 * bit_value (table_input connected pins bit table 2) + 8 * bit_value (table_input connected pins bit table 3)
 
 -- that entry
-unfoldable pub lut_value : (ℕ → Bool) → (ℕ → Bool) → Lc → Bool
-lut_value connected bit lc = get_or (word_bits 16 lc.lut) (entry_number connected bit lc) false
+unfoldable pub lut_value : (ℕ → Bool) → List Bool → (ℕ → Bool) → Table → Bool
+lut_value connected pins bit table = get_or (word_bits 16 table.word) (entry_number connected pins bit table) false
 
 -- what at least two of three bits are
 abbrev pub majority : Bool → Bool → Bool → Bool
 majority a b c = (a && b) || ((a && c) || (b && c))
 
--- the majority of in_1, in_2 and the carry in
-unfoldable pub carry_value : (ℕ → Bool) → (ℕ → Bool) → Lc → Bool
-carry_value connected bit lc =
-    majority (cell_input connected bit lc 1) (cell_input connected bit lc 2) (input_or_0 connected bit lc.cin)
+-- The value that a register settles to: where its reset acts at once and is 1 it has its set bit, else it stays.
+unfoldable pub settled_bit : (ℕ → Bool) → (ℕ → Bool) → Register → Bool → Bool
+settled_bit connected bit register old = if register.at_once && input_or_0 connected bit register.sr then register.«set» else old
 
 -- The value of a driver, from the state, the bits of the input pins and the bits of nets.
 unfoldable pub value_of : (ℕ → Bool) → State → List Bool → (ℕ → Bool) → Rule → Bool
 value_of connected state pins bit (pin_bit place) = get_or pins place false
-value_of connected state pins bit (sent_back net) = input_or_0 connected bit net
-value_of connected state pins bit (lut_entry lc) = lut_value connected bit lc
-value_of connected state pins bit (flip_bit place) = get_or state.flips place false
-value_of connected state pins bit (carry_out lc) = carry_value connected bit lc
-value_of connected state pins bit one = true
-value_of connected state pins bit (register_bit ram place) = get_or (get_or state.registers ram []) place false
+value_of connected state pins bit (constant it) = it
+value_of connected state pins bit (input stated net) = input_value connected bit stated net
+value_of connected state pins bit (table_entry table) = lut_value connected pins bit table
+value_of connected state pins bit (majority_of a b c) =
+    majority (input_or_0 connected bit a) (input_or_0 connected bit b) (input_or_0 connected bit c)
+value_of connected state pins bit (register_bit place register) = settled_bit connected bit register (get_or state.bits place false)
+value_of connected state pins bit (read_bit ram place) = get_or (get_or state.reads ram []) place false
 value_of connected state pins bit (copied net) = bit net
 
 -- ---- values of nets

@@ -14,6 +14,8 @@ pub struct Lc {
     pub flip: bool,
     /// What a reset makes of the flip-flop.
     pub set: bool,
+    /// Whether the cell has a flip-flop whose reset acts at once, without a clock.
+    pub at_once: bool,
     /// Whether the flip-flop takes its value at falling edges.
     pub neg: bool,
     /// `lutff_i/in_0` to `lutff_i/in_3`.

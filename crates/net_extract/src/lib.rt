@@ -21,6 +21,7 @@ mod on;
 mod pin;
 mod ram;
 mod reads;
+mod register;
 mod some_read;
 mod tiles;
 
@@ -35,5 +36,6 @@ pub use name::Name;
 pub use on::is_link_on;
 pub use pin::{GlobalFrom, GlobalNet, Pin};
 pub use ram::RamCell;
+pub use register::{Register, Source, Table};
 pub use some_read::is_some_read;
 pub use tiles::tiles_of_image;

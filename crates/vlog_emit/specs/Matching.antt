@@ -5,11 +5,11 @@ use Rattle.vlog_module.specs.Maps.{value_in}
 use Rattle.vlog_cycle.specs.Named.{names_of, values_of}
 use Rattle.vlog_cycle.specs.declared.event.Event.{Event as ModuleEvent}
 use Rattle.vlog_cycle.specs.Entries.{Entry as ModuleEntry}
-use Rattle.net_extract.specs.Fabric.{Fabric, inputs_of, outputs_of, flips_of}
+use Rattle.net_extract.specs.Fabric.{Fabric, inputs_of, outputs_of}
 use Rattle.net_extract.specs.Drivers.{is_driven}
 use Rattle.net_extract.specs.Values.{bit_in}
 use Rattle.net_extract.specs.Steps.{Event, Entry}
-use Rattle.vlog_emit.specs.Names.{port_name, flip_name, register_name, memory_name, wire_name}
+use Rattle.vlog_emit.specs.Names.{port_name, register_name, read_name, memory_name, wire_name}
 
 -- exactly these names, in this order, have these values
 pub record HasValues {A : Type 0} (entries : List (List ℕ × A)) (names : List (List ℕ)) (values : List A) : Type 0 where
@@ -27,8 +27,8 @@ pub record HasWires (fabric : Fabric) (v : List Bool) (wires : List (List ℕ ×
 pub record Matches (fabric : Fabric) (entry : Entry) (other : ModuleEntry) : Type 0 where
   pub inputs : HasValues other.inputs (map port_name (inputs_of fabric)) entry.pins
   pub outputs : HasValues other.outputs (map port_name (outputs_of fabric)) entry.outputs
-  pub registers : HasValues other.registers (map flip_name (flips_of fabric)) entry.state.flips
-  pub words : HasValues other.words (map register_name fabric.rams) (map word_of entry.state.registers)
+  pub registers : HasValues other.registers (map register_name fabric.registers) entry.state.bits
+  pub words : HasValues other.words (map read_name fabric.rams) (map word_of entry.state.reads)
   pub memories : HasValues other.memories (map memory_name fabric.rams) (map (map word_of) entry.state.words)
   pub wires : HasWires fabric entry.v other.wires
 

@@ -1,6 +1,8 @@
 -- The names of a module that is written for a fabric.
 use Rattle.std.specs.Prelude.{ℕ, List, ◌++◌, codes, decimal}
-use Rattle.net_extract.specs.declared.cell.Lc.{Lc}
+use Rattle.net_extract.specs.declared.driver.ClockUser.{ClockUser}
+use Rattle.net_extract.specs.declared.driver.ClockUser.TheVariants.{Cell, Read, Write}
+use Rattle.net_extract.specs.declared.register.Register.{Register}
 use Rattle.net_extract.specs.declared.ram.RamCell.{RamCell}
 use Rattle.net_extract.specs.declared.pin.Pin.{Pin}
 
@@ -16,13 +18,19 @@ three_numbers x y n = decimal x ++ (codes "_" ++ (decimal y ++ (codes "_" ++ dec
 unfoldable pub port_name : Pin → List ℕ
 port_name pin = codes "io_" ++ three_numbers pin.x pin.y pin.n
 
--- the register of a flip-flop: `ff_X_Y_I`
-unfoldable pub flip_name : Lc → List ℕ
-flip_name lc = codes "ff_" ++ three_numbers lc.x lc.y lc.i
+-- the number of a register's user in its tile; the ports of RAMs are no registers of one bit
+abbrev pub user_number : ClockUser → ℕ
+user_number (Cell i) = i
+user_number Read = 0
+user_number Write = 0
+
+-- a register: `ff_X_Y_I` for the flip-flop of a cell
+unfoldable pub register_name : Register → List ℕ
+register_name register = codes "ff_" ++ three_numbers register.x register.y (user_number register.user)
 
 -- the read register of a RAM: `rd_X_Y`
-unfoldable pub register_name : RamCell → List ℕ
-register_name ram = codes "rd_" ++ two_numbers ram.x ram.y
+unfoldable pub read_name : RamCell → List ℕ
+read_name ram = codes "rd_" ++ two_numbers ram.x ram.y
 
 -- the memory of a RAM: `mem_X_Y`
 unfoldable pub memory_name : RamCell → List ℕ

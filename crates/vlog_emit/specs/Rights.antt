@@ -4,14 +4,17 @@ use Rattle.vlog_module.specs.declared.atoms.Atom.{Atom}
 use Rattle.vlog_module.specs.declared.atoms.Atom.TheVariants.{Bit, Whole, Part}
 use Rattle.vlog_module.specs.declared.item.Lut.{Lut}
 use Rattle.vlog_module.specs.declared.item.Right.{Right}
-use Rattle.vlog_module.specs.declared.item.Right.TheVariants.{Bit as RightBit, Whole as RightWhole, Part as RightPart, Lut as RightLut, Majority}
-use Rattle.net_extract.specs.declared.cell.Lc.{Lc}
+use Rattle.vlog_module.specs.declared.item.Right.TheVariants.{Bit as RightBit, Whole as RightWhole, Part as RightPart, Lut as RightLut, Majority, Choose}
+use Rattle.net_extract.specs.declared.register.Source.{Source}
+use Rattle.net_extract.specs.declared.register.Source.TheVariants.{Net, Pin as SourcePin}
+use Rattle.net_extract.specs.declared.register.Table.{Table}
+use Rattle.net_extract.specs.declared.register.Register.{Register}
 use Rattle.net_extract.specs.Joins.{class_of}
-use Rattle.net_extract.specs.Fabric.{Fabric, inputs_of, flips_of}
+use Rattle.net_extract.specs.Fabric.{Fabric, inputs_of}
 use Rattle.net_extract.specs.Drivers.{Rule, Drive, drivers_of}
-use Rattle.net_extract.specs.Drivers.Rule.{pin_bit, sent_back, lut_entry, flip_bit, carry_out, one, register_bit, copied}
+use Rattle.net_extract.specs.Drivers.Rule.{pin_bit, constant, input, table_entry, majority_of, register_bit, read_bit, copied}
 use Rattle.net_extract.specs.Values.{is_connected}
-use Rattle.vlog_emit.specs.Names.{port_name, flip_name, register_name, wire_name}
+use Rattle.vlog_emit.specs.Names.{port_name, register_name, read_name, wire_name}
 
 -- ---- atoms
 
@@ -32,30 +35,49 @@ atom_or_1 fabric net = input_atom fabric true net
 abbrev pub port_atoms : Fabric → List (Option ℕ) → List Atom
 port_atoms fabric ports = map (atom_or_0 fabric) ports
 
--- input k of a cell
-abbrev pub cell_atom : Fabric → Lc → ℕ → Atom
-cell_atom fabric lc k = atom_or_0 fabric (get_or lc.ins k None)
-
--- the table of a cell with its four inputs, in_0 first
-abbrev pub cell_lut : Fabric → Lc → Lut
-cell_lut fabric lc = record {
-  word = lc.lut;
-  ins = cell_atom fabric lc 0 ∷ cell_atom fabric lc 1 ∷ cell_atom fabric lc 2 ∷ cell_atom fabric lc 3 ∷ [];
-}
-
 -- ---- names by their places
 
 -- the port of the input pin at a place
 abbrev pub input_name : Fabric → ℕ → List ℕ
 input_name fabric place = get_or (map port_name (inputs_of fabric)) place []
 
--- the register of the flip-flop at a place
-abbrev pub flip_at : Fabric → ℕ → List ℕ
-flip_at fabric place = get_or (map flip_name (flips_of fabric)) place []
-
 -- the read register of the RAM at a place
-abbrev pub register_at : Fabric → ℕ → List ℕ
-register_at fabric place = get_or (map register_name fabric.rams) place []
+abbrev pub read_at : Fabric → ℕ → List ℕ
+read_at fabric place = get_or (map read_name fabric.rams) place []
+
+-- ---- tables
+
+-- what an input of a table reads: a net, or an input pin
+abbrev pub source_atom : Fabric → Source → Atom
+source_atom fabric (Net net) = atom_or_0 fabric net
+source_atom fabric (SourcePin place) = Whole (input_name fabric place)
+
+-- input k of a table
+abbrev pub table_atom : Fabric → Table → ℕ → Atom
+table_atom fabric table k = source_atom fabric (get_or table.ins k (Net None))
+
+-- a table with its four inputs, in_0 first
+abbrev pub lut_of : Fabric → Table → Lut
+lut_of fabric table = record {
+  word = table.word;
+  ins = table_atom fabric table 0 ∷ table_atom fabric table 1 ∷ table_atom fabric table 2 ∷ table_atom fabric table 3 ∷ [];
+}
+
+-- ---- resets that act at once
+
+-- the wire of a net that may be missing, where it is driven
+abbrev pub driven_wire : Fabric → Option ℕ → Option (List ℕ)
+driven_wire fabric None = None
+driven_wire fabric (Some net) = if is_connected fabric net then Some (wire_name (class_of fabric.joins net)) else None
+
+-- the wire that sets a register at once; a reset that waits for the clock, or isn't connected, has none
+abbrev pub setting_wire : Fabric → Register → Option (List ℕ)
+setting_wire fabric register = if register.at_once then driven_wire fabric register.sr else None
+
+-- the value of a register that a wire may set at once
+abbrev pub register_right : Register → Option (List ℕ) → Right
+register_right register (Some wire) = Choose wire register.«set» (register_name register)
+register_right register None = RightWhole (register_name register)
 
 -- ---- right sides
 
@@ -68,12 +90,12 @@ right_alone (Part name k) = RightPart name k
 -- the right side that has a driver's value
 unfoldable pub right_of : Fabric → Rule → Right
 right_of fabric (pin_bit place) = RightWhole (input_name fabric place)
-right_of fabric (sent_back net) = right_alone (atom_or_0 fabric net)
-right_of fabric (lut_entry lc) = RightLut (cell_lut fabric lc)
-right_of fabric (flip_bit place) = RightWhole (flip_at fabric place)
-right_of fabric (carry_out lc) = Majority (cell_atom fabric lc 1) (cell_atom fabric lc 2) (atom_or_0 fabric lc.cin)
-right_of fabric one = RightBit true
-right_of fabric (register_bit ram bit) = RightPart (register_at fabric ram) bit
+right_of fabric (constant bit) = RightBit bit
+right_of fabric (input stated net) = right_alone (input_atom fabric stated net)
+right_of fabric (table_entry table) = RightLut (lut_of fabric table)
+right_of fabric (majority_of a b c) = Majority (atom_or_0 fabric a) (atom_or_0 fabric b) (atom_or_0 fabric c)
+right_of fabric (register_bit place register) = register_right register (setting_wire fabric register)
+right_of fabric (read_bit ram bit) = RightPart (read_at fabric ram) bit
 right_of fabric (copied net) = right_alone (atom_or_0 fabric (Some net))
 
 -- the right side by the drivers of a class; a class that is written has one

@@ -3,17 +3,17 @@ use Rattle.std.specs.Prelude.{ℕ, Bool, false, List, [], ◌∷◌, ◌++◌, m
 use Rattle.bit_plane.specs.BitList.{word_of}
 use Rattle.vlog_module.specs.Parts.{Parts}
 use Rattle.vlog_module.specs.declared.item.Item.{Item}
-use Rattle.vlog_module.specs.declared.item.Item.TheVariants.{Register, Word, Memory, Wire, Assign, Flip, Read, Write, Start}
+use Rattle.vlog_module.specs.declared.item.Item.TheVariants.{Register as RegisterItem, Word, Memory, Wire, Assign, Flip, FlipAtOnce, SetAtOnce, Read, Write, Start}
 use Rattle.vlog_module.specs.declared.modules.Port.{Port}
-use Rattle.net_extract.specs.declared.cell.Lc.{Lc}
+use Rattle.net_extract.specs.declared.register.Register.{Register}
 use Rattle.net_extract.specs.declared.ram.RamCell.{RamCell}
 use Rattle.net_extract.specs.declared.pin.Pin.{Pin}
 use Rattle.net_extract.specs.Tiles.{each_below}
-use Rattle.net_extract.specs.Fabric.{Fabric, numbered, outputs_of, flips_of}
+use Rattle.net_extract.specs.Fabric.{Fabric, numbered, outputs_of}
 use Rattle.net_extract.specs.Clocks.{ClockEnd, clock_end}
 use Rattle.net_extract.specs.Clocks.ClockEnd.{at_pin, undriven, logic}
-use Rattle.vlog_emit.specs.Names.{port_name, flip_name, register_name, memory_name, wire_name}
-use Rattle.vlog_emit.specs.Rights.{atom_or_0, atom_or_1, port_atoms, cell_lut, input_name, class_right}
+use Rattle.vlog_emit.specs.Names.{port_name, register_name, read_name, memory_name, wire_name}
+use Rattle.vlog_emit.specs.Rights.{atom_or_0, atom_or_1, port_atoms, lut_of, input_name, setting_wire, class_right}
 
 -- ---- clocks
 
@@ -38,13 +38,13 @@ clocked (Some clock) item = item clock ∷ []
 abbrev pub port_of : Pin → Port
 port_of pin = record { name = port_name pin; output = pin.output }
 
--- the register of a flip-flop, which starts at 0
-abbrev pub flip_register : Lc → Item
-flip_register lc = Register (flip_name lc) false
+-- a register, which starts at 0
+abbrev pub register_item : Register → Item
+register_item register = RegisterItem (register_name register) false
 
 -- the read register of a RAM, which starts at 0
 abbrev pub read_register : RamCell → Item
-read_register ram = Word (register_name ram) 0
+read_register ram = Word (read_name ram) 0
 
 abbrev pub ram_memory : RamCell → Item
 ram_memory ram = Memory (memory_name ram)
@@ -57,18 +57,34 @@ class_wire fabric class = Wire (wire_name class) (class_right fabric class)
 abbrev pub output_assign : Fabric → Pin → Item
 output_assign fabric pin = Assign (port_name pin) (atom_or_0 fabric pin.dout)
 
--- a flip-flop by its enable, its reset and the table of its cell
-abbrev pub flip_item : Fabric → Lc → List ℕ → Item
-flip_item fabric lc clock =
-    Flip lc.neg clock (atom_or_1 fabric lc.cen) (atom_or_0 fabric lc.sr) lc.«set» (flip_name lc) (cell_lut fabric lc)
+-- a register whose reset waits for the clock: by its enable, its reset and its table
+abbrev pub flip_item : Fabric → Register → List ℕ → Item
+flip_item fabric register clock =
+    Flip register.neg clock (atom_or_1 fabric register.cen) (atom_or_0 fabric register.sr) register.«set» (register_name register)
+    (lut_of fabric register.table)
 
-abbrev pub flip_items : Fabric → Lc → List Item
-flip_items fabric lc = clocked (clock_name fabric lc.clk) (flip_item fabric lc)
+-- a register that a wire sets at once
+abbrev pub at_once_item : Fabric → Register → List ℕ → List ℕ → Item
+at_once_item fabric register wire clock =
+    FlipAtOnce register.neg clock wire register.«set» (register_name register) (atom_or_1 fabric register.cen) (lut_of fabric register.table)
+
+-- a register that a wire sets at once, and a clock that may be missing
+abbrev pub set_items : Fabric → Register → List ℕ → Option (List ℕ) → List Item
+set_items fabric register wire (Some clock) = at_once_item fabric register wire clock ∷ []
+set_items fabric register wire None = SetAtOnce wire register.«set» (register_name register) ∷ []
+
+-- what a register is written as, by the wire that sets it at once, if there is one
+abbrev pub items_by : Fabric → Register → Option (List ℕ) → List Item
+items_by fabric register (Some wire) = set_items fabric register wire (clock_name fabric register.clk)
+items_by fabric register None = clocked (clock_name fabric register.clk) (flip_item fabric register)
+
+abbrev pub register_items : Fabric → Register → List Item
+register_items fabric register = items_by fabric register (setting_wire fabric register)
 
 -- the read port of a RAM
 abbrev pub read_item : Fabric → RamCell → List ℕ → Item
 read_item fabric ram clock =
-    Read ram.rneg clock (atom_or_1 fabric ram.rclke) (atom_or_0 fabric ram.re) (register_name ram) (memory_name ram) (port_atoms fabric ram.raddr)
+    Read ram.rneg clock (atom_or_1 fabric ram.rclke) (atom_or_0 fabric ram.re) (read_name ram) (memory_name ram) (port_atoms fabric ram.raddr)
 
 abbrev pub read_items : Fabric → RamCell → List Item
 read_items fabric ram = clocked (clock_name fabric ram.rclk) (read_item fabric ram)
@@ -94,12 +110,12 @@ start_items fabric place = each_below 256 (start_item place.1 (get_or fabric.sta
 -- the items: state, wires in the order of their classes, outputs, what clocks change, and start words
 unfoldable pub items_of : Fabric → List ℕ → List Item
 items_of fabric order =
-    map flip_register (flips_of fabric)
+    map register_item fabric.registers
     ++ (map read_register fabric.rams
     ++ (map ram_memory fabric.rams
     ++ (map (class_wire fabric) order
     ++ (map (output_assign fabric) (outputs_of fabric)
-    ++ (flat_map (flip_items fabric) (flips_of fabric)
+    ++ (flat_map (register_items fabric) fabric.registers
     ++ (flat_map (read_items fabric) fabric.rams
     ++ (flat_map (write_items fabric) fabric.rams
     ++ flat_map (start_items fabric) (numbered fabric.rams))))))))

@@ -2,6 +2,9 @@
 use Rattle.std.specs.Prelude.{ℕ, ◌<◌, All, Option, Some, None}
 use Rattle.net_extract.specs.declared.cell.Lc.{Lc}
 use Rattle.net_extract.specs.declared.cell.CarrySet.{CarrySet}
+use Rattle.net_extract.specs.declared.register.Source.{Source}
+use Rattle.net_extract.specs.declared.register.Source.TheVariants.{Net, Pin as SourcePin}
+use Rattle.net_extract.specs.declared.register.Register.{Register}
 use Rattle.net_extract.specs.declared.ram.RamCell.{RamCell}
 use Rattle.net_extract.specs.declared.pin.Pin.{Pin}
 use Rattle.net_extract.specs.declared.pin.GlobalNet.{GlobalNet}
@@ -27,6 +30,17 @@ pub record IsCellIn (nets : ℕ) (lc : Lc) : Type 0 where
   pub clk : IsNetIn nets lc.clk
   pub cen : IsNetIn nets lc.cen
   pub sr : IsNetIn nets lc.sr
+
+abbrev pub IsSourceIn : ℕ → Source → Type 0
+IsSourceIn nets (Net net) = IsNetIn nets net
+IsSourceIn nets (SourcePin place) = Unit {0}
+
+pub record IsRegisterIn (nets : ℕ) (register : Register) : Type 0 where
+  pub out : IsNetIn nets register.out
+  pub clk : IsNetIn nets register.clk
+  pub cen : IsNetIn nets register.cen
+  pub sr : IsNetIn nets register.sr
+  pub ins : All (IsSourceIn nets) register.table.ins
 
 abbrev pub IsSetIn : ℕ → CarrySet → Type 0
 IsSetIn nets set = set.net < nets
@@ -67,5 +81,6 @@ pub record HasNetsIn (fabric : Fabric) : Type 0 where
   pub pins : All (IsPinIn fabric.nets) fabric.pins
   pub globals : All (IsGlobalIn fabric.nets) fabric.globals
   pub lcs : All (IsCellIn fabric.nets) fabric.lcs
+  pub registers : All (IsRegisterIn fabric.nets) fabric.registers
   pub sets : All (IsSetIn fabric.nets) fabric.sets
   pub rams : All (IsRamIn fabric.nets) fabric.rams

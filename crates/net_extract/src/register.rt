@@ -20,7 +20,8 @@ pub struct Table {
     pub ins: [Source; 4],
 }
 
-/// A register of one bit: user `user` of a clock at the tile at (x, y). An input without a net has its stated value.
+/// A register of one bit: user `user` of a clock at the tile at (x, y). An input has its stated value where it has no net, or a net that
+/// nothing drives.
 #[derive(Clone, Copy, Debug, PartialEq, Eq)]
 pub struct Register {
     pub x: u8,
@@ -28,13 +29,13 @@ pub struct Register {
     pub user: ClockUser,
     /// The net that it drives.
     pub out: Option<u32>,
-    /// The clock; without a net it has no edge.
+    /// The clock; without one it has no edge.
     pub clk: Option<u32>,
     /// Whether it takes its value at falling edges.
     pub neg: bool,
-    /// The enable, 1 without a net.
+    /// The enable, 1 where it is unconnected.
     pub cen: Option<u32>,
-    /// The reset, 0 without a net.
+    /// The reset, 0 where it is unconnected.
     pub sr: Option<u32>,
     /// What a reset makes of it.
     pub set: bool,

@@ -5,7 +5,7 @@ use Rattle.bit_plane.proofs.Words.{bit_value-le}
 use Rattle.net_extract.specs.Joins.{class_of}
 use Rattle.net_extract.specs.Fabric.{Fabric}
 use Rattle.net_extract.specs.Drivers.{Rule, Drive, drivers_of, is_driven, nets_read}
-use Rattle.net_extract.specs.Drivers.Rule.{pin_bit, sent_back, lut_entry, flip_bit, carry_out, one, register_bit, copied}
+use Rattle.net_extract.specs.Drivers.Rule.{pin_bit, constant, input, table_entry, majority_of, register_bit, read_bit, copied}
 use Rattle.net_extract.specs.Values.{State, value_of, bit_in, is_connected, IsConsistent}
 use Rattle.net_extract.specs.Wiring.{Wiring, wiring_of, has, depends, IsReady, IsWriteOrder}
 use Rattle.net_extract.specs.Clocks.{ClockEnd, Turn, LeadsTo, turn_by, turn_of, turn_at, end_by, end_within, clock_end}
@@ -65,12 +65,12 @@ module _ (fabric : Fabric) where
   -- a chain goes on from a copy alone
   pub goes-copied : (rule : Rule) (net : ℕ) → turn_by rule ≡ goes_to net → rule ≡ copied net
   goes-copied (pin_bit place) net is = absurd cc
-  goes-copied (sent_back source) net is = absurd cc
-  goes-copied (lut_entry lc) net is = absurd cc
-  goes-copied (flip_bit place) net is = absurd cc
-  goes-copied (carry_out lc) net is = absurd cc
-  goes-copied one net is = absurd cc
-  goes-copied (register_bit ram bit) net is = absurd cc
+  goes-copied (constant it) net is = absurd cc
+  goes-copied (input stated source) net is = absurd cc
+  goes-copied (table_entry table) net is = absurd cc
+  goes-copied (majority_of a b c) net is = absurd cc
+  goes-copied (register_bit place register) net is = absurd cc
+  goes-copied (read_bit ram bit) net is = absurd cc
   goes-copied (copied source) net is = cc
 
   -- and a class from which it goes on reads that net
@@ -175,12 +175,12 @@ module _ (fabric : Fabric) (within : IsWithin fabric) (state : State) (pins v : 
   unfolding value_of
   rule-end (pin_bit place) end bit turn value =
       let at : at_pin place ≡ end = cc in subst (λ e. HasEndValue pins e bit) at value
-  rule-end (sent_back source) end bit turn value = let at : logic ≡ end = cc in subst (λ e. HasEndValue pins e bit) at tt
-  rule-end (lut_entry lc) end bit turn value = let at : logic ≡ end = cc in subst (λ e. HasEndValue pins e bit) at tt
-  rule-end (flip_bit place) end bit turn value = let at : logic ≡ end = cc in subst (λ e. HasEndValue pins e bit) at tt
-  rule-end (carry_out lc) end bit turn value = let at : logic ≡ end = cc in subst (λ e. HasEndValue pins e bit) at tt
-  rule-end one end bit turn value = let at : logic ≡ end = cc in subst (λ e. HasEndValue pins e bit) at tt
-  rule-end (register_bit ram place) end bit turn value = let at : logic ≡ end = cc in subst (λ e. HasEndValue pins e bit) at tt
+  rule-end (constant it) end bit turn value = let at : logic ≡ end = cc in subst (λ e. HasEndValue pins e bit) at tt
+  rule-end (input stated source) end bit turn value = let at : logic ≡ end = cc in subst (λ e. HasEndValue pins e bit) at tt
+  rule-end (table_entry table) end bit turn value = let at : logic ≡ end = cc in subst (λ e. HasEndValue pins e bit) at tt
+  rule-end (majority_of a b c) end bit turn value = let at : logic ≡ end = cc in subst (λ e. HasEndValue pins e bit) at tt
+  rule-end (register_bit place register) end bit turn value = let at : logic ≡ end = cc in subst (λ e. HasEndValue pins e bit) at tt
+  rule-end (read_bit ram place) end bit turn value = let at : logic ≡ end = cc in subst (λ e. HasEndValue pins e bit) at tt
   rule-end (copied source) end bit turn value = absurd cc
 
   copied-value : (rule : Rule) (net : ℕ) → rule ≡ copied net → value_of (is_connected fabric) state pins (bit_in v) rule ≡ bit_in v net

@@ -1,10 +1,14 @@
 -- The value of each driver looks at no other nets than those that it reads.
-use Rattle.std.proofs.Common.{◌≡◌, ℕ, zero, suc, Bool, true, false, List, [], ◌∷◌, ◌++◌, map, get_or, refl, subst, inl, inr}
+use Rattle.std.proofs.Common.{◌≡◌, ℕ, zero, suc, Bool, true, false, List, [], ◌∷◌, ◌++◌, map, get_or, refl, sym, ap, subst, inl, inr}
 use Rattle.std.specs.Prelude.{flat_map, option_to_list, Option, Some, None}
-use Rattle.net_extract.specs.declared.cell.Lc.{Lc}
-use Rattle.net_extract.specs.Drivers.{Rule, nets_read}
-use Rattle.net_extract.specs.Drivers.Rule.{pin_bit, sent_back, lut_entry, flip_bit, carry_out, one, register_bit, copied}
-use Rattle.net_extract.specs.Values.{State, input_value, cell_input, lut_value, carry_value, value_of}
+use Rattle.std.proofs.lemmas.Bool.{cases_Bool}
+use Rattle.net_extract.specs.declared.register.Source.{Source}
+use Rattle.net_extract.specs.declared.register.Source.TheVariants.{Net, Pin as SourcePin}
+use Rattle.net_extract.specs.declared.register.Table.{Table}
+use Rattle.net_extract.specs.declared.register.Register.{Register}
+use Rattle.net_extract.specs.Drivers.{Rule, source_nets, nets_read}
+use Rattle.net_extract.specs.Drivers.Rule.{pin_bit, constant, input, table_entry, majority_of, register_bit, read_bit, copied}
+use Rattle.net_extract.specs.Values.{State, input_value, source_value, table_input, lut_value, settled_bit, value_of}
 use Rattle.net_extract.specs.Wiring.{has}
 use Rattle.net_extract.proofs.Order.{has-first, has-behind, has-cases, has-none}
 
@@ -40,6 +44,13 @@ has-input [] k n is = absurd cc
 has-input (net ∷ ins) zero n is = has-left (option_to_list net) (flat_map option_to_list ins) n (has-some net n is)
 has-input (net ∷ ins) (suc k) n is = has-right (option_to_list net) (flat_map option_to_list ins) n (has-input ins k n is)
 
+-- a net that an input of a table reads
+pub has-source : (ins : List Source) (k n : ℕ) → get_or ins k (Net None) ≡ Net (Some n) → has (flat_map source_nets ins) n ≡ true
+has-source [] k n is = absurd cc
+has-source (source ∷ ins) zero n is =
+    has-left (source_nets source) (flat_map source_nets ins) n (subst (λ s. has (source_nets s) n ≡ true) (sym is) (has-first n []))
+has-source (source ∷ ins) (suc k) n is = has-right (source_nets source) (flat_map source_nets ins) n (has-source ins k n is)
+
 -- ---- inputs
 
 module _ (connected bit other : ℕ → Bool) where
@@ -48,36 +59,57 @@ module _ (connected bit other : ℕ → Bool) where
   input-same stated None same = refl
   input-same stated (Some n) same = rw (same n refl) refl
 
-  cell_input-same : (lc : Lc) (k : ℕ) → ((n : ℕ) → has (flat_map option_to_list lc.ins) n ≡ true → bit n ≡ other n)
-      → cell_input connected bit lc k ≡ cell_input connected other lc k
-  cell_input-same lc k same = input-same false (get_or lc.ins k None) (λ n is. same n (has-input lc.ins k n is))
+  source-same : (pins : List Bool) (source : Source) → ((n : ℕ) → source ≡ Net (Some n) → bit n ≡ other n)
+      → source_value connected pins bit source ≡ source_value connected pins other source
+  source-same pins (Net net) same = input-same false net (λ n is. same n (ap Net is))
+  source-same pins (SourcePin place) same = refl
 
-  lut_value-same : (lc : Lc) → ((n : ℕ) → has (flat_map option_to_list lc.ins) n ≡ true → bit n ≡ other n)
-      → lut_value connected bit lc ≡ lut_value connected other lc
+  table_input-same : (pins : List Bool) (table : Table) (k : ℕ) → ((n : ℕ) → has (flat_map source_nets table.ins) n ≡ true → bit n ≡ other n)
+      → table_input connected pins bit table k ≡ table_input connected pins other table k
+  table_input-same pins table k same = source-same pins (get_or table.ins k (Net None)) (λ n is. same n (has-source table.ins k n is))
+
+  lut_value-same : (pins : List Bool) (table : Table) → ((n : ℕ) → has (flat_map source_nets table.ins) n ≡ true → bit n ≡ other n)
+      → lut_value connected pins bit table ≡ lut_value connected pins other table
   unfolding lut_value
-  lut_value-same lc same = rw (cell_input-same lc 0 same, cell_input-same lc 1 same, cell_input-same lc 2 same, cell_input-same lc 3 same) refl
+  lut_value-same pins table same =
+      rw (
+        table_input-same pins table 0 same,
+        table_input-same pins table 1 same,
+        table_input-same pins table 2 same,
+        table_input-same pins table 3 same,
+      ) refl
 
-  carry_value-same : (lc : Lc) → ((n : ℕ) → has (nets_read (carry_out lc)) n ≡ true → bit n ≡ other n)
-      → carry_value connected bit lc ≡ carry_value connected other lc
-  unfolding carry_value nets_read
-  carry_value-same lc same =
-      let a = option_to_list (get_or lc.ins 1 None) in
-      let b = option_to_list (get_or lc.ins 2 None) in
-      let c = option_to_list lc.cin in
-      let first = input-same false (get_or lc.ins 1 None) (λ n is. same n (has-left a (b ++ c) n (has-some _ n is))) in
-      let second = input-same false (get_or lc.ins 2 None) (λ n is. same n (has-right a (b ++ c) n (has-left b c n (has-some _ n is)))) in
-      let third = input-same false lc.cin (λ n is. same n (has-right a (b ++ c) n (has-right b c n (has-some _ n is)))) in
-      rw (first, second, third) refl
+  majority-same : (state : State) (pins : List Bool) (a b c : Option ℕ) → ((n : ℕ) → has (nets_read (majority_of a b c)) n ≡ true → bit n ≡ other n)
+      → value_of connected state pins bit (majority_of a b c) ≡ value_of connected state pins other (majority_of a b c)
+  unfolding value_of nets_read
+  majority-same state pins a b c same =
+      let first = option_to_list a in
+      let second = option_to_list b in
+      let third = option_to_list c in
+      let of_a = input-same false a (λ n is. same n (has-left first (second ++ third) n (has-some a n is))) in
+      let of_b = input-same false b (λ n is. same n (has-right first (second ++ third) n (has-left second third n (has-some b n is)))) in
+      let of_c = input-same false c (λ n is. same n (has-right first (second ++ third) n (has-right second third n (has-some c n is)))) in
+      rw (of_a, of_b, of_c) refl
+
+  -- a register looks at its reset where that acts at once, and else at no net
+  settled_bit-same : (place : ℕ) (register : Register) (old : Bool) → ((n : ℕ) → has (nets_read (register_bit place register)) n ≡ true → bit n ≡ other n)
+      → settled_bit connected bit register old ≡ settled_bit connected other register old
+  unfolding settled_bit nets_read
+  settled_bit-same place register old same =
+      elim (cases_Bool register.at_once) [
+        | inl at_once ↦ rw (at_once, input-same false register.sr (λ n is. same n (rw at_once (has-some register.sr n is)))) refl
+        | inr waits ↦ rw waits refl
+      ]
 
   -- a driver's value is the same where the nets that it reads are
   pub value-same : (state : State) (pins : List Bool) (rule : Rule) → ((n : ℕ) → has (nets_read rule) n ≡ true → bit n ≡ other n)
       → value_of connected state pins bit rule ≡ value_of connected state pins other rule
   unfolding value_of nets_read
   value-same state pins (pin_bit place) same = refl
-  value-same state pins (sent_back net) same = input-same false net (λ n is. same n (has-some net n is))
-  value-same state pins (lut_entry lc) same = lut_value-same lc same
-  value-same state pins (flip_bit place) same = refl
-  value-same state pins (carry_out lc) same = carry_value-same lc same
-  value-same state pins one same = refl
-  value-same state pins (register_bit ram place) same = refl
+  value-same state pins (constant it) same = refl
+  value-same state pins (input stated net) same = input-same stated net (λ n is. same n (has-some net n is))
+  value-same state pins (table_entry table) same = lut_value-same pins table same
+  value-same state pins (majority_of a b c) same = majority-same state pins a b c same
+  value-same state pins (register_bit place register) same = settled_bit-same place register (get_or state.bits place false) same
+  value-same state pins (read_bit ram place) same = refl
   value-same state pins (copied net) same = same net (has-first net [])

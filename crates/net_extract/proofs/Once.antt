@@ -1,6 +1,6 @@
 -- No driver of a database and an image stands twice: each pin, cell, carry input, RAM, global net and buffer is listed once, each
 -- gives a driver of each kind at most once, and kinds differ.
-use Rattle.std.proofs.Common.{◌≡◌, ◌≢◌, ℕ, suc, ◌≤◌, not, List, ◌∷◌, ◌++◌, refl, sym, ap, ◌∙◌, subst, arith}
+use Rattle.std.proofs.Common.{◌≡◌, ◌≢◌, ℕ, suc, ◌≤◌, true, false, not, List, ◌∷◌, ◌++◌, get_or, refl, sym, ap, ◌∙◌, subst, arith}
 use Rattle.std.specs.Prelude.{All, Bool, Option, Some, None, filter, codes}
 use Rattle.std.specs.List.{flat_map}
 use Rattle.std.proofs.lemmas.List.Elements.{All-nil, All-head, All-map, All-append, All-weaker}
@@ -11,10 +11,13 @@ use Rattle.ice_image.specs.Configuration.{Configuration}
 use Rattle.chipdb_reader.specs.Database.{Database, Link}
 use Rattle.net_extract.specs.declared.cell.Lc.{Lc}
 use Rattle.net_extract.specs.declared.cell.CarrySet.{CarrySet}
+use Rattle.net_extract.specs.declared.register.Register.{Register}
 use Rattle.net_extract.specs.declared.ram.RamCell.{RamCell}
 use Rattle.net_extract.specs.declared.pin.Pin.{Pin}
 use Rattle.net_extract.specs.declared.pin.GlobalNet.{GlobalNet}
 use Rattle.net_extract.specs.declared.pin.GlobalFrom.{GlobalFrom}
+use Rattle.net_extract.specs.declared.driver.ClockUser.{ClockUser}
+use Rattle.net_extract.specs.declared.driver.ClockUser.TheVariants.{Cell, Read, Write}
 use Rattle.net_extract.specs.declared.driver.Driver.{Driver}
 use Rattle.net_extract.specs.declared.driver.Driver.TheVariants as driver
 use Rattle.net_extract.specs.On.{is_link_on, is_function_on}
@@ -23,8 +26,9 @@ use Rattle.net_extract.specs.Tiles.{item_if}
 use Rattle.net_extract.specs.Cells.{cell_bits, cell_with, is_used, used_cell, cells_at, cells_of, set_with, sets_at, sets_of}
 use Rattle.net_extract.specs.Rams.{is_ram_used, ram_at, rams_of}
 use Rattle.net_extract.specs.Pins.{pintype_of, is_port, pin_with, port_at, pins_of, is_global_net, global_nets, nets_from, global_source, globals_of}
-use Rattle.net_extract.specs.Fabric.{Fabric, Buffer, numbered, buffer_of, buffers_of, fabric_of, inputs_of, flips_of}
-use Rattle.net_extract.specs.Drivers.{Rule, Drive, drives_if, pin_drives, back_drives, lut_drives, flip_drives, lout_drives, carry_drives, set_drives, ram_drive, ram_drives, global_drives, buffer_drives, global_rule, drives_of, is_driver_of, drivers_of}
+use Rattle.net_extract.specs.Fabric.{Fabric, Buffer, numbered, buffer_of, buffers_of, fabric_of, inputs_of}
+use Rattle.net_extract.specs.Registers.{table_of, register_of, registers_of}
+use Rattle.net_extract.specs.Drivers.{Rule, Drive, drives_if, pin_drives, back_drives, lut_drives, register_driver, register_drives, lout_drives, carry_drives, set_drives, ram_drive, ram_drives, global_drives, buffer_drives, global_rule, drives_of, is_driver_of, drivers_of}
 use Rattle.net_extract.proofs.Within.{All-flat_map, All-if, All-item_if, All-single}
 use Rattle.net_extract.proofs.Apart.{AreApart, apart-single, apart-if, apart-item_if, apart-append, apart-weaker, apart-filter, apart-map, apart-flat_map, apart-gathered, apart-over_tiles, All-every, numbered-apart, apart-numbered}
 
@@ -35,6 +39,10 @@ PinsDiffer one two = one.x ≡ two.x → one.y ≡ two.y → one.n ≡ two.n →
 
 abbrev CellsDiffer : Lc → Lc → Type 0
 CellsDiffer one two = one.x ≡ two.x → one.y ≡ two.y → one.i ≡ two.i → ⊥
+
+-- registers differ as drivers
+abbrev RegistersDiffer : Register → Register → Type 0
+RegistersDiffer one two = register_driver one one.user ≢ register_driver two two.user
 
 abbrev SetsDiffer : CarrySet → CarrySet → Type 0
 SetsDiffer one two = one.x ≡ two.x → one.y ≡ two.y → ⊥
@@ -52,6 +60,7 @@ BuffersDiffer one two = one.line ≡ two.line → ⊥
 record ArePartsApart (fabric : Fabric) : Type 0 where
   pins : AreApart PinsDiffer fabric.pins
   lcs : AreApart CellsDiffer fabric.lcs
+  registers : AreApart RegistersDiffer fabric.registers
   sets : AreApart SetsDiffer fabric.sets
   rams : AreApart RamsDiffer fabric.rams
   globals : AreApart GlobalsDiffer fabric.globals
@@ -109,6 +118,19 @@ module _ (db : Database) (image : Configuration) where
       (λ x y left low. apart-gathered CellsDiffer AnyPart (λ lc. lc.i) (λ a b of_a of_b other same_x same_y i. absurd (other i)) 8 (used_cell db image x y)
       (λ i few. All-item_if (λ (lc : Lc). Unit {0} × (lc.i ≡ i)) (is_used (cell_bits db image x y i)) (cell_here x y i) (cell-number x y i))
       (λ i few. apart-item_if CellsDiffer (is_used (cell_bits db image x y i)) (cell_here x y i)))
+
+  -- ---- registers
+
+  flips-differ : (one two : Lc) → CellsDiffer one two → RegistersDiffer (register_of one) (register_of two)
+  unfolding register_of
+  flips-differ one two other same = other (cc) (cc) (cc)
+
+  registers-apart : AreApart RegistersDiffer (registers_of (cells_of db image))
+  unfolding registers_of
+  registers-apart =
+      apart-map RegistersDiffer register_of (filter (λ lc. lc.flip) (cells_of db image))
+      (apart-weaker CellsDiffer (λ one two. RegistersDiffer (register_of one) (register_of two)) flips-differ (filter (λ lc. lc.flip) (cells_of db image))
+      (apart-filter CellsDiffer (λ lc. lc.flip) (cells_of db image) cells-apart))
 
   -- ---- carry inputs that are set
 
@@ -187,7 +209,7 @@ module _ (db : Database) (image : Configuration) where
 
   parts-apart : ArePartsApart (fabric_of db image)
   unfolding fabric_of
-  parts-apart = record { pins = pins-apart; lcs = cells-apart; sets = sets-apart; rams = rams-apart; globals = globals-apart; buffers = buffers-apart }
+  parts-apart = record { pins = pins-apart; lcs = cells-apart; registers = registers-apart; sets = sets-apart; rams = rams-apart; globals = globals-apart; buffers = buffers-apart }
 
 -- ---- drivers that differ
 
@@ -277,7 +299,7 @@ ram_drive-all P place each =
 
 ram_drives-apart : (place : ℕ × RamCell) → AreApart DriversDiffer (ram_drives place)
 ram_drives-apart place =
-    (each-kind (λ (one two : ℕ × Option ℕ). one.0 ≢ two.0) (λ port. driver.Ram place.1.x place.1.y port.0) (λ port. Rule.register_bit place.0 port.0) (λ port. port.1)
+    (each-kind (λ (one two : ℕ × Option ℕ). one.0 ≢ two.0) (λ port. driver.Ram place.1.x place.1.y port.0) (λ port. Rule.read_bit place.0 port.0) (λ port. port.1)
     8 (λ port. refl) (λ a b other same. other (cc)) (numbered place.1.rdata) (numbered-apart 0 place.1.rdata)).apart
 
 rams-kind : (rams : List RamCell) → AreApart RamsDiffer rams → IsOfKind 8 (flat_map ram_drives (numbered rams))
@@ -300,33 +322,39 @@ module _ (fabric : Fabric) (parts : ArePartsApart fabric) where
 
   backs-kind : IsOfKind 2 (flat_map back_drives (filter (λ pin. pin.back) fabric.pins))
   backs-kind =
-      each-kind PinsDiffer (λ pin. driver.Back pin.x pin.y pin.n) (λ pin. Rule.sent_back pin.dout) (λ pin. pin.din)
+      each-kind PinsDiffer (λ pin. driver.Back pin.x pin.y pin.n) (λ pin. Rule.input false pin.dout) (λ pin. pin.din)
       2 (λ pin. refl) (λ a b other same. other (cc) (cc) (cc)) (filter (λ pin. pin.back) fabric.pins) (apart-filter PinsDiffer (λ pin. pin.back) fabric.pins parts.pins)
 
   luts-kind : IsOfKind 3 (flat_map lut_drives (filter (λ lc. not lc.flip) fabric.lcs))
   luts-kind =
-      each-kind CellsDiffer (λ lc. driver.Lut lc.x lc.y lc.i) (λ lc. Rule.lut_entry lc) (λ lc. lc.out)
+      each-kind CellsDiffer (λ lc. driver.Lut lc.x lc.y lc.i) (λ lc. Rule.table_entry (table_of lc)) (λ lc. lc.out)
       3 (λ lc. refl) (λ a b other same. other (cc) (cc) (cc)) (filter (λ lc. not lc.flip) fabric.lcs) (apart-filter CellsDiffer (λ lc. not lc.flip) fabric.lcs parts.lcs)
 
-  flips-kind : IsOfKind 4 (flat_map flip_drives (numbered (flips_of fabric)))
-  flips-kind =
-      each-kind (λ (one two : ℕ × Lc). CellsDiffer one.1 two.1) (λ place. driver.Flip place.1.x place.1.y place.1.i) (λ place. Rule.flip_bit place.0) (λ place. place.1.out)
-      4 (λ place. refl) (λ a b other same. other (cc) (cc) (cc)) (numbered (flips_of fabric))
-      (apart-numbered CellsDiffer 0 (flips_of fabric) (apart-filter CellsDiffer (λ lc. lc.flip) fabric.lcs parts.lcs))
+  register_driver-kind : (register : Register) (user : ClockUser) → number_of (register_driver register user) ≡ 4
+  register_driver-kind register (Cell i) = refl
+  register_driver-kind register Read = refl
+  register_driver-kind register Write = refl
+
+  registers-kind : IsOfKind 4 (flat_map register_drives (numbered fabric.registers))
+  registers-kind =
+      each-kind (λ (one two : ℕ × Register). RegistersDiffer one.1 two.1) (λ place. register_driver place.1 place.1.user)
+      (λ place. Rule.register_bit place.0 place.1) (λ place. place.1.out)
+      4 (λ place. register_driver-kind place.1 place.1.user) (λ a b other. other) (numbered fabric.registers)
+      (apart-numbered RegistersDiffer 0 fabric.registers parts.registers)
 
   louts-kind : IsOfKind 5 (flat_map lout_drives fabric.lcs)
   louts-kind =
-      each-kind CellsDiffer (λ lc. driver.Lout lc.x lc.y lc.i) (λ lc. Rule.lut_entry lc) (λ lc. lc.lout)
+      each-kind CellsDiffer (λ lc. driver.Lout lc.x lc.y lc.i) (λ lc. Rule.table_entry (table_of lc)) (λ lc. lc.lout)
       5 (λ lc. refl) (λ a b other same. other (cc) (cc) (cc)) fabric.lcs parts.lcs
 
   carries-kind : IsOfKind 6 (flat_map carry_drives (filter (λ lc. lc.carry) fabric.lcs))
   carries-kind =
-      each-kind CellsDiffer (λ lc. driver.Carry lc.x lc.y lc.i) (λ lc. Rule.carry_out lc) (λ lc. lc.cout)
+      each-kind CellsDiffer (λ lc. driver.Carry lc.x lc.y lc.i) (λ lc. Rule.majority_of (get_or lc.ins 1 None) (get_or lc.ins 2 None) lc.cin) (λ lc. lc.cout)
       6 (λ lc. refl) (λ a b other same. other (cc) (cc) (cc)) (filter (λ lc. lc.carry) fabric.lcs) (apart-filter CellsDiffer (λ lc. lc.carry) fabric.lcs parts.lcs)
 
   sets-kind : IsOfKind 7 (flat_map set_drives fabric.sets)
   sets-kind =
-      each-kind SetsDiffer (λ set. driver.CarrySet set.x set.y) (λ set. Rule.one) (λ set. Some set.net)
+      each-kind SetsDiffer (λ set. driver.CarrySet set.x set.y) (λ set. Rule.constant true) (λ set. Some set.net)
       7 (λ set. refl) (λ a b other same. other (cc) (cc)) fabric.sets parts.sets
 
   globals-kind : IsOfKind 9 (flat_map (global_drives (inputs_of fabric)) fabric.globals)
@@ -342,7 +370,7 @@ module _ (fabric : Fabric) (parts : ArePartsApart fabric) where
   drivers-apart : AreApart DriversDiffer (drives_of fabric)
   unfolding drives_of
   drivers-apart =
-      (then-kinds 1 _ _ pins-kind (then-kinds 2 _ _ backs-kind (then-kinds 3 _ _ luts-kind (then-kinds 4 _ _ flips-kind (then-kinds 5 _ _ louts-kind
+      (then-kinds 1 _ _ pins-kind (then-kinds 2 _ _ backs-kind (then-kinds 3 _ _ luts-kind (then-kinds 4 _ _ registers-kind (then-kinds 5 _ _ louts-kind
       (then-kinds 6 _ _ carries-kind (then-kinds 7 _ _ sets-kind (then-kinds 8 _ _ (rams-kind fabric.rams parts.rams) (then-kinds 9 _ _ globals-kind
       (last-kind 10 _ buffers-kind)))))))))).apart
 

@@ -5,7 +5,7 @@ use Rattle.std.specs.Prelude.{All, Contains, Option, Some, None, filter, flat_ma
 use Rattle.std.specs.List.{AllByRecursion}
 use Rattle.std.proofs.lemmas.Bool.{and_from}
 use Rattle.std.proofs.Common.{eq-eqb}
-use Rattle.std.proofs.lemmas.List.Elements.{All-filter, All-contains, All-contains_itself, All-weaker, Contains-append_left, Contains-append_right}
+use Rattle.std.proofs.lemmas.List.Elements.{All-filter, All-contains, All-contains_itself, All-map, All-weaker, Contains-append_left, Contains-append_right}
 use Rattle.shared_lemmas.proofs.Lists.{append_empty, map-same}
 use Rattle.place_search.proofs.Gathered.{All-gathered_below, Contains-gathered_below}
 use Rattle.plane_map.specs.declared.device.DeviceName.{DeviceName}
@@ -16,22 +16,25 @@ use Rattle.chipdb_reader.specs.Fit.{IsFit}
 use Rattle.ice_image.specs.Configuration.{Configuration}
 use Rattle.place_search.specs.Places.{gathered_below}
 use Rattle.net_extract.specs.declared.cell.Lc.{Lc}
+use Rattle.net_extract.specs.declared.register.Register.{Register}
 use Rattle.net_extract.specs.declared.ram.RamCell.{RamCell}
 use Rattle.net_extract.specs.declared.driver.ClockUser.TheVariants.{Read, Write}
 use Rattle.net_extract.specs.Unique.{ExactlyOne}
 use Rattle.net_extract.specs.Tiles.{over_grid}
 use Rattle.net_extract.specs.Cells.{cell_bits, cell_with, used_cell, cells_at, cells_of}
 use Rattle.net_extract.specs.Rams.{is_ram_used, ram_at, rams_of}
-use Rattle.net_extract.specs.Fabric.{Fabric, numbered, inputs_of, flips_of, fabric_of}
+use Rattle.net_extract.specs.Fabric.{Fabric, numbered, inputs_of, fabric_of}
+use Rattle.net_extract.specs.Registers.{register_of, registers_of}
 use Rattle.net_extract.specs.Values.{State, bit_in, is_connected, IsConsistent}
-use Rattle.net_extract.specs.Steps.{has_edge, flip_after, words_after, register_after, state_after, Event, Entry, output_values, IsEntry, Follows, start_state, IsFirst, FollowEach, IsRun}
-use Rattle.net_extract.specs.Clocks.{ClockEnd, User, cell_user, ram_users, users_at, users_of, clock_end}
+use Rattle.net_extract.specs.Steps.{has_edge, bit_after, words_after, read_after, state_after, settled_state, Event, Entry, output_values, IsEntry, Follows, start_state, IsFirst, FollowEach, IsRun}
+use Rattle.net_extract.specs.Clocks.{ClockEnd, User, register_user, ram_users, users_at, users_of, clock_end}
 use Rattle.net_extract.specs.Clocks.ClockEnd.{at_pin, undriven, logic}
 use Rattle.net_extract.specs.Faults.{end_fault, user_fault, clock_faults, fabric_fault, design_fault}
 use Rattle.net_extract.proofs.OneValue.{IsWithin, filter-has}
 use Rattle.net_extract.proofs.Taken.{design-taken, taken-order, taken-value, taken-clocks}
 use Rattle.net_extract.proofs.Chains.{clock_end-leads, HasEndValue, clock-value}
 use Rattle.net_extract.proofs.Within.{fabric-within, All-item_if, All-if, All-single, All-over_tiles, All-numbered}
+use Rattle.net_extract.proofs.Settling.{settled-twice, consistent-settled, consistent-unsettled}
 
 -- ---- lists
 
@@ -71,6 +74,7 @@ pub record IsAt (device : DeviceName) (x y : ℕ) : Type 0 where
 
 pub record IsPlaced (device : DeviceName) (fabric : Fabric) : Type 0 where
   pub lcs : All (λ lc. IsAt device lc.x lc.y) fabric.lcs
+  pub registers : All (λ register. IsAt device register.x register.y) fabric.registers
   pub rams : All (λ ram. IsAt device ram.x ram.y) fabric.rams
 
 module _ (db : Database) (image : Configuration) where
@@ -87,6 +91,17 @@ module _ (db : Database) (image : Configuration) where
       (λ i below. All-item_if (λ lc. IsAt image.layout.device lc.x lc.y) _ (cell_with db image x y i (cell_bits db image x y i))
       (cell-placed x y i (cell_bits db image x y i) (record { left = left; low = low }))))
 
+  register-placed : (lc : Lc) → IsAt image.layout.device lc.x lc.y → IsAt image.layout.device (register_of lc).x (register_of lc).y
+  unfolding register_of
+  register-placed lc at = at
+
+  registers-placed : All (λ register. IsAt image.layout.device register.x register.y) (registers_of (cells_of db image))
+  unfolding registers_of
+  registers-placed =
+      All-map (λ register. IsAt image.layout.device register.x register.y) register_of (filter (λ lc. lc.flip) (cells_of db image))
+      (All-filter (λ lc. lc.flip) (λ lc. IsAt image.layout.device (register_of lc).x (register_of lc).y) (cells_of db image)
+      (All-weaker (λ lc. IsAt image.layout.device lc.x lc.y) (λ lc. IsAt image.layout.device (register_of lc).x (register_of lc).y) register-placed (cells_of db image) cells-placed))
+
   ram-placed : (x y : ℕ) → IsAt image.layout.device x y → IsAt image.layout.device (ram_at db image x y).x (ram_at db image x y).y
   unfolding ram_at
   ram-placed x y at = at
@@ -98,10 +113,10 @@ module _ (db : Database) (image : Configuration) where
       (λ x y left low. All-if (λ ram. IsAt image.layout.device ram.x ram.y) (is_ram_used db image x y) (ram_at db image x y ∷ [])
       (All-single (λ ram. IsAt image.layout.device ram.x ram.y) (ram_at db image x y) (ram-placed x y (record { left = left; low = low }))))
 
-  -- cells and RAMs of a database and an image stand at places of the grid
+  -- cells, registers and RAMs of a database and an image stand at places of the grid
   pub fabric-placed : IsPlaced image.layout.device (fabric_of db image)
   unfolding fabric_of
-  fabric-placed = record { lcs = cells-placed; rams = rams-placed }
+  fabric-placed = record { lcs = cells-placed; registers = registers-placed; rams = rams-placed }
 
 -- ---- clocks that agree
 
@@ -112,7 +127,7 @@ AgreeAt one two (Some net) = one net ≡ two net
 
 -- they agree at each clock net
 pub record ClocksAgree (fabric : Fabric) (one two : ℕ → Bool) : Type 0 where
-  pub flips : All (λ lc. AgreeAt one two lc.clk) (flips_of fabric)
+  pub registers : All (λ register. AgreeAt one two register.clk) fabric.registers
   pub reads : All (λ ram. AgreeAt one two ram.rclk) fabric.rams
   pub writes : All (λ ram. AgreeAt one two ram.wclk) fabric.rams
 
@@ -122,33 +137,39 @@ module _ (before one two : ℕ → Bool) where
   edge-same inverted (Some net) agree = rw agree refl
 
   module _ (connected : ℕ → Bool) where
-    flip-same : (flips : List Bool) (place : ℕ × Lc) → AgreeAt one two place.1.clk
-        → flip_after connected before one flips place ≡ flip_after connected before two flips place
-    flip-same flips place agree = rw (edge-same place.1.neg place.1.clk agree) refl
+    bit-same : (pins bits : List Bool) (place : ℕ × Register) → AgreeAt one two place.1.clk
+        → bit_after connected pins before one bits place ≡ bit_after connected pins before two bits place
+    bit-same pins bits place agree = rw (edge-same place.1.neg place.1.clk agree) refl
 
     words-same : (state : State) (place : ℕ × RamCell) → AgreeAt one two place.1.wclk
         → words_after connected before one state place ≡ words_after connected before two state place
     words-same state place agree = rw (edge-same place.1.wneg place.1.wclk agree) refl
 
-    register-same : (state : State) (place : ℕ × RamCell) → AgreeAt one two place.1.rclk
-        → register_after connected before one state place ≡ register_after connected before two state place
-    register-same state place agree = rw (edge-same place.1.rneg place.1.rclk agree) refl
+    read-same : (state : State) (place : ℕ × RamCell) → AgreeAt one two place.1.rclk
+        → read_after connected before one state place ≡ read_after connected before two state place
+    read-same state place agree = rw (edge-same place.1.rneg place.1.rclk agree) refl
+
+  -- what is made of parts with their places is the same where it is so for parts whose clocks agree
+  each-same : {A B : Type 0} (clock : A → Option ℕ) (first second : ℕ × A → B) → ((place : ℕ × A) → AgreeAt one two (clock place.1) → first place ≡ second place)
+      → (parts : List A) → All (λ part. AgreeAt one two (clock part)) parts → map first (numbered parts) ≡ map second (numbered parts)
+  each-same {A} clock first second same parts agree =
+      map-same first second (numbered parts)
+      (All-weaker (λ (place : ℕ × A). AgreeAt one two (clock place.1)) (λ (place : ℕ × A). first place ≡ second place)
+      same (numbered parts) (All-numbered (λ part. AgreeAt one two (clock part)) 0 parts agree))
 
   -- the next state looks at the bits after the event at clock nets alone
-  pub state-same : (fabric : Fabric) (state : State) → ClocksAgree fabric one two → state_after fabric state before one ≡ state_after fabric state before two
+  pub state-same : (fabric : Fabric) (pins : List Bool) (state : State) → ClocksAgree fabric one two
+      → state_after fabric pins state before one ≡ state_after fabric pins state before two
   unfolding state_after
-  state-same fabric state agree =
+  state-same fabric pins state agree =
       let connected = is_connected fabric in
-      let flips = map-same (flip_after connected before one state.flips) (flip_after connected before two state.flips) (numbered (flips_of fabric))
-      (All-weaker (λ (place : ℕ × Lc). AgreeAt one two place.1.clk) (λ (place : ℕ × Lc). flip_after connected before one state.flips place ≡ flip_after connected before two state.flips place)
-      (flip-same connected state.flips) (numbered (flips_of fabric)) (All-numbered (λ lc. AgreeAt one two lc.clk) 0 (flips_of fabric) agree.flips)) in
-      let registers = map-same (register_after connected before one state) (register_after connected before two state) (numbered fabric.rams)
-      (All-weaker (λ (place : ℕ × RamCell). AgreeAt one two place.1.rclk) (λ (place : ℕ × RamCell). register_after connected before one state place ≡ register_after connected before two state place)
-      (register-same connected state) (numbered fabric.rams) (All-numbered (λ ram. AgreeAt one two ram.rclk) 0 fabric.rams agree.reads)) in
-      let words = map-same (words_after connected before one state) (words_after connected before two state) (numbered fabric.rams)
-      (All-weaker (λ (place : ℕ × RamCell). AgreeAt one two place.1.wclk) (λ (place : ℕ × RamCell). words_after connected before one state place ≡ words_after connected before two state place)
-      (words-same connected state) (numbered fabric.rams) (All-numbered (λ ram. AgreeAt one two ram.wclk) 0 fabric.rams agree.writes)) in
-      rw (flips, registers, words) refl
+      let bits = each-same (λ register. register.clk) (bit_after connected pins before one state.bits) (bit_after connected pins before two state.bits)
+      (bit-same connected pins state.bits) fabric.registers agree.registers in
+      let reads = each-same (λ ram. ram.rclk) (read_after connected before one state) (read_after connected before two state)
+      (read-same connected state) fabric.rams agree.reads in
+      let words = each-same (λ ram. ram.wclk) (words_after connected before one state) (words_after connected before two state)
+      (words-same connected state) fabric.rams agree.writes in
+      rw (bits, reads, words) refl
 
 -- ---- the bits of clocks
 
@@ -204,19 +225,20 @@ module _ (device : DeviceName) (fabric : Fabric) (taken : fabric_fault device fa
   same-place : (x y : ℕ) → ((x == x) && (y == y)) ≡ true
   same-place x y = and_from (x == x) (y == y) (eq-eqb x x refl) (eq-eqb y y refl)
 
-  pub flip-good : (lc : Lc) → Contains (flips_of fabric) lc → IsClocked fabric lc.clk
-  flip-good lc there =
-      let at : IsAt device lc.x lc.y = All-contains (λ c. IsAt device c.x c.y) (flips_of fabric) lc (All-filter (λ c. c.flip) (λ c. IsAt device c.x c.y) fabric.lcs placed.lcs) there in
-      there-good lc.x lc.y (cell_user lc) at
-      (Contains-append_left (map cell_user (filter (λ c. (c.x == lc.x) && (c.y == lc.y)) (flips_of fabric))) _ (cell_user lc)
-      (contains-map cell_user (filter (λ c. (c.x == lc.x) && (c.y == lc.y)) (flips_of fabric)) lc
-      (filter-has (λ c. (c.x == lc.x) && (c.y == lc.y)) (flips_of fabric) lc there (same-place lc.x lc.y))))
+  pub register-good : (register : Register) → Contains fabric.registers register → IsClocked fabric register.clk
+  register-good register there =
+      let at : IsAt device register.x register.y = All-contains (λ r. IsAt device r.x r.y) fabric.registers register placed.registers there in
+      let here = filter (λ r. (r.x == register.x) && (r.y == register.y)) fabric.registers in
+      there-good register.x register.y (register_user register) at
+      (Contains-append_left (map register_user here) _ (register_user register)
+      (contains-map register_user here register
+      (filter-has (λ r. (r.x == register.x) && (r.y == register.y)) fabric.registers register there (same-place register.x register.y))))
 
   ram-user-good : (ram : RamCell) (user : User) → Contains fabric.rams ram → Contains (ram_users ram) user → IsClocked fabric user.net
   ram-user-good ram user there of_ram =
       let at : IsAt device ram.x ram.y = All-contains (λ r. IsAt device r.x r.y) fabric.rams ram placed.rams there in
       there-good ram.x ram.y user at
-      (Contains-append_right (map cell_user (filter (λ c. (c.x == ram.x) && (c.y == ram.y)) (flips_of fabric))) _ user
+      (Contains-append_right (map register_user (filter (λ r. (r.x == ram.x) && (r.y == ram.y)) fabric.registers)) _ user
       (contains-flat_map ram_users (filter (λ r. (r.x == ram.x) && (r.y == ram.y)) fabric.rams) ram user
       (filter-has (λ r. (r.x == ram.x) && (r.y == ram.y)) fabric.rams ram there (same-place ram.x ram.y)) of_ram))
 
@@ -243,8 +265,8 @@ module _ (device : DeviceName) (fabric : Fabric) (taken : fabric_fault device fa
       -- so all clocks have
       pub clocks-agree : ClocksAgree fabric (bit_in v) (clock_bit fabric pins)
       clocks-agree = record {
-        flips = All-weaker (Contains (flips_of fabric)) (λ lc. AgreeAt (bit_in v) (clock_bit fabric pins) lc.clk)
-            (λ lc there. clock-agrees lc.clk (flip-good lc there)) (flips_of fabric) (All-contains_itself (flips_of fabric));
+        registers = All-weaker (Contains fabric.registers) (λ register. AgreeAt (bit_in v) (clock_bit fabric pins) register.clk)
+            (λ register there. clock-agrees register.clk (register-good register there)) fabric.registers (All-contains_itself fabric.registers);
         reads = All-weaker (Contains fabric.rams) (λ ram. AgreeAt (bit_in v) (clock_bit fabric pins) ram.rclk)
             (λ ram there. clock-agrees ram.rclk (read-good ram there)) fabric.rams (All-contains_itself fabric.rams);
         writes = All-weaker (Contains fabric.rams) (λ ram. AgreeAt (bit_in v) (clock_bit fabric pins) ram.wclk)
@@ -256,71 +278,110 @@ module _ (device : DeviceName) (fabric : Fabric) (taken : fabric_fault device fa
     entry-same : (one two : Entry) → one.pins ≡ two.pins → one.state ≡ two.state → one.v ≡ two.v → one.outputs ≡ two.outputs → one ≡ two
     entry-same one two pins state v outputs = λ i. record { pins = pins i; state = state i; v = v i; outputs = outputs i }
 
-    -- two entries with the same pins and state are one
-    pub entry-one : (one two : Entry) → IsEntry fabric one → IsEntry fabric two → one.pins ≡ two.pins → one.state ≡ two.state → one ≡ two
-    entry-one one two of_one of_two pins state =
-        let value = taken-value device fabric taken within two.state two.pins in
-        let moved : IsConsistent fabric two.state two.pins one.v =
-        subst (λ p. IsConsistent fabric two.state p one.v) pins (subst (λ s. IsConsistent fabric s one.pins one.v) state of_one.consistent) in
-        let v : one.v ≡ two.v = value.only one.v moved ∙ sym (value.only two.v of_two.consistent) in
-        entry-same one two pins state v (of_one.outputs ∙ (ap (output_values fabric) v ∙ sym of_two.outputs))
+    -- the values of nets of an entry are consistent with each state that settles to its own
+    pub entry-raw : (entry : Entry) (state : State) → IsEntry fabric entry → entry.state ≡ settled_state fabric (bit_in entry.v) state
+        → IsConsistent fabric state entry.pins entry.v
+    entry-raw entry state is settled =
+        consistent-unsettled fabric state entry.pins entry.v (subst (λ s. IsConsistent fabric s entry.pins entry.v) settled is.consistent)
 
-    -- the entry of some pins and a state
+    -- two entries with the same pins whose states are what one state settles to are one
+    pub entry-one : (state : State) (one two : Entry) → IsEntry fabric one → IsEntry fabric two → one.pins ≡ two.pins
+        → one.state ≡ settled_state fabric (bit_in one.v) state → two.state ≡ settled_state fabric (bit_in two.v) state → one ≡ two
+    entry-one state one two of_one of_two pins first second =
+        let value = taken-value device fabric taken within state two.pins in
+        let moved : IsConsistent fabric state two.pins one.v = subst (λ p. IsConsistent fabric state p one.v) pins (entry-raw one state of_one first) in
+        let v : one.v ≡ two.v = value.only one.v moved ∙ sym (value.only two.v (entry-raw two state of_two second)) in
+        let settles : one.state ≡ two.state = first ∙ (ap (λ w. settled_state fabric (bit_in w) state) v ∙ sym second) in
+        entry-same one two pins settles v (of_one.outputs ∙ (ap (output_values fabric) v ∙ sym of_two.outputs))
+
+    -- the entry of some pins and of what a state settles to
     entry_of : List Bool → State → Entry
     entry_of pins state =
         let v = (taken-value device fabric taken within state pins).it in
-        record { pins = pins; state = state; v = v; outputs = output_values fabric v }
+        record { pins = pins; state = settled_state fabric (bit_in v) state; v = v; outputs = output_values fabric v }
 
     entry_of-is : (pins : List Bool) (state : State) → IsEntry fabric (entry_of pins state)
     unfolding entry_of
-    entry_of-is pins state = record { consistent = (taken-value device fabric taken within state pins).is; outputs = refl }
+    entry_of-is pins state =
+        let value = taken-value device fabric taken within state pins in
+        record { consistent = consistent-settled fabric state pins value.it value.is; outputs = refl }
 
     entry_of-pins : (pins : List Bool) (state : State) → (entry_of pins state).pins ≡ pins
     unfolding entry_of
     entry_of-pins pins state = refl
 
-    entry_of-state : (pins : List Bool) (state : State) → (entry_of pins state).state ≡ state
+    entry_of-state : (pins : List Bool) (state : State) → (entry_of pins state).state ≡ settled_state fabric (bit_in (entry_of pins state).v) state
     unfolding entry_of
     entry_of-state pins state = refl
 
     -- ---- one event
 
     -- the next state is that of the clocks' bits
-    pub state-clocked : (entry : Entry) → IsEntry fabric entry → (state : State) (before : ℕ → Bool)
-        → state_after fabric state before (bit_in entry.v) ≡ state_after fabric state before (clock_bit fabric entry.pins)
-    state-clocked entry is state before =
-        state-same before (bit_in entry.v) (clock_bit fabric entry.pins) fabric state (clocks-agree entry.state entry.pins entry.v is.consistent)
+    pub state-clocked : (entry : Entry) → IsEntry fabric entry → (pins : List Bool) (state : State) (before : ℕ → Bool)
+        → state_after fabric pins state before (bit_in entry.v) ≡ state_after fabric pins state before (clock_bit fabric entry.pins)
+    state-clocked entry is pins state before =
+        state-same before (bit_in entry.v) (clock_bit fabric entry.pins) fabric pins state (clocks-agree entry.state entry.pins entry.v is.consistent)
+
+    -- what an event makes of a state before it settles, from the pins after it
+    pub raw_state : Entry → List Bool → State
+    raw_state before pins = state_after fabric before.pins before.state (bit_in before.v) (clock_bit fabric pins)
+
+    pub raw_state-is : (before : Entry) (pins : List Bool)
+        → raw_state before pins ≡ state_after fabric before.pins before.state (bit_in before.v) (clock_bit fabric pins)
+    unfolding raw_state
+    raw_state-is before pins = refl
+
+    -- the state of an entry that follows is what that settles to
+    pub follows-raw : (before : Entry) (event : Event) (after : Entry) → Follows fabric before event after
+        → after.state ≡ settled_state fabric (bit_in after.v) (raw_state before after.pins)
+    unfolding raw_state
+    follows-raw before event after follows =
+        follows.state
+        ∙ ap (settled_state fabric (bit_in after.v)) (state-clocked after follows.entry before.pins before.state (bit_in before.v))
 
     follows-one : (before : Entry) (event : Event) (one two : Entry) → Follows fabric before event one → Follows fabric before event two → one ≡ two
     follows-one before event one two of_one of_two =
         let pins : one.pins ≡ two.pins = of_one.pins ∙ sym of_two.pins in
-        let first : one.state ≡ state_after fabric before.state (bit_in before.v) (clock_bit fabric one.pins) =
-        of_one.state ∙ state-clocked one of_one.entry before.state (bit_in before.v) in
-        let second : two.state ≡ state_after fabric before.state (bit_in before.v) (clock_bit fabric two.pins) =
-        of_two.state ∙ state-clocked two of_two.entry before.state (bit_in before.v) in
-        let state : one.state ≡ two.state =
-        first ∙ (ap (λ p. state_after fabric before.state (bit_in before.v) (clock_bit fabric p)) pins ∙ sym second) in
-        entry-one one two of_one.entry of_two.entry pins state
+        let first : one.state ≡ settled_state fabric (bit_in one.v) (raw_state before two.pins) =
+        follows-raw before event one of_one ∙ ap (λ p. settled_state fabric (bit_in one.v) (raw_state before p)) pins in
+        entry-one (raw_state before two.pins) one two of_one.entry of_two.entry pins first (follows-raw before event two of_two)
 
     next_entry : Entry → Event → Entry
     next_entry before event =
         let pins = set before.pins event.pin event.bit in
-        entry_of pins (state_after fabric before.state (bit_in before.v) (clock_bit fabric pins))
+        entry_of pins (raw_state before pins)
 
     next-follows : (before : Entry) (event : Event) → Follows fabric before event (next_entry before event)
-    unfolding next_entry
+    unfolding next_entry raw_state
     next-follows before event =
         let pins = set before.pins event.pin event.bit in
-        let state = state_after fabric before.state (bit_in before.v) (clock_bit fabric pins) in
+        let state = raw_state before pins in
         let after = entry_of pins state in
         let is = entry_of-is pins state in
         record {
           entry = is;
           pins = entry_of-pins pins state;
           state = entry_of-state pins state
-              ∙ (ap (λ p. state_after fabric before.state (bit_in before.v) (clock_bit fabric p)) (sym (entry_of-pins pins state))
-              ∙ sym (state-clocked after is before.state (bit_in before.v)));
+              ∙ ap (settled_state fabric (bit_in after.v))
+              (ap (λ p. raw_state before p) (sym (entry_of-pins pins state))
+              ∙ sym (state-clocked after is before.pins before.state (bit_in before.v)));
         }
+
+    -- ---- entries settle
+
+    -- a state that another settles to settles to itself
+    settled-itself : (bit : ℕ → Bool) (state raw : State) → state ≡ settled_state fabric bit raw → state ≡ settled_state fabric bit state
+    settled-itself bit state raw settled = settled ∙ (sym (settled-twice fabric bit raw) ∙ ap (settled_state fabric bit) (sym settled))
+
+    -- the state of an entry settles to itself: of the first entry
+    pub first-settled : (entry : Entry) → IsFirst fabric entry → entry.state ≡ settled_state fabric (bit_in entry.v) entry.state
+    first-settled entry first = settled-itself (bit_in entry.v) entry.state (start_state fabric) first.state
+
+    -- and of each that follows
+    pub follows-settled : (before : Entry) (event : Event) (after : Entry) → Follows fabric before event after
+        → after.state ≡ settled_state fabric (bit_in after.v) after.state
+    follows-settled before event after follows =
+        settled-itself (bit_in after.v) after.state (state_after fabric before.pins before.state (bit_in before.v) (bit_in after.v)) follows.state
 
     -- ---- runs
 
@@ -353,7 +414,8 @@ module _ (device : DeviceName) (fabric : Fabric) (taken : fabric_fault device fa
     }
 
     first-one : (one two : Entry) → IsFirst fabric one → IsFirst fabric two → one ≡ two
-    first-one one two of_one of_two = entry-one one two of_one.entry_is of_two.entry_is (of_one.pins ∙ sym of_two.pins) (of_one.state ∙ sym of_two.state)
+    first-one one two of_one of_two =
+        entry-one (start_state fabric) one two of_one.entry_is of_two.entry_is (of_one.pins ∙ sym of_two.pins) of_one.state of_two.state
 
     run-only : (events : List Event) (one two : List Entry) → IsRun fabric events one → IsRun fabric events two → one ≡ two
     run-only events [] two of_one of_two = absurd of_one

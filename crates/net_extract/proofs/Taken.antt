@@ -15,7 +15,7 @@ use Rattle.net_extract.specs.Fabric.{Fabric, fabric_of}
 use Rattle.net_extract.specs.Drivers.{Drive, drivers_of}
 use Rattle.net_extract.specs.Values.{State, IsConsistent}
 use Rattle.net_extract.specs.Wiring.{wiring_of, is_on_cycle, IsWriteOrder}
-use Rattle.net_extract.specs.Faults.{Fault, drivers_fault, device_faults, pll_faults, pin_faults, pins_fault, rams_fault, cells_fault, driver_faults, loop_faults, clock_faults, fabric_fault, design_fault}
+use Rattle.net_extract.specs.Faults.{Fault, drivers_fault, device_faults, pll_faults, pin_faults, pins_fault, rams_fault, driver_faults, loop_faults, clock_faults, fabric_fault, design_fault}
 use Rattle.net_extract.proofs.Order.{order-one}
 use Rattle.net_extract.proofs.Ordered.{write_order-there}
 use Rattle.net_extract.proofs.OneValue.{IsWithin, HasSingleDrivers, wiring-bounded, consistent-one, consistent-there}
@@ -106,5 +106,5 @@ design-taken db image none =
     record {
       device = first_of-none (device_faults db image) (or_else-first first _ none);
       pins = first_of-none (pin_faults db image) (or_else-other (first_of (pll_faults db image)) _ (or_else-first (pins_fault db image) _ behind));
-      fabric = or_else-other (cells_fault db image) _ (or_else-other (rams_fault db image) _ (or_else-other (pins_fault db image) _ behind));
+      fabric = or_else-other (rams_fault db image) _ (or_else-other (pins_fault db image) _ behind);
     }

@@ -20,6 +20,9 @@ use Rattle.ice_image.specs.Configuration.{Configuration}
 use Rattle.place_search.specs.Places.{gathered_below, or_else}
 use Rattle.net_extract.specs.declared.cell.Lc.{Lc}
 use Rattle.net_extract.specs.declared.cell.CarrySet.{CarrySet}
+use Rattle.net_extract.specs.declared.register.Source.{Source}
+use Rattle.net_extract.specs.declared.register.Source.TheVariants.{Net, Pin as SourcePin}
+use Rattle.net_extract.specs.declared.register.Register.{Register}
 use Rattle.net_extract.specs.declared.ram.RamCell.{RamCell}
 use Rattle.net_extract.specs.declared.pin.Pin.{Pin}
 use Rattle.net_extract.specs.declared.pin.GlobalNet.{GlobalNet}
@@ -32,11 +35,12 @@ use Rattle.net_extract.specs.Nets.{net_named}
 use Rattle.net_extract.specs.Cells.{cell_bits, cell_with, used_cell, cells_at, cells_of, set_with, sets_at, sets_of, carry_in_net}
 use Rattle.net_extract.specs.Rams.{port_net, is_ram_used, ram_at, rams_of}
 use Rattle.net_extract.specs.Pins.{pin_with, port_at, pins_of, global_fabout, global_source, source_of_global, global_pad, is_global_net, global_nets, nets_from, globals_of}
-use Rattle.net_extract.specs.Fabric.{Fabric, Buffer, numbered_from, numbered, joins_of, buffer_of, buffers_of, fabric_of, inputs_of, flips_of}
-use Rattle.net_extract.specs.Drivers.{Rule, Drive, drives_if, pin_drives, back_drives, lut_drives, flip_drives, lout_drives, carry_drives, set_drives, ram_drive, ram_drives, global_rule, global_drives, buffer_drives, drives_of, nets_read}
-use Rattle.net_extract.specs.Drivers.Rule.{pin_bit, sent_back, lut_entry, flip_bit, carry_out, one, register_bit, copied}
+use Rattle.net_extract.specs.Fabric.{Fabric, Buffer, numbered_from, numbered, joins_of, buffer_of, buffers_of, fabric_of, inputs_of}
+use Rattle.net_extract.specs.Drivers.{Rule, Drive, drives_if, pin_drives, back_drives, lut_drives, register_drives, lout_drives, carry_drives, set_drives, ram_drive, ram_drives, global_rule, global_drives, buffer_drives, drives_of, source_nets, nets_read}
+use Rattle.net_extract.specs.Drivers.Rule.{pin_bit, constant, input, table_entry, majority_of, register_bit, read_bit, copied}
 use Rattle.net_extract.specs.Wiring.{has}
-use Rattle.net_extract.specs.Within.{IsNetIn, IsPinIn, IsCellIn, IsSetIn, IsRamIn, IsFromIn, IsGlobalIn, IsBufferIn, IsJoinIn, HasNetsIn}
+use Rattle.net_extract.specs.Registers.{table_of, register_of, registers_of}
+use Rattle.net_extract.specs.Within.{IsNetIn, IsPinIn, IsCellIn, IsSourceIn, IsRegisterIn, IsSetIn, IsRamIn, IsFromIn, IsGlobalIn, IsBufferIn, IsJoinIn, HasNetsIn}
 use Rattle.net_extract.proofs.Order.{has-none, has-cases}
 use Rattle.net_extract.proofs.OneValue.{IsWithin}
 
@@ -96,13 +100,21 @@ listed-in : (nets : ℕ) (net : Option ℕ) → IsNetIn nets net → All (Below 
 listed-in nets None in' = All-nil (Below nets)
 listed-in nets (Some net) in' = All-single (Below nets) net in'
 
-all_listed-in : (nets : ℕ) (list : List (Option ℕ)) → All (IsNetIn nets) list → All (Below nets) (flat_map option_to_list list)
-all_listed-in nets list all = All-flat_map (Below nets) option_to_list list (All-weaker (IsNetIn nets) (λ net. All (Below nets) (option_to_list net)) (listed-in nets) list all)
-
 get_or-in : (nets : ℕ) (list : List (Option ℕ)) (k : ℕ) → All (IsNetIn nets) list → IsNetIn nets (get_or list k None)
 get_or-in nets [] k all = tt
 get_or-in nets (net ∷ list) zero all = All-head (IsNetIn nets) net list all
 get_or-in nets (net ∷ list) (suc k) all = get_or-in nets list k (All-tail (IsNetIn nets) net list all)
+
+source-in : (nets : ℕ) (source : Source) → IsSourceIn nets source → All (Below nets) (source_nets source)
+source-in nets (Net net) in' = listed-in nets net in'
+source-in nets (SourcePin place) in' = All-nil (Below nets)
+
+sources-in : (nets : ℕ) (ins : List Source) → All (IsSourceIn nets) ins → All (Below nets) (flat_map source_nets ins)
+sources-in nets ins all = All-flat_map (Below nets) source_nets ins (All-weaker (IsSourceIn nets) (λ source. All (Below nets) (source_nets source)) (source-in nets) ins all)
+
+-- the inputs of a cell are those of its table
+cell_sources-in : (nets : ℕ) (lc : Lc) → IsCellIn nets lc → All (IsSourceIn nets) (table_of lc).ins
+cell_sources-in nets lc in' = All-map (IsSourceIn nets) Net lc.ins in'.ins
 
 -- ---- drivers
 
@@ -121,26 +133,30 @@ module _ (nets : ℕ) where
 
   back_drives-in : (pin : Pin) → IsPinIn nets pin → All (IsDriveIn nets) (back_drives pin)
   unfolding nets_read
-  back_drives-in pin in' = drives_if-in nets _ (sent_back pin.dout) pin.din in'.din (listed-in nets pin.dout in'.dout)
+  back_drives-in pin in' = drives_if-in nets _ (input false pin.dout) pin.din in'.din (listed-in nets pin.dout in'.dout)
 
-  lut_reads-in : (lc : Lc) → IsCellIn nets lc → All (Below nets) (nets_read (lut_entry lc))
+  lut_reads-in : (lc : Lc) → IsCellIn nets lc → All (Below nets) (nets_read (table_entry (table_of lc)))
   unfolding nets_read
-  lut_reads-in lc in' = all_listed-in nets lc.ins in'.ins
+  lut_reads-in lc in' = sources-in nets (table_of lc).ins (cell_sources-in nets lc in')
 
   lut_drives-in : (lc : Lc) → IsCellIn nets lc → All (IsDriveIn nets) (lut_drives lc)
-  lut_drives-in lc in' = drives_if-in nets _ (lut_entry lc) lc.out in'.out (lut_reads-in lc in')
+  lut_drives-in lc in' = drives_if-in nets _ (table_entry (table_of lc)) lc.out in'.out (lut_reads-in lc in')
 
-  flip_drives-in : (place : ℕ × Lc) → IsCellIn nets place.1 → All (IsDriveIn nets) (flip_drives place)
+  register_reads-in : (place : ℕ) (register : Register) → IsRegisterIn nets register → All (Below nets) (nets_read (register_bit place register))
   unfolding nets_read
-  flip_drives-in place in' = drives_if-in nets _ (flip_bit place.0) place.1.out in'.out (All-nil (Below nets))
+  register_reads-in place register in' = All-if (Below nets) register.at_once (option_to_list register.sr) (listed-in nets register.sr in'.sr)
+
+  register_drives-in : (place : ℕ × Register) → IsRegisterIn nets place.1 → All (IsDriveIn nets) (register_drives place)
+  register_drives-in place in' =
+      drives_if-in nets _ (register_bit place.0 place.1) place.1.out in'.out (register_reads-in place.0 place.1 in')
 
   lout_drives-in : (lc : Lc) → IsCellIn nets lc → All (IsDriveIn nets) (lout_drives lc)
-  lout_drives-in lc in' = drives_if-in nets _ (lut_entry lc) lc.lout in'.lout (lut_reads-in lc in')
+  lout_drives-in lc in' = drives_if-in nets _ (table_entry (table_of lc)) lc.lout in'.lout (lut_reads-in lc in')
 
   carry_drives-in : (lc : Lc) → IsCellIn nets lc → All (IsDriveIn nets) (carry_drives lc)
   unfolding nets_read
   carry_drives-in lc in' =
-      drives_if-in nets _ (carry_out lc) lc.cout in'.cout
+      drives_if-in nets _ (majority_of (get_or lc.ins 1 None) (get_or lc.ins 2 None) lc.cin) lc.cout in'.cout
       (All-append (Below nets) (option_to_list (get_or lc.ins 1 None)) (option_to_list (get_or lc.ins 2 None) ++ option_to_list lc.cin)
       (listed-in nets (get_or lc.ins 1 None) (get_or-in nets lc.ins 1 in'.ins))
       (All-append (Below nets) (option_to_list (get_or lc.ins 2 None)) (option_to_list lc.cin)
@@ -148,14 +164,14 @@ module _ (nets : ℕ) where
 
   set_drives-in : (set : CarrySet) → IsSetIn nets set → All (IsDriveIn nets) (set_drives set)
   unfolding nets_read
-  set_drives-in set in' = drives_if-in nets _ one (Some set.net) in' (All-nil (Below nets))
+  set_drives-in set in' = drives_if-in nets _ (constant true) (Some set.net) in' (All-nil (Below nets))
 
   ram_drives-in : (place : ℕ × RamCell) → IsRamIn nets place.1 → All (IsDriveIn nets) (ram_drives place)
   unfolding nets_read
   ram_drives-in place in' =
       All-flat_map (IsDriveIn nets) (ram_drive place) (numbered place.1.rdata)
       (All-weaker (λ (port : ℕ × Option ℕ). IsNetIn nets port.1) (λ (port : ℕ × Option ℕ). All (IsDriveIn nets) (ram_drive place port))
-      (λ port here. drives_if-in nets _ (register_bit place.0 port.0) port.1 here (All-nil (Below nets)))
+      (λ port here. drives_if-in nets _ (read_bit place.0 port.0) port.1 here (All-nil (Below nets)))
       (numbered place.1.rdata) (All-numbered (IsNetIn nets) 0 place.1.rdata in'.rdata))
 
   global_reads-in : (pins : List Pin) (from : GlobalFrom) → IsFromIn nets from → All (Below nets) (nets_read (global_rule pins from))
@@ -189,8 +205,8 @@ module _ (fabric : Fabric) (in' : HasNetsIn fabric) where
       All-then _ _ (gives-in nets (λ (place : ℕ × Pin). IsPinIn nets place.1) pin_drives (pin_drives-in nets) (numbered (inputs_of fabric)) (All-numbered (IsPinIn nets) 0 (inputs_of fabric) inputs))
       (All-then _ _ (gives-in nets (IsPinIn nets) back_drives (back_drives-in nets) _ (All-filter (λ pin. pin.back) (IsPinIn nets) fabric.pins in'.pins))
       (All-then _ _ (gives-in nets (IsCellIn nets) lut_drives (lut_drives-in nets) _ (All-filter (λ lc. not lc.flip) (IsCellIn nets) fabric.lcs in'.lcs))
-      (All-then _ _ (gives-in nets (λ (place : ℕ × Lc). IsCellIn nets place.1) flip_drives (flip_drives-in nets) (numbered (flips_of fabric))
-      (All-numbered (IsCellIn nets) 0 (flips_of fabric) (All-filter (λ lc. lc.flip) (IsCellIn nets) fabric.lcs in'.lcs)))
+      (All-then _ _ (gives-in nets (λ (place : ℕ × Register). IsRegisterIn nets place.1) register_drives (register_drives-in nets) (numbered fabric.registers)
+      (All-numbered (IsRegisterIn nets) 0 fabric.registers in'.registers))
       (All-then _ _ (gives-in nets (IsCellIn nets) lout_drives (lout_drives-in nets) fabric.lcs in'.lcs)
       (All-then _ _ (gives-in nets (IsCellIn nets) carry_drives (carry_drives-in nets) _ (All-filter (λ lc. lc.carry) (IsCellIn nets) fabric.lcs in'.lcs))
       (All-then _ _ (gives-in nets (IsSetIn nets) set_drives (set_drives-in nets) fabric.sets in'.sets)
@@ -284,6 +300,23 @@ module _ (db : Database) (image : Configuration) (fit : IsFit db) where
   unfolding cells_of
   cells-in = All-over_tiles (IsCellIn db.chip.nets) image.layout.device Logic (cells_at db image) (λ x y left low. cells_at-in x y)
 
+  register_of-in : (lc : Lc) → IsCellIn db.chip.nets lc → IsRegisterIn db.chip.nets (register_of lc)
+  unfolding register_of
+  register_of-in lc in' = record {
+    out = in'.out;
+    clk = in'.clk;
+    cen = in'.cen;
+    sr = in'.sr;
+    ins = cell_sources-in db.chip.nets lc in';
+  }
+
+  registers-in : All (IsRegisterIn db.chip.nets) (registers_of (cells_of db image))
+  unfolding registers_of
+  registers-in =
+      All-map (IsRegisterIn db.chip.nets) register_of (filter (λ lc. lc.flip) (cells_of db image))
+      (All-filter (λ lc. lc.flip) (λ lc. IsRegisterIn db.chip.nets (register_of lc)) (cells_of db image)
+      (All-weaker (IsCellIn db.chip.nets) (λ lc. IsRegisterIn db.chip.nets (register_of lc)) register_of-in (cells_of db image) cells-in))
+
   set_with-in : (x y : ℕ) (net : Option ℕ) → IsNetIn db.chip.nets net → All (IsSetIn db.chip.nets) (set_with x y net)
   set_with-in x y None in' = All-nil (IsSetIn db.chip.nets)
   set_with-in x y (Some net) in' = All-single (IsSetIn db.chip.nets) (record { x = x; y = y; net = net }) in'
@@ -315,22 +348,22 @@ module _ (db : Database) (image : Configuration) (fit : IsFit db) where
       (λ x y left low. All-if (IsRamIn db.chip.nets) (is_ram_used db image x y) (ram_at db image x y ∷ []) (All-single (IsRamIn db.chip.nets) (ram_at db image x y) (ram_at-in x y)))
 
   -- a source that may be missing
-  IsSourceIn : Option GlobalFrom → Type 0
-  IsSourceIn None = Unit {0}
-  IsSourceIn (Some from) = IsFromIn db.chip.nets from
+  IsGlobalSourceIn : Option GlobalFrom → Type 0
+  IsGlobalSourceIn None = Unit {0}
+  IsGlobalSourceIn (Some from) = IsFromIn db.chip.nets from
 
   fabout-in : (tile : Option TileXy8) (name : List ℕ) → IsNetIn db.chip.nets (option_and_then (λ (at : TileXy8). net_named db at.x at.y name) tile)
   fabout-in None name = tt
   fabout-in (Some tile) name = named-in tile.x tile.y name
 
-  source-in : (pad : Option PinXy) (fabout : Option ℕ) → IsNetIn db.chip.nets fabout → IsSourceIn (source_of_global pad fabout)
-  unfolding IsSourceIn
-  source-in (Some pad) fabout in' = tt
-  source-in None None in' = tt
-  source-in None (Some net) in' = in'
+  global_source-in : (pad : Option PinXy) (fabout : Option ℕ) → IsNetIn db.chip.nets fabout → IsGlobalSourceIn (source_of_global pad fabout)
+  unfolding IsGlobalSourceIn
+  global_source-in (Some pad) fabout in' = tt
+  global_source-in None None in' = tt
+  global_source-in None (Some net) in' = in'
 
-  nets_from-in : (g : ℕ) (source : Option GlobalFrom) → IsSourceIn source → All (IsGlobalIn db.chip.nets) (nets_from db g source)
-  unfolding IsSourceIn global_nets
+  nets_from-in : (g : ℕ) (source : Option GlobalFrom) → IsGlobalSourceIn source → All (IsGlobalIn db.chip.nets) (nets_from db g source)
+  unfolding IsGlobalSourceIn global_nets
   nets_from-in g None in' = All-nil (IsGlobalIn db.chip.nets)
   nets_from-in g (Some from) in' =
       All-map (IsGlobalIn db.chip.nets) (λ net. record { g = g; net = net; from = from }) (global_nets db g)
@@ -341,7 +374,7 @@ module _ (db : Database) (image : Configuration) (fit : IsFit db) where
   unfolding globals_of
   globals-in =
       All-gathered_below (IsGlobalIn db.chip.nets) 8 (λ g. nets_from db g (global_source db image g))
-      (λ g below. nets_from-in g (global_source db image g) (source-in (global_pad db image g) (global_fabout db g) (fabout-in (input_of g db.global_inputs) _)))
+      (λ g below. nets_from-in g (global_source db image g) (global_source-in (global_pad db image g) (global_fabout db g) (fabout-in (input_of g db.global_inputs) _)))
 
   pub fabric-in : HasNetsIn (fabric_of db image)
   unfolding fabric_of
@@ -351,6 +384,7 @@ module _ (db : Database) (image : Configuration) (fit : IsFit db) where
     pins = pins-in;
     globals = globals-in;
     lcs = cells-in;
+    registers = registers-in;
     sets = sets-in;
     rams = rams-in;
   }

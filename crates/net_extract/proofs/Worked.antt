@@ -14,6 +14,7 @@ use Rattle.net_extract.specs.declared.driver.Driver.TheVariants as driver
 use Rattle.net_extract.specs.declared.driver.ClockUser.TheVariants.{Cell}
 use Rattle.net_extract.specs.declared.pin.GlobalFrom.TheVariants.{Pad, Fabout}
 use Rattle.net_extract.specs.declared.cell.Lc.{Lc}
+use Rattle.net_extract.specs.declared.register.Register.{Register}
 use Rattle.net_extract.specs.declared.ram.RamCell.{RamCell}
 use Rattle.net_extract.specs.Tiles.{each_below}
 use Rattle.net_extract.specs.Values.{bit_in}
@@ -31,12 +32,14 @@ use Rattle.net_extract.specs.Rams.{is_ram_used, ram_at, rams_of, start_words}
 use Rattle.net_extract.specs.Pins.{pintype_of, pin_with, pins_of, global_nets, globals_of, is_refused_with}
 use Rattle.net_extract.specs.Joins.{is_joined, class_of}
 use Rattle.net_extract.specs.Fabric.{numbered_from, joins_of, buffers_of, fabric_of}
+use Rattle.net_extract.specs.Registers.{table_of, register_of, registers_of}
 use Rattle.net_extract.specs.Drivers.{drives_of, drivers_of, is_driven, nets_read}
-use Rattle.net_extract.specs.Values.{lut_value, carry_value, value_of}
-use Rattle.net_extract.specs.Steps.{next_flip, written, shown, next_words, next_register, state_after, output_values}
+use Rattle.net_extract.specs.Drivers.Rule.{majority_of, register_bit}
+use Rattle.net_extract.specs.Values.{State, lut_value, settled_bit, value_of}
+use Rattle.net_extract.specs.Steps.{next_bit, written, shown, next_words, next_register, state_after, settled_state, output_values}
 use Rattle.net_extract.specs.Wiring.{wiring_of, has, leads_below, is_on_cycle}
 use Rattle.net_extract.specs.Clocks.{turn_at, end_within, clock_end, users_of}
-use Rattle.net_extract.specs.Faults.{device_faults, pll_faults, pin_faults, mode_faults, cascade_faults, async_faults, driver_faults, loop_faults, clock_faults, pins_fault, rams_fault, cells_fault, fabric_fault, design_fault}
+use Rattle.net_extract.specs.Faults.{device_faults, pll_faults, pin_faults, mode_faults, cascade_faults, driver_faults, loop_faults, clock_faults, pins_fault, rams_fault, fabric_fault, design_fault}
 
 abbrev rc : ℕ → ℕ → RowCol
 rc row col = record { row = row; col = col }
@@ -129,6 +132,13 @@ database_c = record database_b {
   global_pins = record { x = 0; y = 1; pad = 0; global = 2 } ∷ [];
 }
 
+-- ---- the second, with a reset that comes from the register itself
+
+unfoldable database_d : Database
+database_d = record database_b {
+  names = names_a ++ (named 2 1 1 (codes "lutff_global/s_r") ∷ named 4 1 1 (codes "lutff_global/clk") ∷ []);
+}
+
 -- ---- images
 
 abbrev with_set : Configuration → TileBit → Configuration
@@ -160,6 +170,7 @@ cell_with_lut lut = record {
   carry = true;
   flip = true;
   «set» = true;
+  at_once = false;
   neg = false;
   ins = Some 0 ∷ Some 1 ∷ Some 2 ∷ Some 3 ∷ [];
   out = None;
@@ -170,6 +181,14 @@ cell_with_lut lut = record {
   cen = Some 5;
   sr = Some 6;
 }
+
+-- its flip-flop, whose reset acts at once or waits for the clock
+abbrev register_with : Bool → Register
+register_with at_once = record (register_of (cell_with_lut 0)) { at_once = at_once }
+
+-- a state without registers
+abbrev nothing_kept : State
+nothing_kept = record { bits = []; reads = []; words = [] }
 
 -- a RAM with nets 16 to 31 as data and 32 to 47 as mask
 abbrev ram_with_nets : RamCell
@@ -200,185 +219,229 @@ inverter : fabric_of database_a (both (at 1 1 2 0 ∷ [])) ≡ record {
   buffers = record { line = 0; src = 0; dst = 1 } ∷ record { line = 1; src = 2; dst = 3 } ∷ [];
   pins = record { x = 0; y = 1; n = 0; output = false; back = false; din = Some 0; dout = None } ∷ record { x = 0; y = 2; n = 0; output = true; back = true; din = None; dout = Some 3 } ∷ [];
   globals = [];
-  lcs = record { x = 1; y = 1; i = 0; lut = 21845; carry = false; flip = false; «set» = false; neg = false; ins = Some 1 ∷ None ∷ None ∷ None ∷ []; out = Some 2; lout = None; cout = None; cin = None; clk = None; cen = None; sr = None } ∷ [];
+  lcs = record { x = 1; y = 1; i = 0; lut = 21845; carry = false; flip = false; «set» = false; at_once = false; neg = false; ins = Some 1 ∷ None ∷ None ∷ None ∷ []; out = Some 2; lout = None; cout = None; cin = None; clk = None; cen = None; sr = None } ∷ [];
+  registers = [];
   sets = [];
   rams = [];
   start = [];
 }
-unfolding database_a image_with digits word_bits word_of bytes_of blank flat rows_of row_from rows_from kind_of start_in standard_widths standard_side_columns standard_pad_columns standard_pad_rows standard_banks place_of word_place_of any_below least_below last_below first_below gathered_below net_at names_of_net function_place extra_place input_of pad_of are_set is_link_on is_function_on is_any_on is_extra_on over_grid is_read cell_places cell_bits entry_bits cell_with cells_at cells_of sets_of is_ram_used ram_at rams_of start_words pintype_of pin_with pins_of global_nets globals_of is_refused_with is_joined class_of numbered_from joins_of buffers_of fabric_of drives_of drivers_of is_driven nets_read lut_value carry_value value_of next_flip written shown next_words next_register state_after output_values wiring_of has leads_below is_on_cycle turn_at end_within clock_end users_of device_faults pll_faults pin_faults mode_faults cascade_faults async_faults driver_faults loop_faults clock_faults pins_fault rams_fault cells_fault fabric_fault design_fault
+unfolding database_a image_with digits word_bits word_of bytes_of blank flat rows_of row_from rows_from kind_of start_in standard_widths standard_side_columns standard_pad_columns standard_pad_rows standard_banks place_of word_place_of any_below least_below last_below first_below gathered_below net_at names_of_net function_place extra_place input_of pad_of are_set is_link_on is_function_on is_any_on is_extra_on over_grid is_read cell_places cell_bits entry_bits cell_with cells_at cells_of register_of registers_of sets_of is_ram_used ram_at rams_of start_words pintype_of pin_with pins_of global_nets globals_of is_refused_with is_joined class_of numbered_from joins_of buffers_of fabric_of drives_of drivers_of is_driven nets_read lut_value settled_bit value_of next_bit written shown next_words next_register state_after settled_state output_values wiring_of has leads_below is_on_cycle turn_at end_within clock_end users_of device_faults pll_faults pin_faults mode_faults cascade_faults driver_faults loop_faults clock_faults pins_fault rams_fault fabric_fault design_fault
 inverter = refl
 
 -- nothing is wrong with it
 inverter_taken : design_fault database_a (both (at 1 1 2 0 ∷ [])) ≡ None
-unfolding database_a image_with digits word_bits word_of bytes_of blank flat rows_of row_from rows_from kind_of start_in standard_widths standard_side_columns standard_pad_columns standard_pad_rows standard_banks place_of word_place_of any_below least_below last_below first_below gathered_below net_at names_of_net function_place extra_place input_of pad_of are_set is_link_on is_function_on is_any_on is_extra_on over_grid is_read cell_places cell_bits entry_bits cell_with cells_at cells_of sets_of is_ram_used ram_at rams_of start_words pintype_of pin_with pins_of global_nets globals_of is_refused_with is_joined class_of numbered_from joins_of buffers_of fabric_of drives_of drivers_of is_driven nets_read lut_value carry_value value_of next_flip written shown next_words next_register state_after output_values wiring_of has leads_below is_on_cycle turn_at end_within clock_end users_of device_faults pll_faults pin_faults mode_faults cascade_faults async_faults driver_faults loop_faults clock_faults pins_fault rams_fault cells_fault fabric_fault design_fault
+unfolding database_a image_with digits word_bits word_of bytes_of blank flat rows_of row_from rows_from kind_of start_in standard_widths standard_side_columns standard_pad_columns standard_pad_rows standard_banks place_of word_place_of any_below least_below last_below first_below gathered_below net_at names_of_net function_place extra_place input_of pad_of are_set is_link_on is_function_on is_any_on is_extra_on over_grid is_read cell_places cell_bits entry_bits cell_with cells_at cells_of register_of registers_of sets_of is_ram_used ram_at rams_of start_words pintype_of pin_with pins_of global_nets globals_of is_refused_with is_joined class_of numbered_from joins_of buffers_of fabric_of drives_of drivers_of is_driven nets_read lut_value settled_bit value_of next_bit written shown next_words next_register state_after settled_state output_values wiring_of has leads_below is_on_cycle turn_at end_within clock_end users_of device_faults pll_faults pin_faults mode_faults cascade_faults driver_faults loop_faults clock_faults pins_fault rams_fault fabric_fault design_fault
 inverter_taken = refl
 
 -- its drivers in their order
 inverter_drivers : map {B = Driver × ℕ} (λ drive. (drive.driver, drive.net)) (drives_of (fabric_of database_a (both (at 1 1 2 0 ∷ [])))) ≡ (driver.Pin 0 1 0, 0) ∷ (driver.Lut 1 1 0, 2) ∷ (driver.Link 0, 1) ∷ (driver.Link 1, 3) ∷ []
-unfolding database_a image_with digits word_bits word_of bytes_of blank flat rows_of row_from rows_from kind_of start_in standard_widths standard_side_columns standard_pad_columns standard_pad_rows standard_banks place_of word_place_of any_below least_below last_below first_below gathered_below net_at names_of_net function_place extra_place input_of pad_of are_set is_link_on is_function_on is_any_on is_extra_on over_grid is_read cell_places cell_bits entry_bits cell_with cells_at cells_of sets_of is_ram_used ram_at rams_of start_words pintype_of pin_with pins_of global_nets globals_of is_refused_with is_joined class_of numbered_from joins_of buffers_of fabric_of drives_of drivers_of is_driven nets_read lut_value carry_value value_of next_flip written shown next_words next_register state_after output_values wiring_of has leads_below is_on_cycle turn_at end_within clock_end users_of device_faults pll_faults pin_faults mode_faults cascade_faults async_faults driver_faults loop_faults clock_faults pins_fault rams_fault cells_fault fabric_fault design_fault
+unfolding database_a image_with digits word_bits word_of bytes_of blank flat rows_of row_from rows_from kind_of start_in standard_widths standard_side_columns standard_pad_columns standard_pad_rows standard_banks place_of word_place_of any_below least_below last_below first_below gathered_below net_at names_of_net function_place extra_place input_of pad_of are_set is_link_on is_function_on is_any_on is_extra_on over_grid is_read cell_places cell_bits entry_bits cell_with cells_at cells_of register_of registers_of sets_of is_ram_used ram_at rams_of start_words pintype_of pin_with pins_of global_nets globals_of is_refused_with is_joined class_of numbered_from joins_of buffers_of fabric_of drives_of drivers_of is_driven nets_read lut_value settled_bit value_of next_bit written shown next_words next_register state_after settled_state output_values wiring_of has leads_below is_on_cycle turn_at end_within clock_end users_of device_faults pll_faults pin_faults mode_faults cascade_faults driver_faults loop_faults clock_faults pins_fault rams_fault fabric_fault design_fault
 inverter_drivers = refl
 
 -- an image without a set bit
-nothing_set : fabric_of database_a (image_with []) ≡ record { nets = 4; joins = []; buffers = []; pins = []; globals = []; lcs = []; sets = []; rams = []; start = [] }
-unfolding database_a image_with digits word_bits word_of bytes_of blank flat rows_of row_from rows_from kind_of start_in standard_widths standard_side_columns standard_pad_columns standard_pad_rows standard_banks place_of word_place_of any_below least_below last_below first_below gathered_below net_at names_of_net function_place extra_place input_of pad_of are_set is_link_on is_function_on is_any_on is_extra_on over_grid is_read cell_places cell_bits entry_bits cell_with cells_at cells_of sets_of is_ram_used ram_at rams_of start_words pintype_of pin_with pins_of global_nets globals_of is_refused_with is_joined class_of numbered_from joins_of buffers_of fabric_of drives_of drivers_of is_driven nets_read lut_value carry_value value_of next_flip written shown next_words next_register state_after output_values wiring_of has leads_below is_on_cycle turn_at end_within clock_end users_of device_faults pll_faults pin_faults mode_faults cascade_faults async_faults driver_faults loop_faults clock_faults pins_fault rams_fault cells_fault fabric_fault design_fault
+nothing_set : fabric_of database_a (image_with []) ≡ record { nets = 4; joins = []; buffers = []; pins = []; globals = []; lcs = []; registers = []; sets = []; rams = []; start = [] }
+unfolding database_a image_with digits word_bits word_of bytes_of blank flat rows_of row_from rows_from kind_of start_in standard_widths standard_side_columns standard_pad_columns standard_pad_rows standard_banks place_of word_place_of any_below least_below last_below first_below gathered_below net_at names_of_net function_place extra_place input_of pad_of are_set is_link_on is_function_on is_any_on is_extra_on over_grid is_read cell_places cell_bits entry_bits cell_with cells_at cells_of register_of registers_of sets_of is_ram_used ram_at rams_of start_words pintype_of pin_with pins_of global_nets globals_of is_refused_with is_joined class_of numbered_from joins_of buffers_of fabric_of drives_of drivers_of is_driven nets_read lut_value settled_bit value_of next_bit written shown next_words next_register state_after settled_state output_values wiring_of has leads_below is_on_cycle turn_at end_within clock_end users_of device_faults pll_faults pin_faults mode_faults cascade_faults driver_faults loop_faults clock_faults pins_fault rams_fault fabric_fault design_fault
 nothing_set = refl
 
 -- it is taken
 nothing_taken : design_fault database_a (image_with []) ≡ None
-unfolding database_a image_with digits word_bits word_of bytes_of blank flat rows_of row_from rows_from kind_of start_in standard_widths standard_side_columns standard_pad_columns standard_pad_rows standard_banks place_of word_place_of any_below least_below last_below first_below gathered_below net_at names_of_net function_place extra_place input_of pad_of are_set is_link_on is_function_on is_any_on is_extra_on over_grid is_read cell_places cell_bits entry_bits cell_with cells_at cells_of sets_of is_ram_used ram_at rams_of start_words pintype_of pin_with pins_of global_nets globals_of is_refused_with is_joined class_of numbered_from joins_of buffers_of fabric_of drives_of drivers_of is_driven nets_read lut_value carry_value value_of next_flip written shown next_words next_register state_after output_values wiring_of has leads_below is_on_cycle turn_at end_within clock_end users_of device_faults pll_faults pin_faults mode_faults cascade_faults async_faults driver_faults loop_faults clock_faults pins_fault rams_fault cells_fault fabric_fault design_fault
+unfolding database_a image_with digits word_bits word_of bytes_of blank flat rows_of row_from rows_from kind_of start_in standard_widths standard_side_columns standard_pad_columns standard_pad_rows standard_banks place_of word_place_of any_below least_below last_below first_below gathered_below net_at names_of_net function_place extra_place input_of pad_of are_set is_link_on is_function_on is_any_on is_extra_on over_grid is_read cell_places cell_bits entry_bits cell_with cells_at cells_of register_of registers_of sets_of is_ram_used ram_at rams_of start_words pintype_of pin_with pins_of global_nets globals_of is_refused_with is_joined class_of numbered_from joins_of buffers_of fabric_of drives_of drivers_of is_driven nets_read lut_value settled_bit value_of next_bit written shown next_words next_register state_after settled_state output_values wiring_of has leads_below is_on_cycle turn_at end_within clock_end users_of device_faults pll_faults pin_faults mode_faults cascade_faults driver_faults loop_faults clock_faults pins_fault rams_fault fabric_fault design_fault
 nothing_taken = refl
 
 -- two buffers to one net
 two_buffers : design_fault database_b (both (at 1 1 2 0 ∷ at 1 1 3 0 ∷ [])) ≡ Some (fault.two_drivers 1 (driver.Link 0) (driver.Link 2))
-unfolding database_a database_b image_with digits word_bits word_of bytes_of blank flat rows_of row_from rows_from kind_of start_in standard_widths standard_side_columns standard_pad_columns standard_pad_rows standard_banks place_of word_place_of any_below least_below last_below first_below gathered_below net_at names_of_net function_place extra_place input_of pad_of are_set is_link_on is_function_on is_any_on is_extra_on over_grid is_read cell_places cell_bits entry_bits cell_with cells_at cells_of sets_of is_ram_used ram_at rams_of start_words pintype_of pin_with pins_of global_nets globals_of is_refused_with is_joined class_of numbered_from joins_of buffers_of fabric_of drives_of drivers_of is_driven nets_read lut_value carry_value value_of next_flip written shown next_words next_register state_after output_values wiring_of has leads_below is_on_cycle turn_at end_within clock_end users_of device_faults pll_faults pin_faults mode_faults cascade_faults async_faults driver_faults loop_faults clock_faults pins_fault rams_fault cells_fault fabric_fault design_fault
+unfolding database_a database_b image_with digits word_bits word_of bytes_of blank flat rows_of row_from rows_from kind_of start_in standard_widths standard_side_columns standard_pad_columns standard_pad_rows standard_banks place_of word_place_of any_below least_below last_below first_below gathered_below net_at names_of_net function_place extra_place input_of pad_of are_set is_link_on is_function_on is_any_on is_extra_on over_grid is_read cell_places cell_bits entry_bits cell_with cells_at cells_of register_of registers_of sets_of is_ram_used ram_at rams_of start_words pintype_of pin_with pins_of global_nets globals_of is_refused_with is_joined class_of numbered_from joins_of buffers_of fabric_of drives_of drivers_of is_driven nets_read lut_value settled_bit value_of next_bit written shown next_words next_register state_after settled_state output_values wiring_of has leads_below is_on_cycle turn_at end_within clock_end users_of device_faults pll_faults pin_faults mode_faults cascade_faults driver_faults loop_faults clock_faults pins_fault rams_fault fabric_fault design_fault
 two_buffers = refl
 
 -- a LUT that reads itself
 loop : design_fault database_b (both (at 1 1 3 0 ∷ [])) ≡ Some (fault.loop 1)
-unfolding database_a database_b image_with digits word_bits word_of bytes_of blank flat rows_of row_from rows_from kind_of start_in standard_widths standard_side_columns standard_pad_columns standard_pad_rows standard_banks place_of word_place_of any_below least_below last_below first_below gathered_below net_at names_of_net function_place extra_place input_of pad_of are_set is_link_on is_function_on is_any_on is_extra_on over_grid is_read cell_places cell_bits entry_bits cell_with cells_at cells_of sets_of is_ram_used ram_at rams_of start_words pintype_of pin_with pins_of global_nets globals_of is_refused_with is_joined class_of numbered_from joins_of buffers_of fabric_of drives_of drivers_of is_driven nets_read lut_value carry_value value_of next_flip written shown next_words next_register state_after output_values wiring_of has leads_below is_on_cycle turn_at end_within clock_end users_of device_faults pll_faults pin_faults mode_faults cascade_faults async_faults driver_faults loop_faults clock_faults pins_fault rams_fault cells_fault fabric_fault design_fault
+unfolding database_a database_b image_with digits word_bits word_of bytes_of blank flat rows_of row_from rows_from kind_of start_in standard_widths standard_side_columns standard_pad_columns standard_pad_rows standard_banks place_of word_place_of any_below least_below last_below first_below gathered_below net_at names_of_net function_place extra_place input_of pad_of are_set is_link_on is_function_on is_any_on is_extra_on over_grid is_read cell_places cell_bits entry_bits cell_with cells_at cells_of register_of registers_of sets_of is_ram_used ram_at rams_of start_words pintype_of pin_with pins_of global_nets globals_of is_refused_with is_joined class_of numbered_from joins_of buffers_of fabric_of drives_of drivers_of is_driven nets_read lut_value settled_bit value_of next_bit written shown next_words next_register state_after settled_state output_values wiring_of has leads_below is_on_cycle turn_at end_within clock_end users_of device_faults pll_faults pin_faults mode_faults cascade_faults driver_faults loop_faults clock_faults pins_fault rams_fault fabric_fault design_fault
 loop = refl
 
 -- a clock that a LUT makes
 made_clock : design_fault database_b (both (at 1 1 2 0 ∷ at 1 1 0 45 ∷ at 1 1 4 0 ∷ [])) ≡ Some (fault.clock 1 1 (Cell 0) 4)
-unfolding database_a database_b image_with digits word_bits word_of bytes_of blank flat rows_of row_from rows_from kind_of start_in standard_widths standard_side_columns standard_pad_columns standard_pad_rows standard_banks place_of word_place_of any_below least_below last_below first_below gathered_below net_at names_of_net function_place extra_place input_of pad_of are_set is_link_on is_function_on is_any_on is_extra_on over_grid is_read cell_places cell_bits entry_bits cell_with cells_at cells_of sets_of is_ram_used ram_at rams_of start_words pintype_of pin_with pins_of global_nets globals_of is_refused_with is_joined class_of numbered_from joins_of buffers_of fabric_of drives_of drivers_of is_driven nets_read lut_value carry_value value_of next_flip written shown next_words next_register state_after output_values wiring_of has leads_below is_on_cycle turn_at end_within clock_end users_of device_faults pll_faults pin_faults mode_faults cascade_faults async_faults driver_faults loop_faults clock_faults pins_fault rams_fault cells_fault fabric_fault design_fault
+unfolding database_a database_b image_with digits word_bits word_of bytes_of blank flat rows_of row_from rows_from kind_of start_in standard_widths standard_side_columns standard_pad_columns standard_pad_rows standard_banks place_of word_place_of any_below least_below last_below first_below gathered_below net_at names_of_net function_place extra_place input_of pad_of are_set is_link_on is_function_on is_any_on is_extra_on over_grid is_read cell_places cell_bits entry_bits cell_with cells_at cells_of register_of registers_of sets_of is_ram_used ram_at rams_of start_words pintype_of pin_with pins_of global_nets globals_of is_refused_with is_joined class_of numbered_from joins_of buffers_of fabric_of drives_of drivers_of is_driven nets_read lut_value settled_bit value_of next_bit written shown next_words next_register state_after settled_state output_values wiring_of has leads_below is_on_cycle turn_at end_within clock_end users_of device_faults pll_faults pin_faults mode_faults cascade_faults driver_faults loop_faults clock_faults pins_fault rams_fault fabric_fault design_fault
 made_clock = refl
 
 -- a register that feeds itself, at falling edges: no loop
 toggle : design_fault database_b (both (at 1 1 0 45 ∷ at 1 1 3 0 ∷ at 1 1 5 0 ∷ at 1 1 6 0 ∷ [])) ≡ None
-unfolding database_a database_b image_with digits word_bits word_of bytes_of blank flat rows_of row_from rows_from kind_of start_in standard_widths standard_side_columns standard_pad_columns standard_pad_rows standard_banks place_of word_place_of any_below least_below last_below first_below gathered_below net_at names_of_net function_place extra_place input_of pad_of are_set is_link_on is_function_on is_any_on is_extra_on over_grid is_read cell_places cell_bits entry_bits cell_with cells_at cells_of sets_of is_ram_used ram_at rams_of start_words pintype_of pin_with pins_of global_nets globals_of is_refused_with is_joined class_of numbered_from joins_of buffers_of fabric_of drives_of drivers_of is_driven nets_read lut_value carry_value value_of next_flip written shown next_words next_register state_after output_values wiring_of has leads_below is_on_cycle turn_at end_within clock_end users_of device_faults pll_faults pin_faults mode_faults cascade_faults async_faults driver_faults loop_faults clock_faults pins_fault rams_fault cells_fault fabric_fault design_fault
+unfolding database_a database_b image_with digits word_bits word_of bytes_of blank flat rows_of row_from rows_from kind_of start_in standard_widths standard_side_columns standard_pad_columns standard_pad_rows standard_banks place_of word_place_of any_below least_below last_below first_below gathered_below net_at names_of_net function_place extra_place input_of pad_of are_set is_link_on is_function_on is_any_on is_extra_on over_grid is_read cell_places cell_bits entry_bits cell_with cells_at cells_of register_of registers_of sets_of is_ram_used ram_at rams_of start_words pintype_of pin_with pins_of global_nets globals_of is_refused_with is_joined class_of numbered_from joins_of buffers_of fabric_of drives_of drivers_of is_driven nets_read lut_value settled_bit value_of next_bit written shown next_words next_register state_after settled_state output_values wiring_of has leads_below is_on_cycle turn_at end_within clock_end users_of device_faults pll_faults pin_faults mode_faults cascade_faults driver_faults loop_faults clock_faults pins_fault rams_fault fabric_fault design_fault
 toggle = refl
 
 -- its cell
-toggle_cell : cells_of database_b (both (at 1 1 0 45 ∷ at 1 1 3 0 ∷ at 1 1 5 0 ∷ at 1 1 6 0 ∷ [])) ≡ record { x = 1; y = 1; i = 0; lut = 21845; carry = false; flip = true; «set» = false; neg = true; ins = Some 1 ∷ None ∷ None ∷ None ∷ []; out = Some 2; lout = None; cout = None; cin = None; clk = Some 4; cen = None; sr = None } ∷ []
-unfolding database_a database_b image_with digits word_bits word_of bytes_of blank flat rows_of row_from rows_from kind_of start_in standard_widths standard_side_columns standard_pad_columns standard_pad_rows standard_banks place_of word_place_of any_below least_below last_below first_below gathered_below net_at names_of_net function_place extra_place input_of pad_of are_set is_link_on is_function_on is_any_on is_extra_on over_grid is_read cell_places cell_bits entry_bits cell_with cells_at cells_of sets_of is_ram_used ram_at rams_of start_words pintype_of pin_with pins_of global_nets globals_of is_refused_with is_joined class_of numbered_from joins_of buffers_of fabric_of drives_of drivers_of is_driven nets_read lut_value carry_value value_of next_flip written shown next_words next_register state_after output_values wiring_of has leads_below is_on_cycle turn_at end_within clock_end users_of device_faults pll_faults pin_faults mode_faults cascade_faults async_faults driver_faults loop_faults clock_faults pins_fault rams_fault cells_fault fabric_fault design_fault
+toggle_cell : cells_of database_b (both (at 1 1 0 45 ∷ at 1 1 3 0 ∷ at 1 1 5 0 ∷ at 1 1 6 0 ∷ [])) ≡ record { x = 1; y = 1; i = 0; lut = 21845; carry = false; flip = true; «set» = false; at_once = false; neg = true; ins = Some 1 ∷ None ∷ None ∷ None ∷ []; out = Some 2; lout = None; cout = None; cin = None; clk = Some 4; cen = None; sr = None } ∷ []
+unfolding database_a database_b image_with digits word_bits word_of bytes_of blank flat rows_of row_from rows_from kind_of start_in standard_widths standard_side_columns standard_pad_columns standard_pad_rows standard_banks place_of word_place_of any_below least_below last_below first_below gathered_below net_at names_of_net function_place extra_place input_of pad_of are_set is_link_on is_function_on is_any_on is_extra_on over_grid is_read cell_places cell_bits entry_bits cell_with cells_at cells_of register_of registers_of sets_of is_ram_used ram_at rams_of start_words pintype_of pin_with pins_of global_nets globals_of is_refused_with is_joined class_of numbered_from joins_of buffers_of fabric_of drives_of drivers_of is_driven nets_read lut_value settled_bit value_of next_bit written shown next_words next_register state_after settled_state output_values wiring_of has leads_below is_on_cycle turn_at end_within clock_end users_of device_faults pll_faults pin_faults mode_faults cascade_faults driver_faults loop_faults clock_faults pins_fault rams_fault fabric_fault design_fault
 toggle_cell = refl
 
--- a reset that acts without a clock
-async : design_fault database_b (both (at 1 1 0 45 ∷ at 1 1 1 45 ∷ [])) ≡ Some (fault.async 1 1 0)
-unfolding database_a database_b image_with digits word_bits word_of bytes_of blank flat rows_of row_from rows_from kind_of start_in standard_widths standard_side_columns standard_pad_columns standard_pad_rows standard_banks place_of word_place_of any_below least_below last_below first_below gathered_below net_at names_of_net function_place extra_place input_of pad_of are_set is_link_on is_function_on is_any_on is_extra_on over_grid is_read cell_places cell_bits entry_bits cell_with cells_at cells_of sets_of is_ram_used ram_at rams_of start_words pintype_of pin_with pins_of global_nets globals_of is_refused_with is_joined class_of numbered_from joins_of buffers_of fabric_of drives_of drivers_of is_driven nets_read lut_value carry_value value_of next_flip written shown next_words next_register state_after output_values wiring_of has leads_below is_on_cycle turn_at end_within clock_end users_of device_faults pll_faults pin_faults mode_faults cascade_faults async_faults driver_faults loop_faults clock_faults pins_fault rams_fault cells_fault fabric_fault design_fault
-async = refl
+-- a reset that acts at once is taken
+reset_taken : design_fault database_b (both (at 1 1 0 45 ∷ at 1 1 1 45 ∷ [])) ≡ None
+unfolding database_a database_b image_with digits word_bits word_of bytes_of blank flat rows_of row_from rows_from kind_of start_in standard_widths standard_side_columns standard_pad_columns standard_pad_rows standard_banks place_of word_place_of any_below least_below last_below first_below gathered_below net_at names_of_net function_place extra_place input_of pad_of are_set is_link_on is_function_on is_any_on is_extra_on over_grid is_read cell_places cell_bits entry_bits cell_with cells_at cells_of register_of registers_of sets_of is_ram_used ram_at rams_of start_words pintype_of pin_with pins_of global_nets globals_of is_refused_with is_joined class_of numbered_from joins_of buffers_of fabric_of drives_of drivers_of is_driven nets_read lut_value settled_bit value_of next_bit written shown next_words next_register state_after settled_state output_values wiring_of has leads_below is_on_cycle turn_at end_within clock_end users_of device_faults pll_faults pin_faults mode_faults cascade_faults driver_faults loop_faults clock_faults pins_fault rams_fault fabric_fault design_fault
+reset_taken = refl
+
+-- a register that resets itself at once depends on itself
+reset_loop : design_fault database_d (both (at 1 1 0 45 ∷ at 1 1 1 45 ∷ at 1 1 3 0 ∷ at 1 1 5 0 ∷ at 1 1 6 0 ∷ [])) ≡ Some (fault.loop 2)
+unfolding database_a database_b database_d image_with digits word_bits word_of bytes_of blank flat rows_of row_from rows_from kind_of start_in standard_widths standard_side_columns standard_pad_columns standard_pad_rows standard_banks place_of word_place_of any_below least_below last_below first_below gathered_below net_at names_of_net function_place extra_place input_of pad_of are_set is_link_on is_function_on is_any_on is_extra_on over_grid is_read cell_places cell_bits entry_bits cell_with cells_at cells_of register_of registers_of sets_of is_ram_used ram_at rams_of start_words pintype_of pin_with pins_of global_nets globals_of is_refused_with is_joined class_of numbered_from joins_of buffers_of fabric_of drives_of drivers_of is_driven nets_read lut_value settled_bit value_of next_bit written shown next_words next_register state_after settled_state output_values wiring_of has leads_below is_on_cycle turn_at end_within clock_end users_of device_faults pll_faults pin_faults mode_faults cascade_faults driver_faults loop_faults clock_faults pins_fault rams_fault fabric_fault design_fault
+reset_loop = refl
+
+-- and one that resets itself at the clock doesn't
+reset_in_time : design_fault database_d (both (at 1 1 0 45 ∷ at 1 1 3 0 ∷ at 1 1 5 0 ∷ at 1 1 6 0 ∷ [])) ≡ None
+unfolding database_a database_b database_d image_with digits word_bits word_of bytes_of blank flat rows_of row_from rows_from kind_of start_in standard_widths standard_side_columns standard_pad_columns standard_pad_rows standard_banks place_of word_place_of any_below least_below last_below first_below gathered_below net_at names_of_net function_place extra_place input_of pad_of are_set is_link_on is_function_on is_any_on is_extra_on over_grid is_read cell_places cell_bits entry_bits cell_with cells_at cells_of register_of registers_of sets_of is_ram_used ram_at rams_of start_words pintype_of pin_with pins_of global_nets globals_of is_refused_with is_joined class_of numbered_from joins_of buffers_of fabric_of drives_of drivers_of is_driven nets_read lut_value settled_bit value_of next_bit written shown next_words next_register state_after settled_state output_values wiring_of has leads_below is_on_cycle turn_at end_within clock_end users_of device_faults pll_faults pin_faults mode_faults cascade_faults driver_faults loop_faults clock_faults pins_fault rams_fault fabric_fault design_fault
+reset_in_time = refl
 
 -- one bit of two: the link isn't on, and its clock is still
 half_link : design_fault database_b (both (at 1 1 2 0 ∷ at 1 1 0 45 ∷ at 1 1 4 0 ∷ at 1 1 5 0 ∷ [])) ≡ None
-unfolding database_a database_b image_with digits word_bits word_of bytes_of blank flat rows_of row_from rows_from kind_of start_in standard_widths standard_side_columns standard_pad_columns standard_pad_rows standard_banks place_of word_place_of any_below least_below last_below first_below gathered_below net_at names_of_net function_place extra_place input_of pad_of are_set is_link_on is_function_on is_any_on is_extra_on over_grid is_read cell_places cell_bits entry_bits cell_with cells_at cells_of sets_of is_ram_used ram_at rams_of start_words pintype_of pin_with pins_of global_nets globals_of is_refused_with is_joined class_of numbered_from joins_of buffers_of fabric_of drives_of drivers_of is_driven nets_read lut_value carry_value value_of next_flip written shown next_words next_register state_after output_values wiring_of has leads_below is_on_cycle turn_at end_within clock_end users_of device_faults pll_faults pin_faults mode_faults cascade_faults async_faults driver_faults loop_faults clock_faults pins_fault rams_fault cells_fault fabric_fault design_fault
+unfolding database_a database_b image_with digits word_bits word_of bytes_of blank flat rows_of row_from rows_from kind_of start_in standard_widths standard_side_columns standard_pad_columns standard_pad_rows standard_banks place_of word_place_of any_below least_below last_below first_below gathered_below net_at names_of_net function_place extra_place input_of pad_of are_set is_link_on is_function_on is_any_on is_extra_on over_grid is_read cell_places cell_bits entry_bits cell_with cells_at cells_of register_of registers_of sets_of is_ram_used ram_at rams_of start_words pintype_of pin_with pins_of global_nets globals_of is_refused_with is_joined class_of numbered_from joins_of buffers_of fabric_of drives_of drivers_of is_driven nets_read lut_value settled_bit value_of next_bit written shown next_words next_register state_after settled_state output_values wiring_of has leads_below is_on_cycle turn_at end_within clock_end users_of device_faults pll_faults pin_faults mode_faults cascade_faults driver_faults loop_faults clock_faults pins_fault rams_fault fabric_fault design_fault
 half_link = refl
 
 -- a pin with another output part
 pin_output : design_fault database_b (both (at 0 3 2 0 ∷ [])) ≡ Some (fault.pin_mode 0 3 0 4)
-unfolding database_a database_b image_with digits word_bits word_of bytes_of blank flat rows_of row_from rows_from kind_of start_in standard_widths standard_side_columns standard_pad_columns standard_pad_rows standard_banks place_of word_place_of any_below least_below last_below first_below gathered_below net_at names_of_net function_place extra_place input_of pad_of are_set is_link_on is_function_on is_any_on is_extra_on over_grid is_read cell_places cell_bits entry_bits cell_with cells_at cells_of sets_of is_ram_used ram_at rams_of start_words pintype_of pin_with pins_of global_nets globals_of is_refused_with is_joined class_of numbered_from joins_of buffers_of fabric_of drives_of drivers_of is_driven nets_read lut_value carry_value value_of next_flip written shown next_words next_register state_after output_values wiring_of has leads_below is_on_cycle turn_at end_within clock_end users_of device_faults pll_faults pin_faults mode_faults cascade_faults async_faults driver_faults loop_faults clock_faults pins_fault rams_fault cells_fault fabric_fault design_fault
+unfolding database_a database_b image_with digits word_bits word_of bytes_of blank flat rows_of row_from rows_from kind_of start_in standard_widths standard_side_columns standard_pad_columns standard_pad_rows standard_banks place_of word_place_of any_below least_below last_below first_below gathered_below net_at names_of_net function_place extra_place input_of pad_of are_set is_link_on is_function_on is_any_on is_extra_on over_grid is_read cell_places cell_bits entry_bits cell_with cells_at cells_of register_of registers_of sets_of is_ram_used ram_at rams_of start_words pintype_of pin_with pins_of global_nets globals_of is_refused_with is_joined class_of numbered_from joins_of buffers_of fabric_of drives_of drivers_of is_driven nets_read lut_value settled_bit value_of next_bit written shown next_words next_register state_after settled_state output_values wiring_of has leads_below is_on_cycle turn_at end_within clock_end users_of device_faults pll_faults pin_faults mode_faults cascade_faults driver_faults loop_faults clock_faults pins_fault rams_fault fabric_fault design_fault
 pin_output = refl
 
 -- a pin without input whose net is read
 pin_input : design_fault database_b (image_with (at 1 1 2 0 ∷ [])) ≡ Some (fault.pin_mode 0 1 0 0)
-unfolding database_a database_b image_with digits word_bits word_of bytes_of blank flat rows_of row_from rows_from kind_of start_in standard_widths standard_side_columns standard_pad_columns standard_pad_rows standard_banks place_of word_place_of any_below least_below last_below first_below gathered_below net_at names_of_net function_place extra_place input_of pad_of are_set is_link_on is_function_on is_any_on is_extra_on over_grid is_read cell_places cell_bits entry_bits cell_with cells_at cells_of sets_of is_ram_used ram_at rams_of start_words pintype_of pin_with pins_of global_nets globals_of is_refused_with is_joined class_of numbered_from joins_of buffers_of fabric_of drives_of drivers_of is_driven nets_read lut_value carry_value value_of next_flip written shown next_words next_register state_after output_values wiring_of has leads_below is_on_cycle turn_at end_within clock_end users_of device_faults pll_faults pin_faults mode_faults cascade_faults async_faults driver_faults loop_faults clock_faults pins_fault rams_fault cells_fault fabric_fault design_fault
+unfolding database_a database_b image_with digits word_bits word_of bytes_of blank flat rows_of row_from rows_from kind_of start_in standard_widths standard_side_columns standard_pad_columns standard_pad_rows standard_banks place_of word_place_of any_below least_below last_below first_below gathered_below net_at names_of_net function_place extra_place input_of pad_of are_set is_link_on is_function_on is_any_on is_extra_on over_grid is_read cell_places cell_bits entry_bits cell_with cells_at cells_of register_of registers_of sets_of is_ram_used ram_at rams_of start_words pintype_of pin_with pins_of global_nets globals_of is_refused_with is_joined class_of numbered_from joins_of buffers_of fabric_of drives_of drivers_of is_driven nets_read lut_value settled_bit value_of next_bit written shown next_words next_register state_after settled_state output_values wiring_of has leads_below is_on_cycle turn_at end_within clock_end users_of device_faults pll_faults pin_faults mode_faults cascade_faults driver_faults loop_faults clock_faults pins_fault rams_fault fabric_fault design_fault
 pin_input = refl
 
 -- the other device
 device : device_faults database_a (blank_image (standard_layout K8)) ≡ fault.other_device ∷ []
-unfolding database_a image_with digits word_bits word_of bytes_of blank flat rows_of row_from rows_from kind_of start_in standard_widths standard_side_columns standard_pad_columns standard_pad_rows standard_banks place_of word_place_of any_below least_below last_below first_below gathered_below net_at names_of_net function_place extra_place input_of pad_of are_set is_link_on is_function_on is_any_on is_extra_on over_grid is_read cell_places cell_bits entry_bits cell_with cells_at cells_of sets_of is_ram_used ram_at rams_of start_words pintype_of pin_with pins_of global_nets globals_of is_refused_with is_joined class_of numbered_from joins_of buffers_of fabric_of drives_of drivers_of is_driven nets_read lut_value carry_value value_of next_flip written shown next_words next_register state_after output_values wiring_of has leads_below is_on_cycle turn_at end_within clock_end users_of device_faults pll_faults pin_faults mode_faults cascade_faults async_faults driver_faults loop_faults clock_faults pins_fault rams_fault cells_fault fabric_fault design_fault
+unfolding database_a image_with digits word_bits word_of bytes_of blank flat rows_of row_from rows_from kind_of start_in standard_widths standard_side_columns standard_pad_columns standard_pad_rows standard_banks place_of word_place_of any_below least_below last_below first_below gathered_below net_at names_of_net function_place extra_place input_of pad_of are_set is_link_on is_function_on is_any_on is_extra_on over_grid is_read cell_places cell_bits entry_bits cell_with cells_at cells_of register_of registers_of sets_of is_ram_used ram_at rams_of start_words pintype_of pin_with pins_of global_nets globals_of is_refused_with is_joined class_of numbered_from joins_of buffers_of fabric_of drives_of drivers_of is_driven nets_read lut_value settled_bit value_of next_bit written shown next_words next_register state_after settled_state output_values wiring_of has leads_below is_on_cycle turn_at end_within clock_end users_of device_faults pll_faults pin_faults mode_faults cascade_faults driver_faults loop_faults clock_faults pins_fault rams_fault fabric_fault design_fault
 device = refl
 
 -- a PLL
 pll : design_fault database_c (both (at 0 9 9 0 ∷ at 0 3 2 0 ∷ [])) ≡ Some (fault.pll 0 9)
-unfolding database_a database_b database_c image_with digits word_bits word_of bytes_of blank flat rows_of row_from rows_from kind_of start_in standard_widths standard_side_columns standard_pad_columns standard_pad_rows standard_banks place_of word_place_of any_below least_below last_below first_below gathered_below net_at names_of_net function_place extra_place input_of pad_of are_set is_link_on is_function_on is_any_on is_extra_on over_grid is_read cell_places cell_bits entry_bits cell_with cells_at cells_of sets_of is_ram_used ram_at rams_of start_words pintype_of pin_with pins_of global_nets globals_of is_refused_with is_joined class_of numbered_from joins_of buffers_of fabric_of drives_of drivers_of is_driven nets_read lut_value carry_value value_of next_flip written shown next_words next_register state_after output_values wiring_of has leads_below is_on_cycle turn_at end_within clock_end users_of device_faults pll_faults pin_faults mode_faults cascade_faults async_faults driver_faults loop_faults clock_faults pins_fault rams_fault cells_fault fabric_fault design_fault
+unfolding database_a database_b database_c image_with digits word_bits word_of bytes_of blank flat rows_of row_from rows_from kind_of start_in standard_widths standard_side_columns standard_pad_columns standard_pad_rows standard_banks place_of word_place_of any_below least_below last_below first_below gathered_below net_at names_of_net function_place extra_place input_of pad_of are_set is_link_on is_function_on is_any_on is_extra_on over_grid is_read cell_places cell_bits entry_bits cell_with cells_at cells_of register_of registers_of sets_of is_ram_used ram_at rams_of start_words pintype_of pin_with pins_of global_nets globals_of is_refused_with is_joined class_of numbered_from joins_of buffers_of fabric_of drives_of drivers_of is_driven nets_read lut_value settled_bit value_of next_bit written shown next_words next_register state_after settled_state output_values wiring_of has leads_below is_on_cycle turn_at end_within clock_end users_of device_faults pll_faults pin_faults mode_faults cascade_faults driver_faults loop_faults clock_faults pins_fault rams_fault fabric_fault design_fault
 pll = refl
 
 -- a port beside a differential pair
 lvds : design_fault database_c (both (at 0 1 10 0 ∷ [])) ≡ Some (fault.pin_mode 0 1 0 1)
-unfolding database_a database_b database_c image_with digits word_bits word_of bytes_of blank flat rows_of row_from rows_from kind_of start_in standard_widths standard_side_columns standard_pad_columns standard_pad_rows standard_banks place_of word_place_of any_below least_below last_below first_below gathered_below net_at names_of_net function_place extra_place input_of pad_of are_set is_link_on is_function_on is_any_on is_extra_on over_grid is_read cell_places cell_bits entry_bits cell_with cells_at cells_of sets_of is_ram_used ram_at rams_of start_words pintype_of pin_with pins_of global_nets globals_of is_refused_with is_joined class_of numbered_from joins_of buffers_of fabric_of drives_of drivers_of is_driven nets_read lut_value carry_value value_of next_flip written shown next_words next_register state_after output_values wiring_of has leads_below is_on_cycle turn_at end_within clock_end users_of device_faults pll_faults pin_faults mode_faults cascade_faults async_faults driver_faults loop_faults clock_faults pins_fault rams_fault cells_fault fabric_fault design_fault
+unfolding database_a database_b database_c image_with digits word_bits word_of bytes_of blank flat rows_of row_from rows_from kind_of start_in standard_widths standard_side_columns standard_pad_columns standard_pad_rows standard_banks place_of word_place_of any_below least_below last_below first_below gathered_below net_at names_of_net function_place extra_place input_of pad_of are_set is_link_on is_function_on is_any_on is_extra_on over_grid is_read cell_places cell_bits entry_bits cell_with cells_at cells_of register_of registers_of sets_of is_ram_used ram_at rams_of start_words pintype_of pin_with pins_of global_nets globals_of is_refused_with is_joined class_of numbered_from joins_of buffers_of fabric_of drives_of drivers_of is_driven nets_read lut_value settled_bit value_of next_bit written shown next_words next_register state_after settled_state output_values wiring_of has leads_below is_on_cycle turn_at end_within clock_end users_of device_faults pll_faults pin_faults mode_faults cascade_faults driver_faults loop_faults clock_faults pins_fault rams_fault fabric_fault design_fault
 lvds = refl
 
 -- a second input that a routing reads
 second_input : design_fault database_c (both (at 1 1 8 0 ∷ [])) ≡ Some (fault.pin_mode 0 1 0 1)
-unfolding database_a database_b database_c image_with digits word_bits word_of bytes_of blank flat rows_of row_from rows_from kind_of start_in standard_widths standard_side_columns standard_pad_columns standard_pad_rows standard_banks place_of word_place_of any_below least_below last_below first_below gathered_below net_at names_of_net function_place extra_place input_of pad_of are_set is_link_on is_function_on is_any_on is_extra_on over_grid is_read cell_places cell_bits entry_bits cell_with cells_at cells_of sets_of is_ram_used ram_at rams_of start_words pintype_of pin_with pins_of global_nets globals_of is_refused_with is_joined class_of numbered_from joins_of buffers_of fabric_of drives_of drivers_of is_driven nets_read lut_value carry_value value_of next_flip written shown next_words next_register state_after output_values wiring_of has leads_below is_on_cycle turn_at end_within clock_end users_of device_faults pll_faults pin_faults mode_faults cascade_faults async_faults driver_faults loop_faults clock_faults pins_fault rams_fault cells_fault fabric_fault design_fault
+unfolding database_a database_b database_c image_with digits word_bits word_of bytes_of blank flat rows_of row_from rows_from kind_of start_in standard_widths standard_side_columns standard_pad_columns standard_pad_rows standard_banks place_of word_place_of any_below least_below last_below first_below gathered_below net_at names_of_net function_place extra_place input_of pad_of are_set is_link_on is_function_on is_any_on is_extra_on over_grid is_read cell_places cell_bits entry_bits cell_with cells_at cells_of register_of registers_of sets_of is_ram_used ram_at rams_of start_words pintype_of pin_with pins_of global_nets globals_of is_refused_with is_joined class_of numbered_from joins_of buffers_of fabric_of drives_of drivers_of is_driven nets_read lut_value settled_bit value_of next_bit written shown next_words next_register state_after settled_state output_values wiring_of has leads_below is_on_cycle turn_at end_within clock_end users_of device_faults pll_faults pin_faults mode_faults cascade_faults driver_faults loop_faults clock_faults pins_fault rams_fault fabric_fault design_fault
 second_input = refl
 
 -- a RAM whose words are narrow; it is used for its buffer is on
 narrow : design_fault database_c (both (at 3 1 0 0 ∷ at 3 2 1 0 ∷ at 3 2 2 0 ∷ at 3 1 3 0 ∷ [])) ≡ Some (fault.mode 3 1 2 1)
-unfolding database_a database_b database_c image_with digits word_bits word_of bytes_of blank flat rows_of row_from rows_from kind_of start_in standard_widths standard_side_columns standard_pad_columns standard_pad_rows standard_banks place_of word_place_of any_below least_below last_below first_below gathered_below net_at names_of_net function_place extra_place input_of pad_of are_set is_link_on is_function_on is_any_on is_extra_on over_grid is_read cell_places cell_bits entry_bits cell_with cells_at cells_of sets_of is_ram_used ram_at rams_of start_words pintype_of pin_with pins_of global_nets globals_of is_refused_with is_joined class_of numbered_from joins_of buffers_of fabric_of drives_of drivers_of is_driven nets_read lut_value carry_value value_of next_flip written shown next_words next_register state_after output_values wiring_of has leads_below is_on_cycle turn_at end_within clock_end users_of device_faults pll_faults pin_faults mode_faults cascade_faults async_faults driver_faults loop_faults clock_faults pins_fault rams_fault cells_fault fabric_fault design_fault
+unfolding database_a database_b database_c image_with digits word_bits word_of bytes_of blank flat rows_of row_from rows_from kind_of start_in standard_widths standard_side_columns standard_pad_columns standard_pad_rows standard_banks place_of word_place_of any_below least_below last_below first_below gathered_below net_at names_of_net function_place extra_place input_of pad_of are_set is_link_on is_function_on is_any_on is_extra_on over_grid is_read cell_places cell_bits entry_bits cell_with cells_at cells_of register_of registers_of sets_of is_ram_used ram_at rams_of start_words pintype_of pin_with pins_of global_nets globals_of is_refused_with is_joined class_of numbered_from joins_of buffers_of fabric_of drives_of drivers_of is_driven nets_read lut_value settled_bit value_of next_bit written shown next_words next_register state_after settled_state output_values wiring_of has leads_below is_on_cycle turn_at end_within clock_end users_of device_faults pll_faults pin_faults mode_faults cascade_faults driver_faults loop_faults clock_faults pins_fault rams_fault fabric_fault design_fault
 narrow = refl
 
 -- a RAM that isn't used isn't asked
 unused_ram : design_fault database_c (both (at 3 2 1 0 ∷ at 3 1 3 0 ∷ [])) ≡ None
-unfolding database_a database_b database_c image_with digits word_bits word_of bytes_of blank flat rows_of row_from rows_from kind_of start_in standard_widths standard_side_columns standard_pad_columns standard_pad_rows standard_banks place_of word_place_of any_below least_below last_below first_below gathered_below net_at names_of_net function_place extra_place input_of pad_of are_set is_link_on is_function_on is_any_on is_extra_on over_grid is_read cell_places cell_bits entry_bits cell_with cells_at cells_of sets_of is_ram_used ram_at rams_of start_words pintype_of pin_with pins_of global_nets globals_of is_refused_with is_joined class_of numbered_from joins_of buffers_of fabric_of drives_of drivers_of is_driven nets_read lut_value carry_value value_of next_flip written shown next_words next_register state_after output_values wiring_of has leads_below is_on_cycle turn_at end_within clock_end users_of device_faults pll_faults pin_faults mode_faults cascade_faults async_faults driver_faults loop_faults clock_faults pins_fault rams_fault cells_fault fabric_fault design_fault
+unfolding database_a database_b database_c image_with digits word_bits word_of bytes_of blank flat rows_of row_from rows_from kind_of start_in standard_widths standard_side_columns standard_pad_columns standard_pad_rows standard_banks place_of word_place_of any_below least_below last_below first_below gathered_below net_at names_of_net function_place extra_place input_of pad_of are_set is_link_on is_function_on is_any_on is_extra_on over_grid is_read cell_places cell_bits entry_bits cell_with cells_at cells_of register_of registers_of sets_of is_ram_used ram_at rams_of start_words pintype_of pin_with pins_of global_nets globals_of is_refused_with is_joined class_of numbered_from joins_of buffers_of fabric_of drives_of drivers_of is_driven nets_read lut_value settled_bit value_of next_bit written shown next_words next_register state_after settled_state output_values wiring_of has leads_below is_on_cycle turn_at end_within clock_end users_of device_faults pll_faults pin_faults mode_faults cascade_faults driver_faults loop_faults clock_faults pins_fault rams_fault fabric_fault design_fault
 unused_ram = refl
 
 -- a cascade
 cascade : design_fault database_c (both (at 3 1 0 0 ∷ at 3 1 3 0 ∷ [])) ≡ Some (fault.cascade 3 1)
-unfolding database_a database_b database_c image_with digits word_bits word_of bytes_of blank flat rows_of row_from rows_from kind_of start_in standard_widths standard_side_columns standard_pad_columns standard_pad_rows standard_banks place_of word_place_of any_below least_below last_below first_below gathered_below net_at names_of_net function_place extra_place input_of pad_of are_set is_link_on is_function_on is_any_on is_extra_on over_grid is_read cell_places cell_bits entry_bits cell_with cells_at cells_of sets_of is_ram_used ram_at rams_of start_words pintype_of pin_with pins_of global_nets globals_of is_refused_with is_joined class_of numbered_from joins_of buffers_of fabric_of drives_of drivers_of is_driven nets_read lut_value carry_value value_of next_flip written shown next_words next_register state_after output_values wiring_of has leads_below is_on_cycle turn_at end_within clock_end users_of device_faults pll_faults pin_faults mode_faults cascade_faults async_faults driver_faults loop_faults clock_faults pins_fault rams_fault cells_fault fabric_fault design_fault
+unfolding database_a database_b database_c image_with digits word_bits word_of bytes_of blank flat rows_of row_from rows_from kind_of start_in standard_widths standard_side_columns standard_pad_columns standard_pad_rows standard_banks place_of word_place_of any_below least_below last_below first_below gathered_below net_at names_of_net function_place extra_place input_of pad_of are_set is_link_on is_function_on is_any_on is_extra_on over_grid is_read cell_places cell_bits entry_bits cell_with cells_at cells_of register_of registers_of sets_of is_ram_used ram_at rams_of start_words pintype_of pin_with pins_of global_nets globals_of is_refused_with is_joined class_of numbered_from joins_of buffers_of fabric_of drives_of drivers_of is_driven nets_read lut_value settled_bit value_of next_bit written shown next_words next_register state_after settled_state output_values wiring_of has leads_below is_on_cycle turn_at end_within clock_end users_of device_faults pll_faults pin_faults mode_faults cascade_faults driver_faults loop_faults clock_faults pins_fault rams_fault fabric_fault design_fault
 cascade = refl
 
 -- a pin and a RAM on one net
 pin_and_ram : design_fault database_c (both (at 3 1 0 0 ∷ [])) ≡ Some (fault.two_drivers 0 (driver.Pin 0 1 0) (driver.Link 5))
-unfolding database_a database_b database_c image_with digits word_bits word_of bytes_of blank flat rows_of row_from rows_from kind_of start_in standard_widths standard_side_columns standard_pad_columns standard_pad_rows standard_banks place_of word_place_of any_below least_below last_below first_below gathered_below net_at names_of_net function_place extra_place input_of pad_of are_set is_link_on is_function_on is_any_on is_extra_on over_grid is_read cell_places cell_bits entry_bits cell_with cells_at cells_of sets_of is_ram_used ram_at rams_of start_words pintype_of pin_with pins_of global_nets globals_of is_refused_with is_joined class_of numbered_from joins_of buffers_of fabric_of drives_of drivers_of is_driven nets_read lut_value carry_value value_of next_flip written shown next_words next_register state_after output_values wiring_of has leads_below is_on_cycle turn_at end_within clock_end users_of device_faults pll_faults pin_faults mode_faults cascade_faults async_faults driver_faults loop_faults clock_faults pins_fault rams_fault cells_fault fabric_fault design_fault
+unfolding database_a database_b database_c image_with digits word_bits word_of bytes_of blank flat rows_of row_from rows_from kind_of start_in standard_widths standard_side_columns standard_pad_columns standard_pad_rows standard_banks place_of word_place_of any_below least_below last_below first_below gathered_below net_at names_of_net function_place extra_place input_of pad_of are_set is_link_on is_function_on is_any_on is_extra_on over_grid is_read cell_places cell_bits entry_bits cell_with cells_at cells_of register_of registers_of sets_of is_ram_used ram_at rams_of start_words pintype_of pin_with pins_of global_nets globals_of is_refused_with is_joined class_of numbered_from joins_of buffers_of fabric_of drives_of drivers_of is_driven nets_read lut_value settled_bit value_of next_bit written shown next_words next_register state_after settled_state output_values wiring_of has leads_below is_on_cycle turn_at end_within clock_end users_of device_faults pll_faults pin_faults mode_faults cascade_faults driver_faults loop_faults clock_faults pins_fault rams_fault fabric_fault design_fault
 pin_and_ram = refl
 
 -- the clock of a RAM is inverted in the upper tile, where its name stands
 ram_clock : map {B = Bool × Bool × Option ℕ} (λ ram. (ram.rneg, ram.wneg, ram.rclk)) (rams_of database_c (both (at 3 1 0 0 ∷ at 3 2 4 0 ∷ []))) ≡ (true, false, Some 4) ∷ []
-unfolding database_a database_b database_c image_with digits word_bits word_of bytes_of blank flat rows_of row_from rows_from kind_of start_in standard_widths standard_side_columns standard_pad_columns standard_pad_rows standard_banks place_of word_place_of any_below least_below last_below first_below gathered_below net_at names_of_net function_place extra_place input_of pad_of are_set is_link_on is_function_on is_any_on is_extra_on over_grid is_read cell_places cell_bits entry_bits cell_with cells_at cells_of sets_of is_ram_used ram_at rams_of start_words pintype_of pin_with pins_of global_nets globals_of is_refused_with is_joined class_of numbered_from joins_of buffers_of fabric_of drives_of drivers_of is_driven nets_read lut_value carry_value value_of next_flip written shown next_words next_register state_after output_values wiring_of has leads_below is_on_cycle turn_at end_within clock_end users_of device_faults pll_faults pin_faults mode_faults cascade_faults async_faults driver_faults loop_faults clock_faults pins_fault rams_fault cells_fault fabric_fault design_fault
+unfolding database_a database_b database_c image_with digits word_bits word_of bytes_of blank flat rows_of row_from rows_from kind_of start_in standard_widths standard_side_columns standard_pad_columns standard_pad_rows standard_banks place_of word_place_of any_below least_below last_below first_below gathered_below net_at names_of_net function_place extra_place input_of pad_of are_set is_link_on is_function_on is_any_on is_extra_on over_grid is_read cell_places cell_bits entry_bits cell_with cells_at cells_of register_of registers_of sets_of is_ram_used ram_at rams_of start_words pintype_of pin_with pins_of global_nets globals_of is_refused_with is_joined class_of numbered_from joins_of buffers_of fabric_of drives_of drivers_of is_driven nets_read lut_value settled_bit value_of next_bit written shown next_words next_register state_after settled_state output_values wiring_of has leads_below is_on_cycle turn_at end_within clock_end users_of device_faults pll_faults pin_faults mode_faults cascade_faults driver_faults loop_faults clock_faults pins_fault rams_fault fabric_fault design_fault
 ram_clock = refl
 
 -- a global without its pad's bit has its net `fabout`
 global_fabout : globals_of database_c (image_with []) ≡ record { g = 2; net = 6; from = Fabout 7 } ∷ record { g = 2; net = 8; from = Fabout 7 } ∷ []
-unfolding database_a database_b database_c image_with digits word_bits word_of bytes_of blank flat rows_of row_from rows_from kind_of start_in standard_widths standard_side_columns standard_pad_columns standard_pad_rows standard_banks place_of word_place_of any_below least_below last_below first_below gathered_below net_at names_of_net function_place extra_place input_of pad_of are_set is_link_on is_function_on is_any_on is_extra_on over_grid is_read cell_places cell_bits entry_bits cell_with cells_at cells_of sets_of is_ram_used ram_at rams_of start_words pintype_of pin_with pins_of global_nets globals_of is_refused_with is_joined class_of numbered_from joins_of buffers_of fabric_of drives_of drivers_of is_driven nets_read lut_value carry_value value_of next_flip written shown next_words next_register state_after output_values wiring_of has leads_below is_on_cycle turn_at end_within clock_end users_of device_faults pll_faults pin_faults mode_faults cascade_faults async_faults driver_faults loop_faults clock_faults pins_fault rams_fault cells_fault fabric_fault design_fault
+unfolding database_a database_b database_c image_with digits word_bits word_of bytes_of blank flat rows_of row_from rows_from kind_of start_in standard_widths standard_side_columns standard_pad_columns standard_pad_rows standard_banks place_of word_place_of any_below least_below last_below first_below gathered_below net_at names_of_net function_place extra_place input_of pad_of are_set is_link_on is_function_on is_any_on is_extra_on over_grid is_read cell_places cell_bits entry_bits cell_with cells_at cells_of register_of registers_of sets_of is_ram_used ram_at rams_of start_words pintype_of pin_with pins_of global_nets globals_of is_refused_with is_joined class_of numbered_from joins_of buffers_of fabric_of drives_of drivers_of is_driven nets_read lut_value settled_bit value_of next_bit written shown next_words next_register state_after settled_state output_values wiring_of has leads_below is_on_cycle turn_at end_within clock_end users_of device_faults pll_faults pin_faults mode_faults cascade_faults driver_faults loop_faults clock_faults pins_fault rams_fault fabric_fault design_fault
 global_fabout = refl
 
 -- and with it the pad
 global_pad : globals_of database_c (record (blank_image (standard_layout K1)) { cram = with_place_bit (blank_image (standard_layout K1)).cram (record { bank = 0; px = 330; py = 143 }) true }) ≡ record { g = 2; net = 6; from = Pad 0 1 0 } ∷ record { g = 2; net = 8; from = Pad 0 1 0 } ∷ []
-unfolding database_a database_b database_c image_with digits word_bits word_of bytes_of blank flat rows_of row_from rows_from kind_of start_in standard_widths standard_side_columns standard_pad_columns standard_pad_rows standard_banks place_of word_place_of any_below least_below last_below first_below gathered_below net_at names_of_net function_place extra_place input_of pad_of are_set is_link_on is_function_on is_any_on is_extra_on over_grid is_read cell_places cell_bits entry_bits cell_with cells_at cells_of sets_of is_ram_used ram_at rams_of start_words pintype_of pin_with pins_of global_nets globals_of is_refused_with is_joined class_of numbered_from joins_of buffers_of fabric_of drives_of drivers_of is_driven nets_read lut_value carry_value value_of next_flip written shown next_words next_register state_after output_values wiring_of has leads_below is_on_cycle turn_at end_within clock_end users_of device_faults pll_faults pin_faults mode_faults cascade_faults async_faults driver_faults loop_faults clock_faults pins_fault rams_fault cells_fault fabric_fault design_fault
+unfolding database_a database_b database_c image_with digits word_bits word_of bytes_of blank flat rows_of row_from rows_from kind_of start_in standard_widths standard_side_columns standard_pad_columns standard_pad_rows standard_banks place_of word_place_of any_below least_below last_below first_below gathered_below net_at names_of_net function_place extra_place input_of pad_of are_set is_link_on is_function_on is_any_on is_extra_on over_grid is_read cell_places cell_bits entry_bits cell_with cells_at cells_of register_of registers_of sets_of is_ram_used ram_at rams_of start_words pintype_of pin_with pins_of global_nets globals_of is_refused_with is_joined class_of numbered_from joins_of buffers_of fabric_of drives_of drivers_of is_driven nets_read lut_value settled_bit value_of next_bit written shown next_words next_register state_after settled_state output_values wiring_of has leads_below is_on_cycle turn_at end_within clock_end users_of device_faults pll_faults pin_faults mode_faults cascade_faults driver_faults loop_faults clock_faults pins_fault rams_fault fabric_fault design_fault
 global_pad = refl
 
 -- a pad that isn't an input pin
 bad_pad : pins_fault database_c (record (blank_image (standard_layout K1)) { cram = with_place_bit (blank_image (standard_layout K1)).cram (record { bank = 0; px = 330; py = 143 }) true }) ≡ Some (fault.pin_mode 0 1 0 0)
-unfolding database_a database_b database_c image_with digits word_bits word_of bytes_of blank flat rows_of row_from rows_from kind_of start_in standard_widths standard_side_columns standard_pad_columns standard_pad_rows standard_banks place_of word_place_of any_below least_below last_below first_below gathered_below net_at names_of_net function_place extra_place input_of pad_of are_set is_link_on is_function_on is_any_on is_extra_on over_grid is_read cell_places cell_bits entry_bits cell_with cells_at cells_of sets_of is_ram_used ram_at rams_of start_words pintype_of pin_with pins_of global_nets globals_of is_refused_with is_joined class_of numbered_from joins_of buffers_of fabric_of drives_of drivers_of is_driven nets_read lut_value carry_value value_of next_flip written shown next_words next_register state_after output_values wiring_of has leads_below is_on_cycle turn_at end_within clock_end users_of device_faults pll_faults pin_faults mode_faults cascade_faults async_faults driver_faults loop_faults clock_faults pins_fault rams_fault cells_fault fabric_fault design_fault
+unfolding database_a database_b database_c image_with digits word_bits word_of bytes_of blank flat rows_of row_from rows_from kind_of start_in standard_widths standard_side_columns standard_pad_columns standard_pad_rows standard_banks place_of word_place_of any_below least_below last_below first_below gathered_below net_at names_of_net function_place extra_place input_of pad_of are_set is_link_on is_function_on is_any_on is_extra_on over_grid is_read cell_places cell_bits entry_bits cell_with cells_at cells_of register_of registers_of sets_of is_ram_used ram_at rams_of start_words pintype_of pin_with pins_of global_nets globals_of is_refused_with is_joined class_of numbered_from joins_of buffers_of fabric_of drives_of drivers_of is_driven nets_read lut_value settled_bit value_of next_bit written shown next_words next_register state_after settled_state output_values wiring_of has leads_below is_on_cycle turn_at end_within clock_end users_of device_faults pll_faults pin_faults mode_faults cascade_faults driver_faults loop_faults clock_faults pins_fault rams_fault fabric_fault design_fault
 bad_pad = refl
 
 -- routings join both ways: 3, 7 and 8 are one class
 classes : map (class_of ((7, 3) ∷ (3, 8) ∷ [])) (0 ∷ 3 ∷ 7 ∷ 8 ∷ []) ≡ 0 ∷ 3 ∷ 3 ∷ 3 ∷ []
-unfolding image_with digits word_bits word_of bytes_of blank flat rows_of row_from rows_from kind_of start_in standard_widths standard_side_columns standard_pad_columns standard_pad_rows standard_banks place_of word_place_of any_below least_below last_below first_below gathered_below net_at names_of_net function_place extra_place input_of pad_of are_set is_link_on is_function_on is_any_on is_extra_on over_grid is_read cell_places cell_bits entry_bits cell_with cells_at cells_of sets_of is_ram_used ram_at rams_of start_words pintype_of pin_with pins_of global_nets globals_of is_refused_with is_joined class_of numbered_from joins_of buffers_of fabric_of drives_of drivers_of is_driven nets_read lut_value carry_value value_of next_flip written shown next_words next_register state_after output_values wiring_of has leads_below is_on_cycle turn_at end_within clock_end users_of device_faults pll_faults pin_faults mode_faults cascade_faults async_faults driver_faults loop_faults clock_faults pins_fault rams_fault cells_fault fabric_fault design_fault
+unfolding image_with digits word_bits word_of bytes_of blank flat rows_of row_from rows_from kind_of start_in standard_widths standard_side_columns standard_pad_columns standard_pad_rows standard_banks place_of word_place_of any_below least_below last_below first_below gathered_below net_at names_of_net function_place extra_place input_of pad_of are_set is_link_on is_function_on is_any_on is_extra_on over_grid is_read cell_places cell_bits entry_bits cell_with cells_at cells_of register_of registers_of sets_of is_ram_used ram_at rams_of start_words pintype_of pin_with pins_of global_nets globals_of is_refused_with is_joined class_of numbered_from joins_of buffers_of fabric_of drives_of drivers_of is_driven nets_read lut_value settled_bit value_of next_bit written shown next_words next_register state_after settled_state output_values wiring_of has leads_below is_on_cycle turn_at end_within clock_end users_of device_faults pll_faults pin_faults mode_faults cascade_faults driver_faults loop_faults clock_faults pins_fault rams_fault fabric_fault design_fault
 classes = refl
 
 -- entry 1 of a LUT has in_0 alone
-entry_one : lut_value (λ net. true) (λ net. net == 0) (cell_with_lut 2) ≡ true
-unfolding image_with digits word_bits word_of bytes_of blank flat rows_of row_from rows_from kind_of start_in standard_widths standard_side_columns standard_pad_columns standard_pad_rows standard_banks place_of word_place_of any_below least_below last_below first_below gathered_below net_at names_of_net function_place extra_place input_of pad_of are_set is_link_on is_function_on is_any_on is_extra_on over_grid is_read cell_places cell_bits entry_bits cell_with cells_at cells_of sets_of is_ram_used ram_at rams_of start_words pintype_of pin_with pins_of global_nets globals_of is_refused_with is_joined class_of numbered_from joins_of buffers_of fabric_of drives_of drivers_of is_driven nets_read lut_value carry_value value_of next_flip written shown next_words next_register state_after output_values wiring_of has leads_below is_on_cycle turn_at end_within clock_end users_of device_faults pll_faults pin_faults mode_faults cascade_faults async_faults driver_faults loop_faults clock_faults pins_fault rams_fault cells_fault fabric_fault design_fault
+entry_one : lut_value (λ net. true) [] (λ net. net == 0) (table_of (cell_with_lut 2)) ≡ true
+unfolding image_with digits word_bits word_of bytes_of blank flat rows_of row_from rows_from kind_of start_in standard_widths standard_side_columns standard_pad_columns standard_pad_rows standard_banks place_of word_place_of any_below least_below last_below first_below gathered_below net_at names_of_net function_place extra_place input_of pad_of are_set is_link_on is_function_on is_any_on is_extra_on over_grid is_read cell_places cell_bits entry_bits cell_with cells_at cells_of register_of registers_of sets_of is_ram_used ram_at rams_of start_words pintype_of pin_with pins_of global_nets globals_of is_refused_with is_joined class_of numbered_from joins_of buffers_of fabric_of drives_of drivers_of is_driven nets_read lut_value settled_bit value_of next_bit written shown next_words next_register state_after settled_state output_values wiring_of has leads_below is_on_cycle turn_at end_within clock_end users_of device_faults pll_faults pin_faults mode_faults cascade_faults driver_faults loop_faults clock_faults pins_fault rams_fault fabric_fault design_fault
 entry_one = refl
 
 -- entry 8 has in_3 alone
-entry_eight : lut_value (λ net. true) (λ net. net == 3) (cell_with_lut 256) ≡ true
-unfolding image_with digits word_bits word_of bytes_of blank flat rows_of row_from rows_from kind_of start_in standard_widths standard_side_columns standard_pad_columns standard_pad_rows standard_banks place_of word_place_of any_below least_below last_below first_below gathered_below net_at names_of_net function_place extra_place input_of pad_of are_set is_link_on is_function_on is_any_on is_extra_on over_grid is_read cell_places cell_bits entry_bits cell_with cells_at cells_of sets_of is_ram_used ram_at rams_of start_words pintype_of pin_with pins_of global_nets globals_of is_refused_with is_joined class_of numbered_from joins_of buffers_of fabric_of drives_of drivers_of is_driven nets_read lut_value carry_value value_of next_flip written shown next_words next_register state_after output_values wiring_of has leads_below is_on_cycle turn_at end_within clock_end users_of device_faults pll_faults pin_faults mode_faults cascade_faults async_faults driver_faults loop_faults clock_faults pins_fault rams_fault cells_fault fabric_fault design_fault
+entry_eight : lut_value (λ net. true) [] (λ net. net == 3) (table_of (cell_with_lut 256)) ≡ true
+unfolding image_with digits word_bits word_of bytes_of blank flat rows_of row_from rows_from kind_of start_in standard_widths standard_side_columns standard_pad_columns standard_pad_rows standard_banks place_of word_place_of any_below least_below last_below first_below gathered_below net_at names_of_net function_place extra_place input_of pad_of are_set is_link_on is_function_on is_any_on is_extra_on over_grid is_read cell_places cell_bits entry_bits cell_with cells_at cells_of register_of registers_of sets_of is_ram_used ram_at rams_of start_words pintype_of pin_with pins_of global_nets globals_of is_refused_with is_joined class_of numbered_from joins_of buffers_of fabric_of drives_of drivers_of is_driven nets_read lut_value settled_bit value_of next_bit written shown next_words next_register state_after settled_state output_values wiring_of has leads_below is_on_cycle turn_at end_within clock_end users_of device_faults pll_faults pin_faults mode_faults cascade_faults driver_faults loop_faults clock_faults pins_fault rams_fault fabric_fault design_fault
 entry_eight = refl
 
 -- an input without a driver counts as 0
-entry_none : lut_value (λ net. false) (λ net. true) (cell_with_lut 1) ≡ true
-unfolding image_with digits word_bits word_of bytes_of blank flat rows_of row_from rows_from kind_of start_in standard_widths standard_side_columns standard_pad_columns standard_pad_rows standard_banks place_of word_place_of any_below least_below last_below first_below gathered_below net_at names_of_net function_place extra_place input_of pad_of are_set is_link_on is_function_on is_any_on is_extra_on over_grid is_read cell_places cell_bits entry_bits cell_with cells_at cells_of sets_of is_ram_used ram_at rams_of start_words pintype_of pin_with pins_of global_nets globals_of is_refused_with is_joined class_of numbered_from joins_of buffers_of fabric_of drives_of drivers_of is_driven nets_read lut_value carry_value value_of next_flip written shown next_words next_register state_after output_values wiring_of has leads_below is_on_cycle turn_at end_within clock_end users_of device_faults pll_faults pin_faults mode_faults cascade_faults async_faults driver_faults loop_faults clock_faults pins_fault rams_fault cells_fault fabric_fault design_fault
+entry_none : lut_value (λ net. false) [] (λ net. true) (table_of (cell_with_lut 1)) ≡ true
+unfolding image_with digits word_bits word_of bytes_of blank flat rows_of row_from rows_from kind_of start_in standard_widths standard_side_columns standard_pad_columns standard_pad_rows standard_banks place_of word_place_of any_below least_below last_below first_below gathered_below net_at names_of_net function_place extra_place input_of pad_of are_set is_link_on is_function_on is_any_on is_extra_on over_grid is_read cell_places cell_bits entry_bits cell_with cells_at cells_of register_of registers_of sets_of is_ram_used ram_at rams_of start_words pintype_of pin_with pins_of global_nets globals_of is_refused_with is_joined class_of numbered_from joins_of buffers_of fabric_of drives_of drivers_of is_driven nets_read lut_value settled_bit value_of next_bit written shown next_words next_register state_after settled_state output_values wiring_of has leads_below is_on_cycle turn_at end_within clock_end users_of device_faults pll_faults pin_faults mode_faults cascade_faults driver_faults loop_faults clock_faults pins_fault rams_fault fabric_fault design_fault
 entry_none = refl
 
 -- a reset doesn't act where the enable is 0
-reset_disabled : next_flip (λ net. true) (λ net. net == 6) (cell_with_lut 0) false ≡ false
-unfolding image_with digits word_bits word_of bytes_of blank flat rows_of row_from rows_from kind_of start_in standard_widths standard_side_columns standard_pad_columns standard_pad_rows standard_banks place_of word_place_of any_below least_below last_below first_below gathered_below net_at names_of_net function_place extra_place input_of pad_of are_set is_link_on is_function_on is_any_on is_extra_on over_grid is_read cell_places cell_bits entry_bits cell_with cells_at cells_of sets_of is_ram_used ram_at rams_of start_words pintype_of pin_with pins_of global_nets globals_of is_refused_with is_joined class_of numbered_from joins_of buffers_of fabric_of drives_of drivers_of is_driven nets_read lut_value carry_value value_of next_flip written shown next_words next_register state_after output_values wiring_of has leads_below is_on_cycle turn_at end_within clock_end users_of device_faults pll_faults pin_faults mode_faults cascade_faults async_faults driver_faults loop_faults clock_faults pins_fault rams_fault cells_fault fabric_fault design_fault
+reset_disabled : next_bit (λ net. true) [] (λ net. net == 6) (register_with false) false ≡ false
+unfolding image_with digits word_bits word_of bytes_of blank flat rows_of row_from rows_from kind_of start_in standard_widths standard_side_columns standard_pad_columns standard_pad_rows standard_banks place_of word_place_of any_below least_below last_below first_below gathered_below net_at names_of_net function_place extra_place input_of pad_of are_set is_link_on is_function_on is_any_on is_extra_on over_grid is_read cell_places cell_bits entry_bits cell_with cells_at cells_of register_of registers_of sets_of is_ram_used ram_at rams_of start_words pintype_of pin_with pins_of global_nets globals_of is_refused_with is_joined class_of numbered_from joins_of buffers_of fabric_of drives_of drivers_of is_driven nets_read lut_value settled_bit value_of next_bit written shown next_words next_register state_after settled_state output_values wiring_of has leads_below is_on_cycle turn_at end_within clock_end users_of device_faults pll_faults pin_faults mode_faults cascade_faults driver_faults loop_faults clock_faults pins_fault rams_fault fabric_fault design_fault
 reset_disabled = refl
 
 -- it acts where the enable has no driver
-reset_enabled : next_flip (λ net. not (net == 5)) (λ net. net == 6) (cell_with_lut 0) false ≡ true
-unfolding image_with digits word_bits word_of bytes_of blank flat rows_of row_from rows_from kind_of start_in standard_widths standard_side_columns standard_pad_columns standard_pad_rows standard_banks place_of word_place_of any_below least_below last_below first_below gathered_below net_at names_of_net function_place extra_place input_of pad_of are_set is_link_on is_function_on is_any_on is_extra_on over_grid is_read cell_places cell_bits entry_bits cell_with cells_at cells_of sets_of is_ram_used ram_at rams_of start_words pintype_of pin_with pins_of global_nets globals_of is_refused_with is_joined class_of numbered_from joins_of buffers_of fabric_of drives_of drivers_of is_driven nets_read lut_value carry_value value_of next_flip written shown next_words next_register state_after output_values wiring_of has leads_below is_on_cycle turn_at end_within clock_end users_of device_faults pll_faults pin_faults mode_faults cascade_faults async_faults driver_faults loop_faults clock_faults pins_fault rams_fault cells_fault fabric_fault design_fault
+reset_enabled : next_bit (λ net. not (net == 5)) [] (λ net. net == 6) (register_with false) false ≡ true
+unfolding image_with digits word_bits word_of bytes_of blank flat rows_of row_from rows_from kind_of start_in standard_widths standard_side_columns standard_pad_columns standard_pad_rows standard_banks place_of word_place_of any_below least_below last_below first_below gathered_below net_at names_of_net function_place extra_place input_of pad_of are_set is_link_on is_function_on is_any_on is_extra_on over_grid is_read cell_places cell_bits entry_bits cell_with cells_at cells_of register_of registers_of sets_of is_ram_used ram_at rams_of start_words pintype_of pin_with pins_of global_nets globals_of is_refused_with is_joined class_of numbered_from joins_of buffers_of fabric_of drives_of drivers_of is_driven nets_read lut_value settled_bit value_of next_bit written shown next_words next_register state_after settled_state output_values wiring_of has leads_below is_on_cycle turn_at end_within clock_end users_of device_faults pll_faults pin_faults mode_faults cascade_faults driver_faults loop_faults clock_faults pins_fault rams_fault fabric_fault design_fault
 reset_enabled = refl
 
+-- one that acts at once goes before the enable
+reset_first : next_bit (λ net. true) [] (λ net. net == 6) (register_with true) false ≡ true
+unfolding register_of nets_read lut_value word_bits settled_bit value_of next_bit
+reset_first = refl
+
+-- without the reset the enable counts
+enable_second : next_bit (λ net. true) [] (λ net. false) (register_with true) true ≡ true
+unfolding register_of nets_read lut_value word_bits settled_bit value_of next_bit
+enable_second = refl
+
+-- a register has its set bit as long as a reset that acts at once is 1
+reset_held : value_of (λ net. true) nothing_kept [] (λ net. net == 6) (register_bit 0 (register_with true)) ≡ true
+unfolding register_of nets_read lut_value word_bits settled_bit value_of next_bit
+reset_held = refl
+
+-- a reset that waits for the clock, or that nothing drives, leaves it as it is
+reset_waits : value_of (λ net. true) nothing_kept [] (λ net. net == 6) (register_bit 0 (register_with false)) ≡ false
+unfolding register_of nets_read lut_value word_bits settled_bit value_of next_bit
+reset_waits = refl
+
+reset_undriven : value_of (λ net. false) nothing_kept [] (λ net. true) (register_bit 0 (register_with true)) ≡ false
+unfolding register_of nets_read lut_value word_bits settled_bit value_of next_bit
+reset_undriven = refl
+
+-- only a reset that acts at once is read
+reset_read : nets_read (register_bit 0 (register_with true)) ≡ 6 ∷ []
+unfolding register_of nets_read lut_value word_bits settled_bit value_of next_bit
+reset_read = refl
+
+reset_unread : nets_read (register_bit 0 (register_with false)) ≡ []
+unfolding register_of nets_read lut_value word_bits settled_bit value_of next_bit
+reset_unread = refl
+
 -- a toggle at a falling edge
-toggle_step : state_after (fabric_of database_b (both (at 1 1 0 45 ∷ at 1 1 3 0 ∷ at 1 1 5 0 ∷ at 1 1 6 0 ∷ []))) (record { flips = false ∷ []; registers = []; words = [] }) (bit_in (true ∷ false ∷ false ∷ false ∷ true ∷ [])) (bit_in (false ∷ false ∷ false ∷ false ∷ false ∷ [])) ≡ record { flips = true ∷ []; registers = []; words = [] }
-unfolding database_a database_b image_with digits word_bits word_of bytes_of blank flat rows_of row_from rows_from kind_of start_in standard_widths standard_side_columns standard_pad_columns standard_pad_rows standard_banks place_of word_place_of any_below least_below last_below first_below gathered_below net_at names_of_net function_place extra_place input_of pad_of are_set is_link_on is_function_on is_any_on is_extra_on over_grid is_read cell_places cell_bits entry_bits cell_with cells_at cells_of sets_of is_ram_used ram_at rams_of start_words pintype_of pin_with pins_of global_nets globals_of is_refused_with is_joined class_of numbered_from joins_of buffers_of fabric_of drives_of drivers_of is_driven nets_read lut_value carry_value value_of next_flip written shown next_words next_register state_after output_values wiring_of has leads_below is_on_cycle turn_at end_within clock_end users_of device_faults pll_faults pin_faults mode_faults cascade_faults async_faults driver_faults loop_faults clock_faults pins_fault rams_fault cells_fault fabric_fault design_fault
+toggle_step : state_after (fabric_of database_b (both (at 1 1 0 45 ∷ at 1 1 3 0 ∷ at 1 1 5 0 ∷ at 1 1 6 0 ∷ []))) (true ∷ []) (record { bits = false ∷ []; reads = []; words = [] }) (bit_in (true ∷ false ∷ false ∷ false ∷ true ∷ [])) (bit_in (false ∷ false ∷ false ∷ false ∷ false ∷ [])) ≡ record { bits = true ∷ []; reads = []; words = [] }
+unfolding database_a database_b image_with digits word_bits word_of bytes_of blank flat rows_of row_from rows_from kind_of start_in standard_widths standard_side_columns standard_pad_columns standard_pad_rows standard_banks place_of word_place_of any_below least_below last_below first_below gathered_below net_at names_of_net function_place extra_place input_of pad_of are_set is_link_on is_function_on is_any_on is_extra_on over_grid is_read cell_places cell_bits entry_bits cell_with cells_at cells_of register_of registers_of sets_of is_ram_used ram_at rams_of start_words pintype_of pin_with pins_of global_nets globals_of is_refused_with is_joined class_of numbered_from joins_of buffers_of fabric_of drives_of drivers_of is_driven nets_read lut_value settled_bit value_of next_bit written shown next_words next_register state_after settled_state output_values wiring_of has leads_below is_on_cycle turn_at end_within clock_end users_of device_faults pll_faults pin_faults mode_faults cascade_faults driver_faults loop_faults clock_faults pins_fault rams_fault fabric_fault design_fault
 toggle_step = refl
 
 -- and none at a rising one
-toggle_stays : state_after (fabric_of database_b (both (at 1 1 0 45 ∷ at 1 1 3 0 ∷ at 1 1 5 0 ∷ at 1 1 6 0 ∷ []))) (record { flips = false ∷ []; registers = []; words = [] }) (bit_in (false ∷ false ∷ false ∷ false ∷ false ∷ [])) (bit_in (true ∷ false ∷ false ∷ false ∷ true ∷ [])) ≡ record { flips = false ∷ []; registers = []; words = [] }
-unfolding database_a database_b image_with digits word_bits word_of bytes_of blank flat rows_of row_from rows_from kind_of start_in standard_widths standard_side_columns standard_pad_columns standard_pad_rows standard_banks place_of word_place_of any_below least_below last_below first_below gathered_below net_at names_of_net function_place extra_place input_of pad_of are_set is_link_on is_function_on is_any_on is_extra_on over_grid is_read cell_places cell_bits entry_bits cell_with cells_at cells_of sets_of is_ram_used ram_at rams_of start_words pintype_of pin_with pins_of global_nets globals_of is_refused_with is_joined class_of numbered_from joins_of buffers_of fabric_of drives_of drivers_of is_driven nets_read lut_value carry_value value_of next_flip written shown next_words next_register state_after output_values wiring_of has leads_below is_on_cycle turn_at end_within clock_end users_of device_faults pll_faults pin_faults mode_faults cascade_faults async_faults driver_faults loop_faults clock_faults pins_fault rams_fault cells_fault fabric_fault design_fault
+toggle_stays : state_after (fabric_of database_b (both (at 1 1 0 45 ∷ at 1 1 3 0 ∷ at 1 1 5 0 ∷ at 1 1 6 0 ∷ []))) (false ∷ []) (record { bits = false ∷ []; reads = []; words = [] }) (bit_in (false ∷ false ∷ false ∷ false ∷ false ∷ [])) (bit_in (true ∷ false ∷ false ∷ false ∷ true ∷ [])) ≡ record { bits = false ∷ []; reads = []; words = [] }
+unfolding database_a database_b image_with digits word_bits word_of bytes_of blank flat rows_of row_from rows_from kind_of start_in standard_widths standard_side_columns standard_pad_columns standard_pad_rows standard_banks place_of word_place_of any_below least_below last_below first_below gathered_below net_at names_of_net function_place extra_place input_of pad_of are_set is_link_on is_function_on is_any_on is_extra_on over_grid is_read cell_places cell_bits entry_bits cell_with cells_at cells_of register_of registers_of sets_of is_ram_used ram_at rams_of start_words pintype_of pin_with pins_of global_nets globals_of is_refused_with is_joined class_of numbered_from joins_of buffers_of fabric_of drives_of drivers_of is_driven nets_read lut_value settled_bit value_of next_bit written shown next_words next_register state_after settled_state output_values wiring_of has leads_below is_on_cycle turn_at end_within clock_end users_of device_faults pll_faults pin_faults mode_faults cascade_faults driver_faults loop_faults clock_faults pins_fault rams_fault fabric_fault design_fault
 toggle_stays = refl
 
 -- a word 1234 written with ABCD under the mask 00FF is AB34: net 16 + b has bit b of the data, net 32 + b that of the mask
 masked_write : written (λ net. true) (bit_in (false ∷ false ∷ false ∷ false ∷ false ∷ false ∷ false ∷ false ∷ false ∷ false ∷ false ∷ false ∷ false ∷ false ∷ false ∷ false ∷ true ∷ false ∷ true ∷ true ∷ false ∷ false ∷ true ∷ true ∷ true ∷ true ∷ false ∷ true ∷ false ∷ true ∷ false ∷ true ∷ true ∷ true ∷ true ∷ true ∷ true ∷ true ∷ true ∷ true ∷ false ∷ false ∷ false ∷ false ∷ false ∷ false ∷ false ∷ false ∷ [])) ram_with_nets (false ∷ false ∷ true ∷ false ∷ true ∷ true ∷ false ∷ false ∷ false ∷ true ∷ false ∷ false ∷ true ∷ false ∷ false ∷ false ∷ []) ≡ false ∷ false ∷ true ∷ false ∷ true ∷ true ∷ false ∷ false ∷ true ∷ true ∷ false ∷ true ∷ false ∷ true ∷ false ∷ true ∷ []
-unfolding image_with digits word_bits word_of bytes_of blank flat rows_of row_from rows_from kind_of start_in standard_widths standard_side_columns standard_pad_columns standard_pad_rows standard_banks place_of word_place_of any_below least_below last_below first_below gathered_below net_at names_of_net function_place extra_place input_of pad_of are_set is_link_on is_function_on is_any_on is_extra_on over_grid is_read cell_places cell_bits entry_bits cell_with cells_at cells_of sets_of is_ram_used ram_at rams_of start_words pintype_of pin_with pins_of global_nets globals_of is_refused_with is_joined class_of numbered_from joins_of buffers_of fabric_of drives_of drivers_of is_driven nets_read lut_value carry_value value_of next_flip written shown next_words next_register state_after output_values wiring_of has leads_below is_on_cycle turn_at end_within clock_end users_of device_faults pll_faults pin_faults mode_faults cascade_faults async_faults driver_faults loop_faults clock_faults pins_fault rams_fault cells_fault fabric_fault design_fault
+unfolding image_with digits word_bits word_of bytes_of blank flat rows_of row_from rows_from kind_of start_in standard_widths standard_side_columns standard_pad_columns standard_pad_rows standard_banks place_of word_place_of any_below least_below last_below first_below gathered_below net_at names_of_net function_place extra_place input_of pad_of are_set is_link_on is_function_on is_any_on is_extra_on over_grid is_read cell_places cell_bits entry_bits cell_with cells_at cells_of register_of registers_of sets_of is_ram_used ram_at rams_of start_words pintype_of pin_with pins_of global_nets globals_of is_refused_with is_joined class_of numbered_from joins_of buffers_of fabric_of drives_of drivers_of is_driven nets_read lut_value settled_bit value_of next_bit written shown next_words next_register state_after settled_state output_values wiring_of has leads_below is_on_cycle turn_at end_within clock_end users_of device_faults pll_faults pin_faults mode_faults cascade_faults driver_faults loop_faults clock_faults pins_fault rams_fault fabric_fault design_fault
 masked_write = refl
 
 -- a carry chain: the carry out of a cell whose inputs are 0 and 1 and whose carry in is set
-carried : carry_value (λ net. true) (λ net. not (net == 1)) (cell_with_lut 0) ≡ true
-unfolding image_with digits word_bits word_of bytes_of blank flat rows_of row_from rows_from kind_of start_in standard_widths standard_side_columns standard_pad_columns standard_pad_rows standard_banks place_of word_place_of any_below least_below last_below first_below gathered_below net_at names_of_net function_place extra_place input_of pad_of are_set is_link_on is_function_on is_any_on is_extra_on over_grid is_read cell_places cell_bits entry_bits cell_with cells_at cells_of sets_of is_ram_used ram_at rams_of start_words pintype_of pin_with pins_of global_nets globals_of is_refused_with is_joined class_of numbered_from joins_of buffers_of fabric_of drives_of drivers_of is_driven nets_read lut_value carry_value value_of next_flip written shown next_words next_register state_after output_values wiring_of has leads_below is_on_cycle turn_at end_within clock_end users_of device_faults pll_faults pin_faults mode_faults cascade_faults async_faults driver_faults loop_faults clock_faults pins_fault rams_fault cells_fault fabric_fault design_fault
+carried : value_of (λ net. true) nothing_kept [] (λ net. not (net == 1)) (majority_of (Some 1) (Some 2) (Some 7)) ≡ true
+unfolding image_with digits word_bits word_of bytes_of blank flat rows_of row_from rows_from kind_of start_in standard_widths standard_side_columns standard_pad_columns standard_pad_rows standard_banks place_of word_place_of any_below least_below last_below first_below gathered_below net_at names_of_net function_place extra_place input_of pad_of are_set is_link_on is_function_on is_any_on is_extra_on over_grid is_read cell_places cell_bits entry_bits cell_with cells_at cells_of register_of registers_of sets_of is_ram_used ram_at rams_of start_words pintype_of pin_with pins_of global_nets globals_of is_refused_with is_joined class_of numbered_from joins_of buffers_of fabric_of drives_of drivers_of is_driven nets_read lut_value settled_bit value_of next_bit written shown next_words next_register state_after settled_state output_values wiring_of has leads_below is_on_cycle turn_at end_within clock_end users_of device_faults pll_faults pin_faults mode_faults cascade_faults driver_faults loop_faults clock_faults pins_fault rams_fault fabric_fault design_fault
 carried = refl

@@ -8,18 +8,8 @@ use Rattle.chipdb_reader.specs.declared.items.TileXy8.{TileXy8}
 use Rattle.net_extract.specs.Cells.{cells_of, cells_at, sets_of, sets_at}
 use Rattle.net_extract.specs.declared.cell.Lc.{Lc}
 use Rattle.net_extract.specs.declared.cell.CarrySet.{CarrySet}
-use Rattle.net_extract.specs.Faults.{Fault, cells_fault, async_faults}
-use Rattle.net_extract.specs.Tiles.{first_of}
 use Rattle.net_extract.specs.TilesOfKind.{tiles_of}
 use Rattle.net_extract.proofs.InOrder.{over_tiles-listed}
-use Rattle.logic_cell.specs.Faults.{async_faults_in}
-
-pub faults_listed : (db : Database) (image : Configuration) (tiles : List TileXy8) → tiles ≡ tiles_of image.layout.device Logic
-    → cells_fault db image ≡ first_of (flat_map (λ (tile : TileXy8). async_faults_in db image tile.x tile.y) tiles)
-unfolding cells_fault async_faults
-faults_listed db image tiles all =
-    let given : TileXy8 → List Fault = λ tile. async_faults_in db image tile.x tile.y in
-    ap first_of (over_tiles-listed image.layout.device Logic (async_faults_in db image) ∙ ap (flat_map given) (sym all))
 
 pub cells_listed : (db : Database) (image : Configuration) (tiles : List TileXy8) → tiles ≡ tiles_of image.layout.device Logic
     → flat_map (λ (tile : TileXy8). cells_at db image tile.x tile.y) tiles ≡ cells_of db image

@@ -1,17 +1,13 @@
 // All cells of an image.
-ghost use Rattle.std.specs.Prelude.{◌≡◌, ◌++◌, All, IfOk, IfErr, OnOk, None};
+ghost use Rattle.std.specs.Prelude.{◌≡◌, ◌++◌, All, IfOk, OnOk};
 ghost use Rattle.std.specs.List.{flat_map};
 ghost use Rattle.plane_map.specs.declared.tile.TileKind.TheVariants.{Logic};
 ghost use Rattle.ice_image.specs.Either.{configuration_of};
 ghost use Rattle.chipdb_reader.specs.Kept.{database_in};
 ghost use Rattle.net_extract.specs.Cells.{cells_of, cells_at, sets_of, sets_at, used_cell};
-ghost use Rattle.net_extract.specs.Faults.{cells_fault};
-ghost use Rattle.net_extract.specs.TilesOfKind.{HasTile, tiles_of};
-ghost use Rattle.logic_cell.specs.Faults.{IsCause};
+ghost use Rattle.net_extract.specs.TilesOfKind.{HasTile};
 
-use crate::asynchronous::first_async;
 use crate::cell::{Cells, cell};
-use crate::fault::LcFault;
 use chipdb_reader::{ChipDb, TileXy8};
 use ice_image::AnyImage;
 use net_extract::{CarrySet, Lc, cell_places, is_on, is_one_set, tiles_of_image};
@@ -19,53 +15,18 @@ use plane_map::TileKind;
 use std::alloc::{AllocError, Global};
 
 /// Finds the logic cells that an image uses.
-pub fn cells(alloc: Global, db: &ChipDb, image: &AnyImage) -> Result<Cells, LcFault>
+pub fn cells(alloc: Global, db: &ChipDb, image: &AnyImage) -> Result<Cells, AllocError>
     ensures cells { IfOk result (λ cells. cells.lcs.items ≡ cells_of (database_in db.now) (configuration_of image.now)) }
     ensures sets { IfOk result (λ cells. cells.sets.items ≡ sets_of (database_in db.now) (configuration_of image.now)) }
-    ensures taken { OnOk result (cells_fault (database_in db.now) (configuration_of image.now) ≡ None) }
-    ensures refused { IfErr result (IsCause (cells_fault (database_in db.now) (configuration_of image.now))) }
 {
     let tiles = tiles_of_image(alloc, image, TileKind::Logic)?;
-    cells_in(alloc, db, image, &tiles)
-}
-
-/// The used cells of an image, by tile and index, whether or not they can be taken into a design.
-pub fn used_cells(alloc: Global, db: &ChipDb, image: &AnyImage) -> Result<Vec<Lc>, AllocError>
-    ensures { IfOk result (λ lcs. lcs.items ≡ cells_of (database_in db.now) (configuration_of image.now)) }
-{
-    let tiles = tiles_of_image(alloc, image, TileKind::Logic)?;
-    used_cells_in(alloc, db, image, &tiles)
-}
-
-/// Finds the cells in the logic tiles of the image.
-fn cells_in(
-    alloc: Global,
-    db: &ChipDb,
-    image: &AnyImage,
-    tiles: &[TileXy8],
-) -> Result<Cells, LcFault>
-    requires all { tiles.now ≡ tiles_of (configuration_of image.now).layout.device Logic }
-    requires each { All (λ tile. HasTile image.now Logic tile.x tile.y) tiles.now }
-    ensures cells { IfOk result (λ cells. cells.lcs.items ≡ cells_of (database_in db.now) (configuration_of image.now)) }
-    ensures sets { IfOk result (λ cells. cells.sets.items ≡ sets_of (database_in db.now) (configuration_of image.now)) }
-    ensures taken { OnOk result (cells_fault (database_in db.now) (configuration_of image.now) ≡ None) }
-    ensures refused { IfErr result (IsCause (cells_fault (database_in db.now) (configuration_of image.now))) }
-{
-    match first_async(db, image, tiles) {
-        Some(at) => Err(LcFault::Async {
-            x: at.x,
-            y: at.y,
-            i: at.i,
-        }),
-        None => Ok(Cells {
-            lcs: used_cells_in(alloc, db, image, tiles)?,
-            sets: carry_sets(alloc, db, image, tiles)?,
-        }),
-    }
+    let lcs = used_cells(alloc, db, image, &tiles)?;
+    let sets = carry_sets(alloc, db, image, &tiles)?;
+    Ok(Cells { lcs, sets })
 }
 
 /// The used cells of tiles.
-fn used_cells_in(
+fn used_cells(
     alloc: Global,
     db: &ChipDb,
     image: &AnyImage,

@@ -4,7 +4,7 @@ use Rattle.ice_image.specs.Either.{configuration_of}
 use Rattle.chipdb_reader.specs.Kept.{database_in}
 use Rattle.chipdb_reader.specs.declared.items.TileXy8.{TileXy8}
 use Rattle.net_extract.specs.Cells.{cells_at}
-use Rattle.logic_cell.proofs.gather.used_cells_in.Given as goal
+use Rattle.logic_cell.proofs.gather.used_cells.Given as goal
 
 abbrev pub invariant-loop-tile : goal.invariant-loop-tile
 invariant-loop-tile l = l.lcs.items ≡ flat_map (λ (tile : TileXy8). cells_at (database_in l.db) (configuration_of l.image) tile.x tile.y) (take l.tile-index l.tiles)

@@ -1,7 +1,6 @@
 -- The first user whose clock comes from no pin is the first fault of the clocks of a fabric.
-use Rattle.std.proofs.Common.{◌≡◌, ℕ, ◌+◌, ◌<◌, Bool, true, false, inl, inr, List, [], ◌∷◌, ◌++◌, length, map, take, get_or, refl, sym, ◌∙◌, ap}
+use Rattle.std.proofs.Common.{◌≡◌, ℕ, ◌+◌, ◌<◌, Bool, true, false, List, [], ◌∷◌, ◌++◌, length, map, take, get_or, refl, sym, ◌∙◌, ap}
 use Rattle.std.specs.Prelude.{Option, Some, None, All, filter, flat_map, ◌&&◌, ◌==◌, if◌then◌else◌}
-use Rattle.std.proofs.lemmas.Bool.{cases_Bool}
 use Rattle.std.proofs.lemmas.List.{take_more, map-append, append-nil}
 use Rattle.std.proofs.lemmas.List.Elements.{All-head, All-tail, filter-append}
 use Rattle.std.proofs.lemmas.Grind.{flat_map-append}
@@ -10,13 +9,13 @@ use Rattle.place_search.specs.Places.{gathered_below}
 use Rattle.place_search.proofs.Places.{gathered_below-none, gathered_below-same}
 use Rattle.plane_map.specs.Layout.{grid_width, grid_height}
 use Rattle.plane_map.specs.declared.device.DeviceName.{DeviceName}
-use Rattle.net_extract.specs.declared.cell.Lc.{Lc}
+use Rattle.net_extract.specs.declared.register.Register.{Register}
 use Rattle.net_extract.specs.declared.ram.RamCell.{RamCell}
-use Rattle.net_extract.specs.declared.driver.ClockUser.TheVariants.{Cell, Read, Write}
-use Rattle.net_extract.specs.Fabric.{Fabric, flips_of}
+use Rattle.net_extract.specs.declared.driver.ClockUser.TheVariants.{Read, Write}
+use Rattle.net_extract.specs.Fabric.{Fabric}
 use Rattle.net_extract.specs.Tiles.{over_grid, item_if, first_of}
 use Rattle.net_extract.specs.Within.{IsNetIn}
-use Rattle.net_extract.specs.Clocks.{ClockEnd, User, cell_user, ram_users, users_at, users_of, clock_end}
+use Rattle.net_extract.specs.Clocks.{ClockEnd, User, register_user, ram_users, users_at, users_of, clock_end}
 use Rattle.net_extract.specs.Clocks.ClockEnd.{at_pin, undriven, logic}
 use Rattle.net_extract.specs.Faults.{Fault, end_fault, user_fault, clock_faults}
 use Rattle.net_extract.specs.Faults.Fault.{clock}
@@ -26,7 +25,7 @@ use Rattle.fabric_wiring.specs.declared.users.Unclocked.{Unclocked}
 use Rattle.fabric_wiring.specs.declared.users.ClockInput.{ClockInput}
 use Rattle.fabric_wiring.specs.Ends.{end_in}
 use Rattle.fabric_wiring.specs.Users.{fault_of}
-use Rattle.fabric_wiring.specs.First.{cell_inputs, ram_inputs, is_other, unclocked_with, unclocked_by, unclocked_in, is_at, first_on}
+use Rattle.fabric_wiring.specs.First.{register_inputs, ram_inputs, is_other, unclocked_with, unclocked_by, unclocked_in, is_at, first_on}
 
 -- ---- the users of some parts, with one part more
 
@@ -118,43 +117,28 @@ module _ (x y : ℕ) where
     abbrev users_fault : User → List Fault
     users_fault user = user_fault fabric user user.net
 
-    -- the faults of cells
-    cell_faults : List Lc → List Fault
-    cell_faults lcs = flat_map users_fault (map cell_user (filter (λ lc. (lc.x == x) && (lc.y == y)) (filter (λ lc. lc.flip) lcs)))
+    -- the faults of registers
+    register_faults : List Register → List Fault
+    register_faults registers = flat_map users_fault (map register_user (filter (λ register. (register.x == x) && (register.y == y)) registers))
 
-    -- those of one cell, in front of more
-    cell-none : (lc : Lc) (lcs : List Lc) → lc.flip ≡ false → cell_inputs lc ≡ []
-    cell-none lc lcs off = rw off refl
+    register-more : (register : Register) (registers : List Register) (here : Bool) → ((register.x == x) && (register.y == y)) ≡ here
+        → register_faults (register ∷ registers) ≡ (if here then users_fault (register_user register) else []) ++ register_faults registers
+    unfolding register_faults
+    register-more register registers true is = rw is refl
+    register-more register registers false is = rw is refl
 
-    cell-one : (lc : Lc) → lc.flip ≡ true → cell_inputs lc ≡ record { x = lc.x; y = lc.y; user = Cell lc.i; net = lc.clk } ∷ []
-    cell-one lc on = rw on refl
-
-    cell-off : (lc : Lc) (lcs : List Lc) → lc.flip ≡ false → cell_faults (lc ∷ lcs) ≡ cell_faults lcs
-    unfolding cell_faults
-    cell-off lc lcs off = rw off refl
-
-    cell-on : (lc : Lc) (lcs : List Lc) → lc.flip ≡ true → (here : Bool) → ((lc.x == x) && (lc.y == y)) ≡ here
-        → cell_faults (lc ∷ lcs) ≡ (if here then users_fault (cell_user lc) else []) ++ cell_faults lcs
-    unfolding cell_faults
-    cell-on lc lcs on true is = rw (on, is) refl
-    cell-on lc lcs on false is = rw (on, is) refl
-
-    cells-tile : (lcs : List Lc) → All (λ lc. IsNetIn fabric.nets lc.clk) lcs → faults_in (flat_map cell_inputs lcs) ≡ cell_faults lcs
-    unfolding faults_in cell_faults
-    cells-tile [] all = refl
-    cells-tile (lc ∷ lcs) all =
-        let in' : IsNetIn fabric.nets lc.clk = All-head (λ (l : Lc). IsNetIn fabric.nets l.clk) lc lcs all in
-        let rest = cells-tile lcs (All-tail (λ (l : Lc). IsNetIn fabric.nets l.clk) lc lcs all) in
-        let behind = flat_map cell_inputs lcs in
-        elim (cases_Bool lc.flip) [
-          | inl on ↦
-              let input : ClockInput = record { x = lc.x; y = lc.y; user = Cell lc.i; net = lc.clk } in
-              ap (λ l. faults_in (l ++ behind)) (cell-one lc on)
-              ∙ (faults-first input behind in' ((lc.x == x) && (lc.y == y)) refl
-              ∙ (ap (λ l. (if (lc.x == x) && (lc.y == y) then users_fault (cell_user lc) else []) ++ l) rest
-              ∙ sym (cell-on lc lcs on ((lc.x == x) && (lc.y == y)) refl)))
-          | inr off ↦ ap (λ l. faults_in (l ++ behind)) (cell-none lc lcs off) ∙ (rest ∙ sym (cell-off lc lcs off))
-        ]
+    registers-tile : (registers : List Register) → All (λ register. IsNetIn fabric.nets register.clk) registers
+        → faults_in (flat_map register_inputs registers) ≡ register_faults registers
+    unfolding faults_in register_faults
+    registers-tile [] all = refl
+    registers-tile (register ∷ registers) all =
+        let Clocks : Register → Type 0 = λ (r : Register). IsNetIn fabric.nets r.clk in
+        let rest = registers-tile registers (All-tail Clocks register registers all) in
+        let here = (register.x == x) && (register.y == y) in
+        let input : ClockInput = record { x = register.x; y = register.y; user = register.user; net = register.clk } in
+        faults-first input (flat_map register_inputs registers) (All-head Clocks register registers all) here refl
+        ∙ (ap (λ l. (if here then users_fault (register_user register) else []) ++ l) rest
+        ∙ sym (register-more register registers here refl))
 
     -- the faults of RAMs
     ram_faults : List RamCell → List Fault
@@ -187,31 +171,31 @@ module _ (x y : ℕ) where
         ∙ sym (ram-more ram rams here refl))
 
     -- those of all users at the tile
-    users-tile : All (λ lc. IsNetIn fabric.nets lc.clk) fabric.lcs → All (λ ram. IsNetIn fabric.nets ram.rclk) fabric.rams → All (λ ram. IsNetIn fabric.nets ram.wclk) fabric.rams
-        → faults_in (flat_map cell_inputs fabric.lcs ++ flat_map ram_inputs fabric.rams) ≡ flat_map users_fault (users_at fabric x y)
-    unfolding cell_faults ram_faults
+    users-tile : All (λ register. IsNetIn fabric.nets register.clk) fabric.registers → All (λ ram. IsNetIn fabric.nets ram.rclk) fabric.rams → All (λ ram. IsNetIn fabric.nets ram.wclk) fabric.rams
+        → faults_in (flat_map register_inputs fabric.registers ++ flat_map ram_inputs fabric.rams) ≡ flat_map users_fault (users_at fabric x y)
+    unfolding register_faults ram_faults
     users-tile clocks reads writes =
-        let cells = map cell_user (filter (λ lc. (lc.x == x) && (lc.y == y)) (flips_of fabric)) in
+        let registers = map register_user (filter (λ register. (register.x == x) && (register.y == y)) fabric.registers) in
         let ports = flat_map ram_users (filter (λ ram. (ram.x == x) && (ram.y == y)) fabric.rams) in
-        faults-then (flat_map cell_inputs fabric.lcs) (flat_map ram_inputs fabric.rams)
-        ∙ (ap (λ l. l ++ faults_in (flat_map ram_inputs fabric.rams)) (cells-tile fabric.lcs clocks)
-        ∙ (ap (λ l. cell_faults fabric.lcs ++ l) (rams-tile fabric.rams reads writes)
-        ∙ sym (flat_map-append users_fault cells ports)))
+        faults-then (flat_map register_inputs fabric.registers) (flat_map ram_inputs fabric.rams)
+        ∙ (ap (λ l. l ++ faults_in (flat_map ram_inputs fabric.rams)) (registers-tile fabric.registers clocks)
+        ∙ (ap (λ l. register_faults fabric.registers ++ l) (rams-tile fabric.rams reads writes)
+        ∙ sym (flat_map-append users_fault registers ports)))
 
 -- ---- the whole
 
 -- the first of all users is the first fault
 pub first-fault : (device : DeviceName) (fabric : Fabric) (links : LinkSet) (ends : List KeptEnd)
     → ((net : ℕ) → net < fabric.nets → end_in ends (class_in links net) ≡ clock_end fabric net)
-    → All (λ lc. IsNetIn fabric.nets lc.clk) fabric.lcs → All (λ ram. IsNetIn fabric.nets ram.rclk) fabric.rams → All (λ ram. IsNetIn fabric.nets ram.wclk) fabric.rams
-    → fault_of (first_on device (unclocked_in links ends (flat_map cell_inputs fabric.lcs) ++ unclocked_in links ends (flat_map ram_inputs fabric.rams)))
+    → All (λ register. IsNetIn fabric.nets register.clk) fabric.registers → All (λ ram. IsNetIn fabric.nets ram.rclk) fabric.rams → All (λ ram. IsNetIn fabric.nets ram.wclk) fabric.rams
+    → fault_of (first_on device (unclocked_in links ends (flat_map register_inputs fabric.registers) ++ unclocked_in links ends (flat_map ram_inputs fabric.rams)))
     ≡ first_of (clock_faults device fabric)
 unfolding first_on clock_faults users_of faults_in
 first-fault device fabric links ends same clocks reads writes =
-    let inputs = flat_map cell_inputs fabric.lcs ++ flat_map ram_inputs fabric.rams in
+    let inputs = flat_map register_inputs fabric.registers ++ flat_map ram_inputs fabric.rams in
     let found = unclocked_in links ends inputs in
     ap (λ l. fault_of (first_of (over_grid device (λ x y. filter (is_at x y) l))))
-    (sym (flat_map-append (unclocked_by links ends) (flat_map cell_inputs fabric.lcs) (flat_map ram_inputs fabric.rams)))
+    (sym (flat_map-append (unclocked_by links ends) (flat_map register_inputs fabric.registers) (flat_map ram_inputs fabric.rams)))
     ∙ (fault_of-first (over_grid device (λ x y. filter (is_at x y) found))
     ∙ ap first_of (over_grid-same device fault (λ user. user_fault fabric user user.net) (λ x y. filter (is_at x y) found) (users_at fabric)
     (λ x y. users-tile x y fabric links ends same clocks reads writes)))

@@ -1,5 +1,5 @@
 -- Rows and marks of the classes of a fabric.
-use Rattle.std.proofs.Common.{◌≡◌, ℕ, ◌+◌, ◌<◌, ◌≤◌, true, false, List, [], ◌∷◌, ◌++◌, length, take, map, get_or, refl, sym, ◌∙◌, ap, subst, inl, inr, arith}
+use Rattle.std.proofs.Common.{◌≡◌, ℕ, ◌+◌, ◌<◌, ◌≤◌, Bool, true, false, List, [], ◌∷◌, ◌++◌, length, take, map, get_or, refl, sym, ◌∙◌, ap, subst, inl, inr, arith}
 use Rattle.std.proofs.Math.Seq.{get_or-append_seam}
 use Rattle.std.specs.Prelude.{flat_map, option_to_list, Option, Some, None, is_some, IfSome}
 use Rattle.std.specs.declared.vec.Vec.{Vec}
@@ -7,11 +7,10 @@ use Rattle.std.proofs.Math.ListN.{get_or-append}
 use Rattle.std.proofs.lemmas.Bool.{cases_lt, cases_Bool}
 use Rattle.std.proofs.lemmas.List.{map-append, append-nil, get_or_past}
 use Rattle.shared_lemmas.proofs.Lists.{map-every, flat_map-more}
-use Rattle.net_extract.specs.declared.cell.Lc.{Lc}
 use Rattle.net_extract.specs.Joins.{class_of}
 use Rattle.net_extract.specs.Fabric.{Fabric}
 use Rattle.net_extract.specs.Drivers.{Drive, drivers_of, is_driven, nets_read}
-use Rattle.net_extract.specs.Drivers.Rule.{sent_back, carry_out}
+use Rattle.net_extract.specs.Drivers.Rule.{input, majority_of}
 use Rattle.net_extract.specs.Wiring.{depends, has}
 use Rattle.net_extract.specs.Wiring.{wiring_of as wiring_of_fabric}
 use Rattle.net_extract.proofs.Joins.{class_of-le}
@@ -58,13 +57,13 @@ reads-more change nets i d there =
     ∙ map-append change (flat_map option_to_list (take i nets)) (option_to_list (get_or nets i d))
 
 -- the nets that a rule reads, from a list of those that may be missing
-pub read-back : (net : Option ℕ) → option_to_list net ++ [] ≡ nets_read (sent_back net)
+pub read-input : (stated : Bool) (net : Option ℕ) → option_to_list net ++ [] ≡ nets_read (input stated net)
 unfolding nets_read
-read-back net = append-nil (option_to_list net)
+read-input stated net = append-nil (option_to_list net)
 
-pub read-carry : (lc : Lc) → option_to_list (get_or lc.ins 1 None) ++ (option_to_list (get_or lc.ins 2 None) ++ (option_to_list lc.cin ++ [])) ≡ nets_read (carry_out lc)
+pub read-majority : (a b c : Option ℕ) → option_to_list a ++ (option_to_list b ++ (option_to_list c ++ [])) ≡ nets_read (majority_of a b c)
 unfolding nets_read
-read-carry lc = ap (λ l. option_to_list (get_or lc.ins 1 None) ++ (option_to_list (get_or lc.ins 2 None) ++ l)) (append-nil (option_to_list lc.cin))
+read-majority a b c = ap (λ l. option_to_list a ++ (option_to_list b ++ l)) (append-nil (option_to_list c))
 
 -- ---- the wiring
 

@@ -2,9 +2,9 @@
 use Rattle.std.specs.Prelude.{ℕ, Bool, true, false, ◌&&◌, ◌||◌, ◌==◌, nat_lt, List, [], ◌∷◌, filter, flat_map, Option, Some, None}
 use Rattle.plane_map.specs.Layout.{grid_width, grid_height}
 use Rattle.plane_map.specs.declared.device.DeviceName.{DeviceName}
-use Rattle.net_extract.specs.declared.cell.Lc.{Lc}
+use Rattle.net_extract.specs.declared.register.Register.{Register}
 use Rattle.net_extract.specs.declared.ram.RamCell.{RamCell}
-use Rattle.net_extract.specs.declared.driver.ClockUser.TheVariants.{Cell, Read, Write}
+use Rattle.net_extract.specs.declared.driver.ClockUser.TheVariants.{Read, Write}
 use Rattle.net_extract.specs.Tiles.{over_grid, item_if, first_of}
 use Rattle.net_extract.specs.Clocks.{ClockEnd}
 use Rattle.net_extract.specs.Clocks.ClockEnd.{at_pin, undriven, logic}
@@ -16,9 +16,9 @@ use Rattle.fabric_wiring.specs.Ends.{end_in}
 
 -- ---- inputs for clocks
 
--- that of the flip-flop of a cell, where it has one
-abbrev pub cell_inputs : Lc → List ClockInput
-cell_inputs lc = item_if lc.flip (record { x = lc.x; y = lc.y; user = Cell lc.i; net = lc.clk })
+-- that of a register
+abbrev pub register_inputs : Register → List ClockInput
+register_inputs register = record { x = register.x; y = register.y; user = register.user; net = register.clk } ∷ []
 
 -- those of the ports of a RAM: the read port goes first
 abbrev pub ram_inputs : RamCell → List ClockInput

@@ -21,5 +21,6 @@ pub record ArePartsOf (fabric : Fabric) (parts : Parts) : Type 0 where
   pub pins : parts.pins.items ≡ fabric.pins
   pub globals : parts.globals.items ≡ fabric.globals
   pub lcs : parts.lcs.items ≡ fabric.lcs
+  pub registers : parts.registers.items ≡ fabric.registers
   pub sets : parts.sets.items ≡ fabric.sets
   pub rams : parts.rams.items ≡ fabric.rams

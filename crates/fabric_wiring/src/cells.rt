@@ -1,26 +1,13 @@
 // What logic cells drive.
-ghost use Rattle.std.specs.Prelude.{◌≡◌, ◌∷◌, [], ◌++◌, map, filter, flat_map, not, IfOk, OnOk};
-ghost use Rattle.net_extract.specs.Fabric.{numbered};
-ghost use Rattle.net_extract.specs.Drivers.{lut_drives, flip_drives, lout_drives, carry_drives, set_drives};
+ghost use Rattle.std.specs.Prelude.{◌≡◌, ◌∷◌, [], ◌++◌, map, filter, flat_map, not, OnOk};
+ghost use Rattle.net_extract.specs.Drivers.{lut_drives, lout_drives, carry_drives, set_drives};
 ghost use Rattle.fabric_wiring.specs.Drives.{drive_of};
 
 use crate::drive::{Drive, Rule};
-use crate::push::{place_of, push_if};
+use crate::push::push_if;
+use crate::registers::table_of;
 use net_extract::{CarrySet, Driver, Lc};
-use std::alloc::{AllocError, Global};
-
-/// The cells with flip-flop among cells.
-pub(crate) fn flips(alloc: Global, lcs: &[Lc]) -> Result<Vec<Lc>, AllocError>
-    ensures { IfOk result (λ flips. flips.items ≡ filter (λ lc. lc.flip) lcs.now) }
-{
-    let mut flips = Vec::new(alloc);
-    for lc in lcs {
-        if lc.flip {
-            flips.push(*lc)?;
-        }
-    }
-    Ok(flips)
-}
+use std::alloc::AllocError;
 
 /// Appends what a cell drives on `lutff_i/out` where it has no flip-flop.
 fn append_lut(drives: &mut Vec<Drive>, lc: Lc) -> Result<(), AllocError>
@@ -34,7 +21,7 @@ fn append_lut(drives: &mut Vec<Drive>, lc: Lc) -> Result<(), AllocError>
         y: lc.y,
         i: lc.i,
     };
-    push_if(drives, driver, Rule::LutEntry(lc), lc.out)
+    push_if(drives, driver, Rule::TableEntry(table_of(&lc)), lc.out)
 }
 
 /// Appends what cells without flip-flop drive on `lutff_i/out`.
@@ -43,22 +30,6 @@ pub(crate) fn append_luts(drives: &mut Vec<Drive>, lcs: &[Lc]) -> Result<(), All
 {
     for lc in lcs {
         append_lut(drives, *lc)?;
-    }
-    Ok(())
-}
-
-/// Appends what cells with flip-flop drive on `lutff_i/out`.
-pub(crate) fn append_flips(drives: &mut Vec<Drive>, flips: &[Lc]) -> Result<(), AllocError>
-    ensures { OnOk result (map drive_of drives.new.items ≡ map drive_of drives.old.items ++ flat_map flip_drives (numbered flips.now)) }
-{
-    for (i, lc) in flips.iter().enumerate() {
-        let place = place_of(i)?;
-        let driver = Driver::Flip {
-            x: lc.x,
-            y: lc.y,
-            i: lc.i,
-        };
-        push_if(drives, driver, Rule::FlipBit(place), lc.out)?;
     }
     Ok(())
 }
@@ -73,7 +44,7 @@ pub(crate) fn append_louts(drives: &mut Vec<Drive>, lcs: &[Lc]) -> Result<(), Al
             y: lc.y,
             i: lc.i,
         };
-        push_if(drives, driver, Rule::LutEntry(*lc), lc.lout)?;
+        push_if(drives, driver, Rule::TableEntry(table_of(lc)), lc.lout)?;
     }
     Ok(())
 }
@@ -90,7 +61,8 @@ fn append_carry(drives: &mut Vec<Drive>, lc: Lc) -> Result<(), AllocError>
         y: lc.y,
         i: lc.i,
     };
-    push_if(drives, driver, Rule::CarryOut(lc), lc.cout)
+    let rule = Rule::MajorityOf(lc.ins[1], lc.ins[2], lc.cin);
+    push_if(drives, driver, rule, lc.cout)
 }
 
 /// Appends what cells drive on `lutff_i/cout` that carry.
@@ -109,7 +81,7 @@ pub(crate) fn append_sets(drives: &mut Vec<Drive>, sets: &[CarrySet]) -> Result<
 {
     for set in sets {
         let driver = Driver::CarrySet { x: set.x, y: set.y };
-        push_if(drives, driver, Rule::One, Some(set.net))?;
+        push_if(drives, driver, Rule::Constant(true), Some(set.net))?;
     }
     Ok(())
 }

@@ -5,12 +5,13 @@ ghost use Rattle.net_extract.specs.Drivers.{drives_of, buffer_drives};
 ghost use Rattle.fabric_wiring.specs.Drives.{drive_of};
 ghost use Rattle.fabric_wiring.specs.Parts.{buffer_of, ArePartsOf};
 
-use crate::cells::{append_carries, append_flips, append_louts, append_luts, append_sets, flips};
+use crate::cells::{append_carries, append_louts, append_luts, append_sets};
 use crate::drive::{Drive, Rule};
 use crate::parts::{Buffer, Parts};
 use crate::pins::{append_backs, append_globals, append_pins, inputs};
 use crate::push::push_if;
 use crate::rams::append_rams;
+use crate::registers::append_registers;
 use net_extract::Driver;
 use std::alloc::{AllocError, Global};
 
@@ -30,12 +31,11 @@ pub(crate) fn all_drives(alloc: Global, parts: &Parts) -> Result<Vec<Drive>, All
     ensures { IfOk result (λ drives. (fabric : Fabric) → ArePartsOf fabric parts.now → map drive_of drives.items ≡ drives_of fabric) }
 {
     let inputs = inputs(alloc, &parts.pins)?;
-    let flips = flips(alloc, &parts.lcs)?;
     let mut drives = Vec::new(alloc);
     append_pins(&mut drives, &inputs)?;
     append_backs(&mut drives, &parts.pins)?;
     append_luts(&mut drives, &parts.lcs)?;
-    append_flips(&mut drives, &flips)?;
+    append_registers(&mut drives, &parts.registers)?;
     append_louts(&mut drives, &parts.lcs)?;
     append_carries(&mut drives, &parts.lcs)?;
     append_sets(&mut drives, &parts.sets)?;

@@ -1,8 +1,8 @@
 //! The wiring of a fabric: what drives each class of nets, what each class reads, where the clocks come from, and the order in
 //! which the classes can be written.
 //!
-//! [`drivers`] finds the drivers from the parts of a fabric. [`wires`] and [`clock_ends`] go over them, and [`first_unclocked`] over
-//! the cells and RAMs. [`write_order`] finds the order of writing, for classes that are given as marks and rows; where there is none,
+//! [`registers_of`] makes the registers of cells, and [`drivers`] finds the drivers from the parts of a fabric. [`wires`] and
+//! [`clock_ends`] go over them, and [`first_unclocked`] over the registers and RAMs. [`write_order`] finds the order of writing, for classes that are given as marks and rows; where there is none,
 //! [`least_cycle`] finds the least class that lies on a cycle. The calls of [`Drivers`] take no memory.
 #![tactic(auto)]
 
@@ -24,6 +24,7 @@ mod rams;
 mod readers;
 mod reading;
 mod ready;
+mod registers;
 mod search;
 mod twice;
 mod users;
@@ -38,5 +39,6 @@ pub use gather::drivers;
 pub use order::write_order;
 pub use parts::{Buffer, Parts};
 pub use reading::wires;
+pub use registers::registers_of;
 pub use users::{Unclocked, first_unclocked};
 pub use wires_type::Wires;

@@ -1,6 +1,6 @@
 // The parts of a fabric.
 
-use net_extract::{CarrySet, GlobalNet, Lc, Links, Pin, RamCell};
+use net_extract::{CarrySet, GlobalNet, Lc, Links, Pin, RamCell, Register};
 
 /// A buffer that is on: the `.buffer` line of that place in the database, and its two nets.
 #[derive(Clone, Copy, Debug, PartialEq, Eq)]
@@ -23,6 +23,8 @@ pub struct Parts {
     pub globals: Vec<GlobalNet>,
     /// The used cells.
     pub lcs: Vec<Lc>,
+    /// The registers: the flip-flops of the cells.
+    pub registers: Vec<Register>,
     /// The carry inputs that are set.
     pub sets: Vec<CarrySet>,
     /// The used RAMs.

@@ -50,7 +50,11 @@ fn append_back(drives: &mut Vec<Drive>, pin: Pin) -> Result<(), AllocError>
         y: pin.y,
         n: pin.n,
     };
-    push_if(drives, driver, Rule::SentBack(pin.dout), pin.din)
+    let rule = Rule::Input {
+        stated: false,
+        net: pin.dout,
+    };
+    push_if(drives, driver, rule, pin.din)
 }
 
 /// Appends what output pins drive that can be read.

@@ -19,7 +19,7 @@ fn append_ram(drives: &mut Vec<Drive>, place: u32, ram: &RamCell) -> Result<(), 
             y: ram.y,
             bit,
         };
-        let rule = Rule::RegisterBit { ram: place, bit };
+        let rule = Rule::ReadBit { ram: place, bit };
         push_if(drives, driver, rule, ram.rdata[bit as usize])?;
     }
     Ok(())

@@ -1,7 +1,7 @@
 // Which classes have a driver, and which classes each reads.
-ghost use Rattle.std.specs.Prelude.{◌≡◌, ℕ, ◌<◌, ◌≤◌, true, is_some, length, map, flat_map, option_to_list, IfOk, IfSome};
+ghost use Rattle.std.specs.Prelude.{◌≡◌, ℕ, ◌<◌, ◌≤◌, true, is_some, length, map, flat_map, option_to_list, [], if◌then◌else◌, IfOk, IfSome};
 ghost use Rattle.net_extract.specs.Fabric.{Fabric};
-ghost use Rattle.net_extract.specs.Drivers.{nets_read};
+ghost use Rattle.net_extract.specs.Drivers.{source_nets, nets_read};
 ghost use Rattle.net_extract.specs.Wiring.{has};
 ghost use Rattle.fabric_wiring.specs.Rows.{is_marked, row_at};
 ghost use Rattle.net_extract.specs.Links.{class_in};
@@ -13,7 +13,7 @@ ghost use Rattle.fabric_wiring.specs.Wires.{AreWiresOf};
 
 use crate::wires_type::Wires;
 use crate::{Drive, Drivers, Parts, Rule};
-use net_extract::Links;
+use net_extract::{Links, Register, Source};
 use std::alloc::{AllocError, Global};
 
 /// Finds what the classes of a fabric read: a mark and a row for each class, from the least on.
@@ -91,14 +91,43 @@ fn row_by(alloc: Global, links: &Links, rule: Rule) -> Result<Vec<u32>, AllocErr
     ensures { IfOk result (λ row. row.items ≡ classes_read links.now rule) }
 {
     match rule {
-        Rule::SentBack(net) => classes_of(alloc, links, &[net]),
-        Rule::LutEntry(lc) => classes_of(alloc, links, &lc.ins),
-        Rule::CarryOut(lc) => classes_of(alloc, links, &[lc.ins[1], lc.ins[2], lc.cin]),
+        Rule::Input { net, .. } => classes_of(alloc, links, &[net]),
+        Rule::TableEntry(table) => classes_of_sources(alloc, links, &table.ins),
+        Rule::MajorityOf(a, b, c) => classes_of(alloc, links, &[a, b, c]),
+        Rule::RegisterBit { register, .. } => classes_of_reset(alloc, links, &register),
         Rule::Copied(net) => classes_of(alloc, links, &[Some(net)]),
-        Rule::PinBit(_) | Rule::FlipBit(_) | Rule::One | Rule::RegisterBit { .. } => {
-            Ok(Vec::new(alloc))
+        Rule::PinBit(_) | Rule::Constant(_) | Rule::ReadBit { .. } => Ok(Vec::new(alloc)),
+    }
+}
+
+/// The class of the reset of a register, where the register reads it: where it acts at once.
+fn classes_of_reset(
+    alloc: Global,
+    links: &Links,
+    register: &Register,
+) -> Result<Vec<u32>, AllocError>
+    requires { (net : ℕ) → has (if register.now.at_once then option_to_list register.now.sr else []) net ≡ true → net < length links.now.classes }
+    ensures { IfOk result (λ row. row.items ≡ map (class_in links.now) (if register.now.at_once then option_to_list register.now.sr else [])) }
+{
+    if register.at_once {
+        classes_of(alloc, links, &[register.sr])
+    } else {
+        Ok(Vec::new(alloc))
+    }
+}
+
+/// The classes of the nets that inputs of a table are.
+fn classes_of_sources(alloc: Global, links: &Links, ins: &[Source]) -> Result<Vec<u32>, AllocError>
+    requires { (net : ℕ) → has (flat_map source_nets ins.now) net ≡ true → net < length links.now.classes }
+    ensures { IfOk result (λ row. row.items ≡ map (class_in links.now) (flat_map source_nets ins.now)) }
+{
+    let mut row = Vec::new(alloc);
+    for source in ins {
+        if let Source::Net(Some(net)) = source {
+            row.push(links.class_of(*net))?;
         }
     }
+    Ok(row)
 }
 
 /// The classes of the nets that are there.

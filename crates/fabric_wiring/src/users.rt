@@ -8,11 +8,11 @@ ghost use Rattle.net_extract.specs.Links.{class_in};
 ghost use Rattle.fabric_wiring.specs.Parts.{ArePartsOf};
 ghost use Rattle.fabric_wiring.specs.Ends.{end_in, AreEndsOf};
 ghost use Rattle.fabric_wiring.specs.Users.{fault_of};
-ghost use Rattle.fabric_wiring.specs.First.{cell_inputs, ram_inputs, is_other, unclocked_by, unclocked_in, first_on, is_on_grid, is_before, is_before_any};
+ghost use Rattle.fabric_wiring.specs.First.{register_inputs, ram_inputs, is_other, unclocked_by, unclocked_in, first_on, is_on_grid, is_before, is_before_any};
 
 use crate::Parts;
 use crate::ends::{ClockEnd, end_at};
-use net_extract::{ClockUser, Lc, Links, RamCell};
+use net_extract::{ClockUser, Links, RamCell, Register};
 use plane_map::DeviceName;
 
 /// A user of a clock at the tile at (x, y), and the net of its clock, which comes from another driver than a pin.
@@ -33,26 +33,31 @@ struct ClockInput {
     net: Option<u32>,
 }
 
-/// Finds the first user whose clock comes from another driver than a pin. Users go by tiles, the cells of a tile by index, and at a
-/// RAM the read port goes first. It goes over the cells and the RAMs once, and takes no memory.
+/// Finds the first user whose clock comes from another driver than a pin. Users go by tiles, the registers of a tile in
+/// their order, and at a RAM the read port goes first. It goes over the registers and the RAMs once, and takes no memory.
 pub fn first_unclocked(device: DeviceName, parts: &Parts, ends: &[ClockEnd]) -> Option<Unclocked>
     ghost fabric: { Fabric }
     requires parts { ArePartsOf fabric parts.now }
     requires ends { AreEndsOf fabric ends.now }
     ensures { fault_of result ≡ first_of (clock_faults device fabric) }
 {
-    let cell = first_cell(device, &parts.links, ends, &parts.lcs);
-    or_first_port(device, &parts.links, ends, &parts.rams, cell)
+    let register = first_register(device, &parts.links, ends, &parts.registers);
+    or_first_port(device, &parts.links, ends, &parts.rams, register)
 }
 
-/// The first flip-flop whose clock comes from another driver than a pin.
-fn first_cell(device: DeviceName, links: &Links, ends: &[ClockEnd], lcs: &[Lc]) -> Option<Unclocked>
-    requires { All (λ lc. IsNetIn (length links.now.classes) lc.clk) lcs.now }
-    ensures { result ≡ first_on device (unclocked_in links.now ends.now (flat_map cell_inputs lcs.now)) }
+/// The first register whose clock comes from another driver than a pin.
+fn first_register(
+    device: DeviceName,
+    links: &Links,
+    ends: &[ClockEnd],
+    registers: &[Register],
+) -> Option<Unclocked>
+    requires { All (λ register. IsNetIn (length links.now.classes) register.clk) registers.now }
+    ensures { result ≡ first_on device (unclocked_in links.now ends.now (flat_map register_inputs registers.now)) }
 {
     let mut found = None;
-    for lc in lcs {
-        found = or_cell(device, links, ends, found, lc);
+    for register in registers {
+        found = or_register(device, links, ends, found, register);
     }
     found
 }
@@ -76,28 +81,24 @@ fn or_first_port(
     found
 }
 
-/// What was found, or the flip-flop of a cell, where it goes before.
-fn or_cell(
+/// What was found, or a register, where it goes before.
+fn or_register(
     device: DeviceName,
     links: &Links,
     ends: &[ClockEnd],
     found: Option<Unclocked>,
-    lc: &Lc,
+    register: &Register,
 ) -> Option<Unclocked>
-    requires { IsNetIn (length links.now.classes) lc.now.clk }
-    ensures { (before : List Unclocked) → found ≡ first_on device before → result ≡ first_on device (before ++ unclocked_in links.now ends.now (cell_inputs lc.now)) }
+    requires { IsNetIn (length links.now.classes) register.now.clk }
+    ensures { (before : List Unclocked) → found ≡ first_on device before → result ≡ first_on device (before ++ unclocked_in links.now ends.now (register_inputs register.now)) }
 {
-    if lc.flip {
-        let input = ClockInput {
-            x: lc.x,
-            y: lc.y,
-            user: ClockUser::Cell { i: lc.i },
-            net: lc.clk,
-        };
-        or_input(device, links, ends, found, input)
-    } else {
-        found
-    }
+    let input = ClockInput {
+        x: register.x,
+        y: register.y,
+        user: register.user,
+        net: register.clk,
+    };
+    or_input(device, links, ends, found, input)
 }
 
 /// What was found, or a port of a RAM, where it goes before.

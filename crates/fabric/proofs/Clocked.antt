@@ -15,7 +15,7 @@ use Rattle.net_extract.specs.Faults.{design_fault}
 use Rattle.net_extract.proofs.Chains.{HasEndValue, clock-value, clock_end-leads}
 use Rattle.net_extract.proofs.Taken.{design-taken, taken-order}
 use Rattle.net_extract.proofs.Within.{fabric-within}
-use Rattle.net_extract.proofs.Runs.{IsClockEnd, IsClocked, fabric-placed, flip-good, read-good, write-good}
+use Rattle.net_extract.proofs.Runs.{IsClockEnd, IsClocked, fabric-placed, register-good, read-good, write-good}
 use Rattle.fabric.specs.Clocks.{HasEndBit, HasClock, HasClocks}
 
 end-bit : (pins : List Bool) (end : ClockEnd) (bit : Bool) → IsClockEnd end → HasEndValue pins end bit → HasEndBit pins end bit
@@ -45,7 +45,7 @@ module _ (db : Database) (image : Configuration) (fit : IsFit db) (none : design
       let taken = (design-taken db image none).fabric in
       let placed = fabric-placed db image in
       record {
-        flips = λ lc there. has-clock entry is lc.clk (flip-good image.layout.device fabric taken placed lc there);
+        registers = λ register there. has-clock entry is register.clk (register-good image.layout.device fabric taken placed register there);
         reads = λ ram there. has-clock entry is ram.rclk (read-good image.layout.device fabric taken placed ram there);
         writes = λ ram there. has-clock entry is ram.wclk (write-good image.layout.device fabric taken placed ram there);
       }

@@ -9,6 +9,7 @@ use Rattle.chipdb_reader.specs.Database.{Database}
 use Rattle.chipdb_reader.specs.Fit.{IsFit}
 use Rattle.net_extract.specs.Links.{AreLinks}
 use Rattle.net_extract.specs.Cells.{cells_of, sets_of}
+use Rattle.net_extract.specs.Registers.{registers_of}
 use Rattle.net_extract.specs.Rams.{rams_of}
 use Rattle.net_extract.specs.Pins.{pins_of, globals_of}
 use Rattle.ice_image.specs.Bits.{ram_word_of}
@@ -33,10 +34,10 @@ use Rattle.fabric.proofs.StartWords.{rams-lower, words-are}
 module _ (db : Database) (image : Configuration) where
   pub parts-of : IsFit db → (parts : Parts) → AreLinks db image parts.links → map buffer_of parts.buffers.items ≡ buffers_of db image
       → parts.pins.items ≡ pins_of db image → parts.globals.items ≡ globals_of db image
-      → parts.lcs.items ≡ cells_of db image → parts.sets.items ≡ sets_of db image → parts.rams.items ≡ rams_of db image
+      → parts.lcs.items ≡ cells_of db image → parts.registers.items ≡ registers_of parts.lcs.items → parts.sets.items ≡ sets_of db image → parts.rams.items ≡ rams_of db image
       → ArePartsOf (fabric_of db image) parts
   unfolding fabric_of
-  parts-of fit parts linked buffers pins globals lcs sets rams = record {
+  parts-of fit parts linked buffers pins globals lcs registers sets rams = record {
     within = fabric-in db image fit;
     nets = linked.nets;
     classes = linked.classes;
@@ -44,6 +45,7 @@ module _ (db : Database) (image : Configuration) where
     pins = pins;
     globals = globals;
     lcs = lcs;
+    registers = registers ∙ ap registers_of lcs;
     sets = sets;
     rams = rams;
   }

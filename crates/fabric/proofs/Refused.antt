@@ -7,7 +7,7 @@ use Rattle.ice_image.specs.Configuration.{Configuration}
 use Rattle.chipdb_reader.specs.Database.{Database}
 use Rattle.place_search.specs.Places.{or_else}
 use Rattle.net_extract.specs.Fabric.{fabric_of}
-use Rattle.net_extract.specs.Faults.{Fault, device_faults, pins_fault, rams_fault, cells_fault, fabric_fault, design_fault}
+use Rattle.net_extract.specs.Faults.{Fault, device_faults, pins_fault, rams_fault, fabric_fault, design_fault}
 use Rattle.net_extract.specs.declared.fault.LinkFault.{LinkFault}
 use Rattle.net_extract.specs.declared.fault.LinkFault.TheVariants as links
 use Rattle.io_cell.specs.declared.fault.PinFault.{PinFault}
@@ -16,12 +16,9 @@ use Rattle.io_cell.specs.Faults.{IsCause as IsPinCause}
 use Rattle.block_ram.specs.declared.fault.RamFault.{RamFault}
 use Rattle.block_ram.specs.declared.fault.RamFault.TheVariants as rams
 use Rattle.block_ram.specs.Faults.{IsCause as IsRamCause}
-use Rattle.logic_cell.specs.declared.fault.LcFault.{LcFault}
-use Rattle.logic_cell.specs.declared.fault.LcFault.TheVariants as cells
-use Rattle.logic_cell.specs.Faults.{IsCause as IsCellCause}
 use Rattle.fabric.specs.declared.fault.FabricFault.{FabricFault}
 use Rattle.fabric.specs.Faults.{IsCause, AreTaken}
-use Rattle.fabric.specs.Causes.{of_links, of_pins, of_rams, of_cells}
+use Rattle.fabric.specs.Causes.{of_links, of_pins, of_rams}
 
 module _ (db : Database) (image : Configuration) where
   Refuses : Option Fault → Type 0
@@ -37,7 +34,7 @@ module _ (db : Database) (image : Configuration) where
 
   module _ (same : db.chip.device ≡ image.layout.device) where
     behind-device : design_fault db image
-        ≡ or_else (pins_fault db image) (or_else (rams_fault db image) (or_else (cells_fault db image) (fabric_fault image.layout.device (fabric_of db image))))
+        ≡ or_else (pins_fault db image) (or_else (rams_fault db image) (fabric_fault image.layout.device (fabric_of db image)))
     unfolding design_fault
     behind-device = rw (no-device same) refl
 
@@ -48,13 +45,9 @@ module _ (db : Database) (image : Configuration) where
       rams-refuse : (cause : Fault) → rams_fault db image ≡ Some cause → design_fault db image ≡ Some cause
       rams-refuse cause is = behind-device ∙ rw (pins-taken, is) refl
 
-      module _ (rams-taken : rams_fault db image ≡ None) where
-        cells-refuse : (cause : Fault) → cells_fault db image ≡ Some cause → design_fault db image ≡ Some cause
-        cells-refuse cause is = behind-device ∙ rw (pins-taken, rams-taken, is) refl
-
   -- the fault of the whole is that of the fabric, where the parts are taken
   pub fabric-left : AreTaken db image → design_fault db image ≡ fabric_fault image.layout.device (fabric_of db image)
-  fabric-left taken = behind-device taken.device ∙ rw (taken.pins, taken.rams, taken.cells) refl
+  fabric-left taken = behind-device taken.device ∙ rw (taken.pins, taken.rams) refl
 
   -- ---- the refusals of the parts
 
@@ -74,11 +67,6 @@ module _ (db : Database) (image : Configuration) where
   rams-cause same taken (rams.Mode x y read write) is = rams-refuse same taken _ is
   rams-cause same taken (rams.Cascade x y) is = rams-refuse same taken _ is
   rams-cause same taken (rams.Memory failed) is = tt
-
-  pub cells-cause : (same : db.chip.device ≡ image.layout.device) → pins_fault db image ≡ None → rams_fault db image ≡ None
-      → (fault : LcFault) → IsCellCause (cells_fault db image) fault → IsRefusal (of_cells fault)
-  cells-cause same pins-taken rams-taken (cells.Async x y i) is = cells-refuse same pins-taken rams-taken _ is
-  cells-cause same pins-taken rams-taken (cells.Memory failed) is = tt
 
 -- an answer that tells an error has what holds of it
 pub told : {A E : Type 0} (result : Result A E) (error : E) (Holds : E → Type 0) → IsErrAnd result (λ fault. fault ≡ error) → Holds error → IfErr result Holds

@@ -5,12 +5,10 @@ use Rattle.io_cell.specs.declared.fault.PinFault.{PinFault}
 use Rattle.io_cell.specs.declared.fault.PinFault.TheVariants as pins
 use Rattle.block_ram.specs.declared.fault.RamFault.{RamFault}
 use Rattle.block_ram.specs.declared.fault.RamFault.TheVariants as rams
-use Rattle.logic_cell.specs.declared.fault.LcFault.{LcFault}
-use Rattle.logic_cell.specs.declared.fault.LcFault.TheVariants as cells
 use Rattle.fabric_wiring.specs.declared.fault.DriverFault.{DriverFault}
 use Rattle.fabric_wiring.specs.declared.fault.DriverFault.TheVariants as drivers
 use Rattle.fabric.specs.declared.fault.FabricFault.{FabricFault}
-use Rattle.fabric.specs.declared.fault.FabricFault.TheVariants.{Device, Pll, PinMode, Mode, Cascade, Async, TwoDrivers, Memory}
+use Rattle.fabric.specs.declared.fault.FabricFault.TheVariants.{Device, Pll, PinMode, Mode, Cascade, TwoDrivers, Memory}
 
 abbrev pub of_links : LinkFault → FabricFault
 of_links links.Device = Device
@@ -25,10 +23,6 @@ abbrev pub of_rams : RamFault → FabricFault
 of_rams (rams.Mode x y read write) = Mode x y read write
 of_rams (rams.Cascade x y) = Cascade x y
 of_rams (rams.Memory failed) = Memory failed
-
-abbrev pub of_cells : LcFault → FabricFault
-of_cells (cells.Async x y i) = Async x y i
-of_cells (cells.Memory failed) = Memory failed
 
 abbrev pub of_drivers : DriverFault → FabricFault
 of_drivers (drivers.TwoDrivers net first second) = TwoDrivers net first second

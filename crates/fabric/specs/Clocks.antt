@@ -1,8 +1,8 @@
 -- The clocks in an entry of a run.
 use Rattle.std.specs.Prelude.{◌≡◌, ℕ, Bool, false, List, get_or, Contains, Option, Some, None}
-use Rattle.net_extract.specs.declared.cell.Lc.{Lc}
+use Rattle.net_extract.specs.declared.register.Register.{Register}
 use Rattle.net_extract.specs.declared.ram.RamCell.{RamCell}
-use Rattle.net_extract.specs.Fabric.{Fabric, flips_of}
+use Rattle.net_extract.specs.Fabric.{Fabric}
 use Rattle.net_extract.specs.Values.{bit_in}
 use Rattle.net_extract.specs.Steps.{Entry}
 use Rattle.net_extract.specs.Clocks.{ClockEnd, clock_end}
@@ -19,8 +19,8 @@ abbrev pub HasClock : Fabric → Entry → Option ℕ → Type 0
 HasClock fabric entry None = Unit {0}
 HasClock fabric entry (Some net) = HasEndBit entry.pins (clock_end fabric net) (bit_in entry.v net)
 
--- the clocks of all flip-flops and RAM ports
+-- the clocks of all registers and RAM ports
 pub record HasClocks (fabric : Fabric) (entry : Entry) : Type 0 where
-  pub flips : (lc : Lc) → Contains (flips_of fabric) lc → HasClock fabric entry lc.clk
+  pub registers : (register : Register) → Contains fabric.registers register → HasClock fabric entry register.clk
   pub reads : (ram : RamCell) → Contains fabric.rams ram → HasClock fabric entry ram.rclk
   pub writes : (ram : RamCell) → Contains fabric.rams ram → HasClock fabric entry ram.wclk

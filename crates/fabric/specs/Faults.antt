@@ -11,10 +11,10 @@ use Rattle.net_extract.specs.Joins.{class_of}
 use Rattle.net_extract.specs.Clocks.{LeadsTo, users_of, clock_end}
 use Rattle.net_extract.specs.Clocks.ClockEnd.{logic}
 use Rattle.chipdb_reader.specs.Database.{Database}
-use Rattle.net_extract.specs.Faults.{Fault, pins_fault, rams_fault, cells_fault}
+use Rattle.net_extract.specs.Faults.{Fault, pins_fault, rams_fault}
 use Rattle.plane_map.specs.declared.device.DeviceName.{DeviceName}
 use Rattle.fabric.specs.declared.fault.FabricFault.{FabricFault}
-use Rattle.fabric.specs.declared.fault.FabricFault.TheVariants.{Device, Pll, PinMode, Mode, Cascade, Async, TwoDrivers, Loop, Clock, Memory}
+use Rattle.fabric.specs.declared.fault.FabricFault.TheVariants.{Device, Pll, PinMode, Mode, Cascade, TwoDrivers, Loop, Clock, Memory}
 
 -- ---- evidence
 
@@ -53,7 +53,6 @@ IsCause device fabric fault (Pll x y) = fault ≡ Some (Fault.pll x y)
 IsCause device fabric fault (PinMode x y pio pintype) = fault ≡ Some (Fault.pin_mode x y pio pintype)
 IsCause device fabric fault (Mode x y read write) = fault ≡ Some (Fault.mode x y read write)
 IsCause device fabric fault (Cascade x y) = fault ≡ Some (Fault.cascade x y)
-IsCause device fabric fault (Async x y i) = fault ≡ Some (Fault.async x y i)
 IsCause device fabric fault (TwoDrivers net first second) = (fault ≡ Some (Fault.two_drivers net first second)) × AreTwoDrivers fabric net first second
 IsCause device fabric fault (Loop net cycle) = (fault ≡ Some (Fault.loop net)) × IsCycleFrom fabric net cycle
 IsCause device fabric fault (Clock x y user net) = (fault ≡ Some (Fault.clock x y user net)) × IsUnclocked device fabric x y user net
@@ -61,9 +60,8 @@ IsCause device fabric fault (Memory failed) = Unit {0}
 
 -- ---- what is taken
 
--- the devices are one, and pins, RAMs and cells have no fault
+-- the devices are one, and pins and RAMs have no fault
 pub record AreTaken (db : Database) (image : Configuration) : Type 0 where
   pub device : db.chip.device ≡ image.layout.device
   pub pins : pins_fault db image ≡ None
   pub rams : rams_fault db image ≡ None
-  pub cells : cells_fault db image ≡ None

@@ -12,7 +12,7 @@ ghost use Rattle.fabric.specs.Design.{IsDesign, end_pin, ends_of, link_in};
 
 use chipdb_reader::PinXy;
 use fabric_wiring::{Buffer, ClockEnd, Drive, Drivers, Parts, Rule};
-use net_extract::{CarrySet, Driver, GlobalNet, Lc, Pin, RamCell};
+use net_extract::{CarrySet, Driver, GlobalNet, Lc, Pin, RamCell, Register};
 use std::marker::Model;
 
 /// The two nets of a buffer.
@@ -105,6 +105,14 @@ impl Design {
         ensures design { IsDesign self.now }
     {
         &self.parts.lcs
+    }
+
+    /// The registers: the flip-flops of the cells, in their order.
+    pub fn registers(&self) -> &[Register]
+        ensures registers { result.now ≡ self.now.parts.registers.items }
+        ensures design { IsDesign self.now }
+    {
+        &self.parts.registers
     }
 
     /// The carry inputs that are set, by tile.

@@ -5,7 +5,6 @@ use crate::cycle::Cycle;
 use block_ram::RamFault;
 use fabric_wiring::DriverFault;
 use io_cell::PinFault;
-use logic_cell::LcFault;
 use net_extract::{ClockUser, Driver, LinkFault};
 use std::alloc::AllocError;
 
@@ -38,12 +37,6 @@ pub enum FabricFault {
     Cascade {
         x: u8,
         y: u8,
-    },
-    /// Cell `i` of the logic tile at (x, y) has a flip-flop whose reset acts without a clock.
-    Async {
-        x: u8,
-        y: u8,
-        i: u8,
     },
     /// The class `net` has two drivers or more, of which these are the first.
     TwoDrivers {
@@ -114,19 +107,6 @@ impl From<RamFault> for FabricFault {
             RamFault::Mode { x, y, read, write } => FabricFault::Mode { x, y, read, write },
             RamFault::Cascade { x, y } => FabricFault::Cascade { x, y },
             RamFault::Memory(e) => FabricFault::Memory(e),
-        }
-    }
-}
-
-impl From<LcFault> for FabricFault {
-    ghost use Rattle.fabric.specs.Causes.{of_cells};
-
-    ghost from_gives = { λ e fault. fault ≡ of_cells e };
-
-    fn from(e: LcFault) -> FabricFault {
-        match e {
-            LcFault::Async { x, y, i } => FabricFault::Async { x, y, i },
-            LcFault::Memory(e) => FabricFault::Memory(e),
         }
     }
 }

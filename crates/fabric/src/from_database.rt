@@ -35,7 +35,7 @@ fn inputs(alloc: Global, pins: &[Pin]) -> Result<Vec<Pin>, AllocError>
 /// Finds the design of a database and an image.
 ///
 /// For each state and all values of the input pins there is exactly one list of net values that is consistent with them, and for each
-/// list of events exactly one run, in each entry of which the clock of a flip-flop or RAM port has the value of its pin, or is 0 where
+/// list of events exactly one run, in each entry of which the clock of a register or RAM port has the value of its pin, or is 0 where
 /// no driver gives it one.
 ///
 /// # Errors

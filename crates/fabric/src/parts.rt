@@ -12,7 +12,7 @@ ghost use Rattle.fabric.specs.Buffers.{buffer_if, buffers_at};
 use crate::fault::FabricFault;
 use block_ram::rams;
 use chipdb_reader::{ChipDb, LinkLine};
-use fabric_wiring::{Buffer, Parts};
+use fabric_wiring::{Buffer, Parts, registers_of};
 use ice_image::AnyImage;
 use io_cell::pins;
 use logic_cell::cells;
@@ -61,6 +61,7 @@ pub(crate) fn parts(alloc: Global, db: &ChipDb, image: &AnyImage) -> Result<Part
     let pins = pins(alloc, db, image, &links)?;
     let rams = rams(alloc, db, image, &links)?;
     let cells = cells(alloc, db, image)?;
+    let registers = registers_of(alloc, &cells.lcs)?;
     let buffers = buffers(alloc, db, links.buffers())?;
     Ok(Parts {
         links,
@@ -68,6 +69,7 @@ pub(crate) fn parts(alloc: Global, db: &ChipDb, image: &AnyImage) -> Result<Part
         pins: pins.pins,
         globals: pins.globals,
         lcs: cells.lcs,
+        registers,
         sets: cells.sets,
         rams,
     })

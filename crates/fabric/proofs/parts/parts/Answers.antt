@@ -1,9 +1,10 @@
 use Rattle.std.proofs.Common.{ap, ◌∙◌}
 use Rattle.ice_image.specs.Either.{configuration_of}
 use Rattle.chipdb_reader.specs.Kept.{database_in}
+use Rattle.net_extract.specs.Registers.{registers_of}
 use Rattle.fabric.specs.Buffers.{buffers_at}
 use Rattle.fabric.proofs.Buffers.{buffers-on}
-use Rattle.fabric.proofs.Refused.{links-cause, pins-cause, rams-cause, cells-cause, told}
+use Rattle.fabric.proofs.Refused.{links-cause, pins-cause, rams-cause, told}
 use Rattle.fabric.proofs.Composed.{parts-of}
 use Rattle.fabric.proofs.parts.parts.Goals as goal
 
@@ -23,14 +24,8 @@ returns-in_err-rams-clause-refused c =
     c.in_err-rams.field-0.0 c.in_err-rams.ensures.refused in
     told c.from_residual-in_err-rams.result _ _ c.from_residual-in_err-rams.ensures.1 cause
 
-pub returns-in_err-cells-clause-refused : goal.returns-in_err-cells-clause-refused
-returns-in_err-cells-clause-refused c =
-    let cause = cells-cause (database_in c.args.db.now) (configuration_of c.args.image.now) c.in_ok-links.ensures.taken c.in_ok-pins.ensures.taken c.in_ok-rams.ensures.taken
-    c.in_err-cells.field-0.0 c.in_err-cells.ensures.refused in
-    told c.from_residual-in_err-cells.result _ _ c.from_residual-in_err-cells.ensures.1 cause
-
 pub returns-clause-parts : goal.returns-clause-parts
 returns-clause-parts c =
     parts-of (database_in c.args.db.now) (configuration_of c.args.image.now) c.in_ok-buffers.ensures.fit _ c.in_ok-links.ensures.links
     (c.in_ok-buffers.ensures.buffers ∙ (ap (buffers_at c.args.db.now.buffers) (c.buffers.ensures ∙ c.in_ok-links.ensures.links.buffers) ∙ buffers-on c.args.db.now (configuration_of c.args.image.now)))
-    c.in_ok-pins.ensures.pins c.in_ok-pins.ensures.globals c.in_ok-cells.ensures.cells c.in_ok-cells.ensures.sets c.in_ok-rams.ensures.rams
+    c.in_ok-pins.ensures.pins c.in_ok-pins.ensures.globals c.in_ok-cells.ensures.cells (c.in_ok-registers.ensures ∙ ap registers_of c.deref.ensures.value) c.in_ok-cells.ensures.sets c.in_ok-rams.ensures.rams

@@ -14,7 +14,7 @@ use block_ram::rams;
 use chipdb_reader::ChipDb;
 use ice_image::AnyImage;
 use io_cell::pins;
-use logic_cell::used_cells;
+use logic_cell::cells;
 use net_extract::links;
 use std::alloc::Global;
 
@@ -40,12 +40,12 @@ fn counts(alloc: Global, db: &ChipDb, image: &AnyImage) -> Result<Counts, StatFa
     let links = links(alloc, db, image)?;
     let pins = pins(alloc, db, image, &links)?;
     let rams = rams(alloc, db, image, &links)?;
-    let cells = used_cells(alloc, db, image)?;
+    let cells = cells(alloc, db, image)?;
     let extras = image.extra_bits(alloc)?;
     Ok(Counts {
-        luts: cells.len(),
-        flops: flops(&cells),
-        carries: carries(&cells),
+        luts: cells.lcs.len(),
+        flops: flops(&cells.lcs),
+        carries: carries(&cells.lcs),
         rams: rams.len(),
         pins: pins.pins.len(),
         globals: globals(&pins.globals),

@@ -36,14 +36,14 @@ pub returns-clause-counts : goal.returns-clause-counts
 returns-clause-counts c =
     let db = database_in c.args.db.now in
     let image = configuration_of c.args.image.now in
-    let luts : c.len.result ≡ length c.in_ok-cells.cells.items = omega (arith, c.len.ensures, c.in_ok-cells.cells.ok.0) in
+    let luts : c.len.result ≡ length c.in_ok-cells.cells.lcs.items = omega (arith, c.len.ensures, c.in_ok-cells.cells.lcs.ok.0) in
     let rams : c.len-2.result ≡ length c.in_ok-rams.rams.items = omega (arith, c.len-2.ensures, c.in_ok-rams.rams.ok.0) in
     let pins : c.len-3.result ≡ length c.in_ok-pins.pins.pins.items = omega (arith, c.len-3.ensures, c.in_ok-pins.pins.pins.ok.0) in
     let extra : c.len-4.result ≡ length c.in_ok-extras.extras.items = omega (arith, c.len-4.ensures, c.in_ok-extras.extras.ok.0) in
     counts-are db image _ _ _ _ _ _ _ _ _ _
-    (luts ∙ ap length c.in_ok-cells.ensures)
-    (c.flops.ensures ∙ ap (count_by (λ (cell : Lc). cell.flip)) (c.deref.ensures.value ∙ c.in_ok-cells.ensures))
-    (c.carries.ensures ∙ ap (count_by (λ (cell : Lc). cell.carry)) (c.deref-2.ensures.value ∙ c.in_ok-cells.ensures))
+    (luts ∙ ap length c.in_ok-cells.ensures.cells)
+    (c.flops.ensures ∙ ap (count_by (λ (cell : Lc). cell.flip)) (c.deref.ensures.value ∙ c.in_ok-cells.ensures.cells))
+    (c.carries.ensures ∙ ap (count_by (λ (cell : Lc). cell.carry)) (c.deref-2.ensures.value ∙ c.in_ok-cells.ensures.cells))
     (rams ∙ ap length c.in_ok-rams.ensures.rams)
     (pins ∙ ap length c.in_ok-pins.ensures.pins)
     (c.globals.ensures ∙ ap (λ nets. length (globals_among nets)) (c.deref-3.ensures.value ∙ c.in_ok-pins.ensures.globals))

@@ -10,25 +10,24 @@ use Rattle.shared_lemmas.proofs.Bytes.{bytes_eq-same}
 use Rattle.place_search.specs.Places.{gathered_below}
 use Rattle.bit_plane.specs.BitList.{word_of}
 use Rattle.vlog_module.specs.declared.item.Item.{Item}
-use Rattle.vlog_module.specs.declared.item.Item.TheVariants.{Register, Word, Memory, Wire, Assign, Flip, Read, Write, Start}
+use Rattle.vlog_module.specs.declared.item.Item.TheVariants.{Register as RegisterItem, Word, Memory, Wire, Assign, Flip, FlipAtOnce, SetAtOnce, Read, Write, Start}
 use Rattle.vlog_cycle.specs.Run.{input_start, register_start, word_start, memory_start, start_step, start}
-use Rattle.net_extract.specs.declared.cell.Lc.{Lc}
+use Rattle.net_extract.specs.declared.register.Register.{Register}
 use Rattle.net_extract.specs.declared.ram.RamCell.{RamCell}
 use Rattle.net_extract.specs.declared.pin.Pin.{Pin}
 use Rattle.net_extract.specs.Tiles.{each_below}
-use Rattle.net_extract.specs.Fabric.{Fabric, numbered_from, numbered, inputs_of, flips_of}
+use Rattle.net_extract.specs.Fabric.{Fabric, numbered_from, numbered, inputs_of}
 use Rattle.net_extract.proofs.Apart.{apart-numbered}
 use Rattle.net_extract.specs.Steps.{Entry, start_state, IsFirst}
 use Rattle.net_extract.specs.Wiring.{wiring_of, IsWriteOrder}
 use Rattle.net_extract.proofs.OneValue.{IsWithin}
-use Rattle.vlog_emit.specs.Names.{port_name, flip_name, register_name, memory_name}
-use Rattle.vlog_emit.specs.Written.{port_of, flip_register, read_register, ram_memory, start_item, start_items, items_of, module_of}
+use Rattle.vlog_emit.specs.Names.{port_name, register_name, read_name, memory_name}
+use Rattle.vlog_emit.specs.Written.{port_of, register_item, read_register, ram_memory, start_item, start_items, items_of, module_of}
 use Rattle.vlog_emit.specs.Matching.{HasValues, Matches}
 use Rattle.vlog_emit.proofs.Lists.{NamesDiffer, map-map, map-numbered, made-names, made-values}
 use Rattle.vlog_emit.proofs.Sections.{is_in, Skips, fold-section, flat_map-section, registers-section, words-section, memories-section, starts-section}
 use Rattle.vlog_emit.proofs.Fills.{FillsOwn, filled}
-use Rattle.vlog_emit.proofs.Settled.{IsWritable, Holding, holding-moved, settled-matches, word-pick}
-use Rattle.net_extract.specs.Values.{State}
+use Rattle.vlog_emit.proofs.Settled.{IsWritable, Holding, settled-matches, word-pick}
 
 -- ---- values by places
 
@@ -79,58 +78,66 @@ inputs-start (pin ∷ pins) =
       | inr away ↦ rw away (ap (λ list. (port_name pin, false) ∷ list) (inputs-start pins))
     ]
 
-registers-start : (lcs : List Lc) → flat_map register_start (map flip_register lcs) ≡ map (λ lc. (flip_name lc, false)) lcs
+registers-start : (registers : List Register) → flat_map register_start (map register_item registers) ≡ map (λ register. (register_name register, false)) registers
 registers-start [] = refl
-registers-start (lc ∷ lcs) = ap (λ list. (flip_name lc, false) ∷ list) (registers-start lcs)
+registers-start (register ∷ registers) = ap (λ list. (register_name register, false) ∷ list) (registers-start registers)
 
-words-start : (rams : List RamCell) → flat_map word_start (map read_register rams) ≡ map (λ ram. (register_name ram, 0)) rams
+words-start : (rams : List RamCell) → flat_map word_start (map read_register rams) ≡ map (λ ram. (read_name ram, 0)) rams
 words-start [] = refl
-words-start (ram ∷ rams) = ap (λ list. (register_name ram, 0) ∷ list) (words-start rams)
+words-start (ram ∷ rams) = ap (λ list. (read_name ram, 0) ∷ list) (words-start rams)
 
 memories-start : (rams : List RamCell) → flat_map memory_start (map ram_memory rams) ≡ map (λ ram. (memory_name ram, replicate 256 0)) rams
 memories-start [] = refl
 memories-start (ram ∷ rams) = ap (λ list. (memory_name ram, replicate 256 0) ∷ list) (memories-start rams)
 
 register-none : (item : Item) → is_in 2 item ≡ false → register_start item ≡ []
-register-none (Register name start) away = absurd cc
+register-none (RegisterItem name start) away = absurd cc
 register-none (Word name start) away = refl
 register-none (Memory name) away = refl
 register-none (Wire name right) away = refl
 register-none (Assign name value) away = refl
 register-none (Flip falling clock enable reset set target lut) away = refl
+register-none (FlipAtOnce falling clock reset set target enable lut) away = refl
+register-none (SetAtOnce reset set target) away = refl
 register-none (Read falling clock clock_enable enable target memory address) away = refl
 register-none (Write falling clock clock_enable enable memory address mask bits) away = refl
 register-none (Start memory k word) away = refl
 
 word-none : (item : Item) → is_in 3 item ≡ false → word_start item ≡ []
-word-none (Register name start) away = refl
+word-none (RegisterItem name start) away = refl
 word-none (Word name start) away = absurd cc
 word-none (Memory name) away = refl
 word-none (Wire name right) away = refl
 word-none (Assign name value) away = refl
 word-none (Flip falling clock enable reset set target lut) away = refl
+word-none (FlipAtOnce falling clock reset set target enable lut) away = refl
+word-none (SetAtOnce reset set target) away = refl
 word-none (Read falling clock clock_enable enable target memory address) away = refl
 word-none (Write falling clock clock_enable enable memory address mask bits) away = refl
 word-none (Start memory k word) away = refl
 
 memory-none : (item : Item) → is_in 4 item ≡ false → memory_start item ≡ []
-memory-none (Register name start) away = refl
+memory-none (RegisterItem name start) away = refl
 memory-none (Word name start) away = refl
 memory-none (Memory name) away = absurd cc
 memory-none (Wire name right) away = refl
 memory-none (Assign name value) away = refl
 memory-none (Flip falling clock enable reset set target lut) away = refl
+memory-none (FlipAtOnce falling clock reset set target enable lut) away = refl
+memory-none (SetAtOnce reset set target) away = refl
 memory-none (Read falling clock clock_enable enable target memory address) away = refl
 memory-none (Write falling clock clock_enable enable memory address mask bits) away = refl
 memory-none (Start memory k word) away = refl
 
 start-skips : Skips 10 start_step
-start-skips (Register name start) away given = refl
+start-skips (RegisterItem name start) away given = refl
 start-skips (Word name start) away given = refl
 start-skips (Memory name) away given = refl
 start-skips (Wire name right) away given = refl
 start-skips (Assign name value) away given = refl
 start-skips (Flip falling clock enable reset set target lut) away given = refl
+start-skips (FlipAtOnce falling clock reset set target enable lut) away given = refl
+start-skips (SetAtOnce reset set target) away given = refl
 start-skips (Read falling clock clock_enable enable target memory address) away given = refl
 start-skips (Write falling clock clock_enable enable memory address mask bits) away given = refl
 start-skips (Start memory k word) away given = absurd cc
@@ -218,12 +225,12 @@ each-started (words ∷ starts) all =
 
 module _ (fabric : Fabric) (within : IsWithin fabric) (writable : IsWritable fabric) (sized : IsStarted fabric)
     (order : List ℕ) (ordered : IsWriteOrder (wiring_of fabric) order) (name : List ℕ) where
-  start-registers : flat_map register_start (items_of fabric order) ≡ map (λ lc. (flip_name lc, false)) (flips_of fabric)
+  start-registers : flat_map register_start (items_of fabric order) ≡ map (λ register. (register_name register, false)) fabric.registers
   start-registers =
       flat_map-section 2 register_start register-none (items_of fabric order)
-      ∙ (ap (flat_map register_start) (registers-section fabric order) ∙ registers-start (flips_of fabric))
+      ∙ (ap (flat_map register_start) (registers-section fabric order) ∙ registers-start fabric.registers)
 
-  start-words : flat_map word_start (items_of fabric order) ≡ map (λ ram. (register_name ram, 0)) fabric.rams
+  start-words : flat_map word_start (items_of fabric order) ≡ map (λ ram. (read_name ram, 0)) fabric.rams
   start-words =
       flat_map-section 3 word_start word-none (items_of fabric order)
       ∙ (ap (flat_map word_start) (words-section fabric order) ∙ words-start fabric.rams)
@@ -256,9 +263,9 @@ module _ (fabric : Fabric) (within : IsWithin fabric) (writable : IsWritable fab
   unfolding word_of
   blank-word = refl
 
-  words-hold : HasValues (map (λ ram. (register_name ram, 0)) fabric.rams) (map register_name fabric.rams) (map word_of (replicate (length fabric.rams) (replicate 16 false)))
+  words-hold : HasValues (map (λ ram. (read_name ram, 0)) fabric.rams) (map read_name fabric.rams) (map word_of (replicate (length fabric.rams) (replicate 16 false)))
   words-hold =
-      let holds = constant-holds register_name 0 fabric.rams in
+      let holds = constant-holds read_name 0 fabric.rams in
       record {
         named = holds.named;
         valued = holds.valued ∙ sym (map-replicate word_of (replicate 16 false) (length fabric.rams) ∙ ap (λ n. replicate (length fabric.rams) n) blank-word);
@@ -269,9 +276,9 @@ module _ (fabric : Fabric) (within : IsWithin fabric) (writable : IsWritable fab
   begin-holding = record {
     input = subst (λ list. HasValues list (map port_name (inputs_of fabric)) (replicate (length (inputs_of fabric)) false)) (sym (inputs-start fabric.pins))
         (constant-holds port_name false (inputs_of fabric));
-    flip = subst (λ list. HasValues list (map flip_name (flips_of fabric)) (replicate (length (flips_of fabric)) false)) (sym start-registers)
-        (constant-holds flip_name false (flips_of fabric));
-    word = subst (λ list. HasValues list (map register_name fabric.rams) (map word_of (replicate (length fabric.rams) (replicate 16 false)))) (sym start-words) words-hold;
+    register = subst (λ list. HasValues list (map register_name fabric.registers) (replicate (length fabric.registers) false)) (sym start-registers)
+        (constant-holds register_name false fabric.registers);
+    word = subst (λ list. HasValues list (map read_name fabric.rams) (map word_of (replicate (length fabric.rams) (replicate 16 false)))) (sym start-words) words-hold;
   }
 
   begin-memories : HasValues (fold start_step (flat_map memory_start (items_of fabric order)) (items_of fabric order)) (map memory_name fabric.rams) (map (map word_of) fabric.start)
@@ -281,11 +288,8 @@ module _ (fabric : Fabric) (within : IsWithin fabric) (writable : IsWritable fab
   pub start-matches : (entry : Entry) → IsFirst fabric entry → Matches fabric entry (start (module_of fabric order name))
   unfolding start module_of
   start-matches entry is =
-      settled-matches fabric within writable order ordered name entry is.entry_is
+      settled-matches fabric within writable order ordered name entry is.entry_is (start_state fabric) is.state
       (flat_map input_start (map port_of fabric.pins)) (flat_map register_start (items_of fabric order)) (flat_map word_start (items_of fabric order))
-      (fold start_step (flat_map memory_start (items_of fabric order)) (items_of fabric order))
-      (holding-moved fabric (start_state fabric) entry.state (replicate (length (inputs_of fabric)) false) entry.pins
-      (flat_map input_start (map port_of fabric.pins)) (flat_map register_start (items_of fabric order)) (flat_map word_start (items_of fabric order))
-      (sym is.state) (sym is.pins) begin-holding)
-      (subst (λ (state : State). HasValues (fold start_step (flat_map memory_start (items_of fabric order)) (items_of fabric order))
-      (map memory_name fabric.rams) (map (map word_of) state.words)) (sym is.state) begin-memories)
+      (subst (λ pins. Holding fabric (start_state fabric) pins (flat_map input_start (map port_of fabric.pins)) (flat_map register_start (items_of fabric order)) (flat_map word_start (items_of fabric order)))
+      (sym is.pins) begin-holding)
+      (fold start_step (flat_map memory_start (items_of fabric order)) (items_of fabric order)) begin-memories

@@ -1,9 +1,9 @@
 -- What holds of the fabric that a database and an image configure: its names are apart, its RAMs have all their ports and start
 -- words, and its drivers name parts that it has.
-use Rattle.std.proofs.Common.{◌≡◌, ℕ, zero, suc, ◌+◌, ◌<◌, Bool, true, false, List, [], ◌∷◌, ◌++◌, length, refl, sym, ap, ◌∙◌, subst, arith}
+use Rattle.std.proofs.Common.{◌≡◌, ℕ, zero, suc, ◌+◌, ◌<◌, Bool, true, false, List, [], ◌∷◌, ◌++◌, length, get_or, refl, sym, ap, ◌∙◌, subst, arith}
 use Rattle.std.specs.Prelude.{All, Contains, Option, Some, None, not, filter, flat_map, if◌then◌else◌}
 use Rattle.std.proofs.lemmas.List.{length-append}
-use Rattle.std.proofs.lemmas.List.Elements.{All-nil, All-cons, All-head, All-tail, All-append, All-weaker, All-contains}
+use Rattle.std.proofs.lemmas.List.Elements.{All-nil, All-cons, All-head, All-tail, All-append, All-map, All-weaker, All-contains, All-contains_itself}
 use Rattle.shared_lemmas.proofs.Bytes.{bytes_eq-apart}
 use Rattle.place_search.proofs.Gathered.{All-gathered_below}
 use Rattle.plane_map.specs.declared.device.DeviceName.{DeviceName}
@@ -15,6 +15,8 @@ use Rattle.chipdb_lines.specs.Statements.{is_kind_there}
 use Rattle.chipdb_reader.specs.Database.{Database}
 use Rattle.place_search.specs.Places.{gathered_below}
 use Rattle.net_extract.specs.declared.cell.Lc.{Lc}
+use Rattle.net_extract.specs.declared.register.Source.TheVariants.{Net}
+use Rattle.net_extract.specs.Registers.{table_of, register_of, registers_of}
 use Rattle.net_extract.specs.declared.ram.RamCell.{RamCell}
 use Rattle.net_extract.specs.declared.pin.Pin.{Pin}
 use Rattle.net_extract.specs.declared.pin.GlobalNet.{GlobalNet}
@@ -25,26 +27,19 @@ use Rattle.net_extract.specs.Tiles.{over_grid}
 use Rattle.net_extract.specs.Cells.{cell_bits, cell_with, used_cell, cells_at, cells_of}
 use Rattle.net_extract.specs.Rams.{is_ram_used, ram_at, rams_of, start_word, start_words}
 use Rattle.net_extract.specs.Pins.{pintype_of, is_port, pin_with, port_at, pins_of}
-use Rattle.net_extract.specs.Fabric.{Fabric, numbered_from, numbered, inputs_of, flips_of, fabric_of}
-use Rattle.net_extract.specs.Drivers.{Rule, Drive, drives_if, pin_drives, back_drives, lut_drives, flip_drives, lout_drives, carry_drives, set_drives, ram_drive, ram_drives, pad_place, global_rule, global_drives, buffer_drives, drives_of}
-use Rattle.net_extract.specs.Drivers.Rule.{pin_bit, sent_back, lut_entry, flip_bit, carry_out, one, register_bit, copied}
+use Rattle.net_extract.specs.Fabric.{Fabric, numbered, inputs_of, fabric_of}
+use Rattle.net_extract.specs.Drivers.{Rule, Drive, drives_if, pin_drives, back_drives, lut_drives, register_drives, lout_drives, carry_drives, set_drives, ram_drive, ram_drives, pad_place, global_rule, global_drives, buffer_drives, drives_of}
+use Rattle.net_extract.specs.Drivers.Rule.{pin_bit, constant, input, table_entry, majority_of, register_bit, read_bit, copied}
 use Rattle.net_extract.proofs.OneValue.{each_below-length}
 use Rattle.net_extract.proofs.Within.{All-flat_map, All-item_if, All-if, All-single, All-over_tiles, All-numbered}
-use Rattle.vlog_emit.specs.Names.{two_numbers, three_numbers, port_name, flip_name, register_name, memory_name}
-use Rattle.vlog_emit.proofs.Lists.{NamesDiffer, Apart}
-use Rattle.vlog_emit.proofs.Rights.{IsPlaceIn}
+use Rattle.vlog_emit.specs.Names.{two_numbers, three_numbers, port_name, register_name, read_name, memory_name}
+use Rattle.vlog_emit.proofs.Lists.{NamesDiffer, Apart, places-below}
+use Rattle.vlog_emit.proofs.Rights.{IsSourceThere, IsPlaceIn}
 use Rattle.vlog_emit.proofs.Beginning.{IsStarted, IsPorted}
-use Rattle.net_extract.proofs.Apart.{apart-item_if, apart-gathered, apart-over_tiles}
+use Rattle.net_extract.proofs.Apart.{All-every, apart-item_if, apart-filter, apart-map, apart-gathered, apart-over_tiles}
 use Rattle.vlog_emit.proofs.Apart.{IsSmall, two-same, three-same}
 
 -- ---- lists
-
-places-below : {X : Type 0} (from : ℕ) (xs : List X) → All (λ (place : ℕ × X). place.0 < from + length xs) (numbered_from from xs)
-unfolding numbered_from
-places-below {X} from [] = All-nil (λ (place : ℕ × X). place.0 < from + length {A = X} [])
-places-below {X} from (x ∷ xs) =
-    All-cons (λ (place : ℕ × X). place.0 < from + length (x ∷ xs)) (from, x) (numbered_from (suc from) xs) (omega arith)
-    (All-weaker (λ (place : ℕ × X). place.0 < suc from + length xs) (λ (place : ℕ × X). place.0 < from + length (x ∷ xs)) (λ place found. omega (arith, found)) (numbered_from (suc from) xs) (places-below (suc from) xs))
 
 All-pair : {X : Type 0} (P Q : X → Type 0) (xs : List X) → All P xs → All Q xs → All (λ x. P x × Q x) xs
 All-pair P Q [] of_p of_q = All-nil (λ x. P x × Q x)
@@ -80,13 +75,13 @@ pin-numbers : (a b : Pin) → port_name a ≡ port_name b → three_numbers a.x 
 unfolding port_name
 pin-numbers a b same = cc
 
-flip-numbers : (a b : Lc) → flip_name a ≡ flip_name b → three_numbers a.x a.y a.i ≡ three_numbers b.x b.y b.i
-unfolding flip_name
-flip-numbers a b same = cc
+cell-numbers : (a b : Lc) → register_name (register_of a) ≡ register_name (register_of b) → three_numbers a.x a.y a.i ≡ three_numbers b.x b.y b.i
+unfolding register_name register_of
+cell-numbers a b same = cc
 
-register-numbers : (a b : RamCell) → register_name a ≡ register_name b → two_numbers a.x a.y ≡ two_numbers b.x b.y
-unfolding register_name
-register-numbers a b same = cc
+read-numbers : (a b : RamCell) → read_name a ≡ read_name b → two_numbers a.x a.y ≡ two_numbers b.x b.y
+unfolding read_name
+read-numbers a b same = cc
 
 memory-numbers : (a b : RamCell) → memory_name a ≡ memory_name b → two_numbers a.x a.y ≡ two_numbers b.x b.y
 unfolding memory_name
@@ -105,13 +100,13 @@ pin-places : (a b : Pin) → PinSmall a → PinSmall b → port_name a ≡ port_
 unfolding PinSmall
 pin-places a b of_a of_b same = three-same a.x a.y a.n b.x b.y b.n of_a.first of_a.second of_a.third of_b.first of_b.second of_b.third (pin-numbers a b same)
 
-cell-places : (a b : Lc) → CellSmall a → CellSmall b → flip_name a ≡ flip_name b → (a.x ≡ b.x) × (a.y ≡ b.y) × (a.i ≡ b.i)
+cell-places : (a b : Lc) → CellSmall a → CellSmall b → register_name (register_of a) ≡ register_name (register_of b) → (a.x ≡ b.x) × (a.y ≡ b.y) × (a.i ≡ b.i)
 unfolding CellSmall
-cell-places a b of_a of_b same = three-same a.x a.y a.i b.x b.y b.i of_a.first of_a.second of_a.third of_b.first of_b.second of_b.third (flip-numbers a b same)
+cell-places a b of_a of_b same = three-same a.x a.y a.i b.x b.y b.i of_a.first of_a.second of_a.third of_b.first of_b.second of_b.third (cell-numbers a b same)
 
-pub register-places : (a b : RamCell) → RamSmall a → RamSmall b → register_name a ≡ register_name b → (a.x ≡ b.x) × (a.y ≡ b.y)
+pub read-places : (a b : RamCell) → RamSmall a → RamSmall b → read_name a ≡ read_name b → (a.x ≡ b.x) × (a.y ≡ b.y)
 unfolding RamSmall
-register-places a b of_a of_b same = two-same a.x a.y b.x b.y of_a.first of_a.second of_b.first of_b.second (register-numbers a b same)
+read-places a b of_a of_b same = two-same a.x a.y b.x b.y of_a.first of_a.second of_b.first of_b.second (read-numbers a b same)
 
 pub memory-places : (a b : RamCell) → RamSmall a → RamSmall b → memory_name a ≡ memory_name b → (a.x ≡ b.x) × (a.y ≡ b.y)
 unfolding RamSmall
@@ -158,21 +153,29 @@ module _ (db : Database) (image : Configuration) where
   unfolding cell_with
   cell-number x y i bits = refl
 
-  pub cells-apart : Apart flip_name (cells_of db image)
+  -- cells are apart by the names of their registers
+  cells-apart : Apart (λ lc. register_name (register_of lc)) (cells_of db image)
   unfolding cells_of cells_at
   cells-apart =
-      apart-over_tiles (NamesDiffer flip_name) CellSmall (λ lc. lc.x) (λ lc. lc.y)
-      (λ a b of_a of_b other. bytes_eq-apart (flip_name a) (flip_name b) (λ same. other (cell-places a b of_a of_b same).0))
-      (λ a b of_a of_b other. bytes_eq-apart (flip_name a) (flip_name b) (λ same. other (cell-places a b of_a of_b same).1))
+      let name = λ (lc : Lc). register_name (register_of lc) in
+      apart-over_tiles (NamesDiffer name) CellSmall (λ lc. lc.x) (λ lc. lc.y)
+      (λ a b of_a of_b other. bytes_eq-apart (name a) (name b) (λ same. other (cell-places a b of_a of_b same).0))
+      (λ a b of_a of_b other. bytes_eq-apart (name a) (name b) (λ same. other (cell-places a b of_a of_b same).1))
       image.layout.device Logic (cells_at db image)
       (λ x y left low. All-gathered_below (λ lc. CellSmall lc × (lc.x ≡ x) × (lc.y ≡ y)) 8 (used_cell db image x y)
       (λ i few. All-item_if (λ lc. CellSmall lc × (lc.x ≡ x) × (lc.y ≡ y)) _ (cell_with db image x y i (cell_bits db image x y i))
       (cell-at x y i (cell_bits db image x y i) left low few)))
-      (λ x y left low. apart-gathered (NamesDiffer flip_name) CellSmall (λ lc. lc.i)
-      (λ a b of_a of_b other. bytes_eq-apart (flip_name a) (flip_name b) (λ same. other (cell-places a b of_a of_b same).2)) 8 (used_cell db image x y)
+      (λ x y left low. apart-gathered (NamesDiffer name) CellSmall (λ lc. lc.i)
+      (λ a b of_a of_b other. bytes_eq-apart (name a) (name b) (λ same. other (cell-places a b of_a of_b same).2)) 8 (used_cell db image x y)
       (λ i few. All-item_if (λ lc. CellSmall lc × (lc.i ≡ i)) _ (cell_with db image x y i (cell_bits db image x y i))
       ((cell-at x y i (cell_bits db image x y i) left low few).0, cell-number x y i (cell_bits db image x y i)))
-      (λ i few. apart-item_if (NamesDiffer flip_name) _ (cell_with db image x y i (cell_bits db image x y i))))
+      (λ i few. apart-item_if (NamesDiffer name) _ (cell_with db image x y i (cell_bits db image x y i))))
+
+  pub registers-apart : Apart register_name (registers_of (cells_of db image))
+  unfolding registers_of
+  registers-apart =
+      apart-map (NamesDiffer register_name) register_of (filter (λ lc. lc.flip) (cells_of db image))
+      (apart-filter (NamesDiffer (λ lc. register_name (register_of lc))) (λ lc. lc.flip) (cells_of db image) cells-apart)
 
   -- ---- RAMs
 
@@ -245,7 +248,21 @@ module _ (db : Database) (image : Configuration) where
     each_port = subst (All IsPorted) (sym fabric-rams) ports-all;
   }
 
--- ---- drivers name what is there
+-- ---- drivers and tables name what is there
+
+-- the inputs of a cell are nets
+pub cell-sources : (fabric : Fabric) (lc : Lc) → All (IsSourceThere fabric) (table_of lc).ins
+cell-sources fabric lc = All-map (IsSourceThere fabric) Net lc.ins (All-every (λ net. IsSourceThere fabric (Net net)) (λ net. tt) lc.ins)
+
+register-sources : (fabric : Fabric) (lc : Lc) → All (IsSourceThere fabric) (register_of lc).table.ins
+unfolding register_of
+register-sources fabric lc = cell-sources fabric lc
+
+pub registers-sources : (fabric : Fabric) (lcs : List Lc) → All (λ register. All (IsSourceThere fabric) register.table.ins) (registers_of lcs)
+unfolding registers_of
+registers-sources fabric lcs =
+    All-map (λ register. All (IsSourceThere fabric) register.table.ins) register_of (filter (λ lc. lc.flip) lcs)
+    (All-every (λ lc. All (IsSourceThere fabric) (register_of lc).table.ins) (register-sources fabric) (filter (λ lc. lc.flip) lcs))
 
 -- a pad is one of the input pins
 abbrev pub IsPadIn : List Pin → GlobalFrom → Type 0
@@ -271,7 +288,7 @@ module _ (fabric : Fabric) where
   ram-there : (place : ℕ × RamCell) → (place.0 < length fabric.rams) × (length place.1.rdata ≡ 16) → All IsNamedIn (ram_drives place)
   ram-there place there =
       each-there (λ (port : ℕ × Option ℕ). port.0 < 16) (ram_drive place)
-      (λ port few. drives_if-there _ (register_bit place.0 port.0) port.1 (there.0, omega arith)) (numbered place.1.rdata)
+      (λ port few. drives_if-there _ (read_bit place.0 port.0) port.1 (there.0, omega arith)) (numbered place.1.rdata)
       (All-weaker (λ (port : ℕ × Option ℕ). port.0 < 0 + length place.1.rdata) (λ (port : ℕ × Option ℕ). port.0 < 16) (λ port found. omega (arith, found, there.1)) (numbered place.1.rdata) (places-below 0 place.1.rdata))
 
   from-there : (from : GlobalFrom) → IsPadIn (inputs_of fabric) from → IsPlaceIn fabric (global_rule (inputs_of fabric) from)
@@ -289,12 +306,12 @@ module _ (fabric : Fabric) where
     unfolding drives_of
     all-there =
         then-there _ _ (each-there (λ (place : ℕ × Pin). place.0 < 0 + length (inputs_of fabric)) pin_drives (λ place there. drives_if-there _ (pin_bit place.0) place.1.din (omega arith)) (numbered (inputs_of fabric)) (places-below 0 (inputs_of fabric)))
-        (then-there _ _ (any-there back_drives (λ pin. drives_if-there _ (sent_back pin.dout) pin.din tt) (filter (λ pin. pin.back) fabric.pins))
-        (then-there _ _ (any-there lut_drives (λ lc. drives_if-there _ (lut_entry lc) lc.out tt) (filter (λ lc. not lc.flip) fabric.lcs))
-        (then-there _ _ (each-there (λ (place : ℕ × Lc). place.0 < 0 + length (flips_of fabric)) flip_drives (λ place there. drives_if-there _ (flip_bit place.0) place.1.out (omega arith)) (numbered (flips_of fabric)) (places-below 0 (flips_of fabric)))
-        (then-there _ _ (any-there lout_drives (λ lc. drives_if-there _ (lut_entry lc) lc.lout tt) fabric.lcs)
-        (then-there _ _ (any-there carry_drives (λ lc. drives_if-there _ (carry_out lc) lc.cout tt) (filter (λ lc. lc.carry) fabric.lcs))
-        (then-there _ _ (any-there set_drives (λ set. drives_if-there _ one (Some set.net) tt) fabric.sets)
+        (then-there _ _ (any-there back_drives (λ pin. drives_if-there _ (input false pin.dout) pin.din tt) (filter (λ pin. pin.back) fabric.pins))
+        (then-there _ _ (any-there lut_drives (λ lc. drives_if-there _ (table_entry (table_of lc)) lc.out (cell-sources fabric lc)) (filter (λ lc. not lc.flip) fabric.lcs))
+        (then-there _ _ (each-there (Contains (numbered fabric.registers)) register_drives (λ place there. drives_if-there _ (register_bit place.0 place.1) place.1.out there) (numbered fabric.registers) (All-contains_itself (numbered fabric.registers)))
+        (then-there _ _ (any-there lout_drives (λ lc. drives_if-there _ (table_entry (table_of lc)) lc.lout (cell-sources fabric lc)) fabric.lcs)
+        (then-there _ _ (any-there carry_drives (λ lc. drives_if-there _ (majority_of (get_or lc.ins 1 None) (get_or lc.ins 2 None) lc.cin) lc.cout tt) (filter (λ lc. lc.carry) fabric.lcs))
+        (then-there _ _ (any-there set_drives (λ set. drives_if-there _ (constant true) (Some set.net) tt) fabric.sets)
         (then-there _ _ (each-there (λ (place : ℕ × RamCell). (place.0 < 0 + length fabric.rams) × (length place.1.rdata ≡ 16)) ram_drives (λ place found. ram-there place (omega (arith, found.0), found.1)) (numbered fabric.rams)
         (All-pair (λ (place : ℕ × RamCell). place.0 < 0 + length fabric.rams) (λ (place : ℕ × RamCell). length place.1.rdata ≡ 16) (numbered fabric.rams) (places-below 0 fabric.rams) (All-numbered (λ ram. length ram.rdata ≡ 16) 0 fabric.rams ports)))
         (then-there _ _ (each-there (λ (global : GlobalNet). IsPadIn (inputs_of fabric) global.from) (global_drives (inputs_of fabric)) global-there fabric.globals pads)

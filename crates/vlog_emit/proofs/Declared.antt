@@ -3,7 +3,7 @@ use Rattle.std.proofs.Common.{◌≡◌, ℕ, ◌≤◌, false, List, [], ◌∷
 use Rattle.std.specs.Prelude.{All, None, bytes_eq, IsTrue}
 use Rattle.std.proofs.lemmas.List.{map-append}
 use Rattle.std.proofs.lemmas.List.Sums.{fold-append}
-use Rattle.std.proofs.lemmas.List.Elements.{All-nil, All-cons, All-head, All-tail, All-append, All-filter}
+use Rattle.std.proofs.lemmas.List.Elements.{All-nil, All-cons, All-head, All-tail, All-append}
 use Rattle.vlog_module.specs.Maps.{value_in}
 use Rattle.vlog_module.specs.declared.sort.Sort.{Sort}
 use Rattle.vlog_module.specs.declared.sort.Sort.TheVariants as sort
@@ -14,15 +14,15 @@ use Rattle.vlog_module.specs.Uses.Use.{Declares}
 use Rattle.vlog_module.specs.WellFormed.{section_of, port_sort, Scope, scope_of, is_known, is_first, IsInRange, IsShaped, IsAllowed}
 use Rattle.vlog_cycle.specs.Named.{names_of}
 use Rattle.net_extract.proofs.Within.{All-single}
-use Rattle.net_extract.specs.declared.cell.Lc.{Lc}
+use Rattle.net_extract.specs.declared.register.Register.{Register}
 use Rattle.net_extract.specs.declared.ram.RamCell.{RamCell}
 use Rattle.net_extract.specs.declared.pin.Pin.{Pin}
-use Rattle.net_extract.specs.Fabric.{Fabric, flips_of}
-use Rattle.net_extract.proofs.Apart.{apart-filter, All-every}
-use Rattle.vlog_emit.specs.Names.{port_name, flip_name, register_name, memory_name}
-use Rattle.vlog_emit.specs.Written.{port_of, flip_register, read_register, ram_memory}
-use Rattle.vlog_emit.proofs.Lists.{NamesDiffer, Apart, names-absent, map-map}
-use Rattle.vlog_emit.proofs.Settled.{IsWritable, port-no_flip}
+use Rattle.net_extract.specs.Fabric.{Fabric}
+use Rattle.net_extract.proofs.Apart.{All-every}
+use Rattle.vlog_emit.specs.Names.{port_name, register_name, read_name, memory_name}
+use Rattle.vlog_emit.specs.Written.{port_of, register_item, read_register, ram_memory}
+use Rattle.vlog_emit.proofs.Lists.{Apart, names-absent, map-map}
+use Rattle.vlog_emit.proofs.Settled.{IsWritable, port-no_register}
 use Rattle.vlog_emit.proofs.Grown.{grown, grown-section, grown-declared, grown-assigned, grown-started, Grows, Grows-append}
 
 pub value_in-none : {A : Type 0} (entries : List (List ℕ × A)) (q : List ℕ) → All (λ name. bytes_eq name q ≡ false) (names_of entries) → value_in entries q ≡ None
@@ -105,36 +105,36 @@ module _ {X : Type 0} (k : ℕ) (as_sort : Sort) (name : X → List ℕ) (item :
 -- the names of a fabric's parts are names
 pub record AreNamed (fabric : Fabric) : Type 0 where
   pub ports : All (λ pin. IsName (port_name pin)) fabric.pins
-  pub flips : All (λ lc. IsName (flip_name lc)) fabric.lcs
-  pub registers : All (λ ram. IsName (register_name ram)) fabric.rams
+  pub registers : All (λ register. IsName (register_name register)) fabric.registers
+  pub reads : All (λ ram. IsName (read_name ram)) fabric.rams
   pub memories : All (λ ram. IsName (memory_name ram)) fabric.rams
 
-pub port-no_register : (pin : Pin) (ram : RamCell) → bytes_eq (port_name pin) (register_name ram) ≡ false
-unfolding port_name register_name
-port-no_register pin ram = refl
+pub port-no_read : (pin : Pin) (ram : RamCell) → bytes_eq (port_name pin) (read_name ram) ≡ false
+unfolding port_name read_name
+port-no_read pin ram = refl
 
 pub port-no_memory : (pin : Pin) (ram : RamCell) → bytes_eq (port_name pin) (memory_name ram) ≡ false
 unfolding port_name memory_name
 port-no_memory pin ram = refl
 
-pub flip-no_register : (lc : Lc) (ram : RamCell) → bytes_eq (flip_name lc) (register_name ram) ≡ false
-unfolding flip_name register_name
-flip-no_register lc ram = refl
+pub register-no_read : (register : Register) (ram : RamCell) → bytes_eq (register_name register) (read_name ram) ≡ false
+unfolding register_name read_name
+register-no_read register ram = refl
 
-pub flip-no_memory : (lc : Lc) (ram : RamCell) → bytes_eq (flip_name lc) (memory_name ram) ≡ false
-unfolding flip_name memory_name
-flip-no_memory lc ram = refl
-
-pub register-no_memory : (a b : RamCell) → bytes_eq (register_name a) (memory_name b) ≡ false
+pub register-no_memory : (register : Register) (ram : RamCell) → bytes_eq (register_name register) (memory_name ram) ≡ false
 unfolding register_name memory_name
-register-no_memory a b = refl
+register-no_memory register ram = refl
+
+pub read-no_memory : (a b : RamCell) → bytes_eq (read_name a) (memory_name b) ≡ false
+unfolding read_name memory_name
+read-no_memory a b = refl
 
 -- what ports and state declare
 abbrev pub state_names : Fabric → List (List ℕ × Sort)
 state_names fabric =
     ((map (λ pin. (port_name pin, port_sort (port_of pin))) fabric.pins
-    ++ map (λ lc. (flip_name lc, sort.Register)) (flips_of fabric))
-    ++ map (λ ram. (register_name ram, sort.Word)) fabric.rams)
+    ++ map (λ register. (register_name register, sort.Register)) fabric.registers)
+    ++ map (λ ram. (read_name ram, sort.Word)) fabric.rams)
     ++ map (λ ram. (memory_name ram, sort.Memory)) fabric.rams
 
 -- what they leave
@@ -159,95 +159,95 @@ module _ (fabric : Fabric) (writable : IsWritable fabric) (named : AreNamed fabr
   unfolding scope-ports
   ports-low = refl
 
-  flips-one : DeclaresOne 2 sort.Register flip_name flip_register
-  flips-one = record { section = λ lc. refl; uses = λ lc. refl; shaped = λ lc. tt }
+  registers-one : DeclaresOne 2 sort.Register register_name register_item
+  registers-one = record { section = λ register. refl; uses = λ register. refl; shaped = λ register. tt }
 
-  registers-one : DeclaresOne 3 sort.Word register_name read_register
-  registers-one = record { section = λ ram. refl; uses = λ ram. refl; shaped = λ ram. omega arith }
+  reads-one : DeclaresOne 3 sort.Word read_name read_register
+  reads-one = record { section = λ ram. refl; uses = λ ram. refl; shaped = λ ram. omega arith }
 
   memories-one : DeclaresOne 4 sort.Memory memory_name ram_memory
   memories-one = record { section = λ ram. refl; uses = λ ram. refl; shaped = λ ram. tt }
 
-  flips-grow : Grows scope-ports (map flip_register (flips_of fabric))
-      × Declared scope-ports (fold grown scope-ports (map flip_register (flips_of fabric))) 2 (map (λ lc. (flip_name lc, sort.Register)) (flips_of fabric))
-  flips-grow =
-      grows-declared 2 sort.Register flip_name flip_register flips-one (flips_of fabric) scope-ports (omega (arith, ports-low))
-      (All-filter (λ lc. lc.flip) (λ lc. IsName (flip_name lc)) fabric.lcs named.flips) (apart-filter (NamesDiffer flip_name) (λ lc. lc.flip) fabric.lcs writable.flips)
-      (All-every (λ lc. All (λ n. bytes_eq n (flip_name lc) ≡ false) (names_of scope-ports.declared)) (λ lc.
-      subst (All (λ n. bytes_eq n (flip_name lc) ≡ false)) (sym ports-names) (names-absent port_name fabric.pins (flip_name lc) (λ pin. port-no_flip pin lc))) (flips_of fabric))
-
-  scope-flips : Scope
-  scope-flips = fold grown scope-ports (map flip_register (flips_of fabric))
-
-  flips-names : names_of scope-flips.declared ≡ map port_name fabric.pins ++ map flip_name (flips_of fabric)
-  unfolding scope-flips
-  flips-names =
-      ap names_of flips-grow.1.declared_is
-      ∙ (map-append (λ (entry : List ℕ × Sort). entry.0) scope-ports.declared (map (λ lc. (flip_name lc, sort.Register)) (flips_of fabric))
-      ∙ (ap (λ list. list ++ names_of (map (λ lc. (flip_name lc, sort.Register)) (flips_of fabric))) ports-names
-      ∙ ap (λ list. map port_name fabric.pins ++ list) (map-map (λ lc. (flip_name lc, sort.Register)) (λ (entry : List ℕ × Sort). entry.0) (flips_of fabric))))
-
-  registers-grow : Grows scope-flips (map read_register fabric.rams)
-      × Declared scope-flips (fold grown scope-flips (map read_register fabric.rams)) 3 (map (λ ram. (register_name ram, sort.Word)) fabric.rams)
-  unfolding scope-flips
+  registers-grow : Grows scope-ports (map register_item fabric.registers)
+      × Declared scope-ports (fold grown scope-ports (map register_item fabric.registers)) 2 (map (λ register. (register_name register, sort.Register)) fabric.registers)
   registers-grow =
-      grows-declared 3 sort.Word register_name read_register registers-one fabric.rams scope-flips (omega (arith, flips-grow.1.section))
+      grows-declared 2 sort.Register register_name register_item registers-one fabric.registers scope-ports (omega (arith, ports-low))
       named.registers writable.registers
-      (All-every (λ ram. All (λ n. bytes_eq n (register_name ram) ≡ false) (names_of scope-flips.declared)) (λ ram.
-      subst (All (λ n. bytes_eq n (register_name ram) ≡ false)) (sym flips-names)
-      (All-append (λ n. bytes_eq n (register_name ram) ≡ false) (map port_name fabric.pins) (map flip_name (flips_of fabric))
-      (names-absent port_name fabric.pins (register_name ram) (λ pin. port-no_register pin ram))
-      (names-absent flip_name (flips_of fabric) (register_name ram) (λ lc. flip-no_register lc ram)))) fabric.rams)
+      (All-every (λ register. All (λ n. bytes_eq n (register_name register) ≡ false) (names_of scope-ports.declared)) (λ register.
+      subst (All (λ n. bytes_eq n (register_name register) ≡ false)) (sym ports-names) (names-absent port_name fabric.pins (register_name register) (λ pin. port-no_register pin register))) fabric.registers)
 
   scope-registers : Scope
-  scope-registers = fold grown scope-flips (map read_register fabric.rams)
+  scope-registers = fold grown scope-ports (map register_item fabric.registers)
 
-  registers-names : names_of scope-registers.declared ≡ (map port_name fabric.pins ++ map flip_name (flips_of fabric)) ++ map register_name fabric.rams
+  registers-names : names_of scope-registers.declared ≡ map port_name fabric.pins ++ map register_name fabric.registers
   unfolding scope-registers
   registers-names =
       ap names_of registers-grow.1.declared_is
-      ∙ (map-append (λ (entry : List ℕ × Sort). entry.0) scope-flips.declared (map (λ ram. (register_name ram, sort.Word)) fabric.rams)
-      ∙ (ap (λ list. list ++ names_of (map (λ ram. (register_name ram, sort.Word)) fabric.rams)) flips-names
-      ∙ ap (λ list. (map port_name fabric.pins ++ map flip_name (flips_of fabric)) ++ list) (map-map (λ ram. (register_name ram, sort.Word)) (λ (entry : List ℕ × Sort). entry.0) fabric.rams)))
+      ∙ (map-append (λ (entry : List ℕ × Sort). entry.0) scope-ports.declared (map (λ register. (register_name register, sort.Register)) fabric.registers)
+      ∙ (ap (λ list. list ++ names_of (map (λ register. (register_name register, sort.Register)) fabric.registers)) ports-names
+      ∙ ap (λ list. map port_name fabric.pins ++ list) (map-map (λ register. (register_name register, sort.Register)) (λ (entry : List ℕ × Sort). entry.0) fabric.registers)))
 
-  memories-grow : Grows scope-registers (map ram_memory fabric.rams)
-      × Declared scope-registers (fold grown scope-registers (map ram_memory fabric.rams)) 4 (map (λ ram. (memory_name ram, sort.Memory)) fabric.rams)
+  reads-grow : Grows scope-registers (map read_register fabric.rams)
+      × Declared scope-registers (fold grown scope-registers (map read_register fabric.rams)) 3 (map (λ ram. (read_name ram, sort.Word)) fabric.rams)
   unfolding scope-registers
+  reads-grow =
+      grows-declared 3 sort.Word read_name read_register reads-one fabric.rams scope-registers (omega (arith, registers-grow.1.section))
+      named.reads writable.reads
+      (All-every (λ ram. All (λ n. bytes_eq n (read_name ram) ≡ false) (names_of scope-registers.declared)) (λ ram.
+      subst (All (λ n. bytes_eq n (read_name ram) ≡ false)) (sym registers-names)
+      (All-append (λ n. bytes_eq n (read_name ram) ≡ false) (map port_name fabric.pins) (map register_name fabric.registers)
+      (names-absent port_name fabric.pins (read_name ram) (λ pin. port-no_read pin ram))
+      (names-absent register_name fabric.registers (read_name ram) (λ register. register-no_read register ram)))) fabric.rams)
+
+  scope-reads : Scope
+  scope-reads = fold grown scope-registers (map read_register fabric.rams)
+
+  reads-names : names_of scope-reads.declared ≡ (map port_name fabric.pins ++ map register_name fabric.registers) ++ map read_name fabric.rams
+  unfolding scope-reads
+  reads-names =
+      ap names_of reads-grow.1.declared_is
+      ∙ (map-append (λ (entry : List ℕ × Sort). entry.0) scope-registers.declared (map (λ ram. (read_name ram, sort.Word)) fabric.rams)
+      ∙ (ap (λ list. list ++ names_of (map (λ ram. (read_name ram, sort.Word)) fabric.rams)) registers-names
+      ∙ ap (λ list. (map port_name fabric.pins ++ map register_name fabric.registers) ++ list) (map-map (λ ram. (read_name ram, sort.Word)) (λ (entry : List ℕ × Sort). entry.0) fabric.rams)))
+
+  memories-grow : Grows scope-reads (map ram_memory fabric.rams)
+      × Declared scope-reads (fold grown scope-reads (map ram_memory fabric.rams)) 4 (map (λ ram. (memory_name ram, sort.Memory)) fabric.rams)
+  unfolding scope-reads
   memories-grow =
-      grows-declared 4 sort.Memory memory_name ram_memory memories-one fabric.rams scope-registers (omega (arith, registers-grow.1.section))
+      grows-declared 4 sort.Memory memory_name ram_memory memories-one fabric.rams scope-reads (omega (arith, reads-grow.1.section))
       named.memories writable.memories
-      (All-every (λ ram. All (λ n. bytes_eq n (memory_name ram) ≡ false) (names_of scope-registers.declared)) (λ ram.
-      subst (All (λ n. bytes_eq n (memory_name ram) ≡ false)) (sym registers-names)
-      (All-append (λ n. bytes_eq n (memory_name ram) ≡ false) (map port_name fabric.pins ++ map flip_name (flips_of fabric)) (map register_name fabric.rams)
-      (All-append (λ n. bytes_eq n (memory_name ram) ≡ false) (map port_name fabric.pins) (map flip_name (flips_of fabric))
+      (All-every (λ ram. All (λ n. bytes_eq n (memory_name ram) ≡ false) (names_of scope-reads.declared)) (λ ram.
+      subst (All (λ n. bytes_eq n (memory_name ram) ≡ false)) (sym reads-names)
+      (All-append (λ n. bytes_eq n (memory_name ram) ≡ false) (map port_name fabric.pins ++ map register_name fabric.registers) (map read_name fabric.rams)
+      (All-append (λ n. bytes_eq n (memory_name ram) ≡ false) (map port_name fabric.pins) (map register_name fabric.registers)
       (names-absent port_name fabric.pins (memory_name ram) (λ pin. port-no_memory pin ram))
-      (names-absent flip_name (flips_of fabric) (memory_name ram) (λ lc. flip-no_memory lc ram)))
-      (names-absent register_name fabric.rams (memory_name ram) (λ other. register-no_memory other ram)))) fabric.rams)
+      (names-absent register_name fabric.registers (memory_name ram) (λ register. register-no_memory register ram)))
+      (names-absent read_name fabric.rams (memory_name ram) (λ other. read-no_memory other ram)))) fabric.rams)
 
   -- registers, words and memories may stand after the ports
-  pub state-grows : Grows (scope_of (map port_of fabric.pins) []) (map flip_register (flips_of fabric) ++ (map read_register fabric.rams ++ map ram_memory fabric.rams))
-  unfolding scope-ports scope-flips scope-registers
+  pub state-grows : Grows (scope_of (map port_of fabric.pins) []) (map register_item fabric.registers ++ (map read_register fabric.rams ++ map ram_memory fabric.rams))
+  unfolding scope-ports scope-registers scope-reads
   state-grows =
-      Grows-append scope-ports (map flip_register (flips_of fabric)) (map read_register fabric.rams ++ map ram_memory fabric.rams) flips-grow.0
-      (Grows-append scope-flips (map read_register fabric.rams) (map ram_memory fabric.rams) registers-grow.0 memories-grow.0)
+      Grows-append scope-ports (map register_item fabric.registers) (map read_register fabric.rams ++ map ram_memory fabric.rams) registers-grow.0
+      (Grows-append scope-registers (map read_register fabric.rams) (map ram_memory fabric.rams) reads-grow.0 memories-grow.0)
 
   -- what stands after registers, words and memories
-  pub state-left : StateLeft fabric (fold grown (scope_of (map port_of fabric.pins) []) (map flip_register (flips_of fabric) ++ (map read_register fabric.rams ++ map ram_memory fabric.rams)))
-  unfolding scope-ports scope-flips scope-registers
+  pub state-left : StateLeft fabric (fold grown (scope_of (map port_of fabric.pins) []) (map register_item fabric.registers ++ (map read_register fabric.rams ++ map ram_memory fabric.rams)))
+  unfolding scope-ports scope-registers scope-reads
   state-left =
-      let joined : fold grown (scope_of (map port_of fabric.pins) []) (map flip_register (flips_of fabric) ++ (map read_register fabric.rams ++ map ram_memory fabric.rams))
-      ≡ fold grown scope-registers (map ram_memory fabric.rams) =
-      fold-append grown scope-ports (map flip_register (flips_of fabric)) (map read_register fabric.rams ++ map ram_memory fabric.rams)
-      ∙ fold-append grown scope-flips (map read_register fabric.rams) (map ram_memory fabric.rams) in
+      let joined : fold grown (scope_of (map port_of fabric.pins) []) (map register_item fabric.registers ++ (map read_register fabric.rams ++ map ram_memory fabric.rams))
+      ≡ fold grown scope-reads (map ram_memory fabric.rams) =
+      fold-append grown scope-ports (map register_item fabric.registers) (map read_register fabric.rams ++ map ram_memory fabric.rams)
+      ∙ fold-append grown scope-registers (map read_register fabric.rams) (map ram_memory fabric.rams) in
       let ports : scope-ports.declared ≡ map (λ pin. (port_name pin, port_sort (port_of pin))) fabric.pins =
       append-nil (map (λ port. (port.name, port_sort port)) (map port_of fabric.pins)) ∙ map-map port_of (λ port. (port.name, port_sort port)) fabric.pins in
       subst (StateLeft fabric) (sym joined) (record {
         section = memories-grow.1.section;
         declared_is = memories-grow.1.declared_is
             ∙ ap (λ list. list ++ map (λ ram. (memory_name ram, sort.Memory)) fabric.rams)
-            (registers-grow.1.declared_is
-            ∙ ap (λ list. list ++ map (λ ram. (register_name ram, sort.Word)) fabric.rams)
-            (flips-grow.1.declared_is ∙ ap (λ list. list ++ map (λ lc. (flip_name lc, sort.Register)) (flips_of fabric)) ports));
-        assigned_is = memories-grow.1.assigned_is ∙ (registers-grow.1.assigned_is ∙ flips-grow.1.assigned_is);
-        started_is = memories-grow.1.started_is ∙ (registers-grow.1.started_is ∙ flips-grow.1.started_is);
+            (reads-grow.1.declared_is
+            ∙ ap (λ list. list ++ map (λ ram. (read_name ram, sort.Word)) fabric.rams)
+            (registers-grow.1.declared_is ∙ ap (λ list. list ++ map (λ register. (register_name register, sort.Register)) fabric.registers) ports));
+        assigned_is = memories-grow.1.assigned_is ∙ (reads-grow.1.assigned_is ∙ registers-grow.1.assigned_is);
+        started_is = memories-grow.1.started_is ∙ (reads-grow.1.started_is ∙ registers-grow.1.started_is);
       })

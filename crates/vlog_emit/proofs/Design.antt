@@ -10,6 +10,7 @@ use Rattle.vlog_module.specs.Names.{IsName}
 use Rattle.vlog_module.specs.WellFormed.{IsModule}
 use Rattle.vlog_cycle.specs.Run.{module_run}
 use Rattle.net_extract.specs.declared.pin.GlobalNet.{GlobalNet}
+use Rattle.net_extract.specs.Cells.{cells_of}
 use Rattle.net_extract.specs.Rams.{rams_of}
 use Rattle.net_extract.specs.Fabric.{inputs_of, fabric_of}
 use Rattle.net_extract.specs.Steps.{Event, Entry, IsRun}
@@ -18,12 +19,12 @@ use Rattle.net_extract.specs.Faults.{design_fault}
 use Rattle.net_extract.proofs.Within.{fabric-within}
 use Rattle.net_extract.proofs.Taken.{design-taken}
 use Rattle.net_extract.proofs.Runs.{fabric-placed}
-use Rattle.vlog_emit.specs.Names.{register_name, memory_name}
+use Rattle.vlog_emit.specs.Names.{read_name, memory_name}
 use Rattle.vlog_emit.specs.Written.{module_of}
 use Rattle.vlog_emit.specs.Matching.{Matches, module_event}
 use Rattle.vlog_emit.proofs.Settled.{IsWritable}
 use Rattle.vlog_emit.proofs.Beginning.{IsPorted}
-use Rattle.vlog_emit.proofs.Configured.{IsPadIn, ports-apart, cells-apart, rams-apart, register-places, memory-places, fabric-started, drives-there}
+use Rattle.vlog_emit.proofs.Configured.{IsPadIn, registers-sources, ports-apart, registers-apart, rams-apart, read-places, memory-places, fabric-started, drives-there}
 use Rattle.vlog_emit.proofs.Pads.{pads-there}
 use Rattle.vlog_emit.proofs.Headline.{module-is-fabric}
 use Rattle.vlog_emit.proofs.Whole.{module-well_formed}
@@ -41,9 +42,10 @@ module _ (db : Database) (image : Configuration) (fit : IsFit db) (few : db.chip
     few = few;
     places = drives-there (fabric_of db image) pads
         (All-weaker IsPorted (λ ram. length ram.rdata ≡ 16) (λ ram ported. ported.read) (rams_of db image) (fabric-started db image).each_port);
+    tables = registers-sources (fabric_of db image) (cells_of db image);
     ports = ports-apart db image;
-    flips = cells-apart db image;
-    registers = rams-apart db image register_name register-places;
+    registers = registers-apart db image;
+    reads = rams-apart db image read_name read-places;
     memories = rams-apart db image memory_name memory-places;
   }
 

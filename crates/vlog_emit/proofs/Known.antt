@@ -3,7 +3,7 @@ use Rattle.std.proofs.Common.{◌≡◌, ℕ, Bool, true, false, List, [], ◌�
 use Rattle.std.specs.Prelude.{All, Some, filter, bytes_eq, not, if◌then◌else◌}
 use Rattle.std.proofs.lemmas.Bool.{cases_Bool}
 use Rattle.std.proofs.lemmas.List.{map-append}
-use Rattle.std.proofs.lemmas.List.Elements.{All-nil, All-cons, All-head, All-tail, All-append, All-weaker, All-filter, filter_passes}
+use Rattle.std.proofs.lemmas.List.Elements.{All-nil, All-cons, All-head, All-tail, All-append, All-weaker, All-contains, All-filter, filter_passes}
 use Rattle.shared_lemmas.proofs.Lists.{All-both}
 use Rattle.shared_lemmas.proofs.Bytes.{bytes_eq-same}
 use Rattle.vlog_module.specs.Maps.{value_in}
@@ -14,15 +14,14 @@ use Rattle.vlog_module.specs.WellFormed.{port_sort, Scope}
 use Rattle.vlog_cycle.specs.Named.{names_of}
 use Rattle.net_extract.specs.declared.ram.RamCell.{RamCell}
 use Rattle.net_extract.specs.declared.pin.Pin.{Pin}
-use Rattle.net_extract.specs.Fabric.{Fabric, inputs_of, outputs_of, flips_of}
-use Rattle.net_extract.proofs.Apart.{apart-filter}
+use Rattle.net_extract.specs.Fabric.{Fabric, inputs_of, outputs_of}
 use Rattle.net_extract.specs.Wiring.{has}
 use Rattle.net_extract.proofs.Order.{has-none, has-cases}
-use Rattle.vlog_emit.specs.Names.{port_name, flip_name, register_name, memory_name, wire_name}
+use Rattle.vlog_emit.specs.Names.{port_name, register_name, read_name, memory_name, wire_name}
 use Rattle.vlog_emit.specs.Written.{port_of}
-use Rattle.vlog_emit.proofs.Lists.{NamesDiffer, Apart, value_in-front, value_in-behind, names-absent, map-map, All-pick}
-use Rattle.vlog_emit.proofs.Settled.{IsWritable, port-no_flip, port-no_wire, flip-no_wire}
-use Rattle.vlog_emit.proofs.Declared.{AreNamed, StateLeft, port-no_register, port-no_memory, flip-no_register, flip-no_memory, register-no_memory}
+use Rattle.vlog_emit.proofs.Lists.{Apart, value_in-front, value_in-behind, names-absent, map-map, All-pick}
+use Rattle.vlog_emit.proofs.Settled.{IsWritable, port-no_register, port-no_wire, register-no_wire}
+use Rattle.vlog_emit.proofs.Declared.{AreNamed, StateLeft, port-no_read, port-no_memory, register-no_read, register-no_memory, read-no_memory}
 use Rattle.vlog_emit.proofs.Used.{IsThere, Knows, there-more}
 
 -- ---- names with their sorts
@@ -81,8 +80,8 @@ no-name-both first second q of_first of_second =
 pub record Stands (fabric : Fabric) (scope : Scope) : Type 0 where
   pub inputs : All (λ pin. IsThere scope (port_name pin) sort.Input) (inputs_of fabric)
   pub outputs : All (λ pin. IsThere scope (port_name pin) sort.Output) (outputs_of fabric)
-  pub flips : All (λ lc. IsThere scope (flip_name lc) sort.Register) (flips_of fabric)
-  pub registers : All (λ ram. IsThere scope (register_name ram) sort.Word) fabric.rams
+  pub registers : All (λ register. IsThere scope (register_name register) sort.Register) fabric.registers
+  pub reads : All (λ ram. IsThere scope (read_name ram) sort.Word) fabric.rams
   pub memories : All (λ ram. IsThere scope (memory_name ram) sort.Memory) fabric.rams
 
 -- they stay where more is declared
@@ -91,17 +90,17 @@ stands-more fabric old new more is stands =
     let moved = λ (name : List ℕ) (as_sort : Sort) (there : IsThere old name as_sort). there-more old new more name as_sort is there in record {
       inputs = All-weaker (λ pin. IsThere old (port_name pin) sort.Input) (λ pin. IsThere new (port_name pin) sort.Input) (λ pin there. moved (port_name pin) sort.Input there) (inputs_of fabric) stands.inputs;
       outputs = All-weaker (λ pin. IsThere old (port_name pin) sort.Output) (λ pin. IsThere new (port_name pin) sort.Output) (λ pin there. moved (port_name pin) sort.Output there) (outputs_of fabric) stands.outputs;
-      flips = All-weaker (λ lc. IsThere old (flip_name lc) sort.Register) (λ lc. IsThere new (flip_name lc) sort.Register) (λ lc there. moved (flip_name lc) sort.Register there) (flips_of fabric) stands.flips;
-      registers = All-weaker (λ ram. IsThere old (register_name ram) sort.Word) (λ ram. IsThere new (register_name ram) sort.Word) (λ ram there. moved (register_name ram) sort.Word there) fabric.rams stands.registers;
+      registers = All-weaker (λ register. IsThere old (register_name register) sort.Register) (λ register. IsThere new (register_name register) sort.Register) (λ register there. moved (register_name register) sort.Register there) fabric.registers stands.registers;
+      reads = All-weaker (λ ram. IsThere old (read_name ram) sort.Word) (λ ram. IsThere new (read_name ram) sort.Word) (λ ram there. moved (read_name ram) sort.Word there) fabric.rams stands.reads;
       memories = All-weaker (λ ram. IsThere old (memory_name ram) sort.Memory) (λ ram. IsThere new (memory_name ram) sort.Memory) (λ ram there. moved (memory_name ram) sort.Memory there) fabric.rams stands.memories;
     }
 
--- so inputs, flip-flops and read registers are known by their places
+-- so inputs and read registers are known by their places, and registers
 pub stands-knows : (fabric : Fabric) (scope : Scope) (wired : ℕ → Bool) → Stands fabric scope → ((class : ℕ) → wired class ≡ true → IsThere scope (wire_name class) sort.Wire) → Knows fabric scope wired
 stands-knows fabric scope wired stands wires = record {
   input = λ place there. All-pick port_name (λ n. IsThere scope n sort.Input) (inputs_of fabric) place stands.inputs there;
-  flip = λ place there. All-pick flip_name (λ n. IsThere scope n sort.Register) (flips_of fabric) place stands.flips there;
-  register = λ place there. All-pick register_name (λ n. IsThere scope n sort.Word) fabric.rams place stands.registers there;
+  register = λ register there. All-contains (λ r. IsThere scope (register_name r) sort.Register) fabric.registers register stands.registers there;
+  read = λ place there. All-pick read_name (λ n. IsThere scope n sort.Word) fabric.rams place stands.reads there;
   wire = wires;
 }
 
@@ -115,9 +114,9 @@ input-sort pin is = by-bit pin.output is
 output-sort : (pin : Pin) → pin.output ≡ true → port_sort (port_of pin) ≡ sort.Output
 output-sort pin is = rw is refl
 
-register-no_wire : (ram : RamCell) (class : ℕ) → bytes_eq (register_name ram) (wire_name class) ≡ false
-unfolding register_name wire_name
-register-no_wire ram class = refl
+read-no_wire : (ram : RamCell) (class : ℕ) → bytes_eq (read_name ram) (wire_name class) ≡ false
+unfolding read_name wire_name
+read-no_wire ram class = refl
 
 memory-no_wire : (ram : RamCell) (class : ℕ) → bytes_eq (memory_name ram) (wire_name class) ≡ false
 unfolding memory_name wire_name
@@ -127,54 +126,54 @@ module _ (fabric : Fabric) (writable : IsWritable fabric) (named : AreNamed fabr
   ports : List (List ℕ × Sort)
   ports = with_sorts port_name (λ pin. port_sort (port_of pin)) fabric.pins
 
-  flips : List (List ℕ × Sort)
-  flips = with_sorts flip_name (λ lc. sort.Register) (flips_of fabric)
+  registers : List (List ℕ × Sort)
+  registers = with_sorts register_name (λ register. sort.Register) fabric.registers
 
   words : List (List ℕ × Sort)
-  words = with_sorts register_name (λ ram. sort.Word) fabric.rams
+  words = with_sorts read_name (λ ram. sort.Word) fabric.rams
 
   memories : List (List ℕ × Sort)
   memories = with_sorts memory_name (λ ram. sort.Memory) fabric.rams
 
-  state-is : scope.declared ≡ ((ports ++ flips) ++ words) ++ memories
-  unfolding ports flips words memories
+  state-is : scope.declared ≡ ((ports ++ registers) ++ words) ++ memories
+  unfolding ports registers words memories
   state-is = left.declared_is
 
   port-sorts : All (IsSorted port_name (λ pin. port_sort (port_of pin)) scope.declared) fabric.pins
   unfolding ports
   port-sorts =
       subst (λ list. All (IsSorted port_name (λ pin. port_sort (port_of pin)) list) fabric.pins) (sym state-is)
-      (sorted-front port_name (λ pin. port_sort (port_of pin)) ((ports ++ flips) ++ words) memories fabric.pins
-      (sorted-front port_name (λ pin. port_sort (port_of pin)) (ports ++ flips) words fabric.pins
-      (sorted-front port_name (λ pin. port_sort (port_of pin)) ports flips fabric.pins (sorted-there port_name (λ pin. port_sort (port_of pin)) fabric.pins writable.ports))))
+      (sorted-front port_name (λ pin. port_sort (port_of pin)) ((ports ++ registers) ++ words) memories fabric.pins
+      (sorted-front port_name (λ pin. port_sort (port_of pin)) (ports ++ registers) words fabric.pins
+      (sorted-front port_name (λ pin. port_sort (port_of pin)) ports registers fabric.pins (sorted-there port_name (λ pin. port_sort (port_of pin)) fabric.pins writable.ports))))
 
-  flip-sorts : All (IsSorted flip_name (λ lc. sort.Register) scope.declared) (flips_of fabric)
-  unfolding ports flips
-  flip-sorts =
-      subst (λ list. All (IsSorted flip_name (λ lc. sort.Register) list) (flips_of fabric)) (sym state-is)
-      (sorted-front flip_name (λ lc. sort.Register) ((ports ++ flips) ++ words) memories (flips_of fabric)
-      (sorted-between flip_name (λ lc. sort.Register) ports words (flips_of fabric) (apart-filter (NamesDiffer flip_name) (λ lc. lc.flip) fabric.lcs writable.flips)
-      (λ lc. no-name-of port_name (λ pin. port_sort (port_of pin)) fabric.pins (flip_name lc) (λ pin. port-no_flip pin lc))))
+  register-sorts : All (IsSorted register_name (λ register. sort.Register) scope.declared) fabric.registers
+  unfolding ports registers
+  register-sorts =
+      subst (λ list. All (IsSorted register_name (λ register. sort.Register) list) fabric.registers) (sym state-is)
+      (sorted-front register_name (λ register. sort.Register) ((ports ++ registers) ++ words) memories fabric.registers
+      (sorted-between register_name (λ register. sort.Register) ports words fabric.registers writable.registers
+      (λ register. no-name-of port_name (λ pin. port_sort (port_of pin)) fabric.pins (register_name register) (λ pin. port-no_register pin register))))
 
-  word-sorts : All (IsSorted register_name (λ ram. sort.Word) scope.declared) fabric.rams
-  unfolding ports flips words
+  word-sorts : All (IsSorted read_name (λ ram. sort.Word) scope.declared) fabric.rams
+  unfolding ports registers words
   word-sorts =
-      subst (λ list. All (IsSorted register_name (λ ram. sort.Word) list) fabric.rams) (sym state-is)
-      (sorted-between register_name (λ ram. sort.Word) (ports ++ flips) memories fabric.rams writable.registers
-      (λ ram. no-name-both ports flips (register_name ram)
-      (no-name-of port_name (λ pin. port_sort (port_of pin)) fabric.pins (register_name ram) (λ pin. port-no_register pin ram))
-      (no-name-of flip_name (λ lc. sort.Register) (flips_of fabric) (register_name ram) (λ lc. flip-no_register lc ram))))
+      subst (λ list. All (IsSorted read_name (λ ram. sort.Word) list) fabric.rams) (sym state-is)
+      (sorted-between read_name (λ ram. sort.Word) (ports ++ registers) memories fabric.rams writable.reads
+      (λ ram. no-name-both ports registers (read_name ram)
+      (no-name-of port_name (λ pin. port_sort (port_of pin)) fabric.pins (read_name ram) (λ pin. port-no_read pin ram))
+      (no-name-of register_name (λ register. sort.Register) fabric.registers (read_name ram) (λ register. register-no_read register ram))))
 
   memory-sorts : All (IsSorted memory_name (λ ram. sort.Memory) scope.declared) fabric.rams
-  unfolding ports flips words memories
+  unfolding ports registers words memories
   memory-sorts =
       subst (λ list. All (IsSorted memory_name (λ ram. sort.Memory) list) fabric.rams) (append-nil _ ∙ sym state-is)
-      (sorted-between memory_name (λ ram. sort.Memory) ((ports ++ flips) ++ words) [] fabric.rams writable.memories
-      (λ ram. no-name-both (ports ++ flips) words (memory_name ram)
-      (no-name-both ports flips (memory_name ram)
+      (sorted-between memory_name (λ ram. sort.Memory) ((ports ++ registers) ++ words) [] fabric.rams writable.memories
+      (λ ram. no-name-both (ports ++ registers) words (memory_name ram)
+      (no-name-both ports registers (memory_name ram)
       (no-name-of port_name (λ pin. port_sort (port_of pin)) fabric.pins (memory_name ram) (λ pin. port-no_memory pin ram))
-      (no-name-of flip_name (λ lc. sort.Register) (flips_of fabric) (memory_name ram) (λ lc. flip-no_memory lc ram)))
-      (no-name-of register_name (λ ram. sort.Word) fabric.rams (memory_name ram) (λ other. register-no_memory other ram))))
+      (no-name-of register_name (λ register. sort.Register) fabric.registers (memory_name ram) (λ register. register-no_memory register ram)))
+      (no-name-of read_name (λ ram. sort.Word) fabric.rams (memory_name ram) (λ other. read-no_memory other ram))))
 
   port-there : (as_sort : Sort) (test : Pin → Bool) → ((pin : Pin) → test pin ≡ true → port_sort (port_of pin) ≡ as_sort)
       → All (λ pin. IsThere scope (port_name pin) as_sort) (filter test fabric.pins)
@@ -191,25 +190,25 @@ module _ (fabric : Fabric) (writable : IsWritable fabric) (named : AreNamed fabr
   state-stands = record {
     inputs = port-there sort.Input (λ pin. not pin.output) input-sort;
     outputs = port-there sort.Output (λ pin. pin.output) output-sort;
-    flips = All-both (λ lc. IsName (flip_name lc)) (IsSorted flip_name (λ lc. sort.Register) scope.declared) (λ lc. IsThere scope (flip_name lc) sort.Register)
-        (λ lc name found. record { named = name; declared = found }) (flips_of fabric) (All-filter (λ lc. lc.flip) (λ lc. IsName (flip_name lc)) fabric.lcs named.flips) flip-sorts;
-    registers = All-both (λ ram. IsName (register_name ram)) (IsSorted register_name (λ ram. sort.Word) scope.declared) (λ ram. IsThere scope (register_name ram) sort.Word)
-        (λ ram name found. record { named = name; declared = found }) fabric.rams named.registers word-sorts;
+    registers = All-both (λ register. IsName (register_name register)) (IsSorted register_name (λ register. sort.Register) scope.declared) (λ register. IsThere scope (register_name register) sort.Register)
+        (λ register name found. record { named = name; declared = found }) fabric.registers named.registers register-sorts;
+    reads = All-both (λ ram. IsName (read_name ram)) (IsSorted read_name (λ ram. sort.Word) scope.declared) (λ ram. IsThere scope (read_name ram) sort.Word)
+        (λ ram name found. record { named = name; declared = found }) fabric.rams named.reads word-sorts;
     memories = All-both (λ ram. IsName (memory_name ram)) (IsSorted memory_name (λ ram. sort.Memory) scope.declared) (λ ram. IsThere scope (memory_name ram) sort.Memory)
         (λ ram name found. record { named = name; declared = found }) fabric.rams named.memories memory-sorts;
   }
 
   -- and no wire
   pub state-no_wire : (class : ℕ) → NoName scope.declared (wire_name class)
-  unfolding ports flips words memories
+  unfolding ports registers words memories
   state-no_wire class =
       subst (λ list. NoName list (wire_name class)) (sym state-is)
-      (no-name-both ((ports ++ flips) ++ words) memories (wire_name class)
-      (no-name-both (ports ++ flips) words (wire_name class)
-      (no-name-both ports flips (wire_name class)
+      (no-name-both ((ports ++ registers) ++ words) memories (wire_name class)
+      (no-name-both (ports ++ registers) words (wire_name class)
+      (no-name-both ports registers (wire_name class)
       (no-name-of port_name (λ pin. port_sort (port_of pin)) fabric.pins (wire_name class) (λ pin. port-no_wire pin class))
-      (no-name-of flip_name (λ lc. sort.Register) (flips_of fabric) (wire_name class) (λ lc. flip-no_wire lc class)))
-      (no-name-of register_name (λ ram. sort.Word) fabric.rams (wire_name class) (λ ram. register-no_wire ram class)))
+      (no-name-of register_name (λ register. sort.Register) fabric.registers (wire_name class) (λ register. register-no_wire register class)))
+      (no-name-of read_name (λ ram. sort.Word) fabric.rams (wire_name class) (λ ram. read-no_wire ram class)))
       (no-name-of memory_name (λ ram. sort.Memory) fabric.rams (wire_name class) (λ ram. memory-no_wire ram class)))
 
   pub state-knows : Knows fabric scope (has [])

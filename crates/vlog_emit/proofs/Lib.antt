@@ -8,13 +8,14 @@ pub mod Sections
 pub mod Fills
 -- the right side that is written for a driver has the driver's value, where pins, state and the wires that it reads have theirs
 pub mod Rights
--- the wires and outputs of a module, once its inputs, registers and memories hold what the fabric's pins and state are
+-- the wires, registers and outputs of a module once they have settled, where its inputs, registers and memories hold what the
+-- fabric's pins are and what its state was before it settled
 pub mod Settled
 -- the start of a written module: registers are 0, and memories have the words of the image
 pub mod Beginning
 -- an event is the edge of a clocked item of the module exactly where it is an edge of the fabric's clock
 pub mod Ticks
--- what flip-flops and RAM ports become in the module at an event is what they become in the fabric
+-- what registers and RAM ports become in the module at an event, before registers settle, is what they become in the fabric
 pub mod Clocked
 -- the run of the written module and the run of the fabric match after the start and after each event of each list
 pub mod Headline
@@ -37,17 +38,19 @@ pub mod Grown
 pub mod Declared
 -- what the items of a written module use is declared before them
 pub mod Used
+-- a register that a wire sets at once is read by its own driver's wire alone, and there but for the time in which that wire is 1
+pub mod Readings
 -- the wires of a written module may stand after its state, in the order of their classes
 pub mod Wired
 -- items that assign one name each may follow one another where their names are apart; the assigned outputs of a written module
 pub mod Assigned
--- the clocked items of a written module may stand where what they use is declared and what they assign isn't assigned yet
+-- the items of registers and RAM ports may stand where what they use is declared and what they assign isn't assigned yet
 pub mod Ticking
 -- the start words of a RAM may stand at the end of a written module
 pub mod Starts
--- what stands before the wires, the outputs and the clocked items of a written module: the names that they use
+-- what stands before the wires, the outputs and the items of registers and RAM ports: the names that they use
 pub mod Known
--- the outputs and the clocked items of a written module may stand after its wires
+-- the outputs and the items of registers and RAM ports may stand after the wires
 pub mod Clocks
 -- each output of a written module is assigned
 pub mod Complete

@@ -1,15 +1,17 @@
 -- Lists of names with their values.
-use Rattle.std.proofs.Common.{◌≡◌, ℕ, zero, suc, ◌<◌, false, List, [], ◌∷◌, ◌++◌, length, map, get_or, refl, sym, ap, ◌∙◌, subst, arith, inl, inr, append_assoc}
-use Rattle.std.specs.Prelude.{All, Some, flat_map, bytes_eq}
+use Rattle.std.proofs.Common.{◌≡◌, ℕ, zero, suc, ◌+◌, ◌<◌, true, false, List, [], ◌∷◌, ◌++◌, length, map, get_or, refl, sym, ap, ◌∙◌, subst, arith, inl, inr, append_assoc}
+use Rattle.std.specs.Prelude.{All, Contains, Some, flat_map, bytes_eq}
 use Rattle.std.proofs.lemmas.Bool.{cases_Bool}
 use Rattle.std.proofs.lemmas.List.{length_push}
-use Rattle.std.proofs.lemmas.List.Elements.{All-nil, All-cons, All-head, All-tail}
+use Rattle.std.proofs.lemmas.List.Elements.{All-nil, All-cons, All-head, All-tail, All-weaker, All-contains, All-contains_itself}
 use Rattle.std.proofs.Math.Seq.{get_or-append_seam}
-use Rattle.shared_lemmas.proofs.Bytes.{bytes_eq-same}
+use Rattle.shared_lemmas.proofs.Bytes.{same_bytes, bytes_eq-same}
 use Rattle.vlog_module.specs.Maps.{value_in}
 use Rattle.vlog_cycle.specs.Named.{names_of, values_of}
 use Rattle.net_extract.specs.Fabric.{numbered_from, numbered}
 use Rattle.net_extract.proofs.Apart.{AreApart}
+use Rattle.net_extract.proofs.Within.{All-numbered}
+use Rattle.net_extract.proofs.Settling.{numbered-read}
 
 -- ---- names
 
@@ -21,7 +23,40 @@ NamesDiffer name one two = bytes_eq (name one) (name two) ≡ false
 abbrev pub Apart : {X : Type 0} → (X → List ℕ) → List X → Type 0
 Apart name xs = AreApart (NamesDiffer name) xs
 
+-- two items with one name are one
+pub named-one : {X : Type 0} (name : X → List ℕ) (xs : List X) (a b : X) → Apart name xs → Contains xs a → Contains xs b → bytes_eq (name a) (name b) ≡ true → a ≡ b
+named-one name [] a b apart (k, within, here) of_b same = absurd (omega (arith, within))
+named-one name (x ∷ xs) a b apart (zero, in_a, at_a) (zero, in_b, at_b) same = sym at_a ∙ at_b
+named-one name (x ∷ xs) a b apart (zero, in_a, at_a) (suc k, in_b, at_b) same =
+    let other : bytes_eq (name x) (name b) ≡ false = All-contains (λ y. bytes_eq (name x) (name y) ≡ false) xs b apart.0 (k, omega (arith, in_b), at_b) in
+    let never : true ≡ false = sym same ∙ subst (λ y. bytes_eq (name y) (name b) ≡ false) at_a other in absurd cc
+named-one name (x ∷ xs) a b apart (suc k, in_a, at_a) (zero, in_b, at_b) same =
+    let other : bytes_eq (name x) (name a) ≡ false = All-contains (λ y. bytes_eq (name x) (name y) ≡ false) xs a apart.0 (k, omega (arith, in_a), at_a) in
+    let turned : bytes_eq (name x) (name a) ≡ true = bytes_eq-same (name x) (name a) (ap name at_b ∙ sym (same_bytes (name a) (name b) same)) in
+    let never : true ≡ false = sym turned ∙ other in absurd cc
+named-one name (x ∷ xs) a b apart (suc j, in_a, at_a) (suc k, in_b, at_b) same =
+    named-one name xs a b apart.1 (j, omega (arith, in_a), at_a) (k, omega (arith, in_b), at_b) same
+
 -- ---- places
+
+pub flat_map-every : {X A : Type 0} (one two : X → List A) → ((x : X) → one x ≡ two x) → (xs : List X) → flat_map one xs ≡ flat_map two xs
+flat_map-every one two same [] = refl
+flat_map-every one two same (x ∷ xs) = rw (same x, flat_map-every one two same xs) refl
+
+pub places-below : {X : Type 0} (from : ℕ) (xs : List X) → All (λ (place : ℕ × X). place.0 < from + length xs) (numbered_from from xs)
+unfolding numbered_from
+places-below {X} from [] = All-nil (λ (place : ℕ × X). place.0 < from + length {A = X} [])
+places-below {X} from (x ∷ xs) =
+    All-cons (λ (place : ℕ × X). place.0 < from + length (x ∷ xs)) (from, x) (numbered_from (suc from) xs) (omega arith)
+    (All-weaker (λ (place : ℕ × X). place.0 < suc from + length xs) (λ (place : ℕ × X). place.0 < from + length (x ∷ xs)) (λ place found. omega (arith, found)) (numbered_from (suc from) xs) (places-below (suc from) xs))
+
+-- an item with its place is one of the items, its place is one of theirs, and its name stands there
+pub item-there : {X : Type 0} (xs : List X) (place : ℕ × X) → Contains (numbered xs) place → Contains xs place.1
+item-there {X} xs place there = All-contains (λ (pair : ℕ × X). Contains xs pair.1) (numbered xs) place (All-numbered (Contains xs) 0 xs (All-contains_itself xs)) there
+
+pub place-there : {X : Type 0} (xs : List X) (place : ℕ × X) → Contains (numbered xs) place → place.0 < length xs
+place-there {X} xs place there =
+    let below : place.0 < 0 + length xs = All-contains (λ (pair : ℕ × X). pair.0 < 0 + length xs) (numbered xs) place (places-below 0 xs) there in omega (arith, below)
 
 pub flat_map-numbered : {X A : Type 0} (given : X → List A) (place : ℕ) (xs : List X)
     → flat_map (λ (pair : ℕ × X). given pair.1) (numbered_from place xs) ≡ flat_map given xs
@@ -33,6 +68,12 @@ pub map-numbered : {X A : Type 0} (given : X → A) (place : ℕ) (xs : List X) 
 unfolding numbered_from
 map-numbered given place [] = refl
 map-numbered given place (x ∷ xs) = ap (λ list. given x ∷ list) (map-numbered given (suc place) xs)
+
+-- the name at the place of an item is the item's
+pub name-there : {X : Type 0} (name : X → List ℕ) (xs : List X) (place : ℕ × X) → Contains (numbered xs) place → get_or (map name xs) place.0 [] ≡ name place.1
+name-there {X} name xs place there =
+    ap (λ list. get_or list place.0 []) (sym (map-numbered name 0 xs))
+    ∙ numbered-read (λ (p : ℕ × X). name p.1) [] xs place there
 
 pub map-map : {A B C : Type 0} (first : A → B) (second : B → C) (xs : List A) → map second (map first xs) ≡ map (λ x. second (first x)) xs
 map-map first second [] = refl

@@ -8,10 +8,10 @@ use Rattle.std.proofs.lemmas.Str.Parse.{tells_digits}
 use Rattle.std.proofs.lemmas.List.Folds.{list_all-append}
 use Rattle.std.proofs.lemmas.List.Elements.{All-head, All-tail}
 use Rattle.vlog_module.specs.Names.{is_name_byte, reserved_words, is_name, IsName}
-use Rattle.net_extract.specs.declared.cell.Lc.{Lc}
+use Rattle.net_extract.specs.declared.register.Register.{Register}
 use Rattle.net_extract.specs.declared.ram.RamCell.{RamCell}
 use Rattle.net_extract.specs.declared.pin.Pin.{Pin}
-use Rattle.vlog_emit.specs.Names.{two_numbers, three_numbers, port_name, flip_name, register_name, memory_name, wire_name}
+use Rattle.vlog_emit.specs.Names.{two_numbers, three_numbers, port_name, user_number, register_name, read_name, memory_name, wire_name}
 use Rattle.vlog_emit.proofs.Lists.{Apart}
 use Rattle.vlog_emit.proofs.Apart.{IsSmall, number-digits}
 
@@ -52,13 +52,15 @@ pub port-named : (pin : Pin) → IsSmall pin.x → IsSmall pin.y → IsSmall pin
 unfolding is_name reserved_words port_name
 port-named pin of_x of_y of_n = name-true (list_all is_name_byte (three_numbers pin.x pin.y pin.n)) false (three-named pin.x pin.y pin.n of_x of_y of_n) refl
 
-pub flip-named : (lc : Lc) → IsSmall lc.x → IsSmall lc.y → IsSmall lc.i → IsName (flip_name lc)
-unfolding is_name reserved_words flip_name
-flip-named lc of_x of_y of_i = name-true (list_all is_name_byte (three_numbers lc.x lc.y lc.i)) false (three-named lc.x lc.y lc.i of_x of_y of_i) refl
-
-pub register-named : (ram : RamCell) → IsSmall ram.x → IsSmall ram.y → IsName (register_name ram)
+pub register-named : (register : Register) → IsSmall register.x → IsSmall register.y → IsSmall (user_number register.user) → IsName (register_name register)
 unfolding is_name reserved_words register_name
-register-named ram of_x of_y = name-true (list_all is_name_byte (two_numbers ram.x ram.y)) false (two-named ram.x ram.y of_x of_y) refl
+register-named register of_x of_y of_user =
+    name-true (list_all is_name_byte (three_numbers register.x register.y (user_number register.user))) false
+    (three-named register.x register.y (user_number register.user) of_x of_y of_user) refl
+
+pub read-named : (ram : RamCell) → IsSmall ram.x → IsSmall ram.y → IsName (read_name ram)
+unfolding is_name reserved_words read_name
+read-named ram of_x of_y = name-true (list_all is_name_byte (two_numbers ram.x ram.y)) false (two-named ram.x ram.y of_x of_y) refl
 
 pub memory-named : (ram : RamCell) → IsSmall ram.x → IsSmall ram.y → IsName (memory_name ram)
 unfolding is_name reserved_words memory_name

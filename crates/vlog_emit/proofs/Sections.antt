@@ -6,9 +6,11 @@ use Rattle.std.proofs.lemmas.List.Elements.{All-nil, All-cons, All-head, All-tai
 use Rattle.place_search.proofs.Gathered.{All-gathered_below}
 use Rattle.vlog_module.specs.declared.item.Item.{Item}
 use Rattle.vlog_module.specs.WellFormed.{section_of}
-use Rattle.net_extract.specs.Fabric.{Fabric, numbered, outputs_of, flips_of}
+use Rattle.net_extract.specs.declared.register.Register.{Register}
+use Rattle.net_extract.specs.Fabric.{Fabric, numbered, outputs_of}
 use Rattle.net_extract.proofs.Within.{All-single}
-use Rattle.vlog_emit.specs.Written.{clocked, clock_name, flip_register, read_register, ram_memory, class_wire, output_assign, flip_item, flip_items, read_item, read_items, write_item, write_items, start_item, start_items, items_of}
+use Rattle.vlog_emit.specs.Rights.{setting_wire}
+use Rattle.vlog_emit.specs.Written.{clocked, clock_name, register_item, read_register, ram_memory, class_wire, output_assign, items_by, register_items, read_item, read_items, write_item, write_items, start_item, start_items, items_of}
 
 -- an item of a section
 abbrev pub is_in : ℕ → Item → Bool
@@ -72,34 +74,40 @@ All-clocked : (j : ℕ) (clock : Option (List ℕ)) (item : List ℕ → Item) �
 All-clocked j None item each = All-nil (λ i. section_of i ≡ j)
 All-clocked j (Some name) item each = All-single (λ i. section_of i ≡ j) (item name) (each name)
 
+All-items_by : (fabric : Fabric) (register : Register) (wire clock : Option (List ℕ)) → Section 7 (items_by fabric register wire clock)
+All-items_by fabric register None None = All-nil (λ i. section_of i ≡ 7)
+All-items_by fabric register None (Some clock) = All-single (λ i. section_of i ≡ 7) _ refl
+All-items_by fabric register (Some wire) None = All-single (λ i. section_of i ≡ 7) _ refl
+All-items_by fabric register (Some wire) (Some clock) = All-single (λ i. section_of i ≡ 7) _ refl
+
 module _ (fabric : Fabric) (order : List ℕ) where
   -- what is in one section of the module
   section-is : (k : ℕ) → filter (is_in k) (items_of fabric order)
-      ≡ picked k 2 (map flip_register (flips_of fabric))
+      ≡ picked k 2 (map register_item fabric.registers)
       ++ (picked k 3 (map read_register fabric.rams)
       ++ (picked k 4 (map ram_memory fabric.rams)
       ++ (picked k 5 (map (class_wire fabric) order)
       ++ (picked k 6 (map (output_assign fabric) (outputs_of fabric))
-      ++ (picked k 7 (flat_map (flip_items fabric) (flips_of fabric))
+      ++ (picked k 7 (flat_map (register_items fabric) fabric.registers)
       ++ (picked k 8 (flat_map (read_items fabric) fabric.rams)
       ++ (picked k 9 (flat_map (write_items fabric) fabric.rams)
       ++ picked k 10 (flat_map (start_items fabric) (numbered fabric.rams)))))))))
   unfolding items_of
   section-is k =
-      picked-then k 2 _ _ _ (All-mapped 2 flip_register (flips_of fabric) (λ lc. refl))
+      picked-then k 2 _ _ _ (All-mapped 2 register_item fabric.registers (λ register. refl))
       (picked-then k 3 _ _ _ (All-mapped 3 read_register fabric.rams (λ ram. refl))
       (picked-then k 4 _ _ _ (All-mapped 4 ram_memory fabric.rams (λ ram. refl))
       (picked-then k 5 _ _ _ (All-mapped 5 (class_wire fabric) order (λ class. refl))
       (picked-then k 6 _ _ _ (All-mapped 6 (output_assign fabric) (outputs_of fabric) (λ pin. refl))
-      (picked-then k 7 _ _ _ (All-given 7 (flip_items fabric) (flips_of fabric) (λ lc. All-clocked 7 (clock_name fabric lc.clk) (flip_item fabric lc) (λ name. refl)))
+      (picked-then k 7 _ _ _ (All-given 7 (register_items fabric) fabric.registers (λ register. All-items_by fabric register (setting_wire fabric register) (clock_name fabric register.clk)))
       (picked-then k 8 _ _ _ (All-given 8 (read_items fabric) fabric.rams (λ ram. All-clocked 8 (clock_name fabric ram.rclk) (read_item fabric ram) (λ name. refl)))
       (picked-then k 9 _ _ _ (All-given 9 (write_items fabric) fabric.rams (λ ram. All-clocked 9 (clock_name fabric ram.wclk) (write_item fabric ram) (λ name. refl)))
       (picked-is k 10 _ (All-given 10 (start_items fabric) (numbered fabric.rams) (λ place.
       All-gathered_below (λ i. section_of i ≡ 10) 256 (λ n. start_item place.1 (get_or fabric.start place.0 []) n ∷ [])
       (λ n within. All-single (λ i. section_of i ≡ 10) (start_item place.1 (get_or fabric.start place.0 []) n) refl)))))))))))
 
-  pub registers-section : filter (is_in 2) (items_of fabric order) ≡ map flip_register (flips_of fabric)
-  registers-section = section-is 2 ∙ append-nil (map flip_register (flips_of fabric))
+  pub registers-section : filter (is_in 2) (items_of fabric order) ≡ map register_item fabric.registers
+  registers-section = section-is 2 ∙ append-nil (map register_item fabric.registers)
 
   pub words-section : filter (is_in 3) (items_of fabric order) ≡ map read_register fabric.rams
   words-section = section-is 3 ∙ append-nil (map read_register fabric.rams)
@@ -113,8 +121,8 @@ module _ (fabric : Fabric) (order : List ℕ) where
   pub assigns-section : filter (is_in 6) (items_of fabric order) ≡ map (output_assign fabric) (outputs_of fabric)
   assigns-section = section-is 6 ∙ append-nil (map (output_assign fabric) (outputs_of fabric))
 
-  pub flips-section : filter (is_in 7) (items_of fabric order) ≡ flat_map (flip_items fabric) (flips_of fabric)
-  flips-section = section-is 7 ∙ append-nil (flat_map (flip_items fabric) (flips_of fabric))
+  pub flips-section : filter (is_in 7) (items_of fabric order) ≡ flat_map (register_items fabric) fabric.registers
+  flips-section = section-is 7 ∙ append-nil (flat_map (register_items fabric) fabric.registers)
 
   pub reads-section : filter (is_in 8) (items_of fabric order) ≡ flat_map (read_items fabric) fabric.rams
   reads-section = section-is 8 ∙ append-nil (flat_map (read_items fabric) fabric.rams)

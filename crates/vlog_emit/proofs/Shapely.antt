@@ -1,8 +1,8 @@
 -- What a database and an image configure has names that are names, and tables and start words of 16 bits.
-use Rattle.std.proofs.Common.{◌≡◌, ℕ, zero, suc, ◌^◌, ◌<◌, Bool, List, [], ◌∷◌, ◌++◌, length, map, get_or, refl, subst, arith}
+use Rattle.std.proofs.Common.{◌≡◌, ℕ, zero, suc, ◌^◌, ◌<◌, Bool, true, false, List, [], ◌∷◌, ◌++◌, length, map, get_or, refl, subst, arith}
 use Rattle.std.specs.Prelude.{All, Option, Some, None, not, filter, flat_map, if◌then◌else◌}
 use Rattle.std.proofs.lemmas.List.{length-map}
-use Rattle.std.proofs.lemmas.List.Elements.{All-nil, All-head, All-tail, All-append, All-weaker, All-filter}
+use Rattle.std.proofs.lemmas.List.Elements.{All-nil, All-head, All-tail, All-append, All-map, All-weaker, All-filter}
 use Rattle.place_search.proofs.Gathered.{All-gathered_below}
 use Rattle.plane_map.specs.declared.tile.TileKind.TheVariants.{Io, Logic, RamB}
 use Rattle.ice_image.specs.Configuration.{Configuration}
@@ -16,6 +16,9 @@ use Rattle.vlog_module.specs.declared.atoms.Atom.TheVariants.{Bit, Whole, Part}
 use Rattle.vlog_module.specs.Names.{IsName}
 use Rattle.vlog_module.specs.WellFormed.{IsRight}
 use Rattle.net_extract.specs.declared.cell.Lc.{Lc}
+use Rattle.net_extract.specs.declared.register.Table.{Table}
+use Rattle.net_extract.specs.declared.register.Register.{Register}
+use Rattle.net_extract.specs.Registers.{table_of, register_of, registers_of}
 use Rattle.net_extract.specs.declared.ram.RamCell.{RamCell}
 use Rattle.net_extract.specs.declared.pin.Pin.{Pin}
 use Rattle.net_extract.specs.declared.pin.GlobalFrom.{GlobalFrom}
@@ -24,14 +27,14 @@ use Rattle.net_extract.specs.declared.driver.Driver.{Driver}
 use Rattle.net_extract.specs.Cells.{cell_bit, entry_bits, cell_bits, cell_with, used_cell, cells_at, cells_of}
 use Rattle.net_extract.specs.Rams.{is_ram_used, ram_at, rams_of, start_word, start_words}
 use Rattle.net_extract.specs.Pins.{pintype_of, is_port, pin_with, port_at, pins_of}
-use Rattle.net_extract.specs.Fabric.{Fabric, numbered, inputs_of, flips_of, fabric_of}
-use Rattle.net_extract.specs.Drivers.{Rule, Drive, drives_if, pin_drives, back_drives, lut_drives, flip_drives, lout_drives, carry_drives, set_drives, ram_drive, ram_drives, global_rule, global_drives, buffer_drives, drives_of, is_driver_of, drivers_of}
-use Rattle.net_extract.specs.Drivers.Rule.{pin_bit, sent_back, lut_entry, flip_bit, carry_out, one, register_bit, copied}
+use Rattle.net_extract.specs.Fabric.{Fabric, numbered, inputs_of, fabric_of}
+use Rattle.net_extract.specs.Drivers.{Rule, Drive, drives_if, pin_drives, back_drives, lut_drives, register_drives, lout_drives, carry_drives, set_drives, ram_drive, ram_drives, global_rule, global_drives, buffer_drives, drives_of, is_driver_of, drivers_of}
+use Rattle.net_extract.specs.Drivers.Rule.{pin_bit, constant, input, table_entry, majority_of, register_bit, read_bit, copied}
 use Rattle.net_extract.proofs.Within.{All-flat_map, All-item_if, All-if, All-single, All-over_tiles}
-use Rattle.vlog_emit.specs.Names.{port_name, flip_name, register_name, memory_name}
-use Rattle.vlog_emit.specs.Rights.{atom_or_0, right_alone, right_of, right_by, class_right}
+use Rattle.vlog_emit.specs.Names.{port_name, register_name, read_name, memory_name}
+use Rattle.vlog_emit.specs.Rights.{input_atom, atom_or_0, setting_wire, register_right, right_alone, right_of, right_by, class_right}
 use Rattle.vlog_emit.proofs.Configured.{PinSmall, CellSmall, RamSmall, pin-at, cell-at, ram-placed}
-use Rattle.vlog_emit.proofs.Named.{port-named, flip-named, register-named, memory-named}
+use Rattle.vlog_emit.proofs.Named.{port-named, register-named, read-named, memory-named}
 use Rattle.vlog_emit.proofs.Declared.{AreNamed}
 use Rattle.vlog_emit.proofs.Whole.{IsShapely}
 
@@ -56,29 +59,33 @@ module _ (fabric : Fabric) (tables : All (λ lc. lc.lut < 65536) fabric.lcs) whe
   unfolding right_of
   pin-right place = tt
 
-  back-right : (net : Option ℕ) → IsRight (right_of fabric (sent_back net))
+  constant-right : (bit : Bool) → IsRight (right_of fabric (constant bit))
   unfolding right_of
-  back-right net = alone-right (atom_or_0 fabric net)
+  constant-right bit = tt
 
-  lut-right : (lc : Lc) → lc.lut < 65536 → IsRight (right_of fabric (lut_entry lc))
+  input-right : (stated : Bool) (net : Option ℕ) → IsRight (right_of fabric (input stated net))
   unfolding right_of
-  lut-right lc small = (small, refl)
+  input-right stated net = alone-right (input_atom fabric stated net)
 
-  flip-right : (place : ℕ) → IsRight (right_of fabric (flip_bit place))
+  table-right : (table : Table) → table.word < 65536 → IsRight (right_of fabric (table_entry table))
   unfolding right_of
-  flip-right place = tt
+  table-right table small = (small, refl)
 
-  carry-right : (lc : Lc) → IsRight (right_of fabric (carry_out lc))
+  majority-right : (a b c : Option ℕ) → IsRight (right_of fabric (majority_of a b c))
   unfolding right_of
-  carry-right lc = tt
+  majority-right a b c = tt
 
-  one-right : IsRight (right_of fabric one)
-  unfolding right_of
-  one-right = tt
+  by_wire-right : (register : Register) (wire : Option (List ℕ)) → IsRight (register_right register wire)
+  by_wire-right register (Some wire) = tt
+  by_wire-right register None = tt
 
-  register-right : (ram bit : ℕ) → IsRight (right_of fabric (register_bit ram bit))
+  register-right : (place : ℕ) (register : Register) → IsRight (right_of fabric (register_bit place register))
   unfolding right_of
-  register-right ram bit = tt
+  register-right place register = by_wire-right register (setting_wire fabric register)
+
+  read-right : (ram bit : ℕ) → IsRight (right_of fabric (read_bit ram bit))
+  unfolding right_of
+  read-right ram bit = tt
 
   copied-right : (net : ℕ) → IsRight (right_of fabric (copied net))
   unfolding right_of
@@ -102,13 +109,13 @@ module _ (fabric : Fabric) (tables : All (λ lc. lc.lut < 65536) fabric.lcs) whe
   unfolding drives_of
   all-right =
       then-right _ _ (any-right pin_drives (λ place. if-right _ (pin_bit place.0) place.1.din (pin-right place.0)) (numbered (inputs_of fabric)))
-      (then-right _ _ (any-right back_drives (λ pin. if-right _ (sent_back pin.dout) pin.din (back-right pin.dout)) (filter (λ pin. pin.back) fabric.pins))
-      (then-right _ _ (cells-right lut_drives (λ lc small. if-right _ (lut_entry lc) lc.out (lut-right lc small)) (filter (λ lc. not lc.flip) fabric.lcs) (All-filter (λ lc. not lc.flip) (λ lc. lc.lut < 65536) fabric.lcs tables))
-      (then-right _ _ (any-right flip_drives (λ place. if-right _ (flip_bit place.0) place.1.out (flip-right place.0)) (numbered (flips_of fabric)))
-      (then-right _ _ (cells-right lout_drives (λ lc small. if-right _ (lut_entry lc) lc.lout (lut-right lc small)) fabric.lcs tables)
-      (then-right _ _ (any-right carry_drives (λ lc. if-right _ (carry_out lc) lc.cout (carry-right lc)) (filter (λ lc. lc.carry) fabric.lcs))
-      (then-right _ _ (any-right set_drives (λ set. if-right _ one (Some set.net) one-right) fabric.sets)
-      (then-right _ _ (any-right ram_drives (λ place. any-right (ram_drive place) (λ port. if-right _ (register_bit place.0 port.0) port.1 (register-right place.0 port.0)) (numbered place.1.rdata)) (numbered fabric.rams))
+      (then-right _ _ (any-right back_drives (λ pin. if-right _ (input false pin.dout) pin.din (input-right false pin.dout)) (filter (λ pin. pin.back) fabric.pins))
+      (then-right _ _ (cells-right lut_drives (λ lc small. if-right _ (table_entry (table_of lc)) lc.out (table-right (table_of lc) small)) (filter (λ lc. not lc.flip) fabric.lcs) (All-filter (λ lc. not lc.flip) (λ lc. lc.lut < 65536) fabric.lcs tables))
+      (then-right _ _ (any-right register_drives (λ place. if-right _ (register_bit place.0 place.1) place.1.out (register-right place.0 place.1)) (numbered fabric.registers))
+      (then-right _ _ (cells-right lout_drives (λ lc small. if-right _ (table_entry (table_of lc)) lc.lout (table-right (table_of lc) small)) fabric.lcs tables)
+      (then-right _ _ (any-right carry_drives (λ lc. if-right _ (majority_of (get_or lc.ins 1 None) (get_or lc.ins 2 None) lc.cin) lc.cout (majority-right (get_or lc.ins 1 None) (get_or lc.ins 2 None) lc.cin)) (filter (λ lc. lc.carry) fabric.lcs))
+      (then-right _ _ (any-right set_drives (λ set. if-right _ (constant true) (Some set.net) (constant-right true)) fabric.sets)
+      (then-right _ _ (any-right ram_drives (λ place. any-right (ram_drive place) (λ port. if-right _ (read_bit place.0 port.0) port.1 (read-right place.0 port.0)) (numbered place.1.rdata)) (numbered fabric.rams))
       (then-right _ _ (any-right (global_drives (inputs_of fabric)) (λ global. if-right _ (global_rule (inputs_of fabric) global.from) (Some global.net) (global-right (inputs_of fabric) global.from)) fabric.globals)
       (any-right buffer_drives (λ buffer. if-right _ (copied buffer.src) (Some buffer.dst) (copied-right buffer.src)) fabric.buffers)))))))))
 
@@ -163,13 +170,13 @@ module _ (db : Database) (image : Configuration) where
   unfolding PinSmall
   port-name pin small = port-named pin small.first small.second small.third
 
-  flip-name : (lc : Lc) → CellSmall lc → IsName (flip_name lc)
-  unfolding CellSmall
-  flip-name lc small = flip-named lc small.first small.second small.third
+  register-name : (lc : Lc) → CellSmall lc → IsName (register_name (register_of lc))
+  unfolding CellSmall register_of
+  register-name lc small = register-named (register_of lc) small.first small.second small.third
 
-  register-name : (ram : RamCell) → RamSmall ram → IsName (register_name ram)
+  read-name : (ram : RamCell) → RamSmall ram → IsName (read_name ram)
   unfolding RamSmall
-  register-name ram small = register-named ram small.first small.second
+  read-name ram small = read-named ram small.first small.second
 
   memory-name : (ram : RamCell) → RamSmall ram → IsName (memory_name ram)
   unfolding RamSmall
@@ -187,6 +194,24 @@ module _ (db : Database) (image : Configuration) where
       All-over_tiles (λ lc. lc.lut < 65536) image.layout.device Logic (cells_at db image)
       (λ x y left low. All-gathered_below (λ lc. lc.lut < 65536) 8 (used_cell db image x y)
       (λ i few. All-item_if (λ lc. lc.lut < 65536) _ (cell_with db image x y i (cell_bits db image x y i)) (table-small x y i (cell_bits db image x y i))))
+
+  register-small : (lc : Lc) → lc.lut < 65536 → (register_of lc).table.word < 65536
+  unfolding register_of
+  register-small lc small = small
+
+  registers-small : All (λ register. register.table.word < 65536) (registers_of (cells_of db image))
+  unfolding registers_of
+  registers-small =
+      All-map (λ register. register.table.word < 65536) register_of (filter (λ lc. lc.flip) (cells_of db image))
+      (All-filter (λ lc. lc.flip) (λ lc. (register_of lc).table.word < 65536) (cells_of db image)
+      (All-weaker (λ lc. lc.lut < 65536) (λ lc. (register_of lc).table.word < 65536) register-small (cells_of db image) tables-small))
+
+  registers-named : All (λ register. IsName (register_name register)) (registers_of (cells_of db image))
+  unfolding registers_of
+  registers-named =
+      All-map (λ register. IsName (register_name register)) register_of (filter (λ lc. lc.flip) (cells_of db image))
+      (All-filter (λ lc. lc.flip) (λ lc. IsName (register_name (register_of lc))) (cells_of db image)
+      (All-weaker CellSmall (λ lc. IsName (register_name (register_of lc))) register-name (cells_of db image) cells-small))
 
   -- ---- start words
 
@@ -207,8 +232,8 @@ module _ (db : Database) (image : Configuration) where
   unfolding fabric_of
   fabric-named = record {
     ports = All-weaker PinSmall (λ pin. IsName (port_name pin)) port-name (pins_of db image) pins-small;
-    flips = All-weaker CellSmall (λ lc. IsName (flip_name lc)) flip-name (cells_of db image) cells-small;
-    registers = All-weaker RamSmall (λ ram. IsName (register_name ram)) register-name (rams_of db image) rams-small;
+    registers = registers-named;
+    reads = All-weaker RamSmall (λ ram. IsName (read_name ram)) read-name (rams_of db image) rams-small;
     memories = All-weaker RamSmall (λ ram. IsName (memory_name ram)) memory-name (rams_of db image) rams-small;
   }
 
@@ -216,10 +241,14 @@ module _ (db : Database) (image : Configuration) where
   unfolding fabric_of
   fabric-tables = tables-small
 
+  fabric-registers : All (λ register. register.table.word < 65536) (fabric_of db image).registers
+  unfolding fabric_of
+  fabric-registers = registers-small
+
   pub fabric-shapely : IsShapely (fabric_of db image)
   fabric-shapely = record {
     named = fabric-named;
-    tables = fabric-tables;
+    tables = fabric-registers;
     rights = each-right (fabric_of db image) fabric-tables;
     words = λ place k. words-at (fabric_of db image).start place k starts-sixteen;
   }

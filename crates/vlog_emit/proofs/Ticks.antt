@@ -14,7 +14,7 @@ use Rattle.net_extract.specs.declared.pin.Pin.{Pin}
 use Rattle.net_extract.specs.Fabric.{Fabric, inputs_of}
 use Rattle.net_extract.proofs.Apart.{apart-filter}
 use Rattle.net_extract.specs.Drivers.{Rule, is_driven}
-use Rattle.net_extract.specs.Drivers.Rule.{pin_bit, sent_back, lut_entry, flip_bit, carry_out, one, register_bit, copied}
+use Rattle.net_extract.specs.Drivers.Rule.{pin_bit, constant, input, table_entry, majority_of, register_bit, read_bit, copied}
 use Rattle.net_extract.specs.Values.{bit_in}
 use Rattle.net_extract.specs.Steps.{has_edge, Event, Entry, IsEntry, Follows}
 use Rattle.net_extract.specs.Clocks.{ClockEnd, LeadsTo, turn_by, clock_end}
@@ -87,12 +87,12 @@ pin-place fabric writable place there =
 
 rule-pin : (rule : Rule) (place : ℕ) → turn_by rule ≡ ends (at_pin place) → rule ≡ pin_bit place
 rule-pin (pin_bit from) place is = cc
-rule-pin (sent_back source) place is = absurd cc
-rule-pin (lut_entry lc) place is = absurd cc
-rule-pin (flip_bit from) place is = absurd cc
-rule-pin (carry_out lc) place is = absurd cc
-rule-pin one place is = absurd cc
-rule-pin (register_bit ram bit) place is = absurd cc
+rule-pin (constant bit) place is = absurd cc
+rule-pin (input stated source) place is = absurd cc
+rule-pin (table_entry table) place is = absurd cc
+rule-pin (majority_of a b c) place is = absurd cc
+rule-pin (register_bit from register) place is = absurd cc
+rule-pin (read_bit ram bit) place is = absurd cc
 rule-pin (copied source) place is = absurd cc
 
 pub leads-place : (fabric : Fabric) → IsWritable fabric → {class : ℕ} {end : ClockEnd} → LeadsTo fabric class end → (place : ℕ) → end ≡ at_pin place → place < length (inputs_of fabric)

@@ -1,5 +1,5 @@
 -- The wires of a written module may stand after its state, in the order of their classes.
-use Rattle.std.proofs.Common.{◌≡◌, ℕ, ◌^◌, ◌<◌, ◌≤◌, true, false, List, [], ◌∷◌, ◌++◌, map, fold, refl, sym, ap, ◌∙◌, subst, arith, inl, inr, append_assoc, append-nil}
+use Rattle.std.proofs.Common.{◌≡◌, ℕ, ◌^◌, ◌<◌, ◌≤◌, Bool, true, false, List, [], ◌∷◌, ◌++◌, map, fold, refl, sym, ap, ◌∙◌, subst, arith, inl, inr, append_assoc, append-nil}
 use Rattle.std.specs.Prelude.{All, flat_map, bytes_eq, ◌==◌}
 use Rattle.std.proofs.lemmas.Bool.{cases_Bool, eqb-true}
 use Rattle.std.proofs.lemmas.List.{map-append}
@@ -12,9 +12,9 @@ use Rattle.vlog_module.specs.declared.sort.Sort.TheVariants as sort
 use Rattle.vlog_module.specs.declared.atoms.Atom.{Atom}
 use Rattle.vlog_module.specs.declared.atoms.Atom.TheVariants.{Bit, Whole, Part}
 use Rattle.vlog_module.specs.declared.item.Right.{Right}
-use Rattle.vlog_module.specs.declared.item.Right.TheVariants.{Bit as RightBit, Whole as RightWhole, Part as RightPart, Lut as RightLut, Majority}
+use Rattle.vlog_module.specs.declared.item.Right.TheVariants.{Bit as RightBit, Whole as RightWhole, Part as RightPart, Lut as RightLut, Majority, Choose}
 use Rattle.vlog_module.specs.Uses.{Use, atom_uses, atoms_uses, right_uses}
-use Rattle.vlog_module.specs.Uses.Use.{Declares, Reads, ReadsBit}
+use Rattle.vlog_module.specs.Uses.Use.{Declares, Reads, ReadsBit, Takes, Chooses}
 use Rattle.vlog_module.specs.WellFormed.{declared_by, assigned_by, started_by, Scope, IsRight, IsAllowed}
 use Rattle.vlog_cycle.specs.Named.{names_of}
 use Rattle.net_extract.specs.Fabric.{Fabric}
@@ -33,7 +33,7 @@ use Rattle.vlog_emit.proofs.Settled.{IsWritable, wire-one}
 use Rattle.vlog_emit.proofs.Named.{wire-named}
 use Rattle.vlog_emit.proofs.Grown.{grown, grown-section, grown-declared, grown-assigned, grown-started, Grows}
 use Rattle.vlog_emit.proofs.Declared.{Declared, value_in-none}
-use Rattle.vlog_emit.proofs.Used.{IsFine, fine-allowed, IsThere, Knows, there-more, right-fine}
+use Rattle.vlog_emit.proofs.Used.{IsFine, fine-allowed, IsThere, Knows, there-more, knows-allows, right-fine}
 
 -- ---- reading declares and assigns nothing
 
@@ -47,14 +47,16 @@ module _ {A : Type 0} (each : Use → List A) (of_whole : (name : List ℕ) → 
   atoms-none [] = refl
   atoms-none (atom ∷ atoms) = flat_map-append each (atoms_uses atoms) (atom_uses atom) ∙ (rw (atoms-none atoms, atom-none atom) refl)
 
-  pub right-none : (right : Right) → flat_map each (right_uses right) ≡ []
-  right-none (RightBit bit) = refl
-  right-none (RightWhole name) = rw (of_whole name) refl
-  right-none (RightPart name k) = rw (of_bit name k) refl
-  right-none (RightLut lut) = atoms-none lut.ins
-  right-none (Majority a b c) =
+  pub right-none : ((as_sort : Sort) (name : List ℕ) → each (Takes as_sort name) ≡ []) → ((reset : List ℕ) (set : Bool) (name : List ℕ) → each (Chooses reset set name) ≡ [])
+      → (right : Right) → flat_map each (right_uses right) ≡ []
+  right-none of_takes of_chooses (RightBit bit) = refl
+  right-none of_takes of_chooses (RightWhole name) = rw (of_whole name) refl
+  right-none of_takes of_chooses (RightPart name k) = rw (of_bit name k) refl
+  right-none of_takes of_chooses (RightLut lut) = atoms-none lut.ins
+  right-none of_takes of_chooses (Majority a b c) =
       flat_map-append each (atom_uses a ++ atom_uses b) (atom_uses c)
       ∙ (ap (λ list. list ++ flat_map each (atom_uses c)) (flat_map-append each (atom_uses a) (atom_uses b)) ∙ (rw (atom-none a, atom-none b, atom-none c) refl))
+  right-none of_takes of_chooses (Choose reset set target) = rw (of_takes sort.Wire reset, of_chooses reset set target) refl
 
 -- ---- wires
 
@@ -76,7 +78,7 @@ module _ (fabric : Fabric) (within : IsWithin fabric) (writable : IsWritable fab
         let found = first-driver fabric class driven in
         let drivers = first-is fabric class found.0 found.1 found.2 in
         subst (λ list. All (IsFine scope) (right_uses (right_by fabric list))) (sym drivers)
-        (right-fine fabric scope (has before) knows found.0.rule (writable.places found.0 found.2.there) (λ n reads connected.
+        (right-fine fabric (has before) (IsFine scope) (knows-allows fabric scope (has before) knows) found.0.rule (writable.places found.0 found.2.there) (λ n reads connected.
         ready.inputs (class_of fabric.joins n) (first-reads fabric class found.0 found.1 drivers n reads) (driven-is fabric (class_of fabric.joins n) ∙ connected)))
 
     wire-allowed : IsAllowed scope (class_wire fabric class)
@@ -90,11 +92,11 @@ module _ (fabric : Fabric) (within : IsWithin fabric) (writable : IsWritable fab
     wire-declared = record {
       section = omega (arith, grown-section scope (class_wire fabric class));
       declared_is = grown-declared scope (class_wire fabric class)
-          ∙ (rw (right-none declared_by (λ name. refl) (λ name k. refl) (class_right fabric class)) refl);
+          ∙ (rw (right-none declared_by (λ name. refl) (λ name k. refl) (λ as_sort name. refl) (λ reset set name. refl) (class_right fabric class)) refl);
       assigned_is = grown-assigned scope (class_wire fabric class)
-          ∙ (rw (right-none assigned_by (λ name. refl) (λ name k. refl) (class_right fabric class)) (append-nil scope.assigned));
+          ∙ (rw (right-none assigned_by (λ name. refl) (λ name k. refl) (λ as_sort name. refl) (λ reset set name. refl) (class_right fabric class)) (append-nil scope.assigned));
       started_is = grown-started scope (class_wire fabric class)
-          ∙ (rw (right-none started_by (λ name. refl) (λ name k. refl) (class_right fabric class)) (append-nil scope.started));
+          ∙ (rw (right-none started_by (λ name. refl) (λ name k. refl) (λ as_sort name. refl) (λ reset set name. refl) (class_right fabric class)) (append-nil scope.started));
     }
 
     wire-there : IsThere (grown scope (class_wire fabric class)) (wire_name class) sort.Wire
@@ -107,8 +109,8 @@ module _ (fabric : Fabric) (within : IsWithin fabric) (writable : IsWritable fab
     knows-more : Knows fabric (grown scope (class_wire fabric class)) (has (class ∷ before))
     knows-more = record {
       input = λ place there. there-more scope (grown scope (class_wire fabric class)) ((wire_name class, sort.Wire) ∷ []) _ sort.Input wire-declared.declared_is (knows.input place there);
-      flip = λ place there. there-more scope (grown scope (class_wire fabric class)) ((wire_name class, sort.Wire) ∷ []) _ sort.Register wire-declared.declared_is (knows.flip place there);
-      register = λ place there. there-more scope (grown scope (class_wire fabric class)) ((wire_name class, sort.Wire) ∷ []) _ sort.Word wire-declared.declared_is (knows.register place there);
+      register = λ register there. there-more scope (grown scope (class_wire fabric class)) ((wire_name class, sort.Wire) ∷ []) _ sort.Register wire-declared.declared_is (knows.register register there);
+      read = λ place there. there-more scope (grown scope (class_wire fabric class)) ((wire_name class, sort.Wire) ∷ []) _ sort.Word wire-declared.declared_is (knows.read place there);
       wire = λ other listed. elim (has-cases class before other listed) [
         | inl here ↦ subst (λ c. IsThere (grown scope (class_wire fabric class)) (wire_name c) sort.Wire) here wire-there
         | inr behind ↦ there-more scope (grown scope (class_wire fabric class)) ((wire_name class, sort.Wire) ∷ []) (wire_name other) sort.Wire wire-declared.declared_is (knows.wire other behind)

@@ -63,23 +63,20 @@ flip_item fabric register clock =
     Flip register.neg clock (atom_or_1 fabric register.cen) (atom_or_0 fabric register.sr) register.«set» (register_name register)
     (lut_of fabric register.table)
 
--- a register that a wire sets at once
+-- a register that a wire sets at once, by its clock
 abbrev pub at_once_item : Fabric → Register → List ℕ → List ℕ → Item
 at_once_item fabric register wire clock =
     FlipAtOnce register.neg clock wire register.«set» (register_name register) (atom_or_1 fabric register.cen) (lut_of fabric register.table)
 
--- a register that a wire sets at once, and a clock that may be missing
-abbrev pub set_items : Fabric → Register → List ℕ → Option (List ℕ) → List Item
-set_items fabric register wire (Some clock) = at_once_item fabric register wire clock ∷ []
-set_items fabric register wire None = SetAtOnce wire register.«set» (register_name register) ∷ []
-
--- what a register is written as, by the wire that sets it at once, if there is one
-abbrev pub items_by : Fabric → Register → Option (List ℕ) → List Item
-items_by fabric register (Some wire) = set_items fabric register wire (clock_name fabric register.clk)
-items_by fabric register None = clocked (clock_name fabric register.clk) (flip_item fabric register)
+-- what a register is written as, by the wire that sets it at once and by its clock, each of which may be missing
+abbrev pub items_by : Fabric → Register → Option (List ℕ) → Option (List ℕ) → List Item
+items_by fabric register (Some wire) (Some clock) = at_once_item fabric register wire clock ∷ []
+items_by fabric register (Some wire) None = SetAtOnce wire register.«set» (register_name register) ∷ []
+items_by fabric register None (Some clock) = flip_item fabric register clock ∷ []
+items_by fabric register None None = []
 
 abbrev pub register_items : Fabric → Register → List Item
-register_items fabric register = items_by fabric register (setting_wire fabric register)
+register_items fabric register = items_by fabric register (setting_wire fabric register) (clock_name fabric register.clk)
 
 -- the read port of a RAM
 abbrev pub read_item : Fabric → RamCell → List ℕ → Item

@@ -1,14 +1,13 @@
 -- What is kept of a design tells the drivers and the clocks of its fabric.
 use Rattle.std.proofs.Common.{◌≡◌, ℕ, ◌<◌, true, false, List, [], ◌∷◌, ◌++◌, append_assoc, length, map, get_or, refl, sym, ap, ◌∙◌, subst, arith, inl, inr}
-use Rattle.std.specs.Prelude.{Option, Some, None, option_to_list, filter, flat_map, if◌then◌else◌}
+use Rattle.std.specs.Prelude.{Option, Some, None, option_to_list, flat_map, if◌then◌else◌}
 use Rattle.std.proofs.lemmas.Bool.{cases_Bool}
 use Rattle.vlog_module.specs.declared.item.Right.TheVariants as right
 use Rattle.vlog_module.specs.declared.item.Item.{Item}
 use Rattle.vlog_module.specs.declared.item.Item.TheVariants.{Start}
-use Rattle.net_extract.specs.declared.cell.Lc.{Lc}
 use Rattle.net_extract.specs.declared.ram.RamCell.{RamCell}
 use Rattle.net_extract.specs.Joins.{class_of}
-use Rattle.net_extract.specs.Fabric.{Fabric, numbered, outputs_of, flips_of}
+use Rattle.net_extract.specs.Fabric.{Fabric, numbered, outputs_of}
 use Rattle.net_extract.specs.Drivers.{drivers_of}
 use Rattle.net_extract.specs.Values.{is_connected}
 use Rattle.net_extract.specs.Clocks.{ClockEnd, clock_end}
@@ -22,8 +21,8 @@ use Rattle.fabric_wiring.specs.Ends.{end_in}
 use Rattle.fabric.specs.Kept.{Kept, word_in, IsKeptOf}
 use Rattle.vlog_emit.specs.Names.{memory_name}
 use Rattle.vlog_emit.specs.Rights.{class_right, right_by, right_of}
-use Rattle.vlog_emit.specs.Written.{end_name, clock_name, flip_register, read_register, ram_memory, class_wire, output_assign, flip_items, read_items, write_items, start_item, start_items, items_of}
-use Rattle.vlog_write.specs.Each.{nets_in, flips_in}
+use Rattle.vlog_emit.specs.Written.{end_name, clock_name, register_item, read_register, ram_memory, class_wire, output_assign, register_items, read_items, write_items, start_item, start_items, items_of}
+use Rattle.vlog_write.specs.Each.{nets_in}
 
 module _ (fabric : Fabric) (design : Kept) (kept : IsKeptOf fabric design) where
   class-below : (net : ℕ) → net < nets_in design → class_of fabric.joins net < fabric.nets
@@ -107,15 +106,14 @@ module _ (fabric : Fabric) (design : Kept) (kept : IsKeptOf fabric design) where
       ap (λ name. Start name word start) of_memory ∙ ap (λ n. Start (memory_name ram) word n) (of_start ∙ kept.words.each place word within below)
 
   -- all items
-  pub items-whole : (flips cells : List Lc) (rams : List RamCell) (none state values clocked starts : List Item) → flips ≡ flips_in design → cells ≡ flips_in design → rams ≡ design.parts.rams.items → none ≡ []
-      → state ≡ none ++ (map flip_register flips ++ (map read_register design.parts.rams.items ++ map ram_memory design.parts.rams.items))
+  pub items-whole : (rams : List RamCell) (none state values changes starts : List Item) → rams ≡ design.parts.rams.items → none ≡ []
+      → state ≡ none ++ (map register_item design.parts.registers.items ++ (map read_register design.parts.rams.items ++ map ram_memory design.parts.rams.items))
       → values ≡ state ++ (map (class_wire fabric) design.order ++ map (output_assign fabric) (outputs_of fabric))
-      → clocked ≡ values ++ (flat_map (flip_items fabric) cells ++ (flat_map (read_items fabric) fabric.rams ++ flat_map (write_items fabric) fabric.rams))
-      → starts ≡ clocked ++ flat_map (start_items fabric) (numbered rams) → starts ≡ items_of fabric design.order
+      → changes ≡ values ++ (flat_map (register_items fabric) fabric.registers ++ (flat_map (read_items fabric) fabric.rams ++ flat_map (write_items fabric) fabric.rams))
+      → starts ≡ changes ++ flat_map (start_items fabric) (numbered rams) → starts ≡ items_of fabric design.order
   unfolding items_of
-  items-whole flips cells rams none state values clocked starts of_flips of_cells of_rams of_none of_state of_values of_clocked of_starts =
-      let first : flips ≡ flips_of fabric = of_flips ∙ ap (filter (λ lc. lc.flip)) kept.parts.lcs in
-      let second : cells ≡ flips_of fabric = of_cells ∙ ap (filter (λ lc. lc.flip)) kept.parts.lcs in
+  items-whole rams none state values changes starts of_rams of_none of_state of_values of_changes of_starts =
+      let registers : design.parts.registers.items ≡ fabric.registers = kept.parts.registers in
       let memories : design.parts.rams.items ≡ fabric.rams = kept.parts.rams in
       let places : rams ≡ fabric.rams = of_rams ∙ memories in
-      simp (of_starts, of_clocked, of_values, of_state, of_none, first, second, places, memories, append_assoc)
+      simp (of_starts, of_changes, of_values, of_state, of_none, registers, places, memories, append_assoc)

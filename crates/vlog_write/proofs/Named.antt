@@ -1,25 +1,27 @@
 -- The names of a written module are names.
 use Rattle.std.proofs.Common.{◌≡◌, ℕ, ◌++◌, List, sym, subst}
 use Rattle.std.specs.Prelude.{codes, decimal}
-use Rattle.net_extract.specs.declared.cell.Lc.{Lc}
+use Rattle.net_extract.specs.declared.register.Register.{Register}
 use Rattle.net_extract.specs.declared.ram.RamCell.{RamCell}
 use Rattle.net_extract.specs.declared.pin.Pin.{Pin}
 use Rattle.vlog_module.specs.Names.{IsName}
-use Rattle.vlog_emit.specs.Names.{two_numbers, three_numbers, port_name, flip_name, register_name, memory_name, wire_name}
+use Rattle.vlog_emit.specs.Names.{two_numbers, three_numbers, port_name, user_number, register_name, read_name, memory_name, wire_name}
 use Rattle.vlog_emit.proofs.Apart.{IsSmall}
-use Rattle.vlog_emit.proofs.Named.{port-named, flip-named, register-named, memory-named, wire-named}
+use Rattle.vlog_emit.proofs.Named.{port-named, register-named, read-named, memory-named, wire-named}
 
 pub port-bytes : (pin : Pin) (bytes : List ℕ) → bytes ≡ codes "io_" ++ three_numbers pin.x pin.y pin.n → IsSmall pin.x → IsSmall pin.y → IsSmall pin.n → IsName bytes
 unfolding port_name
 port-bytes pin bytes is x y n = let named : IsName (codes "io_" ++ three_numbers pin.x pin.y pin.n) = port-named pin x y n in subst IsName (sym is) named
 
-pub flip-bytes : (lc : Lc) (bytes : List ℕ) → bytes ≡ codes "ff_" ++ three_numbers lc.x lc.y lc.i → IsSmall lc.x → IsSmall lc.y → IsSmall lc.i → IsName bytes
-unfolding flip_name
-flip-bytes lc bytes is x y i = let named : IsName (codes "ff_" ++ three_numbers lc.x lc.y lc.i) = flip-named lc x y i in subst IsName (sym is) named
-
-pub register-bytes : (ram : RamCell) (bytes : List ℕ) → bytes ≡ codes "rd_" ++ two_numbers ram.x ram.y → IsSmall ram.x → IsSmall ram.y → IsName bytes
+pub register-bytes : (register : Register) (bytes : List ℕ) → bytes ≡ codes "ff_" ++ three_numbers register.x register.y (user_number register.user)
+    → IsSmall register.x → IsSmall register.y → IsSmall (user_number register.user) → IsName bytes
 unfolding register_name
-register-bytes ram bytes is x y = let named : IsName (codes "rd_" ++ two_numbers ram.x ram.y) = register-named ram x y in subst IsName (sym is) named
+register-bytes register bytes is x y n =
+    let named : IsName (codes "ff_" ++ three_numbers register.x register.y (user_number register.user)) = register-named register x y n in subst IsName (sym is) named
+
+pub read-bytes : (ram : RamCell) (bytes : List ℕ) → bytes ≡ codes "rd_" ++ two_numbers ram.x ram.y → IsSmall ram.x → IsSmall ram.y → IsName bytes
+unfolding read_name
+read-bytes ram bytes is x y = let named : IsName (codes "rd_" ++ two_numbers ram.x ram.y) = read-named ram x y in subst IsName (sym is) named
 
 pub memory-bytes : (ram : RamCell) (bytes : List ℕ) → bytes ≡ codes "mem_" ++ two_numbers ram.x ram.y → IsSmall ram.x → IsSmall ram.y → IsName bytes
 unfolding memory_name

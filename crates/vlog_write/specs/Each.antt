@@ -1,10 +1,13 @@
 -- What is known of the fabrics whose design is kept.
-use Rattle.std.specs.Prelude.{ℕ, ◌<◌, List, All, length, filter, get_or, None}
-use Rattle.net_extract.specs.declared.cell.Lc.{Lc}
+use Rattle.std.specs.Prelude.{ℕ, ◌<◌, All, length}
+use Rattle.net_extract.specs.declared.register.Source.{Source}
+use Rattle.net_extract.specs.declared.register.Source.TheVariants.{Net, Pin as SourcePin}
+use Rattle.net_extract.specs.declared.register.Table.{Table}
+use Rattle.net_extract.specs.declared.register.Register.{Register}
 use Rattle.net_extract.specs.Fabric.{Fabric}
 use Rattle.net_extract.specs.Within.{IsNetIn}
 use Rattle.fabric_wiring.specs.declared.drive.Rule.{Rule}
-use Rattle.fabric_wiring.specs.declared.drive.Rule.TheVariants.{PinBit, SentBack, LutEntry, FlipBit, CarryOut, One, RegisterBit, Copied}
+use Rattle.fabric_wiring.specs.declared.drive.Rule.TheVariants.{PinBit, Constant, Input, TableEntry, MajorityOf, RegisterBit, ReadBit, Copied}
 use Rattle.fabric.specs.Kept.{Kept, IsKeptOf}
 
 -- something holds of each fabric whose design is kept
@@ -15,18 +18,29 @@ EachFabric design Holds = (fabric : Fabric) → IsKeptOf fabric design → Holds
 abbrev pub nets_in : Kept → ℕ
 nets_in design = length design.drivers.places
 
--- the cells with flip-flops
-abbrev pub flips_in : Kept → List Lc
-flips_in design = filter (λ lc. lc.flip) design.parts.lcs.items
+-- the net or the pin that an input of a table reads is there
+abbrev pub IsSourceIn : Kept → Source → Type 0
+IsSourceIn design (Net net) = IsNetIn (nets_in design) net
+IsSourceIn design (SourcePin place) = place < length design.inputs
 
--- the pins, cells, RAMs and nets of a rule are there
+-- those of all its inputs are
+abbrev pub IsTableIn : Kept → Table → Type 0
+IsTableIn design table = All (IsSourceIn design) table.ins
+
+-- the nets and pins that a register reads are there
+pub record IsRegisterIn (design : Kept) (register : Register) : Type 0 where
+  pub clk : IsNetIn (nets_in design) register.clk
+  pub cen : IsNetIn (nets_in design) register.cen
+  pub sr : IsNetIn (nets_in design) register.sr
+  pub table : IsTableIn design register.table
+
+-- the pins, registers, RAMs and nets of a rule are there
 abbrev pub IsRuleIn : Kept → Rule → Type 0
 IsRuleIn design (PinBit place) = place < length design.inputs
-IsRuleIn design (SentBack net) = IsNetIn (nets_in design) net
-IsRuleIn design (LutEntry lc) = All (IsNetIn (nets_in design)) lc.ins
-IsRuleIn design (FlipBit place) = place < length (flips_in design)
-IsRuleIn design (CarryOut lc) =
-    IsNetIn (nets_in design) (get_or lc.ins 1 None) × IsNetIn (nets_in design) (get_or lc.ins 2 None) × IsNetIn (nets_in design) lc.cin
-IsRuleIn design One = Unit {0}
-IsRuleIn design (RegisterBit ram bit) = ram < length design.parts.rams.items
+IsRuleIn design (Constant bit) = Unit {0}
+IsRuleIn design (Input stated net) = IsNetIn (nets_in design) net
+IsRuleIn design (TableEntry table) = IsTableIn design table
+IsRuleIn design (MajorityOf a b c) = IsNetIn (nets_in design) a × IsNetIn (nets_in design) b × IsNetIn (nets_in design) c
+IsRuleIn design (RegisterBit place register) = IsRegisterIn design register
+IsRuleIn design (ReadBit ram bit) = ram < length design.parts.rams.items
 IsRuleIn design (Copied net) = net < nets_in design

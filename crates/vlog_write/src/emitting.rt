@@ -5,31 +5,19 @@ ghost use Rattle.chipdb_reader.specs.Database.{Database};
 ghost use Rattle.vlog_module.specs.Names.{IsName};
 ghost use Rattle.net_extract.specs.Fabric.{fabric_of, outputs_of};
 ghost use Rattle.fabric.specs.Design.{IsDesignOf};
-ghost use Rattle.vlog_emit.specs.Written.{flip_register, read_register, ram_memory, class_wire, output_assign, flip_items, read_items, write_items, items_of, module_of};
-ghost use Rattle.vlog_write.specs.Each.{EachFabric, flips_in};
+ghost use Rattle.vlog_emit.specs.Written.{register_item, read_register, ram_memory, class_wire, output_assign, register_items, read_items, write_items, items_of, module_of};
+ghost use Rattle.vlog_write.specs.Each.{EachFabric};
 ghost use Rattle.vlog_write.specs.Runs.{RunsAs};
 
 use crate::sections::{
-    append_flips, append_memories, append_outputs, append_reads, append_registers, append_starts,
-    append_wires, append_words, append_writes, ports_of,
+    append_memories, append_outputs, append_reads, append_register_items, append_registers,
+    append_starts, append_wires, append_words, append_writes, ports_of,
 };
 use fabric::Design;
-use net_extract::{Lc, Pin};
+use net_extract::Pin;
 use std::alloc::{AllocError, Global};
 use vlog_emit::module_is_fabric;
 use vlog_module::{Item, Module, Name};
-
-/// The cells with flip-flops.
-fn flips_of(alloc: Global, design: &Design) -> Result<Vec<Lc>, AllocError>
-    ensures flips { IfOk result (λ flips. flips.items ≡ flips_in design.now) }
-{
-    design
-        .lcs()
-        .iter()
-        .filter(|lc| lc.flip)
-        .copied()
-        .collect(alloc)
-}
 
 /// The output pins.
 fn outputs_of(alloc: Global, design: &Design) -> Result<Vec<Pin>, AllocError>
@@ -43,47 +31,30 @@ fn outputs_of(alloc: Global, design: &Design) -> Result<Vec<Pin>, AllocError>
         .collect(alloc)
 }
 
-/// Adds what has a state: the registers of flip-flops, the read registers and the memories of RAMs.
-fn append_state(
-    alloc: Global,
-    design: &Design,
-    flips: &[Lc],
-    items: &mut Vec<Item>,
-) -> Result<(), AllocError>
-    ensures { OnOk result (items.new.items ≡ items.old.items ++ (map flip_register flips.now ++ (map read_register design.now.parts.rams.items ++ map ram_memory design.now.parts.rams.items))) }
+/// Adds what has a state: the registers, and the read registers and the memories of RAMs.
+fn append_state(alloc: Global, design: &Design, items: &mut Vec<Item>) -> Result<(), AllocError>
+    ensures { OnOk result (items.new.items ≡ items.old.items ++ (map register_item design.now.parts.registers.items ++ (map read_register design.now.parts.rams.items ++ map ram_memory design.now.parts.rams.items))) }
 {
-    append_registers(alloc, flips, items)?;
+    append_registers(alloc, design.registers(), items)?;
     append_words(alloc, design.rams(), items)?;
     append_memories(alloc, design.rams(), items)
 }
 
 /// Adds what has a value: the wires in their order, and the outputs.
-fn append_values(
-    alloc: Global,
-    design: &Design,
-    flips: &[Lc],
-    items: &mut Vec<Item>,
-) -> Result<(), AllocError>
-    requires { flips.now ≡ flips_in design.now }
+fn append_values(alloc: Global, design: &Design, items: &mut Vec<Item>) -> Result<(), AllocError>
     ensures { OnOk result (EachFabric design.now (λ fabric. items.new.items ≡ items.old.items ++ (map (class_wire fabric) design.now.order ++ map (output_assign fabric) (outputs_of fabric)))) }
 {
     let outputs = outputs_of(alloc, design)?;
-    append_wires(alloc, design, flips, design.order(), items)?;
+    append_wires(alloc, design, design.order(), items)?;
     append_outputs(alloc, design, &outputs, items)
 }
 
-/// Adds what clocks change: the flip-flops, and the ports of RAMs.
-fn append_clocked(
-    alloc: Global,
-    design: &Design,
-    flips: &[Lc],
-    items: &mut Vec<Item>,
-) -> Result<(), AllocError>
-    requires { flips.now ≡ flips_in design.now }
-    ensures { OnOk result (EachFabric design.now (λ fabric. items.new.items ≡ items.old.items ++ (flat_map (flip_items fabric) flips.now ++ (flat_map (read_items fabric) fabric.rams ++ flat_map (write_items fabric) fabric.rams)))) }
+/// Adds what changes the state: the registers, and the ports of RAMs.
+fn append_changes(alloc: Global, design: &Design, items: &mut Vec<Item>) -> Result<(), AllocError>
+    ensures { OnOk result (EachFabric design.now (λ fabric. items.new.items ≡ items.old.items ++ (flat_map (register_items fabric) fabric.registers ++ (flat_map (read_items fabric) fabric.rams ++ flat_map (write_items fabric) fabric.rams)))) }
 {
     let rams = design.rams();
-    append_flips(alloc, design, flips, items)?;
+    append_register_items(alloc, design, design.registers(), items)?;
     append_reads(alloc, design, rams, items)?;
     append_writes(alloc, design, rams, items)
 }
@@ -92,11 +63,10 @@ fn append_clocked(
 fn items_of(alloc: Global, design: &Design) -> Result<Vec<Item>, AllocError>
     ensures { IfOk result (λ items. EachFabric design.now (λ fabric. items.items ≡ items_of fabric design.now.order)) }
 {
-    let flips = flips_of(alloc, design)?;
     let mut items = Vec::new(alloc);
-    append_state(alloc, design, &flips, &mut items)?;
-    append_values(alloc, design, &flips, &mut items)?;
-    append_clocked(alloc, design, &flips, &mut items)?;
+    append_state(alloc, design, &mut items)?;
+    append_values(alloc, design, &mut items)?;
+    append_changes(alloc, design, &mut items)?;
     append_starts(alloc, design, design.rams(), &mut items)?;
     Ok(items)
 }
@@ -104,7 +74,7 @@ fn items_of(alloc: Global, design: &Design) -> Result<Vec<Item>, AllocError>
 /// The module of a design, under a name.
 ///
 /// It runs as the fabric that the database and the image configure: at the start and after each event the two hold the same values.
-/// Its ports are the pins, its registers and memories the state of flip-flops and RAMs, and its wires the classes of nets that have
+/// Its ports are the pins, its registers and memories the state of registers and RAMs, and its wires the classes of nets that have
 /// a driver, in the order of [`Design::order`].
 ///
 /// # Errors

@@ -1,16 +1,17 @@
 // Items.
-ghost use Rattle.std.specs.Prelude.{◌≡◌, ◌<◌, ◌++◌, IfOk, OnOk};
-ghost use Rattle.net_extract.specs.Within.{IsNetIn, IsPinIn, IsCellIn, IsRamIn};
+ghost use Rattle.std.specs.Prelude.{◌≡◌, ◌<◌, ◌++◌, option_to_list, IfOk, OnOk};
+ghost use Rattle.net_extract.specs.Within.{IsNetIn, IsPinIn, IsRamIn};
 ghost use Rattle.fabric.specs.Design.{IsDesign};
-ghost use Rattle.vlog_emit.specs.Written.{clock_name, port_of, flip_register, read_register, ram_memory, class_wire, output_assign, flip_item, flip_items, read_item, read_items, write_item, write_items};
-ghost use Rattle.vlog_write.specs.Each.{EachFabric, nets_in, flips_in};
+ghost use Rattle.vlog_emit.specs.Names.{register_name};
+ghost use Rattle.vlog_emit.specs.Written.{clock_name, port_of, register_item, read_register, ram_memory, class_wire, output_assign, flip_item, at_once_item, items_by, register_items, read_item, read_items, write_item, write_items};
+ghost use Rattle.vlog_write.specs.Each.{EachFabric, IsRegisterIn, nets_in};
 
-use crate::atoms::{cell_lut, input_atom, port_atoms};
-use crate::names::{flip_name, memory_name, port_name, register_name, wire_name};
-use crate::rights::{class_right, input_name};
+use crate::atoms::{input_atom, input_name, lut_of, port_atoms, setting_wire};
+use crate::names::{memory_name, port_name, read_name, register_name, wire_name};
+use crate::rights::class_right;
 use fabric::Design;
 use fabric_wiring::ClockEnd;
-use net_extract::{Lc, Pin, RamCell};
+use net_extract::{Pin, RamCell, Register};
 use std::alloc::{AllocError, Global};
 use vlog_module::{Item, Name, Port};
 
@@ -25,11 +26,11 @@ pub(crate) fn port_of(alloc: Global, pin: &Pin) -> Result<Port, AllocError>
     })
 }
 
-/// The register of a flip-flop.
-pub(crate) fn flip_register(alloc: Global, lc: &Lc) -> Result<Item, AllocError>
-    ensures { IfOk result (λ item. item ≡ flip_register lc.now) }
+/// A register.
+pub(crate) fn register_item(alloc: Global, register: &Register) -> Result<Item, AllocError>
+    ensures { IfOk result (λ item. item ≡ register_item register.now) }
 {
-    let name = flip_name(alloc, lc)?;
+    let name = register_name(alloc, register)?;
     Ok(Item::Register { name, start: false })
 }
 
@@ -37,7 +38,7 @@ pub(crate) fn flip_register(alloc: Global, lc: &Lc) -> Result<Item, AllocError>
 pub(crate) fn read_register(alloc: Global, ram: &RamCell) -> Result<Item, AllocError>
     ensures { IfOk result (λ item. item ≡ read_register ram.now) }
 {
-    let name = register_name(alloc, ram)?;
+    let name = read_name(alloc, ram)?;
     Ok(Item::Word { name, start: 0 })
 }
 
@@ -50,19 +51,13 @@ pub(crate) fn ram_memory(alloc: Global, ram: &RamCell) -> Result<Item, AllocErro
 }
 
 /// The wire of a class.
-pub(crate) fn class_wire(
-    alloc: Global,
-    design: &Design,
-    flips: &[Lc],
-    class: u32,
-) -> Result<Item, AllocError>
-    requires flips { flips.now ≡ flips_in design.now }
+pub(crate) fn class_wire(alloc: Global, design: &Design, class: u32) -> Result<Item, AllocError>
     requires design { IsDesign design.now }
     requires within { class < nets_in design.now }
     ensures { IfOk result (λ item. EachFabric design.now (λ fabric. item ≡ class_wire fabric class)) }
 {
     let name = wire_name(alloc, class)?;
-    let right = class_right(alloc, design, flips, class)?;
+    let right = class_right(alloc, design, class)?;
     Ok(Item::Wire { name, right })
 }
 
@@ -105,41 +100,112 @@ fn end_name(alloc: Global, design: &Design, net: u32) -> Result<Option<Name>, Al
     }
 }
 
-/// A flip-flop with its clock.
-fn flip_item(alloc: Global, design: &Design, lc: &Lc, clock: Name) -> Result<Item, AllocError>
-    requires { IsCellIn (nets_in design.now) lc.now }
-    ensures { IfOk result (λ item. EachFabric design.now (λ fabric. item ≡ flip_item fabric lc.now clock)) }
+/// A register whose reset waits for the clock.
+fn flip_item(
+    alloc: Global,
+    design: &Design,
+    register: &Register,
+    clock: Name,
+) -> Result<Item, AllocError>
+    requires { IsRegisterIn design.now register.now }
+    ensures { IfOk result (λ item. EachFabric design.now (λ fabric. item ≡ flip_item fabric register.now clock)) }
 {
-    let enable = input_atom(alloc, design, true, lc.cen)?;
-    let reset = input_atom(alloc, design, false, lc.sr)?;
-    let target = flip_name(alloc, lc)?;
-    let lut = cell_lut(alloc, design, lc)?;
+    let enable = input_atom(alloc, design, true, register.cen)?;
+    let reset = input_atom(alloc, design, false, register.sr)?;
+    let target = register_name(alloc, register)?;
+    let lut = lut_of(alloc, design, &register.table)?;
     Ok(Item::Flip {
-        falling: lc.neg,
+        falling: register.neg,
         clock,
         enable,
         reset,
-        set: lc.set,
+        set: register.set,
         target,
         lut,
     })
 }
 
-/// Adds a flip-flop, where it has a clock.
-pub(crate) fn append_flip(
+/// A register that a wire sets at once, by its clock.
+fn at_once_item(
     alloc: Global,
     design: &Design,
-    lc: &Lc,
+    register: &Register,
+    reset: Name,
+    clock: Name,
+) -> Result<Item, AllocError>
+    requires { IsRegisterIn design.now register.now }
+    ensures { IfOk result (λ item. EachFabric design.now (λ fabric. item ≡ at_once_item fabric register.now reset clock)) }
+{
+    let target = register_name(alloc, register)?;
+    let enable = input_atom(alloc, design, true, register.cen)?;
+    let lut = lut_of(alloc, design, &register.table)?;
+    Ok(Item::FlipAtOnce {
+        falling: register.neg,
+        clock,
+        reset,
+        set: register.set,
+        target,
+        enable,
+        lut,
+    })
+}
+
+/// A register that a wire sets at once and that has no clock.
+fn set_item(alloc: Global, register: &Register, reset: Name) -> Result<Item, AllocError>
+    ensures { IfOk result (λ item. item ≡ Item.SetAtOnce reset register.now.«set» (register_name register.now)) }
+{
+    let target = register_name(alloc, register)?;
+    Ok(Item::SetAtOnce {
+        reset,
+        set: register.set,
+        target,
+    })
+}
+
+/// What a register is written as, by the wire that sets it at once and by its clock.
+fn item_by(
+    alloc: Global,
+    design: &Design,
+    register: &Register,
+    wire: Option<Name>,
+    clock: Option<Name>,
+) -> Result<Option<Item>, AllocError>
+    requires { IsRegisterIn design.now register.now }
+    ensures { IfOk result (λ item. EachFabric design.now (λ fabric. option_to_list item ≡ items_by fabric register.now wire clock)) }
+{
+    match (wire, clock) {
+        (Some(reset), Some(clock)) => {
+            let item = at_once_item(alloc, design, register, reset, clock)?;
+            Ok(Some(item))
+        }
+        (Some(reset), None) => {
+            let item = set_item(alloc, register, reset)?;
+            Ok(Some(item))
+        }
+        (None, Some(clock)) => {
+            let item = flip_item(alloc, design, register, clock)?;
+            Ok(Some(item))
+        }
+        (None, None) => Ok(None),
+    }
+}
+
+/// Adds what a register is written as.
+pub(crate) fn append_register(
+    alloc: Global,
+    design: &Design,
+    register: &Register,
     items: &mut Vec<Item>,
 ) -> Result<(), AllocError>
     requires design { IsDesign design.now }
-    requires within { IsCellIn (nets_in design.now) lc.now }
-    ensures { OnOk result (EachFabric design.now (λ fabric. items.new.items ≡ items.old.items ++ flip_items fabric lc.now)) }
+    requires within { IsRegisterIn design.now register.now }
+    ensures { OnOk result (EachFabric design.now (λ fabric. items.new.items ≡ items.old.items ++ register_items fabric register.now)) }
 {
-    match clock_name(alloc, design, lc.clk)? {
+    let wire = setting_wire(alloc, design, register)?;
+    let clock = clock_name(alloc, design, register.clk)?;
+    match item_by(alloc, design, register, wire, clock)? {
         None => Ok(()),
-        Some(clock) => {
-            let item = flip_item(alloc, design, lc, clock)?;
+        Some(item) => {
             items.push(item)?;
             Ok(())
         }
@@ -153,7 +219,7 @@ fn read_item(alloc: Global, design: &Design, ram: &RamCell, clock: Name) -> Resu
 {
     let clock_enable = input_atom(alloc, design, true, ram.rclke)?;
     let enable = input_atom(alloc, design, false, ram.re)?;
-    let target = register_name(alloc, ram)?;
+    let target = read_name(alloc, ram)?;
     let memory = memory_name(alloc, ram)?;
     let address = port_atoms(alloc, design, &ram.raddr)?;
     Ok(Item::Read {

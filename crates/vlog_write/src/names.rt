@@ -1,9 +1,9 @@
 // The names of a module that is written for a design.
 ghost use Rattle.std.specs.Prelude.{◌≡◌, ◌≤◌, ◌++◌, length, IfOk};
-ghost use Rattle.vlog_emit.specs.Names.{two_numbers, three_numbers, port_name, flip_name, register_name, memory_name, wire_name};
+ghost use Rattle.vlog_emit.specs.Names.{two_numbers, three_numbers, port_name, user_number, register_name, read_name, memory_name, wire_name};
 
 use crate::text::Text;
-use net_extract::{Lc, Pin, RamCell};
+use net_extract::{ClockUser, Pin, RamCell, Register};
 use std::alloc::{AllocError, Global};
 use vlog_module::Name;
 
@@ -17,20 +17,30 @@ pub(crate) fn port_name(alloc: Global, pin: &Pin) -> Result<Name, AllocError>
     Name::new(alloc, text.bytes())
 }
 
-/// The name of the register of a flip-flop: `ff_X_Y_I`.
-#[tactic(auto, unfolding(vlog_emit::specs::Names::flip_name))]
-pub(crate) fn flip_name(alloc: Global, lc: &Lc) -> Result<Name, AllocError>
-    ensures { IfOk result (λ name. name ≡ flip_name lc.now) }
+/// The name of a register: `ff_X_Y_I`.
+#[tactic(auto, unfolding(vlog_emit::specs::Names::register_name))]
+pub(crate) fn register_name(alloc: Global, register: &Register) -> Result<Name, AllocError>
+    ensures { IfOk result (λ name. name ≡ register_name register.now) }
 {
-    let (x, y, i) = (lc.x, lc.y, lc.i);
-    let text = three_numbers(b"ff_", x, y, i);
+    let (x, y, n) = (register.x, register.y, user_number(register.user));
+    let text = three_numbers(b"ff_", x, y, n);
     Name::new(alloc, text.bytes())
 }
 
+/// The number of a register's user in its tile. The ports of RAMs are no registers of one bit.
+fn user_number(user: ClockUser) -> u8
+    ensures { result ≡ user_number user }
+{
+    match user {
+        ClockUser::Cell { i } => i,
+        ClockUser::Read | ClockUser::Write => 0,
+    }
+}
+
 /// The name of the read register of a RAM: `rd_X_Y`.
-#[tactic(auto, unfolding(vlog_emit::specs::Names::register_name))]
-pub(crate) fn register_name(alloc: Global, ram: &RamCell) -> Result<Name, AllocError>
-    ensures { IfOk result (λ name. name ≡ register_name ram.now) }
+#[tactic(auto, unfolding(vlog_emit::specs::Names::read_name))]
+pub(crate) fn read_name(alloc: Global, ram: &RamCell) -> Result<Name, AllocError>
+    ensures { IfOk result (λ name. name ≡ read_name ram.now) }
 {
     let (x, y) = (ram.x, ram.y);
     let text = two_numbers(b"rd_", x, y);

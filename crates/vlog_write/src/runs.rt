@@ -1,4 +1,4 @@
-// Runs of the modules of small designs: a carry chain, and a RAM, with values worked out by hand.
+// Runs of the modules of small designs: a carry chain, a RAM, and a reset that acts at once, with values worked out by hand.
 ghost use Rattle.std.specs.Prelude.{◌≡◌, IsTrue, Some};
 ghost use Rattle.plane_map.specs.Layout.{kind_of, IsTileBit};
 ghost use Rattle.plane_map.specs.declared.tile.TileKind.TheVariants.{RamB};
@@ -102,6 +102,60 @@ IOB_0.PINTYPE_0 B0[0]
 
 /// Three input pins, and the buffer that reads the RAM.
 const MEMORY_BITS: [Bit; 4] = [(0, 1, 0, 0), (0, 2, 0, 0), (0, 3, 0, 0), (3, 1, 0, 0)];
+
+/// A clock and a reset, and an output: a cell that inverts its own register at rising edges, and that the reset makes 1 at once.
+const RESET: &[u8] = b".device 1k 14 18 3
+.logic_tile_bits 54 16
+LC_0 B0[36] B0[37] B0[38] B0[39] B0[40] B0[41] B0[42] B0[43] B0[44] B0[45] B1[36] B1[37] B1[38] B1[39] B1[40] B1[41] B1[42] B1[43] B1[44] B1[45]
+.io_tile_bits 18 16
+IOB_0.PINTYPE_0 B0[0]
+IOB_0.PINTYPE_1 B1[0]
+IOB_0.PINTYPE_2 B2[0]
+IOB_0.PINTYPE_3 B3[0]
+IOB_0.PINTYPE_4 B4[0]
+IOB_0.PINTYPE_5 B5[0]
+.net 0
+0 1 io_0/D_IN_0
+1 1 lutff_global/clk
+.net 1
+0 2 io_0/D_IN_0
+1 1 lutff_global/s_r
+.net 2
+0 3 io_0/D_OUT_0
+1 1 lutff_0/in_0
+1 1 lutff_0/out
+";
+
+/// Two input pins and an output pin, and the cell with its register, its set bit and its reset that acts at once.
+const RESET_BITS: [Bit; 15] = [
+    (0, 1, 0, 0),
+    (0, 2, 0, 0),
+    (0, 3, 3, 0),
+    (0, 3, 4, 0),
+    (1, 1, 0, 37),
+    (1, 1, 0, 39),
+    (1, 1, 0, 40),
+    (1, 1, 0, 42),
+    (1, 1, 0, 45),
+    (1, 1, 1, 36),
+    (1, 1, 1, 38),
+    (1, 1, 1, 41),
+    (1, 1, 1, 43),
+    (1, 1, 1, 44),
+    (1, 1, 1, 45),
+];
+
+/// The reset, with an edge of the clock in it, an edge without it, and the reset once more.
+const RESET_EVENTS: [(usize, bool); 8] = [
+    (1, true),
+    (0, true),
+    (1, false),
+    (0, false),
+    (0, true),
+    (0, false),
+    (1, true),
+    (1, false),
+];
 
 /// A bit of a tile: x, y, row and column.
 type Bit = (u8, u8, u8, u8);
@@ -226,6 +280,25 @@ fn two_edges(alloc: Global) -> Option<[(Option<u16>, Option<u16>); 2]> {
     Some([written, contents(&runner)])
 }
 
+/// The output after an input is given a bit.
+fn after(runner: &mut Runner, pin: usize, bit: bool) -> bool {
+    if pin < runner.inputs() {
+        runner.event(pin, bit);
+    }
+    runner.outputs() == [true].as_slice()
+}
+
+/// The outputs after the reset's events, the first in the highest bit.
+fn all_resets(alloc: Global) -> Option<u8> {
+    let mut runner = runner(alloc, RESET, &RESET_BITS)?;
+    let mut all = 0_u8;
+    for (pin, bit) in &RESET_EVENTS {
+        let output = after(&mut runner, *pin, *bit);
+        all = all << 1 | u8::from(output);
+    }
+    Some(all)
+}
+
 #[test]
 fn carries_along_two_cells(rt: HostRuntime) {
     assert_eq!(rt; all_carries(rt.alloc()), Some(0b0001_0101));
@@ -237,4 +310,9 @@ fn reads_the_word_from_before_the_edge(rt: HostRuntime) {
         two_edges(rt.alloc()),
         Some([(Some(0x1234), Some(0xab34)), (Some(0xab34), Some(0xab34)),])
     );
+}
+
+#[test]
+fn sets_a_register_at_once(rt: HostRuntime) {
+    assert_eq!(rt; all_resets(rt.alloc()), Some(0b1111_0011));
 }

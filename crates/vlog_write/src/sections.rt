@@ -1,18 +1,18 @@
 // The sections of a module.
 ghost use Rattle.std.specs.Prelude.{◌≡◌, ◌<◌, ◌++◌, All, map, flat_map, length, IfOk, OnOk};
 ghost use Rattle.net_extract.specs.Fabric.{numbered};
-ghost use Rattle.net_extract.specs.Within.{IsPinIn, IsCellIn, IsRamIn};
+ghost use Rattle.net_extract.specs.Within.{IsPinIn, IsRamIn};
 ghost use Rattle.fabric.specs.Design.{IsDesign};
-ghost use Rattle.vlog_emit.specs.Written.{port_of, flip_register, read_register, ram_memory, class_wire, output_assign, flip_items, read_items, write_items, start_items};
-ghost use Rattle.vlog_write.specs.Each.{EachFabric, nets_in, flips_in};
+ghost use Rattle.vlog_emit.specs.Written.{port_of, register_item, read_register, ram_memory, class_wire, output_assign, register_items, read_items, write_items, start_items};
+ghost use Rattle.vlog_write.specs.Each.{EachFabric, IsRegisterIn, nets_in};
 
 use crate::items::{
-    append_flip, append_read, append_write, class_wire, flip_register, output_assign, port_of,
-    ram_memory, read_register,
+    append_read, append_register, append_write, class_wire, output_assign, port_of, ram_memory,
+    read_register, register_item,
 };
 use crate::names::memory_name;
 use fabric::Design;
-use net_extract::{Lc, Pin, RamCell};
+use net_extract::{Pin, RamCell, Register};
 use std::alloc::{AllocError, Global};
 use vlog_module::{Item, Port};
 
@@ -28,16 +28,16 @@ pub(crate) fn ports_of(alloc: Global, pins: &[Pin]) -> Result<Vec<Port>, AllocEr
     Ok(ports)
 }
 
-/// Adds the registers of flip-flops.
+/// Adds registers.
 pub(crate) fn append_registers(
     alloc: Global,
-    flips: &[Lc],
+    registers: &[Register],
     items: &mut Vec<Item>,
 ) -> Result<(), AllocError>
-    ensures { OnOk result (items.new.items ≡ items.old.items ++ map flip_register flips.now) }
+    ensures { OnOk result (items.new.items ≡ items.old.items ++ map register_item registers.now) }
 {
-    for lc in flips {
-        let item = flip_register(alloc, lc)?;
+    for register in registers {
+        let item = register_item(alloc, register)?;
         items.push(item)?;
     }
     Ok(())
@@ -77,17 +77,15 @@ pub(crate) fn append_memories(
 pub(crate) fn append_wires(
     alloc: Global,
     design: &Design,
-    flips: &[Lc],
     classes: &[u32],
     items: &mut Vec<Item>,
 ) -> Result<(), AllocError>
-    requires flips { flips.now ≡ flips_in design.now }
     requires design { IsDesign design.now }
     requires within { All (λ class. class < nets_in design.now) classes.now }
     ensures { OnOk result (EachFabric design.now (λ fabric. items.new.items ≡ items.old.items ++ map (class_wire fabric) classes.now)) }
 {
     for class in classes {
-        let item = class_wire(alloc, design, flips, *class)?;
+        let item = class_wire(alloc, design, *class)?;
         items.push(item)?;
     }
     Ok(())
@@ -110,19 +108,19 @@ pub(crate) fn append_outputs(
     Ok(())
 }
 
-/// Adds flip-flops.
-pub(crate) fn append_flips(
+/// Adds what registers are written as.
+pub(crate) fn append_register_items(
     alloc: Global,
     design: &Design,
-    flips: &[Lc],
+    registers: &[Register],
     items: &mut Vec<Item>,
 ) -> Result<(), AllocError>
     requires design { IsDesign design.now }
-    requires within { All (IsCellIn (nets_in design.now)) flips.now }
-    ensures { OnOk result (EachFabric design.now (λ fabric. items.new.items ≡ items.old.items ++ flat_map (flip_items fabric) flips.now)) }
+    requires within { All (IsRegisterIn design.now) registers.now }
+    ensures { OnOk result (EachFabric design.now (λ fabric. items.new.items ≡ items.old.items ++ flat_map (register_items fabric) registers.now)) }
 {
-    for lc in flips {
-        append_flip(alloc, design, lc, items)?;
+    for register in registers {
+        append_register(alloc, design, register, items)?;
     }
     Ok(())
 }

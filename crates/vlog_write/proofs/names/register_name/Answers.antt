@@ -1,6 +1,12 @@
-use Rattle.std.proofs.Common.{◌∙◌, arith}
+use Rattle.std.proofs.Common.{ap, ◌∙◌, ◌++◌, subst, arith}
+use Rattle.std.specs.Prelude.{codes}
+use Rattle.vlog_emit.specs.Names.{three_numbers}
+use Rattle.vlog_emit.proofs.Apart.{IsSmall}
 use Rattle.vlog_write.proofs.Named.{register-bytes}
 use Rattle.vlog_write.proofs.names.register_name.Goals as goal
 
 pub new-requires : goal.new-requires
-new-requires c = register-bytes c.args.ram.now c.bytes.result.now (c.bytes.ensures ∙ c.two_numbers-text.ensures) (omega arith) (omega arith)
+new-requires c =
+    register-bytes c.args.register.now c.bytes.result.now
+    (c.bytes.ensures ∙ (c.three_numbers-text.ensures ∙ ap (λ n. codes "ff_" ++ three_numbers c.args.register.now.x c.args.register.now.y n) c.user_number-n.ensures))
+    (omega arith) (omega arith) (subst IsSmall c.user_number-n.ensures (omega arith))

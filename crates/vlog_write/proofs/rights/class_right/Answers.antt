@@ -4,8 +4,8 @@ use Rattle.vlog_write.proofs.Kept.{right-some, right-none}
 use Rattle.vlog_write.proofs.Within.{driver-within}
 use Rattle.vlog_write.proofs.rights.class_right.Goals as goal
 
-pub right_of-requires-clause-within : goal.right_of-requires-clause-within
-right_of-requires-clause-within c =
+pub right_of-requires : goal.right_of-requires
+right_of-requires c =
     driver-within c.args.design.now c.requires.design c.args.class c.requires.within c.in-Some.drive (sym c.drive.ensures ∙ c.in-Some.is)
 
 pub returns-in-None : goal.returns-in-None

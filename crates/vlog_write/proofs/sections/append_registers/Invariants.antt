@@ -1,6 +1,6 @@
 use Rattle.std.proofs.Common.{◌≡◌, ◌++◌, map, take}
-use Rattle.vlog_emit.specs.Written.{flip_register}
+use Rattle.vlog_emit.specs.Written.{register_item}
 use Rattle.vlog_write.proofs.sections.append_registers.Given as goal
 
-abbrev pub invariant-loop-lc : goal.invariant-loop-lc
-invariant-loop-lc l = l.items.items ≡ l.initial.items.items ++ map flip_register (take l.lc-index l.flips)
+abbrev pub invariant-loop-register : goal.invariant-loop-register
+invariant-loop-register l = l.items.items ≡ l.initial.items.items ++ map register_item (take l.register-index l.registers)

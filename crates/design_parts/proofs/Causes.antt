@@ -5,7 +5,7 @@ use Rattle.plane_map.specs.declared.device.DeviceName.{DeviceName}
 use Rattle.net_extract.specs.Fabric.{Fabric}
 use Rattle.net_extract.specs.Faults.{Fault}
 use Rattle.fabric.specs.declared.fault.FabricFault.{FabricFault}
-use Rattle.fabric.specs.declared.fault.FabricFault.TheVariants.{Device, Pll, PinMode, Mode, Cascade, Async, TwoDrivers, Loop, Clock, Memory as OutOfMemory}
+use Rattle.fabric.specs.declared.fault.FabricFault.TheVariants.{Device, Pll, PinMode, Mode, Cascade, TwoDrivers, Loop, Clock, Memory as OutOfMemory}
 use Rattle.fabric.specs.Faults.{IsCause}
 use Rattle.design_parts.specs.Faults.{told_fault}
 
@@ -16,7 +16,6 @@ cause-told device fabric cause (Pll x y) one is told = is ∙ told
 cause-told device fabric cause (PinMode x y pio pintype) one is told = is ∙ told
 cause-told device fabric cause (Mode x y read write) one is told = is ∙ told
 cause-told device fabric cause (Cascade x y) one is told = is ∙ told
-cause-told device fabric cause (Async x y i) one is told = is ∙ told
 cause-told device fabric cause (TwoDrivers net first second) one is told = is.0 ∙ told
 cause-told device fabric cause (Loop net cycle) one is told = is.0 ∙ told
 cause-told device fabric cause (Clock x y user net) one is told = is.0 ∙ told

@@ -4,7 +4,7 @@ use Rattle.net_extract.specs.declared.driver.ClockUser.{ClockUser}
 use Rattle.net_extract.specs.declared.driver.ClockUser.TheVariants as user
 use Rattle.net_extract.specs.Faults.{Fault}
 use Rattle.fabric.specs.declared.fault.FabricFault.{FabricFault}
-use Rattle.fabric.specs.declared.fault.FabricFault.TheVariants.{Device, Pll, PinMode, Mode, Cascade, Async, TwoDrivers, Loop, Clock, Memory as OutOfMemory}
+use Rattle.fabric.specs.declared.fault.FabricFault.TheVariants.{Device, Pll, PinMode, Mode, Cascade, TwoDrivers, Loop, Clock, Memory as OutOfMemory}
 use Rattle.tool_run.specs.Lines.{refusal_text, six_digits}
 use Rattle.tool_run.specs.declared.tool.Stop.{Stop}
 use Rattle.tool_run.specs.declared.tool.Stop.TheVariants.{Refused, Memory}
@@ -43,7 +43,6 @@ design_fault_text (Fault.pll x y) = tile_text x y ++ codes ": Pll"
 design_fault_text (Fault.pin_mode x y n pintype) = tile_text x y ++ pin_text n ++ pintype_text pintype
 design_fault_text (Fault.mode x y read write) = tile_text x y ++ codes ": Mode " ++ decimal read ++ codes " " ++ decimal write
 design_fault_text (Fault.cascade x y) = tile_text x y ++ codes ": Cascade"
-design_fault_text (Fault.async x y i) = tile_text x y ++ cell_text i ++ codes ": Async"
 design_fault_text (Fault.two_drivers net first second) = net_text net ++ codes ": TwoDrivers"
 design_fault_text (Fault.loop net) = net_text net ++ codes ": Loop"
 design_fault_text (Fault.clock x y user net) = tile_text x y ++ user_text user ++ clock_text net
@@ -55,7 +54,6 @@ told_fault (Pll x y) = Some (Fault.pll x y)
 told_fault (PinMode x y pio pintype) = Some (Fault.pin_mode x y pio pintype)
 told_fault (Mode x y read write) = Some (Fault.mode x y read write)
 told_fault (Cascade x y) = Some (Fault.cascade x y)
-told_fault (Async x y i) = Some (Fault.async x y i)
 told_fault (TwoDrivers net first second) = Some (Fault.two_drivers net first second)
 told_fault (Loop net cycle) = Some (Fault.loop net)
 told_fault (Clock x y user net) = Some (Fault.clock x y user net)

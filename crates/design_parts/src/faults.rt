@@ -67,10 +67,6 @@ pub fn design_stop(fault: &FabricFault) -> Stop
         FabricFault::Cascade { x, y } => {
             Stop::Refused(at_tile(*x, *y, text(": Cascade"), text("")))
         }
-        FabricFault::Async { x, y, i } => {
-            let cell = decimal(" cell ", u64::from(*i));
-            Stop::Refused(at_tile(*x, *y, cell, text(": Async")))
-        }
         FabricFault::TwoDrivers { net, .. } => Stop::Refused(at_net(*net, ": TwoDrivers")),
         FabricFault::Loop { net, .. } => Stop::Refused(at_net(*net, ": Loop")),
         FabricFault::Clock { x, y, user, net } => {

@@ -51,8 +51,6 @@ fault. A design is refused for these causes, looked for in this order:
   Mode          a block RAM whose words aren't 16 bits wide where it is read or
                 written: use it as 256 words of 16 bits
   Cascade       block RAMs that are chained: take single ones
-  Async         a flip-flop whose set or reset acts without a clock: use one
-                that acts at the clock's edge
   TwoDrivers    two outputs drive one net: the image wasn't made by a router, or
                 the database is for another device
   Loop          a net depends on itself without a register between. A router may

@@ -173,7 +173,7 @@ fn names_a_module(rt: HostRuntime) {
 /// Lines behind the database, the tiles of an image, and the line.
 type Refused = (&'static str, &'static [Tile], &'static str);
 
-static REFUSED: [Refused; 11] = [
+static REFUSED: [Refused; 10] = [
     (
         PINS,
         &[(".io_tile 0 1\n", 18, &[(7, 0)])],
@@ -211,14 +211,6 @@ static REFUSED: [Refused; 11] = [
         CLOCKED,
         &[(".logic_tile 1 1\n", 54, &[(0, 45), (1, 45), (2, 0), (3, 0)])],
         "icebox_vlog: tile 0 1 pin 0: PinMode 000000\n",
-    ),
-    (
-        CLOCKED,
-        &[
-            INPUT,
-            (".logic_tile 1 1\n", 54, &[(0, 45), (1, 45), (2, 0), (3, 0)]),
-        ],
-        "icebox_vlog: tile 1 1 cell 0: Async\n",
     ),
     (
         CLOCKED,

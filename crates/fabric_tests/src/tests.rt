@@ -24,7 +24,9 @@ use fabric_wiring::{ClockEnd, Drive};
 use ice_image::AnyImage;
 use io_cell::pins as find_pins;
 use logic_cell::cells as find_cells;
-use net_extract::{CarrySet, ClockUser, Driver, GlobalNet, Lc, Links, Pin, RamCell, links};
+use net_extract::{
+    CarrySet, ClockUser, Driver, GlobalNet, Lc, Links, Pin, RamCell, Register, links,
+};
 use plane_map::Place;
 use sample_images::{SampleBit, database, image_with, set_bits, set_extras};
 use std::alloc::Global;
@@ -78,6 +80,8 @@ enum Gives<'a> {
     Drives(&'a [Option<Drive>]),
     /// A design with two pins whose classes are written in this order.
     Order(&'a [u32]),
+    /// A design with these registers, whose classes are written in this order.
+    Registers(&'a [Register], &'a [u32]),
     /// A design that answers as the clocked inverter does, with the pins, RAMs and cells that are found by themselves.
     Calls,
     /// No design, for this cause.
@@ -91,7 +95,6 @@ enum Cause<'a> {
     PinMode(u8, u8, u8, u8),
     Mode(u8, u8, u8, u8),
     Cascade(u8, u8),
-    Async(u8, u8, u8),
     TwoDrivers(u32, Driver, Driver),
     Loop(u32, &'a [u32]),
     Clock(u8, u8, ClockUser, u32),
@@ -199,6 +202,9 @@ fn has_parts(design: &Design, gives: Gives) -> bool {
         Gives::Ram(wneg, rneg) => are_rams(design.rams(), wneg, rneg),
         Gives::NoRam => design.rams().is_empty(),
         Gives::Drives(drives) => are_drives(design, drives),
+        Gives::Registers(registers, order) => {
+            design.registers() == registers && design.order() == order
+        }
         Gives::Order(order) => design.order() == order && design.pins().len() == 2,
         _ => false,
     }
@@ -210,7 +216,6 @@ fn cause_of(fault: &FabricFault) -> Cause {
         FabricFault::PinMode { x, y, pio, pintype } => Cause::PinMode(*x, *y, *pio, *pintype),
         FabricFault::Mode { x, y, read, write } => Cause::Mode(*x, *y, *read, *write),
         FabricFault::Cascade { x, y } => Cause::Cascade(*x, *y),
-        FabricFault::Async { x, y, i } => Cause::Async(*x, *y, *i),
         FabricFault::TwoDrivers { net, first, second } => Cause::TwoDrivers(*net, *first, *second),
         FabricFault::Loop { net, cycle } => Cause::Loop(*net, cycle.nets()),
         FabricFault::Clock { x, y, user, net } => Cause::Clock(*x, *y, *user, *net),

@@ -1,6 +1,6 @@
 // Logic cells.
 
-use super::{Case, Cause, Gives, is_so};
+use super::{Case, Gives, is_so};
 use net_extract::{CarrySet, Lc};
 use sample_images::SampleBit;
 use std::alloc::Global;
@@ -52,6 +52,7 @@ const INVERTED: [Lc; 1] = [Lc {
     carry: false,
     flip: true,
     set: true,
+    at_once: false,
     neg: true,
     ins: [Some(0), None, None, None],
     out: Some(1),
@@ -76,6 +77,7 @@ const CARRIED: [Lc; 2] = [
         carry: true,
         flip: false,
         set: false,
+        at_once: false,
         neg: false,
         ins: [Some(0), None, None, None],
         out: Some(1),
@@ -94,6 +96,7 @@ const CARRIED: [Lc; 2] = [
         carry: true,
         flip: false,
         set: false,
+        at_once: false,
         neg: false,
         ins: [None, None, Some(6), None],
         out: None,
@@ -118,8 +121,72 @@ fn finds_cells_and_carry_chains(rt: HostRuntime) {
     assert!(rt; are_cells(rt.alloc(), &CARRIES, carried));
 }
 
+/// The bits of a cell whose reset acts at once and of two others: one has no flip-flop, and the reset of the other waits for the
+/// clock.
+const RESETS: [SampleBit; 4] = [(1, 2, 0, 45), (1, 1, 2, 45), (1, 1, 3, 45), (1, 1, 1, 45)];
+
+/// What these bits give.
+const RESET: [Lc; 3] = [
+    Lc {
+        x: 1,
+        y: 1,
+        i: 0,
+        lut: 0,
+        carry: false,
+        flip: false,
+        set: false,
+        at_once: false,
+        neg: false,
+        ins: [Some(0), None, None, None],
+        out: Some(1),
+        lout: None,
+        cout: Some(3),
+        cin: Some(5),
+        clk: Some(2),
+        cen: None,
+        sr: None,
+    },
+    Lc {
+        x: 1,
+        y: 1,
+        i: 1,
+        lut: 0,
+        carry: false,
+        flip: true,
+        set: false,
+        at_once: true,
+        neg: false,
+        ins: [None, None, Some(6), None],
+        out: None,
+        lout: None,
+        cout: Some(4),
+        cin: Some(3),
+        clk: Some(2),
+        cen: None,
+        sr: None,
+    },
+    Lc {
+        x: 1,
+        y: 2,
+        i: 0,
+        lut: 0,
+        carry: false,
+        flip: true,
+        set: false,
+        at_once: false,
+        neg: false,
+        ins: [None; 4],
+        out: None,
+        lout: None,
+        cout: None,
+        cin: None,
+        clk: None,
+        cen: None,
+        sr: None,
+    },
+];
+
 #[test]
-fn refuses_a_reset_without_a_clock(rt: HostRuntime) {
-    let bits = [(1, 2, 0, 45), (1, 2, 1, 45), (1, 1, 2, 45), (1, 1, 3, 45)];
-    assert!(rt; are_cells(rt.alloc(), &bits, Gives::Refused(Cause::Async(1, 1, 1))));
+fn tells_resets_that_act_at_once(rt: HostRuntime) {
+    assert!(rt; are_cells(rt.alloc(), &RESETS, Gives::Cells(&RESET, &[])));
 }

@@ -1,11 +1,11 @@
 // Orders of classes, loops and clocks.
 
 use super::{Case, Cause, Gives, is_so};
-use net_extract::{ClockUser, Driver};
+use net_extract::{ClockUser, Driver, Register, Source, Table};
 use sample_images::{INVERTER, SampleBit};
 use std::alloc::Global;
 
-/// An inverter between two pins, in a loop of buffers that an image may close, with a clock.
+/// An inverter between two pins, in a loop of buffers that an image may close, with a clock and a reset from another pin.
 const CLOCKED: &[u8] = b".device 1k 14 18 6
 .logic_tile_bits 54 16
 LC_0 B0[36] B0[37] B0[38] B0[39] B0[40] B0[41] B0[42] B0[43] B0[44] B0[45] B1[36] B1[37] B1[38] B1[39] B1[40] B1[41] B1[42] B1[43] B1[44] B1[45]
@@ -36,6 +36,43 @@ IOB_0.PINTYPE_5 B5[0]
 .buffer 1 1 4 B4[0] B5[0]
 10 2
 01 0
+.net 5
+0 3 io_0/D_IN_0
+1 1 lutff_global/s_r
+";
+
+/// The same, in which the inverter resets itself.
+const RESETS_ITSELF: &[u8] = b".device 1k 14 18 6
+.logic_tile_bits 54 16
+LC_0 B0[36] B0[37] B0[38] B0[39] B0[40] B0[41] B0[42] B0[43] B0[44] B0[45] B1[36] B1[37] B1[38] B1[39] B1[40] B1[41] B1[42] B1[43] B1[44] B1[45]
+NegClk B6[0]
+.io_tile_bits 18 16
+IOB_0.PINTYPE_0 B0[0]
+IOB_0.PINTYPE_1 B1[0]
+IOB_0.PINTYPE_2 B2[0]
+IOB_0.PINTYPE_3 B3[0]
+IOB_0.PINTYPE_4 B4[0]
+IOB_0.PINTYPE_5 B5[0]
+.net 0
+0 1 io_0/D_IN_0
+.net 1
+1 1 lutff_0/in_0
+.net 2
+1 1 lutff_0/out
+1 1 lutff_global/s_r
+.net 3
+0 2 io_0/D_OUT_0
+.net 4
+1 1 lutff_global/clk
+.buffer 1 1 1 B2[0]
+1 0
+.buffer 0 2 3 B6[0]
+1 2
+.buffer 1 1 1 B3[0]
+1 2
+.buffer 1 1 4 B4[0] B5[0]
+10 2
+01 0
 ";
 
 /// The buffer from the pin to in_0, the one from out to in_0, the flip-flop, the two that a clock may have, and falling edges.
@@ -51,15 +88,50 @@ const CLOCK_PIN: SampleBit = (1, 1, 5, 0);
 
 const FALLING: SampleBit = (1, 1, 6, 0);
 
-/// Whether the inverter with some more bits gives that.
-fn is_design(alloc: Global, more: &[SampleBit], gives: Gives) -> bool {
+/// The pin of the reset, a reset that sets, and one that acts at once.
+const RESET_PIN: SampleBit = (0, 3, 0, 0);
+
+const SETS: SampleBit = (1, 1, 1, 44);
+
+const AT_ONCE: SampleBit = (1, 1, 1, 45);
+
+/// The register of the inverter, which the pin sets at once.
+const REGISTER: Register = Register {
+    x: 1,
+    y: 1,
+    user: ClockUser::Cell { i: 0 },
+    out: Some(2),
+    clk: Some(4),
+    neg: true,
+    cen: None,
+    sr: Some(5),
+    set: true,
+    at_once: true,
+    table: Table {
+        word: 0x5555,
+        ins: [
+            Source::Net(Some(1)),
+            Source::Net(None),
+            Source::Net(None),
+            Source::Net(None),
+        ],
+    },
+};
+
+/// Whether the inverter of a database with some more bits gives that.
+fn is_design_of(alloc: Global, text: &[u8], more: &[SampleBit], gives: Gives) -> bool {
     is_so(
         alloc,
         Case {
             more,
-            ..Case::of(CLOCKED, &INVERTER, gives)
+            ..Case::of(text, &INVERTER, gives)
         },
     )
+}
+
+/// The same for the first database.
+fn is_design(alloc: Global, more: &[SampleBit], gives: Gives) -> bool {
+    is_design_of(alloc, CLOCKED, more, gives)
 }
 
 #[test]
@@ -67,6 +139,20 @@ fn writes_classes_after_those_they_read(rt: HostRuntime) {
     let clocked = [BACK, FLIP, CLOCK_PIN, FALLING];
     assert!(rt; is_design(rt.alloc(), &[FROM_PIN], Gives::Order(&[0, 1, 2, 3])));
     assert!(rt; is_design(rt.alloc(), &clocked, Gives::Order(&[0, 2, 1, 3, 4])));
+}
+
+#[test]
+fn writes_a_register_after_a_reset_that_acts_at_once(rt: HostRuntime) {
+    let more = [BACK, FLIP, CLOCK_PIN, FALLING, RESET_PIN, SETS, AT_ONCE];
+    let gives = Gives::Registers(&[REGISTER], &[0, 4, 5, 2, 1, 3]);
+    assert!(rt; is_design(rt.alloc(), &more, gives));
+}
+
+#[test]
+fn refuses_a_register_that_resets_itself_at_once(rt: HostRuntime) {
+    let more = [BACK, FLIP, CLOCK_PIN, FALLING, AT_ONCE];
+    let cycle = Gives::Refused(Cause::Loop(2, &[2]));
+    assert!(rt; is_design_of(rt.alloc(), RESETS_ITSELF, &more, cycle));
 }
 
 #[test]

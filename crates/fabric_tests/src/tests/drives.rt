@@ -2,7 +2,7 @@
 
 use super::{Case, Cause, Gives, is_so};
 use fabric_wiring::{Drive, Rule};
-use net_extract::{Driver, Lc};
+use net_extract::{ClockUser, Driver, Register, Source, Table};
 use sample_images::SampleBit;
 use std::alloc::Global;
 
@@ -56,7 +56,10 @@ const PIN_DRIVES: [Option<Drive>; 8] = [
     Some(Drive {
         driver: Driver::Back { x: 0, y: 1, n: 0 },
         net: 0,
-        rule: Rule::SentBack(Some(4)),
+        rule: Rule::Input {
+            stated: false,
+            net: Some(4),
+        },
     }),
     None,
     Some(Drive {
@@ -114,36 +117,32 @@ const CELL_BITS: [SampleBit; 5] = [
     (1, 1, 1, 49),
 ];
 
-/// The cells then.
-const LUT: Lc = Lc {
-    x: 1,
-    y: 1,
-    i: 0,
-    lut: 1,
-    carry: false,
-    flip: false,
-    set: false,
-    neg: false,
-    ins: [Some(0), None, None, None],
-    out: Some(1),
-    lout: None,
-    cout: Some(2),
-    cin: Some(6),
-    clk: None,
-    cen: None,
-    sr: None,
+/// An input of a LUT without a net.
+const NOTHING: Source = Source::Net(None);
+
+/// The LUTs of the two cells, and the register of the second.
+const FIRST: Table = Table {
+    word: 1,
+    ins: [Source::Net(Some(0)), NOTHING, NOTHING, NOTHING],
 };
 
-const FLIP: Lc = Lc {
-    i: 1,
-    carry: true,
-    flip: true,
-    ins: [None; 4],
+const SECOND: Table = Table {
+    word: 1,
+    ins: [NOTHING; 4],
+};
+
+const REGISTER: Register = Register {
+    x: 1,
+    y: 1,
+    user: ClockUser::Cell { i: 1 },
     out: Some(3),
-    lout: Some(4),
-    cout: Some(5),
-    cin: Some(2),
-    ..LUT
+    clk: None,
+    neg: false,
+    cen: None,
+    sr: None,
+    set: false,
+    at_once: false,
+    table: SECOND,
 };
 
 /// What drives the nets then.
@@ -152,28 +151,31 @@ const CELL_DRIVES: [Option<Drive>; 7] = [
     Some(Drive {
         driver: Driver::Lut { x: 1, y: 1, i: 0 },
         net: 1,
-        rule: Rule::LutEntry(LUT),
+        rule: Rule::TableEntry(FIRST),
     }),
     None,
     Some(Drive {
         driver: Driver::Flip { x: 1, y: 1, i: 1 },
         net: 3,
-        rule: Rule::FlipBit(0),
+        rule: Rule::RegisterBit {
+            place: 0,
+            register: REGISTER,
+        },
     }),
     Some(Drive {
         driver: Driver::Lout { x: 1, y: 1, i: 1 },
         net: 4,
-        rule: Rule::LutEntry(FLIP),
+        rule: Rule::TableEntry(SECOND),
     }),
     Some(Drive {
         driver: Driver::Carry { x: 1, y: 1, i: 1 },
         net: 5,
-        rule: Rule::CarryOut(FLIP),
+        rule: Rule::MajorityOf(None, None, Some(2)),
     }),
     Some(Drive {
         driver: Driver::CarrySet { x: 1, y: 1 },
         net: 6,
-        rule: Rule::One,
+        rule: Rule::Constant(true),
     }),
 ];
 

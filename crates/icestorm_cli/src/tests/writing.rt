@@ -19,6 +19,20 @@ NegClk B6[0]
 01 0
 ";
 
+/// Lines behind the database: the same, and a pin that is the reset of a tile.
+const RESET: &str = ".logic_tile_bits 54 16
+NegClk B6[0]
+.net 4
+1 1 lutff_global/clk
+.net 5
+0 3 io_0/D_IN_0
+1 1 lutff_global/s_r
+.buffer 1 1 1 B3[0]
+1 2
+.buffer 1 1 4 B5[0]
+1 0
+";
+
 /// Lines behind the database: pins that aren't taken.
 const PINS: &str = ".io_tile_bits 18 16
 PLL.PLLTYPE_0 B7[0]
@@ -84,6 +98,51 @@ module chip (io_0_1_0, io_0_2_0);
 endmodule
 ";
 
+/// The same, and a pin that sets the flip-flop at once.
+static SETTING: [Tile; 4] = [
+    INPUT,
+    OUTPUT,
+    (".io_tile 0 3\n", 18, &[(0, 0)]),
+    (
+        ".logic_tile 1 1\n",
+        54,
+        &[
+            (0, 37),
+            (0, 39),
+            (0, 40),
+            (0, 42),
+            (0, 45),
+            (1, 36),
+            (1, 38),
+            (1, 41),
+            (1, 43),
+            (1, 44),
+            (1, 45),
+            (3, 0),
+            (5, 0),
+            (6, 0),
+        ],
+    ),
+];
+
+/// What is written of it.
+const SET: &str = "\
+module chip (io_0_1_0, io_0_2_0, io_0_3_0);
+  input io_0_1_0;
+  output io_0_2_0;
+  input io_0_3_0;
+  reg ff_1_1_0 = 1'b0;
+  wire n_0 = io_0_1_0;
+  wire n_4 = n_0;
+  wire n_5 = io_0_3_0;
+  wire n_2 = n_5 ? 1'b1 : ff_1_1_0;
+  wire n_1 = n_2;
+  wire n_3 = n_2;
+  assign io_0_2_0 = n_3;
+  always @(negedge io_0_1_0 or posedge n_5) if (n_5) ff_1_1_0 <= 1'b1; else if (1'b1) ff_1_1_0 <= 16'h5555 >> {1'b0, 1'b0, 1'b0, n_1};
+endmodule
+";
+
 /// The database with lines behind it.
 fn database(alloc: Global, lines: &str) -> Result<Vec<u8>, AllocError> {
     let mut database = DATABASE.as_bytes().to_vec(alloc)?;
@@ -142,6 +201,7 @@ fn writes_a_module(rt: HostRuntime) {
     assert!(rt; writes(rt.alloc(), "", &INVERTER, modules::INVERTER) == Ok(true));
     assert!(rt; writes(rt.alloc(), CLOCKED, &TOGGLE, TOGGLED) == Ok(true));
     assert!(rt; writes_of_a_bitstream(rt.alloc(), CLOCKED, &TOGGLE, TOGGLED) == Ok(true));
+    assert!(rt; writes(rt.alloc(), RESET, &SETTING, SET) == Ok(true));
 }
 
 /// A command line, and what it writes of an image that sets nothing.

@@ -32,6 +32,20 @@ const CHIP: &str = "module chip (io_0_1_0, io_0_2_0);
 endmodule
 ";
 
+const AT_ONCE_TEXT: &str = "module m (c, s, q);
+  input c;
+  input s;
+  output q;
+  reg r = 1'b0;
+  reg t = 1'b1;
+  wire a = s;
+  wire b = a ? 1'b1 : r;
+  assign q = b;
+  always @(negedge c or posedge a) if (a) r <= 1'b1; else if (1'b1) r <= 16'h5555 >> {1'b0, 1'b0, 1'b0, b};
+  always @(posedge a) t <= 1'b0;
+endmodule
+";
+
 const ALL: &str = "module all (c, d, q);
   input c;
   input d;
@@ -56,6 +70,7 @@ endmodule
 fn prints_what_it_parses(rt: HostRuntime) {
     assert!(rt; is_printed(rt.alloc(), CHIP, CHIP) == Ok(true));
     assert!(rt; is_printed(rt.alloc(), ALL, ALL) == Ok(true));
+    assert!(rt; is_printed(rt.alloc(), AT_ONCE_TEXT, AT_ONCE_TEXT) == Ok(true));
     assert!(rt;
         is_printed(
             rt.alloc(),
@@ -188,6 +203,94 @@ const UNDECLARED: [(&str, u64, VlogCause); 20] = [
 #[test]
 fn tells_a_name_that_is_not_there(rt: HostRuntime) {
     assert!(rt; are_faults(rt.alloc(), &UNDECLARED) == Ok(true));
+}
+
+const AT_ONCE: [(&str, u64, VlogCause); 16] = [
+    (
+        "module m (a, q); input a; output q; reg r = 1'b0; wire s = a; wire w = r; assign q = w; always @(posedge s) r <= 1'b1; endmodule",
+        108,
+        VlogCause::Undeclared,
+    ),
+    (
+        "module m (a, q); input a; output q; reg r = 1'b0; wire s = a; wire w = s ? 1'b0 : r; assign q = w; always @(posedge s) r <= 1'b1; endmodule",
+        119,
+        VlogCause::Undeclared,
+    ),
+    (
+        "module m (a, q); input a; output q; reg r = 1'b0; wire s = a; wire t = a; wire w = t ? 1'b1 : r; assign q = w; always @(posedge s) r <= 1'b1; endmodule",
+        131,
+        VlogCause::Undeclared,
+    ),
+    (
+        "module m (a, q); input a; output q; reg r = 1'b0; wire s = a; wire w = 16'h0000 >> {a, a, r, a}; assign q = w; always @(posedge a or posedge s) if (s) r <= 1'b1; else if (a) r <= 16'h0000 >> {a, a, a, a}; endmodule",
+        151,
+        VlogCause::Undeclared,
+    ),
+    (
+        "module m (a, q); input a; output q; reg r = 1'b0; wire s = a; wire v = s ? 1'b1 : r; wire w = r; assign q = w; always @(posedge s) r <= 1'b1; endmodule",
+        131,
+        VlogCause::Undeclared,
+    ),
+    (
+        "module m (a, q); input a; output q; reg r = 1'b0; wire s = a; wire w = r; assign q = w; always @(posedge a) if (a) begin if (a) r <= 1'b0; else r <= 16'h0000 >> {a, a, a, a}; end always @(posedge s) r <= 1'b1; endmodule",
+        199,
+        VlogCause::Undeclared,
+    ),
+    (
+        "module m (a, q); input a; output q; reg r = 1'b0; wire s = a; assign q = a; always @(posedge s) r <= 1'b1; always @(posedge s) r <= 1'b1; endmodule",
+        127,
+        VlogCause::AssignedTwice,
+    ),
+    (
+        "module m (a, q); input a; output q; reg r = 1'b0; wire s = a; assign q = a; always @(posedge a) r <= 1'b1; endmodule",
+        93,
+        VlogCause::Undeclared,
+    ),
+    (
+        "module m (a, q); input a; output q; reg r = 1'b0; wire s = a; wire w = a ? 1'b1 : r; assign q = w; endmodule",
+        71,
+        VlogCause::Undeclared,
+    ),
+    (
+        "module m (a, q); input a; output q; reg r = 1'b0; wire s = a; wire w = s ? 1'b1 : s; assign q = w; endmodule",
+        82,
+        VlogCause::Undeclared,
+    ),
+    (
+        "module m (a, q); input a; output q; reg r = 1'b0; wire s = a; wire w = w ? 1'b1 : r; assign q = w; endmodule",
+        71,
+        VlogCause::Undeclared,
+    ),
+    (
+        "module m (a, q); input a; output q; reg r = 1'b0; wire s = a; assign q = a; always @(negedge s) r <= 1'b1; endmodule",
+        96,
+        VlogCause::Syntax,
+    ),
+    (
+        "module m (a, q); input a; output q; reg r = 1'b0; wire s = a; assign q = a; always @(posedge a or posedge s) if (a) r <= 1'b1; else if (a) r <= 16'h0000 >> {a, a, a, a}; endmodule",
+        113,
+        VlogCause::Syntax,
+    ),
+    (
+        "module m (a, q); input a; output q; reg r = 1'b0; wire s = a; assign q = a; always @(posedge a or posedge s) if (s) r <= 1'b1; else if (a) s <= 16'h0000 >> {a, a, a, a}; endmodule",
+        139,
+        VlogCause::Syntax,
+    ),
+    (
+        "module m (a, q); input a; output q; reg r = 1'b0; wire s = a; assign q = a; always @(posedge a or negedge s) if (s) r <= 1'b1; else if (a) r <= 16'h0000 >> {a, a, a, a}; endmodule",
+        98,
+        VlogCause::Syntax,
+    ),
+    (
+        "module m (a, q); input a; output q; reg r = 1'b0; wire s = a; wire or = a; assign q = a; endmodule",
+        67,
+        VlogCause::Syntax,
+    ),
+];
+
+#[test]
+fn tells_a_fault_of_registers_that_are_set_at_once(rt: HostRuntime) {
+    assert!(rt; are_faults(rt.alloc(), &AT_ONCE) == Ok(true));
 }
 
 const SYNTAX: [(&str, u64, VlogCause); 40] = [

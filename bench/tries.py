@@ -182,7 +182,7 @@ def places(files):
         (["icebox_stat", database, "FILE"], None, text),
         (["icebox_vlog", "FILE", text], None, database),
         (["icebox_vlog", "-n", "name", database, "FILE"], None, text),
-        (["icebox_vlog", "--layout", "FILE", database, stream], None, layout),
+        (["icebox_vlog", "--layout", "FILE", database, text], None, layout),
         (["vlogrun", "FILE", events], None, module),
         (["vlogrun", "-s", module, "FILE"], None, events),
         (["vlogrun", "-s", "FILE"], events, module),

@@ -10,7 +10,7 @@ use Rattle.vlog_cycle.specs.Run.{module_run}
 use Rattle.vlog_cycle.specs.Text.{bit_digit, word_text, registers_text, entry_line, run_text}
 use Rattle.net_extract.specs.Fabric.{Fabric}
 use Rattle.net_extract.specs.Steps.{Entry}
-use Rattle.vlog_emit.specs.Matching.{Matches, module_event}
+use Rattle.fabric_module.specs.Matching.{Matches, module_event}
 use Rattle.design_parts.specs.Lines.{fabric_event, fabric_line, fabric_text, state_text}
 
 -- ---- lines
@@ -18,7 +18,7 @@ use Rattle.design_parts.specs.Lines.{fabric_event, fabric_line, fabric_text, sta
 -- the registers of a module are the state of the fabric
 state-shown : (fabric : Fabric) (entry : Entry) (other : ModuleEntry) → Matches fabric entry other → registers_text other ≡ state_text entry.state
 state-shown fabric entry other matches =
-    ap₂ (λ flips words. 32 ∷ map bit_digit flips ++ flat_map word_text words) matches.registers.valued matches.words.valued
+    ap₂ (λ bits words. 32 ∷ map bit_digit bits ++ flat_map word_text words) matches.registers.valued matches.words.valued
 
 -- one line
 line-shown : (fabric : Fabric) (registers : Bool) (entry : Entry) (other : ModuleEntry) → Matches fabric entry other → entry_line registers other ≡ fabric_line registers entry

@@ -9,11 +9,11 @@ use Rattle.vlog_cycle.specs.Text.{bit_digit, word_text}
 use Rattle.net_extract.specs.Fabric.{fabric_of}
 use Rattle.net_extract.specs.Values.{State}
 use Rattle.net_extract.specs.Steps.{Event, Entry}
-use Rattle.vlog_emit.specs.Written.{port_of}
+use Rattle.fabric_module.specs.Written.{port_of}
 
--- a space, the flip-flops, and the read register of each RAM
+-- a space, the registers of one bit, and the read register of each RAM
 abbrev pub state_text : State → List ℕ
-state_text state = 32 ∷ map bit_digit state.flips ++ flat_map word_text (map word_of state.registers)
+state_text state = 32 ∷ map bit_digit state.bits ++ flat_map word_text (map word_of state.reads)
 
 -- the outputs in the order of the ports, then the registers where they are asked for
 unfoldable pub fabric_line : Bool → Entry → List ℕ

@@ -18,8 +18,8 @@ use Rattle.net_extract.specs.Faults.{Fault, design_fault}
 use Rattle.net_extract.proofs.Within.{fabric-within}
 use Rattle.net_extract.proofs.Taken.{design-taken, taken-order}
 use Rattle.net_extract.proofs.Runs.{design-run}
-use Rattle.vlog_emit.specs.Written.{module_of}
-use Rattle.vlog_emit.proofs.Design.{design-is-module, design-well_formed}
+use Rattle.fabric_module.specs.Written.{module_of}
+use Rattle.fabric_module.proofs.Design.{design-is-module, design-well_formed}
 use Rattle.tool_parts.proofs.CommandLines.{helped-no}
 use Rattle.tool_parts.specs.Databases.{database_read}
 use Rattle.tool_parts.specs.Images.{image_read}

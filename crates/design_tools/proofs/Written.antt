@@ -13,7 +13,7 @@ use Rattle.fabric.specs.declared.fault.FabricFault.{FabricFault}
 use Rattle.fabric.specs.Kept.{Kept}
 use Rattle.fabric.specs.Design.{IsDesignOf}
 use Rattle.fabric.specs.Faults.{IsCause}
-use Rattle.vlog_emit.specs.Written.{module_of}
+use Rattle.fabric_module.specs.Written.{module_of}
 use Rattle.tool_run.specs.declared.tool.Stop.{Stop}
 use Rattle.tool_run.specs.declared.tool.Stop.TheVariants.{Refused, UsageError, Memory}
 use Rattle.tool_run.specs.Stops.{StopsWith}

@@ -14,7 +14,7 @@ use Rattle.vlog_cycle.specs.Text.{run_text}
 use Rattle.net_extract.specs.Fabric.{fabric_of}
 use Rattle.net_extract.specs.Steps.{Event, Entry, IsRun}
 use Rattle.net_extract.specs.Unique.{ExactlyOne}
-use Rattle.vlog_emit.specs.Matching.{Matches, module_event}
+use Rattle.fabric_module.specs.Matching.{Matches, module_event}
 use Rattle.tool_run.specs.Tasks.{asks_for_help}
 use Rattle.tool_parts.specs.Appended.{AppendsFor}
 use Rattle.tool_parts.specs.Databases.{database_read}

@@ -8,7 +8,7 @@ use Rattle.vlog_forms.specs.Printed.{printed}
 use Rattle.net_extract.specs.Fabric.{fabric_of}
 use Rattle.net_extract.specs.Wiring.{wiring_of}
 use Rattle.net_extract.specs.Faults.{Fault, design_fault}
-use Rattle.vlog_emit.specs.Written.{module_of}
+use Rattle.fabric_module.specs.Written.{module_of}
 use Rattle.tool_run.specs.Needs.{text_of}
 use Rattle.tool_run.specs.Tasks.{Answer, Done, Refused, Task, usage_error}
 use Rattle.tool_parts.specs.Outcomes.{Manual, outcome}

@@ -27,8 +27,8 @@ use tool_parts::{
     CommandLine, DB_LIMIT, DesignInput, IMAGE_LIMIT, LAYOUT_LIMIT, Taking, run_tool, with_layout,
 };
 use tool_run::{AtOnce, Job, Load, PieceTool, Stop, answer_at_once, perform_in_pieces};
+use vlog_emit::emit;
 use vlog_text::print;
-use vlog_write::emit;
 
 /// Writes the module of a database and an image, with a name. The image is read under the layouts of a file that comes first where
 /// one is named.

@@ -1,10 +1,10 @@
 -- The refusals of the parts, as those of the whole.
 use Rattle.net_extract.specs.declared.fault.LinkFault.{LinkFault}
 use Rattle.net_extract.specs.declared.fault.LinkFault.TheVariants as links
-use Rattle.io_cell.specs.declared.fault.PinFault.{PinFault}
-use Rattle.io_cell.specs.declared.fault.PinFault.TheVariants as pins
-use Rattle.block_ram.specs.declared.fault.RamFault.{RamFault}
-use Rattle.block_ram.specs.declared.fault.RamFault.TheVariants as rams
+use Rattle.fabric_parts.specs.declared.io.fault.PinFault.{PinFault}
+use Rattle.fabric_parts.specs.declared.io.fault.PinFault.TheVariants as pins
+use Rattle.fabric_parts.specs.declared.ram.fault.RamFault.{RamFault}
+use Rattle.fabric_parts.specs.declared.ram.fault.RamFault.TheVariants as rams
 use Rattle.fabric_wiring.specs.declared.fault.DriverFault.{DriverFault}
 use Rattle.fabric_wiring.specs.declared.fault.DriverFault.TheVariants as drivers
 use Rattle.fabric.specs.declared.fault.FabricFault.{FabricFault}

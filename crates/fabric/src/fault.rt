@@ -2,9 +2,8 @@
 ghost use Rattle.std.specs.Prelude.{◌≡◌};
 
 use crate::cycle::Cycle;
-use block_ram::RamFault;
+use fabric_parts::{PinFault, RamFault};
 use fabric_wiring::DriverFault;
-use io_cell::PinFault;
 use net_extract::{ClockUser, Driver, LinkFault};
 use std::alloc::AllocError;
 

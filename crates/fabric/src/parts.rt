@@ -10,12 +10,10 @@ ghost use Rattle.fabric.specs.Faults.{IsCause, AreTaken};
 ghost use Rattle.fabric.specs.Buffers.{buffer_if, buffers_at};
 
 use crate::fault::FabricFault;
-use block_ram::rams;
 use chipdb_reader::{ChipDb, LinkLine};
+use fabric_parts::{cells, pins, rams};
 use fabric_wiring::{Buffer, Parts, registers_of};
 use ice_image::AnyImage;
-use io_cell::pins;
-use logic_cell::cells;
 use net_extract::links;
 use std::alloc::{AllocError, Global};
 

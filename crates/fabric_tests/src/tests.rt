@@ -17,13 +17,11 @@ mod orders;
 mod pins;
 mod rams;
 
-use block_ram::rams as find_rams;
 use chipdb_reader::{ChipDb, PinXy};
 use fabric::{Design, FabricFault, LinkEnds, design};
+use fabric_parts::{cells as find_cells, pins as find_pins, rams as find_rams};
 use fabric_wiring::{ClockEnd, Drive};
 use ice_image::AnyImage;
-use io_cell::pins as find_pins;
-use logic_cell::cells as find_cells;
 use net_extract::{
     CarrySet, ClockUser, Driver, GlobalNet, Lc, Links, Pin, RamCell, Register, links,
 };

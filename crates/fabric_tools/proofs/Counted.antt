@@ -4,8 +4,8 @@ use Rattle.std.specs.Prelude.{Option, None, Some}
 use Rattle.ice_image.specs.Configuration.{Configuration}
 use Rattle.chipdb_reader.specs.Database.{Database}
 use Rattle.net_extract.specs.Faults.{Fault}
-use Rattle.io_cell.specs.declared.fault.PinFault.TheVariants as pins
-use Rattle.block_ram.specs.declared.fault.RamFault.TheVariants as rams
+use Rattle.fabric_parts.specs.declared.io.fault.PinFault.TheVariants as pins
+use Rattle.fabric_parts.specs.declared.ram.fault.RamFault.TheVariants as rams
 use Rattle.ice_stat.specs.declared.fault.StatFault.{StatFault}
 use Rattle.ice_stat.specs.declared.fault.StatFault.TheVariants.{Device, Pins, Rams, Memory as OutOfMemory}
 use Rattle.ice_stat.specs.Counts.{counts_of, stat_text}

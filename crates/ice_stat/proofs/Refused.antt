@@ -8,12 +8,12 @@ use Rattle.place_search.specs.Places.{or_else}
 use Rattle.net_extract.specs.Faults.{Fault, device_faults, pins_fault, rams_fault}
 use Rattle.net_extract.specs.declared.fault.LinkFault.{LinkFault}
 use Rattle.net_extract.specs.declared.fault.LinkFault.TheVariants as links
-use Rattle.io_cell.specs.declared.fault.PinFault.{PinFault}
-use Rattle.io_cell.specs.declared.fault.PinFault.TheVariants as pins
-use Rattle.io_cell.specs.Faults.{IsCause as IsPinCause}
-use Rattle.block_ram.specs.declared.fault.RamFault.{RamFault}
-use Rattle.block_ram.specs.declared.fault.RamFault.TheVariants as rams
-use Rattle.block_ram.specs.Faults.{IsCause as IsRamCause}
+use Rattle.fabric_parts.specs.declared.io.fault.PinFault.{PinFault}
+use Rattle.fabric_parts.specs.declared.io.fault.PinFault.TheVariants as pins
+use Rattle.fabric_parts.specs.PinFaults.{IsCause as IsPinCause}
+use Rattle.fabric_parts.specs.declared.ram.fault.RamFault.{RamFault}
+use Rattle.fabric_parts.specs.declared.ram.fault.RamFault.TheVariants as rams
+use Rattle.fabric_parts.specs.RamFaults.{IsCause as IsRamCause}
 use Rattle.ice_stat.specs.Causes.{of_links, of_pins, of_rams}
 use Rattle.ice_stat.specs.Faults.{IsCause, stat_fault}
 

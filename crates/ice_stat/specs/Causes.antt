@@ -1,10 +1,10 @@
 -- The refusals of links, pins and RAMs, as those of the counts.
 use Rattle.net_extract.specs.declared.fault.LinkFault.{LinkFault}
 use Rattle.net_extract.specs.declared.fault.LinkFault.TheVariants as links
-use Rattle.io_cell.specs.declared.fault.PinFault.{PinFault}
-use Rattle.io_cell.specs.declared.fault.PinFault.TheVariants as pins
-use Rattle.block_ram.specs.declared.fault.RamFault.{RamFault}
-use Rattle.block_ram.specs.declared.fault.RamFault.TheVariants as rams
+use Rattle.fabric_parts.specs.declared.io.fault.PinFault.{PinFault}
+use Rattle.fabric_parts.specs.declared.io.fault.PinFault.TheVariants as pins
+use Rattle.fabric_parts.specs.declared.ram.fault.RamFault.{RamFault}
+use Rattle.fabric_parts.specs.declared.ram.fault.RamFault.TheVariants as rams
 use Rattle.ice_stat.specs.declared.fault.StatFault.{StatFault}
 use Rattle.ice_stat.specs.declared.fault.StatFault.TheVariants.{Device, Pins, Rams, Memory}
 

@@ -5,10 +5,10 @@ use Rattle.chipdb_reader.specs.Database.{Database}
 use Rattle.place_search.specs.Places.{or_else}
 use Rattle.net_extract.specs.Tiles.{first_of}
 use Rattle.net_extract.specs.Faults.{Fault, device_faults, pins_fault, rams_fault}
-use Rattle.io_cell.specs.declared.fault.PinFault.{PinFault}
-use Rattle.io_cell.specs.declared.fault.PinFault.TheVariants as pins
-use Rattle.block_ram.specs.declared.fault.RamFault.{RamFault}
-use Rattle.block_ram.specs.declared.fault.RamFault.TheVariants as rams
+use Rattle.fabric_parts.specs.declared.io.fault.PinFault.{PinFault}
+use Rattle.fabric_parts.specs.declared.io.fault.PinFault.TheVariants as pins
+use Rattle.fabric_parts.specs.declared.ram.fault.RamFault.{RamFault}
+use Rattle.fabric_parts.specs.declared.ram.fault.RamFault.TheVariants as rams
 use Rattle.ice_stat.specs.declared.fault.StatFault.{StatFault}
 use Rattle.ice_stat.specs.declared.fault.StatFault.TheVariants.{Device, Pins, Rams, Memory}
 

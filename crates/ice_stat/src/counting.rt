@@ -10,11 +10,9 @@ use crate::cells::{carries, flops};
 use crate::counts::{Counts, text_of};
 use crate::fault::StatFault;
 use crate::globals::globals;
-use block_ram::rams;
 use chipdb_reader::ChipDb;
+use fabric_parts::{cells, pins, rams};
 use ice_image::AnyImage;
-use io_cell::pins;
-use logic_cell::cells;
 use net_extract::links;
 use std::alloc::Global;
 

@@ -1,8 +1,7 @@
 // Why nothing is counted.
 ghost use Rattle.std.specs.Prelude.{◌≡◌};
 
-use block_ram::RamFault;
-use io_cell::PinFault;
+use fabric_parts::{PinFault, RamFault};
 use net_extract::LinkFault;
 use std::alloc::AllocError;
 

@@ -13,8 +13,8 @@ use Rattle.vlog_cycle.specs.Events.{event_fault, events_of}
 use Rattle.vlog_cycle.specs.Text.{run_text}
 use Rattle.net_extract.specs.Fabric.{fabric_of}
 use Rattle.net_extract.specs.Steps.{Entry, IsRun}
-use Rattle.vlog_emit.specs.Written.{module_of}
-use Rattle.vlog_emit.proofs.Design.{design-is-module}
+use Rattle.fabric_module.specs.Written.{module_of}
+use Rattle.fabric_module.proofs.Design.{design-is-module}
 use Rattle.tool_run.specs.Runs.{Does, Outside, Scene}
 use Rattle.tool_run.specs.Tasks.{Done, Task, usage_error}
 use Rattle.tool_parts.specs.Commands.{is_taken}

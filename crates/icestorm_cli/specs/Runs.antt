@@ -11,7 +11,7 @@ use Rattle.net_extract.specs.Fabric.{fabric_of}
 use Rattle.net_extract.specs.Steps.{Entry, IsRun}
 use Rattle.fabric.specs.Kept.{Kept}
 use Rattle.fabric.specs.Design.{IsDesignOf}
-use Rattle.vlog_emit.specs.Written.{module_of}
+use Rattle.fabric_module.specs.Written.{module_of}
 use Rattle.tool_run.specs.Tasks.{asks_for_help}
 use Rattle.tool_parts.specs.Appended.{AppendsFor}
 use Rattle.tool_parts.specs.Commands.{has_flag}

@@ -8,7 +8,7 @@ use Rattle.std.proofs.lemmas.List.Quantifiers.{position-Some}
 use Rattle.ice_gen.specs.declared.event.PinEvent.{PinEvent}
 use Rattle.net_extract.specs.declared.pin.Pin.{Pin}
 use Rattle.net_extract.specs.Steps.{Event}
-use Rattle.vlog_emit.specs.Matching.{module_event}
+use Rattle.fabric_module.specs.Matching.{module_event}
 use Rattle.job_tools.specs.Counted.{event_at, event_for, events_for, is_pin_of}
 
 -- one event more

@@ -15,11 +15,11 @@ use Rattle.net_extract.specs.declared.pin.Pin.{Pin}
 use Rattle.net_extract.specs.Fabric.{fabric_of}
 use Rattle.fabric.specs.Kept.{Kept}
 use Rattle.fabric.specs.Design.{IsDesignOf, IsDesign}
-use Rattle.vlog_emit.specs.Matching.{module_event}
-use Rattle.vlog_emit.specs.Names.{port_name}
-use Rattle.vlog_emit.specs.Written.{port_of, module_of}
-use Rattle.vlog_emit.proofs.Beginning.{inputs-start}
-use Rattle.vlog_write.specs.Runs.{RunsAs}
+use Rattle.fabric_module.specs.Matching.{module_event}
+use Rattle.fabric_module.specs.Names.{port_name}
+use Rattle.fabric_module.specs.Written.{port_of, module_of}
+use Rattle.fabric_module.proofs.Beginning.{inputs-start}
+use Rattle.vlog_emit.specs.Runs.{RunsAs}
 use Rattle.job_tools.specs.declared.counting.Ran.{Ran}
 use Rattle.job_tools.specs.Counted.{events_for, ones_in}
 use Rattle.job_tools.specs.Inside.{IsRunOf, fabric_events, module_bits}

@@ -11,7 +11,7 @@ use Rattle.vlog_cycle.specs.Run.{followed, run_from}
 use Rattle.vlog_cycle.proofs.Runs.{last_entry, run-push}
 use Rattle.net_extract.specs.Fabric.{Fabric}
 use Rattle.net_extract.specs.Steps.{Entry}
-use Rattle.vlog_emit.specs.Matching.{Matches}
+use Rattle.fabric_module.specs.Matching.{Matches}
 use Rattle.job_tools.specs.Counted.{ones_in, output_bits}
 use Rattle.job_tools.specs.Inside.{module_bits}
 

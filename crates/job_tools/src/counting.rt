@@ -13,8 +13,8 @@ ghost use Rattle.ice_gen.specs.Events.{generated_events};
 ghost use Rattle.vlog_cycle.specs.Run.{input_names, module_run};
 ghost use Rattle.net_extract.specs.Fabric.{fabric_of};
 ghost use Rattle.fabric.specs.Design.{IsDesignOf};
-ghost use Rattle.vlog_emit.specs.Written.{module_of};
-ghost use Rattle.vlog_write.specs.Runs.{RunsAs};
+ghost use Rattle.fabric_module.specs.Written.{module_of};
+ghost use Rattle.vlog_emit.specs.Runs.{RunsAs};
 ghost use Rattle.job_tools.specs.Counted.{ones_in};
 ghost use Rattle.job_tools.specs.Inside.{IsRunOf, module_bits};
 
@@ -29,8 +29,8 @@ use std::alloc::{AllocError, Global};
 use text_lines::first_line;
 use tile_bits::{ExplainFault, explain};
 use vlog_cycle::{Event, Runner};
+use vlog_emit::emit;
 use vlog_text::{Module, from_own_text};
-use vlog_write::emit;
 
 /// An image that was packed and unpacked.
 #[derive(Drop)]

@@ -1,6 +1,6 @@
 // The events of a generated design, for the module that runs.
 ghost use Rattle.std.specs.Prelude.{◌≡◌, ◌<◌, ◌++◌, All, IfOk, OnOk, length, map, position};
-ghost use Rattle.vlog_emit.specs.Matching.{module_event};
+ghost use Rattle.fabric_module.specs.Matching.{module_event};
 ghost use Rattle.job_tools.specs.Counted.{event_for, events_for, is_pin_of, pin_row};
 
 use ice_gen::PinEvent;

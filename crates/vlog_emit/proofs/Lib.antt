@@ -1,60 +1,12 @@
--- bits as lists, and as the bits of numbers
-pub mod Bits
--- lists of names with their values
-pub mod Lists
--- the sections of a written module, each by itself
-pub mod Sections
--- items that change the values of names, each name by its own items
-pub mod Fills
--- the right side that is written for a driver has the driver's value, where pins, state and the wires that it reads have theirs
-pub mod Rights
--- the wires, registers and outputs of a module once they have settled, where its inputs, registers and memories hold what the
--- fabric's pins are and what its state was before it settled
-pub mod Settled
--- the start of a written module: registers are 0, and memories have the words of the image
-pub mod Beginning
--- an event is the edge of a clocked item of the module exactly where it is an edge of the fabric's clock
-pub mod Ticks
--- what registers and RAM ports become in the module at an event, before registers settle, is what they become in the fabric
-pub mod Clocked
--- the run of the written module and the run of the fabric match after the start and after each event of each list
-pub mod Headline
--- names with other numbers are apart
-pub mod Apart
--- what holds of the fabric that a database and an image configure: its names are apart, its RAMs have all their ports and start
--- words, and its drivers name parts that it has
-pub mod Configured
--- where a database and an image aren't refused, each pad that drives a global is an input pin
-pub mod Pads
--- where a database and an image aren't refused, the module that is written for them is their fabric, and it is well-formed
-pub mod Design
--- the written modules of small fabrics, worked out by hand
-pub mod Worked
--- the names of a written module are names, its ports are apart, and each of its outputs is assigned
+-- the names of a written module are names
 pub mod Named
--- modules that grow item by item: what each item leaves for those after it
-pub mod Grown
--- the state that a written module declares may stand after its ports
-pub mod Declared
--- what the items of a written module use is declared before them
-pub mod Used
--- a register that a wire sets at once is read by its own driver's wire alone, and there but for the time in which that wire is 1
-pub mod Readings
--- the wires of a written module may stand after its state, in the order of their classes
-pub mod Wired
--- items that assign one name each may follow one another where their names are apart; the assigned outputs of a written module
-pub mod Assigned
--- the items of registers and RAM ports may stand where what they use is declared and what they assign isn't assigned yet
-pub mod Ticking
--- the start words of a RAM may stand at the end of a written module
-pub mod Starts
--- what stands before the wires, the outputs and the items of registers and RAM ports: the names that they use
-pub mod Known
--- the outputs and the items of registers and RAM ports may stand after the wires
-pub mod Clocks
--- each output of a written module is assigned
-pub mod Complete
--- the written module of a fabric is well-formed
-pub mod Whole
--- what a database and an image configure has names that are names, and tables and start words of 16 bits
-pub mod Shapely
+-- what is kept of a design tells the drivers and the clocks of its fabric
+pub mod Kept
+-- what is read of nets, by their classes
+pub mod Read
+-- the parts of a design and what its drivers name are there
+pub mod Within
+-- one more item of a section
+pub mod Steps
+-- the module of a design is that of each fabric whose design is kept, and it is well-formed and runs as the fabric
+pub mod Made

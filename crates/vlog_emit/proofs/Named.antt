@@ -1,85 +1,32 @@
--- The names of a written module are names, its ports are apart, and each of its outputs is assigned.
-use Rattle.std.proofs.Common.{◌≡◌, ℕ, Bool, true, false, List, [], ◌∷◌, ◌++◌, map, refl, ◌∙◌}
-use Rattle.std.specs.Prelude.{All, bytes_eq, decimal, not, ◌&&◌, IsTrue}
-use Rattle.std.specs.List.{list_all, IsDistinct, AllByRecursion}
-use Rattle.std.specs.Str.Parse.{AllDigits}
-use Rattle.std.proofs.lemmas.Bool.{le-leb, or_right, and_from}
-use Rattle.std.proofs.lemmas.Str.Parse.{tells_digits}
-use Rattle.std.proofs.lemmas.List.Folds.{list_all-append}
-use Rattle.std.proofs.lemmas.List.Elements.{All-head, All-tail}
-use Rattle.vlog_module.specs.Names.{is_name_byte, reserved_words, is_name, IsName}
+-- The names of a written module are names.
+use Rattle.std.proofs.Common.{◌≡◌, ℕ, ◌++◌, List, sym, subst}
+use Rattle.std.specs.Prelude.{codes, decimal}
 use Rattle.net_extract.specs.declared.register.Register.{Register}
 use Rattle.net_extract.specs.declared.ram.RamCell.{RamCell}
 use Rattle.net_extract.specs.declared.pin.Pin.{Pin}
-use Rattle.vlog_emit.specs.Names.{two_numbers, three_numbers, port_name, user_number, register_name, read_name, memory_name, wire_name}
-use Rattle.vlog_emit.proofs.Lists.{Apart}
-use Rattle.vlog_emit.proofs.Apart.{IsSmall, number-digits}
+use Rattle.vlog_module.specs.Names.{IsName}
+use Rattle.fabric_module.specs.Names.{two_numbers, three_numbers, port_name, user_number, register_name, read_name, memory_name, wire_name}
+use Rattle.fabric_module.proofs.Apart.{IsSmall}
+use Rattle.fabric_module.proofs.Named.{port-named, register-named, read-named, memory-named, wire-named}
 
--- ---- bytes of names
+pub port-bytes : (pin : Pin) (bytes : List ℕ) → bytes ≡ codes "io_" ++ three_numbers pin.x pin.y pin.n → IsSmall pin.x → IsSmall pin.y → IsSmall pin.n → IsName bytes
+unfolding port_name
+port-bytes pin bytes is x y n = let named : IsName (codes "io_" ++ three_numbers pin.x pin.y pin.n) = port-named pin x y n in subst IsName (sym is) named
 
-digits-named : (digits : List ℕ) → AllDigits 10 digits → list_all is_name_byte digits ≡ true
-digits-named [] all = refl
-digits-named (digit ∷ digits) all =
-    let parts = tells_digits.parts digit digits all in
-    and_from (is_name_byte digit) (list_all is_name_byte digits)
-    (or_right _ _ (and_from _ _ (le-leb 48 digit parts.0.0) (le-leb digit 57 parts.0.1))) (digits-named digits parts.1)
+pub register-bytes : (register : Register) (bytes : List ℕ) → bytes ≡ codes "ff_" ++ three_numbers register.x register.y (user_number register.user)
+    → IsSmall register.x → IsSmall register.y → IsSmall (user_number register.user) → IsName bytes
+unfolding register_name
+register-bytes register bytes is x y n =
+    let named : IsName (codes "ff_" ++ three_numbers register.x register.y (user_number register.user)) = register-named register x y n in subst IsName (sym is) named
 
-number-named : (n : ℕ) → IsSmall n → list_all is_name_byte (decimal n) ≡ true
-number-named n small = digits-named (decimal n) (number-digits n small)
+pub read-bytes : (ram : RamCell) (bytes : List ℕ) → bytes ≡ codes "rd_" ++ two_numbers ram.x ram.y → IsSmall ram.x → IsSmall ram.y → IsName bytes
+unfolding read_name
+read-bytes ram bytes is x y = let named : IsName (codes "rd_" ++ two_numbers ram.x ram.y) = read-named ram x y in subst IsName (sym is) named
 
--- two parts with `_` between them
-joined-named : (first second : List ℕ) → list_all is_name_byte first ≡ true → list_all is_name_byte second ≡ true → list_all is_name_byte (first ++ 95 ∷ second) ≡ true
-joined-named first second of_first of_second =
-    list_all-append is_name_byte first (95 ∷ second) ∙ and_from (list_all is_name_byte first) (list_all is_name_byte (95 ∷ second)) of_first of_second
+pub memory-bytes : (ram : RamCell) (bytes : List ℕ) → bytes ≡ codes "mem_" ++ two_numbers ram.x ram.y → IsSmall ram.x → IsSmall ram.y → IsName bytes
+unfolding memory_name
+memory-bytes ram bytes is x y = let named : IsName (codes "mem_" ++ two_numbers ram.x ram.y) = memory-named ram x y in subst IsName (sym is) named
 
-two-named : (x y : ℕ) → IsSmall x → IsSmall y → list_all is_name_byte (two_numbers x y) ≡ true
-unfolding two_numbers
-two-named x y of_x of_y = joined-named (decimal x) (decimal y) (number-named x of_x) (number-named y of_y)
-
-three-named : (x y n : ℕ) → IsSmall x → IsSmall y → IsSmall n → list_all is_name_byte (three_numbers x y n) ≡ true
-unfolding three_numbers
-three-named x y n of_x of_y of_n =
-    joined-named (decimal x) (decimal y ++ 95 ∷ decimal n) (number-named x of_x) (joined-named (decimal y) (decimal n) (number-named y of_y) (number-named n of_n))
-
--- ---- names
-
-name-true : (word reserved : Bool) → word ≡ true → reserved ≡ false → IsTrue (word && not reserved)
-name-true true false is away = refl
-name-true true true is away = absurd cc
-name-true false reserved is away = absurd cc
-
-pub port-named : (pin : Pin) → IsSmall pin.x → IsSmall pin.y → IsSmall pin.n → IsName (port_name pin)
-unfolding is_name reserved_words port_name
-port-named pin of_x of_y of_n = name-true (list_all is_name_byte (three_numbers pin.x pin.y pin.n)) false (three-named pin.x pin.y pin.n of_x of_y of_n) refl
-
-pub register-named : (register : Register) → IsSmall register.x → IsSmall register.y → IsSmall (user_number register.user) → IsName (register_name register)
-unfolding is_name reserved_words register_name
-register-named register of_x of_y of_user =
-    name-true (list_all is_name_byte (three_numbers register.x register.y (user_number register.user))) false
-    (three-named register.x register.y (user_number register.user) of_x of_y of_user) refl
-
-pub read-named : (ram : RamCell) → IsSmall ram.x → IsSmall ram.y → IsName (read_name ram)
-unfolding is_name reserved_words read_name
-read-named ram of_x of_y = name-true (list_all is_name_byte (two_numbers ram.x ram.y)) false (two-named ram.x ram.y of_x of_y) refl
-
-pub memory-named : (ram : RamCell) → IsSmall ram.x → IsSmall ram.y → IsName (memory_name ram)
-unfolding is_name reserved_words memory_name
-memory-named ram of_x of_y = name-true (list_all is_name_byte (two_numbers ram.x ram.y)) false (two-named ram.x ram.y of_x of_y) refl
-
-pub wire-named : (class : ℕ) → IsSmall class → IsName (wire_name class)
-unfolding is_name reserved_words wire_name
-wire-named class small = name-true (list_all is_name_byte (decimal class)) false (number-named class small) refl
-
--- ---- apart
-
-module _ {X : Type 0} (name : X → List ℕ) where
-  others-apart : (first : List ℕ) (xs : List X) → All (λ y. bytes_eq first (name y) ≡ false) xs → AllByRecursion (λ other. bytes_eq first other ≡ false) (map name xs)
-  others-apart first [] all = tt
-  others-apart first (x ∷ xs) all =
-      (All-head (λ y. bytes_eq first (name y) ≡ false) x xs all, others-apart first xs (All-tail (λ y. bytes_eq first (name y) ≡ false) x xs all))
-
-  -- the names of items that are apart are distinct
-  pub distinct-names : (xs : List X) → Apart name xs → IsDistinct bytes_eq (map name xs)
-  unfolding IsDistinct
-  distinct-names [] apart = tt
-  distinct-names (x ∷ xs) apart = (others-apart (name x) xs apart.0, distinct-names xs apart.1)
+pub wire-bytes : (class : ℕ) (bytes : List ℕ) → bytes ≡ codes "n_" ++ decimal class → IsSmall class → IsName bytes
+unfolding wire_name
+wire-bytes class bytes is small = let named : IsName (codes "n_" ++ decimal class) = wire-named class small in subst IsName (sym is) named

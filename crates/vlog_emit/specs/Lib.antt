@@ -1,5 +1,2 @@
-pub mod Names
-pub mod Rights
-pub mod Written
-pub mod Matching
-pub mod Law
+pub mod Each
+pub mod Runs

@@ -1,9 +1,15 @@
-//! The Verilog module of a configured fabric, and when the two hold the same values.
-//!
-//! The definitions are in specs/. The clause of [`module_is_fabric`] is the law about them: the module is well-formed, and its run and
-//! the fabric's run hold the same values after the start and after each event.
+//! Writes the module of a design: [`emit`] makes the module of the subset that runs as the configured fabric.
 #![tactic(auto)]
 
-mod law;
+mod atoms;
+mod emitting;
+mod items;
+mod names;
+mod rights;
+mod sections;
+mod text;
 
-pub use law::module_is_fabric;
+pub use emitting::emit;
+
+#[cfg(test)]
+mod runs;

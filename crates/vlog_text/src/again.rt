@@ -1,9 +1,10 @@
 // Modules by way of their text.
 ghost use Rattle.std.specs.Prelude.{◌≡◌, IfOk};
 
+use crate::fault::VlogFault;
+use crate::modules::parse;
 use std::alloc::{AllocError, Global};
 use vlog_module::Module;
-use vlog_parse::{VlogFault, parse};
 use vlog_print::print;
 
 /// The module that the printed text of a module is read as: the same one.

@@ -6,9 +6,24 @@
 #![tactic(auto)]
 
 mod again;
+mod draft;
+mod ending;
+mod fault;
+mod header;
+mod items;
+mod modules;
+mod name_faults;
+mod names;
+mod ports;
+mod readings;
+mod set;
+mod sorts;
+mod uses;
+mod words;
 
 pub use again::from_own_text;
+pub use fault::VlogFault;
+pub use modules::parse;
 pub use vlog_forms::VlogCause;
 pub use vlog_module::{Atom, Atoms, Item, Lut, Module, Name, Port, Right, is_name};
-pub use vlog_parse::{VlogFault, parse};
 pub use vlog_print::print;

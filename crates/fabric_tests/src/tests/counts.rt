@@ -4,10 +4,9 @@ use super::databases::OTHER;
 use super::pins::{PINS, TWO_PINS};
 use super::rams::RAM;
 use super::set_pad;
-use block_ram::RamFault;
 use chipdb_reader::ChipDb;
+use fabric_parts::{PinFault, RamFault};
 use ice_stat::{StatFault, stat};
-use io_cell::PinFault;
 use sample_images::{CELL, INVERTER, SampleBit, database, image_with, set_bits};
 use std::alloc::Global;
 

@@ -119,7 +119,12 @@ const REGISTER: Register = Register {
 };
 
 /// Whether the inverter of a database with some more bits gives that.
-fn is_design_of(alloc: Global, text: &[u8], more: &[SampleBit], gives: Gives) -> bool {
+fn is_design_of<'a>(
+    alloc: Global,
+    text: &'a [u8],
+    more: &'a [SampleBit],
+    gives: Gives<'a>,
+) -> bool {
     is_so(
         alloc,
         Case {

@@ -97,12 +97,7 @@ fn are_lines_over(
 }
 
 /// Whether these are the lines of a module over the events of a text.
-fn are_lines(
-    alloc: Global,
-    module: &Module,
-    text: &[u8],
-    lines: &str,
-) -> Result<bool, AllocError> {
+fn are_lines(alloc: Global, module: &Module, text: &[u8], lines: &str) -> Result<bool, AllocError> {
     match read_events(alloc, module, text) {
         Ok(events) => are_lines_over(alloc, module, events.as_slice(), lines),
         Err(_) => Ok(false),

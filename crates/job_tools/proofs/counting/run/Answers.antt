@@ -3,7 +3,7 @@ use Rattle.std.specs.Prelude.{codes}
 use Rattle.ice_gen.specs.Events.{generated_events}
 use Rattle.ice_gen.specs.declared.event.PinEvent.{PinEvent}
 use Rattle.net_extract.specs.declared.pin.Pin.{Pin}
-use Rattle.vlog_emit.specs.Matching.{module_event}
+use Rattle.fabric_module.specs.Matching.{module_event}
 use Rattle.job_tools.specs.Counted.{events_for}
 use Rattle.job_tools.proofs.Ran.{inputs-named, ran-is}
 use Rattle.job_tools.proofs.counting.run.Goals as goal

@@ -1,6 +1,6 @@
 use Rattle.std.proofs.Common.{◌<◌, ◌++◌, false, get_or, ap, arith, length, map, sym, take_all, ◌∙◌}
 use Rattle.ice_gen.specs.declared.event.PinEvent.{PinEvent}
-use Rattle.vlog_emit.specs.Matching.{module_event}
+use Rattle.fabric_module.specs.Matching.{module_event}
 use Rattle.job_tools.specs.Counted.{event_for, events_for}
 use Rattle.job_tools.proofs.PinEvents.{events-more}
 use Rattle.job_tools.proofs.events.events_for.Goals as goal

@@ -1,5 +1,5 @@
 use Rattle.std.proofs.Common.{◌≡◌, map, take}
-use Rattle.vlog_emit.specs.Matching.{module_event}
+use Rattle.fabric_module.specs.Matching.{module_event}
 use Rattle.job_tools.specs.Counted.{events_for}
 use Rattle.job_tools.proofs.events.events_for.Given as goal
 

@@ -1,2 +1,0 @@
-pub mod Rams
-pub mod Faults

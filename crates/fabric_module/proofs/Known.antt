@@ -1,0 +1,228 @@
+-- What stands before the wires, the outputs and the clocked items of a written module: the names that they use.
+use Rattle.std.proofs.Common.{◌≡◌, ℕ, Bool, true, false, List, [], ◌∷◌, ◌++◌, map, refl, sym, ap, ◌∙◌, subst, inl, inr, append-nil}
+use Rattle.std.specs.Prelude.{All, Some, filter, bytes_eq, not, if◌then◌else◌}
+use Rattle.std.proofs.lemmas.Bool.{cases_Bool}
+use Rattle.std.proofs.lemmas.List.{map-append}
+use Rattle.std.proofs.lemmas.List.Elements.{All-nil, All-cons, All-head, All-tail, All-append, All-weaker, All-contains, All-filter, filter_passes}
+use Rattle.shared_lemmas.proofs.Lists.{All-both}
+use Rattle.shared_lemmas.proofs.Bytes.{bytes_eq-same}
+use Rattle.vlog_module.specs.Maps.{value_in}
+use Rattle.vlog_module.specs.declared.sort.Sort.{Sort}
+use Rattle.vlog_module.specs.declared.sort.Sort.TheVariants as sort
+use Rattle.vlog_module.specs.Names.{IsName}
+use Rattle.vlog_module.specs.WellFormed.{port_sort, Scope}
+use Rattle.vlog_cycle.specs.Named.{names_of}
+use Rattle.net_extract.specs.declared.ram.RamCell.{RamCell}
+use Rattle.net_extract.specs.declared.pin.Pin.{Pin}
+use Rattle.net_extract.specs.Fabric.{Fabric, inputs_of, outputs_of}
+use Rattle.net_extract.specs.Wiring.{has}
+use Rattle.net_extract.proofs.Order.{has-none, has-cases}
+use Rattle.fabric_module.specs.Names.{port_name, register_name, read_name, memory_name, wire_name}
+use Rattle.fabric_module.specs.Written.{port_of}
+use Rattle.fabric_module.proofs.Lists.{Apart, value_in-front, value_in-behind, names-absent, map-map, All-pick}
+use Rattle.fabric_module.proofs.Settled.{IsWritable, port-no_register, port-no_wire, register-no_wire}
+use Rattle.fabric_module.proofs.Declared.{AreNamed, StateLeft, port-no_read, port-no_memory, register-no_read, register-no_memory, read-no_memory}
+use Rattle.fabric_module.proofs.Used.{IsThere, Knows, there-more}
+
+-- ---- names with their sorts
+
+abbrev pub with_sorts : {X : Type 0} → (X → List ℕ) → (X → Sort) → List X → List (List ℕ × Sort)
+with_sorts name sort_of xs = map (λ x. (name x, sort_of x)) xs
+
+abbrev IsSorted : {X : Type 0} → (X → List ℕ) → (X → Sort) → List (List ℕ × Sort) → X → Type 0
+IsSorted name sort_of list x = value_in list (name x) ≡ Some (sort_of x)
+
+-- no name of a list is that name
+abbrev pub NoName : List (List ℕ × Sort) → List ℕ → Type 0
+NoName list q = All (λ n. bytes_eq n q ≡ false) (names_of list)
+
+module _ {X : Type 0} (name : X → List ℕ) (sort_of : X → Sort) where
+  -- each of some items has the sort that it is declared as
+  sorted-there : (xs : List X) → Apart name xs → All (IsSorted name sort_of (with_sorts name sort_of xs)) xs
+  sorted-there [] apart = All-nil (IsSorted name sort_of [])
+  sorted-there (x ∷ xs) apart =
+      All-cons (IsSorted name sort_of (with_sorts name sort_of (x ∷ xs))) x xs
+      (rw (bytes_eq-same (name x) (name x) refl) refl)
+      (all-away xs apart.0 (sorted-there xs apart.1))
+    where
+      all-away : (ys : List X) → All (λ y. bytes_eq (name x) (name y) ≡ false) ys → All (IsSorted name sort_of (with_sorts name sort_of xs)) ys
+          → All (IsSorted name sort_of (with_sorts name sort_of (x ∷ xs))) ys
+      all-away [] away there = All-nil (IsSorted name sort_of (with_sorts name sort_of (x ∷ xs)))
+      all-away (y ∷ ys) away there =
+          All-cons (IsSorted name sort_of (with_sorts name sort_of (x ∷ xs))) y ys
+          (rw (All-head (λ z. bytes_eq (name x) (name z) ≡ false) y ys away) (All-head (IsSorted name sort_of (with_sorts name sort_of xs)) y ys there))
+          (all-away ys (All-tail (λ z. bytes_eq (name x) (name z) ≡ false) y ys away) (All-tail (IsSorted name sort_of (with_sorts name sort_of xs)) y ys there))
+
+  -- they stay where more stands before and behind them
+  sorted-between : (front back : List (List ℕ × Sort)) (xs : List X) → Apart name xs → ((x : X) → NoName front (name x))
+      → All (IsSorted name sort_of ((front ++ with_sorts name sort_of xs) ++ back)) xs
+  sorted-between front back xs apart absent =
+      All-weaker (IsSorted name sort_of (with_sorts name sort_of xs)) (IsSorted name sort_of ((front ++ with_sorts name sort_of xs) ++ back))
+      (λ x found. value_in-front (front ++ with_sorts name sort_of xs) back (name x) (sort_of x) (value_in-behind front (with_sorts name sort_of xs) (name x) (absent x) ∙ found))
+      xs (sorted-there xs apart)
+
+  sorted-front : (front back : List (List ℕ × Sort)) (xs : List X) → All (IsSorted name sort_of front) xs → All (IsSorted name sort_of (front ++ back)) xs
+  sorted-front front back xs all =
+      All-weaker (IsSorted name sort_of front) (IsSorted name sort_of (front ++ back)) (λ x found. value_in-front front back (name x) (sort_of x) found) xs all
+
+  no-name-of : (xs : List X) (q : List ℕ) → ((x : X) → bytes_eq (name x) q ≡ false) → NoName (with_sorts name sort_of xs) q
+  no-name-of xs q away =
+      subst (All (λ n. bytes_eq n q ≡ false)) (sym (map-map (λ x. (name x, sort_of x)) (λ (entry : List ℕ × Sort). entry.0) xs)) (names-absent name xs q away)
+
+pub no-name-both : (first second : List (List ℕ × Sort)) (q : List ℕ) → NoName first q → NoName second q → NoName (first ++ second) q
+no-name-both first second q of_first of_second =
+    subst (All (λ n. bytes_eq n q ≡ false)) (sym (map-append (λ (entry : List ℕ × Sort). entry.0) first second))
+    (All-append (λ n. bytes_eq n q ≡ false) (names_of first) (names_of second) of_first of_second)
+
+-- ---- what the state declares
+
+-- all ports, registers, words and memories of a fabric are declared
+pub record Stands (fabric : Fabric) (scope : Scope) : Type 0 where
+  pub inputs : All (λ pin. IsThere scope (port_name pin) sort.Input) (inputs_of fabric)
+  pub outputs : All (λ pin. IsThere scope (port_name pin) sort.Output) (outputs_of fabric)
+  pub registers : All (λ register. IsThere scope (register_name register) sort.Register) fabric.registers
+  pub reads : All (λ ram. IsThere scope (read_name ram) sort.Word) fabric.rams
+  pub memories : All (λ ram. IsThere scope (memory_name ram) sort.Memory) fabric.rams
+
+-- they stay where more is declared
+pub stands-more : (fabric : Fabric) (old new : Scope) (more : List (List ℕ × Sort)) → new.declared ≡ old.declared ++ more → Stands fabric old → Stands fabric new
+stands-more fabric old new more is stands =
+    let moved = λ (name : List ℕ) (as_sort : Sort) (there : IsThere old name as_sort). there-more old new more name as_sort is there in record {
+      inputs = All-weaker (λ pin. IsThere old (port_name pin) sort.Input) (λ pin. IsThere new (port_name pin) sort.Input) (λ pin there. moved (port_name pin) sort.Input there) (inputs_of fabric) stands.inputs;
+      outputs = All-weaker (λ pin. IsThere old (port_name pin) sort.Output) (λ pin. IsThere new (port_name pin) sort.Output) (λ pin there. moved (port_name pin) sort.Output there) (outputs_of fabric) stands.outputs;
+      registers = All-weaker (λ register. IsThere old (register_name register) sort.Register) (λ register. IsThere new (register_name register) sort.Register) (λ register there. moved (register_name register) sort.Register there) fabric.registers stands.registers;
+      reads = All-weaker (λ ram. IsThere old (read_name ram) sort.Word) (λ ram. IsThere new (read_name ram) sort.Word) (λ ram there. moved (read_name ram) sort.Word there) fabric.rams stands.reads;
+      memories = All-weaker (λ ram. IsThere old (memory_name ram) sort.Memory) (λ ram. IsThere new (memory_name ram) sort.Memory) (λ ram there. moved (memory_name ram) sort.Memory there) fabric.rams stands.memories;
+    }
+
+-- so inputs and read registers are known by their places, and registers
+pub stands-knows : (fabric : Fabric) (scope : Scope) (wired : ℕ → Bool) → Stands fabric scope → ((class : ℕ) → wired class ≡ true → IsThere scope (wire_name class) sort.Wire) → Knows fabric scope wired
+stands-knows fabric scope wired stands wires = record {
+  input = λ place there. All-pick port_name (λ n. IsThere scope n sort.Input) (inputs_of fabric) place stands.inputs there;
+  register = λ register there. All-contains (λ r. IsThere scope (register_name r) sort.Register) fabric.registers register stands.registers there;
+  read = λ place there. All-pick read_name (λ n. IsThere scope n sort.Word) fabric.rams place stands.reads there;
+  wire = wires;
+}
+
+input-sort : (pin : Pin) → not pin.output ≡ true → port_sort (port_of pin) ≡ sort.Input
+input-sort pin is = by-bit pin.output is
+  where
+    by-bit : (output : Bool) → not output ≡ true → (if output then sort.Output else sort.Input) ≡ sort.Input
+    by-bit true never = absurd cc
+    by-bit false is = refl
+
+output-sort : (pin : Pin) → pin.output ≡ true → port_sort (port_of pin) ≡ sort.Output
+output-sort pin is = rw is refl
+
+read-no_wire : (ram : RamCell) (class : ℕ) → bytes_eq (read_name ram) (wire_name class) ≡ false
+unfolding read_name wire_name
+read-no_wire ram class = refl
+
+memory-no_wire : (ram : RamCell) (class : ℕ) → bytes_eq (memory_name ram) (wire_name class) ≡ false
+unfolding memory_name wire_name
+memory-no_wire ram class = refl
+
+module _ (fabric : Fabric) (writable : IsWritable fabric) (named : AreNamed fabric) (scope : Scope) (left : StateLeft fabric scope) where
+  ports : List (List ℕ × Sort)
+  ports = with_sorts port_name (λ pin. port_sort (port_of pin)) fabric.pins
+
+  registers : List (List ℕ × Sort)
+  registers = with_sorts register_name (λ register. sort.Register) fabric.registers
+
+  words : List (List ℕ × Sort)
+  words = with_sorts read_name (λ ram. sort.Word) fabric.rams
+
+  memories : List (List ℕ × Sort)
+  memories = with_sorts memory_name (λ ram. sort.Memory) fabric.rams
+
+  state-is : scope.declared ≡ ((ports ++ registers) ++ words) ++ memories
+  unfolding ports registers words memories
+  state-is = left.declared_is
+
+  port-sorts : All (IsSorted port_name (λ pin. port_sort (port_of pin)) scope.declared) fabric.pins
+  unfolding ports
+  port-sorts =
+      subst (λ list. All (IsSorted port_name (λ pin. port_sort (port_of pin)) list) fabric.pins) (sym state-is)
+      (sorted-front port_name (λ pin. port_sort (port_of pin)) ((ports ++ registers) ++ words) memories fabric.pins
+      (sorted-front port_name (λ pin. port_sort (port_of pin)) (ports ++ registers) words fabric.pins
+      (sorted-front port_name (λ pin. port_sort (port_of pin)) ports registers fabric.pins (sorted-there port_name (λ pin. port_sort (port_of pin)) fabric.pins writable.ports))))
+
+  register-sorts : All (IsSorted register_name (λ register. sort.Register) scope.declared) fabric.registers
+  unfolding ports registers
+  register-sorts =
+      subst (λ list. All (IsSorted register_name (λ register. sort.Register) list) fabric.registers) (sym state-is)
+      (sorted-front register_name (λ register. sort.Register) ((ports ++ registers) ++ words) memories fabric.registers
+      (sorted-between register_name (λ register. sort.Register) ports words fabric.registers writable.registers
+      (λ register. no-name-of port_name (λ pin. port_sort (port_of pin)) fabric.pins (register_name register) (λ pin. port-no_register pin register))))
+
+  word-sorts : All (IsSorted read_name (λ ram. sort.Word) scope.declared) fabric.rams
+  unfolding ports registers words
+  word-sorts =
+      subst (λ list. All (IsSorted read_name (λ ram. sort.Word) list) fabric.rams) (sym state-is)
+      (sorted-between read_name (λ ram. sort.Word) (ports ++ registers) memories fabric.rams writable.reads
+      (λ ram. no-name-both ports registers (read_name ram)
+      (no-name-of port_name (λ pin. port_sort (port_of pin)) fabric.pins (read_name ram) (λ pin. port-no_read pin ram))
+      (no-name-of register_name (λ register. sort.Register) fabric.registers (read_name ram) (λ register. register-no_read register ram))))
+
+  memory-sorts : All (IsSorted memory_name (λ ram. sort.Memory) scope.declared) fabric.rams
+  unfolding ports registers words memories
+  memory-sorts =
+      subst (λ list. All (IsSorted memory_name (λ ram. sort.Memory) list) fabric.rams) (append-nil _ ∙ sym state-is)
+      (sorted-between memory_name (λ ram. sort.Memory) ((ports ++ registers) ++ words) [] fabric.rams writable.memories
+      (λ ram. no-name-both (ports ++ registers) words (memory_name ram)
+      (no-name-both ports registers (memory_name ram)
+      (no-name-of port_name (λ pin. port_sort (port_of pin)) fabric.pins (memory_name ram) (λ pin. port-no_memory pin ram))
+      (no-name-of register_name (λ register. sort.Register) fabric.registers (memory_name ram) (λ register. register-no_memory register ram)))
+      (no-name-of read_name (λ ram. sort.Word) fabric.rams (memory_name ram) (λ other. read-no_memory other ram))))
+
+  port-there : (as_sort : Sort) (test : Pin → Bool) → ((pin : Pin) → test pin ≡ true → port_sort (port_of pin) ≡ as_sort)
+      → All (λ pin. IsThere scope (port_name pin) as_sort) (filter test fabric.pins)
+  port-there as_sort test is =
+      All-both (λ pin. IsThere scope (port_name pin) (port_sort (port_of pin))) (λ pin. test pin ≡ true) (λ pin. IsThere scope (port_name pin) as_sort)
+      (λ pin there passes. subst (IsThere scope (port_name pin)) (is pin passes) there) (filter test fabric.pins)
+      (All-filter test (λ pin. IsThere scope (port_name pin) (port_sort (port_of pin))) fabric.pins
+      (All-both (λ pin. IsName (port_name pin)) (IsSorted port_name (λ pin. port_sort (port_of pin)) scope.declared) (λ pin. IsThere scope (port_name pin) (port_sort (port_of pin)))
+      (λ pin name found. record { named = name; declared = found }) fabric.pins named.ports port-sorts))
+      (filter_passes test fabric.pins)
+
+  -- after the state, all of it is declared
+  pub state-stands : Stands fabric scope
+  state-stands = record {
+    inputs = port-there sort.Input (λ pin. not pin.output) input-sort;
+    outputs = port-there sort.Output (λ pin. pin.output) output-sort;
+    registers = All-both (λ register. IsName (register_name register)) (IsSorted register_name (λ register. sort.Register) scope.declared) (λ register. IsThere scope (register_name register) sort.Register)
+        (λ register name found. record { named = name; declared = found }) fabric.registers named.registers register-sorts;
+    reads = All-both (λ ram. IsName (read_name ram)) (IsSorted read_name (λ ram. sort.Word) scope.declared) (λ ram. IsThere scope (read_name ram) sort.Word)
+        (λ ram name found. record { named = name; declared = found }) fabric.rams named.reads word-sorts;
+    memories = All-both (λ ram. IsName (memory_name ram)) (IsSorted memory_name (λ ram. sort.Memory) scope.declared) (λ ram. IsThere scope (memory_name ram) sort.Memory)
+        (λ ram name found. record { named = name; declared = found }) fabric.rams named.memories memory-sorts;
+  }
+
+  -- and no wire
+  pub state-no_wire : (class : ℕ) → NoName scope.declared (wire_name class)
+  unfolding ports registers words memories
+  state-no_wire class =
+      subst (λ list. NoName list (wire_name class)) (sym state-is)
+      (no-name-both ((ports ++ registers) ++ words) memories (wire_name class)
+      (no-name-both (ports ++ registers) words (wire_name class)
+      (no-name-both ports registers (wire_name class)
+      (no-name-of port_name (λ pin. port_sort (port_of pin)) fabric.pins (wire_name class) (λ pin. port-no_wire pin class))
+      (no-name-of register_name (λ register. sort.Register) fabric.registers (wire_name class) (λ register. register-no_wire register class)))
+      (no-name-of read_name (λ ram. sort.Word) fabric.rams (wire_name class) (λ ram. read-no_wire ram class)))
+      (no-name-of memory_name (λ ram. sort.Memory) fabric.rams (wire_name class) (λ ram. memory-no_wire ram class)))
+
+  pub state-knows : Knows fabric scope (has [])
+  state-knows = stands-knows fabric scope (has []) state-stands (λ class listed. absurd (has-none class listed))
+
+-- ---- what the wires declare
+
+pub wire-listed : (order : List ℕ) (class : ℕ) → has order class ≡ true → value_in (map (λ c. (wire_name c, sort.Wire)) order) (wire_name class) ≡ Some sort.Wire
+wire-listed [] class listed = absurd (has-none class listed)
+wire-listed (first ∷ order) class listed =
+    elim (cases_Bool (bytes_eq (wire_name first) (wire_name class))) [
+      | inl here ↦ rw here refl
+      | inr away ↦ rw away (wire-listed order class (elim (has-cases first order class listed) [
+        | inl same ↦ let never : true ≡ false = sym (bytes_eq-same (wire_name first) (wire_name class) (ap wire_name same)) ∙ away in absurd cc
+        | inr behind ↦ behind
+      ]))
+    ]

@@ -1,0 +1,254 @@
+-- What a database and an image configure has names that are names, and tables and start words of 16 bits.
+use Rattle.std.proofs.Common.{◌≡◌, ℕ, zero, suc, ◌^◌, ◌<◌, Bool, true, false, List, [], ◌∷◌, ◌++◌, length, map, get_or, refl, subst, arith}
+use Rattle.std.specs.Prelude.{All, Option, Some, None, not, filter, flat_map, if◌then◌else◌}
+use Rattle.std.proofs.lemmas.List.{length-map}
+use Rattle.std.proofs.lemmas.List.Elements.{All-nil, All-head, All-tail, All-append, All-map, All-weaker, All-filter}
+use Rattle.place_search.proofs.Gathered.{All-gathered_below}
+use Rattle.plane_map.specs.declared.tile.TileKind.TheVariants.{Io, Logic, RamB}
+use Rattle.ice_image.specs.Configuration.{Configuration}
+use Rattle.bit_plane.specs.BitList.{word_of}
+use Rattle.bit_plane.proofs.Words.{word_of-lt}
+use Rattle.bit_plane.proofs.Made.{length-row_from}
+use Rattle.chipdb_reader.specs.Database.{Database}
+use Rattle.place_search.specs.Places.{gathered_below}
+use Rattle.vlog_module.specs.declared.atoms.Atom.{Atom}
+use Rattle.vlog_module.specs.declared.atoms.Atom.TheVariants.{Bit, Whole, Part}
+use Rattle.vlog_module.specs.Names.{IsName}
+use Rattle.vlog_module.specs.WellFormed.{IsRight}
+use Rattle.net_extract.specs.declared.cell.Lc.{Lc}
+use Rattle.net_extract.specs.declared.register.Table.{Table}
+use Rattle.net_extract.specs.declared.register.Register.{Register}
+use Rattle.net_extract.specs.Registers.{table_of, register_of, registers_of}
+use Rattle.net_extract.specs.declared.ram.RamCell.{RamCell}
+use Rattle.net_extract.specs.declared.pin.Pin.{Pin}
+use Rattle.net_extract.specs.declared.pin.GlobalFrom.{GlobalFrom}
+use Rattle.net_extract.specs.declared.pin.GlobalFrom.TheVariants.{Pad, Fabout}
+use Rattle.net_extract.specs.declared.driver.Driver.{Driver}
+use Rattle.net_extract.specs.Cells.{cell_bit, entry_bits, cell_bits, cell_with, used_cell, cells_at, cells_of}
+use Rattle.net_extract.specs.Rams.{is_ram_used, ram_at, rams_of, start_word, start_words}
+use Rattle.net_extract.specs.Pins.{pintype_of, is_port, pin_with, port_at, pins_of}
+use Rattle.net_extract.specs.Fabric.{Fabric, numbered, inputs_of, fabric_of}
+use Rattle.net_extract.specs.Drivers.{Rule, Drive, drives_if, pin_drives, back_drives, lut_drives, register_drives, lout_drives, carry_drives, set_drives, ram_drive, ram_drives, global_rule, global_drives, buffer_drives, drives_of, is_driver_of, drivers_of}
+use Rattle.net_extract.specs.Drivers.Rule.{pin_bit, constant, input, table_entry, majority_of, register_bit, read_bit, copied}
+use Rattle.net_extract.proofs.Within.{All-flat_map, All-item_if, All-if, All-single, All-over_tiles}
+use Rattle.fabric_module.specs.Names.{port_name, register_name, read_name, memory_name}
+use Rattle.fabric_module.specs.Rights.{input_atom, atom_or_0, setting_wire, register_right, right_alone, right_of, right_by, class_right}
+use Rattle.fabric_module.proofs.Configured.{PinSmall, CellSmall, RamSmall, pin-at, cell-at, ram-placed}
+use Rattle.fabric_module.proofs.Named.{port-named, register-named, read-named, memory-named}
+use Rattle.fabric_module.proofs.Declared.{AreNamed}
+use Rattle.fabric_module.proofs.Whole.{IsShapely}
+
+-- ---- right sides
+
+module _ (fabric : Fabric) (tables : All (λ lc. lc.lut < 65536) fabric.lcs) where
+  -- the right side of a driver is as it has to be
+  IsDriveRight : Drive → Type 0
+  IsDriveRight drive = IsRight (right_of fabric drive.rule)
+
+  alone-right : (atom : Atom) → IsRight (right_alone atom)
+  alone-right (Bit bit) = tt
+  alone-right (Whole name) = tt
+  alone-right (Part name k) = tt
+
+  if-right : (by : Driver) (rule : Rule) (net : Option ℕ) → IsRight (right_of fabric rule) → All IsDriveRight (drives_if by rule net)
+  unfolding IsDriveRight
+  if-right by rule None is = All-nil (λ (drive : Drive). IsRight (right_of fabric drive.rule))
+  if-right by rule (Some net) is = All-single (λ (drive : Drive). IsRight (right_of fabric drive.rule)) (record { driver = by; net = net; rule = rule }) is
+
+  pin-right : (place : ℕ) → IsRight (right_of fabric (pin_bit place))
+  unfolding right_of
+  pin-right place = tt
+
+  constant-right : (bit : Bool) → IsRight (right_of fabric (constant bit))
+  unfolding right_of
+  constant-right bit = tt
+
+  input-right : (stated : Bool) (net : Option ℕ) → IsRight (right_of fabric (input stated net))
+  unfolding right_of
+  input-right stated net = alone-right (input_atom fabric stated net)
+
+  table-right : (table : Table) → table.word < 65536 → IsRight (right_of fabric (table_entry table))
+  unfolding right_of
+  table-right table small = (small, refl)
+
+  majority-right : (a b c : Option ℕ) → IsRight (right_of fabric (majority_of a b c))
+  unfolding right_of
+  majority-right a b c = tt
+
+  by_wire-right : (register : Register) (wire : Option (List ℕ)) → IsRight (register_right register wire)
+  by_wire-right register (Some wire) = tt
+  by_wire-right register None = tt
+
+  register-right : (place : ℕ) (register : Register) → IsRight (right_of fabric (register_bit place register))
+  unfolding right_of
+  register-right place register = by_wire-right register (setting_wire fabric register)
+
+  read-right : (ram bit : ℕ) → IsRight (right_of fabric (read_bit ram bit))
+  unfolding right_of
+  read-right ram bit = tt
+
+  copied-right : (net : ℕ) → IsRight (right_of fabric (copied net))
+  unfolding right_of
+  copied-right net = alone-right (atom_or_0 fabric (Some net))
+
+  global-right : (pins : List Pin) (from : GlobalFrom) → IsRight (right_of fabric (global_rule pins from))
+  global-right pins (Pad x y n) = pin-right _
+  global-right pins (Fabout net) = copied-right net
+
+  any-right : {X : Type 0} (given : X → List Drive) → ((x : X) → All IsDriveRight (given x)) → (parts : List X) → All IsDriveRight (flat_map given parts)
+  any-right given each [] = All-nil IsDriveRight
+  any-right given each (x ∷ parts) = All-append IsDriveRight (given x) (flat_map given parts) (each x) (any-right given each parts)
+
+  cells-right : (given : Lc → List Drive) → ((lc : Lc) → lc.lut < 65536 → All IsDriveRight (given lc)) → (lcs : List Lc) → All (λ lc. lc.lut < 65536) lcs → All IsDriveRight (flat_map given lcs)
+  cells-right given each lcs all = All-flat_map IsDriveRight given lcs (All-weaker (λ lc. lc.lut < 65536) (λ lc. All IsDriveRight (given lc)) each lcs all)
+
+  then-right : (first second : List Drive) → All IsDriveRight first → All IsDriveRight second → All IsDriveRight (first ++ second)
+  then-right first second = All-append IsDriveRight first second
+
+  all-right : All IsDriveRight (drives_of fabric)
+  unfolding drives_of
+  all-right =
+      then-right _ _ (any-right pin_drives (λ place. if-right _ (pin_bit place.0) place.1.din (pin-right place.0)) (numbered (inputs_of fabric)))
+      (then-right _ _ (any-right back_drives (λ pin. if-right _ (input false pin.dout) pin.din (input-right false pin.dout)) (filter (λ pin. pin.back) fabric.pins))
+      (then-right _ _ (cells-right lut_drives (λ lc small. if-right _ (table_entry (table_of lc)) lc.out (table-right (table_of lc) small)) (filter (λ lc. not lc.flip) fabric.lcs) (All-filter (λ lc. not lc.flip) (λ lc. lc.lut < 65536) fabric.lcs tables))
+      (then-right _ _ (any-right register_drives (λ place. if-right _ (register_bit place.0 place.1) place.1.out (register-right place.0 place.1)) (numbered fabric.registers))
+      (then-right _ _ (cells-right lout_drives (λ lc small. if-right _ (table_entry (table_of lc)) lc.lout (table-right (table_of lc) small)) fabric.lcs tables)
+      (then-right _ _ (any-right carry_drives (λ lc. if-right _ (majority_of (get_or lc.ins 1 None) (get_or lc.ins 2 None) lc.cin) lc.cout (majority-right (get_or lc.ins 1 None) (get_or lc.ins 2 None) lc.cin)) (filter (λ lc. lc.carry) fabric.lcs))
+      (then-right _ _ (any-right set_drives (λ set. if-right _ (constant true) (Some set.net) (constant-right true)) fabric.sets)
+      (then-right _ _ (any-right ram_drives (λ place. any-right (ram_drive place) (λ port. if-right _ (read_bit place.0 port.0) port.1 (read-right place.0 port.0)) (numbered place.1.rdata)) (numbered fabric.rams))
+      (then-right _ _ (any-right (global_drives (inputs_of fabric)) (λ global. if-right _ (global_rule (inputs_of fabric) global.from) (Some global.net) (global-right (inputs_of fabric) global.from)) fabric.globals)
+      (any-right buffer_drives (λ buffer. if-right _ (copied buffer.src) (Some buffer.dst) (copied-right buffer.src)) fabric.buffers)))))))))
+
+  by-right : (drives : List Drive) → All IsDriveRight drives → IsRight (right_by fabric drives)
+  unfolding IsDriveRight
+  by-right [] all = tt
+  by-right (drive ∷ drives) all = All-head (λ (d : Drive). IsRight (right_of fabric d.rule)) drive drives all
+
+  pub each-right : (class : ℕ) → IsRight (class_right fabric class)
+  unfolding class_right drivers_of
+  each-right class = by-right (filter (is_driver_of fabric class) (drives_of fabric)) (All-filter (is_driver_of fabric class) IsDriveRight (drives_of fabric) all-right)
+
+-- ---- start words
+
+word-fits : (bits : List Bool) → length bits ≡ 16 → word_of bits < 65536
+word-fits bits sixteen = subst (λ n. word_of bits < 2 ^ n) sixteen (word_of-lt bits)
+
+word-at : (words : List (List Bool)) (k : ℕ) → All (λ word. length word ≡ 16) words → word_of (get_or words k []) < 65536
+word-at [] k all = omega (arith, word_of-lt [])
+word-at (word ∷ words) zero all = word-fits word (All-head (λ w. length w ≡ 16) word words all)
+word-at (word ∷ words) (suc k) all = word-at words k (All-tail (λ w. length w ≡ 16) word words all)
+
+words-at : (start : List (List (List Bool))) (place k : ℕ) → All (λ words. All (λ word. length word ≡ 16) words) start → word_of (get_or (get_or start place []) k []) < 65536
+words-at [] place k all = word-at [] k (All-nil (λ word. length word ≡ 16))
+words-at (words ∷ start) zero k all = word-at words k (All-head (λ ws. All (λ word. length word ≡ 16) ws) words start all)
+words-at (words ∷ start) (suc place) k all = words-at start place k (All-tail (λ ws. All (λ word. length word ≡ 16) ws) words start all)
+
+module _ (db : Database) (image : Configuration) where
+  -- ---- small numbers
+
+  pins-small : All PinSmall (pins_of db image)
+  unfolding pins_of
+  pins-small =
+      All-over_tiles PinSmall image.layout.device Io (λ x y. gathered_below 2 (port_at db image x y))
+      (λ x y left low. All-gathered_below PinSmall 2 (port_at db image x y)
+      (λ n few. All-item_if PinSmall (is_port (pintype_of db image x y n)) (pin_with db x y n (pintype_of db image x y n)) (pin-at db image x y n (pintype_of db image x y n) left low few).0))
+
+  cells-small : All CellSmall (cells_of db image)
+  unfolding cells_of cells_at
+  cells-small =
+      All-over_tiles CellSmall image.layout.device Logic (cells_at db image)
+      (λ x y left low. All-gathered_below CellSmall 8 (used_cell db image x y)
+      (λ i few. All-item_if CellSmall _ (cell_with db image x y i (cell_bits db image x y i)) (cell-at db image x y i (cell_bits db image x y i) left low few).0))
+
+  rams-small : All RamSmall (rams_of db image)
+  unfolding rams_of
+  rams-small =
+      All-over_tiles RamSmall image.layout.device RamB (λ x y. if is_ram_used db image x y then ram_at db image x y ∷ [] else [])
+      (λ x y left low. All-if RamSmall (is_ram_used db image x y) (ram_at db image x y ∷ []) (All-single RamSmall (ram_at db image x y) (ram-placed db image x y left low).0))
+
+  port-name : (pin : Pin) → PinSmall pin → IsName (port_name pin)
+  unfolding PinSmall
+  port-name pin small = port-named pin small.first small.second small.third
+
+  register-name : (lc : Lc) → CellSmall lc → IsName (register_name (register_of lc))
+  unfolding CellSmall register_of
+  register-name lc small = register-named (register_of lc) small.first small.second small.third
+
+  read-name : (ram : RamCell) → RamSmall ram → IsName (read_name ram)
+  unfolding RamSmall
+  read-name ram small = read-named ram small.first small.second
+
+  memory-name : (ram : RamCell) → RamSmall ram → IsName (memory_name ram)
+  unfolding RamSmall
+  memory-name ram small = memory-named ram small.first small.second
+
+  -- ---- tables
+
+  table-small : (x y i : ℕ) (bits : List Bool) → (cell_with db image x y i bits).lut < 65536
+  unfolding cell_with entry_bits
+  table-small x y i bits = word-fits (map (cell_bit bits) entry_bits) (length-map entry_bits (cell_bit bits))
+
+  tables-small : All (λ lc. lc.lut < 65536) (cells_of db image)
+  unfolding cells_of cells_at
+  tables-small =
+      All-over_tiles (λ lc. lc.lut < 65536) image.layout.device Logic (cells_at db image)
+      (λ x y left low. All-gathered_below (λ lc. lc.lut < 65536) 8 (used_cell db image x y)
+      (λ i few. All-item_if (λ lc. lc.lut < 65536) _ (cell_with db image x y i (cell_bits db image x y i)) (table-small x y i (cell_bits db image x y i))))
+
+  register-small : (lc : Lc) → lc.lut < 65536 → (register_of lc).table.word < 65536
+  unfolding register_of
+  register-small lc small = small
+
+  registers-small : All (λ register. register.table.word < 65536) (registers_of (cells_of db image))
+  unfolding registers_of
+  registers-small =
+      All-map (λ register. register.table.word < 65536) register_of (filter (λ lc. lc.flip) (cells_of db image))
+      (All-filter (λ lc. lc.flip) (λ lc. (register_of lc).table.word < 65536) (cells_of db image)
+      (All-weaker (λ lc. lc.lut < 65536) (λ lc. (register_of lc).table.word < 65536) register-small (cells_of db image) tables-small))
+
+  registers-named : All (λ register. IsName (register_name register)) (registers_of (cells_of db image))
+  unfolding registers_of
+  registers-named =
+      All-map (λ register. IsName (register_name register)) register_of (filter (λ lc. lc.flip) (cells_of db image))
+      (All-filter (λ lc. lc.flip) (λ lc. IsName (register_name (register_of lc))) (cells_of db image)
+      (All-weaker CellSmall (λ lc. IsName (register_name (register_of lc))) register-name (cells_of db image) cells-small))
+
+  -- ---- start words
+
+  words-sixteen : (x y : ℕ) → All (λ word. length word ≡ 16) (start_words image x y)
+  unfolding start_words
+  words-sixteen x y =
+      All-gathered_below (λ word. length word ≡ 16) 256 (λ k. start_word image x y k ∷ [])
+      (λ k few. All-single (λ word. length word ≡ 16) (start_word image x y k) (length-row_from 16 _))
+
+  starts-sixteen : All (λ words. All (λ word. length word ≡ 16) words) (fabric_of db image).start
+  unfolding fabric_of
+  starts-sixteen =
+      All-over_tiles (λ words. All (λ word. length word ≡ 16) words) image.layout.device RamB (λ x y. if is_ram_used db image x y then start_words image x y ∷ [] else [])
+      (λ x y left low. All-if (λ words. All (λ word. length word ≡ 16) words) (is_ram_used db image x y) (start_words image x y ∷ [])
+      (All-single (λ words. All (λ word. length word ≡ 16) words) (start_words image x y) (words-sixteen x y)))
+
+  fabric-named : AreNamed (fabric_of db image)
+  unfolding fabric_of
+  fabric-named = record {
+    ports = All-weaker PinSmall (λ pin. IsName (port_name pin)) port-name (pins_of db image) pins-small;
+    registers = registers-named;
+    reads = All-weaker RamSmall (λ ram. IsName (read_name ram)) read-name (rams_of db image) rams-small;
+    memories = All-weaker RamSmall (λ ram. IsName (memory_name ram)) memory-name (rams_of db image) rams-small;
+  }
+
+  fabric-tables : All (λ lc. lc.lut < 65536) (fabric_of db image).lcs
+  unfolding fabric_of
+  fabric-tables = tables-small
+
+  fabric-registers : All (λ register. register.table.word < 65536) (fabric_of db image).registers
+  unfolding fabric_of
+  fabric-registers = registers-small
+
+  pub fabric-shapely : IsShapely (fabric_of db image)
+  fabric-shapely = record {
+    named = fabric-named;
+    tables = fabric-registers;
+    rights = each-right (fabric_of db image) fabric-tables;
+    words = λ place k. words-at (fabric_of db image).start place k starts-sixteen;
+  }

@@ -1,0 +1,265 @@
+-- The clocked items of a written module may stand where what they use is declared and what they assign isn't assigned yet.
+use Rattle.std.proofs.Common.{◌≡◌, ℕ, ◌<◌, ◌≤◌, Bool, true, false, List, [], ◌∷◌, ◌++◌, refl, ap, ◌∙◌, append-nil}
+use Rattle.std.specs.Prelude.{All, Option, Some, None, flat_map, bytes_eq}
+use Rattle.std.proofs.lemmas.List.{length-map}
+use Rattle.std.proofs.lemmas.Grind.{flat_map-append}
+use Rattle.std.proofs.lemmas.Bool.{and_from}
+use Rattle.std.proofs.lemmas.List.Elements.{All-cons, All-append}
+use Rattle.net_extract.proofs.Within.{All-single}
+use Rattle.vlog_module.specs.declared.sort.Sort.TheVariants as sort
+use Rattle.vlog_module.specs.declared.atoms.Atom.{Atom}
+use Rattle.vlog_module.specs.declared.item.Item.{Item}
+use Rattle.vlog_module.specs.declared.item.Item.TheVariants.{SetAtOnce}
+use Rattle.vlog_module.specs.Uses.{Use, atom_uses, atoms_uses, lut_uses, uses_of}
+use Rattle.vlog_module.specs.Uses.Use.{Reads, ReadsBit, Takes, Assigns, AssignsAtOnce}
+use Rattle.vlog_module.specs.WellFormed.{section_of, declared_by, wire_readings, assigned_by, started_by, sort_in, is_sort, is_read_unless, Scope, IsAllowed}
+use Rattle.net_extract.specs.declared.register.Register.{Register}
+use Rattle.net_extract.specs.declared.ram.RamCell.{RamCell}
+use Rattle.net_extract.specs.Fabric.{Fabric}
+use Rattle.net_extract.specs.Drivers.{is_driven}
+use Rattle.net_extract.specs.Drivers.Rule.{table_entry}
+use Rattle.fabric_module.specs.Names.{register_name, read_name, memory_name}
+use Rattle.fabric_module.specs.Rights.{input_atom, atom_or_0, atom_or_1, port_atoms, lut_of}
+use Rattle.fabric_module.specs.Written.{flip_item, at_once_item, items_by, read_item, write_item}
+use Rattle.fabric_module.proofs.Beginning.{IsPorted}
+use Rattle.fabric_module.proofs.Rights.{IsPlaceIn}
+use Rattle.fabric_module.proofs.Used.{IsFine, fine-allowed, IsThere, Knows, knows-allows, atom-fine, ports-fine, table-fine}
+use Rattle.fabric_module.proofs.Assigned.{AssignsOne, unassigned}
+use Rattle.fabric_module.proofs.Wired.{atom-none, atoms-none}
+
+-- ---- the ways in which a register is written
+
+-- by a clock alone, by a wire that sets it at once and a clock, or by such a wire alone
+pub data Way : Type 0 where
+  waits : (clock : List ℕ) → Way
+  acts : (wire clock : List ℕ) → Way
+  sets : (wire : List ℕ) → Way
+
+abbrev pub way_of : Option (List ℕ) → Option (List ℕ) → Option Way
+way_of (Some wire) (Some clock) = Some (acts wire clock)
+way_of (Some wire) None = Some (sets wire)
+way_of None (Some clock) = Some (waits clock)
+way_of None None = None
+
+abbrev pub item_in : Fabric → Register → Way → Item
+item_in fabric register (waits clock) = flip_item fabric register clock
+item_in fabric register (acts wire clock) = at_once_item fabric register wire clock
+item_in fabric register (sets wire) = SetAtOnce wire register.«set» (register_name register)
+
+-- an item that may be missing
+abbrev pub optional : {W : Type 0} → Option W → (W → Item) → List Item
+optional None item = []
+optional (Some given) item = item given ∷ []
+
+pub items_by-way : (fabric : Fabric) (register : Register) (wire clock : Option (List ℕ)) → items_by fabric register wire clock ≡ optional (way_of wire clock) (item_in fabric register)
+items_by-way fabric register (Some wire) (Some clock) = refl
+items_by-way fabric register (Some wire) None = refl
+items_by-way fabric register None (Some clock) = refl
+items_by-way fabric register None None = refl
+
+-- what a way needs: its clock is an input, its wire is there, and wires read the register but for the time in which that is 1
+abbrev pub IsWay : Scope → Register → Way → Type 0
+IsWay scope register (waits clock) = IsThere scope clock sort.Input
+IsWay scope register (acts wire clock) =
+    IsThere scope clock sort.Input × IsThere scope wire sort.Wire × (is_read_unless scope.read wire register.«set» (register_name register) ≡ true)
+IsWay scope register (sets wire) = IsThere scope wire sort.Wire × (is_read_unless scope.read wire register.«set» (register_name register) ≡ true)
+
+-- ---- what may come
+
+module _ (fabric : Fabric) (scope : Scope) (knows : Knows fabric scope (is_driven fabric)) where
+  takes-fine : (name : List ℕ) → IsThere scope name sort.Input → IsFine scope (Takes sort.Input name)
+  takes-fine name there = record { named = there.named; in_range = tt; known = rw (there.declared) refl; first = refl }
+
+  takes-memory : (name : List ℕ) → IsThere scope name sort.Memory → IsFine scope (Takes sort.Memory name)
+  takes-memory name there = record { named = there.named; in_range = tt; known = rw (there.declared) refl; first = refl }
+
+  takes-wire : (name : List ℕ) → IsThere scope name sort.Wire → IsFine scope (Takes sort.Wire name)
+  takes-wire name there = record { named = there.named; in_range = tt; known = rw (there.declared) refl; first = refl }
+
+  input-fine : (stated : Bool) (net : Option ℕ) → All (IsFine scope) (atom_uses (input_atom fabric stated net))
+  input-fine stated net = atom-fine fabric (is_driven fabric) (IsFine scope) (knows-allows fabric scope (is_driven fabric) knows) stated net (λ n found connected. connected)
+
+  list-fine : (ports : List (Option ℕ)) → All (IsFine scope) (atoms_uses (port_atoms fabric ports))
+  list-fine ports = ports-fine fabric (is_driven fabric) (IsFine scope) (knows-allows fabric scope (is_driven fabric) knows) ports (λ net n found connected. connected)
+
+  module _ (register : Register) (few : register.table.word < 65536) (sources : IsPlaceIn fabric (table_entry register.table))
+      (there : IsThere scope (register_name register) sort.Register) (low : scope.section ≤ 7) (away : All (λ n. bytes_eq n (register_name register) ≡ false) scope.assigned) where
+    of_table : All (IsFine scope) (lut_uses (lut_of fabric register.table))
+    of_table =
+        table-fine fabric (is_driven fabric) (IsFine scope) (knows-allows fabric scope (is_driven fabric) knows) register.table sources (λ n reads connected. connected)
+
+    assigns-fine : IsFine scope (Assigns sort.Register (register_name register))
+    assigns-fine = record { named = there.named; in_range = tt; known = rw (there.declared) refl; first = unassigned scope.assigned (register_name register) away }
+
+    at_once-fine : (wire : List ℕ) → is_read_unless scope.read wire register.«set» (register_name register) ≡ true
+        → IsFine scope (AssignsAtOnce wire register.«set» (register_name register))
+    at_once-fine wire well = record {
+      named = there.named;
+      in_range = tt;
+      known = and_from (is_sort sort.Register (sort_in scope.declared (register_name register))) (is_read_unless scope.read wire register.«set» (register_name register))
+          (rw (there.declared) refl) well;
+      first = unassigned scope.assigned (register_name register) away;
+    }
+
+    flip-allowed : (clock : List ℕ) → IsThere scope clock sort.Input → IsAllowed scope (flip_item fabric register clock)
+    flip-allowed clock of_clock =
+        let enable = atom_uses (atom_or_1 fabric register.cen) in
+        let reset = atom_uses (atom_or_0 fabric register.sr) in
+        fine-allowed scope (flip_item fabric register clock) (few, refl) low
+        (All-cons (IsFine scope) (Takes sort.Input clock) ((enable ++ reset) ++ (Assigns sort.Register (register_name register) ∷ lut_uses (lut_of fabric register.table))) (takes-fine clock of_clock)
+        (All-append (IsFine scope) (enable ++ reset) (Assigns sort.Register (register_name register) ∷ lut_uses (lut_of fabric register.table))
+        (All-append (IsFine scope) enable reset (input-fine true register.cen) (input-fine false register.sr))
+        (All-cons (IsFine scope) (Assigns sort.Register (register_name register)) (lut_uses (lut_of fabric register.table)) assigns-fine of_table)))
+
+    at_once-allowed : (wire clock : List ℕ) → IsWay scope register (acts wire clock) → IsAllowed scope (at_once_item fabric register wire clock)
+    at_once-allowed wire clock is =
+        let enable = atom_uses (atom_or_1 fabric register.cen) in
+        let assigns = AssignsAtOnce wire register.«set» (register_name register) in
+        let rest = enable ++ lut_uses (lut_of fabric register.table) in
+        fine-allowed scope (at_once_item fabric register wire clock) (few, refl) low
+        (All-cons (IsFine scope) (Takes sort.Input clock) (Takes sort.Wire wire ∷ assigns ∷ rest) (takes-fine clock is.0)
+        (All-cons (IsFine scope) (Takes sort.Wire wire) (assigns ∷ rest) (takes-wire wire is.1)
+        (All-cons (IsFine scope) assigns rest (at_once-fine wire is.2)
+        (All-append (IsFine scope) enable (lut_uses (lut_of fabric register.table)) (input-fine true register.cen) of_table))))
+
+    set-allowed : (wire : List ℕ) → IsWay scope register (sets wire) → IsAllowed scope (SetAtOnce wire register.«set» (register_name register))
+    set-allowed wire is =
+        let assigns = AssignsAtOnce wire register.«set» (register_name register) in
+        fine-allowed scope (SetAtOnce wire register.«set» (register_name register)) tt low
+        (All-cons (IsFine scope) (Takes sort.Wire wire) (assigns ∷ []) (takes-wire wire is.0) (All-single (IsFine scope) assigns (at_once-fine wire is.1)))
+
+    -- a register, in each way
+    pub register-allowed : (way : Way) → IsWay scope register way → IsAllowed scope (item_in fabric register way)
+    register-allowed (waits clock) is = flip-allowed clock is
+    register-allowed (acts wire clock) is = at_once-allowed wire clock is
+    register-allowed (sets wire) is = set-allowed wire is
+
+  -- a read port
+  pub read-allowed : (ram : RamCell) (clock : List ℕ) → IsPorted ram → IsThere scope clock sort.Input → IsThere scope (read_name ram) sort.Word → IsThere scope (memory_name ram) sort.Memory
+      → scope.section ≤ 8 → All (λ n. bytes_eq n (read_name ram) ≡ false) scope.assigned → IsAllowed scope (read_item fabric ram clock)
+  read-allowed ram clock ported of_clock there of_memory low away =
+      let first = atom_uses (atom_or_1 fabric ram.rclke) in
+      let second = atom_uses (atom_or_0 fabric ram.re) in
+      let rest = Assigns sort.Word (read_name ram) ∷ Takes sort.Memory (memory_name ram) ∷ atoms_uses (port_atoms fabric ram.raddr) in
+      fine-allowed scope (read_item fabric ram clock) (length-map ram.raddr (atom_or_0 fabric) ∙ ported.read_address) low
+      (All-cons (IsFine scope) (Takes sort.Input clock) ((first ++ second) ++ rest) (takes-fine clock of_clock)
+      (All-append (IsFine scope) (first ++ second) rest (All-append (IsFine scope) first second (input-fine true ram.rclke) (input-fine false ram.re))
+      (All-cons (IsFine scope) (Assigns sort.Word (read_name ram)) (Takes sort.Memory (memory_name ram) ∷ atoms_uses (port_atoms fabric ram.raddr))
+      (record { named = there.named; in_range = tt; known = rw (there.declared) refl; first = unassigned scope.assigned (read_name ram) away })
+      (All-cons (IsFine scope) (Takes sort.Memory (memory_name ram)) (atoms_uses (port_atoms fabric ram.raddr)) (takes-memory (memory_name ram) of_memory) (list-fine ram.raddr)))))
+
+  -- a write port
+  pub write-allowed : (ram : RamCell) (clock : List ℕ) → IsPorted ram → IsThere scope clock sort.Input → IsThere scope (memory_name ram) sort.Memory
+      → scope.section ≤ 9 → All (λ n. bytes_eq n (memory_name ram) ≡ false) scope.assigned → IsAllowed scope (write_item fabric ram clock)
+  write-allowed ram clock ported of_clock there low away =
+      let first = atom_uses (atom_or_1 fabric ram.wclke) in
+      let second = atom_uses (atom_or_0 fabric ram.we) in
+      let address = Assigns sort.Memory (memory_name ram) ∷ atoms_uses (port_atoms fabric ram.waddr) in
+      let mask = atoms_uses (port_atoms fabric ram.mask) in
+      let bits = atoms_uses (port_atoms fabric ram.wdata) in
+      fine-allowed scope (write_item fabric ram clock)
+      (length-map ram.waddr (atom_or_0 fabric) ∙ ported.write_address, length-map ram.mask (atom_or_0 fabric) ∙ ported.mask, length-map ram.wdata (atom_or_0 fabric) ∙ ported.written) low
+      (All-cons (IsFine scope) (Takes sort.Input clock) ((((first ++ second) ++ address) ++ mask) ++ bits) (takes-fine clock of_clock)
+      (All-append (IsFine scope) (((first ++ second) ++ address) ++ mask) bits
+      (All-append (IsFine scope) ((first ++ second) ++ address) mask
+      (All-append (IsFine scope) (first ++ second) address (All-append (IsFine scope) first second (input-fine true ram.wclke) (input-fine false ram.we))
+      (All-cons (IsFine scope) (Assigns sort.Memory (memory_name ram)) (atoms_uses (port_atoms fabric ram.waddr))
+      (record { named = there.named; in_range = tt; known = rw (there.declared) refl; first = unassigned scope.assigned (memory_name ram) away }) (list-fine ram.waddr)))
+      (list-fine ram.mask)) (list-fine ram.wdata)))
+
+-- ---- what they assign
+
+module _ {A : Type 0} (each : Use → List A) where
+  joined-then : (xs ys : List Use) → flat_map each xs ≡ [] → flat_map each (xs ++ ys) ≡ flat_map each ys
+  joined-then xs ys none = flat_map-append each xs ys ∙ ap (λ list. list ++ flat_map each ys) none
+
+  joined-front : (xs ys : List Use) → flat_map each ys ≡ [] → flat_map each (xs ++ ys) ≡ flat_map each xs
+  joined-front xs ys none = flat_map-append each xs ys ∙ (ap (λ list. flat_map each xs ++ list) none ∙ append-nil (flat_map each xs))
+
+  module _ (of_whole : (name : List ℕ) → each (Reads name) ≡ []) (of_bit : (name : List ℕ) (k : ℕ) → each (ReadsBit name k) ≡ []) where
+    two-none : (a b : Atom) → flat_map each (atom_uses a ++ atom_uses b) ≡ []
+    two-none a b = joined-then (atom_uses a) (atom_uses b) (atom-none each of_whole of_bit a) ∙ atom-none each of_whole of_bit b
+
+    -- two atoms, a use, and a list of atoms
+    assigned-then : (a b : Atom) (used : Use) (atoms : List Atom) → flat_map each ((atom_uses a ++ atom_uses b) ++ (used ∷ atoms_uses atoms)) ≡ each used
+    assigned-then a b used atoms =
+        joined-then (atom_uses a ++ atom_uses b) (used ∷ atoms_uses atoms) (two-none a b)
+        ∙ (ap (λ list. each used ++ list) (atoms-none each of_whole of_bit atoms) ∙ append-nil (each used))
+
+    read-then : (a b : Atom) (used memory : Use) (atoms : List Atom) → each memory ≡ [] → flat_map each ((atom_uses a ++ atom_uses b) ++ (used ∷ memory ∷ atoms_uses atoms)) ≡ each used
+    read-then a b used memory atoms none =
+        joined-then (atom_uses a ++ atom_uses b) (used ∷ memory ∷ atoms_uses atoms) (two-none a b)
+        ∙ (ap (λ list. each used ++ list) (ap (λ list. list ++ flat_map each (atoms_uses atoms)) none ∙ atoms-none each of_whole of_bit atoms) ∙ append-nil (each used))
+
+    write-then : (a b : Atom) (used : Use) (address mask bits : List Atom)
+        → flat_map each ((((atom_uses a ++ atom_uses b) ++ (used ∷ atoms_uses address)) ++ atoms_uses mask) ++ atoms_uses bits) ≡ each used
+    write-then a b used address mask bits =
+        joined-front (((atom_uses a ++ atom_uses b) ++ (used ∷ atoms_uses address)) ++ atoms_uses mask) (atoms_uses bits) (atoms-none each of_whole of_bit bits)
+        ∙ (joined-front ((atom_uses a ++ atom_uses b) ++ (used ∷ atoms_uses address)) (atoms_uses mask) (atoms-none each of_whole of_bit mask) ∙ assigned-then a b used address)
+
+module _ (fabric : Fabric) where
+  module _ {A : Type 0} (each : Use → List A) (of_whole : (name : List ℕ) → each (Reads name) ≡ []) (of_bit : (name : List ℕ) (k : ℕ) → each (ReadsBit name k) ≡ []) where
+    -- an enable and a table
+    behind-none : (register : Register) → flat_map each (atom_uses (atom_or_1 fabric register.cen) ++ lut_uses (lut_of fabric register.table)) ≡ []
+    behind-none register =
+        joined-then each (atom_uses (atom_or_1 fabric register.cen)) (lut_uses (lut_of fabric register.table)) (atom-none each of_whole of_bit (atom_or_1 fabric register.cen))
+        ∙ atoms-none each of_whole of_bit (lut_of fabric register.table).ins
+
+    waits-then : (register : Register)
+        → flat_map each ((atom_uses (atom_or_1 fabric register.cen) ++ atom_uses (atom_or_0 fabric register.sr)) ++ (Assigns sort.Register (register_name register) ∷ lut_uses (lut_of fabric register.table)))
+        ≡ each (Assigns sort.Register (register_name register))
+    waits-then register =
+        assigned-then each of_whole of_bit (atom_or_1 fabric register.cen) (atom_or_0 fabric register.sr) (Assigns sort.Register (register_name register)) (lut_of fabric register.table).ins
+
+  register-section : (register : Register) (way : Way) → section_of (item_in fabric register way) ≡ 7
+  register-section register (waits clock) = refl
+  register-section register (acts wire clock) = refl
+  register-section register (sets wire) = refl
+
+  register-declares : (register : Register) (way : Way) → flat_map declared_by (uses_of (item_in fabric register way)) ≡ []
+  register-declares register (waits clock) = waits-then declared_by (λ name. refl) (λ name k. refl) register
+  register-declares register (acts wire clock) = behind-none declared_by (λ name. refl) (λ name k. refl) register
+  register-declares register (sets wire) = refl
+
+  register-reads : (register : Register) (way : Way) → wire_readings (item_in fabric register way) ≡ []
+  register-reads register (waits clock) = refl
+  register-reads register (acts wire clock) = refl
+  register-reads register (sets wire) = refl
+
+  register-assigns : (register : Register) (way : Way) → flat_map assigned_by (uses_of (item_in fabric register way)) ≡ register_name register ∷ []
+  register-assigns register (waits clock) = waits-then assigned_by (λ name. refl) (λ name k. refl) register
+  register-assigns register (acts wire clock) = ap (λ list. register_name register ∷ list) (behind-none assigned_by (λ name. refl) (λ name k. refl) register)
+  register-assigns register (sets wire) = refl
+
+  register-starts : (register : Register) (way : Way) → flat_map started_by (uses_of (item_in fabric register way)) ≡ []
+  register-starts register (waits clock) = waits-then started_by (λ name. refl) (λ name k. refl) register
+  register-starts register (acts wire clock) = behind-none started_by (λ name. refl) (λ name k. refl) register
+  register-starts register (sets wire) = refl
+
+  -- each of these items assigns its register or memory, and nothing else
+  pub register-one : AssignsOne {X = Register × Way} 7 (λ pair. register_name pair.0) (λ pair. item_in fabric pair.0 pair.1)
+  register-one = record {
+    section = λ pair. register-section pair.0 pair.1;
+    declares = λ pair. register-declares pair.0 pair.1;
+    reads = λ pair. register-reads pair.0 pair.1;
+    assigns = λ pair. register-assigns pair.0 pair.1;
+    starts = λ pair. register-starts pair.0 pair.1;
+  }
+
+  pub read-one : AssignsOne {X = RamCell × List ℕ} 8 (λ pair. read_name pair.0) (λ pair. read_item fabric pair.0 pair.1)
+  read-one = record {
+    section = λ pair. refl;
+    declares = λ pair. read-then declared_by (λ name. refl) (λ name k. refl) (atom_or_1 fabric pair.0.rclke) (atom_or_0 fabric pair.0.re) (Assigns sort.Word (read_name pair.0)) (Takes sort.Memory (memory_name pair.0)) (port_atoms fabric pair.0.raddr) refl;
+    reads = λ pair. refl;
+    assigns = λ pair. read-then assigned_by (λ name. refl) (λ name k. refl) (atom_or_1 fabric pair.0.rclke) (atom_or_0 fabric pair.0.re) (Assigns sort.Word (read_name pair.0)) (Takes sort.Memory (memory_name pair.0)) (port_atoms fabric pair.0.raddr) refl;
+    starts = λ pair. read-then started_by (λ name. refl) (λ name k. refl) (atom_or_1 fabric pair.0.rclke) (atom_or_0 fabric pair.0.re) (Assigns sort.Word (read_name pair.0)) (Takes sort.Memory (memory_name pair.0)) (port_atoms fabric pair.0.raddr) refl;
+  }
+
+  pub write-one : AssignsOne {X = RamCell × List ℕ} 9 (λ pair. memory_name pair.0) (λ pair. write_item fabric pair.0 pair.1)
+  write-one = record {
+    section = λ pair. refl;
+    declares = λ pair. write-then declared_by (λ name. refl) (λ name k. refl) (atom_or_1 fabric pair.0.wclke) (atom_or_0 fabric pair.0.we) (Assigns sort.Memory (memory_name pair.0)) (port_atoms fabric pair.0.waddr) (port_atoms fabric pair.0.mask) (port_atoms fabric pair.0.wdata);
+    reads = λ pair. refl;
+    assigns = λ pair. write-then assigned_by (λ name. refl) (λ name k. refl) (atom_or_1 fabric pair.0.wclke) (atom_or_0 fabric pair.0.we) (Assigns sort.Memory (memory_name pair.0)) (port_atoms fabric pair.0.waddr) (port_atoms fabric pair.0.mask) (port_atoms fabric pair.0.wdata);
+    starts = λ pair. write-then started_by (λ name. refl) (λ name k. refl) (atom_or_1 fabric pair.0.wclke) (atom_or_0 fabric pair.0.we) (Assigns sort.Memory (memory_name pair.0)) (port_atoms fabric pair.0.waddr) (port_atoms fabric pair.0.mask) (port_atoms fabric pair.0.wdata);
+  }

@@ -1,0 +1,169 @@
+-- An event is the edge of a clocked item of the module exactly where it is an edge of the fabric's clock.
+use Rattle.std.proofs.Common.{◌≡◌, ◌≢◌, ℕ, zero, suc, ◌+◌, ◌<◌, Bool, true, false, List, [], ◌∷◌, length, map, get_or, set, refl, sym, ap, ◌∙◌, subst, arith, inl, inr, get_or-set_same, get_or-set_other, eq-eqb}
+use Rattle.std.specs.Prelude.{Option, Some, None, filter, bytes_eq, not, ◌&&◌, ◌==◌, if◌then◌else◌}
+use Rattle.std.proofs.lemmas.Bool.{cases_Bool, eqb-true}
+use Rattle.shared_lemmas.proofs.Bytes.{bytes_eq-same}
+use Rattle.plane_map.specs.declared.device.DeviceName.{DeviceName}
+use Rattle.vlog_module.specs.Maps.{value_in}
+use Rattle.vlog_module.specs.declared.modules.Port.{Port}
+use Rattle.vlog_cycle.specs.declared.event.Event.{Event as ModuleEvent}
+use Rattle.vlog_cycle.specs.Named.{names_of}
+use Rattle.vlog_cycle.specs.Numbered.{numbered as counted}
+use Rattle.vlog_cycle.specs.Run.{input_names, pin_of, is_pin, is_edge, is_same_bit}
+use Rattle.net_extract.specs.declared.pin.Pin.{Pin}
+use Rattle.net_extract.specs.Fabric.{Fabric, inputs_of}
+use Rattle.net_extract.proofs.Apart.{apart-filter}
+use Rattle.net_extract.specs.Drivers.{Rule, is_driven}
+use Rattle.net_extract.specs.Drivers.Rule.{pin_bit, constant, input, table_entry, majority_of, register_bit, read_bit, copied}
+use Rattle.net_extract.specs.Values.{bit_in}
+use Rattle.net_extract.specs.Steps.{has_edge, Event, Entry, IsEntry, Follows}
+use Rattle.net_extract.specs.Clocks.{ClockEnd, LeadsTo, turn_by, clock_end}
+use Rattle.net_extract.specs.Clocks.ClockEnd.{at_pin, undriven, logic}
+use Rattle.net_extract.specs.Clocks.Turn.{ends}
+use Rattle.net_extract.specs.Clocks.LeadsTo.{ends_here, goes_on}
+use Rattle.net_extract.specs.Faults.{fabric_fault}
+use Rattle.net_extract.proofs.OneValue.{IsWithin, first-driver, first-is}
+use Rattle.net_extract.proofs.Chains.{turn-still, turn-first, clock_end-leads}
+use Rattle.net_extract.proofs.Taken.{taken-order}
+use Rattle.net_extract.proofs.Runs.{IsPlaced, IsClockEnd, IsClocked, end_bit, clock-bit, clock_bit-is}
+use Rattle.fabric_module.specs.Names.{port_name}
+use Rattle.fabric_module.specs.Rights.{input_name}
+use Rattle.fabric_module.specs.Written.{end_name, clock_name, port_of}
+use Rattle.fabric_module.specs.Matching.{module_event}
+use Rattle.fabric_module.proofs.Lists.{NamesDiffer, Apart, All-pick, map-map}
+use Rattle.fabric_module.proofs.Rights.{IsPlaceIn}
+use Rattle.fabric_module.proofs.Settled.{IsWritable}
+use Rattle.fabric_module.proofs.Beginning.{inputs-start}
+
+-- ---- edges
+
+no-edge : (inverted bit : Bool) → (if inverted then bit && not bit else not bit && bit) ≡ false
+no-edge true true = refl
+no-edge true false = refl
+no-edge false true = refl
+no-edge false false = refl
+
+-- a clock that stays has no edge
+pub edge-none : (inverted : Bool) (clock : Option ℕ) (before after : ℕ → Bool) → ((net : ℕ) → clock ≡ Some net → before net ≡ after net) → has_edge inverted clock before after ≡ false
+edge-none inverted None before after same = refl
+edge-none inverted (Some net) before after same = rw (same net refl) (no-edge inverted (after net))
+
+-- a bit that an event changes
+changed-edge : (inverted bit old : Bool) → is_same_bit bit old ≡ false → (if inverted then old && not bit else not old && bit) ≡ is_edge inverted bit
+changed-edge true true true away = absurd cc
+changed-edge true true false away = refl
+changed-edge true false true away = refl
+changed-edge true false false away = absurd cc
+changed-edge false true true away = absurd cc
+changed-edge false true false away = refl
+changed-edge false false true away = refl
+changed-edge false false false away = absurd cc
+
+-- ---- places of ports
+
+pin-from : {X : Type 0} (name : X → List ℕ) (xs : List X) (from place : ℕ) → Apart name xs → place < length xs
+    → value_in (counted from (map name xs)) (get_or (map name xs) place []) ≡ Some (from + place)
+pin-from name [] from place apart within = absurd (omega arith)
+pin-from name (x ∷ xs) from zero apart within =
+    let same : from ≡ from + 0 = omega arith in
+    rw (bytes_eq-same (name x) (name x) refl) (ap (λ n. Some n) same)
+pin-from name (x ∷ xs) from (suc place) apart within =
+    let same : from + 1 + place ≡ from + suc place = omega arith in
+    rw (All-pick name (λ n. bytes_eq (name x) n ≡ false) xs place apart.0 (omega arith))
+    (pin-from name xs (from + 1) place apart.1 (omega arith) ∙ ap (λ n. Some n) same)
+
+input_names-are : (pins : List Pin) → input_names (map port_of pins) ≡ map port_name (filter (λ pin. not pin.output) pins)
+input_names-are pins = ap names_of (inputs-start pins) ∙ map-map (λ pin. (port_name pin, false)) (λ (entry : List ℕ × Bool). entry.0) (filter (λ pin. not pin.output) pins)
+
+-- the place of an input pin's port
+pub pin-place : (fabric : Fabric) → IsWritable fabric → (place : ℕ) → place < length (inputs_of fabric) → pin_of (map port_of fabric.pins) (input_name fabric place) ≡ Some place
+pin-place fabric writable place there =
+    let zero_more : 0 + place ≡ place = omega arith in
+    ap (λ names. value_in (counted 0 names) (input_name fabric place)) (input_names-are fabric.pins)
+    ∙ (pin-from port_name (inputs_of fabric) 0 place (apart-filter (NamesDiffer port_name) (λ pin. not pin.output) fabric.pins writable.ports) there
+    ∙ ap (λ n. Some n) zero_more)
+
+-- ---- chains end at pins that are there
+
+rule-pin : (rule : Rule) (place : ℕ) → turn_by rule ≡ ends (at_pin place) → rule ≡ pin_bit place
+rule-pin (pin_bit from) place is = cc
+rule-pin (constant bit) place is = absurd cc
+rule-pin (input stated source) place is = absurd cc
+rule-pin (table_entry table) place is = absurd cc
+rule-pin (majority_of a b c) place is = absurd cc
+rule-pin (register_bit from register) place is = absurd cc
+rule-pin (read_bit ram bit) place is = absurd cc
+rule-pin (copied source) place is = absurd cc
+
+pub leads-place : (fabric : Fabric) → IsWritable fabric → {class : ℕ} {end : ClockEnd} → LeadsTo fabric class end → (place : ℕ) → end ≡ at_pin place → place < length (inputs_of fabric)
+leads-place fabric writable {class} (ends_here turn) place at =
+    elim (cases_Bool (is_driven fabric class)) [
+      | inl driven ↦
+          let found = first-driver fabric class driven in
+          let turned : turn_by found.0.rule ≡ ends (at_pin place) =
+          sym (turn-first fabric class found.0 found.1 (first-is fabric class found.0 found.1 found.2)) ∙ (turn ∙ ap ends at) in
+          subst (IsPlaceIn fabric) (rule-pin found.0.rule place turned) (writable.places found.0 found.2.there)
+      | inr away ↦ let never : ends undriven ≡ ends (at_pin place) = sym (turn-still fabric class away) ∙ (turn ∙ ap ends at) in absurd cc
+    ]
+leads-place fabric writable (goes_on net turn rest) place at = leads-place fabric writable rest place at
+
+-- ---- ticks
+
+-- whether an event of the module is the edge of a clock that may be missing
+abbrev pub clock_test : List Port → ModuleEvent → Bool → Option (List ℕ) → Bool
+clock_test ports event falling None = false
+clock_test ports event falling (Some clock) = is_pin event.pin (pin_of ports clock) && is_edge falling event.bit
+
+module _ (device : DeviceName) (fabric : Fabric) (taken : fabric_fault device fabric ≡ None) (placed : IsPlaced device fabric) (within : IsWithin fabric) (writable : IsWritable fabric)
+    (before : Entry) (event : Event) (after : Entry) (of_before : IsEntry fabric before) (follows : Follows fabric before event after)
+    (size : length before.pins ≡ length (inputs_of fabric)) (changes : is_same_bit event.bit (get_or before.pins event.pin false) ≡ false) where
+  bit-before : (net : ℕ) (end : ClockEnd) → clock_end fabric net ≡ end → IsClockEnd end → bit_in before.v net ≡ end_bit before.pins end
+  bit-before net end is good =
+      clock-bit device fabric taken placed within before.state before.pins before.v of_before.consistent net (subst IsClockEnd (sym is) good)
+      ∙ (clock_bit-is fabric before.pins net ∙ ap (end_bit before.pins) is)
+
+  bit-after : (net : ℕ) (end : ClockEnd) → clock_end fabric net ≡ end → IsClockEnd end → bit_in after.v net ≡ end_bit (set before.pins event.pin event.bit) end
+  bit-after net end is good =
+      clock-bit device fabric taken placed within after.state after.pins after.v follows.entry.consistent net (subst IsClockEnd (sym is) good)
+      ∙ (clock_bit-is fabric after.pins net ∙ ap (end_bit after.pins) is ∙ ap (λ pins. end_bit pins end) follows.pins)
+
+  -- a clock at a pin
+  tick-pin : (inverted : Bool) (net place : ℕ) → clock_end fabric net ≡ at_pin place
+      → clock_test (map port_of fabric.pins) (module_event event) inverted (Some (input_name fabric place)) ≡ has_edge inverted (Some net) (bit_in before.v) (bit_in after.v)
+  tick-pin inverted net place is =
+      let order = taken-order device fabric taken within in
+      let there : place < length (inputs_of fabric) = leads-place fabric writable (clock_end-leads fabric within order.it order.is net) place is in
+      let old = bit-before net (at_pin place) is tt in
+      let new = bit-after net (at_pin place) is tt in
+      let found = pin-place fabric writable place there in
+      elim (cases_Bool (place == event.pin)) [
+        | inl here ↦
+            let same : place ≡ event.pin = eqb-true place event.pin here in
+            let inside : event.pin < length before.pins = omega arith in
+            let was : bit_in before.v net ≡ get_or before.pins event.pin false = old ∙ ap (λ n. get_or before.pins n false) same in
+            let becomes : bit_in after.v net ≡ event.bit =
+            new ∙ (ap (λ n. get_or (set before.pins event.pin event.bit) n false) same ∙ get_or-set_same before.pins event.pin event.bit false inside) in
+            rw (found, here, was, becomes) (sym (changed-edge inverted event.bit (get_or before.pins event.pin false) changes))
+        | inr away ↦
+            let ne : place ≢ event.pin = λ same. let never : true ≡ false = sym (eq-eqb place event.pin same) ∙ away in absurd cc in
+            let stays : bit_in before.v net ≡ bit_in after.v net =
+            old ∙ sym (new ∙ get_or-set_other before.pins event.pin place event.bit false ne) in
+            let none : has_edge inverted (Some net) (bit_in before.v) (bit_in after.v) ≡ false = rw stays (no-edge inverted (bit_in after.v net)) in
+            rw (found, away) (sym none)
+      ]
+
+  tick-end : (inverted : Bool) (net : ℕ) (end : ClockEnd) → clock_end fabric net ≡ end → IsClockEnd end
+      → clock_test (map port_of fabric.pins) (module_event event) inverted (end_name fabric end) ≡ has_edge inverted (Some net) (bit_in before.v) (bit_in after.v)
+  tick-end inverted net (at_pin place) is good = tick-pin inverted net place is
+  tick-end inverted net undriven is good =
+      let stays : bit_in before.v net ≡ bit_in after.v net = bit-before net undriven is tt ∙ sym (bit-after net undriven is tt) in
+      let none : has_edge inverted (Some net) (bit_in before.v) (bit_in after.v) ≡ false = rw stays (no-edge inverted (bit_in after.v net)) in
+      sym none
+  tick-end inverted net logic is good = absurd good
+
+  -- the module's clock ticks where the fabric's does
+  pub tick : (inverted : Bool) (clock : Option ℕ) → IsClocked fabric clock
+      → clock_test (map port_of fabric.pins) (module_event event) inverted (clock_name fabric clock) ≡ has_edge inverted clock (bit_in before.v) (bit_in after.v)
+  unfolding clock_name
+  tick inverted None good = refl
+  tick inverted (Some net) good = tick-end inverted net (clock_end fabric net) refl good

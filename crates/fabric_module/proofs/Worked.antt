@@ -1,0 +1,180 @@
+-- The written modules of small fabrics, worked out by hand.
+use Rattle.std.proofs.Common.{◌≡◌, [], ◌∷◌, refl, true, false}
+use Rattle.std.specs.Prelude.{codes, Some, None, replicate}
+use Rattle.std.specs.Fmt.{digits}
+use Rattle.place_search.specs.Places.{any_below, least_below, gathered_below}
+use Rattle.bit_plane.specs.BitList.{word_of}
+use Rattle.vlog_module.specs.declared.atoms.Atom.TheVariants.{Bit, Whole}
+use Rattle.vlog_module.specs.declared.item.Item.TheVariants.{Wire, Assign, Flip, FlipAtOnce, SetAtOnce, Read, Write}
+use Rattle.vlog_module.specs.declared.item.Right.TheVariants.{Whole as RightWhole, Lut as RightLut, Choose}
+use Rattle.net_extract.specs.declared.cell.Lc.{Lc}
+use Rattle.net_extract.specs.declared.ram.RamCell.{RamCell}
+use Rattle.net_extract.specs.declared.pin.Pin.{Pin}
+use Rattle.net_extract.specs.Registers.{register_of}
+use Rattle.net_extract.specs.Fabric.{Fabric, numbered_from}
+use Rattle.net_extract.specs.Joins.{is_joined, class_of}
+use Rattle.net_extract.specs.Drivers.{drives_of, drivers_of, is_driven}
+use Rattle.net_extract.specs.Clocks.{turn_at, end_within, clock_end}
+use Rattle.fabric_module.specs.Names.{two_numbers, three_numbers, port_name, register_name, read_name, memory_name, wire_name}
+use Rattle.fabric_module.specs.Rights.{input_atom, right_of, class_right}
+use Rattle.fabric_module.specs.Written.{clock_name, register_items, write_items, read_items, items_of, module_of}
+
+-- ---- an inverter between two pins
+
+abbrev input_pin : Pin
+input_pin = record { x = 0; y = 1; n = 0; output = false; back = false; din = Some 0; dout = None }
+
+abbrev output_pin : Pin
+output_pin = record { x = 0; y = 2; n = 0; output = true; back = false; din = None; dout = Some 3 }
+
+abbrev inverter : Lc
+inverter = record {
+  x = 1;
+  y = 1;
+  i = 0;
+  lut = 21845;
+  carry = false;
+  flip = false;
+  «set» = false;
+  at_once = false;
+  neg = false;
+  ins = Some 1 ∷ None ∷ None ∷ None ∷ [];
+  out = Some 2;
+  lout = None;
+  cout = None;
+  cin = None;
+  clk = None;
+  cen = None;
+  sr = None;
+}
+
+abbrev inverting : Fabric
+inverting = record {
+  nets = 4;
+  joins = [];
+  buffers = record { line = 0; src = 0; dst = 1 } ∷ record { line = 1; src = 2; dst = 3 } ∷ [];
+  pins = input_pin ∷ output_pin ∷ [];
+  globals = [];
+  lcs = inverter ∷ [];
+  registers = [];
+  sets = [];
+  rams = [];
+  start = [];
+}
+
+inverting_module : module_of inverting (0 ∷ 1 ∷ 2 ∷ 3 ∷ []) (codes "top") ≡ record {
+  name = codes "top";
+  ports = record { name = codes "io_0_1_0"; output = false } ∷ record { name = codes "io_0_2_0"; output = true } ∷ [];
+  items =
+      Wire (codes "n_0") (RightWhole (codes "io_0_1_0"))
+      ∷ Wire (codes "n_1") (RightWhole (codes "n_0"))
+      ∷ Wire (codes "n_2") (RightLut (record { word = 21845; ins = Whole (codes "n_1") ∷ Bit false ∷ Bit false ∷ Bit false ∷ [] }))
+      ∷ Wire (codes "n_3") (RightWhole (codes "n_2"))
+      ∷ Assign (codes "io_0_2_0") (Whole (codes "n_3"))
+      ∷ [];
+}
+unfolding digits any_below least_below gathered_below word_of register_of numbered_from is_joined class_of drives_of drivers_of is_driven turn_at end_within clock_end two_numbers three_numbers port_name register_name read_name memory_name wire_name input_atom right_of class_right clock_name items_of module_of
+inverting_module = refl
+
+-- ---- a toggle at falling edges
+
+abbrev toggle : Lc
+toggle = record inverter { flip = true; neg = true; ins = Some 2 ∷ None ∷ None ∷ None ∷ []; clk = Some 1 }
+
+abbrev toggling : Fabric
+toggling = record inverting { lcs = toggle ∷ []; registers = register_of toggle ∷ [] }
+
+toggle_items : register_items toggling (register_of toggle) ≡
+    Flip true (codes "io_0_1_0") (Bit true) (Bit false) false (codes "ff_1_1_0")
+    (record { word = 21845; ins = Whole (codes "n_2") ∷ Bit false ∷ Bit false ∷ Bit false ∷ [] }) ∷ []
+unfolding digits any_below least_below gathered_below word_of register_of numbered_from is_joined class_of drives_of drivers_of is_driven turn_at end_within clock_end two_numbers three_numbers port_name register_name read_name memory_name wire_name input_atom right_of class_right clock_name items_of module_of
+toggle_items = refl
+
+-- a clock without a driver is written nowhere
+still_items : register_items toggling (register_of (record toggle { clk = Some 9 })) ≡ []
+unfolding digits any_below least_below gathered_below word_of register_of numbered_from is_joined class_of drives_of drivers_of is_driven turn_at end_within clock_end two_numbers three_numbers port_name register_name read_name memory_name wire_name input_atom right_of class_right clock_name items_of module_of
+still_items = refl
+
+-- ---- a toggle whose reset acts at once
+
+abbrev setting : Lc
+setting = record toggle { «set» = true; at_once = true; sr = Some 0 }
+
+abbrev resetting : Fabric
+resetting = record inverting { lcs = setting ∷ []; registers = register_of setting ∷ [] }
+
+setting_items : register_items resetting (register_of setting) ≡
+    FlipAtOnce true (codes "io_0_1_0") (codes "n_0") true (codes "ff_1_1_0") (Bit true)
+    (record { word = 21845; ins = Whole (codes "n_2") ∷ Bit false ∷ Bit false ∷ Bit false ∷ [] }) ∷ []
+unfolding digits any_below least_below gathered_below word_of register_of numbered_from is_joined class_of drives_of drivers_of is_driven turn_at end_within clock_end two_numbers three_numbers port_name register_name read_name memory_name wire_name input_atom right_of class_right clock_name items_of module_of
+setting_items = refl
+
+setting_wires : class_right resetting 2 ≡ Choose (codes "n_0") true (codes "ff_1_1_0")
+unfolding digits any_below least_below gathered_below word_of register_of numbered_from is_joined class_of drives_of drivers_of is_driven turn_at end_within clock_end two_numbers three_numbers port_name register_name read_name memory_name wire_name input_atom right_of class_right clock_name items_of module_of
+setting_wires = refl
+
+-- without a clock it is set alone
+clockless_items : register_items resetting (register_of (record setting { clk = None })) ≡ SetAtOnce (codes "n_0") true (codes "ff_1_1_0") ∷ []
+unfolding digits any_below least_below gathered_below word_of register_of numbered_from is_joined class_of drives_of drivers_of is_driven turn_at end_within clock_end two_numbers three_numbers port_name register_name read_name memory_name wire_name input_atom right_of class_right clock_name items_of module_of
+clockless_items = refl
+
+-- a reset without a driver never acts
+undriven_items : register_items resetting (register_of (record setting { sr = Some 9 })) ≡
+    Flip true (codes "io_0_1_0") (Bit true) (Bit false) true (codes "ff_1_1_0")
+    (record { word = 21845; ins = Whole (codes "n_2") ∷ Bit false ∷ Bit false ∷ Bit false ∷ [] }) ∷ []
+unfolding digits any_below least_below gathered_below word_of register_of numbered_from is_joined class_of drives_of drivers_of is_driven turn_at end_within clock_end two_numbers three_numbers port_name register_name read_name memory_name wire_name input_atom right_of class_right clock_name items_of module_of
+undriven_items = refl
+
+-- ---- a RAM
+
+abbrev ram : RamCell
+ram = record {
+  x = 3;
+  y = 1;
+  wneg = true;
+  rneg = false;
+  rdata = replicate 16 None;
+  wdata = Some 2 ∷ replicate 15 None;
+  mask = replicate 16 None;
+  waddr = replicate 8 None;
+  raddr = Some 2 ∷ replicate 7 None;
+  wclk = Some 1;
+  wclke = None;
+  we = Some 2;
+  rclk = Some 1;
+  rclke = Some 9;
+  re = Some 2;
+}
+
+write : write_items inverting ram ≡
+    Write true (codes "io_0_1_0") (Bit true) (Whole (codes "n_2")) (codes "mem_3_1") (replicate 8 (Bit false)) (replicate 16 (Bit false))
+    (Whole (codes "n_2") ∷ replicate 15 (Bit false)) ∷ []
+unfolding digits any_below least_below gathered_below word_of register_of numbered_from is_joined class_of drives_of drivers_of is_driven turn_at end_within clock_end two_numbers three_numbers port_name register_name read_name memory_name wire_name input_atom right_of class_right clock_name items_of module_of
+write = refl
+
+read : read_items inverting ram ≡
+    Read false (codes "io_0_1_0") (Bit true) (Whole (codes "n_2")) (codes "rd_3_1") (codes "mem_3_1") (Whole (codes "n_2") ∷ replicate 7 (Bit false)) ∷ []
+unfolding digits any_below least_below gathered_below word_of register_of numbered_from is_joined class_of drives_of drivers_of is_driven turn_at end_within clock_end two_numbers three_numbers port_name register_name read_name memory_name wire_name input_atom right_of class_right clock_name items_of module_of
+read = refl
+
+-- ---- names with numbers of several digits
+
+long_port : port_name (record input_pin { x = 33; y = 255; n = 10 }) ≡ codes "io_33_255_10"
+unfolding digits three_numbers port_name
+long_port = refl
+
+long_register : register_name (register_of (record toggle { x = 7; y = 16 })) ≡ codes "ff_7_16_0"
+unfolding digits three_numbers register_of register_name
+long_register = refl
+
+long_read : read_name (record ram { x = 8; y = 17 }) ≡ codes "rd_8_17"
+unfolding digits two_numbers read_name
+long_read = refl
+
+long_memory : memory_name (record ram { x = 8; y = 17 }) ≡ codes "mem_8_17"
+unfolding digits two_numbers memory_name
+long_memory = refl
+
+long_wire : wire_name 4294967295 ≡ codes "n_4294967295"
+unfolding digits wire_name
+long_wire = refl

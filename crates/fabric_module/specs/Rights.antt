@@ -1,0 +1,108 @@
+-- What is written for inputs and for drivers.
+use Rattle.std.specs.Prelude.{ℕ, Bool, true, false, List, [], ◌∷◌, map, get_or, Option, Some, None, if◌then◌else◌}
+use Rattle.vlog_module.specs.declared.atoms.Atom.{Atom}
+use Rattle.vlog_module.specs.declared.atoms.Atom.TheVariants.{Bit, Whole, Part}
+use Rattle.vlog_module.specs.declared.item.Lut.{Lut}
+use Rattle.vlog_module.specs.declared.item.Right.{Right}
+use Rattle.vlog_module.specs.declared.item.Right.TheVariants.{Bit as RightBit, Whole as RightWhole, Part as RightPart, Lut as RightLut, Majority, Choose}
+use Rattle.net_extract.specs.declared.register.Source.{Source}
+use Rattle.net_extract.specs.declared.register.Source.TheVariants.{Net, Pin as SourcePin}
+use Rattle.net_extract.specs.declared.register.Table.{Table}
+use Rattle.net_extract.specs.declared.register.Register.{Register}
+use Rattle.net_extract.specs.Joins.{class_of}
+use Rattle.net_extract.specs.Fabric.{Fabric, inputs_of}
+use Rattle.net_extract.specs.Drivers.{Rule, Drive, drivers_of}
+use Rattle.net_extract.specs.Drivers.Rule.{pin_bit, constant, input, table_entry, majority_of, register_bit, read_bit, copied}
+use Rattle.net_extract.specs.Values.{is_connected}
+use Rattle.fabric_module.specs.Names.{port_name, register_name, read_name, wire_name}
+
+-- ---- atoms
+
+-- an input that isn't connected has its stated value; any other reads the wire of its class
+unfoldable pub input_atom : Fabric → Bool → Option ℕ → Atom
+input_atom fabric stated None = Bit stated
+input_atom fabric stated (Some net) = if is_connected fabric net then Whole (wire_name (class_of fabric.joins net)) else Bit stated
+
+-- an input that is 0 where it isn't connected
+abbrev pub atom_or_0 : Fabric → Option ℕ → Atom
+atom_or_0 fabric net = input_atom fabric false net
+
+-- an input that is 1 where it isn't connected
+abbrev pub atom_or_1 : Fabric → Option ℕ → Atom
+atom_or_1 fabric net = input_atom fabric true net
+
+-- the inputs of a list of ports, the lowest first
+abbrev pub port_atoms : Fabric → List (Option ℕ) → List Atom
+port_atoms fabric ports = map (atom_or_0 fabric) ports
+
+-- ---- names by their places
+
+-- the port of the input pin at a place
+abbrev pub input_name : Fabric → ℕ → List ℕ
+input_name fabric place = get_or (map port_name (inputs_of fabric)) place []
+
+-- the read register of the RAM at a place
+abbrev pub read_at : Fabric → ℕ → List ℕ
+read_at fabric place = get_or (map read_name fabric.rams) place []
+
+-- ---- tables
+
+-- what an input of a table reads: a net, or an input pin
+abbrev pub source_atom : Fabric → Source → Atom
+source_atom fabric (Net net) = atom_or_0 fabric net
+source_atom fabric (SourcePin place) = Whole (input_name fabric place)
+
+-- input k of a table
+abbrev pub table_atom : Fabric → Table → ℕ → Atom
+table_atom fabric table k = source_atom fabric (get_or table.ins k (Net None))
+
+-- a table with its four inputs, in_0 first
+abbrev pub lut_of : Fabric → Table → Lut
+lut_of fabric table = record {
+  word = table.word;
+  ins = table_atom fabric table 0 ∷ table_atom fabric table 1 ∷ table_atom fabric table 2 ∷ table_atom fabric table 3 ∷ [];
+}
+
+-- ---- resets that act at once
+
+-- the wire of a net that may be missing, where it is driven
+abbrev pub driven_wire : Fabric → Option ℕ → Option (List ℕ)
+driven_wire fabric None = None
+driven_wire fabric (Some net) = if is_connected fabric net then Some (wire_name (class_of fabric.joins net)) else None
+
+-- the wire that sets a register at once; a reset that waits for the clock, or isn't connected, has none
+abbrev pub setting_wire : Fabric → Register → Option (List ℕ)
+setting_wire fabric register = if register.at_once then driven_wire fabric register.sr else None
+
+-- the value of a register that a wire may set at once
+abbrev pub register_right : Register → Option (List ℕ) → Right
+register_right register (Some wire) = Choose wire register.«set» (register_name register)
+register_right register None = RightWhole (register_name register)
+
+-- ---- right sides
+
+-- an atom alone
+abbrev pub right_alone : Atom → Right
+right_alone (Bit bit) = RightBit bit
+right_alone (Whole name) = RightWhole name
+right_alone (Part name k) = RightPart name k
+
+-- the right side that has a driver's value
+unfoldable pub right_of : Fabric → Rule → Right
+right_of fabric (pin_bit place) = RightWhole (input_name fabric place)
+right_of fabric (constant bit) = RightBit bit
+right_of fabric (input stated net) = right_alone (input_atom fabric stated net)
+right_of fabric (table_entry table) = RightLut (lut_of fabric table)
+right_of fabric (majority_of a b c) = Majority (atom_or_0 fabric a) (atom_or_0 fabric b) (atom_or_0 fabric c)
+right_of fabric (register_bit place register) = register_right register (setting_wire fabric register)
+right_of fabric (read_bit ram bit) = RightPart (read_at fabric ram) bit
+right_of fabric (copied net) = right_alone (atom_or_0 fabric (Some net))
+
+-- the right side by the drivers of a class; a class that is written has one
+abbrev pub right_by : Fabric → List Drive → Right
+right_by fabric [] = RightBit false
+right_by fabric (drive ∷ drives) = right_of fabric drive.rule
+
+-- the right side of the wire of a class
+unfoldable pub class_right : Fabric → ℕ → Right
+class_right fabric class = right_by fabric (drivers_of fabric class)

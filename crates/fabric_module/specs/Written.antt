@@ -1,0 +1,126 @@
+-- The module that is written for a fabric.
+use Rattle.std.specs.Prelude.{ℕ, Bool, false, List, [], ◌∷◌, ◌++◌, map, flat_map, get_or, Option, Some, None}
+use Rattle.bit_plane.specs.BitList.{word_of}
+use Rattle.vlog_module.specs.Parts.{Parts}
+use Rattle.vlog_module.specs.declared.item.Item.{Item}
+use Rattle.vlog_module.specs.declared.item.Item.TheVariants.{Register as RegisterItem, Word, Memory, Wire, Assign, Flip, FlipAtOnce, SetAtOnce, Read, Write, Start}
+use Rattle.vlog_module.specs.declared.modules.Port.{Port}
+use Rattle.net_extract.specs.declared.register.Register.{Register}
+use Rattle.net_extract.specs.declared.ram.RamCell.{RamCell}
+use Rattle.net_extract.specs.declared.pin.Pin.{Pin}
+use Rattle.net_extract.specs.Tiles.{each_below}
+use Rattle.net_extract.specs.Fabric.{Fabric, numbered, outputs_of}
+use Rattle.net_extract.specs.Clocks.{ClockEnd, clock_end}
+use Rattle.net_extract.specs.Clocks.ClockEnd.{at_pin, undriven, logic}
+use Rattle.fabric_module.specs.Names.{port_name, register_name, read_name, memory_name, wire_name}
+use Rattle.fabric_module.specs.Rights.{atom_or_0, atom_or_1, port_atoms, lut_of, input_name, setting_wire, class_right}
+
+-- ---- clocks
+
+-- the port of the pin at which a chain ends
+abbrev pub end_name : Fabric → ClockEnd → Option (List ℕ)
+end_name fabric (at_pin place) = Some (input_name fabric place)
+end_name fabric undriven = None
+end_name fabric logic = None
+
+-- the port that is the clock of a net; a clock that is no pin has none
+unfoldable pub clock_name : Fabric → Option ℕ → Option (List ℕ)
+clock_name fabric None = None
+clock_name fabric (Some net) = end_name fabric (clock_end fabric net)
+
+-- an item with that clock, where there is one
+abbrev pub clocked : Option (List ℕ) → (List ℕ → Item) → List Item
+clocked None item = []
+clocked (Some clock) item = item clock ∷ []
+
+-- ---- items
+
+abbrev pub port_of : Pin → Port
+port_of pin = record { name = port_name pin; output = pin.output }
+
+-- a register, which starts at 0
+abbrev pub register_item : Register → Item
+register_item register = RegisterItem (register_name register) false
+
+-- the read register of a RAM, which starts at 0
+abbrev pub read_register : RamCell → Item
+read_register ram = Word (read_name ram) 0
+
+abbrev pub ram_memory : RamCell → Item
+ram_memory ram = Memory (memory_name ram)
+
+-- the wire of a class
+abbrev pub class_wire : Fabric → ℕ → Item
+class_wire fabric class = Wire (wire_name class) (class_right fabric class)
+
+-- an output has the value of `io_n/D_OUT_0`
+abbrev pub output_assign : Fabric → Pin → Item
+output_assign fabric pin = Assign (port_name pin) (atom_or_0 fabric pin.dout)
+
+-- a register whose reset waits for the clock: by its enable, its reset and its table
+abbrev pub flip_item : Fabric → Register → List ℕ → Item
+flip_item fabric register clock =
+    Flip register.neg clock (atom_or_1 fabric register.cen) (atom_or_0 fabric register.sr) register.«set» (register_name register)
+    (lut_of fabric register.table)
+
+-- a register that a wire sets at once, by its clock
+abbrev pub at_once_item : Fabric → Register → List ℕ → List ℕ → Item
+at_once_item fabric register wire clock =
+    FlipAtOnce register.neg clock wire register.«set» (register_name register) (atom_or_1 fabric register.cen) (lut_of fabric register.table)
+
+-- what a register is written as, by the wire that sets it at once and by its clock, each of which may be missing
+abbrev pub items_by : Fabric → Register → Option (List ℕ) → Option (List ℕ) → List Item
+items_by fabric register (Some wire) (Some clock) = at_once_item fabric register wire clock ∷ []
+items_by fabric register (Some wire) None = SetAtOnce wire register.«set» (register_name register) ∷ []
+items_by fabric register None (Some clock) = flip_item fabric register clock ∷ []
+items_by fabric register None None = []
+
+abbrev pub register_items : Fabric → Register → List Item
+register_items fabric register = items_by fabric register (setting_wire fabric register) (clock_name fabric register.clk)
+
+-- the read port of a RAM
+abbrev pub read_item : Fabric → RamCell → List ℕ → Item
+read_item fabric ram clock =
+    Read ram.rneg clock (atom_or_1 fabric ram.rclke) (atom_or_0 fabric ram.re) (read_name ram) (memory_name ram) (port_atoms fabric ram.raddr)
+
+abbrev pub read_items : Fabric → RamCell → List Item
+read_items fabric ram = clocked (clock_name fabric ram.rclk) (read_item fabric ram)
+
+-- the write port of a RAM
+abbrev pub write_item : Fabric → RamCell → List ℕ → Item
+write_item fabric ram clock =
+    Write ram.wneg clock (atom_or_1 fabric ram.wclke) (atom_or_0 fabric ram.we) (memory_name ram) (port_atoms fabric ram.waddr)
+    (port_atoms fabric ram.mask) (port_atoms fabric ram.wdata)
+
+abbrev pub write_items : Fabric → RamCell → List Item
+write_items fabric ram = clocked (clock_name fabric ram.wclk) (write_item fabric ram)
+
+-- one of the 256 start words of a RAM
+abbrev pub start_item : RamCell → List (List Bool) → ℕ → Item
+start_item ram words k = Start (memory_name ram) k (word_of (get_or words k []))
+
+abbrev pub start_items : Fabric → ℕ × RamCell → List Item
+start_items fabric place = each_below 256 (start_item place.1 (get_or fabric.start place.0 []))
+
+-- ---- the module
+
+-- the items: state, wires in the order of their classes, outputs, what clocks change, and start words
+unfoldable pub items_of : Fabric → List ℕ → List Item
+items_of fabric order =
+    map register_item fabric.registers
+    ++ (map read_register fabric.rams
+    ++ (map ram_memory fabric.rams
+    ++ (map (class_wire fabric) order
+    ++ (map (output_assign fabric) (outputs_of fabric)
+    ++ (flat_map (register_items fabric) fabric.registers
+    ++ (flat_map (read_items fabric) fabric.rams
+    ++ (flat_map (write_items fabric) fabric.rams
+    ++ flat_map (start_items fabric) (numbered fabric.rams))))))))
+
+-- the module of a fabric, with its classes in an order and with a name
+unfoldable pub module_of : Fabric → List ℕ → List ℕ → Parts
+module_of fabric order name = record {
+  name = name;
+  ports = map port_of fabric.pins;
+  items = items_of fabric order;
+}

@@ -1,0 +1,54 @@
+-- Lists over io tiles.
+use Rattle.std.proofs.Common.{◌≡◌, List, ap, sym, ◌∙◌}
+use Rattle.std.specs.Prelude.{Option, Some}
+use Rattle.std.specs.List.{flat_map}
+use Rattle.place_search.specs.Places.{gathered_below, or_else}
+use Rattle.plane_map.specs.declared.tile.TileKind.TheVariants.{Io}
+use Rattle.ice_image.specs.Configuration.{Configuration}
+use Rattle.chipdb_reader.specs.Database.{Database}
+use Rattle.chipdb_reader.specs.declared.items.TileXy8.{TileXy8}
+use Rattle.net_extract.specs.declared.pin.Pin.{Pin}
+use Rattle.net_extract.specs.Pins.{pins_of, port_at}
+use Rattle.net_extract.specs.Faults.{Fault, pins_fault, pll_faults, pin_faults}
+use Rattle.net_extract.specs.Tiles.{first_of}
+use Rattle.net_extract.specs.TilesOfKind.{tiles_of}
+use Rattle.net_extract.proofs.InOrder.{over_tiles-listed}
+use Rattle.fabric_parts.specs.PinFaults.{pll_at, pin_faults_in}
+
+pub pins_listed : (db : Database) (image : Configuration) (tiles : List TileXy8) → tiles ≡ tiles_of image.layout.device Io
+    → flat_map (λ (tile : TileXy8). gathered_below 2 (port_at db image tile.x tile.y)) tiles ≡ pins_of db image
+unfolding pins_of
+pins_listed db image tiles all =
+    let given : TileXy8 → List Pin = λ tile. gathered_below 2 (port_at db image tile.x tile.y) in
+    ap (flat_map given) all ∙ sym (over_tiles-listed image.layout.device Io (λ x y. gathered_below 2 (port_at db image x y)))
+
+plls_listed : (db : Database) (image : Configuration) (tiles : List TileXy8) → tiles ≡ tiles_of image.layout.device Io
+    → pll_faults db image ≡ flat_map (λ (tile : TileXy8). pll_at db image tile.x tile.y) tiles
+unfolding pll_faults
+plls_listed db image tiles all =
+    let given : TileXy8 → List Fault = λ tile. pll_at db image tile.x tile.y in
+    over_tiles-listed image.layout.device Io (pll_at db image) ∙ ap (flat_map given) (sym all)
+
+refused_listed : (db : Database) (image : Configuration) (tiles : List TileXy8) → tiles ≡ tiles_of image.layout.device Io
+    → pin_faults db image ≡ flat_map (λ (tile : TileXy8). pin_faults_in db image tile.x tile.y) tiles
+unfolding pin_faults
+refused_listed db image tiles all =
+    let given : TileXy8 → List Fault = λ tile. pin_faults_in db image tile.x tile.y in
+    over_tiles-listed image.layout.device Io (pin_faults_in db image) ∙ ap (flat_map given) (sym all)
+
+-- the first PLL goes before the first pin
+pub fault_listed : (db : Database) (image : Configuration) (tiles : List TileXy8) (pll pin : Option Fault) → tiles ≡ tiles_of image.layout.device Io
+    → first_of (flat_map (λ (tile : TileXy8). pll_at db image tile.x tile.y) tiles) ≡ pll
+    → first_of (flat_map (λ (tile : TileXy8). pin_faults_in db image tile.x tile.y) tiles) ≡ pin
+    → pins_fault db image ≡ or_else pll pin
+unfolding pins_fault
+fault_listed db image tiles pll pin all pll_is pin_is =
+    ap (λ first. or_else first (first_of (pin_faults db image))) (ap first_of (plls_listed db image tiles all) ∙ pll_is)
+    ∙ ap (or_else pll) (ap first_of (refused_listed db image tiles all) ∙ pin_is)
+
+pub pll_listed : (db : Database) (image : Configuration) (tiles : List TileXy8) (fault : Fault) → tiles ≡ tiles_of image.layout.device Io
+    → first_of (flat_map (λ (tile : TileXy8). pll_at db image tile.x tile.y) tiles) ≡ Some fault
+    → pins_fault db image ≡ Some fault
+unfolding pins_fault
+pll_listed db image tiles fault all is =
+    ap (λ first. or_else first (first_of (pin_faults db image))) (ap first_of (plls_listed db image tiles all) ∙ is)

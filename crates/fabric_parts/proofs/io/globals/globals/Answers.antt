@@ -1,0 +1,20 @@
+use Rattle.std.proofs.Common.{◌≡◌, arith, ap, ◌∙◌}
+use Rattle.place_search.specs.Places.{gathered_below}
+use Rattle.ice_image.specs.Either.{configuration_of}
+use Rattle.chipdb_reader.specs.Kept.{database_in}
+use Rattle.net_extract.specs.Pins.{globals_of, nets_from, global_source}
+use Rattle.net_extract.proofs.InOrder.{grown_alone-more}
+use Rattle.fabric_parts.proofs.io.globals.globals.Goals as goal
+
+pub loop-g-init : goal.loop-g-init
+unfolding gathered_below
+loop-g-init c = c.new-globals.ensures.items
+
+pub loop-g-preserved : goal.loop-g-preserved
+loop-g-preserved c = grown_alone-more _ _ _ _ c.loop-g.invariant c.in_ok-append_global.ensures
+
+pub returns : goal.returns
+unfolding globals_of
+returns c =
+    let all : c.loop-g.g ≡ 8 = omega arith in
+    c.loop-g.invariant ∙ ap (λ n. gathered_below n (λ g. nets_from (database_in c.args.db.now) g (global_source (database_in c.args.db.now) (configuration_of c.args.image.now) g))) all

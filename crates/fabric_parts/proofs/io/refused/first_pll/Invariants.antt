@@ -1,0 +1,10 @@
+use Rattle.std.proofs.Common.{◌≡◌, [], take}
+use Rattle.std.specs.List.{flat_map}
+use Rattle.ice_image.specs.Either.{configuration_of}
+use Rattle.chipdb_reader.specs.Kept.{database_in}
+use Rattle.chipdb_reader.specs.declared.items.TileXy8.{TileXy8}
+use Rattle.fabric_parts.specs.PinFaults.{pll_at}
+use Rattle.fabric_parts.proofs.io.refused.first_pll.Given as goal
+
+abbrev pub invariant-loop-tile : goal.invariant-loop-tile
+invariant-loop-tile l = flat_map (λ (tile : TileXy8). pll_at (database_in l.db) (configuration_of l.image) tile.x tile.y) (take l.tile-index l.tiles) ≡ []

@@ -1,0 +1,6 @@
+use Rattle.net_extract.specs.Cells.{cell_with}
+use Rattle.fabric_parts.proofs.logic.cell.cell.Goals as goal
+
+pub returns : goal.returns
+unfolding cell_with
+returns c = cc

@@ -1,0 +1,6 @@
+use Rattle.net_extract.specs.Rams.{ram_at}
+use Rattle.fabric_parts.proofs.ram.ram.ram.Goals as goal
+
+pub returns : goal.returns
+unfolding ram_at
+returns c = cc

@@ -1,0 +1,4 @@
+pub mod Globals
+pub mod PinFaults
+pub mod Rams
+pub mod RamFaults

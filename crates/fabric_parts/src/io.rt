@@ -1,0 +1,8 @@
+// Pins and global nets.
+
+pub(crate) mod fault;
+pub(crate) mod gather;
+pub(crate) mod globals;
+pub(crate) mod pin;
+pub(crate) mod pintype;
+pub(crate) mod refused;

@@ -1,0 +1,141 @@
+// All pins of an image.
+ghost use Rattle.std.specs.Prelude.{◌≡◌, ◌++◌, All, IfOk, IfErr, OnOk, None};
+ghost use Rattle.std.specs.List.{flat_map};
+ghost use Rattle.plane_map.specs.declared.tile.TileKind.TheVariants.{Io};
+ghost use Rattle.place_search.specs.Places.{gathered_below};
+ghost use Rattle.ice_image.specs.Either.{configuration_of};
+ghost use Rattle.chipdb_reader.specs.Kept.{database_in};
+ghost use Rattle.net_extract.specs.Pins.{pins_of, globals_of, port_at};
+ghost use Rattle.net_extract.specs.Faults.{pins_fault};
+ghost use Rattle.net_extract.specs.Links.{AreLinks};
+ghost use Rattle.net_extract.specs.TilesOfKind.{HasTile, tiles_of};
+ghost use Rattle.net_extract.specs.BelongTogether.{BelongTogether};
+ghost use Rattle.fabric_parts.specs.PinFaults.{IsCause};
+
+use crate::io::fault::PinFault;
+use crate::io::globals::globals;
+use crate::io::pin::{PinSet, pin};
+use crate::io::pintype::{is_port, pintype};
+use crate::io::refused::{first_pll, first_refused};
+use chipdb_reader::{ChipDb, TileXy8};
+use ice_image::AnyImage;
+use net_extract::{Links, Pin, tiles_of_image};
+use plane_map::TileKind;
+use std::alloc::{AllocError, Global};
+
+/// Finds the pins of an image that are ports, and its global nets.
+///
+/// The database and the image are of one device, and the links are those that the image sets.
+pub fn pins(alloc: Global, db: &ChipDb, image: &AnyImage, links: &Links) -> Result<PinSet, PinFault>
+    requires device { db.now.chip.device ≡ (configuration_of image.now).layout.device }
+    requires links { AreLinks (database_in db.now) (configuration_of image.now) links.now }
+    ensures pins { IfOk result (λ set. set.pins.items ≡ pins_of (database_in db.now) (configuration_of image.now)) }
+    ensures globals { IfOk result (λ set. set.globals.items ≡ globals_of (database_in db.now) (configuration_of image.now)) }
+    ensures taken { OnOk result (pins_fault (database_in db.now) (configuration_of image.now) ≡ None) }
+    ensures refused { IfErr result (IsCause (pins_fault (database_in db.now) (configuration_of image.now))) }
+{
+    prove!(db.device() == image.device());
+    let tiles = tiles_of_image(alloc, image, TileKind::Io)?;
+    pins_in(alloc, db, image, links, &tiles)
+}
+
+/// Finds the pins in the io tiles of the image.
+fn pins_in(
+    alloc: Global,
+    db: &ChipDb,
+    image: &AnyImage,
+    links: &Links,
+    tiles: &[TileXy8],
+) -> Result<PinSet, PinFault>
+    requires together { BelongTogether db.now image.now links.now }
+    requires all { tiles.now ≡ tiles_of (configuration_of image.now).layout.device Io }
+    requires each { All (λ tile. HasTile image.now Io tile.x tile.y) tiles.now }
+    ensures pins { IfOk result (λ set. set.pins.items ≡ pins_of (database_in db.now) (configuration_of image.now)) }
+    ensures globals { IfOk result (λ set. set.globals.items ≡ globals_of (database_in db.now) (configuration_of image.now)) }
+    ensures taken { OnOk result (pins_fault (database_in db.now) (configuration_of image.now) ≡ None) }
+    ensures refused { IfErr result (IsCause (pins_fault (database_in db.now) (configuration_of image.now))) }
+{
+    taken(db, image, links, tiles)?;
+    Ok(PinSet {
+        pins: ports(alloc, db, image, tiles)?,
+        globals: globals(alloc, db, image)?,
+    })
+}
+
+/// Whether all tiles and pins are taken, or the first cause why they aren't.
+fn taken(db: &ChipDb, image: &AnyImage, links: &Links, tiles: &[TileXy8]) -> Result<(), PinFault>
+    requires together { BelongTogether db.now image.now links.now }
+    requires all { tiles.now ≡ tiles_of (configuration_of image.now).layout.device Io }
+    requires each { All (λ tile. HasTile image.now Io tile.x tile.y) tiles.now }
+    ensures taken { OnOk result (pins_fault (database_in db.now) (configuration_of image.now) ≡ None) }
+    ensures refused { IfErr result (IsCause (pins_fault (database_in db.now) (configuration_of image.now))) }
+{
+    match first_pll(db, image, tiles) {
+        Some(tile) => Err(PinFault::Pll {
+            x: tile.x,
+            y: tile.y,
+        }),
+        None => match first_refused(db, image, links, tiles) {
+            Some(pin) => Err(PinFault::PinMode {
+                x: pin.x,
+                y: pin.y,
+                pio: pin.n,
+                pintype: pin.pintype,
+            }),
+            None => Ok(()),
+        },
+    }
+}
+
+/// The pins of tiles that are ports.
+fn ports(
+    alloc: Global,
+    db: &ChipDb,
+    image: &AnyImage,
+    tiles: &[TileXy8],
+) -> Result<Vec<Pin>, AllocError>
+    requires { All (λ tile. HasTile image.now Io tile.x tile.y) tiles.now }
+    ensures { IfOk result (λ pins. pins.items ≡ flat_map (λ tile. gathered_below 2 (port_at (database_in db.now) (configuration_of image.now) tile.x tile.y)) tiles.now) }
+{
+    let mut pins = Vec::new(alloc);
+    for tile in tiles {
+        append_ports(&mut pins, db, image, tile.x, tile.y)?;
+    }
+    Ok(pins)
+}
+
+/// Appends the pins of a tile that are ports.
+fn append_ports(
+    pins: &mut Vec<Pin>,
+    db: &ChipDb,
+    image: &AnyImage,
+    x: u8,
+    y: u8,
+) -> Result<(), AllocError>
+    requires { HasTile image.now Io x y }
+    ensures { OnOk result (pins.new.items ≡ pins.old.items ++ gathered_below 2 (port_at (database_in db.now) (configuration_of image.now) x y)) }
+{
+    for n in 0..2 {
+        append_port(pins, db, image, x, y, n)?;
+    }
+    Ok(())
+}
+
+/// Appends a pin where it is a port.
+fn append_port(
+    pins: &mut Vec<Pin>,
+    db: &ChipDb,
+    image: &AnyImage,
+    x: u8,
+    y: u8,
+    n: u8,
+) -> Result<(), AllocError>
+    requires { HasTile image.now Io x y }
+    ensures { OnOk result (pins.new.items ≡ pins.old.items ++ port_at (database_in db.now) (configuration_of image.now) x y n) }
+{
+    let pintype = pintype(db, image, x, y, n);
+    if is_port(pintype) {
+        pins.push(pin(db, x, y, n, pintype))?;
+    }
+    Ok(())
+}

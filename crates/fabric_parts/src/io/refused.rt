@@ -1,0 +1,158 @@
+// Pins and tiles that aren't taken.
+ghost use Rattle.std.specs.Prelude.{◌≡◌, ◌≤◌, ◌||◌, ◌&&◌, not, codes, length, All};
+ghost use Rattle.std.specs.List.{flat_map};
+ghost use Rattle.plane_map.specs.declared.tile.TileKind.TheVariants.{Io};
+ghost use Rattle.ice_image.specs.Either.{configuration_of};
+ghost use Rattle.chipdb_reader.specs.Kept.{database_in};
+ghost use Rattle.net_extract.specs.Pins.{has_no_output, has_plain_output, has_plain_input, is_input_pin, is_port, io_net, is_global_pad, is_pin_at, is_refused_with};
+ghost use Rattle.net_extract.specs.On.{is_function_on};
+ghost use Rattle.chipdb_reader.specs.Fit.{IsFit};
+ghost use Rattle.net_extract.specs.Tiles.{first_of};
+ghost use Rattle.net_extract.specs.TilesOfKind.{HasTile};
+ghost use Rattle.net_extract.specs.BelongTogether.{BelongTogether, is_some_read_in};
+ghost use Rattle.fabric_parts.specs.Globals.{AreOneDevice};
+ghost use Rattle.fabric_parts.specs.PinFaults.{pll_at, pin_faults_in, pll_fault, pin_fault};
+
+use crate::io::globals::global_pad;
+use crate::io::pin::io_net;
+use crate::io::pintype::{
+    has_no_output, has_plain_input, has_plain_output, is_input_pin, is_port, pintype,
+};
+use chipdb_reader::{ChipDb, PinXy, TileXy8};
+use ice_image::AnyImage;
+use net_extract::{Links, is_any_on, is_on, is_some_read};
+use plane_map::TileKind;
+
+/// Pin `n` of the tile at (x, y), and its type.
+#[derive(Clone, Copy)]
+pub(crate) struct TypedPin {
+    pub(crate) x: u8,
+    pub(crate) y: u8,
+    pub(crate) n: u8,
+    pub(crate) pintype: u8,
+}
+
+/// The first tile with a PLL that is on.
+pub(crate) fn first_pll(db: &ChipDb, image: &AnyImage, tiles: &[TileXy8]) -> Option<TileXy8>
+    requires { All (λ tile. HasTile image.now Io tile.x tile.y) tiles.now }
+    ensures { first_of (flat_map (λ tile. pll_at (database_in db.now) (configuration_of image.now) tile.x tile.y) tiles.now) ≡ pll_fault result }
+{
+    for tile in tiles {
+        if is_any_on(db, image, TileKind::Io, tile.x, tile.y, b"PLL.") {
+            return Some(*tile);
+        }
+    }
+    None
+}
+
+/// The first pin of tiles that isn't taken.
+pub(crate) fn first_refused(
+    db: &ChipDb,
+    image: &AnyImage,
+    links: &Links,
+    tiles: &[TileXy8],
+) -> Option<TypedPin>
+    requires together { BelongTogether db.now image.now links.now }
+    requires each { All (λ tile. HasTile image.now Io tile.x tile.y) tiles.now }
+    ensures { first_of (flat_map (λ tile. pin_faults_in (database_in db.now) (configuration_of image.now) tile.x tile.y) tiles.now) ≡ pin_fault result }
+{
+    for tile in tiles {
+        if let Some(pin) = refused_in(db, image, links, tile.x, tile.y) {
+            return Some(pin);
+        }
+    }
+    None
+}
+
+/// The first pin of a tile that isn't taken.
+fn refused_in(db: &ChipDb, image: &AnyImage, links: &Links, x: u8, y: u8) -> Option<TypedPin>
+    requires together { BelongTogether db.now image.now links.now }
+    requires tile { HasTile image.now Io x y }
+    ensures { first_of (pin_faults_in (database_in db.now) (configuration_of image.now) x y) ≡ pin_fault result }
+{
+    for n in 0..2 {
+        let pintype = pintype(db, image, x, y, n);
+        if is_refused(db, image, links, TypedPin { x, y, n, pintype }) {
+            return Some(TypedPin { x, y, n, pintype });
+        }
+    }
+    None
+}
+
+/// Whether a pin isn't taken.
+fn is_refused(db: &ChipDb, image: &AnyImage, links: &Links, pin: TypedPin) -> bool
+    requires together { BelongTogether db.now image.now links.now }
+    requires tile { HasTile image.now Io pin.x pin.y }
+    ensures { result ≡ is_refused_with (database_in db.now) (configuration_of image.now) pin.x pin.y pin.n pin.pintype }
+{
+    has_other_output(pin.pintype)
+        || has_read_input(db, links, pin)
+        || is_net_read(db, links, pin, b"/D_IN_1")
+        || is_odd_pad(db, image, pin)
+        || is_differential(db, image, pin)
+}
+
+/// Whether a type has another output than a plain one.
+fn has_other_output(pintype: u8) -> bool
+    ensures { result ≡ not (has_no_output pintype || has_plain_output pintype) }
+{
+    !(has_no_output(pintype) || has_plain_output(pintype))
+}
+
+/// Whether the input is read and isn't a plain one.
+fn has_read_input(db: &ChipDb, links: &Links, pin: TypedPin) -> bool
+    requires fit { IsFit (database_in db.now) }
+    requires nets { length links.now.classes ≡ db.now.chip.nets }
+    ensures { result ≡ (not (has_plain_input pin.pintype) && is_some_read_in links.now (io_net (database_in db.now) pin.x pin.y pin.n (codes "/D_IN_0"))) }
+{
+    !has_plain_input(pin.pintype) && is_net_read(db, links, pin, b"/D_IN_0")
+}
+
+/// Whether the net of a port of a pin is read.
+fn is_net_read(db: &ChipDb, links: &Links, pin: TypedPin, port: &[u8]) -> bool
+    requires fit { IsFit (database_in db.now) }
+    requires nets { length links.now.classes ≡ db.now.chip.nets }
+    requires short { length port.now ≤ 20 }
+    ensures { result ≡ is_some_read_in links.now (io_net (database_in db.now) pin.x pin.y pin.n port.now) }
+{
+    is_some_read(links, io_net(db, pin.x, pin.y, pin.n, port))
+}
+
+/// Whether a pin is the pad of a global that its pad drives, and isn't an input pin.
+fn is_odd_pad(db: &ChipDb, image: &AnyImage, pin: TypedPin) -> bool
+    requires { AreOneDevice db.now image.now }
+    ensures { result ≡ (is_global_pad (database_in db.now) (configuration_of image.now) pin.x pin.y pin.n && not (is_input_pin pin.pintype)) }
+{
+    is_global_pad(db, image, pin.x, pin.y, pin.n) && !is_input_pin(pin.pintype)
+}
+
+/// Whether a pin is the pad of a global that its pad drives.
+fn is_global_pad(db: &ChipDb, image: &AnyImage, x: u8, y: u8, n: u8) -> bool
+    requires { AreOneDevice db.now image.now }
+    ensures { result ≡ is_global_pad (database_in db.now) (configuration_of image.now) x y n }
+{
+    for g in 0..8 {
+        if is_pin_at(x, y, n, global_pad(db, image, g)) {
+            return true;
+        }
+    }
+    false
+}
+
+/// Whether a pin is a pad.
+fn is_pin_at(x: u8, y: u8, n: u8, pad: Option<PinXy>) -> bool
+    ensures { result ≡ is_pin_at x y n pad }
+{
+    match pad {
+        None => false,
+        Some(pad) => pad.x == x && (pad.y == y && pad.n == n),
+    }
+}
+
+/// Whether a pin is a port in a tile with differential inputs.
+fn is_differential(db: &ChipDb, image: &AnyImage, pin: TypedPin) -> bool
+    requires { HasTile image.now Io pin.x pin.y }
+    ensures { result ≡ (is_port pin.pintype && is_function_on (database_in db.now) (configuration_of image.now) Io pin.x pin.y (codes "IoCtrl.LVDS")) }
+{
+    is_port(pin.pintype) && is_on(db, image, TileKind::Io, pin.x, pin.y, b"IoCtrl.LVDS")
+}

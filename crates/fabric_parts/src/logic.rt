@@ -1,0 +1,5 @@
+// Logic cells.
+
+pub(crate) mod cell;
+pub(crate) mod gather;
+pub(crate) mod ports;

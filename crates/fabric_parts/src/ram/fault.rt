@@ -1,0 +1,26 @@
+// Why RAMs aren't taken.
+ghost use Rattle.std.specs.Prelude.{◌≡◌};
+
+use std::alloc::AllocError;
+
+/// Why the RAMs of an image aren't taken: the first cause that holds, with the first RAM that has it, by rows, then by columns. A
+/// RAM is named by its lower tile.
+#[derive(Clone, Copy, Debug, PartialEq, Eq)]
+pub enum RamFault {
+    /// The words of the RAM at (x, y) have another width than 16 where they are read or written: a mode isn't 0.
+    Mode { x: u8, y: u8, read: u8, write: u8 },
+    /// The RAM at (x, y) passes on its address.
+    Cascade { x: u8, y: u8 },
+    /// Out of memory. It may come in place of any other answer.
+    Memory(AllocError),
+}
+
+impl From<AllocError> for RamFault {
+    ghost use Rattle.fabric_parts.specs.declared.ram.fault.RamFault.TheVariants.{Memory};
+
+    ghost from_gives = { λ e fault. fault ≡ Memory e };
+
+    fn from(e: AllocError) -> RamFault {
+        RamFault::Memory(e)
+    }
+}

@@ -1,9 +1,0 @@
-use Rattle.std.proofs.Common.{◌∙◌}
-use Rattle.ice_image.specs.Either.{configuration_of}
-use Rattle.chipdb_reader.specs.Kept.{database_in}
-use Rattle.io_cell.proofs.Listed.{pins_listed}
-use Rattle.io_cell.proofs.gather.pins_in.Goals as goal
-
-pub returns-clause-pins : goal.returns-clause-pins
-returns-clause-pins c =
-    c.in_ok-ports.ensures ∙ pins_listed (database_in c.args.db.now) (configuration_of c.args.image.now) c.args.tiles.now c.requires.all

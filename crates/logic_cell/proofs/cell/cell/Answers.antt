@@ -1,6 +1,0 @@
-use Rattle.net_extract.specs.Cells.{cell_with}
-use Rattle.logic_cell.proofs.cell.cell.Goals as goal
-
-pub returns : goal.returns
-unfolding cell_with
-returns c = cc

@@ -1,9 +1,0 @@
-use Rattle.std.proofs.Common.{◌≡◌, ◌++◌}
-use Rattle.place_search.specs.Places.{gathered_below}
-use Rattle.ice_image.specs.Either.{configuration_of}
-use Rattle.chipdb_reader.specs.Kept.{database_in}
-use Rattle.net_extract.specs.Cells.{used_cell}
-use Rattle.logic_cell.proofs.gather.append_cells.Given as goal
-
-abbrev pub invariant-loop-i : goal.invariant-loop-i
-invariant-loop-i l = l.lcs.items ≡ l.initial.lcs.items ++ gathered_below l.i (used_cell (database_in l.db) (configuration_of l.image) l.x l.y)

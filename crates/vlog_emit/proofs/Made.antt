@@ -1,0 +1,43 @@
+-- The module of a design is that of each fabric whose design is kept, and it is well-formed and runs as the fabric.
+use Rattle.std.proofs.Common.{◌≡◌, ℕ, List, map, sym, ap, ◌∙◌, subst}
+use Rattle.ice_image.specs.Configuration.{Configuration}
+use Rattle.chipdb_reader.specs.Database.{Database}
+use Rattle.vlog_module.specs.Names.{IsName}
+use Rattle.vlog_module.specs.Parts.{Parts}
+use Rattle.vlog_module.specs.WellFormed.{IsModule}
+use Rattle.net_extract.specs.Fabric.{Fabric, fabric_of}
+use Rattle.fabric.specs.Kept.{Kept, IsKeptOf}
+use Rattle.fabric.specs.Design.{IsDesign, IsDesignOf}
+use Rattle.fabric_module.specs.Written.{port_of, items_of, module_of}
+use Rattle.fabric_module.specs.Law.{ModuleIsFabric}
+use Rattle.vlog_emit.specs.Each.{EachFabric}
+use Rattle.vlog_emit.specs.Runs.{RunsAs}
+
+parts-same : (one two : Parts) → one.name ≡ two.name → one.ports ≡ two.ports → one.items ≡ two.items → one ≡ two
+parts-same one two of_name of_ports of_items =
+    ap (λ n. record { name = n; ports = one.ports; items = one.items }) of_name
+    ∙ (ap (λ p. record { name = two.name; ports = p; items = one.items }) of_ports
+    ∙ ap (λ i. record { name = two.name; ports = two.ports; items = i }) of_items)
+
+module _ (law : (db : Database) (image : Configuration) → ModuleIsFabric db image) (design : Kept) (name : List ℕ) (is_name : IsName name) (made : Parts)
+    (of_name : made.name ≡ name) (of_ports : made.ports ≡ map port_of design.parts.pins.items)
+    (of_items : EachFabric design (λ fabric. made.items ≡ items_of fabric design.order)) where
+  -- the module of each fabric whose design is kept
+  made-each : (fabric : Fabric) → IsKeptOf fabric design → made ≡ module_of fabric design.order name
+  unfolding module_of
+  made-each fabric kept =
+      parts-same made (record { name = name; ports = map port_of fabric.pins; items = items_of fabric design.order }) of_name
+      (of_ports ∙ ap (map port_of) kept.parts.pins) (of_items fabric kept)
+
+  pub made-is : (db : Database) (image : Configuration) → IsDesignOf db image design → made ≡ module_of (fabric_of db image) design.order name
+  made-is db image of = made-each (fabric_of db image) of.kept
+
+  pub made-well_formed : IsDesign design → IsModule made
+  made-well_formed is =
+      subst IsModule (sym (made-is is.0 is.1 is.2))
+      (law is.0 is.1 is.2.fit is.2.few is.2.taken design.order name is.2.kept.order is_name).0
+
+  pub made-runs : (db : Database) (image : Configuration) → IsDesignOf db image design → RunsAs db image made
+  made-runs db image of =
+      let runs = (law db image of.fit of.few of.taken design.order name of.kept.order is_name).1 in
+      subst (RunsAs db image) (sym (made-is db image of)) (record { one_run = runs.one_run; alike = runs.alike })

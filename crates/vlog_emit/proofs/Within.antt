@@ -1,0 +1,154 @@
+-- The parts of a design and what its drivers name are there.
+use Rattle.std.proofs.Common.{◌≡◌, ℕ, ◌<◌, true, [], ◌∷◌, ◌++◌, length, map, get_or, refl, sym, ap, ◌∙◌, subst, arith, inl, inr}
+use Rattle.std.specs.Prelude.{All, Contains, Option, Some, None, filter, option_to_list}
+use Rattle.std.proofs.lemmas.Bool.{cases_Bool}
+use Rattle.std.proofs.lemmas.List.Elements.{All-from_get_or, All-filter, All-contains}
+use Rattle.shared_lemmas.proofs.Lists.{All-both}
+use Rattle.net_extract.specs.Fabric.{fabric_of}
+use Rattle.net_extract.specs.declared.register.Source.{Source}
+use Rattle.net_extract.specs.declared.register.Source.TheVariants.{Net, Pin as SourcePin}
+use Rattle.net_extract.specs.declared.register.Register.{Register}
+use Rattle.net_extract.specs.Within.{IsNetIn, IsPinIn, IsRamIn, IsSourceIn as IsNetSourceIn, IsRegisterIn as IsNetRegisterIn}
+use Rattle.net_extract.specs.Drivers.{drivers_of, drives_of, is_driven, nets_read}
+use Rattle.net_extract.specs.Clocks.{clock_end}
+use Rattle.net_extract.specs.Clocks.ClockEnd.{at_pin}
+use Rattle.net_extract.specs.Wiring.{has}
+use Rattle.net_extract.proofs.Facts.{has-some, has-source, has-left, has-right}
+use Rattle.net_extract.proofs.Order.{has-first}
+use Rattle.net_extract.proofs.OneValue.{first-driver, first-is, none-driven, count-is}
+use Rattle.net_extract.proofs.Within.{fabric-within}
+use Rattle.net_extract.proofs.Chains.{clock_end-leads}
+use Rattle.net_extract.specs.Links.{class_in}
+use Rattle.fabric_wiring.specs.declared.drive.Rule.{Rule as KeptRule}
+use Rattle.fabric_wiring.specs.declared.drive.Rule.TheVariants.{PinBit, Constant, Input, TableEntry, MajorityOf, RegisterBit, ReadBit, Copied}
+use Rattle.fabric_wiring.specs.declared.drive.Drive.{Drive as KeptDrive}
+use Rattle.fabric_wiring.specs.Drives.{drive_of, rule_of}
+use Rattle.fabric_wiring.specs.DriverLists.{driver_in}
+use Rattle.fabric_wiring.specs.Ends.{end_in}
+use Rattle.fabric.specs.Kept.{Kept}
+use Rattle.fabric.specs.Design.{IsDesign}
+use Rattle.fabric_module.proofs.Lists.{item-there}
+use Rattle.fabric_module.proofs.Rights.{IsSourceThere, IsPlaceIn, source-there}
+use Rattle.fabric_module.proofs.Settled.{IsWritable}
+use Rattle.fabric_module.proofs.Ticks.{leads-place}
+use Rattle.fabric_module.proofs.Design.{fabric-writable}
+use Rattle.vlog_emit.specs.Each.{nets_in, IsSourceIn, IsRegisterIn, IsRuleIn}
+use Rattle.vlog_emit.proofs.Kept.{end-is}
+
+-- ---- nets that may be missing
+
+-- a net that may be missing is there where each net is that it can be
+net-from : (nets : ℕ) (net : Option ℕ) → ((n : ℕ) → net ≡ Some n → n < nets) → IsNetIn nets net
+net-from nets None each = tt
+net-from nets (Some n) each = each n refl
+
+-- so is the net of an input of a table
+source-from : (nets : ℕ) (source : Source) → ((n : ℕ) → source ≡ Net (Some n) → n < nets) → IsNetSourceIn nets source
+source-from nets (Net net) each = net-from nets net (λ n at. each n (ap Net at))
+source-from nets (SourcePin place) each = tt
+
+-- ---- the parts
+
+module _ (design : Kept) (is : IsDesign design) where
+  count : nets_in design ≡ (fabric_of is.0 is.1).nets
+  count = is.2.kept.drivers.classes
+
+  writable : IsWritable (fabric_of is.0 is.1)
+  writable = fabric-writable is.0 is.1 is.2.fit is.2.few is.2.taken
+
+  -- what an input of a table reads is there
+  source-in : (source : Source) → IsNetSourceIn (nets_in design) source → IsSourceThere (fabric_of is.0 is.1) source → IsSourceIn design source
+  source-in (Net net) net_in there = net_in
+  source-in (SourcePin place) net_in there = subst (λ pins. place < length pins) (sym is.2.kept.inputs) there
+
+  register-in : (register : Register) → IsNetRegisterIn (fabric_of is.0 is.1).nets register → All (IsSourceThere (fabric_of is.0 is.1)) register.table.ins → IsRegisterIn design register
+  register-in register nets there =
+      let counted : IsNetRegisterIn (nets_in design) register = subst (λ n. IsNetRegisterIn n register) (sym count) nets in
+      record {
+        clk = counted.clk;
+        cen = counted.cen;
+        sr = counted.sr;
+        table = All-both (IsNetSourceIn (nets_in design)) (IsSourceThere (fabric_of is.0 is.1)) (IsSourceIn design) source-in register.table.ins counted.ins there;
+      }
+
+  pub registers-within : All (IsRegisterIn design) design.parts.registers.items
+  registers-within =
+      subst (All (IsRegisterIn design)) (sym is.2.kept.parts.registers)
+      (All-both (IsNetRegisterIn (fabric_of is.0 is.1).nets) (λ register. All (IsSourceThere (fabric_of is.0 is.1)) register.table.ins) (IsRegisterIn design) register-in
+      (fabric_of is.0 is.1).registers is.2.kept.parts.within.registers writable.tables)
+
+  pub pins-within : All (IsPinIn (nets_in design)) design.parts.pins.items
+  pins-within =
+      subst (λ nets. All (IsPinIn nets) design.parts.pins.items) (sym count)
+      (subst (All (IsPinIn (fabric_of is.0 is.1).nets)) (sym is.2.kept.parts.pins) is.2.kept.parts.within.pins)
+
+  pub outputs-within : All (IsPinIn (nets_in design)) (filter (λ pin. pin.output) design.parts.pins.items)
+  outputs-within = All-filter (λ pin. pin.output) (IsPinIn (nets_in design)) design.parts.pins.items pins-within
+
+  pub rams-within : All (IsRamIn (nets_in design)) design.parts.rams.items
+  rams-within =
+      subst (λ nets. All (IsRamIn nets) design.parts.rams.items) (sym count)
+      (subst (All (IsRamIn (fabric_of is.0 is.1).nets)) (sym is.2.kept.parts.rams) is.2.kept.parts.within.rams)
+
+  pub order-within : All (λ class. class < nets_in design) design.order
+  order-within = All-from_get_or (λ class. class < nets_in design) design.order 0 (λ place less.
+      let below = (is.2.kept.order.each place less).ready.within in
+      let same = count-is (fabric_of is.0 is.1) in
+      let nets = count in
+      omega arith)
+
+  -- ---- drivers
+
+  -- the nets and places of a rule of the fabric
+  rule-in : (rule : KeptRule) → IsPlaceIn (fabric_of is.0 is.1) (rule_of rule)
+      → ((net : ℕ) → has (nets_read (rule_of rule)) net ≡ true → net < nets_in design) → IsRuleIn design rule
+  unfolding nets_read
+  rule-in (PinBit place) there reads = subst (λ pins. place < length pins) (sym is.2.kept.inputs) there
+  rule-in (Constant bit) there reads = tt
+  rule-in (Input stated net) there reads = net-from (nets_in design) net (λ n at. reads n (has-some net n at))
+  rule-in (TableEntry table) there reads =
+      All-from_get_or (IsSourceIn design) table.ins (Net None)
+      (λ k less. source-in (get_or table.ins k (Net None)) (source-from (nets_in design) (get_or table.ins k (Net None)) (λ n at. reads n (has-source table.ins k n at)))
+      (source-there (fabric_of is.0 is.1) table.ins k there))
+  rule-in (MajorityOf a b c) there reads =
+      let first = option_to_list a in
+      let second = option_to_list b in
+      let third = option_to_list c in (
+        net-from (nets_in design) a (λ n at. reads n (has-left first (second ++ third) n (has-some a n at))),
+        net-from (nets_in design) b (λ n at. reads n (has-right first (second ++ third) n (has-left second third n (has-some b n at)))),
+        net-from (nets_in design) c (λ n at. reads n (has-right first (second ++ third) n (has-right second third n (has-some c n at)))),
+      )
+  rule-in (RegisterBit place register) there reads =
+      let among : Contains design.parts.registers.items register =
+      subst (λ registers. Contains registers register) (sym is.2.kept.parts.registers) (item-there (fabric_of is.0 is.1).registers (place, register) there) in
+      All-contains (IsRegisterIn design) design.parts.registers.items register registers-within among
+  rule-in (ReadBit ram bit) there reads = subst (λ rams. ram < length rams) (sym is.2.kept.parts.rams) there.0
+  rule-in (Copied net) there reads = reads net (has-first net [])
+
+  -- what the driver of a class names
+  pub driver-within : (class : ℕ) → class < nets_in design → (drive : KeptDrive) → driver_in design.drivers class ≡ Some drive → IsRuleIn design drive.rule
+  driver-within class below drive at =
+      let fabric = fabric_of is.0 is.1 in
+      let within : class < fabric.nets = (let nets = count in omega arith) in
+      let one : drivers_of fabric class ≡ drive_of drive ∷ [] = is.2.kept.drivers.each class within ∙ ap (λ found. map drive_of (option_to_list found)) at in
+      elim (cases_Bool (is_driven fabric class)) [
+        | inl driven ↦
+            let found = first-driver fabric class driven in
+            let first : drivers_of fabric class ≡ found.0 ∷ found.1 = first-is fabric class found.0 found.1 found.2 in
+            let same : found.0 ≡ drive_of drive = cc in
+            let there : Contains (drives_of fabric) (drive_of drive) = subst (Contains (drives_of fabric)) same found.2.there in
+            rule-in drive.rule (writable.places (drive_of drive) there)
+            (λ net reads. let below : net < fabric.nets = (fabric-within is.0 is.1 is.2.fit).reads (drive_of drive) there net reads in let nets = count in omega arith)
+        | inr away ↦ let none : drivers_of fabric class ≡ [] = none-driven fabric class away in absurd cc
+      ]
+
+  -- ---- clocks
+
+  -- a chain ends at an input pin that is there
+  pub clock-within : (net : ℕ) → net < nets_in design → (place : ℕ) → end_in design.ends (class_in design.parts.links net) ≡ at_pin place → place < length design.inputs
+  clock-within net below place at =
+      let fabric = fabric_of is.0 is.1 in
+      let ends : clock_end fabric net ≡ at_pin place = sym (end-is fabric design is.2.kept net below) ∙ at in
+      subst (λ pins. place < length pins) (sym is.2.kept.inputs)
+      (leads-place fabric writable
+      (clock_end-leads fabric (fabric-within is.0 is.1 is.2.fit) design.order is.2.kept.order net) place ends)

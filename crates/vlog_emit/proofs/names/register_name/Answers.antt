@@ -1,0 +1,12 @@
+use Rattle.std.proofs.Common.{ap, ◌∙◌, ◌++◌, subst, arith}
+use Rattle.std.specs.Prelude.{codes}
+use Rattle.fabric_module.specs.Names.{three_numbers}
+use Rattle.fabric_module.proofs.Apart.{IsSmall}
+use Rattle.vlog_emit.proofs.Named.{register-bytes}
+use Rattle.vlog_emit.proofs.names.register_name.Goals as goal
+
+pub new-requires : goal.new-requires
+new-requires c =
+    register-bytes c.args.register.now c.bytes.result.now
+    (c.bytes.ensures ∙ (c.three_numbers-text.ensures ∙ ap (λ n. codes "ff_" ++ three_numbers c.args.register.now.x c.args.register.now.y n) c.user_number-n.ensures))
+    (omega arith) (omega arith) (subst IsSmall c.user_number-n.ensures (omega arith))

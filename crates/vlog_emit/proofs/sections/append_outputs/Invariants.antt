@@ -1,0 +1,7 @@
+use Rattle.std.proofs.Common.{◌≡◌, ◌++◌, map, take}
+use Rattle.fabric_module.specs.Written.{output_assign}
+use Rattle.vlog_emit.specs.Each.{EachFabric}
+use Rattle.vlog_emit.proofs.sections.append_outputs.Given as goal
+
+abbrev pub invariant-loop-pin : goal.invariant-loop-pin
+invariant-loop-pin l = EachFabric l.design (λ fabric. l.items.items ≡ l.initial.items.items ++ map (output_assign fabric) (take l.pin-index l.outputs))

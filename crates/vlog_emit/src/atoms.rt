@@ -1,0 +1,181 @@
+// Atoms: what is read of nets and pins.
+ghost use Rattle.std.specs.Prelude.{◌≡◌, ◌<◌, ◌∷◌, [], All, get_or, length, Some, None, if◌then◌else◌, IfOk};
+ghost use Rattle.net_extract.specs.declared.register.Source.TheVariants.{Net};
+ghost use Rattle.net_extract.specs.Joins.{class_of};
+ghost use Rattle.net_extract.specs.Values.{is_connected};
+ghost use Rattle.net_extract.specs.Within.{IsNetIn};
+ghost use Rattle.fabric_module.specs.Rights.{input_atom, port_atoms, input_name, source_atom, table_atom, lut_of, driven_wire, setting_wire};
+ghost use Rattle.vlog_emit.specs.Each.{EachFabric, IsSourceIn, IsTableIn, nets_in};
+
+use crate::names::{port_name, wire_name};
+use fabric::Design;
+use net_extract::{Register, Source, Table};
+use std::alloc::{AllocError, Global};
+use vlog_module::{Atom, Atoms, Lut, Name};
+
+/// The class of a net, where it has a driver.
+fn driven_class(design: &Design, net: u32) -> Option<u32>
+    requires { net < nets_in design.now }
+    ensures { EachFabric design.now (λ fabric. result ≡ (if is_connected fabric net then Some (class_of fabric.joins net) else None)) }
+{
+    let class = design.class_of(net);
+    match design.drive(class) {
+        None => None,
+        Some(_) => Some(class),
+    }
+}
+
+/// What is read of an input: the wire of its class, and the stated value where it isn't connected.
+#[tactic(auto, unfolding(fabric_module::specs::Rights::input_atom))]
+pub(crate) fn input_atom(
+    alloc: Global,
+    design: &Design,
+    stated: bool,
+    net: Option<u32>,
+) -> Result<Atom, AllocError>
+    requires { IsNetIn (nets_in design.now) net }
+    ensures { IfOk result (λ atom. EachFabric design.now (λ fabric. atom ≡ input_atom fabric stated net)) }
+{
+    match net {
+        None => Ok(Atom::Bit(stated)),
+        Some(net) => net_atom(alloc, design, stated, net),
+    }
+}
+
+/// The same of an input that has a net.
+fn net_atom(alloc: Global, design: &Design, stated: bool, net: u32) -> Result<Atom, AllocError>
+    requires { net < nets_in design.now }
+    ensures { IfOk result (λ atom. EachFabric design.now (λ fabric. atom ≡ input_atom fabric stated (Some net))) }
+{
+    match driven_class(design, net) {
+        None => Ok(Atom::Bit(stated)),
+        Some(class) => {
+            let name = wire_name(alloc, class)?;
+            Ok(Atom::Whole(name))
+        }
+    }
+}
+
+/// What is read of a list of inputs, each 0 where it isn't connected.
+pub(crate) fn port_atoms(
+    alloc: Global,
+    design: &Design,
+    ports: &[Option<u32>],
+) -> Result<Atoms, AllocError>
+    requires { All (IsNetIn (nets_in design.now)) ports.now }
+    ensures { IfOk result (λ atoms. EachFabric design.now (λ fabric. atoms ≡ port_atoms fabric ports.now)) }
+{
+    let mut atoms = Atoms::new(alloc);
+    for net in ports {
+        let atom = input_atom(alloc, design, false, *net)?;
+        atoms.push(atom)?;
+    }
+    Ok(atoms)
+}
+
+/// The name of the input pin at a place.
+pub(crate) fn input_name(alloc: Global, design: &Design, place: usize) -> Result<Name, AllocError>
+    requires { place < length design.now.inputs }
+    ensures { IfOk result (λ name. EachFabric design.now (λ fabric. name ≡ input_name fabric place)) }
+{
+    let inputs = design.inputs();
+    port_name(alloc, &inputs[place])
+}
+
+/// What is read of an input of a table.
+fn source_atom(alloc: Global, design: &Design, source: Source) -> Result<Atom, AllocError>
+    requires { IsSourceIn design.now source }
+    ensures { IfOk result (λ atom. EachFabric design.now (λ fabric. atom ≡ source_atom fabric source)) }
+{
+    match source {
+        Source::Net(net) => input_atom(alloc, design, false, net),
+        Source::Pin(place) => {
+            let name = input_name(alloc, design, place as usize)?;
+            Ok(Atom::Whole(name))
+        }
+    }
+}
+
+/// What is read of input `k` of a table.
+fn table_atom(alloc: Global, design: &Design, table: &Table, k: usize) -> Result<Atom, AllocError>
+    requires place { k < 4 }
+    requires within { IsSourceIn design.now (get_or table.now.ins k (Net None)) }
+    ensures { IfOk result (λ atom. EachFabric design.now (λ fabric. atom ≡ table_atom fabric table.now k)) }
+{
+    source_atom(alloc, design, table.ins[k])
+}
+
+/// A table with its four inputs.
+pub(crate) fn lut_of(alloc: Global, design: &Design, table: &Table) -> Result<Lut, AllocError>
+    requires { IsTableIn design.now table.now }
+    ensures { IfOk result (λ lut. EachFabric design.now (λ fabric. lut ≡ lut_of fabric table.now)) }
+{
+    let in_0 = table_atom(alloc, design, table, 0)?;
+    let in_1 = table_atom(alloc, design, table, 1)?;
+    let in_2 = table_atom(alloc, design, table, 2)?;
+    let in_3 = table_atom(alloc, design, table, 3)?;
+    let ins = four_atoms(alloc, in_0, in_1, in_2, in_3)?;
+    Ok(Lut {
+        word: table.word,
+        ins,
+    })
+}
+
+/// The wire of a net, where it is driven.
+fn net_wire(alloc: Global, design: &Design, net: u32) -> Result<Option<Name>, AllocError>
+    requires { net < nets_in design.now }
+    ensures { IfOk result (λ wire. EachFabric design.now (λ fabric. wire ≡ driven_wire fabric (Some net))) }
+{
+    match driven_class(design, net) {
+        None => Ok(None),
+        Some(class) => {
+            let name = wire_name(alloc, class)?;
+            Ok(Some(name))
+        }
+    }
+}
+
+/// The same of a net that may be missing.
+fn driven_wire(alloc: Global, design: &Design, net: Option<u32>) -> Result<Option<Name>, AllocError>
+    requires { IsNetIn (nets_in design.now) net }
+    ensures { IfOk result (λ wire. EachFabric design.now (λ fabric. wire ≡ driven_wire fabric net)) }
+{
+    match net {
+        None => Ok(None),
+        Some(net) => net_wire(alloc, design, net),
+    }
+}
+
+/// The wire that sets a register at once, where there is one.
+pub(crate) fn setting_wire(
+    alloc: Global,
+    design: &Design,
+    register: &Register,
+) -> Result<Option<Name>, AllocError>
+    requires { IsNetIn (nets_in design.now) register.now.sr }
+    ensures { IfOk result (λ wire. EachFabric design.now (λ fabric. wire ≡ setting_wire fabric register.now)) }
+{
+    if register.at_once {
+        driven_wire(alloc, design, register.sr)
+    } else {
+        Ok(None)
+    }
+}
+
+/// Four atoms.
+fn four_atoms(
+    alloc: Global,
+    first: Atom,
+    second: Atom,
+    third: Atom,
+    fourth: Atom,
+) -> Result<Atoms, AllocError>
+    ensures { IfOk result (λ atoms. atoms ≡ first ∷ second ∷ third ∷ fourth ∷ []) }
+{
+    let mut atoms = Atoms::new(alloc);
+    atoms.push(first)?;
+    atoms.push(second)?;
+    atoms.push(third)?;
+    atoms.push(fourth)?;
+    Ok(atoms)
+}

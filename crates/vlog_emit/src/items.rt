@@ -1,0 +1,304 @@
+// Items.
+ghost use Rattle.std.specs.Prelude.{◌≡◌, ◌<◌, ◌++◌, option_to_list, IfOk, OnOk};
+ghost use Rattle.net_extract.specs.Within.{IsNetIn, IsPinIn, IsRamIn};
+ghost use Rattle.fabric.specs.Design.{IsDesign};
+ghost use Rattle.fabric_module.specs.Names.{register_name};
+ghost use Rattle.fabric_module.specs.Written.{clock_name, port_of, register_item, read_register, ram_memory, class_wire, output_assign, flip_item, at_once_item, items_by, register_items, read_item, read_items, write_item, write_items};
+ghost use Rattle.vlog_emit.specs.Each.{EachFabric, IsRegisterIn, nets_in};
+
+use crate::atoms::{input_atom, input_name, lut_of, port_atoms, setting_wire};
+use crate::names::{memory_name, port_name, read_name, register_name, wire_name};
+use crate::rights::class_right;
+use fabric::Design;
+use fabric_wiring::ClockEnd;
+use net_extract::{Pin, RamCell, Register};
+use std::alloc::{AllocError, Global};
+use vlog_module::{Item, Name, Port};
+
+/// The port of a pin.
+pub(crate) fn port_of(alloc: Global, pin: &Pin) -> Result<Port, AllocError>
+    ensures { IfOk result (λ port. port ≡ port_of pin.now) }
+{
+    let name = port_name(alloc, pin)?;
+    Ok(Port {
+        name,
+        output: pin.output,
+    })
+}
+
+/// A register.
+pub(crate) fn register_item(alloc: Global, register: &Register) -> Result<Item, AllocError>
+    ensures { IfOk result (λ item. item ≡ register_item register.now) }
+{
+    let name = register_name(alloc, register)?;
+    Ok(Item::Register { name, start: false })
+}
+
+/// The read register of a RAM.
+pub(crate) fn read_register(alloc: Global, ram: &RamCell) -> Result<Item, AllocError>
+    ensures { IfOk result (λ item. item ≡ read_register ram.now) }
+{
+    let name = read_name(alloc, ram)?;
+    Ok(Item::Word { name, start: 0 })
+}
+
+/// The memory of a RAM.
+pub(crate) fn ram_memory(alloc: Global, ram: &RamCell) -> Result<Item, AllocError>
+    ensures { IfOk result (λ item. item ≡ ram_memory ram.now) }
+{
+    let name = memory_name(alloc, ram)?;
+    Ok(Item::Memory { name })
+}
+
+/// The wire of a class.
+pub(crate) fn class_wire(alloc: Global, design: &Design, class: u32) -> Result<Item, AllocError>
+    requires design { IsDesign design.now }
+    requires within { class < nets_in design.now }
+    ensures { IfOk result (λ item. EachFabric design.now (λ fabric. item ≡ class_wire fabric class)) }
+{
+    let name = wire_name(alloc, class)?;
+    let right = class_right(alloc, design, class)?;
+    Ok(Item::Wire { name, right })
+}
+
+/// The value of an output pin.
+pub(crate) fn output_assign(alloc: Global, design: &Design, pin: &Pin) -> Result<Item, AllocError>
+    requires { IsPinIn (nets_in design.now) pin.now }
+    ensures { IfOk result (λ item. EachFabric design.now (λ fabric. item ≡ output_assign fabric pin.now)) }
+{
+    let name = port_name(alloc, pin)?;
+    let value = input_atom(alloc, design, false, pin.dout)?;
+    Ok(Item::Assign { name, value })
+}
+
+/// The port that is the clock of a net, where one is.
+#[tactic(auto, unfolding(fabric_module::specs::Written::clock_name))]
+fn clock_name(alloc: Global, design: &Design, net: Option<u32>) -> Result<Option<Name>, AllocError>
+    requires design { IsDesign design.now }
+    requires within { IsNetIn (nets_in design.now) net }
+    ensures { IfOk result (λ name. EachFabric design.now (λ fabric. name ≡ clock_name fabric net)) }
+{
+    match net {
+        None => Ok(None),
+        Some(net) => end_name(alloc, design, net),
+    }
+}
+
+/// The port at which the chain from a clock net ends, where it ends at one.
+fn end_name(alloc: Global, design: &Design, net: u32) -> Result<Option<Name>, AllocError>
+    requires design { IsDesign design.now }
+    requires within { net < nets_in design.now }
+    ensures { IfOk result (λ name. EachFabric design.now (λ fabric. name ≡ clock_name fabric (Some net))) }
+{
+    match design.clock_end(net) {
+        ClockEnd::Pin(place) => {
+            let name = input_name(alloc, design, place as usize)?;
+            Ok(Some(name))
+        }
+        ClockEnd::Undriven => Ok(None),
+        ClockEnd::Logic => Ok(None),
+    }
+}
+
+/// A register whose reset waits for the clock.
+fn flip_item(
+    alloc: Global,
+    design: &Design,
+    register: &Register,
+    clock: Name,
+) -> Result<Item, AllocError>
+    requires { IsRegisterIn design.now register.now }
+    ensures { IfOk result (λ item. EachFabric design.now (λ fabric. item ≡ flip_item fabric register.now clock)) }
+{
+    let enable = input_atom(alloc, design, true, register.cen)?;
+    let reset = input_atom(alloc, design, false, register.sr)?;
+    let target = register_name(alloc, register)?;
+    let lut = lut_of(alloc, design, &register.table)?;
+    Ok(Item::Flip {
+        falling: register.neg,
+        clock,
+        enable,
+        reset,
+        set: register.set,
+        target,
+        lut,
+    })
+}
+
+/// A register that a wire sets at once, by its clock.
+fn at_once_item(
+    alloc: Global,
+    design: &Design,
+    register: &Register,
+    reset: Name,
+    clock: Name,
+) -> Result<Item, AllocError>
+    requires { IsRegisterIn design.now register.now }
+    ensures { IfOk result (λ item. EachFabric design.now (λ fabric. item ≡ at_once_item fabric register.now reset clock)) }
+{
+    let target = register_name(alloc, register)?;
+    let enable = input_atom(alloc, design, true, register.cen)?;
+    let lut = lut_of(alloc, design, &register.table)?;
+    Ok(Item::FlipAtOnce {
+        falling: register.neg,
+        clock,
+        reset,
+        set: register.set,
+        target,
+        enable,
+        lut,
+    })
+}
+
+/// A register that a wire sets at once and that has no clock.
+fn set_item(alloc: Global, register: &Register, reset: Name) -> Result<Item, AllocError>
+    ensures { IfOk result (λ item. item ≡ Item.SetAtOnce reset register.now.«set» (register_name register.now)) }
+{
+    let target = register_name(alloc, register)?;
+    Ok(Item::SetAtOnce {
+        reset,
+        set: register.set,
+        target,
+    })
+}
+
+/// What a register is written as, by the wire that sets it at once and by its clock.
+fn item_by(
+    alloc: Global,
+    design: &Design,
+    register: &Register,
+    wire: Option<Name>,
+    clock: Option<Name>,
+) -> Result<Option<Item>, AllocError>
+    requires { IsRegisterIn design.now register.now }
+    ensures { IfOk result (λ item. EachFabric design.now (λ fabric. option_to_list item ≡ items_by fabric register.now wire clock)) }
+{
+    match (wire, clock) {
+        (Some(reset), Some(clock)) => {
+            let item = at_once_item(alloc, design, register, reset, clock)?;
+            Ok(Some(item))
+        }
+        (Some(reset), None) => {
+            let item = set_item(alloc, register, reset)?;
+            Ok(Some(item))
+        }
+        (None, Some(clock)) => {
+            let item = flip_item(alloc, design, register, clock)?;
+            Ok(Some(item))
+        }
+        (None, None) => Ok(None),
+    }
+}
+
+/// Adds what a register is written as.
+pub(crate) fn append_register(
+    alloc: Global,
+    design: &Design,
+    register: &Register,
+    items: &mut Vec<Item>,
+) -> Result<(), AllocError>
+    requires design { IsDesign design.now }
+    requires within { IsRegisterIn design.now register.now }
+    ensures { OnOk result (EachFabric design.now (λ fabric. items.new.items ≡ items.old.items ++ register_items fabric register.now)) }
+{
+    let wire = setting_wire(alloc, design, register)?;
+    let clock = clock_name(alloc, design, register.clk)?;
+    match item_by(alloc, design, register, wire, clock)? {
+        None => Ok(()),
+        Some(item) => {
+            items.push(item)?;
+            Ok(())
+        }
+    }
+}
+
+/// The read port of a RAM with its clock.
+fn read_item(alloc: Global, design: &Design, ram: &RamCell, clock: Name) -> Result<Item, AllocError>
+    requires { IsRamIn (nets_in design.now) ram.now }
+    ensures { IfOk result (λ item. EachFabric design.now (λ fabric. item ≡ read_item fabric ram.now clock)) }
+{
+    let clock_enable = input_atom(alloc, design, true, ram.rclke)?;
+    let enable = input_atom(alloc, design, false, ram.re)?;
+    let target = read_name(alloc, ram)?;
+    let memory = memory_name(alloc, ram)?;
+    let address = port_atoms(alloc, design, &ram.raddr)?;
+    Ok(Item::Read {
+        falling: ram.rneg,
+        clock,
+        clock_enable,
+        enable,
+        target,
+        memory,
+        address,
+    })
+}
+
+/// Adds the read port of a RAM, where it has a clock.
+pub(crate) fn append_read(
+    alloc: Global,
+    design: &Design,
+    ram: &RamCell,
+    items: &mut Vec<Item>,
+) -> Result<(), AllocError>
+    requires design { IsDesign design.now }
+    requires within { IsRamIn (nets_in design.now) ram.now }
+    ensures { OnOk result (EachFabric design.now (λ fabric. items.new.items ≡ items.old.items ++ read_items fabric ram.now)) }
+{
+    match clock_name(alloc, design, ram.rclk)? {
+        None => Ok(()),
+        Some(clock) => {
+            let item = read_item(alloc, design, ram, clock)?;
+            items.push(item)?;
+            Ok(())
+        }
+    }
+}
+
+/// The write port of a RAM with its clock.
+fn write_item(
+    alloc: Global,
+    design: &Design,
+    ram: &RamCell,
+    clock: Name,
+) -> Result<Item, AllocError>
+    requires { IsRamIn (nets_in design.now) ram.now }
+    ensures { IfOk result (λ item. EachFabric design.now (λ fabric. item ≡ write_item fabric ram.now clock)) }
+{
+    let clock_enable = input_atom(alloc, design, true, ram.wclke)?;
+    let enable = input_atom(alloc, design, false, ram.we)?;
+    let memory = memory_name(alloc, ram)?;
+    let address = port_atoms(alloc, design, &ram.waddr)?;
+    let mask = port_atoms(alloc, design, &ram.mask)?;
+    let bits = port_atoms(alloc, design, &ram.wdata)?;
+    Ok(Item::Write {
+        falling: ram.wneg,
+        clock,
+        clock_enable,
+        enable,
+        memory,
+        address,
+        mask,
+        bits,
+    })
+}
+
+/// Adds the write port of a RAM, where it has a clock.
+pub(crate) fn append_write(
+    alloc: Global,
+    design: &Design,
+    ram: &RamCell,
+    items: &mut Vec<Item>,
+) -> Result<(), AllocError>
+    requires design { IsDesign design.now }
+    requires within { IsRamIn (nets_in design.now) ram.now }
+    ensures { OnOk result (EachFabric design.now (λ fabric. items.new.items ≡ items.old.items ++ write_items fabric ram.now)) }
+{
+    match clock_name(alloc, design, ram.wclk)? {
+        None => Ok(()),
+        Some(clock) => {
+            let item = write_item(alloc, design, ram, clock)?;
+            items.push(item)?;
+            Ok(())
+        }
+    }
+}

@@ -1,9 +1,0 @@
-// The law of the module that is written for a fabric.
-ghost use Rattle.ice_image.specs.Configuration.{Configuration};
-ghost use Rattle.chipdb_reader.specs.Database.{Database};
-ghost use Rattle.vlog_emit.specs.Law.{ModuleIsFabric};
-
-/// The written module is the fabric, for every database and image. The call does nothing: its clause is the law.
-pub fn module_is_fabric()
-    ensures { (db : Database) (image : Configuration) → ModuleIsFabric db image }
-{}

@@ -1,0 +1,96 @@
+// The names of a module that is written for a design.
+ghost use Rattle.std.specs.Prelude.{◌≡◌, ◌≤◌, ◌++◌, length, IfOk};
+ghost use Rattle.fabric_module.specs.Names.{two_numbers, three_numbers, port_name, user_number, register_name, read_name, memory_name, wire_name};
+
+use crate::text::Text;
+use net_extract::{ClockUser, Pin, RamCell, Register};
+use std::alloc::{AllocError, Global};
+use vlog_module::Name;
+
+/// The name of a pin's port: `io_X_Y_N`.
+#[tactic(auto, unfolding(fabric_module::specs::Names::port_name))]
+pub(crate) fn port_name(alloc: Global, pin: &Pin) -> Result<Name, AllocError>
+    ensures { IfOk result (λ name. name ≡ port_name pin.now) }
+{
+    let (x, y, n) = (pin.x, pin.y, pin.n);
+    let text = three_numbers(b"io_", x, y, n);
+    Name::new(alloc, text.bytes())
+}
+
+/// The name of a register: `ff_X_Y_I`.
+#[tactic(auto, unfolding(fabric_module::specs::Names::register_name))]
+pub(crate) fn register_name(alloc: Global, register: &Register) -> Result<Name, AllocError>
+    ensures { IfOk result (λ name. name ≡ register_name register.now) }
+{
+    let (x, y, n) = (register.x, register.y, user_number(register.user));
+    let text = three_numbers(b"ff_", x, y, n);
+    Name::new(alloc, text.bytes())
+}
+
+/// The number of a register's user in its tile. The ports of RAMs are no registers of one bit.
+fn user_number(user: ClockUser) -> u8
+    ensures { result ≡ user_number user }
+{
+    match user {
+        ClockUser::Cell { i } => i,
+        ClockUser::Read | ClockUser::Write => 0,
+    }
+}
+
+/// The name of the read register of a RAM: `rd_X_Y`.
+#[tactic(auto, unfolding(fabric_module::specs::Names::read_name))]
+pub(crate) fn read_name(alloc: Global, ram: &RamCell) -> Result<Name, AllocError>
+    ensures { IfOk result (λ name. name ≡ read_name ram.now) }
+{
+    let (x, y) = (ram.x, ram.y);
+    let text = two_numbers(b"rd_", x, y);
+    Name::new(alloc, text.bytes())
+}
+
+/// The name of the memory of a RAM: `mem_X_Y`.
+#[tactic(auto, unfolding(fabric_module::specs::Names::memory_name))]
+pub(crate) fn memory_name(alloc: Global, ram: &RamCell) -> Result<Name, AllocError>
+    ensures { IfOk result (λ name. name ≡ memory_name ram.now) }
+{
+    let (x, y) = (ram.x, ram.y);
+    let text = two_numbers(b"mem_", x, y);
+    Name::new(alloc, text.bytes())
+}
+
+/// The name of the wire of a class: `n_K`.
+#[tactic(auto, unfolding(fabric_module::specs::Names::wire_name))]
+pub(crate) fn wire_name(alloc: Global, class: u32) -> Result<Name, AllocError>
+    ensures { IfOk result (λ name. name ≡ wire_name class) }
+{
+    let mut text = Text::of(b"n_");
+    text.push_number(class);
+    Name::new(alloc, text.bytes())
+}
+
+/// Two numbers behind a short text.
+#[tactic(auto, unfolding(fabric_module::specs::Names::two_numbers))]
+fn two_numbers(before: &[u8], x: u8, y: u8) -> Text
+    requires { length before.now ≤ 4 }
+    ensures { result ≡ before.now ++ two_numbers x y }
+{
+    let mut text = Text::of(before);
+    text.push_small(x);
+    text.push(b"_");
+    text.push_small(y);
+    text
+}
+
+/// Three numbers behind a short text.
+#[tactic(auto, unfolding(fabric_module::specs::Names::three_numbers))]
+fn three_numbers(before: &[u8], x: u8, y: u8, n: u8) -> Text
+    requires { length before.now ≤ 4 }
+    ensures { result ≡ before.now ++ three_numbers x y n }
+{
+    let mut text = Text::of(before);
+    text.push_small(x);
+    text.push(b"_");
+    text.push_small(y);
+    text.push(b"_");
+    text.push_small(n);
+    text
+}

@@ -1,0 +1,131 @@
+// The right sides of wires.
+ghost use Rattle.std.specs.Prelude.{◌≡◌, ◌<◌, length, IfOk};
+ghost use Rattle.net_extract.specs.Within.{IsNetIn};
+ghost use Rattle.fabric_wiring.specs.Drives.{rule_of};
+ghost use Rattle.fabric.specs.Design.{IsDesign};
+ghost use Rattle.fabric_module.specs.Names.{register_name};
+ghost use Rattle.fabric_module.specs.Rights.{input_atom, atom_or_0, read_at, setting_wire, register_right, right_alone, right_of, class_right};
+ghost use Rattle.vlog_emit.specs.Each.{EachFabric, IsRuleIn, nets_in};
+
+use crate::atoms::{input_atom, input_name, lut_of, setting_wire};
+use crate::names::{read_name, register_name};
+use fabric::Design;
+use fabric_wiring::Rule;
+use net_extract::Register;
+use std::alloc::{AllocError, Global};
+use vlog_module::{Atom, Name, Right};
+
+/// The name of the read register of the RAM at a place.
+fn read_at(alloc: Global, design: &Design, ram: usize) -> Result<Name, AllocError>
+    requires { ram < length design.now.parts.rams.items }
+    ensures { IfOk result (λ name. EachFabric design.now (λ fabric. name ≡ read_at fabric ram)) }
+{
+    let rams = design.rams();
+    read_name(alloc, &rams[ram])
+}
+
+/// An atom alone.
+fn right_alone(atom: Atom) -> Right
+    ensures { result ≡ right_alone atom }
+{
+    match atom {
+        Atom::Bit(bit) => Right::Bit(bit),
+        Atom::Whole(name) => Right::Whole(name),
+        Atom::Part { name, k } => Right::Part { name, k },
+    }
+}
+
+/// The value of an input.
+fn right_of_input(
+    alloc: Global,
+    design: &Design,
+    stated: bool,
+    net: Option<u32>,
+) -> Result<Right, AllocError>
+    requires { IsNetIn (nets_in design.now) net }
+    ensures { IfOk result (λ right. EachFabric design.now (λ fabric. right ≡ right_alone (input_atom fabric stated net))) }
+{
+    let atom = input_atom(alloc, design, stated, net)?;
+    Ok(right_alone(atom))
+}
+
+/// What at least two of three inputs are.
+fn right_of_majority(
+    alloc: Global,
+    design: &Design,
+    a: Option<u32>,
+    b: Option<u32>,
+    c: Option<u32>,
+) -> Result<Right, AllocError>
+    requires a { IsNetIn (nets_in design.now) a }
+    requires b { IsNetIn (nets_in design.now) b }
+    requires c { IsNetIn (nets_in design.now) c }
+    ensures { IfOk result (λ right. EachFabric design.now (λ fabric. right ≡ Right.Majority (atom_or_0 fabric a) (atom_or_0 fabric b) (atom_or_0 fabric c))) }
+{
+    let a = input_atom(alloc, design, false, a)?;
+    let b = input_atom(alloc, design, false, b)?;
+    let c = input_atom(alloc, design, false, c)?;
+    Ok(Right::Majority { a, b, c })
+}
+
+/// The value of a register that a wire may set at once.
+fn right_of_register(
+    alloc: Global,
+    design: &Design,
+    register: &Register,
+) -> Result<Right, AllocError>
+    requires { IsNetIn (nets_in design.now) register.now.sr }
+    ensures { IfOk result (λ right. EachFabric design.now (λ fabric. right ≡ register_right register.now (setting_wire fabric register.now))) }
+{
+    let wire = setting_wire(alloc, design, register)?;
+    let target = register_name(alloc, register)?;
+    Ok(register_right(register, wire, target))
+}
+
+/// The same by the wire.
+fn register_right(register: &Register, wire: Option<Name>, target: Name) -> Right
+    requires { target ≡ register_name register.now }
+    ensures { result ≡ register_right register.now wire }
+{
+    match wire {
+        Some(reset) => Right::Choose {
+            reset,
+            set: register.set,
+            target,
+        },
+        None => Right::Whole(target),
+    }
+}
+
+/// The right side that has the value of a driver.
+#[tactic(auto, unfolding(fabric_module::specs::Rights::right_of))]
+fn right_of(alloc: Global, design: &Design, rule: Rule) -> Result<Right, AllocError>
+    requires { IsRuleIn design.now rule }
+    ensures { IfOk result (λ right. EachFabric design.now (λ fabric. right ≡ right_of fabric (rule_of rule))) }
+{
+    match rule {
+        Rule::PinBit(place) => Ok(Right::Whole(input_name(alloc, design, place as usize)?)),
+        Rule::Constant(bit) => Ok(Right::Bit(bit)),
+        Rule::Input { stated, net } => right_of_input(alloc, design, stated, net),
+        Rule::TableEntry(table) => Ok(Right::Lut(lut_of(alloc, design, &table)?)),
+        Rule::MajorityOf(a, b, c) => right_of_majority(alloc, design, a, b, c),
+        Rule::RegisterBit { register, .. } => right_of_register(alloc, design, &register),
+        Rule::ReadBit { ram, bit } => Ok(Right::Part {
+            name: read_at(alloc, design, ram as usize)?,
+            k: bit,
+        }),
+        Rule::Copied(net) => right_of_input(alloc, design, false, Some(net)),
+    }
+}
+
+/// The right side of the wire of a class.
+pub(crate) fn class_right(alloc: Global, design: &Design, class: u32) -> Result<Right, AllocError>
+    requires design { IsDesign design.now }
+    requires within { class < nets_in design.now }
+    ensures { IfOk result (λ right. EachFabric design.now (λ fabric. right ≡ class_right fabric class)) }
+{
+    match design.drive(class) {
+        None => Ok(Right::Bit(false)),
+        Some(drive) => right_of(alloc, design, drive.rule),
+    }
+}

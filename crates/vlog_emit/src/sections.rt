@@ -1,0 +1,200 @@
+// The sections of a module.
+ghost use Rattle.std.specs.Prelude.{◌≡◌, ◌<◌, ◌++◌, All, map, flat_map, length, IfOk, OnOk};
+ghost use Rattle.net_extract.specs.Fabric.{numbered};
+ghost use Rattle.net_extract.specs.Within.{IsPinIn, IsRamIn};
+ghost use Rattle.fabric.specs.Design.{IsDesign};
+ghost use Rattle.fabric_module.specs.Written.{port_of, register_item, read_register, ram_memory, class_wire, output_assign, register_items, read_items, write_items, start_items};
+ghost use Rattle.vlog_emit.specs.Each.{EachFabric, IsRegisterIn, nets_in};
+
+use crate::items::{
+    append_read, append_register, append_write, class_wire, output_assign, port_of, ram_memory,
+    read_register, register_item,
+};
+use crate::names::memory_name;
+use fabric::Design;
+use net_extract::{Pin, RamCell, Register};
+use std::alloc::{AllocError, Global};
+use vlog_module::{Item, Port};
+
+/// The ports of pins.
+pub(crate) fn ports_of(alloc: Global, pins: &[Pin]) -> Result<Vec<Port>, AllocError>
+    ensures { IfOk result (λ ports. ports.items ≡ map port_of pins.now) }
+{
+    let mut ports = Vec::new(alloc);
+    for pin in pins {
+        let port = port_of(alloc, pin)?;
+        ports.push(port)?;
+    }
+    Ok(ports)
+}
+
+/// Adds registers.
+pub(crate) fn append_registers(
+    alloc: Global,
+    registers: &[Register],
+    items: &mut Vec<Item>,
+) -> Result<(), AllocError>
+    ensures { OnOk result (items.new.items ≡ items.old.items ++ map register_item registers.now) }
+{
+    for register in registers {
+        let item = register_item(alloc, register)?;
+        items.push(item)?;
+    }
+    Ok(())
+}
+
+/// Adds the read registers of RAMs.
+pub(crate) fn append_words(
+    alloc: Global,
+    rams: &[RamCell],
+    items: &mut Vec<Item>,
+) -> Result<(), AllocError>
+    ensures { OnOk result (items.new.items ≡ items.old.items ++ map read_register rams.now) }
+{
+    for ram in rams {
+        let item = read_register(alloc, ram)?;
+        items.push(item)?;
+    }
+    Ok(())
+}
+
+/// Adds the memories of RAMs.
+pub(crate) fn append_memories(
+    alloc: Global,
+    rams: &[RamCell],
+    items: &mut Vec<Item>,
+) -> Result<(), AllocError>
+    ensures { OnOk result (items.new.items ≡ items.old.items ++ map ram_memory rams.now) }
+{
+    for ram in rams {
+        let item = ram_memory(alloc, ram)?;
+        items.push(item)?;
+    }
+    Ok(())
+}
+
+/// Adds the wires of classes.
+pub(crate) fn append_wires(
+    alloc: Global,
+    design: &Design,
+    classes: &[u32],
+    items: &mut Vec<Item>,
+) -> Result<(), AllocError>
+    requires design { IsDesign design.now }
+    requires within { All (λ class. class < nets_in design.now) classes.now }
+    ensures { OnOk result (EachFabric design.now (λ fabric. items.new.items ≡ items.old.items ++ map (class_wire fabric) classes.now)) }
+{
+    for class in classes {
+        let item = class_wire(alloc, design, *class)?;
+        items.push(item)?;
+    }
+    Ok(())
+}
+
+/// Adds the values of output pins.
+pub(crate) fn append_outputs(
+    alloc: Global,
+    design: &Design,
+    outputs: &[Pin],
+    items: &mut Vec<Item>,
+) -> Result<(), AllocError>
+    requires { All (IsPinIn (nets_in design.now)) outputs.now }
+    ensures { OnOk result (EachFabric design.now (λ fabric. items.new.items ≡ items.old.items ++ map (output_assign fabric) outputs.now)) }
+{
+    for pin in outputs {
+        let item = output_assign(alloc, design, pin)?;
+        items.push(item)?;
+    }
+    Ok(())
+}
+
+/// Adds what registers are written as.
+pub(crate) fn append_register_items(
+    alloc: Global,
+    design: &Design,
+    registers: &[Register],
+    items: &mut Vec<Item>,
+) -> Result<(), AllocError>
+    requires design { IsDesign design.now }
+    requires within { All (IsRegisterIn design.now) registers.now }
+    ensures { OnOk result (EachFabric design.now (λ fabric. items.new.items ≡ items.old.items ++ flat_map (register_items fabric) registers.now)) }
+{
+    for register in registers {
+        append_register(alloc, design, register, items)?;
+    }
+    Ok(())
+}
+
+/// Adds the read ports of RAMs.
+pub(crate) fn append_reads(
+    alloc: Global,
+    design: &Design,
+    rams: &[RamCell],
+    items: &mut Vec<Item>,
+) -> Result<(), AllocError>
+    requires design { IsDesign design.now }
+    requires within { All (IsRamIn (nets_in design.now)) rams.now }
+    ensures { OnOk result (EachFabric design.now (λ fabric. items.new.items ≡ items.old.items ++ flat_map (read_items fabric) rams.now)) }
+{
+    for ram in rams {
+        append_read(alloc, design, ram, items)?;
+    }
+    Ok(())
+}
+
+/// Adds the write ports of RAMs.
+pub(crate) fn append_writes(
+    alloc: Global,
+    design: &Design,
+    rams: &[RamCell],
+    items: &mut Vec<Item>,
+) -> Result<(), AllocError>
+    requires design { IsDesign design.now }
+    requires within { All (IsRamIn (nets_in design.now)) rams.now }
+    ensures { OnOk result (EachFabric design.now (λ fabric. items.new.items ≡ items.old.items ++ flat_map (write_items fabric) rams.now)) }
+{
+    for ram in rams {
+        append_write(alloc, design, ram, items)?;
+    }
+    Ok(())
+}
+
+/// Adds the start words of the RAM at a place.
+fn append_start_words(
+    alloc: Global,
+    design: &Design,
+    place: usize,
+    ram: &RamCell,
+    items: &mut Vec<Item>,
+) -> Result<(), AllocError>
+    requires { place < length design.now.parts.rams.items }
+    ensures { OnOk result (EachFabric design.now (λ fabric. items.new.items ≡ items.old.items ++ start_items fabric (place, ram.now))) }
+{
+    for word in 0..256u16 {
+        let k = word as u8;
+        let memory = memory_name(alloc, ram)?;
+        let start = design.start_word(place, k);
+        items.push(Item::Start {
+            memory,
+            k,
+            word: start,
+        })?;
+    }
+    Ok(())
+}
+
+/// Adds the start words of RAMs.
+pub(crate) fn append_starts(
+    alloc: Global,
+    design: &Design,
+    rams: &[RamCell],
+    items: &mut Vec<Item>,
+) -> Result<(), AllocError>
+    requires { rams.now ≡ design.now.parts.rams.items }
+    ensures { OnOk result (EachFabric design.now (λ fabric. items.new.items ≡ items.old.items ++ flat_map (start_items fabric) (numbered rams.now))) }
+{
+    for (place, ram) in rams.iter().enumerate() {
+        append_start_words(alloc, design, place, ram, items)?;
+    }
+    Ok(())
+}

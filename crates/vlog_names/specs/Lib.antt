@@ -1,3 +1,0 @@
-pub mod Kept
-pub mod Scopes
-pub mod Seen

@@ -1,4 +1,0 @@
-pub mod Answers
-pub mod Drafts
-pub mod Headers
-pub mod Steps

@@ -1,0 +1,81 @@
+// How values use names.
+ghost use Rattle.std.specs.Prelude.{◌≡◌, ◌<◌, length};
+ghost use Rattle.vlog_forms.specs.Outcome.{role_use, value_uses};
+ghost use Rattle.vlog_forms.specs.Reading.{values_of};
+ghost use Rattle.vlog_forms.specs.Values.{seen};
+ghost use Rattle.vlog_read.specs.Found.{all_found};
+ghost use Rattle.vlog_text.specs.Seen.{seen_use, seen_uses};
+
+use vlog_forms::{Role, Value};
+use vlog_module::Sort;
+use vlog_read::{Found, bit_at, index_at, text_at};
+
+/// A wire, and the bit that a register has while the wire is 1.
+#[derive(Clone, Copy, Debug)]
+pub struct Reset<'a> {
+    pub wire: &'a [u8],
+    pub set: bool,
+}
+
+/// How an item uses a name.
+#[derive(Clone, Copy, Debug)]
+pub enum Use<'a> {
+    /// It declares the name.
+    Declares(Sort, &'a [u8]),
+    /// It reads the value of one bit that the name has.
+    Reads(&'a [u8]),
+    /// It reads a bit of the register of 16 bits that the name is.
+    ReadsBit(&'a [u8], u8),
+    /// It takes the name for a clock, a wire or a memory.
+    Takes(Sort, &'a [u8]),
+    /// It assigns what the name is.
+    Assigns(Sort, &'a [u8]),
+    /// It reads the register that the name is, but for the time in which a wire is 1.
+    Chooses(Reset<'a>, &'a [u8]),
+    /// It assigns the register that the name is, which a wire sets at once.
+    AssignsAtOnce(Reset<'a>, &'a [u8]),
+    /// It gives a word of the memory that the name is its start.
+    Starts(&'a [u8], u8),
+}
+
+/// How a value uses a name, if it does. The value has a place among the values of its item.
+pub(crate) fn use_of<'a>(value: Value<'a>, values: &[Found<'a>], place: usize) -> Option<Use<'a>>
+    requires { place < length values.now }
+    ensures { seen_uses result ≡ value_uses (seen value.entry) (values_of (all_found values.now)) place }
+{
+    match value {
+        Value::Name(role, name) => Some(role_use(role, values, place, name)),
+        Value::AtomName(name) => Some(Use::Reads(name)),
+        Value::AtomPart(name, k) => Some(Use::ReadsBit(name, k)),
+        Value::Edge(_) => None,
+        Value::Bit(_) => None,
+        Value::Word(_) => None,
+        Value::Index(_) => None,
+        Value::AtomBit(_) => None,
+    }
+}
+
+/// How a name is used in a role. It has a place among the values of its item.
+fn role_use<'a>(role: Role, values: &[Found<'a>], place: usize, name: &'a [u8]) -> Use<'a>
+    requires { place < length values.now }
+    ensures { seen_use result ≡ role_use role (values_of (all_found values.now)) place name.now }
+{
+    match role {
+        Role::Declares(sort) => Use::Declares(sort, name),
+        Role::Reads => Use::Reads(name),
+        Role::ReadsBit => Use::ReadsBit(name, index_at(values, place + 1)),
+        Role::Takes(sort) => Use::Takes(sort, name),
+        Role::Assigns(sort) => Use::Assigns(sort, name),
+        Role::Chooses => {
+            let wire = text_at(values, place.saturating_sub(2));
+            let set = bit_at(values, place.saturating_sub(1));
+            Use::Chooses(Reset { wire, set }, name)
+        }
+        Role::AssignsAtOnce => {
+            let wire = text_at(values, place.saturating_sub(1));
+            let set = bit_at(values, place + 1);
+            Use::AssignsAtOnce(Reset { wire, set }, name)
+        }
+        Role::Starts => Use::Starts(name, index_at(values, place + 1)),
+    }
+}

@@ -1,8 +1,0 @@
-use Rattle.std.proofs.Common.{◌++◌, ap, ◌∙◌, arith}
-use Rattle.std.specs.Prelude.{decimal}
-use Rattle.vlog_write.proofs.Named.{wire-bytes}
-use Rattle.vlog_write.proofs.names.wire_name.Goals as goal
-
-pub new-requires : goal.new-requires
-new-requires c =
-    wire-bytes c.args.class c.bytes.result.now (c.bytes.ensures ∙ (c.push_number.ensures ∙ ap (λ text. text ++ decimal c.args.class) c.of-text.ensures)) (omega arith)

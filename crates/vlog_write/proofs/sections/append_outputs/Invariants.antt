@@ -1,7 +1,0 @@
-use Rattle.std.proofs.Common.{◌≡◌, ◌++◌, map, take}
-use Rattle.vlog_emit.specs.Written.{output_assign}
-use Rattle.vlog_write.specs.Each.{EachFabric}
-use Rattle.vlog_write.proofs.sections.append_outputs.Given as goal
-
-abbrev pub invariant-loop-pin : goal.invariant-loop-pin
-invariant-loop-pin l = EachFabric l.design (λ fabric. l.items.items ≡ l.initial.items.items ++ map (output_assign fabric) (take l.pin-index l.outputs))

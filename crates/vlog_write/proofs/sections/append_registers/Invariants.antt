@@ -1,6 +1,0 @@
-use Rattle.std.proofs.Common.{◌≡◌, ◌++◌, map, take}
-use Rattle.vlog_emit.specs.Written.{register_item}
-use Rattle.vlog_write.proofs.sections.append_registers.Given as goal
-
-abbrev pub invariant-loop-register : goal.invariant-loop-register
-invariant-loop-register l = l.items.items ≡ l.initial.items.items ++ map register_item (take l.register-index l.registers)

@@ -1,7 +1,0 @@
-use Rattle.std.proofs.Common.{◌≡◌, ◌++◌, map, take}
-use Rattle.vlog_emit.specs.Written.{class_wire}
-use Rattle.vlog_write.specs.Each.{EachFabric}
-use Rattle.vlog_write.proofs.sections.append_wires.Given as goal
-
-abbrev pub invariant-loop-class : goal.invariant-loop-class
-invariant-loop-class l = EachFabric l.design (λ fabric. l.items.items ≡ l.initial.items.items ++ map (class_wire fabric) (take l.class-index l.classes))

@@ -1,7 +1,0 @@
-use Rattle.std.proofs.Common.{◌≡◌, ◌++◌, flat_map, take}
-use Rattle.vlog_emit.specs.Written.{write_items}
-use Rattle.vlog_write.specs.Each.{EachFabric}
-use Rattle.vlog_write.proofs.sections.append_writes.Given as goal
-
-abbrev pub invariant-loop-ram : goal.invariant-loop-ram
-invariant-loop-ram l = EachFabric l.design (λ fabric. l.items.items ≡ l.initial.items.items ++ flat_map (write_items fabric) (take l.ram-index l.rams))

@@ -1,6 +1,0 @@
-use Rattle.std.proofs.Common.{◌≡◌, map, take}
-use Rattle.vlog_emit.specs.Written.{port_of}
-use Rattle.vlog_write.proofs.sections.ports_of.Given as goal
-
-abbrev pub invariant-loop-pin : goal.invariant-loop-pin
-invariant-loop-pin l = l.ports.items ≡ map port_of (take l.pin-index l.pins)

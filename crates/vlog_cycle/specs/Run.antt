@@ -1,8 +1,9 @@
 -- The run of a module over a list of events: what it holds after the start, and after each event.
-use Rattle.std.specs.Prelude.{ℕ, zero, suc, ◌-◌, Bool, true, false, not, ◌&&◌, ◌||◌, ◌==◌, List, [], ◌∷◌, ◌++◌, Option, Some, None, fold, map, flat_map, get_or, replicate, slice_set, unwrap_or, bit_and, bit_or, if◌then◌else◌}
+use Rattle.std.specs.Prelude.{ℕ, zero, suc, ◌-◌, ◌*◌, ◌/◌, ◌%◌, ◌^◌, Bool, true, false, not, ◌&&◌, ◌||◌, ◌==◌, List, [], ◌∷◌, ◌++◌, Option, Some, None, fold, map, flat_map, get_or, replicate, slice_set, unwrap_or, bit_and, bit_or, if◌then◌else◌}
 use Rattle.std.specs.Option.{option_map}
 use Rattle.vlog_module.specs.declared.item.Item.{Item}
-use Rattle.vlog_module.specs.declared.item.Item.TheVariants.{Register, Word, Memory, Wire, Assign, Flip, FlipAtOnce, SetAtOnce, Read, Write, Start}
+use Rattle.vlog_module.specs.declared.item.Item.TheVariants.{Register, Word, Memory, Wire, Assign, Flip, FlipAtOnce, SetAtOnce, Read, ReadNarrow, Write, WriteNarrow, Start}
+use Rattle.vlog_module.specs.declared.atoms.Atom.{Atom}
 use Rattle.vlog_module.specs.declared.atoms.Atom.TheVariants.{Whole}
 use Rattle.vlog_module.specs.declared.modules.Port.{Port}
 use Rattle.vlog_module.specs.Maps.{value_in}
@@ -130,6 +131,14 @@ is_clocked m event falling clock = is_pin event.pin (pin_of m.ports clock) && is
 abbrev pub masked : ℕ → ℕ → ℕ → ℕ
 masked word mask bits = bit_or (bit_and word mask) (bit_and bits (65535 - mask))
 
+-- a word that is moved down, and of which the bits of a pattern stay: `(word >> shift) & pattern`
+abbrev pub moved_down : ℕ → ℕ → ℕ → ℕ
+moved_down word shift pattern = bit_and (word / 2 ^ shift) pattern
+
+-- a pattern that is moved up and cut to 16 bits: `pattern << shift`
+abbrev pub moved_up : ℕ → ℕ → ℕ
+moved_up pattern shift = pattern * 2 ^ shift % 65536
+
 -- what a clocked item assigns at an event is computed from the entry before
 
 -- the register that an item assigns, and its next bit
@@ -144,11 +153,23 @@ next_bit m before event (FlipAtOnce falling clock reset set target enable lut) =
     else None
 next_bit m before event _ = None
 
--- the register that an item assigns, and its next word: none where there is no such memory
+-- whether an event is the edge of a port of a memory, and both its enables are 1
+abbrev pub is_enabled : Parts → Entry → Event → Bool → List ℕ → Atom → Atom → Bool
+is_enabled m before event falling clock clock_enable enable =
+    is_clocked m event falling clock && atom_value (readable before) clock_enable && atom_value (readable before) enable
+
+-- a register, and what it takes of the word at an address of a memory: none where there is no such memory
+abbrev pub taken_from : Entry → List ℕ → List ℕ → List Atom → (ℕ → ℕ) → Option (List ℕ × ℕ)
+taken_from before target memory address taken =
+    option_map (λ words. (target, taken (get_or words (atoms_value (readable before) address) 0))) (value_in before.memories memory)
+
+-- the register that an item assigns, and its next word
 abbrev pub next_word : Parts → Entry → Event → Item → Option (List ℕ × ℕ)
 next_word m before event (Read falling clock clock_enable enable target memory address) =
-    if is_clocked m event falling clock && atom_value (readable before) clock_enable && atom_value (readable before) enable
-    then option_map (λ words. (target, get_or words (atoms_value (readable before) address) 0)) (value_in before.memories memory)
+    if is_enabled m before event falling clock clock_enable enable then taken_from before target memory address (λ word. word) else None
+next_word m before event (ReadNarrow falling clock clock_enable enable target memory address shift pattern) =
+    if is_enabled m before event falling clock clock_enable enable
+    then taken_from before target memory address (λ word. moved_down word (atoms_value (readable before) shift) pattern)
     else None
 next_word m before event _ = None
 
@@ -158,16 +179,25 @@ pub record Put : Type 0 where
   pub address : ℕ
   pub word : ℕ
 
+-- bits for the word at an address of a memory, whose bits stay where the mask is 1
+abbrev pub put_at : Entry → List ℕ → List Atom → ℕ → List Atom → Put
+put_at before memory address mask bits =
+    let at = atoms_value (readable before) address in
+    record {
+      memory = memory;
+      address = at;
+      word = masked (get_or (words_of before.memories memory) at 0) mask (atoms_value (readable before) bits);
+    }
+
 -- the word that an item puts in a memory
 abbrev pub next_put : Parts → Entry → Event → Item → Option Put
 next_put m before event (Write falling clock clock_enable enable memory address mask bits) =
-    let at = atoms_value (readable before) address in
-    if is_clocked m event falling clock && atom_value (readable before) clock_enable && atom_value (readable before) enable
-    then Some (record {
-      memory = memory;
-      address = at;
-      word = masked (get_or (words_of before.memories memory) at 0) (atoms_value (readable before) mask) (atoms_value (readable before) bits);
-    })
+    if is_enabled m before event falling clock clock_enable enable
+    then Some (put_at before memory address (atoms_value (readable before) mask) bits)
+    else None
+next_put m before event (WriteNarrow falling clock clock_enable enable memory address pattern shift bits) =
+    if is_enabled m before event falling clock clock_enable enable
+    then Some (put_at before memory address (65535 - moved_up pattern (atoms_value (readable before) shift)) bits)
     else None
 next_put m before event _ = None
 

@@ -45,7 +45,9 @@ item_form (item.Flip falling clock enable reset set target lut) = form.Flip
 item_form (item.FlipAtOnce falling clock reset set target enable lut) = form.FlipAtOnce
 item_form (item.SetAtOnce reset set target) = form.SetAtOnce
 item_form (item.Read falling clock clock_enable enable target memory address) = form.Read
+item_form (item.ReadNarrow falling clock clock_enable enable target memory address shift pattern) = form.ReadNarrow
 item_form (item.Write falling clock clock_enable enable memory address mask bits) = form.Write
+item_form (item.WriteNarrow falling clock clock_enable enable memory address pattern shift bits) = form.WriteNarrow
 item_form (item.Start memory k word) = form.Start
 
 abbrev pub lut_values : Lut → List Value
@@ -76,9 +78,15 @@ item_values (item.SetAtOnce reset set target) =
 item_values (item.Read falling clock clock_enable enable target memory address) =
     Edge falling ∷ Name (Takes sort.Input) clock ∷ AnAtom clock_enable ∷ AnAtom enable ∷ Name (Assigns sort.Word) target
     ∷ Name (Takes sort.Memory) memory ∷ atoms_values address
+item_values (item.ReadNarrow falling clock clock_enable enable target memory address shift pattern) =
+    Edge falling ∷ Name (Takes sort.Input) clock ∷ AnAtom clock_enable ∷ AnAtom enable ∷ Name (Assigns sort.Word) target
+    ∷ Name (Takes sort.Memory) memory ∷ (atoms_values address ++ (atoms_values shift ++ Word pattern ∷ []))
 item_values (item.Write falling clock clock_enable enable memory address mask bits) =
     Edge falling ∷ Name (Takes sort.Input) clock ∷ AnAtom clock_enable ∷ AnAtom enable ∷ Name (Assigns sort.Memory) memory
     ∷ (atoms_values address ++ (atoms_values mask ++ atoms_values bits))
+item_values (item.WriteNarrow falling clock clock_enable enable memory address pattern shift bits) =
+    Edge falling ∷ Name (Takes sort.Input) clock ∷ AnAtom clock_enable ∷ AnAtom enable ∷ Name (Assigns sort.Memory) memory
+    ∷ (atoms_values address ++ (Word pattern ∷ (atoms_values shift ++ atoms_values bits)))
 item_values (item.Start memory k word) = Name Starts memory ∷ Index k ∷ Word word ∷ []
 
 -- ---- the tokens of a module
@@ -185,7 +193,14 @@ item_of form.SetAtOnce v = item.SetAtOnce (name_in v) (bit_in (behind 2 v)) (nam
 item_of form.Read v =
     item.Read (edge_in v) (name_in (behind 1 v)) (atom_in (behind 2 v)) (atom_in (behind 3 v)) (name_in (behind 4 v))
     (name_in (behind 5 v)) (reverse (atoms_in 8 (behind 6 v)))
+item_of form.ReadNarrow v =
+    item.ReadNarrow (edge_in v) (name_in (behind 1 v)) (atom_in (behind 2 v)) (atom_in (behind 3 v)) (name_in (behind 4 v))
+    (name_in (behind 5 v)) (reverse (atoms_in 8 (behind 6 v))) (reverse (atoms_in 3 (behind 14 v))) (word_in (behind 17 v))
 item_of form.Write v =
     item.Write (edge_in v) (name_in (behind 1 v)) (atom_in (behind 2 v)) (atom_in (behind 3 v)) (name_in (behind 4 v))
     (reverse (atoms_in 8 (behind 5 v))) (reverse (atoms_in 16 (behind 13 v))) (reverse (atoms_in 16 (behind 29 v)))
+item_of form.WriteNarrow v =
+    item.WriteNarrow (edge_in v) (name_in (behind 1 v)) (atom_in (behind 2 v)) (atom_in (behind 3 v)) (name_in (behind 4 v))
+    (reverse (atoms_in 8 (behind 5 v))) (word_in (behind 13 v)) (reverse (atoms_in 3 (behind 14 v)))
+    (reverse (atoms_in 16 (behind 17 v)))
 item_of _ v = item.Start (name_in v) (index_in (behind 1 v)) (word_in (behind 2 v))

@@ -165,4 +165,4 @@ abbrev pub all_forms : List Form
 all_forms =
     form.Input ∷ form.Output ∷ form.Register ∷ form.Word ∷ form.Memory ∷ form.WireBit ∷ form.WireWhole ∷ form.WirePart
     ∷ form.WireLut ∷ form.WireMajority ∷ form.WireChoose ∷ form.Assign ∷ form.Flip ∷ form.FlipAtOnce ∷ form.SetAtOnce
-    ∷ form.Read ∷ form.Write ∷ form.Start ∷ form.End ∷ []
+    ∷ form.Read ∷ form.ReadNarrow ∷ form.Write ∷ form.WriteNarrow ∷ form.Start ∷ form.End ∷ []

@@ -75,6 +75,13 @@ table form.Read =
     Atom ∷ Space ∷ Fixed sign.And ∷ Space ∷ Atom ∷ Fixed sign.CloseParen ∷ Space ∷ Name (Assigns sort.Word) ∷
     Space ∷ Fixed sign.LessEquals ∷ Space ∷ Name (Takes sort.Memory) ∷ Fixed sign.OpenBracket ∷ Atoms 8 ∷
     Fixed sign.CloseBracket ∷ Fixed sign.Semicolon ∷ []
+table form.ReadNarrow =
+    Fixed sign.Always ∷ Space ∷ Fixed sign.At ∷ Fixed sign.OpenParen ∷ Edge ∷ Space ∷
+    Name (Takes sort.Input) ∷ Fixed sign.CloseParen ∷ Space ∷ Fixed sign.If ∷ Space ∷ Fixed sign.OpenParen ∷
+    Atom ∷ Space ∷ Fixed sign.And ∷ Space ∷ Atom ∷ Fixed sign.CloseParen ∷ Space ∷ Name (Assigns sort.Word) ∷
+    Space ∷ Fixed sign.LessEquals ∷ Space ∷ Fixed sign.OpenParen ∷ Name (Takes sort.Memory) ∷
+    Fixed sign.OpenBracket ∷ Atoms 8 ∷ Fixed sign.CloseBracket ∷ Space ∷ Fixed sign.ShiftRight ∷ Space ∷ Atoms 3 ∷
+    Fixed sign.CloseParen ∷ Space ∷ Fixed sign.And ∷ Space ∷ Word ∷ Fixed sign.Semicolon ∷ []
 table form.Write =
     Fixed sign.Always ∷ Space ∷ Fixed sign.At ∷ Fixed sign.OpenParen ∷ Edge ∷ Space ∷
     Name (Takes sort.Input) ∷ Fixed sign.CloseParen ∷ Space ∷ Fixed sign.If ∷ Space ∷ Fixed sign.OpenParen ∷
@@ -85,6 +92,17 @@ table form.Write =
     Fixed sign.CloseParen ∷ Space ∷ Fixed sign.Or ∷ Space ∷ Fixed sign.OpenParen ∷ Atoms 16 ∷ Space ∷
     Fixed sign.And ∷ Space ∷ Fixed sign.Not ∷ AtomsAgain 13 16 ∷ Fixed sign.CloseParen ∷
     Fixed sign.Semicolon ∷ []
+table form.WriteNarrow =
+    Fixed sign.Always ∷ Space ∷ Fixed sign.At ∷ Fixed sign.OpenParen ∷ Edge ∷ Space ∷
+    Name (Takes sort.Input) ∷ Fixed sign.CloseParen ∷ Space ∷ Fixed sign.If ∷ Space ∷ Fixed sign.OpenParen ∷
+    Atom ∷ Space ∷ Fixed sign.And ∷ Space ∷ Atom ∷ Fixed sign.CloseParen ∷ Space ∷
+    Name (Assigns sort.Memory) ∷ Fixed sign.OpenBracket ∷ Atoms 8 ∷ Fixed sign.CloseBracket ∷ Space ∷
+    Fixed sign.LessEquals ∷ Space ∷ Fixed sign.OpenParen ∷ Again 4 ∷ Fixed sign.OpenBracket ∷
+    AtomsAgain 5 8 ∷ Fixed sign.CloseBracket ∷ Space ∷ Fixed sign.And ∷ Space ∷ Fixed sign.Not ∷
+    Fixed sign.OpenParen ∷ Word ∷ Space ∷ Fixed sign.ShiftLeft ∷ Space ∷ Atoms 3 ∷ Fixed sign.CloseParen ∷
+    Fixed sign.CloseParen ∷ Space ∷ Fixed sign.Or ∷ Space ∷ Fixed sign.OpenParen ∷ Atoms 16 ∷ Space ∷
+    Fixed sign.And ∷ Space ∷ Fixed sign.OpenParen ∷ Again 13 ∷ Space ∷ Fixed sign.ShiftLeft ∷ Space ∷
+    AtomsAgain 14 3 ∷ Fixed sign.CloseParen ∷ Fixed sign.CloseParen ∷ Fixed sign.Semicolon ∷ []
 table form.Start =
     Fixed sign.Initial ∷ Space ∷ Name Starts ∷ Fixed sign.OpenBracket ∷ Index 255 ∷ Fixed sign.CloseBracket ∷
     Space ∷ Fixed sign.Equals ∷ Space ∷ Word ∷ Fixed sign.Semicolon ∷ []

@@ -35,8 +35,12 @@ pub enum Form {
     SetAtOnce,
     /// `always @(EDGE NAME) if (ATOM & ATOM) NAME <= NAME[ADDR];`
     Read,
+    /// `always @(EDGE NAME) if (ATOM & ATOM) NAME <= (NAME[ADDR] >> {H}) & WORD;`
+    ReadNarrow,
     /// `always @(EDGE NAME) if (ATOM & ATOM) NAME[ADDR] <= (NAME[ADDR] & BITS16) | (BITS16 & ~BITS16);`
     Write,
+    /// `always @(EDGE NAME) if (ATOM & ATOM) NAME[ADDR] <= (NAME[ADDR] & ~(WORD << {H})) | (BITS16 & (WORD << {H}));`
+    WriteNarrow,
     /// `initial NAME[k] = WORD;`
     Start,
     /// `endmodule`

@@ -8,7 +8,7 @@ use Rattle.vlog_module.specs.declared.item.Lut.{Lut}
 use Rattle.vlog_module.specs.declared.item.Right.{Right}
 use Rattle.vlog_module.specs.declared.item.Right.TheVariants.{Bit as RightBit, Whole as RightWhole, Part as RightPart, Lut as RightLut, Majority, Choose}
 use Rattle.vlog_module.specs.declared.item.Item.{Item}
-use Rattle.vlog_module.specs.declared.item.Item.TheVariants.{Register as RegisterItem, Word as WordItem, Memory as MemoryItem, Wire as WireItem, Assign, Flip, FlipAtOnce, SetAtOnce, Read, Write, Start}
+use Rattle.vlog_module.specs.declared.item.Item.TheVariants.{Register as RegisterItem, Word as WordItem, Memory as MemoryItem, Wire as WireItem, Assign, Flip, FlipAtOnce, SetAtOnce, Read, ReadNarrow, Write, WriteNarrow, Start}
 
 -- how an item uses a name
 pub data Use : Type 0 where
@@ -76,8 +76,16 @@ uses_of (SetAtOnce reset set target) = Takes Wire reset ∷ AssignsAtOnce reset 
 uses_of (Read falling clock clock_enable enable target memory address) =
     Takes Input clock
     ∷ (atom_uses clock_enable ++ atom_uses enable ++ Assigns Word target ∷ Takes Memory memory ∷ atoms_uses address)
+uses_of (ReadNarrow falling clock clock_enable enable target memory address shift pattern) =
+    Takes Input clock
+    ∷ (atom_uses clock_enable ++ atom_uses enable ++ Assigns Word target ∷ Takes Memory memory ∷ atoms_uses address
+    ++ atoms_uses shift)
 uses_of (Write falling clock clock_enable enable memory address mask bits) =
     Takes Input clock
     ∷ (atom_uses clock_enable ++ atom_uses enable ++ Assigns Memory memory ∷ atoms_uses address ++ atoms_uses mask
+    ++ atoms_uses bits)
+uses_of (WriteNarrow falling clock clock_enable enable memory address pattern shift bits) =
+    Takes Input clock
+    ∷ (atom_uses clock_enable ++ atom_uses enable ++ Assigns Memory memory ∷ atoms_uses address ++ atoms_uses shift
     ++ atoms_uses bits)
 uses_of (Start memory k word) = Starts memory k ∷ []

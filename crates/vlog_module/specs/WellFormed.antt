@@ -8,7 +8,7 @@ use Rattle.vlog_module.specs.declared.item.Lut.{Lut}
 use Rattle.vlog_module.specs.declared.item.Right.{Right}
 use Rattle.vlog_module.specs.declared.item.Right.TheVariants.{Lut as RightLut}
 use Rattle.vlog_module.specs.declared.item.Item.{Item}
-use Rattle.vlog_module.specs.declared.item.Item.TheVariants.{Register as RegisterItem, Word as WordItem, Memory as MemoryItem, Wire as WireItem, Assign, Flip, FlipAtOnce, SetAtOnce, Read, Write, Start}
+use Rattle.vlog_module.specs.declared.item.Item.TheVariants.{Register as RegisterItem, Word as WordItem, Memory as MemoryItem, Wire as WireItem, Assign, Flip, FlipAtOnce, SetAtOnce, Read, ReadNarrow, Write, WriteNarrow, Start}
 use Rattle.vlog_module.specs.declared.modules.Port.{Port}
 use Rattle.vlog_module.specs.Maps.{value_in}
 use Rattle.vlog_module.specs.Names.{IsName}
@@ -29,7 +29,9 @@ section_of (Flip falling clock enable reset set target lut) = 7
 section_of (FlipAtOnce falling clock reset set target enable lut) = 7
 section_of (SetAtOnce reset set target) = 7
 section_of (Read falling clock clock_enable enable target memory address) = 8
+section_of (ReadNarrow falling clock clock_enable enable target memory address shift pattern) = 8
 section_of (Write falling clock clock_enable enable memory address mask bits) = 9
+section_of (WriteNarrow falling clock clock_enable enable memory address pattern shift bits) = 9
 section_of (Start memory k word) = 10
 
 abbrev pub port_sort : Port → Sort
@@ -156,15 +158,19 @@ abbrev pub IsRight : Right → Type 0
 IsRight (RightLut lut) = IsLut lut
 IsRight _ = Unit {0}
 
--- whether words have 16 bits, tables four inputs, addresses eight bits, and masks and bits sixteen
+-- whether words have 16 bits, tables four inputs, addresses eight bits, shifts three, and masks and bits sixteen
 abbrev pub IsShaped : Item → Type 0
 IsShaped (WordItem name start) = start < 65536
 IsShaped (WireItem name right) = IsRight right
 IsShaped (Flip falling clock enable reset set target lut) = IsLut lut
 IsShaped (FlipAtOnce falling clock reset set target enable lut) = IsLut lut
 IsShaped (Read falling clock clock_enable enable target memory address) = length address ≡ 8
+IsShaped (ReadNarrow falling clock clock_enable enable target memory address shift pattern) =
+    (length address ≡ 8) × (length shift ≡ 3) × (pattern < 65536)
 IsShaped (Write falling clock clock_enable enable memory address mask bits) =
     (length address ≡ 8) × (length mask ≡ 16) × (length bits ≡ 16)
+IsShaped (WriteNarrow falling clock clock_enable enable memory address pattern shift bits) =
+    (length address ≡ 8) × (pattern < 65536) × (length shift ≡ 3) × (length bits ≡ 16)
 IsShaped (Start memory k word) = word < 65536
 IsShaped _ = Unit {0}
 

@@ -108,6 +108,22 @@ pub enum Item {
         /// Eight atoms, the lowest bit of the address first.
         address: Atoms,
     },
+    /// `always @(EDGE clock) if (clock_enable & enable) target <= (memory[address] >> shift) & pattern;`: the word is moved down, and
+    /// the bits of the pattern stay.
+    ReadNarrow {
+        /// Whether the edge is `negedge`.
+        falling: bool,
+        clock: Name,
+        clock_enable: Atom,
+        enable: Atom,
+        target: Name,
+        memory: Name,
+        /// Eight atoms, the lowest bit of the address first.
+        address: Atoms,
+        /// Three atoms, the lowest bit of the shift first.
+        shift: Atoms,
+        pattern: u16,
+    },
     /// `always @(EDGE clock) if (clock_enable & enable) memory[address] <= (memory[address] & mask) | (bits & ~mask);`
     Write {
         /// Whether the edge is `negedge`.
@@ -120,6 +136,24 @@ pub enum Item {
         address: Atoms,
         /// Sixteen atoms, the lowest bit first; a bit of the word stays where its atom is 1.
         mask: Atoms,
+        /// Sixteen atoms, the lowest bit first.
+        bits: Atoms,
+    },
+    /// `always @(EDGE clock) if (clock_enable & enable)
+    /// memory[address] <= (memory[address] & ~(pattern << shift)) | (bits & (pattern << shift));`, on one line: the pattern is moved up,
+    /// and the bits under it are written.
+    WriteNarrow {
+        /// Whether the edge is `negedge`.
+        falling: bool,
+        clock: Name,
+        clock_enable: Atom,
+        enable: Atom,
+        memory: Name,
+        /// Eight atoms, the lowest bit of the address first.
+        address: Atoms,
+        pattern: u16,
+        /// Three atoms, the lowest bit of the shift first.
+        shift: Atoms,
         /// Sixteen atoms, the lowest bit first.
         bits: Atoms,
     },

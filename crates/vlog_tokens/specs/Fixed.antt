@@ -2,7 +2,7 @@
 use Rattle.std.specs.Prelude.{ℕ, ◌&&◌, List, ◌==◌, if◌then◌else◌, Option, Some, None, codes}
 use Rattle.std.specs.Str.{bytes_eq}
 use Rattle.vlog_tokens.specs.declared.fixed.Fixed.{Fixed}
-use Rattle.vlog_tokens.specs.declared.fixed.Fixed.TheVariants.{OpenParen, CloseParen, OpenBracket, CloseBracket, OpenBrace, CloseBrace, Comma, Semicolon, Colon, Equals, LessEquals, And, Or, Not, ShiftRight, At, Question, Module, Endmodule, Input, Output, Reg, Wire, Assign, Always, Posedge, Negedge, If, Begin, End, Else, Initial, OrEdge}
+use Rattle.vlog_tokens.specs.declared.fixed.Fixed.TheVariants.{OpenParen, CloseParen, OpenBracket, CloseBracket, OpenBrace, CloseBrace, Comma, Semicolon, Colon, Equals, LessEquals, And, Or, Not, ShiftLeft, ShiftRight, At, Question, Module, Endmodule, Input, Output, Reg, Wire, Assign, Always, Posedge, Negedge, If, Begin, End, Else, Initial, OrEdge}
 
 -- how each is spelled
 abbrev pub fixed_text : Fixed → List ℕ
@@ -20,6 +20,7 @@ fixed_text LessEquals = codes "<="
 fixed_text And = codes "&"
 fixed_text Or = codes "|"
 fixed_text Not = codes "~"
+fixed_text ShiftLeft = codes "<<"
 fixed_text ShiftRight = codes ">>"
 fixed_text At = codes "@"
 fixed_text Question = codes "?"
@@ -65,6 +66,7 @@ word_of text =
 unfoldable pub pair_of : ℕ → ℕ → Option Fixed
 pair_of first second =
     if (first == 60) && (second == 61) then Some LessEquals else
+    if (first == 60) && (second == 60) then Some ShiftLeft else
     if (first == 62) && (second == 62) then Some ShiftRight else
     None
 

@@ -19,6 +19,7 @@ pub enum Fixed {
     And,
     Or,
     Not,
+    ShiftLeft,
     ShiftRight,
     At,
     Question,
@@ -61,6 +62,7 @@ impl Fixed {
             Fixed::And => b"&",
             Fixed::Or => b"|",
             Fixed::Not => b"~",
+            Fixed::ShiftLeft => b"<<",
             Fixed::ShiftRight => b">>",
             Fixed::At => b"@",
             Fixed::Question => b"?",
@@ -133,6 +135,8 @@ pub(crate) fn fixed_pair(first: u8, second: u8) -> Option<Fixed>
 {
     if first == b'<' && second == b'=' {
         Some(Fixed::LessEquals)
+    } else if first == b'<' && second == b'<' {
+        Some(Fixed::ShiftLeft)
     } else if first == b'>' && second == b'>' {
         Some(Fixed::ShiftRight)
     } else {

@@ -362,7 +362,7 @@ two-bytes : (byte : ℕ) (rest : List ℕ) (one : Fixed) → pair_of byte (byte_
 unfolding pair_of
 two-bytes byte [] one found = absurd (none (byte == 60) (byte == 62) found)
   where
-    none : (p q : Bool) → (if p && false then Some sign.LessEquals else if q && false then Some sign.ShiftRight else None) ≡ Some one → ⊥
+    none : (p q : Bool) → (if p && false then Some sign.LessEquals else if p && false then Some sign.ShiftLeft else if q && false then Some sign.ShiftRight else None) ≡ Some one → ⊥
     none true true is = absurd cc
     none true false is = absurd cc
     none false true is = absurd cc

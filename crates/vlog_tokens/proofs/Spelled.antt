@@ -33,6 +33,7 @@ fixed-sort sign.LessEquals = as_pair 60 61 refl refl refl refl
 fixed-sort sign.And = as_sign 38 refl refl refl refl
 fixed-sort sign.Or = as_sign 124 refl refl refl refl
 fixed-sort sign.Not = as_sign 126 refl refl refl refl
+fixed-sort sign.ShiftLeft = as_pair 60 60 refl refl refl refl
 fixed-sort sign.ShiftRight = as_pair 62 62 refl refl refl refl
 fixed-sort sign.At = as_sign 64 refl refl refl refl
 fixed-sort sign.Question = as_sign 63 refl refl refl refl
@@ -143,20 +144,18 @@ sign-spelled byte one found = among-sign byte all_signs one refl found
 
 pub pair-spelled : (a b : ℕ) (one : Fixed) → pair_of a b ≡ Some one → a ∷ b ∷ [] ≡ fixed_text one
 unfolding pair_of
-pair-spelled a b one found = by (a == 60) (b == 61) (a == 62) (b == 62) refl refl refl refl found
+pair-spelled a b one found = step 60 61 sign.LessEquals refl _ (step 60 60 sign.ShiftLeft refl _ (step 62 62 sign.ShiftRight refl None none)) found
   where
-    by : (p q r s : Bool) → (a == 60) ≡ p → (b == 61) ≡ q → (a == 62) ≡ r → (b == 62) ≡ s
-        → (if p && q then Some sign.LessEquals else if r && s then Some sign.ShiftRight else None) ≡ Some one → a ∷ b ∷ [] ≡ fixed_text one
-    by true true r s p_is q_is r_is s_is here =
-        let is : sign.LessEquals ≡ one = cc in
-        rw (eqb-true a 60 p_is, eqb-true b 61 q_is) (ap fixed_text is)
-    by true false true true p_is q_is r_is s_is here =
-        let is : sign.ShiftRight ≡ one = cc in
-        rw (eqb-true a 62 r_is, eqb-true b 62 s_is) (ap fixed_text is)
-    by false q true true p_is q_is r_is s_is here =
-        let is : sign.ShiftRight ≡ one = cc in
-        rw (eqb-true a 62 r_is, eqb-true b 62 s_is) (ap fixed_text is)
-    by true false true false p_is q_is r_is s_is here = absurd cc
-    by true false false s p_is q_is r_is s_is here = absurd cc
-    by false q true false p_is q_is r_is s_is here = absurd cc
-    by false q false s p_is q_is r_is s_is here = absurd cc
+    none : None ≡ Some one → a ∷ b ∷ [] ≡ fixed_text one
+    none is = absurd cc
+
+    step : (first second : ℕ) (sign : Fixed) → first ∷ second ∷ [] ≡ fixed_text sign → (others : Option Fixed) → (others ≡ Some one → a ∷ b ∷ [] ≡ fixed_text one)
+        → (if (a == first) && (b == second) then Some sign else others) ≡ Some one → a ∷ b ∷ [] ≡ fixed_text one
+    step first second sign spelled others behind here = by (a == first) (b == second) refl refl here
+      where
+        by : (p q : Bool) → (a == first) ≡ p → (b == second) ≡ q → (if p && q then Some sign else others) ≡ Some one → a ∷ b ∷ [] ≡ fixed_text one
+        by true true a_is b_is is =
+            let same : sign ≡ one = cc in
+            rw (eqb-true a first a_is, eqb-true b second b_is) (spelled ∙ ap fixed_text same)
+        by true false a_is b_is is = behind is
+        by false q a_is b_is is = behind is

@@ -1,7 +1,7 @@
 -- The definition of tokens on small texts.
 use Rattle.std.proofs.Common.{◌≡◌, true, false, [], ◌∷◌, refl}
 use Rattle.std.specs.Prelude.{codes}
-use Rattle.vlog_tokens.specs.declared.fixed.Fixed.TheVariants.{Equals, LessEquals, OrEdge, Question, Reg, Semicolon, ShiftRight}
+use Rattle.vlog_tokens.specs.declared.fixed.Fixed.TheVariants.{Equals, LessEquals, OrEdge, Question, Reg, Semicolon, ShiftLeft, ShiftRight}
 use Rattle.vlog_tokens.specs.Fixed.{pair_of, sign_of, word_of}
 use Rattle.vlog_tokens.specs.Tokens.{digits_length, digits_token, front_length, front_token, name_or_word, sign_length, sign_token, spot, spots_from, spots_of}
 use Rattle.vlog_tokens.specs.Tokens.{TokenValue as token}
@@ -16,6 +16,12 @@ longest : spots_of (codes "regs<=16'hAb0f>>1'b0")
     ≡ spot 0 (token.name (codes "regs")) ∷ spot 4 (token.fixed LessEquals) ∷ spot 6 (token.word 43791) ∷ spot 14 (token.fixed ShiftRight) ∷ spot 16 (token.bit false) ∷ []
 unfolding spots_from front_token front_length digits_token digits_length sign_token sign_length name_or_word word_of pair_of sign_of
 longest = refl
+
+-- two signs of shifts, and what is left where their bytes are not two
+shifts : spots_of (codes "<<<=<<<>>>") ≡ spot 0 (token.fixed ShiftLeft) ∷ spot 2 (token.fixed LessEquals) ∷ spot 4 (token.fixed ShiftLeft) ∷ spot 6 token.stray
+    ∷ spot 7 (token.fixed ShiftRight) ∷ spot 9 token.stray ∷ []
+unfolding spots_from front_token front_length digits_token digits_length sign_token sign_length name_or_word word_of pair_of sign_of
+shifts = refl
 
 -- a number has three digits at most; where no bit and no word is whole, its first digits are a number
 shorter : spots_of (codes "1234 1'b2 16'h12g")

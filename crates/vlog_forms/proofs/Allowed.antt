@@ -182,7 +182,9 @@ form-limited form.Flip = refl
 form-limited form.FlipAtOnce = refl
 form-limited form.SetAtOnce = refl
 form-limited form.Read = refl
+form-limited form.ReadNarrow = refl
 form-limited form.Write = refl
+form-limited form.WriteNarrow = refl
 form-limited form.Start = refl
 form-limited form.End = refl
 
@@ -258,7 +260,10 @@ item-shaped form.Flip v sound = (word-small (behind 6 v) (sound-behind 6 v sound
 item-shaped form.FlipAtOnce v sound = (word-small (behind 6 v) (sound-behind 6 v sound), list-count 4 (drop 1 (behind 6 v)))
 item-shaped form.SetAtOnce v sound = tt
 item-shaped form.Read v sound = list-count 8 (behind 6 v)
+item-shaped form.ReadNarrow v sound = (list-count 8 (behind 6 v), list-count 3 (behind 14 v), word-small (behind 17 v) (sound-behind 17 v sound))
 item-shaped form.Write v sound = (list-count 8 (behind 5 v), list-count 16 (behind 13 v), list-count 16 (behind 29 v))
+item-shaped form.WriteNarrow v sound =
+    (list-count 8 (behind 5 v), word-small (behind 13 v) (sound-behind 13 v sound), list-count 3 (behind 14 v), list-count 16 (behind 17 v))
 item-shaped form.Start v sound = word-small (behind 2 v) (sound-behind 2 v sound)
 item-shaped form.End v sound = word-small (behind 2 v) (sound-behind 2 v sound)
 

@@ -30,9 +30,11 @@ among-all form.Flip = later (later (later (later (later (later (later (later (la
 among-all form.FlipAtOnce = later (later (later (later (later (later (later (later (later (later (later (later (later here))))))))))))
 among-all form.SetAtOnce = later (later (later (later (later (later (later (later (later (later (later (later (later (later here)))))))))))))
 among-all form.Read = later (later (later (later (later (later (later (later (later (later (later (later (later (later (later here))))))))))))))
-among-all form.Write = later (later (later (later (later (later (later (later (later (later (later (later (later (later (later (later here)))))))))))))))
-among-all form.Start = later (later (later (later (later (later (later (later (later (later (later (later (later (later (later (later (later here))))))))))))))))
-among-all form.End = later (later (later (later (later (later (later (later (later (later (later (later (later (later (later (later (later (later here)))))))))))))))))
+among-all form.ReadNarrow = later (later (later (later (later (later (later (later (later (later (later (later (later (later (later (later here)))))))))))))))
+among-all form.Write = later (later (later (later (later (later (later (later (later (later (later (later (later (later (later (later (later here))))))))))))))))
+among-all form.WriteNarrow = later (later (later (later (later (later (later (later (later (later (later (later (later (later (later (later (later (later here)))))))))))))))))
+among-all form.Start = later (later (later (later (later (later (later (later (later (later (later (later (later (later (later (later (later (later (later here))))))))))))))))))
+among-all form.End = later (later (later (later (later (later (later (later (later (later (later (later (later (later (later (later (later (later (later (later here)))))))))))))))))))
 
 -- a form that was read
 pub record IsRead (end : ℕ) (given : List Found) (forms : List Form) (spots : List Spot) (whole : Whole) : Type 0 where
@@ -98,6 +100,8 @@ form-sound form.Flip = record { closed = refl; before = refl }
 form-sound form.FlipAtOnce = record { closed = refl; before = refl }
 form-sound form.SetAtOnce = record { closed = refl; before = refl }
 form-sound form.Read = record { closed = refl; before = refl }
+form-sound form.ReadNarrow = record { closed = refl; before = refl }
 form-sound form.Write = record { closed = refl; before = refl }
+form-sound form.WriteNarrow = record { closed = refl; before = refl }
 form-sound form.Start = record { closed = refl; before = refl }
 form-sound form.End = record { closed = refl; before = refl }

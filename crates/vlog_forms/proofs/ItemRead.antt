@@ -118,7 +118,9 @@ form-is (item.Flip falling clock enable reset set target lut) = refl
 form-is (item.FlipAtOnce falling clock reset set target enable lut) = refl
 form-is (item.SetAtOnce reset set target) = refl
 form-is (item.Read falling clock clock_enable enable target memory address) = refl
+form-is (item.ReadNarrow falling clock clock_enable enable target memory address shift pattern) = refl
 form-is (item.Write falling clock clock_enable enable memory address mask bits) = refl
+form-is (item.WriteNarrow falling clock clock_enable enable memory address pattern shift bits) = refl
 form-is (item.Start memory k word) = refl
 
 pub item-fits : (one : Item) → IsShaped one → AreRanged (slots_of (item_form one)) (item_values one) → FitAll (slots_of (item_form one)) (item_values one)
@@ -208,7 +210,9 @@ none-given form.Flip is = refl
 none-given form.FlipAtOnce is = refl
 none-given form.SetAtOnce is = refl
 none-given form.Read is = refl
+none-given form.ReadNarrow is = refl
 none-given form.Write is = refl
+none-given form.WriteNarrow is = refl
 none-given form.Start is = refl
 none-given form.End is = refl
 

@@ -72,8 +72,12 @@ item-ranged (item.SetAtOnce reset set target) ranged =
     ranged-small (slots_of form.SetAtOnce) (item_values (item.SetAtOnce reset set target)) refl (item-small (item.SetAtOnce reset set target) ranged)
 item-ranged (item.Read falling clock clock_enable enable target memory address) ranged =
     ranged-small (slots_of form.Read) (item_values (item.Read falling clock clock_enable enable target memory address)) refl (item-small (item.Read falling clock clock_enable enable target memory address) ranged)
+item-ranged (item.ReadNarrow falling clock clock_enable enable target memory address shift pattern) ranged =
+    ranged-small (slots_of form.ReadNarrow) (item_values (item.ReadNarrow falling clock clock_enable enable target memory address shift pattern)) refl (item-small (item.ReadNarrow falling clock clock_enable enable target memory address shift pattern) ranged)
 item-ranged (item.Write falling clock clock_enable enable memory address mask bits) ranged =
     ranged-small (slots_of form.Write) (item_values (item.Write falling clock clock_enable enable memory address mask bits)) refl (item-small (item.Write falling clock clock_enable enable memory address mask bits) ranged)
+item-ranged (item.WriteNarrow falling clock clock_enable enable memory address pattern shift bits) ranged =
+    ranged-small (slots_of form.WriteNarrow) (item_values (item.WriteNarrow falling clock clock_enable enable memory address pattern shift bits)) refl (item-small (item.WriteNarrow falling clock clock_enable enable memory address pattern shift bits) ranged)
 item-ranged (item.Start memory k word) ranged =
     let small : nat_le k 255 ≡ true = le-leb k 255 (All-head IsInRange (Starts memory k) [] ranged) in
     (tt, (tt, (tt, (tt, (small, (tt, (tt, (tt, (tt, (tt, (tt, tt)))))))))))
@@ -138,7 +142,9 @@ item-not_end (item.Flip falling clock enable reset set target lut) = refl
 item-not_end (item.FlipAtOnce falling clock reset set target enable lut) = refl
 item-not_end (item.SetAtOnce reset set target) = refl
 item-not_end (item.Read falling clock clock_enable enable target memory address) = refl
+item-not_end (item.ReadNarrow falling clock clock_enable enable target memory address shift pattern) = refl
 item-not_end (item.Write falling clock clock_enable enable memory address mask bits) = refl
+item-not_end (item.WriteNarrow falling clock clock_enable enable memory address pattern shift bits) = refl
 item-not_end (item.Start memory k word) = refl
 
 -- what the items of a module and `endmodule` are, where every output is assigned

@@ -118,6 +118,7 @@ is_reserved_word sign.LessEquals = false
 is_reserved_word sign.And = false
 is_reserved_word sign.Or = false
 is_reserved_word sign.Not = false
+is_reserved_word sign.ShiftLeft = false
 is_reserved_word sign.ShiftRight = false
 is_reserved_word sign.At = false
 is_reserved_word sign.Question = false
@@ -139,6 +140,7 @@ fixed-front sign.LessEquals rest shut = record { some = omega arith; unblank = r
 fixed-front sign.And rest shut = record { some = omega arith; unblank = refl; token = refl; length = refl }
 fixed-front sign.Or rest shut = record { some = omega arith; unblank = refl; token = refl; length = refl }
 fixed-front sign.Not rest shut = record { some = omega arith; unblank = refl; token = refl; length = refl }
+fixed-front sign.ShiftLeft rest shut = record { some = omega arith; unblank = refl; token = refl; length = refl }
 fixed-front sign.ShiftRight rest shut = record { some = omega arith; unblank = refl; token = refl; length = refl }
 fixed-front sign.At rest shut = record { some = omega arith; unblank = refl; token = refl; length = refl }
 fixed-front sign.Question rest shut = record { some = omega arith; unblank = refl; token = refl; length = refl }

@@ -108,8 +108,13 @@ item-numbers (item.Flip falling clock enable reset set target lut) shaped ranged
 item-numbers (item.FlipAtOnce falling clock reset set target enable lut) shaped ranged = (shaped.0, atoms-alone (reverse lut.ins))
 item-numbers (item.SetAtOnce reset set target) shaped ranged = tt
 item-numbers (item.Read falling clock clock_enable enable target memory address) shaped ranged = atoms-alone (reverse address)
+item-numbers (item.ReadNarrow falling clock clock_enable enable target memory address shift pattern) shaped ranged =
+    atoms-numbers (reverse address) (atoms_values shift ++ Word pattern ∷ []) (atoms-numbers (reverse shift) (Word pattern ∷ []) (shaped.2, tt))
 item-numbers (item.Write falling clock clock_enable enable memory address mask bits) shaped ranged =
     atoms-numbers (reverse address) (atoms_values mask ++ atoms_values bits) (atoms-numbers (reverse mask) (atoms_values bits) (atoms-alone (reverse bits)))
+item-numbers (item.WriteNarrow falling clock clock_enable enable memory address pattern shift bits) shaped ranged =
+    atoms-numbers (reverse address) (Word pattern ∷ (atoms_values shift ++ atoms_values bits))
+    (shaped.1, atoms-numbers (reverse shift) (atoms_values bits) (atoms-alone (reverse bits)))
 item-numbers (item.Start memory k word) shaped ranged =
     let bound : k ≤ 255 = All-head IsInRange (Starts memory k) [] ranged in
     (omega arith, (shaped, tt))
@@ -132,7 +137,9 @@ form-shut form.Flip = refl
 form-shut form.FlipAtOnce = refl
 form-shut form.SetAtOnce = refl
 form-shut form.Read = refl
+form-shut form.ReadNarrow = refl
 form-shut form.Write = refl
+form-shut form.WriteNarrow = refl
 form-shut form.Start = refl
 form-shut form.End = refl
 

@@ -77,7 +77,9 @@ values-rebuilt form.Flip v is = refl
 values-rebuilt form.FlipAtOnce v is = refl
 values-rebuilt form.SetAtOnce v is = refl
 values-rebuilt form.Read v is = refl
+values-rebuilt form.ReadNarrow v is = refl
 values-rebuilt form.Write v is = refl
+values-rebuilt form.WriteNarrow v is = refl
 values-rebuilt form.Start v is = refl
 values-rebuilt form.End v is = absurd cc
 
@@ -99,7 +101,9 @@ form-of form.Flip v is = refl
 form-of form.FlipAtOnce v is = refl
 form-of form.SetAtOnce v is = refl
 form-of form.Read v is = refl
+form-of form.ReadNarrow v is = refl
 form-of form.Write v is = refl
+form-of form.WriteNarrow v is = refl
 form-of form.Start v is = refl
 form-of form.End v is = absurd cc
 
@@ -121,6 +125,9 @@ behind-back (suc n) (one ∷ list) more count = let rest : length list ≡ n = o
 
 list-back : (n : ℕ) (list : List Atom) (more : List Value) → length list ≡ n → reverse (atoms_in n (atoms_values list ++ more)) ≡ list
 list-back n list more count = ap reverse (atoms-back n (reverse list) more (length-reverse list ∙ count)) ∙ reverse-reverse list
+
+rest-back : (n : ℕ) (list : List Atom) (more : List Value) → length list ≡ n → behind n (atoms_values list ++ more) ≡ more
+rest-back n list more count = behind-back n (reverse list) more (length-reverse list ∙ count)
 
 last-back : (n : ℕ) (list : List Atom) → length list ≡ n → reverse (atoms_in n (atoms_values list)) ≡ list
 last-back n list count = ap (λ values. reverse (atoms_in n values)) (sym (append-nil (atoms_values list))) ∙ list-back n list [] count
@@ -147,16 +154,44 @@ item-back (item.FlipAtOnce falling clock reset set target enable lut) shaped =
 item-back (item.SetAtOnce reset set target) shaped = refl
 item-back (item.Read falling clock clock_enable enable target memory address) shaped =
     ap (λ list. item.Read falling clock clock_enable enable target memory list) (last-back 8 address shaped)
+item-back (item.ReadNarrow falling clock clock_enable enable target memory address shift pattern) shaped =
+    let made : List Atom → List Atom → ℕ → Item = item.ReadNarrow falling clock clock_enable enable target memory in
+    let s : List Value = atoms_values shift ++ Word pattern ∷ [] in
+    let all : List Value = atoms_values address ++ s in
+    let first : reverse (atoms_in 8 all) ≡ address = list-back 8 address s shaped.0 in
+    let middle : behind 8 all ≡ s = rest-back 8 address s shaped.0 in
+    let second : reverse (atoms_in 3 (behind 8 all)) ≡ shift = ap (λ v. reverse (atoms_in 3 v)) middle ∙ list-back 3 shift (Word pattern ∷ []) shaped.1 in
+    let third : word_in (behind 3 (behind 8 all)) ≡ pattern
+    = ap (λ v. word_in (behind 3 v)) middle ∙ ap word_in (rest-back 3 shift (Word pattern ∷ []) shaped.1) in
+    ap (λ list. made list (reverse (atoms_in 3 (behind 8 all))) (word_in (behind 3 (behind 8 all)))) first
+    ∙ ap (λ list. made address list (word_in (behind 3 (behind 8 all)))) second
+    ∙ ap (λ word. made address shift word) third
 item-back (item.Write falling clock clock_enable enable memory address mask bits) shaped =
     let a : List Value = atoms_values address in
     let m : List Value = atoms_values mask in
     let b : List Value = atoms_values bits in
     let first : reverse (atoms_in 8 (a ++ (m ++ b))) ≡ address = list-back 8 address (m ++ b) shaped.0 in
-    let middle : behind 8 (a ++ (m ++ b)) ≡ m ++ b = behind-back 8 (reverse address) (m ++ b) (length-reverse address ∙ shaped.0) in
-    let last : behind 16 (m ++ b) ≡ b = behind-back 16 (reverse mask) b (length-reverse mask ∙ shaped.1) in
+    let middle : behind 8 (a ++ (m ++ b)) ≡ m ++ b = rest-back 8 address (m ++ b) shaped.0 in
+    let last : behind 16 (m ++ b) ≡ b = rest-back 16 mask b shaped.1 in
     let second : reverse (atoms_in 16 (behind 8 (a ++ (m ++ b)))) ≡ mask = ap (λ v. reverse (atoms_in 16 v)) middle ∙ list-back 16 mask b shaped.1 in
     let third : reverse (atoms_in 16 (behind 16 (behind 8 (a ++ (m ++ b))))) ≡ bits = ap (λ v. reverse (atoms_in 16 (behind 16 v))) middle ∙ ap (λ v. reverse (atoms_in 16 v)) last ∙ last-back 16 bits shaped.2 in
     ap (λ list. item.Write falling clock clock_enable enable memory list (reverse (atoms_in 16 (behind 8 (a ++ (m ++ b))))) (reverse (atoms_in 16 (behind 16 (behind 8 (a ++ (m ++ b))))))) first
     ∙ ap (λ list. item.Write falling clock clock_enable enable memory address list (reverse (atoms_in 16 (behind 16 (behind 8 (a ++ (m ++ b))))))) second
     ∙ ap (λ list. item.Write falling clock clock_enable enable memory address mask list) third
+item-back (item.WriteNarrow falling clock clock_enable enable memory address pattern shift bits) shaped =
+    let made : List Atom → ℕ → List Atom → List Atom → Item = item.WriteNarrow falling clock clock_enable enable memory in
+    let b : List Value = atoms_values bits in
+    let w : List Value = Word pattern ∷ (atoms_values shift ++ b) in
+    let all : List Value = atoms_values address ++ w in
+    let first : reverse (atoms_in 8 all) ≡ address = list-back 8 address w shaped.0 in
+    let middle : behind 8 all ≡ w = rest-back 8 address w shaped.0 in
+    let second : word_in (behind 8 all) ≡ pattern = ap word_in middle in
+    let third : reverse (atoms_in 3 (behind 1 (behind 8 all))) ≡ shift
+    = ap (λ v. reverse (atoms_in 3 (behind 1 v))) middle ∙ list-back 3 shift b shaped.2 in
+    let fourth : reverse (atoms_in 16 (behind 3 (behind 1 (behind 8 all)))) ≡ bits
+    = ap (λ v. reverse (atoms_in 16 (behind 3 (behind 1 v)))) middle ∙ ap (λ v. reverse (atoms_in 16 v)) (rest-back 3 shift b shaped.2) ∙ last-back 16 bits shaped.3 in
+    ap (λ list. made list (word_in (behind 8 all)) (reverse (atoms_in 3 (behind 1 (behind 8 all)))) (reverse (atoms_in 16 (behind 3 (behind 1 (behind 8 all)))))) first
+    ∙ ap (λ word. made address word (reverse (atoms_in 3 (behind 1 (behind 8 all)))) (reverse (atoms_in 16 (behind 3 (behind 1 (behind 8 all)))))) second
+    ∙ ap (λ list. made address pattern list (reverse (atoms_in 16 (behind 3 (behind 1 (behind 8 all)))))) third
+    ∙ ap (λ list. made address pattern shift list) fourth
 item-back (item.Start memory k word) shaped = refl

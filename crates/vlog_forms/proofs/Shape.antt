@@ -1,5 +1,5 @@
 -- The form of an item is seen from its tokens.
-use Rattle.std.proofs.Common.{◌≡◌, ℕ, Bool, true, false, List, [], ◌∷◌, ◌++◌, get_or, drop, refl}
+use Rattle.std.proofs.Common.{◌≡◌, ℕ, zero, suc, Bool, true, false, List, [], ◌∷◌, ◌++◌, get_or, drop, take, refl, ap, ◌∙◌, append_assoc}
 use Rattle.std.specs.Prelude.{if◌then◌else◌}
 use Rattle.vlog_tokens.specs.declared.fixed.Fixed.{Fixed}
 use Rattle.vlog_tokens.specs.declared.fixed.Fixed.TheVariants as sign
@@ -17,20 +17,19 @@ use Rattle.vlog_forms.specs.declared.slot.Slot.TheVariants as slot
 use Rattle.vlog_forms.specs.declared.slot.Role.{Role}
 use Rattle.vlog_forms.specs.declared.slot.Role.TheVariants as role
 use Rattle.vlog_module.specs.declared.sort.Sort.TheVariants as sort
-use Rattle.vlog_forms.specs.Values.{Value, is_same_token}
-use Rattle.vlog_forms.specs.Values.Value.{Name, Edge, Bit, Word, AnAtom}
-use Rattle.vlog_forms.specs.Layout.{slots_of, filled}
+use Rattle.vlog_forms.specs.Values.{Value, is_same_token, tokens_at, value_tokens}
+use Rattle.vlog_forms.specs.Values.Value.{Name, Edge, Bit, Word, Index, AnAtom}
+use Rattle.vlog_forms.specs.Layout.{slots_of, filled, first_tokens, left_by, passed_by, slot_tokens}
 use Rattle.vlog_forms.specs.Items.{item_form, item_tokens, atoms_values, lut_values}
 
 -- whether a token is this sign or word
 abbrev is_at : Fixed → List TokenValue → ℕ → Bool
 is_at fixed tokens place = is_same_token (token.fixed fixed) (get_or tokens place token.stray)
 
--- the tokens behind an atom
-abbrev behind_atom : List TokenValue → List TokenValue
-behind_atom (token.name name ∷ tokens) = if is_at sign.OpenBracket tokens 0 then drop 3 tokens else tokens
-behind_atom (_ ∷ tokens) = tokens
-behind_atom [] = []
+-- the tokens behind the first that is this sign
+unfoldable pub behind_sign : Fixed → List TokenValue → List TokenValue
+behind_sign fixed [] = []
+behind_sign fixed (one ∷ tokens) = if is_same_token (token.fixed fixed) one then tokens else behind_sign fixed tokens
 
 abbrev right_shape : TokenValue → List TokenValue → Form
 right_shape (token.bit bit) tokens = form.WireBit
@@ -42,18 +41,19 @@ right_shape _ tokens = form.WireMajority
 abbrev wire_shape : List TokenValue → Form
 wire_shape tokens = right_shape (get_or tokens 0 token.stray) (drop 1 tokens)
 
--- behind the first atom of an item on an edge
+-- behind the condition of an item on an edge
 abbrev clocked_shape : List TokenValue → Form
 clocked_shape tokens =
-    if is_at sign.CloseParen tokens 0 then form.Flip
-    else if is_at sign.OpenBracket (behind_atom (drop 1 tokens)) 2 then form.Write
-    else form.Read
+    if is_at sign.Begin tokens 0 then form.Flip
+    else if is_at sign.LessEquals tokens 1 then (if is_at sign.OpenParen tokens 2 then form.ReadNarrow else form.Read)
+    else if is_at sign.Not (behind_sign sign.And tokens) 0 then form.WriteNarrow
+    else form.Write
 
 -- behind `always`: the word `or` stands behind the clock, or `if` behind the edge, or neither
 abbrev always_shape : List TokenValue → Form
 always_shape tokens =
     if is_at sign.OrEdge tokens 4 then form.FlipAtOnce
-    else if is_at sign.If tokens 5 then clocked_shape (behind_atom (drop 7 tokens))
+    else if is_at sign.If tokens 5 then clocked_shape (behind_sign sign.CloseParen (drop 7 tokens))
     else form.SetAtOnce
 
 unfoldable pub shape : List TokenValue → Form
@@ -68,63 +68,146 @@ shape tokens =
     else if is_at sign.Output tokens 0 then form.Output
     else form.End
 
--- the beginnings of items on an edge, whatever stands behind
-module _ (slots : List Slot) (clock_role target_role : Role) (falling : Bool) (clock : List ℕ) (values : List Value) (tail : List TokenValue) where
-  abbrev edge_slots : List Slot → List Slot
-  edge_slots more =
+-- ---- what stands behind a sign, whatever the values are
+
+-- a sign that is written in no value
+record IsApart (fixed : Fixed) : Type 0 where
+  opens : is_same_token (token.fixed fixed) (token.fixed sign.OpenBracket) ≡ false
+  closes : is_same_token (token.fixed fixed) (token.fixed sign.CloseBracket) ≡ false
+  rises : is_same_token (token.fixed fixed) (token.fixed sign.Posedge) ≡ false
+  falls : is_same_token (token.fixed fixed) (token.fixed sign.Negedge) ≡ false
+
+behind-value : (fixed : Fixed) (one : Value) (tokens : List TokenValue) → IsApart fixed → behind_sign fixed (value_tokens one ++ tokens) ≡ behind_sign fixed tokens
+unfolding behind_sign
+behind-value fixed (Name role name) tokens apart = refl
+behind-value fixed (Edge false) tokens apart = rw apart.rises refl
+behind-value fixed (Edge true) tokens apart = rw apart.falls refl
+behind-value fixed (Bit bit) tokens apart = refl
+behind-value fixed (Word word) tokens apart = refl
+behind-value fixed (Index k) tokens apart = refl
+behind-value fixed (AnAtom (atom.Bit bit)) tokens apart = refl
+behind-value fixed (AnAtom (atom.Whole name)) tokens apart = refl
+behind-value fixed (AnAtom (atom.Part name k)) tokens apart = rw (apart.opens, apart.closes) refl
+
+behind-first : (fixed : Fixed) (after : List Value) (tokens : List TokenValue) → IsApart fixed → behind_sign fixed (first_tokens after ++ tokens) ≡ behind_sign fixed tokens
+behind-first fixed [] tokens apart = refl
+behind-first fixed (one ∷ after) tokens apart = behind-value fixed one tokens apart
+
+behind-again : (fixed : Fixed) (before : List Value) (place : ℕ) (tokens : List TokenValue) → IsApart fixed → behind_sign fixed (tokens_at before place ++ tokens) ≡ behind_sign fixed tokens
+unfolding behind_sign
+behind-again fixed [] place tokens apart = refl
+behind-again fixed (one ∷ before) zero tokens apart = behind-value fixed one tokens apart
+behind-again fixed (one ∷ before) (suc place) tokens apart = behind-again fixed before place tokens apart
+
+-- what slots make behind the first of them that is this sign; nothing where there is none
+unfoldable filled_behind : Fixed → List Slot → List Value → List Value → List TokenValue
+filled_behind fixed [] before after = []
+filled_behind fixed (slot.Fixed other ∷ slots) before after =
+    if is_same_token (token.fixed fixed) (token.fixed other) then filled slots before after else filled_behind fixed slots before after
+filled_behind fixed (one ∷ slots) before after = filled_behind fixed slots (passed_by one before after) (left_by one after)
+
+unfoldable has_sign : Fixed → List Slot → Bool
+has_sign fixed [] = false
+has_sign fixed (slot.Fixed other ∷ slots) = if is_same_token (token.fixed fixed) (token.fixed other) then true else has_sign fixed slots
+has_sign fixed (one ∷ slots) = has_sign fixed slots
+
+-- one slot before it
+slot-behind : (fixed : Fixed) (one : Slot) (slots : List Slot) (before after : List Value) (tail : List TokenValue)
+    → ((tokens : List TokenValue) → behind_sign fixed (slot_tokens before after one ++ tokens) ≡ behind_sign fixed tokens)
+    → behind_sign fixed (filled slots (passed_by one before after) (left_by one after) ++ tail) ≡ filled_behind fixed slots (passed_by one before after) (left_by one after) ++ tail
+    → behind_sign fixed (filled (one ∷ slots) before after ++ tail) ≡ filled_behind fixed slots (passed_by one before after) (left_by one after) ++ tail
+unfolding filled
+slot-behind fixed one slots before after tail skips more =
+    let rest : List TokenValue = filled slots (passed_by one before after) (left_by one after) in
+    ap (behind_sign fixed) (append_assoc (slot_tokens before after one) rest tail) ∙ skips (rest ++ tail) ∙ more
+
+sign-behind : (fixed : Fixed) (slots : List Slot) (before after : List Value) (tail : List TokenValue) → IsApart fixed → has_sign fixed slots ≡ true
+    → behind_sign fixed (filled slots before after ++ tail) ≡ filled_behind fixed slots before after ++ tail
+unfolding behind_sign filled filled_behind has_sign
+sign-behind fixed [] before after tail apart has = absurd cc
+sign-behind fixed (slot.Fixed other ∷ slots) before after tail apart has =
+    by (is_same_token (token.fixed fixed) (token.fixed other)) has (sign-behind fixed slots before after tail apart)
+  where
+    by : (b : Bool) → (if b then true else has_sign fixed slots) ≡ true → (has_sign fixed slots ≡ true → behind_sign fixed (filled slots before after ++ tail) ≡ filled_behind fixed slots before after ++ tail)
+        → (if b then filled slots before after ++ tail else behind_sign fixed (filled slots before after ++ tail)) ≡ (if b then filled slots before after else filled_behind fixed slots before after) ++ tail
+    by true has more = refl
+    by false has more = more has
+sign-behind fixed (slot.Space ∷ slots) before after tail apart has = sign-behind fixed slots before after tail apart has
+sign-behind fixed (slot.Literal number ∷ slots) before after tail apart has = sign-behind fixed slots before after tail apart has
+sign-behind fixed (slot.AtomsAgain first n ∷ slots) before after tail apart has = sign-behind fixed slots before after tail apart has
+sign-behind fixed (slot.Atoms n ∷ slots) before after tail apart has = sign-behind fixed slots before after tail apart has
+sign-behind fixed (slot.Again place ∷ slots) before after tail apart has =
+    slot-behind fixed (slot.Again place) slots before after tail (λ tokens. behind-again fixed before place tokens apart) (sign-behind fixed slots before after tail apart has)
+sign-behind fixed (slot.Name role ∷ slots) before after tail apart has =
+    slot-behind fixed (slot.Name role) slots before after tail (λ tokens. behind-first fixed after tokens apart) (sign-behind fixed slots (before ++ take 1 after) (drop 1 after) tail apart has)
+sign-behind fixed (slot.Edge ∷ slots) before after tail apart has =
+    slot-behind fixed slot.Edge slots before after tail (λ tokens. behind-first fixed after tokens apart) (sign-behind fixed slots (before ++ take 1 after) (drop 1 after) tail apart has)
+sign-behind fixed (slot.Bit ∷ slots) before after tail apart has =
+    slot-behind fixed slot.Bit slots before after tail (λ tokens. behind-first fixed after tokens apart) (sign-behind fixed slots (before ++ take 1 after) (drop 1 after) tail apart has)
+sign-behind fixed (slot.Word ∷ slots) before after tail apart has =
+    slot-behind fixed slot.Word slots before after tail (λ tokens. behind-first fixed after tokens apart) (sign-behind fixed slots (before ++ take 1 after) (drop 1 after) tail apart has)
+sign-behind fixed (slot.Index limit ∷ slots) before after tail apart has =
+    slot-behind fixed (slot.Index limit) slots before after tail (λ tokens. behind-first fixed after tokens apart) (sign-behind fixed slots (before ++ take 1 after) (drop 1 after) tail apart has)
+sign-behind fixed (slot.Atom ∷ slots) before after tail apart has =
+    slot-behind fixed slot.Atom slots before after tail (λ tokens. behind-first fixed after tokens apart) (sign-behind fixed slots (before ++ take 1 after) (drop 1 after) tail apart has)
+
+-- ---- the forms on an edge
+
+-- the beginnings of items on an edge, whatever stands behind the condition
+module _ (condition : List Slot) (clock_role : Role) (falling : Bool) (clock : List ℕ) (values : List Value) (tail : List TokenValue) where
+  abbrev edge_slots : List Slot
+  edge_slots =
       slot.Fixed sign.Always ∷ slot.Space ∷ slot.Fixed sign.At ∷ slot.Fixed sign.OpenParen ∷ slot.Edge ∷ slot.Space ∷ slot.Name clock_role
-      ∷ slot.Fixed sign.CloseParen ∷ slot.Space ∷ slot.Fixed sign.If ∷ slot.Space ∷ slot.Fixed sign.OpenParen ∷ slot.Atom ∷ more
+      ∷ slot.Fixed sign.CloseParen ∷ slot.Space ∷ slot.Fixed sign.If ∷ slot.Space ∷ slot.Fixed sign.OpenParen ∷ condition
 
-  flip-shape : (one : Atom) → shape (filled (edge_slots (slot.Fixed sign.CloseParen ∷ slots)) [] (Edge falling ∷ Name clock_role clock ∷ AnAtom one ∷ values) ++ tail) ≡ form.Flip
+  abbrev edge_values : List Value
+  edge_values = Edge falling ∷ Name clock_role clock ∷ []
+
+  clocked : has_sign sign.CloseParen condition ≡ true
+      → shape (filled edge_slots [] (Edge falling ∷ Name clock_role clock ∷ values) ++ tail) ≡ clocked_shape (filled_behind sign.CloseParen condition edge_values values ++ tail)
   unfolding shape filled
-  flip-shape (atom.Bit bit) = refl
-  flip-shape (atom.Whole name) = refl
-  flip-shape (atom.Part name k) = refl
-
-  abbrev enabled_slots : List Slot → List Slot
-  enabled_slots more =
-      edge_slots (slot.Space ∷ slot.Fixed sign.And ∷ slot.Space ∷ slot.Atom ∷ slot.Fixed sign.CloseParen ∷ slot.Space ∷ slot.Name target_role ∷ more)
-
-  read-shape : (one other : Atom) (target : List ℕ) → shape (filled (enabled_slots (slot.Space ∷ slot.Fixed sign.LessEquals ∷ slots)) [] (Edge falling ∷ Name clock_role clock ∷ AnAtom one ∷ AnAtom other ∷ Name target_role target ∷ values) ++ tail) ≡ form.Read
-  unfolding shape filled
-  read-shape (atom.Bit bit) (atom.Bit another) target = refl
-  read-shape (atom.Bit bit) (atom.Whole other) target = refl
-  read-shape (atom.Bit bit) (atom.Part other j) target = refl
-  read-shape (atom.Whole name) (atom.Bit another) target = refl
-  read-shape (atom.Whole name) (atom.Whole other) target = refl
-  read-shape (atom.Whole name) (atom.Part other j) target = refl
-  read-shape (atom.Part name k) (atom.Bit another) target = refl
-  read-shape (atom.Part name k) (atom.Whole other) target = refl
-  read-shape (atom.Part name k) (atom.Part other j) target = refl
-
-  write-shape : (one other : Atom) (target : List ℕ) → shape (filled (enabled_slots (slot.Fixed sign.OpenBracket ∷ slots)) [] (Edge falling ∷ Name clock_role clock ∷ AnAtom one ∷ AnAtom other ∷ Name target_role target ∷ values) ++ tail) ≡ form.Write
-  unfolding shape filled
-  write-shape (atom.Bit bit) (atom.Bit another) target = refl
-  write-shape (atom.Bit bit) (atom.Whole other) target = refl
-  write-shape (atom.Bit bit) (atom.Part other j) target = refl
-  write-shape (atom.Whole name) (atom.Bit another) target = refl
-  write-shape (atom.Whole name) (atom.Whole other) target = refl
-  write-shape (atom.Whole name) (atom.Part other j) target = refl
-  write-shape (atom.Part name k) (atom.Bit another) target = refl
-  write-shape (atom.Part name k) (atom.Whole other) target = refl
-  write-shape (atom.Part name k) (atom.Part other j) target = refl
+  clocked has =
+      ap clocked_shape (sign-behind sign.CloseParen condition edge_values values tail (record { opens = refl; closes = refl; rises = refl; falls = refl }) has)
 
 flip-item : (falling : Bool) (clock : List ℕ) (one : Atom) (values : List Value) (tail : List TokenValue)
     → shape (filled (slots_of form.Flip) [] (Edge falling ∷ Name (role.Takes sort.Input) clock ∷ AnAtom one ∷ values) ++ tail) ≡ form.Flip
-unfolding slots_of
-flip-item falling clock one values tail = flip-shape (drop 14 (slots_of form.Flip)) (role.Takes sort.Input) (role.Takes sort.Input) falling clock values tail one
+unfolding slots_of filled filled_behind has_sign
+flip-item falling clock one values tail = clocked (drop 12 (slots_of form.Flip)) (role.Takes sort.Input) falling clock (AnAtom one ∷ values) tail refl
 
-read-item : (falling : Bool) (clock : List ℕ) (one other : Atom) (target : List ℕ) (values : List Value) (tail : List TokenValue)
-    → shape (filled (slots_of form.Read) [] (Edge falling ∷ Name (role.Takes sort.Input) clock ∷ AnAtom one ∷ AnAtom other ∷ Name (role.Assigns sort.Word) target ∷ values) ++ tail) ≡ form.Read
-unfolding slots_of
-read-item falling clock one other target values tail =
-    read-shape (drop 22 (slots_of form.Read)) (role.Takes sort.Input) (role.Assigns sort.Word) falling clock values tail one other target
+read-item : (falling : Bool) (clock : List ℕ) (one other : Atom) (target memory : List ℕ) (values : List Value) (tail : List TokenValue)
+    → shape (filled (slots_of form.Read) [] (Edge falling ∷ Name (role.Takes sort.Input) clock ∷ AnAtom one ∷ AnAtom other ∷ Name (role.Assigns sort.Word) target ∷ Name (role.Takes sort.Memory) memory ∷ values) ++ tail) ≡ form.Read
+unfolding slots_of filled filled_behind has_sign
+read-item falling clock one other target memory values tail =
+    clocked (drop 12 (slots_of form.Read)) (role.Takes sort.Input) falling clock (AnAtom one ∷ AnAtom other ∷ Name (role.Assigns sort.Word) target ∷ Name (role.Takes sort.Memory) memory ∷ values) tail refl
 
-write-item : (falling : Bool) (clock : List ℕ) (one other : Atom) (target : List ℕ) (values : List Value) (tail : List TokenValue)
-    → shape (filled (slots_of form.Write) [] (Edge falling ∷ Name (role.Takes sort.Input) clock ∷ AnAtom one ∷ AnAtom other ∷ Name (role.Assigns sort.Memory) target ∷ values) ++ tail) ≡ form.Write
-unfolding slots_of
-write-item falling clock one other target values tail =
-    write-shape (drop 21 (slots_of form.Write)) (role.Takes sort.Input) (role.Assigns sort.Memory) falling clock values tail one other target
+narrow-read : (falling : Bool) (clock : List ℕ) (one other : Atom) (target : List ℕ) (values : List Value) (tail : List TokenValue)
+    → shape (filled (slots_of form.ReadNarrow) [] (Edge falling ∷ Name (role.Takes sort.Input) clock ∷ AnAtom one ∷ AnAtom other ∷ Name (role.Assigns sort.Word) target ∷ values) ++ tail) ≡ form.ReadNarrow
+unfolding slots_of filled filled_behind has_sign
+narrow-read falling clock one other target values tail =
+    clocked (drop 12 (slots_of form.ReadNarrow)) (role.Takes sort.Input) falling clock (AnAtom one ∷ AnAtom other ∷ Name (role.Assigns sort.Word) target ∷ values) tail refl
+
+-- behind the condition of a write, the first `&` stands before the mask
+masked-shape : (slots : List Slot) (before values : List Value) (memory : List ℕ) (tail : List TokenValue) → has_sign sign.And slots ≡ true
+    → clocked_shape (filled (slot.Space ∷ slot.Name (role.Assigns sort.Memory) ∷ slot.Fixed sign.OpenBracket ∷ slots) before (Name (role.Assigns sort.Memory) memory ∷ values) ++ tail)
+    ≡ (if is_at sign.Not (filled_behind sign.And slots (before ++ Name (role.Assigns sort.Memory) memory ∷ []) values ++ tail) 0 then form.WriteNarrow else form.Write)
+unfolding filled behind_sign
+masked-shape slots before values memory tail has =
+    ap (λ tokens. if is_at sign.Not tokens 0 then form.WriteNarrow else form.Write)
+    (sign-behind sign.And slots (before ++ Name (role.Assigns sort.Memory) memory ∷ []) values tail (record { opens = refl; closes = refl; rises = refl; falls = refl }) has)
+
+write-item : (falling : Bool) (clock : List ℕ) (one other : Atom) (memory : List ℕ) (values : List Value) (tail : List TokenValue)
+    → shape (filled (slots_of form.Write) [] (Edge falling ∷ Name (role.Takes sort.Input) clock ∷ AnAtom one ∷ AnAtom other ∷ Name (role.Assigns sort.Memory) memory ∷ values) ++ tail) ≡ form.Write
+unfolding slots_of filled filled_behind has_sign
+write-item falling clock one other memory values tail =
+    clocked (drop 12 (slots_of form.Write)) (role.Takes sort.Input) falling clock (AnAtom one ∷ AnAtom other ∷ Name (role.Assigns sort.Memory) memory ∷ values) tail refl
+    ∙ masked-shape (drop 21 (slots_of form.Write)) (Edge falling ∷ Name (role.Takes sort.Input) clock ∷ AnAtom one ∷ AnAtom other ∷ []) values memory tail refl
+
+narrow-write : (falling : Bool) (clock : List ℕ) (one other : Atom) (memory : List ℕ) (values : List Value) (tail : List TokenValue)
+    → shape (filled (slots_of form.WriteNarrow) [] (Edge falling ∷ Name (role.Takes sort.Input) clock ∷ AnAtom one ∷ AnAtom other ∷ Name (role.Assigns sort.Memory) memory ∷ values) ++ tail) ≡ form.WriteNarrow
+unfolding slots_of filled filled_behind has_sign
+narrow-write falling clock one other memory values tail =
+    clocked (drop 12 (slots_of form.WriteNarrow)) (role.Takes sort.Input) falling clock (AnAtom one ∷ AnAtom other ∷ Name (role.Assigns sort.Memory) memory ∷ values) tail refl
+    ∙ masked-shape (drop 21 (slots_of form.WriteNarrow)) (Edge falling ∷ Name (role.Takes sort.Input) clock ∷ AnAtom one ∷ AnAtom other ∷ []) values memory tail refl
 
 reset-shape : (slots : List Slot) (clock_role : Role) (falling : Bool) (clock : List ℕ) (values : List Value) (tail : List TokenValue)
     → shape (filled (slot.Fixed sign.Always ∷ slot.Space ∷ slot.Fixed sign.At ∷ slot.Fixed sign.OpenParen ∷ slot.Edge ∷ slot.Space ∷ slot.Name clock_role ∷ slot.Space ∷ slot.Fixed sign.OrEdge ∷ slots) []
@@ -154,7 +237,9 @@ is_small (item.Wire name (right.Lut lut)) = false
 is_small (item.Flip falling clock enable reset set target lut) = false
 is_small (item.FlipAtOnce falling clock reset set target enable lut) = false
 is_small (item.Read falling clock clock_enable enable target memory address) = false
+is_small (item.ReadNarrow falling clock clock_enable enable target memory address shift pattern) = false
 is_small (item.Write falling clock clock_enable enable memory address mask bits) = false
+is_small (item.WriteNarrow falling clock clock_enable enable memory address pattern shift bits) = false
 is_small _ = true
 
 small-shape : (one : Item) (tail : List TokenValue) → is_small one ≡ true → shape (item_tokens one ++ tail) ≡ item_form one
@@ -190,9 +275,13 @@ item-shape (item.FlipAtOnce falling clock reset set target enable lut) tail =
     reset-item falling clock (Name (role.Takes sort.Wire) reset ∷ Name role.AssignsAtOnce target ∷ Bit set ∷ AnAtom enable ∷ lut_values lut) tail
 item-shape (item.SetAtOnce reset set target) tail = small-shape (item.SetAtOnce reset set target) tail refl
 item-shape (item.Read falling clock clock_enable enable target memory address) tail =
-    read-item falling clock clock_enable enable target (Name (role.Takes sort.Memory) memory ∷ atoms_values address) tail
+    read-item falling clock clock_enable enable target memory (atoms_values address) tail
+item-shape (item.ReadNarrow falling clock clock_enable enable target memory address shift pattern) tail =
+    narrow-read falling clock clock_enable enable target (Name (role.Takes sort.Memory) memory ∷ (atoms_values address ++ (atoms_values shift ++ Word pattern ∷ []))) tail
 item-shape (item.Write falling clock clock_enable enable memory address mask bits) tail =
     write-item falling clock clock_enable enable memory (atoms_values address ++ (atoms_values mask ++ atoms_values bits)) tail
+item-shape (item.WriteNarrow falling clock clock_enable enable memory address pattern shift bits) tail =
+    narrow-write falling clock clock_enable enable memory (atoms_values address ++ (Word pattern ∷ (atoms_values shift ++ atoms_values bits))) tail
 item-shape (item.Start memory k word) tail = small-shape (item.Start memory k word) tail refl
 
 -- the other forms

@@ -93,7 +93,9 @@ form-some form.Flip values = fixed-some sign.Always (drop 1 (slots_of form.Flip)
 form-some form.FlipAtOnce values = fixed-some sign.Always (drop 1 (slots_of form.FlipAtOnce)) [] values
 form-some form.SetAtOnce values = fixed-some sign.Always (drop 1 (slots_of form.SetAtOnce)) [] values
 form-some form.Read values = fixed-some sign.Always (drop 1 (slots_of form.Read)) [] values
+form-some form.ReadNarrow values = fixed-some sign.Always (drop 1 (slots_of form.ReadNarrow)) [] values
 form-some form.Write values = fixed-some sign.Always (drop 1 (slots_of form.Write)) [] values
+form-some form.WriteNarrow values = fixed-some sign.Always (drop 1 (slots_of form.WriteNarrow)) [] values
 form-some form.Start values = fixed-some sign.Initial (drop 1 (slots_of form.Start)) [] values
 form-some form.End values = fixed-some sign.Endmodule (drop 1 (slots_of form.End)) [] values
 

@@ -35,6 +35,7 @@ back-text sign.LessEquals = refl
 back-text sign.And = refl
 back-text sign.Or = refl
 back-text sign.Not = refl
+back-text sign.ShiftLeft = refl
 back-text sign.ShiftRight = refl
 back-text sign.At = refl
 back-text sign.Question = refl

@@ -66,6 +66,19 @@ two-next all place one other values uses is =
     ∙ ap (λ more. atom_uses one ++ more) (atom-next all (place + 1) other values ∙ ap (λ more. atom_uses other ++ more) is)
     ∙ sym (append_assoc (atom_uses one) (atom_uses other) uses)
 
+-- the atoms, the memory and the address of a write, before values of which the names are the same at every place
+write-next : (all : List Value) (clock_enable enable : Atom) (memory : List ℕ) (address : List Atom) (values : List Value) (first second : List Use)
+    → ((next : ℕ) → uses_from all next values ≡ first ++ second)
+    → uses_from all 2 (value.AnAtom clock_enable ∷ value.AnAtom enable ∷ value.Name (role.Assigns sort.Memory) memory ∷ (atoms_values address ++ values))
+    ≡ atom_uses clock_enable ++ atom_uses enable ++ Assigns sort.Memory memory ∷ atoms_uses address ++ first ++ second
+write-next all clock_enable enable memory address values first second is =
+    two-next all 2 clock_enable enable (value.Name (role.Assigns sort.Memory) memory ∷ (atoms_values address ++ values))
+    (Assigns sort.Memory memory ∷ (atoms_uses address ++ (first ++ second))) (ap (λ more. Assigns sort.Memory memory ∷ more) (list-next all 5 address values (first ++ second) is))
+    ∙ regroup (atom_uses clock_enable ++ atom_uses enable) (Assigns sort.Memory memory) (atoms_uses address) first second
+  where
+    regroup : (front : List Use) (one : Use) (a b c : List Use) → front ++ (one ∷ (a ++ (b ++ c))) ≡ ((front ++ (one ∷ a)) ++ b) ++ c
+    regroup front one a b c = simp append_assoc
+
 pub uses-of-values : (one : Item) → uses_in (item_values one) ≡ uses_of one
 unfolding behind
 uses-of-values (item.Register name start) = refl
@@ -99,17 +112,24 @@ uses-of-values (item.Read falling clock clock_enable enable target memory addres
     ap (λ more. Takes sort.Input clock ∷ more)
     (two-next all 2 clock_enable enable (value.Name (role.Assigns sort.Word) target ∷ value.Name (role.Takes sort.Memory) memory ∷ atoms_values address) (Assigns sort.Word target ∷ Takes sort.Memory memory ∷ atoms_uses address)
     (ap (λ more. Assigns sort.Word target ∷ Takes sort.Memory memory ∷ more) (list-last all 6 address)))
+uses-of-values (item.ReadNarrow falling clock clock_enable enable target memory address shift pattern) =
+    let all : List Value = item_values (item.ReadNarrow falling clock clock_enable enable target memory address shift pattern) in
+    let values : List Value = atoms_values shift ++ value.Word pattern ∷ [] in
+    let behind_them : uses_from all 6 (atoms_values address ++ values) ≡ atoms_uses address ++ atoms_uses shift
+    = list-next all 6 address values (atoms_uses shift)
+    (λ next. list-next all next shift (value.Word pattern ∷ []) [] (λ last. refl) ∙ append-nil (atoms_uses shift)) in
+    ap (λ more. Takes sort.Input clock ∷ more)
+    (two-next all 2 clock_enable enable (value.Name (role.Assigns sort.Word) target ∷ value.Name (role.Takes sort.Memory) memory ∷ (atoms_values address ++ values))
+    (Assigns sort.Word target ∷ Takes sort.Memory memory ∷ (atoms_uses address ++ atoms_uses shift)) (ap (λ more. Assigns sort.Word target ∷ Takes sort.Memory memory ∷ more) behind_them)
+    ∙ sym (append_assoc (atom_uses clock_enable ++ atom_uses enable) (Assigns sort.Word target ∷ Takes sort.Memory memory ∷ atoms_uses address) (atoms_uses shift)))
 uses-of-values (item.Write falling clock clock_enable enable memory address mask bits) =
     let all : List Value = item_values (item.Write falling clock clock_enable enable memory address mask bits) in
-    let behind_them : uses_from all 5 (atoms_values address ++ (atoms_values mask ++ atoms_values bits)) ≡ atoms_uses address ++ (atoms_uses mask ++ atoms_uses bits)
-    = list-next all 5 address (atoms_values mask ++ atoms_values bits) (atoms_uses mask ++ atoms_uses bits)
-    (λ next. list-next all next mask (atoms_values bits) (atoms_uses bits) (λ last. list-last all last bits)) in
-    let whole : uses_from all 2 (value.AnAtom clock_enable ∷ value.AnAtom enable ∷ value.Name (role.Assigns sort.Memory) memory ∷ (atoms_values address ++ (atoms_values mask ++ atoms_values bits)))
-    ≡ (atom_uses clock_enable ++ atom_uses enable) ++ (Assigns sort.Memory memory ∷ (atoms_uses address ++ (atoms_uses mask ++ atoms_uses bits)))
-    = two-next all 2 clock_enable enable (value.Name (role.Assigns sort.Memory) memory ∷ (atoms_values address ++ (atoms_values mask ++ atoms_values bits)))
-    (Assigns sort.Memory memory ∷ (atoms_uses address ++ (atoms_uses mask ++ atoms_uses bits))) (ap (λ more. Assigns sort.Memory memory ∷ more) behind_them) in
-    ap (λ more. Takes sort.Input clock ∷ more) (whole ∙ regroup (atom_uses clock_enable ++ atom_uses enable) (Assigns sort.Memory memory) (atoms_uses address) (atoms_uses mask) (atoms_uses bits))
-  where
-    regroup : (front : List Use) (one : Use) (a b c : List Use) → front ++ (one ∷ (a ++ (b ++ c))) ≡ ((front ++ (one ∷ a)) ++ b) ++ c
-    regroup front one a b c = simp append_assoc
+    ap (λ more. Takes sort.Input clock ∷ more)
+    (write-next all clock_enable enable memory address (atoms_values mask ++ atoms_values bits) (atoms_uses mask) (atoms_uses bits)
+    (λ next. list-next all next mask (atoms_values bits) (atoms_uses bits) (λ last. list-last all last bits)))
+uses-of-values (item.WriteNarrow falling clock clock_enable enable memory address pattern shift bits) =
+    let all : List Value = item_values (item.WriteNarrow falling clock clock_enable enable memory address pattern shift bits) in
+    ap (λ more. Takes sort.Input clock ∷ more)
+    (write-next all clock_enable enable memory address (value.Word pattern ∷ (atoms_values shift ++ atoms_values bits)) (atoms_uses shift) (atoms_uses bits)
+    (λ next. list-next all (next + 1) shift (atoms_values bits) (atoms_uses bits) (λ last. list-last all last bits)))
 uses-of-values (item.Start memory k word) = refl

@@ -46,3 +46,13 @@ reserved = refl
 set_without_a_clock : vlog_fault_of (codes "module m (c); input c; reg r = 1'b0; wire s = c; always @(posedge s) r <= 1'b1; endmodule") ≡ None
 unfolding vlog_fault_of outcome_of spots_outcome items_outcome ports_outcome port_names read_forms read_slots slots_of item_of atoms_in behind spots_from front_token front_length digits_token digits_length sign_token sign_length name_or_word word_of pair_of sign_of
 set_without_a_clock = refl
+
+-- a narrow read and a narrow write
+narrow : vlog_fault_of (codes "module m (c); input c; reg [15:0] r = 16'h0000; reg [15:0] q [0:255]; always @(posedge c) if (1'b1 & 1'b1) r <= (q[{1'b0, 1'b0, 1'b0, 1'b0, 1'b0, 1'b0, 1'b0, 1'b0}] >> {1'b0, 1'b0, c}) & 16'h5555; always @(negedge c) if (1'b1 & 1'b1) q[{1'b0, 1'b0, 1'b0, 1'b0, 1'b0, 1'b0, 1'b0, 1'b0}] <= (q[{1'b0, 1'b0, 1'b0, 1'b0, 1'b0, 1'b0, 1'b0, 1'b0}] & ~(16'h5555 << {1'b0, 1'b0, c})) | ({1'b0, 1'b0, 1'b0, 1'b0, 1'b0, 1'b0, 1'b0, 1'b0, 1'b0, 1'b0, 1'b0, 1'b0, 1'b0, 1'b0, 1'b0, 1'b0} & (16'h5555 << {1'b0, 1'b0, c})); endmodule") ≡ None
+unfolding vlog_fault_of outcome_of spots_outcome items_outcome ports_outcome port_names read_forms read_slots slots_of item_of atoms_in behind spots_from front_token front_length digits_token digits_length sign_token sign_length name_or_word word_of pair_of sign_of
+narrow = refl
+
+-- a pattern that is repeated otherwise
+other_pattern : vlog_fault_of (codes "module m (c); input c; reg [15:0] r = 16'h0000; reg [15:0] q [0:255]; always @(negedge c) if (1'b1 & 1'b1) q[{1'b0, 1'b0, 1'b0, 1'b0, 1'b0, 1'b0, 1'b0, 1'b0}] <= (q[{1'b0, 1'b0, 1'b0, 1'b0, 1'b0, 1'b0, 1'b0, 1'b0}] & ~(16'h5555 << {1'b0, 1'b0, c})) | ({1'b0, 1'b0, 1'b0, 1'b0, 1'b0, 1'b0, 1'b0, 1'b0, 1'b0, 1'b0, 1'b0, 1'b0, 1'b0, 1'b0, 1'b0, 1'b0} & (16'h1111 << {1'b0, 1'b0, c})); endmodule") ≡ Some (fault 352 Syntax)
+unfolding vlog_fault_of outcome_of spots_outcome items_outcome ports_outcome port_names read_forms read_slots slots_of item_of atoms_in behind spots_from front_token front_length digits_token digits_length sign_token sign_length name_or_word word_of pair_of sign_of
+other_pattern = refl

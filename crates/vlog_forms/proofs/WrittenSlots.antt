@@ -166,6 +166,7 @@ sign-closes sign.LessEquals rest free = refl
 sign-closes sign.And rest free = refl
 sign-closes sign.Or rest free = refl
 sign-closes sign.Not rest free = refl
+sign-closes sign.ShiftLeft rest free = refl
 sign-closes sign.ShiftRight rest free = refl
 sign-closes sign.At rest free = refl
 sign-closes sign.Question rest free = refl

@@ -23,7 +23,9 @@ pub(crate) fn item_form(item: &Item) -> Form
         Item::FlipAtOnce { .. } => Form::FlipAtOnce,
         Item::SetAtOnce { .. } => Form::SetAtOnce,
         Item::Read { .. } => Form::Read,
+        Item::ReadNarrow { .. } => Form::ReadNarrow,
         Item::Write { .. } => Form::Write,
+        Item::WriteNarrow { .. } => Form::WriteNarrow,
         Item::Start { .. } => Form::Start,
     }
 }
@@ -117,6 +119,24 @@ fn push_item<'a>(values: &mut Vec<Value<'a>>, item: &'a Item) -> Result<(), Allo
             push_name(values, Role::Takes(Sort::Memory), memory)?;
             push_atoms(values, address)
         }
+        Item::ReadNarrow {
+            falling,
+            clock,
+            clock_enable,
+            enable,
+            target,
+            memory,
+            address,
+            shift,
+            pattern,
+        } => {
+            push_clocked(values, *falling, clock, clock_enable, enable)?;
+            push_name(values, Role::Assigns(Sort::Word), target)?;
+            push_name(values, Role::Takes(Sort::Memory), memory)?;
+            push_atoms(values, address)?;
+            push_atoms(values, shift)?;
+            push(values, Value::Word(*pattern))
+        }
         Item::Write {
             falling,
             clock,
@@ -131,6 +151,24 @@ fn push_item<'a>(values: &mut Vec<Value<'a>>, item: &'a Item) -> Result<(), Allo
             push_name(values, Role::Assigns(Sort::Memory), memory)?;
             push_atoms(values, address)?;
             push_atoms(values, mask)?;
+            push_atoms(values, bits)
+        }
+        Item::WriteNarrow {
+            falling,
+            clock,
+            clock_enable,
+            enable,
+            memory,
+            address,
+            pattern,
+            shift,
+            bits,
+        } => {
+            push_clocked(values, *falling, clock, clock_enable, enable)?;
+            push_name(values, Role::Assigns(Sort::Memory), memory)?;
+            push_atoms(values, address)?;
+            push(values, Value::Word(*pattern))?;
+            push_atoms(values, shift)?;
             push_atoms(values, bits)
         }
         Item::Start { memory, k, word } => {

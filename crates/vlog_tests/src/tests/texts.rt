@@ -66,11 +66,30 @@ const ALL: &str = "module all (c, d, q);
 endmodule
 ";
 
+const NARROW: &str = "module narrow (c, d, q);
+  input c;
+  input d;
+  output q;
+  reg [15:0] w = 16'h0abc;
+  reg [15:0] v = 16'h0000;
+  reg [15:0] m [0:255];
+  reg [15:0] n [0:255];
+  wire a = 1'b0;
+  assign q = w[9];
+  always @(posedge c) if (1'b1 & a) w <= (m[{a, a, a, a, d, d, d, w[3]}] >> {1'b0, 1'b0, d}) & 16'h5555;
+  always @(negedge d) if (a & w[2]) v <= (n[{d, d, d, d, a, a, a, w[15]}] >> {a, w[0], d}) & 16'hbeef;
+  always @(negedge c) if (a & d) m[{a, d, a, d, a, d, a, d}] <= (m[{a, d, a, d, a, d, a, d}] & ~(16'h1111 << {1'b0, a, d})) | ({a, a, a, a, a, a, a, a, d, d, d, d, d, d, d, w[4]} & (16'h1111 << {1'b0, a, d}));
+  always @(posedge c) if (1'b1 & d) n[{d, d, d, d, d, d, d, a}] <= (n[{d, d, d, d, d, d, d, a}] & ~(16'h0101 << {w[2], w[1], w[0]})) | ({d, a, a, a, a, a, a, a, d, d, d, d, d, d, d, 1'b1} & (16'h0101 << {w[2], w[1], w[0]}));
+  initial m[7] = 16'h1234;
+endmodule
+";
+
 #[test]
 fn prints_what_it_parses(rt: HostRuntime) {
     assert!(rt; is_printed(rt.alloc(), CHIP, CHIP) == Ok(true));
     assert!(rt; is_printed(rt.alloc(), ALL, ALL) == Ok(true));
     assert!(rt; is_printed(rt.alloc(), AT_ONCE_TEXT, AT_ONCE_TEXT) == Ok(true));
+    assert!(rt; is_printed(rt.alloc(), NARROW, NARROW) == Ok(true));
     assert!(rt;
         is_printed(
             rt.alloc(),
@@ -291,6 +310,154 @@ const AT_ONCE: [(&str, u64, VlogCause); 16] = [
 #[test]
 fn tells_a_fault_of_registers_that_are_set_at_once(rt: HostRuntime) {
     assert!(rt; are_faults(rt.alloc(), &AT_ONCE) == Ok(true));
+}
+
+const NARROW_FAULTS: [(&str, u64, VlogCause); 28] = [
+    (
+        "module m (a, b, q); input a; input b; output q; reg r = 1'b0; reg [15:0] w = 16'h0000; reg [15:0] m [0:255]; assign q = a; always @(posedge a) if (a & b) m[{a, a, a, a, a, a, a, a}] <= (w[{a, a, a, a, a, a, a, a}] & ~(16'h5555 << {a, a, b})) | ({a, a, a, a, a, a, a, a, a, a, a, a, a, a, a, a} & (16'h5555 << {a, a, b})); endmodule",
+        186,
+        VlogCause::Syntax,
+    ),
+    (
+        "module m (a, b, q); input a; input b; output q; reg r = 1'b0; reg [15:0] w = 16'h0000; reg [15:0] m [0:255]; assign q = a; always @(posedge a) if (a & b) m[{a, a, a, a, a, a, a, a}] <= (m[{a, a, a, a, a, a, a, b}] & ~(16'h5555 << {a, a, b})) | ({a, a, a, a, a, a, a, a, a, a, a, a, a, a, a, a} & (16'h5555 << {a, a, b})); endmodule",
+        210,
+        VlogCause::Syntax,
+    ),
+    (
+        "module m (a, b, q); input a; input b; output q; reg r = 1'b0; reg [15:0] w = 16'h0000; reg [15:0] m [0:255]; assign q = a; always @(posedge a) if (a & b) m[{a, a, a, a, a, a, a, a}] <= (m[{a, a, a, a, a, a, a, a}] & ~(16'h5555 << {a, a, b})) | ({a, a, a, a, a, a, a, a, a, a, a, a, a, a, a, a} & (16'h1111 << {a, a, b})); endmodule",
+        297,
+        VlogCause::Syntax,
+    ),
+    (
+        "module m (a, b, q); input a; input b; output q; reg r = 1'b0; reg [15:0] w = 16'h0000; reg [15:0] m [0:255]; assign q = a; always @(posedge a) if (a & b) m[{a, a, a, a, a, a, a, a}] <= (m[{a, a, a, a, a, a, a, a}] & ~(16'h5555 << {a, a, b})) | ({a, a, a, a, a, a, a, a, a, a, a, a, a, a, a, a} & (16'h5555 << {a, a, a})); endmodule",
+        316,
+        VlogCause::Syntax,
+    ),
+    (
+        "module m (a, b, q); input a; input b; output q; reg r = 1'b0; reg [15:0] w = 16'h0000; reg [15:0] m [0:255]; assign q = a; always @(posedge a) if (a & b) m[{a, a, a, a, a, a, a, a}] <= (m[{a, a, a, a, a, a, a, a}] & ~(16'h5555 >> {a, a, b})) | ({a, a, a, a, a, a, a, a, a, a, a, a, a, a, a, a} & (16'h5555 << {a, a, b})); endmodule",
+        227,
+        VlogCause::Syntax,
+    ),
+    (
+        "module m (a, b, q); input a; input b; output q; reg r = 1'b0; reg [15:0] w = 16'h0000; reg [15:0] m [0:255]; assign q = a; always @(posedge a) if (a & b) m[{a, a, a, a, a, a, a, a}] <= (m[{a, a, a, a, a, a, a, a}] & ~(16'h5555 << {a, a, b})) | ({a, a, a, a, a, a, a, a, a, a, a, a, a, a, a, a} & (16'h5555 < {a, a, b})); endmodule",
+        306,
+        VlogCause::Syntax,
+    ),
+    (
+        "module m (a, b, q); input a; input b; output q; reg r = 1'b0; reg [15:0] w = 16'h0000; reg [15:0] m [0:255]; assign q = a; always @(posedge a) if (a & b) m[{a, a, a, a, a, a, a, a}] <= (m[{a, a, a, a, a, a, a, a}] & (16'h5555 << {a, a, b})) | ({a, a, a, a, a, a, a, a, a, a, a, a, a, a, a, a} & (16'h5555 << {a, a, b})); endmodule",
+        216,
+        VlogCause::Syntax,
+    ),
+    (
+        "module m (a, b, q); input a; input b; output q; reg r = 1'b0; reg [15:0] w = 16'h0000; reg [15:0] m [0:255]; assign q = a; always @(posedge a) if (a & b) m[{a, a, a, a, a, a, a, a}] <= (m[{a, a, a, a, a, a, a, a}] & ~(16'h5555 << {a, a, a, b})) | ({a, a, a, a, a, a, a, a, a, a, a, a, a, a, a, a} & (16'h5555 << {a, a, a, b})); endmodule",
+        238,
+        VlogCause::Syntax,
+    ),
+    (
+        "module m (a, b, q); input a; input b; output q; reg r = 1'b0; reg [15:0] w = 16'h0000; reg [15:0] m [0:255]; assign q = a; always @(posedge a) if (a & b) w <= (m[{a, a, a, a, a, a, a, a}] << {a, a, b}) & 16'h5555; endmodule",
+        188,
+        VlogCause::Syntax,
+    ),
+    (
+        "module m (a, b, q); input a; input b; output q; reg r = 1'b0; reg [15:0] w = 16'h0000; reg [15:0] m [0:255]; assign q = a; always @(posedge a) if (a & b) w <= (m[{a, a, a, a, a, a, a, a}] > {a, a, b}) & 16'h5555; endmodule",
+        188,
+        VlogCause::Syntax,
+    ),
+    (
+        "module m (a, b, q); input a; input b; output q; reg r = 1'b0; reg [15:0] w = 16'h0000; reg [15:0] m [0:255]; assign q = a; always @(posedge a) if (a & b) w <= (m[{a, a, a, a, a, a, a, a}] >> {a, b}) & 16'h5555; endmodule",
+        196,
+        VlogCause::Syntax,
+    ),
+    (
+        "module m (a, b, q); input a; input b; output q; reg r = 1'b0; reg [15:0] w = 16'h0000; reg [15:0] m [0:255]; assign q = a; always @(posedge a) if (a & b) w <= (m[{a, a, a, a, a, a, a, a}] >> {a, a, b}) & w; endmodule",
+        204,
+        VlogCause::Syntax,
+    ),
+    (
+        "module m (a, b, q); input a; input b; output q; reg r = 1'b0; reg [15:0] w = 16'h0000; reg [15:0] m [0:255]; assign q = a; always @(posedge a) if (a & b) r <= (m[{a, a, a, a, a, a, a, a}] >> {a, a, b}) & 16'h5555; endmodule",
+        154,
+        VlogCause::Undeclared,
+    ),
+    (
+        "module m (a, b, q); input a; input b; output q; reg r = 1'b0; reg [15:0] w = 16'h0000; reg [15:0] m [0:255]; assign q = a; always @(posedge a) if (a & b) w <= (w[{a, a, a, a, a, a, a, a}] >> {a, a, b}) & 16'h5555; endmodule",
+        160,
+        VlogCause::Undeclared,
+    ),
+    (
+        "module m (a, b, q); input a; input b; output q; reg r = 1'b0; reg [15:0] w = 16'h0000; reg [15:0] m [0:255]; assign q = a; always @(posedge r) if (a & b) w <= (m[{a, a, a, a, a, a, a, a}] >> {a, a, b}) & 16'h5555; endmodule",
+        140,
+        VlogCause::Undeclared,
+    ),
+    (
+        "module m (a, b, q); input a; input b; output q; reg r = 1'b0; reg [15:0] w = 16'h0000; reg [15:0] m [0:255]; assign q = a; always @(posedge a) if (a & b) w <= (m[{a, a, a, a, a, a, a, a}] >> {a, z, b}) & 16'h5555; endmodule",
+        195,
+        VlogCause::Undeclared,
+    ),
+    (
+        "module m (a, b, q); input a; input b; output q; reg r = 1'b0; reg [15:0] w = 16'h0000; reg [15:0] m [0:255]; assign q = a; always @(posedge a) if (a & b) w <= (r[{a, a, a, a, a, a, a, a}] >> {a, z, b}) & 16'h5555; endmodule",
+        160,
+        VlogCause::Undeclared,
+    ),
+    (
+        "module m (a, b, q); input a; input b; output q; reg r = 1'b0; reg [15:0] w = 16'h0000; reg [15:0] m [0:255]; assign q = a; always @(posedge a) if (a & b) w[{a, a, a, a, a, a, a, a}] <= (w[{a, a, a, a, a, a, a, a}] & ~(16'h5555 << {a, a, b})) | ({a, a, a, a, a, a, a, a, a, a, a, a, a, a, a, a} & (16'h5555 << {a, a, b})); endmodule",
+        154,
+        VlogCause::Undeclared,
+    ),
+    (
+        "module m (a, b, q); input a; input b; output q; reg r = 1'b0; reg [15:0] w = 16'h0000; reg [15:0] m [0:255]; assign q = a; always @(posedge w) if (a & b) m[{a, a, a, a, a, a, a, a}] <= (m[{a, a, a, a, a, a, a, a}] & ~(16'h5555 << {a, a, b})) | ({a, a, a, a, a, a, a, a, a, a, a, a, a, a, a, a} & (16'h5555 << {a, a, b})); endmodule",
+        140,
+        VlogCause::Undeclared,
+    ),
+    (
+        "module m (a, b, q); input a; input b; output q; reg r = 1'b0; reg [15:0] w = 16'h0000; reg [15:0] m [0:255]; assign q = a; always @(posedge a) if (a & b) m[{a, a, a, a, a, a, a, a}] <= (m[{a, a, a, a, a, a, a, a}] & ~(16'h5555 << {z, a, b})) | ({a, a, a, a, a, a, a, a, a, a, a, a, a, a, a, a} & (16'h5555 << {z, a, b})); endmodule",
+        231,
+        VlogCause::Undeclared,
+    ),
+    (
+        "module m (a, b, q); input a; input b; output q; reg r = 1'b0; reg [15:0] w = 16'h0000; reg [15:0] m [0:255]; assign q = a; always @(posedge a) if (a & b) w <= m[{a, a, a, a, a, a, a, a}]; always @(posedge a) if (a & b) w <= (m[{a, a, a, a, a, a, a, a}] >> {a, a, b}) & 16'h5555; endmodule",
+        219,
+        VlogCause::AssignedTwice,
+    ),
+    (
+        "module m (a, b, q); input a; input b; output q; reg r = 1'b0; reg [15:0] w = 16'h0000; reg [15:0] m [0:255]; assign q = a; always @(posedge a) if (a & b) w <= (m[{a, a, a, a, a, a, a, a}] >> {a, a, b}) & 16'h5555; always @(posedge a) if (a & b) w <= m[{a, a, a, a, a, a, a, a}]; endmodule",
+        245,
+        VlogCause::AssignedTwice,
+    ),
+    (
+        "module m (a, b, q); input a; input b; output q; reg r = 1'b0; reg [15:0] w = 16'h0000; reg [15:0] m [0:255]; assign q = a; always @(posedge a) if (a & b) w <= (m[{a, a, a, a, a, a, a, a}] >> {a, a, b}) & 16'h5555; always @(negedge a) if (a & b) w <= (m[{a, a, a, a, a, a, a, a}] >> {a, a, b}) & 16'h5555; endmodule",
+        245,
+        VlogCause::AssignedTwice,
+    ),
+    (
+        "module m (a, b, q); input a; input b; output q; reg r = 1'b0; reg [15:0] w = 16'h0000; reg [15:0] m [0:255]; assign q = a; always @(posedge a) if (a & b) m[{a, a, a, a, a, a, a, a}] <= (m[{a, a, a, a, a, a, a, a}] & {a, a, a, a, a, a, a, a, a, a, a, a, a, a, a, a}) | ({a, a, a, a, a, a, a, a, a, a, a, a, a, a, a, a} & ~{a, a, a, a, a, a, a, a, a, a, a, a, a, a, a, a}); always @(posedge a) if (a & b) m[{a, a, a, a, a, a, a, a}] <= (m[{a, a, a, a, a, a, a, a}] & ~(16'h5555 << {a, a, b})) | ({a, a, a, a, a, a, a, a, a, a, a, a, a, a, a, a} & (16'h5555 << {a, a, b})); endmodule",
+        403,
+        VlogCause::AssignedTwice,
+    ),
+    (
+        "module m (a, b, q); input a; input b; output q; reg r = 1'b0; reg [15:0] w = 16'h0000; reg [15:0] m [0:255]; assign q = a; always @(posedge a) if (a & b) m[{a, a, a, a, a, a, a, a}] <= (m[{a, a, a, a, a, a, a, a}] & ~(16'h5555 << {a, a, b})) | ({a, a, a, a, a, a, a, a, a, a, a, a, a, a, a, a} & (16'h5555 << {a, a, b})); always @(posedge a) if (a & b) m[{a, a, a, a, a, a, a, a}] <= (m[{a, a, a, a, a, a, a, a}] & {a, a, a, a, a, a, a, a, a, a, a, a, a, a, a, a}) | ({a, a, a, a, a, a, a, a, a, a, a, a, a, a, a, a} & ~{a, a, a, a, a, a, a, a, a, a, a, a, a, a, a, a}); endmodule",
+        353,
+        VlogCause::AssignedTwice,
+    ),
+    (
+        "module m (a, b, q); input a; input b; output q; reg r = 1'b0; reg [15:0] w = 16'h0000; reg [15:0] m [0:255]; assign q = a; always @(posedge a) if (a & b) m[{a, a, a, a, a, a, a, a}] <= (m[{a, a, a, a, a, a, a, a}] & ~(16'h5555 << {a, a, b})) | ({a, a, a, a, a, a, a, a, a, a, a, a, a, a, a, a} & (16'h5555 << {a, a, b})); always @(negedge a) if (a & b) m[{a, a, a, a, a, a, a, a}] <= (m[{a, a, a, a, a, a, a, a}] & ~(16'h5555 << {a, a, b})) | ({a, a, a, a, a, a, a, a, a, a, a, a, a, a, a, a} & (16'h5555 << {a, a, b})); endmodule",
+        353,
+        VlogCause::AssignedTwice,
+    ),
+    (
+        "module m (a, b, q); input a; input b; output q; reg r = 1'b0; reg [15:0] w = 16'h0000; reg [15:0] m [0:255]; assign q = a; always @(posedge a) if (a & b) m[{a, a, a, a, a, a, a, a}] <= (m[{a, a, a, a, a, a, a, a}] & ~(16'h5555 << {a, a, b})) | ({a, a, a, a, a, a, a, a, a, a, a, a, a, a, a, a} & (16'h5555 << {a, a, b})); always @(posedge a) if (a & b) w <= (m[{a, a, a, a, a, a, a, a}] >> {a, a, b}) & 16'h5555; endmodule",
+        322,
+        VlogCause::Order,
+    ),
+    (
+        "module m (a, b, q); input a; input b; output q; reg r = 1'b0; reg [15:0] w = 16'h0000; reg [15:0] m [0:255]; assign q = a; initial m[0] = 16'h0000; always @(posedge a) if (a & b) m[{a, a, a, a, a, a, a, a}] <= (m[{a, a, a, a, a, a, a, a}] & ~(16'h5555 << {a, a, b})) | ({a, a, a, a, a, a, a, a, a, a, a, a, a, a, a, a} & (16'h5555 << {a, a, b})); endmodule",
+        148,
+        VlogCause::Order,
+    ),
+];
+
+#[test]
+fn tells_a_fault_of_narrow_reads_and_writes(rt: HostRuntime) {
+    assert!(rt; are_faults(rt.alloc(), &NARROW_FAULTS) == Ok(true));
 }
 
 const SYNTAX: [(&str, u64, VlogCause); 40] = [

@@ -60,12 +60,26 @@ pub read-made : (v : List Value) (falling : Bool) (clock : List ℕ) (clock_enab
 unfolding item_of
 read-made v falling clock clock_enable enable target memory address a b c d e f g = let first : falling ≡ edge_in v = a ∙ ap edge_in (behind-zero v) in cc
 
+pub read_narrow-made : (v : List Value) (falling : Bool) (clock : List ℕ) (clock_enable enable : Atom) (target memory : List ℕ) (address shift : List Atom) (pattern : ℕ)
+    → falling ≡ edge_in (behind 0 v) → clock ≡ name_in (behind 1 v) → clock_enable ≡ atom_in (behind 2 v) → enable ≡ atom_in (behind 3 v)
+    → target ≡ name_in (behind 4 v) → memory ≡ name_in (behind 5 v) → address ≡ reverse (atoms_in 8 (behind 6 v)) → shift ≡ reverse (atoms_in 3 (behind 14 v)) → pattern ≡ word_in (behind 17 v)
+    → item.ReadNarrow falling clock clock_enable enable target memory address shift pattern ≡ item_of form.ReadNarrow v
+unfolding item_of
+read_narrow-made v falling clock clock_enable enable target memory address shift pattern a b c d e f g h i = let first : falling ≡ edge_in v = a ∙ ap edge_in (behind-zero v) in cc
+
 pub write-made : (v : List Value) (falling : Bool) (clock : List ℕ) (clock_enable enable : Atom) (memory : List ℕ) (address mask bits : List Atom)
     → falling ≡ edge_in (behind 0 v) → clock ≡ name_in (behind 1 v) → clock_enable ≡ atom_in (behind 2 v) → enable ≡ atom_in (behind 3 v)
     → memory ≡ name_in (behind 4 v) → address ≡ reverse (atoms_in 8 (behind 5 v)) → mask ≡ reverse (atoms_in 16 (behind 13 v)) → bits ≡ reverse (atoms_in 16 (behind 29 v))
     → item.Write falling clock clock_enable enable memory address mask bits ≡ item_of form.Write v
 unfolding item_of
 write-made v falling clock clock_enable enable memory address mask bits a b c d e f g h = let first : falling ≡ edge_in v = a ∙ ap edge_in (behind-zero v) in cc
+
+pub write_narrow-made : (v : List Value) (falling : Bool) (clock : List ℕ) (clock_enable enable : Atom) (memory : List ℕ) (address : List Atom) (pattern : ℕ) (shift bits : List Atom)
+    → falling ≡ edge_in (behind 0 v) → clock ≡ name_in (behind 1 v) → clock_enable ≡ atom_in (behind 2 v) → enable ≡ atom_in (behind 3 v)
+    → memory ≡ name_in (behind 4 v) → address ≡ reverse (atoms_in 8 (behind 5 v)) → pattern ≡ word_in (behind 13 v) → shift ≡ reverse (atoms_in 3 (behind 14 v)) → bits ≡ reverse (atoms_in 16 (behind 17 v))
+    → item.WriteNarrow falling clock clock_enable enable memory address pattern shift bits ≡ item_of form.WriteNarrow v
+unfolding item_of
+write_narrow-made v falling clock clock_enable enable memory address pattern shift bits a b c d e f g h i = let first : falling ≡ edge_in v = a ∙ ap edge_in (behind-zero v) in cc
 
 pub start-made : (v : List Value) (memory : List ℕ) (k word : ℕ) → memory ≡ name_in (behind 0 v) → k ≡ index_in (behind 1 v) → word ≡ word_in (behind 2 v)
     → item.Start memory k word ≡ item_of form.Start v

@@ -40,7 +40,9 @@ pub fn all_forms() -> &'static [Form]
         Form::FlipAtOnce,
         Form::SetAtOnce,
         Form::Read,
+        Form::ReadNarrow,
         Form::Write,
+        Form::WriteNarrow,
         Form::Start,
         Form::End,
     ]

@@ -32,7 +32,9 @@ pub fn item_of(alloc: Global, form: Form, values: &[Found<'_>]) -> Result<Item, 
         Form::FlipAtOnce => flip_at_once_of(alloc, values),
         Form::SetAtOnce => set_at_once_of(alloc, values),
         Form::Read => read_of(alloc, values),
+        Form::ReadNarrow => read_narrow_of(alloc, values),
         Form::Write => write_of(alloc, values),
+        Form::WriteNarrow => write_narrow_of(alloc, values),
         Form::Start => start_of(alloc, values),
         Form::Input => start_of(alloc, values),
         Form::Output => start_of(alloc, values),
@@ -249,6 +251,31 @@ fn read_of(alloc: Global, values: &[Found<'_>]) -> Result<Item, AllocError>
     })
 }
 
+/// A narrow read of a memory.
+fn read_narrow_of(alloc: Global, values: &[Found<'_>]) -> Result<Item, AllocError>
+    requires { AreNamed (values_of (all_found values.now)) }
+    ensures { IfOk result (λ item. item ≡ item_of Form.ReadNarrow (values_of (all_found values.now))) }
+{
+    let clock = name_at(alloc, values, 1)?;
+    let clock_enable = atom_at(alloc, values, 2)?;
+    let enable = atom_at(alloc, values, 3)?;
+    let target = name_at(alloc, values, 4)?;
+    let memory = name_at(alloc, values, 5)?;
+    let address = atoms_at(alloc, values, 6, 8)?;
+    let shift = atoms_at(alloc, values, 14, 3)?;
+    Ok(Item::ReadNarrow {
+        falling: edge_at(values, 0),
+        clock,
+        clock_enable,
+        enable,
+        target,
+        memory,
+        address,
+        shift,
+        pattern: word_at(values, 17),
+    })
+}
+
 /// A write of a memory.
 fn write_of(alloc: Global, values: &[Found<'_>]) -> Result<Item, AllocError>
     requires { AreNamed (values_of (all_found values.now)) }
@@ -269,6 +296,31 @@ fn write_of(alloc: Global, values: &[Found<'_>]) -> Result<Item, AllocError>
         memory,
         address,
         mask,
+        bits,
+    })
+}
+
+/// A narrow write of a memory.
+fn write_narrow_of(alloc: Global, values: &[Found<'_>]) -> Result<Item, AllocError>
+    requires { AreNamed (values_of (all_found values.now)) }
+    ensures { IfOk result (λ item. item ≡ item_of Form.WriteNarrow (values_of (all_found values.now))) }
+{
+    let clock = name_at(alloc, values, 1)?;
+    let clock_enable = atom_at(alloc, values, 2)?;
+    let enable = atom_at(alloc, values, 3)?;
+    let memory = name_at(alloc, values, 4)?;
+    let address = atoms_at(alloc, values, 5, 8)?;
+    let shift = atoms_at(alloc, values, 14, 3)?;
+    let bits = atoms_at(alloc, values, 17, 16)?;
+    Ok(Item::WriteNarrow {
+        falling: edge_at(values, 0),
+        clock,
+        clock_enable,
+        enable,
+        memory,
+        address,
+        pattern: word_at(values, 13),
+        shift,
         bits,
     })
 }

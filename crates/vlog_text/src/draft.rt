@@ -105,7 +105,9 @@ pub(crate) fn section_of(item: &Item) -> u8
         Item::FlipAtOnce { .. } => 7,
         Item::SetAtOnce { .. } => 7,
         Item::Read { .. } => 8,
+        Item::ReadNarrow { .. } => 8,
         Item::Write { .. } => 9,
+        Item::WriteNarrow { .. } => 9,
         Item::Start { .. } => 10,
     }
 }

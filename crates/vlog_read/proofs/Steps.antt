@@ -86,6 +86,17 @@ pub fixed-stuck : (end : ℕ) (fixed : Fixed) (slots : List Slot) (found : List 
 unfolding read_slots
 fixed-stuck end fixed slots found spots at reads = ap (λ reading. and_then (behind_tokens found reading) (read_slots end slots)) reads
 
+-- a first token that is a sign, or isn't
+pub first-then : (end : ℕ) (fixed : Fixed) (slots : List Slot) (found : List Found) (first : Spot) (spots : List Spot) → is_same_token (token.fixed fixed) first.token ≡ true
+    → read_slots end (slot.Fixed fixed ∷ slots) found (first ∷ spots) ≡ read_slots end slots found spots
+first-then end fixed slots found first spots same =
+    fixed-then end fixed slots found (first ∷ spots) spots (ap (λ b. if b then Ok spots else Err first.offset) same)
+
+pub first-stuck : (end : ℕ) (fixed : Fixed) (slots : List Slot) (found : List Found) (first : Spot) (spots : List Spot) → is_same_token (token.fixed fixed) first.token ≡ false
+    → read_slots end (slot.Fixed fixed ∷ slots) found (first ∷ spots) ≡ Err first.offset
+first-stuck end fixed slots found first spots apart =
+    fixed-stuck end fixed slots found (first ∷ spots) first.offset (ap (λ b. if b then Ok spots else Err first.offset) apart)
+
 -- a comma, a blank, and other slots
 pub comma-then : (end : ℕ) (slots : List Slot) (found : List Found) (spots rest : List Spot) → read_tokens end (token.fixed sign.Comma ∷ []) spots ≡ Ok rest
     → read_slots end (slot.Fixed sign.Comma ∷ slot.Space ∷ slots) found spots ≡ read_slots end slots found rest
@@ -210,12 +221,17 @@ first-suc first count some = let one : count ≡ suc (count - 1) = omega arith i
 
 -- ---- lists and forms
 
+-- what is left behind the first element
+pub rest-whole : {A : Type 0} (list : List A) → take (length list - 1) (drop 1 list) ≡ drop 1 list
+rest-whole [] = refl
+rest-whole (first ∷ list) =
+    let count : suc (length list) - 1 ≡ length list = omega arith in
+    ap (λ n. take n list) count ∙ take_all (length list) list (omega arith)
+
 -- a list with an element at least
 pub cut : {A : Type 0} (list : List A) (default : A) → 1 ≤ length list → list ≡ get_or list 0 default ∷ take (length list - 1) (drop 1 list)
 cut [] default some = absurd (omega arith)
-cut (first ∷ list) default some =
-    let count : suc (length list) - 1 ≡ length list = omega arith in
-    ap (λ rest. first ∷ rest) (sym (ap (λ n. take n list) count ∙ take_all (length list) list (omega arith)))
+cut (first ∷ list) default some = ap (λ rest. first ∷ rest) (sym (rest-whole (first ∷ list)))
 
 pub further-reads : (stuck : ℕ) (reading : Result reading.Whole ℕ) (bytes : List ℕ) (found : List Found) (read : Result Whole Stop) → ReadsForm reading bytes found read
     → ReadsForm (or_further stuck reading) bytes found (further stuck read)

@@ -1,7 +1,7 @@
 // The form that comes next.
-ghost use Rattle.std.specs.Prelude.{◌≡◌, ◌≤◌, length, IfOk, OnOk};
-ghost use Rattle.vlog_tokens.specs.Tokens.{spots_at};
-ghost use Rattle.vlog_forms.specs.Layout.{slots_of};
+ghost use Rattle.std.specs.Prelude.{◌≡◌, ◌≤◌, ◌∷◌, drop, flat_map, length, IfOk, IfSome, OnOk};
+ghost use Rattle.vlog_tokens.specs.Tokens.{seen, spot, spots_at};
+ghost use Rattle.vlog_forms.specs.Layout.{parts_of, slots_of};
 ghost use Rattle.vlog_forms.specs.Reading.{all_forms, port_forms, read_forms, read_slots};
 ghost use Rattle.vlog_read.specs.Found.{all_found};
 ghost use Rattle.vlog_read.specs.Readings.{ReadsForm, ReadsTo, further};
@@ -9,8 +9,10 @@ ghost use Rattle.vlog_read.specs.Readings.{ReadsForm, ReadsTo, further};
 use crate::found::Found;
 use crate::slots::read_slots;
 use crate::stop::Stop;
+use crate::token::is_fixed;
 use std::alloc::AllocError;
-use vlog_forms::{Form, slots};
+use vlog_forms::{Form, Slot, slots};
+use vlog_tokens::{Fixed, Spot, next_token};
 
 /// An item that is whole: its form, and the offset behind it.
 #[derive(Clone, Copy, Debug)]
@@ -67,33 +69,112 @@ pub fn read_forms<'a>(
     ensures reads { ReadsForm (read_forms (length bytes.now) (all_found given.now) forms.now (spots_at bytes.now from)) bytes.now (all_found values.new.items) result }
     ensures within { IfOk result (λ whole. whole.end ≤ length bytes.now) }
 {
+    read_each(bytes, from, next_token(bytes, from), given, forms, values)
+}
+
+/// Reads one form after another, each of which begins with the same token.
+fn read_each<'a>(
+    bytes: &'a [u8],
+    from: usize,
+    first: Option<Spot<'a>>,
+    given: &[Found<'a>],
+    forms: &[Form],
+    values: &mut Vec<Found<'a>>,
+) -> Result<Whole, Stop>
+    requires within { from ≤ length bytes.now }
+    requires first { IfSome first (λ found. spots_at bytes.now from ≡ spot found.at (seen found.token) ∷ spots_at bytes.now found.end) }
+    requires behind { IfSome first (λ found. found.end ≤ length bytes.now) }
+    ensures reads { ReadsForm (read_forms (length bytes.now) (all_found given.now) forms.now (spots_at bytes.now from)) bytes.now (all_found values.new.items) result }
+    ensures within { IfOk result (λ whole. whole.end ≤ length bytes.now) }
+{
     match forms {
         [] => Err(Stop::Stuck(0)),
-        [form, rest @ ..] => match read_form(bytes, from, given, *form, values) {
+        [form, rest @ ..] => match read_form(bytes, from, first, given, *form, values) {
             Ok(end) => Ok(Whole { form: *form, end }),
             Err(Stop::Memory(refused)) => Err(Stop::Memory(refused)),
             Err(Stop::Stuck(stuck)) => {
-                further(stuck, read_forms(bytes, from, given, rest, values))
+                further(stuck, read_each(bytes, from, first, given, rest, values))
             }
         },
     }
 }
 
-/// Reads a form behind the values that are given.
+/// Reads a form behind the values that are given. Its first token, where there is one, isn't read again.
 fn read_form<'a>(
     bytes: &'a [u8],
     from: usize,
+    first: Option<Spot<'a>>,
     given: &[Found<'a>],
     form: Form,
     values: &mut Vec<Found<'a>>,
 ) -> Result<usize, Stop>
-    requires { from ≤ length bytes.now }
+    requires within { from ≤ length bytes.now }
+    requires first { IfSome first (λ found. spots_at bytes.now from ≡ spot found.at (seen found.token) ∷ spots_at bytes.now found.end) }
+    requires behind { IfSome first (λ found. found.end ≤ length bytes.now) }
     ensures reads { ReadsTo (read_slots (length bytes.now) (slots_of form) (all_found given.now) (spots_at bytes.now from)) bytes.now (all_found values.new.items) result }
+    ensures within { IfOk result (λ end. end ≤ length bytes.now) }
+{
+    match first {
+        None => read_behind(bytes, from, given, slots(form), values),
+        Some(spot) => read_begun(bytes, from, spot, given, slots(form), values),
+    }
+}
+
+/// Reads slots behind the values that are given, where the first token is known.
+fn read_begun<'a>(
+    bytes: &'a [u8],
+    from: usize,
+    first: Spot<'a>,
+    given: &[Found<'a>],
+    slots: &[Slot],
+    values: &mut Vec<Found<'a>>,
+) -> Result<usize, Stop>
+    requires within { from ≤ length bytes.now }
+    requires first { spots_at bytes.now from ≡ spot first.at (seen first.token) ∷ spots_at bytes.now first.end }
+    requires behind { first.end ≤ length bytes.now }
+    ensures reads { ReadsTo (read_slots (length bytes.now) (flat_map parts_of slots.now) (all_found given.now) (spots_at bytes.now from)) bytes.now (all_found values.new.items) result }
+    ensures within { IfOk result (λ end. end ≤ length bytes.now) }
+{
+    match first_sign(slots) {
+        None => read_behind(bytes, from, given, slots, values),
+        Some(fixed) => {
+            if is_fixed(fixed, first.token) {
+                read_behind(bytes, first.end, given, &slots[1..], values)
+            } else {
+                Err(Stop::Stuck(first.at))
+            }
+        }
+    }
+}
+
+/// The sign or reserved word that slots begin with, where they do.
+fn first_sign(slots: &[Slot]) -> Option<Fixed>
+    ensures { IfSome result (λ fixed. slots.now ≡ Slot.Fixed fixed ∷ drop 1 slots.now) }
+{
+    match slots {
+        [] => None,
+        [slot, ..] => match *slot {
+            Slot::Fixed(fixed) => Some(fixed),
+            _ => None,
+        },
+    }
+}
+
+/// Reads slots behind the values that are given.
+fn read_behind<'a>(
+    bytes: &'a [u8],
+    from: usize,
+    given: &[Found<'a>],
+    slots: &[Slot],
+    values: &mut Vec<Found<'a>>,
+) -> Result<usize, Stop>
+    requires { from ≤ length bytes.now }
+    ensures reads { ReadsTo (read_slots (length bytes.now) (flat_map parts_of slots.now) (all_found given.now) (spots_at bytes.now from)) bytes.now (all_found values.new.items) result }
     ensures within { IfOk result (λ end. end ≤ length bytes.now) }
 {
     match start_with(values, given) {
         Err(refused) => Err(Stop::Memory(refused)),
-        Ok(()) => read_slots(bytes, from, slots(form), values),
+        Ok(()) => read_slots(bytes, from, slots, values),
     }
 }
 

@@ -1,18 +1,21 @@
-use Rattle.std.proofs.Common.{length, flat_map, ap, sym, ◌∙◌}
+use Rattle.std.proofs.Common.{length, flat_map, ap, sym}
 use Rattle.vlog_tokens.specs.Tokens.{spots_at}
-use Rattle.vlog_forms.specs.Layout.{parts_of}
+use Rattle.vlog_forms.specs.Layout.{parts_of, slots_of}
 use Rattle.vlog_forms.specs.Reading.{read_slots}
 use Rattle.vlog_read.specs.Found.{all_found}
-use Rattle.vlog_forms.specs.Layout.{slots_of}
 use Rattle.vlog_read.proofs.Steps.{reads-along}
 use Rattle.vlog_read.proofs.forms.read_form.Goals as goal
 
-pub returns-in-Ok-clause-reads : goal.returns-in-Ok-clause-reads
+pub returns-in-None-clause-reads : goal.returns-in-None-clause-reads
 unfolding slots_of
-returns-in-Ok-clause-reads c =
-    let end = length c.args.bytes.now in
-    let spots = spots_at c.args.bytes.now c.args.from in
-    reads-along _ _ c.args.bytes.now (all_found c.read_slots.new.values.items) c.read_slots.result
-    (ap (λ slots. read_slots end (flat_map parts_of slots) (all_found c.args.given.now) spots) (sym c.slots.ensures)
-    ∙ ap (λ items. read_slots end (flat_map parts_of c.slots.result.now) (all_found items) spots) (sym c.in-Ok.ensures))
-    c.read_slots.ensures.reads
+returns-in-None-clause-reads c =
+    reads-along _ _ c.args.bytes.now (all_found c.read_behind.new.values.items) c.read_behind.result
+    (ap (λ slots. read_slots (length c.args.bytes.now) (flat_map parts_of slots) (all_found c.args.given.now) (spots_at c.args.bytes.now c.args.from)) (sym c.slots.ensures))
+    c.read_behind.ensures.reads
+
+pub returns-in-Some-clause-reads : goal.returns-in-Some-clause-reads
+unfolding slots_of
+returns-in-Some-clause-reads c =
+    reads-along _ _ c.args.bytes.now (all_found c.read_begun.new.values.items) c.read_begun.result
+    (ap (λ slots. read_slots (length c.args.bytes.now) (flat_map parts_of slots) (all_found c.args.given.now) (spots_at c.args.bytes.now c.args.from)) (sym c.slots-in-Some.ensures))
+    c.read_begun.ensures.reads

@@ -11,7 +11,7 @@ use Rattle.vlog_forms.specs.declared.form.Form.TheVariants as form
 use Rattle.vlog_forms.specs.Layout.{slots_of}
 use Rattle.vlog_read.specs.Readings.{further}
 use Rattle.vlog_read.proofs.Steps.{cut, further-reads, form-along, form-result}
-use Rattle.vlog_read.proofs.forms.+read_forms.Goals as goal
+use Rattle.vlog_read.proofs.forms.+read_each.Goals as goal
 
 pub returns-in-empty-clause-reads : goal.returns-in-empty-clause-reads
 unfolding read_forms
@@ -37,13 +37,13 @@ returns-in-Err-Stuck-clause-reads t c =
     let given = all_found c.args.given.now in
     let forms = c.args.forms.now in
     let spots = spots_at c.args.bytes.now c.args.from in
-    let found = all_found c.read_forms.new.values.items in
+    let found = all_found c.read_each.new.values.items in
     let one = get_or forms 0 form.Input in
     let stuck = c.in-Err-Stuck.stuck in
     let others = read_forms end given (take (length forms - 1) (drop 1 forms)) spots in
-    let result : c.further.result ≡ further stuck c.read_forms.result = c.further.ensures ∙ ap (λ at. further at c.read_forms.result) c.in-Err-Stuck.stuck-is in
+    let result : c.further.result ≡ further stuck c.read_each.result = c.further.ensures ∙ ap (λ at. further at c.read_each.result) c.in-Err-Stuck.stuck-is in
     let stops : read_slots end (slots_of one) given spots ≡ Err stuck = subst (StopsAt (read_slots end (slots_of one) given spots)) c.in-Err-Stuck.field-0-is c.in-Err-Stuck.ensures.reads in
-    form-result (read_forms end given forms spots) c.args.bytes.now found c.further.result (further stuck c.read_forms.result) result
-    (form-along (read_forms end given forms spots) (or_further stuck others) c.args.bytes.now found (further stuck c.read_forms.result)
+    form-result (read_forms end given forms spots) c.args.bytes.now found c.further.result (further stuck c.read_each.result) result
+    (form-along (read_forms end given forms spots) (or_further stuck others) c.args.bytes.now found (further stuck c.read_each.result)
     (ap (λ list. read_forms end given list spots) (cut forms form.Input c.in-len1-up.len_at_least) ∙ ap (λ reading. first_whole one reading others) stops)
-    (further-reads stuck others c.args.bytes.now found c.read_forms.result c.read_forms.ensures.reads))
+    (further-reads stuck others c.args.bytes.now found c.read_each.result c.read_each.ensures.reads))

@@ -45,7 +45,7 @@ pub fn is_fixed(fixed: Fixed, token: Token<'_>) -> bool
     ensures { result ≡ is_same_token (value.fixed fixed) (seen token.entry) }
 {
     match token {
-        Token::Fixed(other) => fixed.text() == other.text(),
+        Token::Fixed(other) => fixed == other,
         Token::Name(_) => false,
         Token::Bit(_) => false,
         Token::Word(_) => false,

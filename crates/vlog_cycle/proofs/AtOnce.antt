@@ -12,7 +12,7 @@ use Rattle.std.proofs.lemmas.Slice.Eq.{bytes_eq-Decides}
 use Rattle.vlog_module.specs.declared.atoms.Atom.{Atom}
 use Rattle.vlog_module.specs.declared.atoms.Atom.TheVariants.{Bit, Whole, Part}
 use Rattle.vlog_module.specs.declared.item.Item.{Item}
-use Rattle.vlog_module.specs.declared.item.Item.TheVariants.{Register as RegisterItem, Word as WordItem, Memory as MemoryItem, Wire as WireItem, Assign, Flip, FlipAtOnce, SetAtOnce, Read, Write, Start}
+use Rattle.vlog_module.specs.declared.item.Item.TheVariants.{Register as RegisterItem, Word as WordItem, Memory as MemoryItem, Wire as WireItem, Assign, Flip, FlipAtOnce, SetAtOnce, Read, ReadNarrow, Write, WriteNarrow, Start}
 use Rattle.vlog_module.specs.declared.item.Right.{Right}
 use Rattle.vlog_module.specs.declared.item.Right.TheVariants.{Bit as RightBit, Whole as RightWhole, Part as RightPart, Lut as RightLut, Majority, Choose}
 use Rattle.vlog_module.specs.declared.modules.Port.{Port}
@@ -65,7 +65,9 @@ known-in scope (SetAtOnce reset set_to target) one allowed is =
       register = allowed.known 1 (Takes Input reset) (omega arith);
     })
 known-in scope (Read falling clock clock_enable enable target memory address) one allowed is = cc
+known-in scope (ReadNarrow falling clock clock_enable enable target memory address shift pattern) one allowed is = cc
 known-in scope (Write falling clock clock_enable enable memory address mask bits) one allowed is = cc
+known-in scope (WriteNarrow falling clock clock_enable enable memory address pattern shift bits) one allowed is = cc
 known-in scope (Start memory k word) one allowed is = cc
 
 section-in : (item : Item) (one : AtOnce) → at_once item ≡ Some one → section_of item ≡ 7
@@ -79,7 +81,9 @@ section-in (Flip falling clock enable reset set_to target lut) one is = refl
 section-in (FlipAtOnce falling clock reset set_to target enable lut) one is = refl
 section-in (SetAtOnce reset set_to target) one is = refl
 section-in (Read falling clock clock_enable enable target memory address) one is = cc
+section-in (ReadNarrow falling clock clock_enable enable target memory address shift pattern) one is = cc
 section-in (Write falling clock clock_enable enable memory address mask bits) one is = cc
+section-in (WriteNarrow falling clock clock_enable enable memory address pattern shift bits) one is = cc
 section-in (Start memory k word) one is = cc
 
 -- ---- sorts
@@ -256,6 +260,22 @@ declares (MemoryItem name) = (name, Memory) ∷ []
 declares (WireItem name right) = (name, Wire) ∷ []
 declares _ = []
 
+read-none : (clock_enable enable : Atom) (target memory : List ℕ) (address : List Atom)
+    → flat_map declared_by (atom_uses clock_enable ++ atom_uses enable ++ (Assigns Word target ∷ Takes Memory memory ∷ atoms_uses address)) ≡ []
+read-none clock_enable enable target memory address =
+    none-append (atom_uses clock_enable ++ atom_uses enable) (Assigns Word target ∷ Takes Memory memory ∷ atoms_uses address)
+    (none-append (atom_uses clock_enable) (atom_uses enable) (atom-none clock_enable) (atom-none enable)) (atoms-none address)
+
+write-none : (clock_enable enable : Atom) (memory : List ℕ) (address more bits : List Atom)
+    → flat_map declared_by (atom_uses clock_enable ++ atom_uses enable ++ (Assigns Memory memory ∷ atoms_uses address) ++ atoms_uses more ++ atoms_uses bits) ≡ []
+write-none clock_enable enable memory address more bits =
+    none-append ((atom_uses clock_enable ++ atom_uses enable ++ (Assigns Memory memory ∷ atoms_uses address)) ++ atoms_uses more) (atoms_uses bits)
+    (none-append (atom_uses clock_enable ++ atom_uses enable ++ (Assigns Memory memory ∷ atoms_uses address)) (atoms_uses more)
+    (none-append (atom_uses clock_enable ++ atom_uses enable) (Assigns Memory memory ∷ atoms_uses address)
+    (none-append (atom_uses clock_enable) (atom_uses enable) (atom-none clock_enable) (atom-none enable)) (atoms-none address))
+    (atoms-none more))
+    (atoms-none bits)
+
 item-declares : (item : Item) → flat_map declared_by (uses_of item) ≡ declares item
 unfolding declares
 item-declares (RegisterItem name start) = refl
@@ -267,16 +287,12 @@ item-declares (Flip falling clock enable reset set_to target lut) =
     none-append (atom_uses enable ++ atom_uses reset) (Assigns Register target ∷ lut_uses lut) (none-append (atom_uses enable) (atom_uses reset) (atom-none enable) (atom-none reset)) (atoms-none lut.ins)
 item-declares (FlipAtOnce falling clock reset set_to target enable lut) = none-append (atom_uses enable) (lut_uses lut) (atom-none enable) (atoms-none lut.ins)
 item-declares (SetAtOnce reset set_to target) = refl
-item-declares (Read falling clock clock_enable enable target memory address) =
-    none-append (atom_uses clock_enable ++ atom_uses enable) (Assigns Word target ∷ Takes Memory memory ∷ atoms_uses address)
-    (none-append (atom_uses clock_enable) (atom_uses enable) (atom-none clock_enable) (atom-none enable)) (atoms-none address)
-item-declares (Write falling clock clock_enable enable memory address mask bits) =
-    none-append ((atom_uses clock_enable ++ atom_uses enable ++ (Assigns Memory memory ∷ atoms_uses address)) ++ atoms_uses mask) (atoms_uses bits)
-    (none-append (atom_uses clock_enable ++ atom_uses enable ++ (Assigns Memory memory ∷ atoms_uses address)) (atoms_uses mask)
-    (none-append (atom_uses clock_enable ++ atom_uses enable) (Assigns Memory memory ∷ atoms_uses address)
-    (none-append (atom_uses clock_enable) (atom_uses enable) (atom-none clock_enable) (atom-none enable)) (atoms-none address))
-    (atoms-none mask))
-    (atoms-none bits)
+item-declares (Read falling clock clock_enable enable target memory address) = read-none clock_enable enable target memory address
+item-declares (ReadNarrow falling clock clock_enable enable target memory address shift pattern) =
+    none-append (atom_uses clock_enable ++ atom_uses enable ++ (Assigns Word target ∷ Takes Memory memory ∷ atoms_uses address)) (atoms_uses shift)
+    (read-none clock_enable enable target memory address) (atoms-none shift)
+item-declares (Write falling clock clock_enable enable memory address mask bits) = write-none clock_enable enable memory address mask bits
+item-declares (WriteNarrow falling clock clock_enable enable memory address pattern shift bits) = write-none clock_enable enable memory address shift bits
 item-declares (Start memory k word) = refl
 
 past-sort : (sort : Sort) (b : Bool) (found : Option Sort) → is_sort Wire (Some sort) ≡ false → cond b (Some sort) found ≡ Some Wire → found ≡ Some Wire

@@ -11,9 +11,9 @@ use Rattle.vlog_cycle.specs.Entries.{Entry}
 use Rattle.vlog_cycle.specs.ModuleSlots.{IsNamed, IsPlan, memory_names, module_wires, places_of, register_names, wire_names, wire_start, word_names}
 use Rattle.vlog_cycle.specs.Named.{names_of, values_of}
 use Rattle.vlog_cycle.specs.Numbered.{numbered}
-use Rattle.vlog_cycle.specs.Plans.{Places, flip_of, outputs_of, read_of, settle_of, wires_of, write_of}
+use Rattle.vlog_cycle.specs.Plans.{Places, flip_steps, outputs_of, read_of, settle_of, wires_of, write_of}
 use Rattle.vlog_cycle.specs.Run.{changed, followed, input_bit, input_names, input_start, is_same_bit, memory_start, memory_step, readable, register_start, register_step, settled, start, start_step, wire_step, with_input, word_start, word_step}
-use Rattle.vlog_cycle.specs.Steps.{bits_after, flip_slot, memories_after, operand_value, read_slot, settle_slot, settle_slots, settled_slots, wire_slot, words_after, write_slot}
+use Rattle.vlog_cycle.specs.Steps.{bits_after, flip_slot, memories_after, operand_value, put_written, read_slot, settle_slot, settle_slots, settled_slots, wire_slot, words_after, written_by}
 use Rattle.vlog_cycle.specs.Values.{Readable}
 use Rattle.vlog_cycle.proofs.Beginning.{names-starts, same-places}
 use Rattle.vlog_cycle.proofs.Clocked.{entry_places, flips-same, names-flips, with_registers}
@@ -169,7 +169,7 @@ words-changed m plan entry event named planned =
 pub memories-changed : (m : Parts) (plan : Plan) (entry : Entry) (event : Event) → IsNamed m entry → IsPlan m plan
     → memories_after plan event (values_of (readable entry).bits) (values_of entry.words) (values_of entry.memories) ≡ values_of (fold (memory_step m entry event) entry.memories m.items)
 memories-changed m plan entry event named planned =
-    ap (fold (write_slot event (values_of (readable entry).bits) (values_of entry.words) (values_of entry.memories)) (values_of entry.memories))
+    ap (λ writes. fold put_written (values_of entry.memories) (map (written_by event (values_of (readable entry).bits) (values_of entry.words) (values_of entry.memories)) writes))
     (planned.writes ∙ ap (λ (at : Places). filter_map (write_of at) m.items) (sym (places-same m entry named)))
     ∙ writes-same m entry event entry.memories m.items named.inputs refl
 
@@ -184,7 +184,7 @@ registers-changed m plan entry event named planned within =
     subst (λ n. event.pin < n) (ap length (sym named.inputs) ∙ length-map entry.inputs (λ (e : List ℕ × Bool). e.0) ∙ sym (length-map entry.inputs (λ (e : List ℕ × Bool). e.1))) within in
     ap (λ list. set list event.pin event.bit)
     (ap₂ (fold (flip_slot event bits (values_of entry.words))) (registers-apart entry)
-    (planned.flips ∙ ap (λ (at : Places). filter_map (flip_of at) m.items) (sym (places-same m entry named)))
+    (planned.flips ∙ ap (λ (at : Places). flat_map (flip_steps at) m.items) (sym (places-same m entry named)))
     ∙ flips-same m entry event entry.registers m.items named.inputs refl)
     ∙ set-append_left (values_of entry.inputs) (values_of next ++ values_of entry.wires) event.pin event.bit here
     ∙ ap (λ list. list ++ (values_of next ++ values_of entry.wires)) (sym (values-input entry.inputs event.pin event.bit))

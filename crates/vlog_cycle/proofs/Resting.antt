@@ -27,7 +27,7 @@ put-head entry entries name value here = ap (λ b. cond b ((entry.0, value) ∷ 
 put-tail : (entry : List ℕ × Bool) (entries : List (List ℕ × Bool)) (name : List ℕ) (value : Bool) → bytes_eq entry.0 name ≡ false → put (entry ∷ entries) name value ≡ entry ∷ put entries name value
 put-tail entry entries name value away = ap (λ b. cond b ((entry.0, value) ∷ entries) (entry ∷ put entries name value)) away
 
-put-again : (entries : List (List ℕ × Bool)) (name : List ℕ) (first value : Bool) → put (put entries name first) name value ≡ put entries name value
+pub put-again : (entries : List (List ℕ × Bool)) (name : List ℕ) (first value : Bool) → put (put entries name first) name value ≡ put entries name value
 put-again [] name first value = refl
 put-again (entry ∷ entries) name first value =
     elim (cases_Bool (bytes_eq entry.0 name)) [

@@ -1,7 +1,8 @@
 -- Items over slots, one after the other, do what the items of the module do.
-use Rattle.std.proofs.Common.{◌≡◌, ℕ, Bool, true, false, cond, List, [], ◌∷◌, Option, Some, None, ap, fold, refl, ◌∙◌}
+use Rattle.std.proofs.Common.{◌≡◌, ℕ, Bool, true, false, cond, List, [], ◌∷◌, Option, Some, None, ap, flat_map, fold, refl, ◌∙◌}
 use Rattle.std.specs.List.{cons_option, filter_map}
 use Rattle.std.specs.Option.{option_to_list}
+use Rattle.std.proofs.lemmas.List.Sums.{fold-append}
 use Rattle.vlog_module.specs.declared.item.Item.{Item}
 use Rattle.vlog_cycle.specs.Entries.{put}
 use Rattle.vlog_cycle.specs.Named.{names_of}
@@ -29,6 +30,17 @@ fold-same step compiled value next Kept keeps same s (item ∷ items) kept =
     fold-cons_option step (value s) (compiled item) (filter_map compiled items)
     ∙ ap (λ after. fold step after (filter_map compiled items)) (same s item kept)
     ∙ fold-same step compiled value next Kept keeps same (next s item) items (keeps s item kept)
+
+-- and where the steps of each item do, so do those of all items
+pub fold-same-steps : {S B C : Type 0} (step : B → C → B) (steps : Item → List C) (value : S → B) (next : S → Item → S) (Kept : S → Type 0)
+    → ((s : S) (item : Item) → Kept s → Kept (next s item))
+    → ((s : S) (item : Item) → Kept s → fold step (value s) (steps item) ≡ value (next s item))
+    → (s : S) (items : List Item) → Kept s → fold step (value s) (flat_map steps items) ≡ value (fold next s items)
+fold-same-steps step steps value next Kept keeps same s [] kept = refl
+fold-same-steps step steps value next Kept keeps same s (item ∷ items) kept =
+    fold-append step (value s) (steps item) (flat_map steps items)
+    ∙ ap (λ after. fold step after (flat_map steps items)) (same s item kept)
+    ∙ fold-same-steps step steps value next Kept keeps same (next s item) items (keeps s item kept)
 
 pub cond-same : {A : Type 0} (b : Bool) (x : A) → x ≡ cond b x x
 cond-same true x = refl

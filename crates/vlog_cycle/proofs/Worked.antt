@@ -3,7 +3,7 @@ use Rattle.std.proofs.Common.{◌≡◌, ℕ, Bool, true, false, List, [], ◌�
 use Rattle.std.specs.Prelude.{codes, map}
 use Rattle.vlog_module.specs.declared.atoms.Atom.{Atom}
 use Rattle.vlog_module.specs.declared.atoms.Atom.TheVariants.{Bit, Whole}
-use Rattle.vlog_module.specs.declared.item.Item.TheVariants.{Register, Word, Memory, Wire, Assign, Flip, FlipAtOnce, SetAtOnce, Read, Write, Start}
+use Rattle.vlog_module.specs.declared.item.Item.TheVariants.{Register, Word, Memory, Wire, Assign, Flip, FlipAtOnce, SetAtOnce, Read, ReadNarrow, Write, WriteNarrow, Start}
 use Rattle.vlog_module.specs.declared.item.Lut.{Lut}
 use Rattle.vlog_module.specs.declared.item.Right.TheVariants.{Whole as RightWhole, Lut as RightLut, Choose}
 use Rattle.vlog_module.specs.declared.modules.Port.{Port}
@@ -13,7 +13,7 @@ use Rattle.place_search.specs.Places.{first_below}
 use Rattle.vlog_cycle.specs.declared.event.Event.{Event}
 use Rattle.vlog_cycle.specs.declared.event.EventFault.TheVariants.{Form, Pin}
 use Rattle.vlog_cycle.specs.Events.{event_fault, event_of, events_of, first_fault}
-use Rattle.vlog_cycle.specs.Run.{changed, followed, module_run, run_from, settled, start}
+use Rattle.vlog_cycle.specs.Run.{changed, followed, module_run, moved_up, run_from, settled, start}
 use Rattle.vlog_cycle.specs.Text.{entry_line, run_text}
 
 input : List ℕ → Port
@@ -128,6 +128,32 @@ writes : run_text memory (event 1 true ∷ event 0 true ∷ event 0 false ∷ ev
     ≡ codes "  0000\n  0000\n  1234\n  1234\n  1234\n  ab34\n"
 unfolding run_text module_run run_from followed changed start settled entry_line memory bits_of input output event
 writes = refl
+
+-- word 5 is 1234. A word of 8 bits, A5, is written in the places 1, 3, 5 .. of it; then it is read as words of 4 and of 2 bits
+narrow : Parts
+narrow = record {
+  name = codes "narrow";
+  ports = input (codes "c") ∷ input (codes "we") ∷ [];
+  items = Word (codes "r") 0 ∷ Word (codes "s") 0 ∷ Word (codes "t") 0 ∷ Memory (codes "mem")
+      ∷ Read false (codes "c") (Bit true) (Bit true) (codes "r") (codes "mem") (bits_of (true ∷ false ∷ true ∷ false ∷ false ∷ false ∷ false ∷ false ∷ []))
+      ∷ ReadNarrow false (codes "c") (Bit true) (Bit true) (codes "s") (codes "mem") (bits_of (true ∷ false ∷ true ∷ false ∷ false ∷ false ∷ false ∷ false ∷ []))
+      (bits_of (true ∷ true ∷ false ∷ [])) 4369
+      ∷ ReadNarrow false (codes "c") (Bit true) (Bit true) (codes "t") (codes "mem") (bits_of (true ∷ false ∷ true ∷ false ∷ false ∷ false ∷ false ∷ false ∷ []))
+      (bits_of (true ∷ true ∷ true ∷ [])) 257
+      ∷ WriteNarrow false (codes "c") (Bit true) (Whole (codes "we")) (codes "mem") (bits_of (true ∷ false ∷ true ∷ false ∷ false ∷ false ∷ false ∷ false ∷ []))
+      21845 (bits_of (true ∷ false ∷ false ∷ []))
+      (bits_of (true ∷ true ∷ false ∷ false ∷ true ∷ true ∷ false ∷ false ∷ false ∷ false ∷ true ∷ true ∷ false ∷ false ∷ true ∷ true ∷ []))
+      ∷ Start (codes "mem") 5 4660 ∷ [];
+}
+
+writes_narrow : run_text narrow (event 1 true ∷ event 0 true ∷ event 0 false ∷ event 1 false ∷ event 0 true ∷ []) true
+    ≡ codes "  0000 0000 0000\n  0000 0000 0000\n  1234 0000 0000\n  1234 0000 0000\n  1234 0000 0000\n  9836 1100 0100\n"
+unfolding run_text module_run run_from followed changed start settled entry_line narrow bits_of input output event
+writes_narrow = refl
+
+-- bits of a pattern that are moved past the highest are lost
+cuts_patterns : moved_up 43691 1 ≡ 21846
+cuts_patterns = refl
 
 -- ---- registers that a wire sets at once
 

@@ -10,7 +10,7 @@ use Rattle.vlog_cycle.specs.declared.plan.Wire.{Wire as WireOver}
 use Rattle.vlog_cycle.specs.Entries.{Entry}
 use Rattle.vlog_cycle.specs.Numbered.{numbered}
 use Rattle.vlog_cycle.specs.Named.{names_of, values_of}
-use Rattle.vlog_cycle.specs.Plans.{Places, flip_of, outputs_of, read_of, settle_of, wires_of, write_of}
+use Rattle.vlog_cycle.specs.Plans.{Places, flip_steps, outputs_of, read_of, settle_of, wires_of, write_of}
 use Rattle.vlog_cycle.specs.Run.{input_names, memory_start, register_start, word_start}
 
 -- ---- the names of a module
@@ -59,7 +59,7 @@ module_wires m = wires_of (places_of m).words (input_names m.ports ++ register_n
 -- the plan has the other items of the module over their slots
 pub record IsPlan (m : Parts) (plan : Plan) : Type 0 where
   pub outputs : plan.outputs.items ≡ values_of (outputs_of (places_of m).bits (places_of m).words m.ports m.items)
-  pub flips : plan.flips.items ≡ filter_map (flip_of (places_of m)) m.items
+  pub flips : plan.flips.items ≡ flat_map (flip_steps (places_of m)) m.items
   pub settles : plan.settles.items ≡ filter_map (settle_of (places_of m)) m.items
   pub reads : plan.reads.items ≡ filter_map (read_of (places_of m)) m.items
   pub writes : plan.writes.items ≡ filter_map (write_of (places_of m)) m.items

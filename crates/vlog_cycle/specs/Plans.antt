@@ -1,12 +1,13 @@
 -- Items over slots, made of the items of a module.
-use Rattle.std.specs.Prelude.{ℕ, Bool, true, false, List, [], ◌∷◌, ◌++◌, Option, Some, None, fold, map, flat_map, length, if◌then◌else◌}
+use Rattle.std.specs.Option.{option_map, option_to_list}
+use Rattle.std.specs.Prelude.{ℕ, Bool, false, List, [], ◌∷◌, ◌++◌, Option, Some, None, fold, map, flat_map, length, if◌then◌else◌}
 use Rattle.vlog_module.specs.declared.atoms.Atom.{Atom}
 use Rattle.vlog_module.specs.declared.atoms.Atom.TheVariants.{Bit, Whole, Part}
 use Rattle.vlog_module.specs.declared.item.Lut.{Lut}
 use Rattle.vlog_module.specs.declared.item.Right.{Right}
 use Rattle.vlog_module.specs.declared.item.Right.TheVariants.{Bit as RightBit, Whole as RightWhole, Part as RightPart, Lut as RightLut, Majority as RightMajority, Choose as RightChoose}
 use Rattle.vlog_module.specs.declared.item.Item.{Item}
-use Rattle.vlog_module.specs.declared.item.Item.TheVariants.{Wire as WireItem, Assign, Flip as FlipItem, FlipAtOnce as FlipAtOnceItem, SetAtOnce as SetAtOnceItem, Read as ReadItem, Write as WriteItem}
+use Rattle.vlog_module.specs.declared.item.Item.TheVariants.{Wire as WireItem, Assign, Flip as FlipItem, FlipAtOnce as FlipAtOnceItem, SetAtOnce as SetAtOnceItem, Read as ReadItem, ReadNarrow as ReadNarrowItem, Write as WriteItem, WriteNarrow as WriteNarrowItem}
 use Rattle.vlog_module.specs.declared.modules.Port.{Port}
 use Rattle.vlog_module.specs.Maps.{value_in}
 use Rattle.vlog_cycle.specs.declared.plan.Operand.{Operand}
@@ -17,7 +18,13 @@ use Rattle.vlog_cycle.specs.declared.plan.Rule.TheVariants.{Copy, Lookup, Majori
 use Rattle.vlog_cycle.specs.declared.plan.Wire.{Wire}
 use Rattle.vlog_cycle.specs.declared.plan.Flip.{Flip}
 use Rattle.vlog_cycle.specs.declared.plan.Settle.{Settle}
+use Rattle.vlog_cycle.specs.declared.plan.MemoryPort.{MemoryPort}
+use Rattle.vlog_cycle.specs.declared.plan.Field.{Field}
+use Rattle.vlog_cycle.specs.declared.plan.Taken.{Taken}
+use Rattle.vlog_cycle.specs.declared.plan.Taken.TheVariants.{Word, Narrow}
 use Rattle.vlog_cycle.specs.declared.plan.Read.{Read}
+use Rattle.vlog_cycle.specs.declared.plan.Kept.{Kept}
+use Rattle.vlog_cycle.specs.declared.plan.Kept.TheVariants.{Masked, Outside}
 use Rattle.vlog_cycle.specs.declared.plan.Write.{Write}
 use Rattle.vlog_cycle.specs.Entries.{put}
 use Rattle.vlog_cycle.specs.Numbered.{numbered}
@@ -88,10 +95,6 @@ of_two (Some a) (Some b) make = Some (make a b)
 of_two (Some a) None make = None
 of_two None b make = None
 
-abbrev pub of_three : {A : Type 0} → Option ℕ → Option ℕ → Option ℕ → (ℕ → ℕ → ℕ → A) → Option A
-of_three (Some a) b c make = of_two b c (make a)
-of_three None b c make = None
-
 -- a flip-flop that a wire sets at once, by its clock
 abbrev pub flip_at_once_of : Places → Item → Option Flip
 flip_at_once_of at (FlipAtOnceItem falling clock reset set target enable lut) =
@@ -100,7 +103,6 @@ flip_at_once_of at (FlipAtOnceItem falling clock reset set target enable lut) =
       enable = operand_of at.bits at.words enable;
       reset = slot_operand (at.bits reset);
       set = set;
-      at_once = true;
       target = slot;
       table = table_of at.bits at.words lut;
     })
@@ -113,11 +115,25 @@ flip_of at (FlipItem falling clock enable reset set target lut) =
       enable = operand_of at.bits at.words enable;
       reset = operand_of at.bits at.words reset;
       set = set;
-      at_once = false;
       target = slot;
       table = table_of at.bits at.words lut;
     })
 flip_of at item = flip_at_once_of at item
+
+-- a flip-flop, where it is enabled by what resets it
+abbrev pub at_reset : Flip → Flip
+at_reset flip = record {
+  edge = flip.edge;
+  enable = flip.reset;
+  reset = flip.reset;
+  set = flip.set;
+  target = flip.target;
+  table = flip.table;
+}
+
+-- what a flip-flop does at its edge, step by step: one that a wire sets at once is reset also where it isn't enabled
+abbrev pub flip_steps : Places → Item → List Flip
+flip_steps at item = option_to_list (flip_of at item) ++ option_to_list (option_map at_reset (flip_at_once_of at item))
 
 -- a register that a wire sets at once
 abbrev pub settle_over : Places → List ℕ → Bool → List ℕ → Option Settle
@@ -128,27 +144,41 @@ settle_of at (FlipAtOnceItem falling clock reset set target enable lut) = settle
 settle_of at (SetAtOnceItem reset set target) = settle_over at reset set target
 settle_of at _ = None
 
-abbrev pub read_of : Places → Item → Option Read
-read_of at (ReadItem falling clock clock_enable enable target memory address) =
-    of_three (at.pins clock) (at.words target) (at.memories memory) (λ pin slot place. record {
-      edge = record { pin = pin; falling = falling };
-      clock_enable = operand_of at.bits at.words clock_enable;
-      enable = operand_of at.bits at.words enable;
-      target = slot;
-      memory = place;
-      address = operands_of at.bits at.words address;
-    })
-read_of at _ = None
-
-abbrev pub write_of : Places → Item → Option Write
-write_of at (WriteItem falling clock clock_enable enable memory address mask bits) =
+-- a port of a memory, where its clock and the memory are found
+abbrev pub port_of : Places → Bool → List ℕ → Atom → Atom → List ℕ → List Atom → Option MemoryPort
+port_of at falling clock clock_enable enable memory address =
     of_two (at.pins clock) (at.memories memory) (λ pin place. record {
       edge = record { pin = pin; falling = falling };
       clock_enable = operand_of at.bits at.words clock_enable;
       enable = operand_of at.bits at.words enable;
       memory = place;
       address = operands_of at.bits at.words address;
-      mask = operands_of at.bits at.words mask;
-      bits = operands_of at.bits at.words bits;
     })
+
+abbrev pub field_of : Places → List Atom → ℕ → Field
+field_of at shift pattern = record { shift = operands_of at.bits at.words shift; pattern = pattern }
+
+-- a read through a port, where the port and the register are found
+abbrev pub read_over : Option MemoryPort → Option ℕ → Taken → Option Read
+read_over (Some port) (Some slot) taken = Some (record { port = port; target = slot; taken = taken })
+read_over (Some port) None taken = None
+read_over None slot taken = None
+
+abbrev pub read_of : Places → Item → Option Read
+read_of at (ReadItem falling clock clock_enable enable target memory address) =
+    read_over (port_of at falling clock clock_enable enable memory address) (at.words target) Word
+read_of at (ReadNarrowItem falling clock clock_enable enable target memory address shift pattern) =
+    read_over (port_of at falling clock clock_enable enable memory address) (at.words target) (Narrow (field_of at shift pattern))
+read_of at _ = None
+
+-- a write of bits through a port, where the port is found
+abbrev pub write_over : Places → Option MemoryPort → Kept → List Atom → Option Write
+write_over at (Some port) kept bits = Some (record { port = port; kept = kept; bits = operands_of at.bits at.words bits })
+write_over at None kept bits = None
+
+abbrev pub write_of : Places → Item → Option Write
+write_of at (WriteItem falling clock clock_enable enable memory address mask bits) =
+    write_over at (port_of at falling clock clock_enable enable memory address) (Masked (operands_of at.bits at.words mask)) bits
+write_of at (WriteNarrowItem falling clock clock_enable enable memory address pattern shift bits) =
+    write_over at (port_of at falling clock clock_enable enable memory address) (Outside (field_of at shift pattern)) bits
 write_of at _ = None

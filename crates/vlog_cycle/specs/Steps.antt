@@ -1,5 +1,5 @@
 -- What items over slots do to the bits, words and memories of the slots.
-use Rattle.std.specs.Prelude.{ℕ, Bool, false, ◌&&◌, ◌||◌, ◌==◌, List, [], fold, map, get_or, slice_set, if◌then◌else◌}
+use Rattle.std.specs.Prelude.{ℕ, ◌-◌, Bool, false, ◌&&◌, ◌==◌, List, [], Option, Some, None, fold, map, get_or, slice_set, if◌then◌else◌}
 use Rattle.vlog_cycle.specs.declared.event.Event.{Event}
 use Rattle.vlog_cycle.specs.declared.plan.Operand.{Operand}
 use Rattle.vlog_cycle.specs.declared.plan.Operand.TheVariants.{Constant, Slot, Part}
@@ -10,10 +10,16 @@ use Rattle.vlog_cycle.specs.declared.plan.Wire.{Wire}
 use Rattle.vlog_cycle.specs.declared.plan.Edge.{Edge}
 use Rattle.vlog_cycle.specs.declared.plan.Flip.{Flip}
 use Rattle.vlog_cycle.specs.declared.plan.Settle.{Settle}
+use Rattle.vlog_cycle.specs.declared.plan.MemoryPort.{MemoryPort}
+use Rattle.vlog_cycle.specs.declared.plan.Taken.{Taken}
+use Rattle.vlog_cycle.specs.declared.plan.Taken.TheVariants.{Word, Narrow}
 use Rattle.vlog_cycle.specs.declared.plan.Read.{Read}
+use Rattle.vlog_cycle.specs.declared.plan.Kept.{Kept}
+use Rattle.vlog_cycle.specs.declared.plan.Kept.TheVariants.{Masked, Outside}
 use Rattle.vlog_cycle.specs.declared.plan.Write.{Write}
+use Rattle.vlog_cycle.specs.declared.plan.Written.{Written}
 use Rattle.vlog_cycle.specs.declared.plan.Plan.{Plan}
-use Rattle.vlog_cycle.specs.Run.{is_edge, masked}
+use Rattle.vlog_cycle.specs.Run.{is_edge, masked, moved_down, moved_up}
 use Rattle.vlog_cycle.specs.Values.{bit_of, majority, number_of}
 
 abbrev pub operand_value : List Bool → List ℕ → Operand → Bool
@@ -41,39 +47,57 @@ wire_slot words bits wire = slice_set bits wire.slot (rule_value bits words wire
 abbrev pub is_edge_of : Event → Edge → Bool
 is_edge_of event edge = (edge.pin == event.pin) && is_edge edge.falling event.bit
 
--- whether a register gets a bit at its edge
-abbrev pub is_acting : List Bool → List ℕ → Flip → Bool
-is_acting bits words flip = operand_value bits words flip.enable || (flip.at_once && operand_value bits words flip.reset)
-
 abbrev pub flip_slot : Event → List Bool → List ℕ → List Bool → Flip → List Bool
 flip_slot event bits words next flip =
-    if is_edge_of event flip.edge && is_acting bits words flip
+    if is_edge_of event flip.edge && operand_value bits words flip.enable
     then slice_set next flip.target (if operand_value bits words flip.reset then flip.set else table_value bits words flip.table)
     else next
+
+-- ---- memories
+
+-- whether a port of a memory acts
+abbrev pub is_acting : Event → List Bool → List ℕ → MemoryPort → Bool
+is_acting event bits words port =
+    is_edge_of event port.edge && operand_value bits words port.clock_enable && operand_value bits words port.enable
 
 abbrev pub word_in : List (List ℕ) → ℕ → ℕ → ℕ
 word_in memories memory address = get_or (get_or memories memory []) address 0
 
+-- what is taken of a word
+abbrev pub taken_word : List Bool → List ℕ → Taken → ℕ → ℕ
+taken_word bits words Word word = word
+taken_word bits words (Narrow field) word = moved_down word (operands_value bits words field.shift) field.pattern
+
 abbrev pub read_slot : Event → List Bool → List ℕ → List (List ℕ) → List ℕ → Read → List ℕ
 read_slot event bits words memories next read =
-    if is_edge_of event read.edge && operand_value bits words read.clock_enable && operand_value bits words read.enable
-    then slice_set next read.target (word_in memories read.memory (operands_value bits words read.address))
+    if is_acting event bits words read.port
+    then slice_set next read.target (taken_word bits words read.taken (word_in memories read.port.memory (operands_value bits words read.port.address)))
     else next
 
--- the word that a write would put in its place
-abbrev pub written_word : List Bool → List ℕ → List (List ℕ) → Write → ℕ
-written_word bits words memories write =
-    masked (word_in memories write.memory (operands_value bits words write.address)) (operands_value bits words write.mask) (operands_value bits words write.bits)
+-- the mask of what stays of a word
+abbrev pub kept_mask : List Bool → List ℕ → Kept → ℕ
+kept_mask bits words (Masked mask) = operands_value bits words mask
+kept_mask bits words (Outside field) = 65535 - moved_up field.pattern (operands_value bits words field.shift)
 
--- a word is put in a memory
+-- the word that a write puts in its place, where it acts
+abbrev pub written_by : Event → List Bool → List ℕ → List (List ℕ) → Write → Option Written
+written_by event bits words memories write =
+    let address = operands_value bits words write.port.address in
+    if is_acting event bits words write.port
+    then Some (record {
+      memory = write.port.memory;
+      address = address;
+      word = masked (word_in memories write.port.memory address) (kept_mask bits words write.kept) (operands_value bits words write.bits);
+    })
+    else None
+
 abbrev pub set_word : List (List ℕ) → ℕ → ℕ → ℕ → List (List ℕ)
 set_word memories memory address word = slice_set memories memory (slice_set (get_or memories memory []) address word)
 
-abbrev pub write_slot : Event → List Bool → List ℕ → List (List ℕ) → List (List ℕ) → Write → List (List ℕ)
-write_slot event bits words memories next write =
-    if is_edge_of event write.edge && operand_value bits words write.clock_enable && operand_value bits words write.enable
-    then set_word next write.memory (operands_value bits words write.address) (written_word bits words memories write)
-    else next
+-- a word is put in a memory, where there is one
+abbrev pub put_written : List (List ℕ) → Option Written → List (List ℕ)
+put_written memories (Some written) = set_word memories written.memory written.address written.word
+put_written memories None = memories
 
 -- ---- what settles
 
@@ -94,7 +118,8 @@ abbrev pub words_after : Plan → Event → List Bool → List ℕ → List (Lis
 words_after plan event bits words memories = fold (read_slot event bits words memories) words plan.reads.items
 
 abbrev pub memories_after : Plan → Event → List Bool → List ℕ → List (List ℕ) → List (List ℕ)
-memories_after plan event bits words memories = fold (write_slot event bits words memories) memories plan.writes.items
+memories_after plan event bits words memories =
+    fold put_written memories (map (written_by event bits words memories) plan.writes.items)
 
 abbrev pub bits_after : Plan → List Wire → Event → List Bool → List ℕ → List (List ℕ) → List Bool
 bits_after plan wires event bits words memories =

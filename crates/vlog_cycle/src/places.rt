@@ -1,16 +1,18 @@
 // Items over slots, made of the items of a module.
-ghost use Rattle.std.specs.Prelude.{◌≡◌, ◌++◌, length, IfOk, OnOk, All};
+ghost use Rattle.std.specs.Prelude.{◌≡◌, ◌++◌, flat_map, length, IfOk, OnOk, All};
 ghost use Rattle.std.specs.List.{filter_map};
-ghost use Rattle.std.specs.Option.{option_to_list};
+ghost use Rattle.std.specs.Option.{option_map, option_to_list};
 ghost use Rattle.vlog_module.specs.WellFormed.{IsLut, IsRight, IsShaped};
 ghost use Rattle.vlog_cycle.specs.Slots.{slot_of};
-ghost use Rattle.vlog_cycle.specs.Plans.{operand_of, operands_of, part_operand, slot_operand, table_of, rule_of, flip_at_once_of, flip_of, settle_of, settle_over, read_of, write_of};
+ghost use Rattle.vlog_cycle.specs.Plans.{at_reset, field_of, flip_at_once_of, flip_of, flip_steps, operand_of, operands_of, part_operand, port_of, read_of, read_over, rule_of, settle_of, settle_over, slot_operand, table_of, write_of, write_over};
 ghost use Rattle.vlog_cycle.specs.Found.{places_in};
 
-use crate::plan::{Edge, Flip, Operand, Read, Rule, Settle, Table, Write};
+use crate::plan::{
+    Edge, Field, Flip, Kept, MemoryPort, Operand, Read, Rule, Settle, Table, Taken, Write,
+};
 use crate::slots::Slots;
 use std::alloc::{AllocError, Global};
-use vlog_module::{Atom, Atoms, Item, Lut, Right};
+use vlog_module::{Atom, Atoms, Item, Lut, Name, Right};
 
 /// The places of inputs, and the slots of other names.
 #[derive(Drop)]
@@ -128,7 +130,6 @@ fn flip_of(places: &Places, item: &Item) -> Option<Flip>
                 enable: operand_of(&places.bits, &places.words, enable),
                 reset: operand_of(&places.bits, &places.words, reset),
                 set: *set,
-                at_once: false,
                 target,
                 table: table_of(&places.bits, &places.words, lut),
             })
@@ -162,13 +163,24 @@ fn flip_at_once_of(places: &Places, item: &Item) -> Option<Flip>
                 enable: operand_of(&places.bits, &places.words, enable),
                 reset: slot_operand(&places.bits, reset.bytes()),
                 set: *set,
-                at_once: true,
                 target,
                 table: table_of(&places.bits, &places.words, lut),
             })
         }
         _ => None,
     }
+}
+
+/// A flip-flop that a wire sets at once, where it is enabled by that wire.
+fn reset_of(places: &Places, item: &Item) -> Option<Flip>
+    requires { IsShaped item.now }
+    ensures { result ≡ option_map at_reset (flip_at_once_of (places_in places.now) item.now) }
+{
+    let flip = flip_at_once_of(places, item)?;
+    Some(Flip {
+        enable: flip.reset,
+        ..flip
+    })
 }
 
 /// The register of an item that a wire sets at once, where it is one.
@@ -198,6 +210,54 @@ fn settle_over(places: &Places, reset: &[u8], set: bool, target: &[u8]) -> Optio
     Some(Settle { wire, set, target })
 }
 
+/// A port of a memory, where its clock and the memory are found.
+fn port_of(
+    places: &Places,
+    falling: bool,
+    clock: &Name,
+    clock_enable: &Atom,
+    enable: &Atom,
+    memory: &Name,
+    address: &Atoms,
+) -> Option<MemoryPort>
+    requires { length address.now ≡ 8 }
+    ensures { result ≡ port_of (places_in places.now) falling clock.now clock_enable.now enable.now memory.now address.now }
+{
+    let pin = places.pins.slot(clock.bytes())?;
+    let memory = places.memories.slot(memory.bytes())?;
+    Some(MemoryPort {
+        edge: Edge { pin, falling },
+        clock_enable: operand_of(&places.bits, &places.words, clock_enable),
+        enable: operand_of(&places.bits, &places.words, enable),
+        memory,
+        address: operands_of(&places.bits, &places.words, address),
+    })
+}
+
+/// A field of a word.
+fn field_of(places: &Places, shift: &Atoms, pattern: u16) -> Field
+    requires { length shift.now ≡ 3 }
+    ensures { result ≡ field_of (places_in places.now) shift.now pattern }
+{
+    Field {
+        shift: operands_of(&places.bits, &places.words, shift),
+        pattern,
+    }
+}
+
+/// A read through a port, where the port and the register are found.
+fn read_over(port: Option<MemoryPort>, target: Option<usize>, taken: Taken) -> Option<Read>
+    ensures { result ≡ read_over port target taken }
+{
+    let port = port?;
+    let target = target?;
+    Some(Read {
+        port,
+        target,
+        taken,
+    })
+}
+
 /// The read of an item, where it is one.
 fn read_of(places: &Places, item: &Item) -> Option<Read>
     requires { IsShaped item.now }
@@ -212,24 +272,57 @@ fn read_of(places: &Places, item: &Item) -> Option<Read>
             target,
             memory,
             address,
-        } => {
-            let pin = places.pins.slot(clock.bytes())?;
-            let target = places.words.slot(target.bytes())?;
-            let memory = places.memories.slot(memory.bytes())?;
-            Some(Read {
-                edge: Edge {
-                    pin,
-                    falling: *falling,
-                },
-                clock_enable: operand_of(&places.bits, &places.words, clock_enable),
-                enable: operand_of(&places.bits, &places.words, enable),
-                target,
+        } => read_over(
+            port_of(
+                places,
+                *falling,
+                clock,
+                clock_enable,
+                enable,
                 memory,
-                address: operands_of(&places.bits, &places.words, address),
-            })
-        }
+                address,
+            ),
+            places.words.slot(target.bytes()),
+            Taken::Word,
+        ),
+        Item::ReadNarrow {
+            falling,
+            clock,
+            clock_enable,
+            enable,
+            target,
+            memory,
+            address,
+            shift,
+            pattern,
+        } => read_over(
+            port_of(
+                places,
+                *falling,
+                clock,
+                clock_enable,
+                enable,
+                memory,
+                address,
+            ),
+            places.words.slot(target.bytes()),
+            Taken::Narrow(field_of(places, shift, *pattern)),
+        ),
         _ => None,
     }
+}
+
+/// A write of bits through a port, where the port is found.
+fn write_over(places: &Places, port: Option<MemoryPort>, kept: Kept, bits: &Atoms) -> Option<Write>
+    requires { length bits.now ≡ 16 }
+    ensures { result ≡ write_over (places_in places.now) port kept bits.now }
+{
+    let port = port?;
+    Some(Write {
+        port,
+        kept,
+        bits: operands_of(&places.bits, &places.words, bits),
+    })
 }
 
 /// The write of an item, where it is one.
@@ -247,40 +340,71 @@ fn write_of(places: &Places, item: &Item) -> Option<Write>
             address,
             mask,
             bits,
-        } => {
-            let pin = places.pins.slot(clock.bytes())?;
-            let memory = places.memories.slot(memory.bytes())?;
-            Some(Write {
-                edge: Edge {
-                    pin,
-                    falling: *falling,
-                },
-                clock_enable: operand_of(&places.bits, &places.words, clock_enable),
-                enable: operand_of(&places.bits, &places.words, enable),
+        } => write_over(
+            places,
+            port_of(
+                places,
+                *falling,
+                clock,
+                clock_enable,
+                enable,
                 memory,
-                address: operands_of(&places.bits, &places.words, address),
-                mask: operands_of(&places.bits, &places.words, mask),
-                bits: operands_of(&places.bits, &places.words, bits),
-            })
-        }
+                address,
+            ),
+            Kept::Masked(operands_of(&places.bits, &places.words, mask)),
+            bits,
+        ),
+        Item::WriteNarrow {
+            falling,
+            clock,
+            clock_enable,
+            enable,
+            memory,
+            address,
+            pattern,
+            shift,
+            bits,
+        } => write_over(
+            places,
+            port_of(
+                places,
+                *falling,
+                clock,
+                clock_enable,
+                enable,
+                memory,
+                address,
+            ),
+            Kept::Outside(field_of(places, shift, *pattern)),
+            bits,
+        ),
         _ => None,
     }
 }
 
-/// The flip-flops of items.
+/// What the flip-flops of items do at their edges.
 pub(crate) fn flips_of(
     alloc: Global,
     places: &Places,
     items: &[Item],
 ) -> Result<Vec<Flip>, AllocError>
     requires { All IsShaped items.now }
-    ensures { IfOk result (λ flips. flips.items ≡ filter_map (flip_of (places_in places.now)) items.now) }
+    ensures { IfOk result (λ flips. flips.items ≡ flat_map (flip_steps (places_in places.now)) items.now) }
 {
     let mut flips = Vec::new(alloc);
     for item in items {
-        push_found(&mut flips, flip_of(places, item))?;
+        push_flips(&mut flips, places, item)?;
     }
     Ok(flips)
+}
+
+/// Adds what the flip-flop of an item does at its edge.
+fn push_flips(flips: &mut Vec<Flip>, places: &Places, item: &Item) -> Result<(), AllocError>
+    requires { IsShaped item.now }
+    ensures { OnOk result (flips.new.items ≡ flips.old.items ++ flip_steps (places_in places.now) item.now) }
+{
+    push_found(flips, flip_of(places, item))?;
+    push_found(flips, reset_of(places, item))
 }
 
 /// The registers of items that wires set at once.

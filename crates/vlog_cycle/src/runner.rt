@@ -6,7 +6,7 @@ use crate::event::Event;
 use crate::gates::{cells_room, gates_of, settle};
 use crate::names::{Names, names_of};
 use crate::places::Places;
-use crate::plan::{Memory, Plan};
+use crate::plan::{Memory, Plan, Written};
 use crate::planning::{first_outputs, plan_of};
 use crate::steps::{bit_at, change, is_same_bit, word_at, word_in};
 use std::alloc::{AllocError, Global};
@@ -31,8 +31,8 @@ pub struct Runner {
     /// Room for all that wires read.
     cells: Vec<bool>,
     next_words: Vec<u16>,
-    /// Room for the words that writes put in memories.
-    written: Vec<u16>,
+    /// Room for what writes put in memories.
+    written: Vec<Option<Written>>,
     ghost bits_room: { vec_len next_bits ≡ vec_len bits },
     ghost cells_room: { vec_len cells ≡ vec_len bits + 16 * vec_len words + 2 },
     ghost words_room: { vec_len next_words ≡ vec_len words },
@@ -70,7 +70,7 @@ impl Runner {
         let outputs = first_outputs(alloc, &plan, &bits, &words)?;
         let next_bits = Vec::from_slice(alloc, &bits)?;
         let next_words = Vec::from_slice(alloc, &words)?;
-        let written = vec![in alloc; 0; plan.writes.len()]?;
+        let written = vec![in alloc; None; plan.writes.len()]?;
         Ok(Runner {
             places,
             input_count,

@@ -1,14 +1,16 @@
 // What an event does to the bits, words and memories of the slots.
-ghost use Rattle.std.specs.Prelude.{◌≡◌, ◌<◌, ◌≤◌, ◌^◌, ◌+◌, ◌*◌, ◌&&◌, ℕ, List, [], false, length, map, fold, get_or, slice_set, if◌then◌else◌};
-ghost use Rattle.vlog_cycle.specs.Run.{is_edge, is_same_bit, masked};
-ghost use Rattle.vlog_cycle.specs.Steps.{bits_after, flip_slot, is_acting, is_edge_of, memories_after, operand_value, operands_value, read_slot, set_word, table_value, word_in, words_after, write_slot, written_word};
+ghost use Rattle.std.specs.Prelude.{◌≡◌, ◌<◌, ◌≤◌, ◌^◌, ◌+◌, ◌*◌, List, false, length, map, fold, get_or, slice_set, if◌then◌else◌};
+ghost use Rattle.vlog_cycle.specs.Run.{is_edge, is_same_bit, masked, moved_down, moved_up};
+ghost use Rattle.vlog_cycle.specs.Steps.{bits_after, flip_slot, is_acting, is_edge_of, kept_mask, memories_after, operand_value, operands_value, put_written, read_slot, set_word, table_value, taken_word, word_in, words_after, written_by};
 ghost use Rattle.vlog_cycle.specs.Cells.{gate_of};
-ghost use Rattle.vlog_cycle.specs.Values.{bit_of, number_of};
+ghost use Rattle.vlog_cycle.specs.Values.{bit_of};
 ghost use Rattle.vlog_cycle.specs.declared.plan.Wire.{Wire as wire_of};
 
 use crate::event::Event;
 use crate::gates::settle;
-use crate::plan::{Edge, Flip, Memory, Operand, Plan, Read, Table, Write};
+use crate::plan::{
+    Edge, Field, Flip, Kept, Memory, MemoryPort, Operand, Plan, Read, Table, Taken, Write, Written,
+};
 
 /// The bit of a slot, and 0 past the last.
 pub(crate) fn bit_at(bits: &[bool], slot: usize) -> bool
@@ -97,19 +99,11 @@ fn run_flips(flips: &[Flip], event: Event, bits: &[bool], words: &[u16], next: &
     ensures { next.new ≡ fold (flip_slot event bits.now words.now) next.old flips.now }
 {
     for flip in flips {
-        if is_edge_of(event, flip.edge) && is_acting(flip, bits, words) {
+        if is_edge_of(event, flip.edge) && operand_value(bits, words, flip.enable) {
             let bit = next_bit(flip, bits, words);
             set_bit(next, flip.target, bit);
         }
     }
-}
-
-/// Whether a register gets a bit at its edge.
-fn is_acting(flip: &Flip, bits: &[bool], words: &[u16]) -> bool
-    ensures { result ≡ is_acting bits.now words.now flip.now }
-{
-    operand_value(bits, words, flip.enable)
-        || (flip.at_once && operand_value(bits, words, flip.reset))
 }
 
 /// The next bit of a register.
@@ -121,6 +115,15 @@ fn next_bit(flip: &Flip, bits: &[bool], words: &[u16]) -> bool
     } else {
         table_value(bits, words, &flip.table)
     }
+}
+
+/// Whether a port of a memory acts.
+fn is_acting(port: &MemoryPort, event: Event, bits: &[bool], words: &[u16]) -> bool
+    ensures { result ≡ is_acting event bits.now words.now port.now }
+{
+    is_edge_of(event, port.edge)
+        && operand_value(bits, words, port.clock_enable)
+        && operand_value(bits, words, port.enable)
 }
 
 /// The word of a memory at an address, and 0 where there is no such memory.
@@ -138,6 +141,40 @@ fn address_of(bits: &[bool], words: &[u16], address: &[Operand; 8]) -> u8
     ensures { result ≡ operands_value bits.now words.now address.now }
 {
     number(bits, words, address) as u8
+}
+
+/// How far a field is moved up.
+fn shift_of(bits: &[bool], words: &[u16], field: &Field) -> u32
+    ensures is { result ≡ operands_value bits.now words.now field.now.shift }
+    ensures small { result < 8 }
+{
+    number(bits, words, &field.shift)
+}
+
+/// A word that is moved down, and of which the bits of a pattern stay.
+fn moved_down(word: u16, shift: u32, pattern: u16) -> u16
+    requires { shift < 8 }
+    ensures { result ≡ moved_down word shift pattern }
+{
+    (word >> shift) & pattern
+}
+
+/// A pattern that is moved up.
+fn moved_up(pattern: u16, shift: u32) -> u16
+    requires { shift < 8 }
+    ensures { result ≡ moved_up pattern shift }
+{
+    pattern << shift
+}
+
+/// What a read takes of a word.
+fn taken_word(bits: &[bool], words: &[u16], taken: &Taken, word: u16) -> u16
+    ensures { result ≡ taken_word bits.now words.now taken.now word }
+{
+    match taken {
+        Taken::Word => word,
+        Taken::Narrow(field) => moved_down(word, shift_of(bits, words, field), field.pattern),
+    }
 }
 
 /// Gives the word of a slot, where there is such a slot.
@@ -161,16 +198,14 @@ fn run_reads(
     ensures { next.new ≡ fold (read_slot event bits.now words.now memories.now) next.old reads.now }
 {
     for read in reads {
-        if is_edge_of(event, read.edge)
-            && operand_value(bits, words, read.clock_enable)
-            && operand_value(bits, words, read.enable)
-        {
-            let word = word_in(
-                memories,
-                read.memory,
-                address_of(bits, words, &read.address),
+        if is_acting(&read.port, event, bits, words) {
+            let address = address_of(bits, words, &read.port.address);
+            let word = word_in(memories, read.port.memory, address);
+            set_word_at(
+                next,
+                read.target,
+                taken_word(bits, words, &read.taken, word),
             );
-            set_word_at(next, read.target, word);
         }
     }
 }
@@ -189,35 +224,65 @@ fn masked(word: u16, mask: u16, bits: u16) -> u16
     (word & mask) | (bits & !mask)
 }
 
-/// The word that a write would put in its place.
-fn written_word(write: &Write, bits: &[bool], words: &[u16], memories: &[Memory]) -> u16
-    ensures { result ≡ written_word bits.now words.now memories.now write.now }
+/// The mask of what stays of a word.
+fn kept_mask(bits: &[bool], words: &[u16], kept: &Kept) -> u16
+    ensures { result ≡ kept_mask bits.now words.now kept.now }
 {
-    let old = word_in(
-        memories,
-        write.memory,
-        address_of(bits, words, &write.address),
-    );
-    masked(
-        old,
-        word_of(bits, words, &write.mask),
-        word_of(bits, words, &write.bits),
-    )
+    match kept {
+        Kept::Masked(mask) => word_of(bits, words, mask),
+        Kept::Outside(field) => !moved_up(field.pattern, shift_of(bits, words, field)),
+    }
 }
 
-/// Writes down the word of each write.
-fn prepare_writes(
-    writes: &[Write],
+/// The word that a write puts in its place, where it acts.
+fn written_by(
+    write: &Write,
+    event: Event,
     bits: &[bool],
     words: &[u16],
     memories: &[Memory],
-    written: &mut [u16],
+) -> Option<Written>
+    ensures { result ≡ written_by event bits.now words.now memories.now write.now }
+{
+    if is_acting(&write.port, event, bits, words) {
+        let memory = write.port.memory;
+        let address = address_of(bits, words, &write.port.address);
+        let old = word_in(memories, memory, address);
+        let mask = kept_mask(bits, words, &write.kept);
+        let word = masked(old, mask, word_of(bits, words, &write.bits));
+        Some(Written {
+            memory,
+            address,
+            word,
+        })
+    } else {
+        None
+    }
+}
+
+/// Notes what a write does.
+fn note(written: &mut [Option<Written>], place: usize, found: Option<Written>)
+    ensures { written.new ≡ slice_set written.old place found }
+{
+    if place < written.len() {
+        written[place] = found;
+    }
+}
+
+/// Notes what each write does.
+fn prepare_writes(
+    writes: &[Write],
+    event: Event,
+    bits: &[bool],
+    words: &[u16],
+    memories: &[Memory],
+    written: &mut [Option<Written>],
 )
-    ensures { length written.old ≡ length writes.now → written.new ≡ map (written_word bits.now words.now memories.now) writes.now }
+    ensures { length written.old ≡ length writes.now → written.new ≡ map (written_by event bits.now words.now memories.now) writes.now }
 {
     for (place, write) in writes.iter().enumerate() {
-        let word = written_word(write, bits, words, memories);
-        set_word_at(written, place, word);
+        let found = written_by(write, event, bits, words, memories);
+        note(written, place, found);
     }
 }
 
@@ -230,31 +295,22 @@ fn set_word(memories: &mut [Memory], memory: usize, address: u8, word: u16)
     }
 }
 
-/// Puts the words of the writes whose edge it is in their places.
-fn run_writes(
-    writes: &[Write],
-    event: Event,
-    bits: &[bool],
-    words: &[u16],
-    written: &[u16],
-    memories: &mut [Memory],
-)
-    ensures { (before : List (List ℕ)) → written.now ≡ map (written_word bits.now words.now before) writes.now
-        → memories.new ≡ fold (write_slot event bits.now words.now before) memories.old writes.now }
+/// Puts a word in its place, where there is one.
+fn put_written(memories: &mut [Memory], found: Option<Written>)
+    ensures { memories.new ≡ put_written memories.old found }
 {
-    for (place, write) in writes.iter().enumerate() {
-        if is_edge_of(event, write.edge)
-            && operand_value(bits, words, write.clock_enable)
-            && operand_value(bits, words, write.enable)
-        {
-            let word = word_at(written, place);
-            set_word(
-                memories,
-                write.memory,
-                address_of(bits, words, &write.address),
-                word,
-            );
-        }
+    match found {
+        Some(written) => set_word(memories, written.memory, written.address, written.word),
+        None => {}
+    }
+}
+
+/// Puts the words of writes in their places.
+fn run_writes(written: &[Option<Written>], memories: &mut [Memory])
+    ensures { memories.new ≡ fold put_written memories.old written.now }
+{
+    for found in written {
+        put_written(memories, *found);
     }
 }
 
@@ -301,7 +357,7 @@ pub(crate) fn change(
     words: &mut [u16],
     next_words: &mut [u16],
     memories: &mut [Memory],
-    written: &mut [u16],
+    written: &mut [Option<Written>],
     outputs: &mut [bool],
 )
     requires bits_room { length next_bits.old ≡ length bits.old }
@@ -319,8 +375,8 @@ pub(crate) fn change(
     run_flips(&plan.flips, event, bits, words, next_bits);
     copy_words(words, next_words);
     run_reads(&plan.reads, event, bits, words, memories, next_words);
-    prepare_writes(&plan.writes, bits, words, memories, written);
-    run_writes(&plan.writes, event, bits, words, written, memories);
+    prepare_writes(&plan.writes, event, bits, words, memories, written);
+    run_writes(written, memories);
     copy_bits(next_bits, bits);
     copy_words(next_words, words);
     set_bit(bits, event.pin, event.bit);

@@ -1,10 +1,12 @@
-use Rattle.std.proofs.Common.{arith}
+use Rattle.std.proofs.Common.{◌++◌, ap, arith, sym, ◌∙◌}
 use Rattle.vlog_cycle.specs.Found.{places_in}
-use Rattle.vlog_cycle.specs.Plans.{flip_of}
-use Rattle.vlog_cycle.proofs.Filling.{filter_map-more}
+use Rattle.vlog_cycle.specs.Plans.{flip_steps}
+use Rattle.vlog_cycle.proofs.Filling.{flat_map-more}
 use Rattle.vlog_cycle.proofs.places.flips_of.Goals as goal
 
 pub loop-item-preserved : goal.loop-item-preserved
 loop-item-preserved c =
-    filter_map-more (flip_of (places_in c.args.places.now)) c.args.items.now c.loop-item.flips.items c.push_found.new.list.items c.loop-item.item-index c.item-item.result c.flip_of.result
-    (omega arith) c.item-item.is c.loop-item.invariant c.flip_of.ensures c.in_ok-push_found.ensures
+    let steps = flip_steps (places_in c.args.places.now) in
+    c.in_ok-push_flips.ensures
+    ∙ ap (λ list. list ++ steps c.item-item.result) c.loop-item.invariant
+    ∙ sym (flat_map-more steps c.args.items.now c.loop-item.item-index c.item-item.result (omega arith) c.item-item.is)

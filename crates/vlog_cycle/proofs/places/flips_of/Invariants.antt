@@ -1,8 +1,7 @@
-use Rattle.std.proofs.Common.{◌≡◌, take}
-use Rattle.std.specs.List.{filter_map}
+use Rattle.std.proofs.Common.{◌≡◌, flat_map, take}
 use Rattle.vlog_cycle.specs.Found.{places_in}
-use Rattle.vlog_cycle.specs.Plans.{flip_of}
+use Rattle.vlog_cycle.specs.Plans.{flip_steps}
 use Rattle.vlog_cycle.proofs.places.flips_of.Given as goal
 
 abbrev pub invariant-loop-item : goal.invariant-loop-item
-invariant-loop-item l = l.flips.items ≡ filter_map (flip_of (places_in l.places)) (take l.item-index l.items)
+invariant-loop-item l = l.flips.items ≡ flat_map (flip_steps (places_in l.places)) (take l.item-index l.items)

@@ -4,7 +4,7 @@ use Rattle.std.specs.List.{filter_map}
 use Rattle.vlog_module.specs.WellFormed.{IsShaped}
 use Rattle.vlog_cycle.specs.Found.{places_in}
 use Rattle.vlog_cycle.specs.Named.{values_of}
-use Rattle.vlog_cycle.specs.Plans.{Places, blank_output, flip_of, outputs_of, read_of, settle_of, write_of}
+use Rattle.vlog_cycle.specs.Plans.{Places, blank_output, flip_steps, outputs_of, read_of, settle_of, write_of}
 use Rattle.vlog_cycle.proofs.Beginning.{all-shaped}
 use Rattle.vlog_cycle.proofs.planning.plan_of.Goals as goal
 
@@ -27,7 +27,7 @@ returns-clause-plan c =
       outputs = (c.assign_outputs.ensures (flat_map blank_output c.ports.result.now) c.in_ok-outputs.ensures).values
           ∙ ap₂ (λ ports list. values_of (outputs_of found.bits found.words ports list)) c.ports.ensures.ports items
           ∙ ap (λ (p : Places). values_of (outputs_of p.bits p.words m.ports m.items)) at;
-      flips = c.in_ok-flips_of.ensures ∙ ap₂ (λ (p : Places) list. filter_map (flip_of p) list) at items;
+      flips = c.in_ok-flips_of.ensures ∙ ap₂ (λ (p : Places) list. flat_map (flip_steps p) list) at items;
       settles = c.in_ok-settles_of.ensures ∙ ap₂ (λ (p : Places) list. filter_map (settle_of p) list) at items;
       reads = c.in_ok-reads_of.ensures ∙ ap₂ (λ (p : Places) list. filter_map (read_of p) list) at items;
       writes = c.in_ok-writes_of.ensures ∙ ap₂ (λ (p : Places) list. filter_map (write_of p) list) at items;

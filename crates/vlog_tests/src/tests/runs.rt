@@ -116,3 +116,67 @@ fn are_set_at_once(alloc: Global) -> Result<bool, AllocError> {
 fn shows_registers_that_are_set_at_once(rt: HostRuntime) {
     assert!(rt; are_set_at_once(rt.alloc()) == Ok(true));
 }
+
+/// Word 5 is 1234. Where `w` is 1 at an edge, its bits 1, 3, 5 and so on become those of A5; `s` and `t` take every fourth bit from bit 3
+/// on and every eighth from bit 7 on.
+const NARROW: &[u8] = b"module m (c, w);
+  input c;
+  input w;
+  reg [15:0] s = 16'h0000;
+  reg [15:0] t = 16'h0000;
+  reg [15:0] mem [0:255];
+  always @(posedge c) if (1'b1 & 1'b1) s <= (mem[{1'b0, 1'b0, 1'b0, 1'b0, 1'b0, 1'b1, 1'b0, 1'b1}] >> {1'b0, 1'b1, 1'b1}) & 16'h1111;
+  always @(posedge c) if (1'b1 & 1'b1) t <= (mem[{1'b0, 1'b0, 1'b0, 1'b0, 1'b0, 1'b1, 1'b0, 1'b1}] >> {1'b1, 1'b1, 1'b1}) & 16'h0101;
+  always @(posedge c) if (1'b1 & w) mem[{1'b0, 1'b0, 1'b0, 1'b0, 1'b0, 1'b1, 1'b0, 1'b1}] <= \
+(mem[{1'b0, 1'b0, 1'b0, 1'b0, 1'b0, 1'b1, 1'b0, 1'b1}] & ~(16'h5555 << {1'b0, 1'b0, 1'b1})) | \
+({1'b1, 1'b1, 1'b0, 1'b0, 1'b1, 1'b1, 1'b0, 1'b0, 1'b0, 1'b0, 1'b1, 1'b1, 1'b0, 1'b0, 1'b1, 1'b1} & (16'h5555 << {1'b0, 1'b0, 1'b1}));
+  initial mem[5] = 16'h1234;
+endmodule
+";
+
+/// The word, and the registers that are read from it, after some events.
+fn narrow_words_by(runner: &mut Runner, events: &[Event]) -> [Option<u16>; 3]
+    requires { All (λ event. event.pin < input_count runner.old) events.now }
+{
+    runner.run(events);
+    [
+        runner.word(b"mem", 5),
+        runner.register_word(b"s"),
+        runner.register_word(b"t"),
+    ]
+}
+
+/// The word and the registers after some events, each of an input of the module.
+fn narrow_words_after(
+    alloc: Global,
+    module: &Module,
+    events: &[Event],
+) -> Option<[Option<u16>; 3]>
+    requires { All (λ event. event.pin < length (input_names «module».now.ports)) events.now }
+{
+    match Runner::new(alloc, module) {
+        Ok(mut runner) => Some(narrow_words_by(&mut runner, events)),
+        Err(_) => None,
+    }
+}
+
+/// The word and the registers after the events of a text.
+fn narrow_words(alloc: Global, text: &[u8]) -> Option<[Option<u16>; 3]> {
+    let module = parse(alloc, NARROW).ok()?;
+    match read_events(alloc, &module, text) {
+        Ok(events) => narrow_words_after(alloc, &module, events.as_slice()),
+        Err(_) => None,
+    }
+}
+
+#[test]
+fn writes_a_narrow_word(rt: HostRuntime) {
+    let words = narrow_words(rt.alloc(), b"w 1\nc 1\n");
+    assert!(rt; words == Some([Some(0x9836), Some(0), Some(0)]));
+}
+
+#[test]
+fn reads_narrow_words_as_they_were_before(rt: HostRuntime) {
+    let words = narrow_words(rt.alloc(), b"w 1\nc 1\nc 0\nw 0\nc 1\n");
+    assert!(rt; words == Some([Some(0x9836), Some(0x1100), Some(0x0100)]));
+}

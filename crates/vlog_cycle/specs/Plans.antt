@@ -164,21 +164,27 @@ read_over (Some port) (Some slot) taken = Some (record { port = port; target = s
 read_over (Some port) None taken = None
 read_over None slot taken = None
 
+abbrev pub narrow_read_of : Places → Item → Option Read
+narrow_read_of at (ReadNarrowItem falling clock clock_enable enable target memory address shift pattern) =
+    read_over (port_of at falling clock clock_enable enable memory address) (at.words target) (Narrow (field_of at shift pattern))
+narrow_read_of at _ = None
+
 abbrev pub read_of : Places → Item → Option Read
 read_of at (ReadItem falling clock clock_enable enable target memory address) =
     read_over (port_of at falling clock clock_enable enable memory address) (at.words target) Word
-read_of at (ReadNarrowItem falling clock clock_enable enable target memory address shift pattern) =
-    read_over (port_of at falling clock clock_enable enable memory address) (at.words target) (Narrow (field_of at shift pattern))
-read_of at _ = None
+read_of at item = narrow_read_of at item
 
 -- a write of bits through a port, where the port is found
 abbrev pub write_over : Places → Option MemoryPort → Kept → List Atom → Option Write
 write_over at (Some port) kept bits = Some (record { port = port; kept = kept; bits = operands_of at.bits at.words bits })
 write_over at None kept bits = None
 
+abbrev pub narrow_write_of : Places → Item → Option Write
+narrow_write_of at (WriteNarrowItem falling clock clock_enable enable memory address pattern shift bits) =
+    write_over at (port_of at falling clock clock_enable enable memory address) (Outside (field_of at shift pattern)) bits
+narrow_write_of at _ = None
+
 abbrev pub write_of : Places → Item → Option Write
 write_of at (WriteItem falling clock clock_enable enable memory address mask bits) =
     write_over at (port_of at falling clock clock_enable enable memory address) (Masked (operands_of at.bits at.words mask)) bits
-write_of at (WriteNarrowItem falling clock clock_enable enable memory address pattern shift bits) =
-    write_over at (port_of at falling clock clock_enable enable memory address) (Outside (field_of at shift pattern)) bits
-write_of at _ = None
+write_of at item = narrow_write_of at item

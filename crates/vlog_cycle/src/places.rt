@@ -4,7 +4,7 @@ ghost use Rattle.std.specs.List.{filter_map};
 ghost use Rattle.std.specs.Option.{option_map, option_to_list};
 ghost use Rattle.vlog_module.specs.WellFormed.{IsLut, IsRight, IsShaped};
 ghost use Rattle.vlog_cycle.specs.Slots.{slot_of};
-ghost use Rattle.vlog_cycle.specs.Plans.{at_reset, field_of, flip_at_once_of, flip_of, flip_steps, operand_of, operands_of, part_operand, port_of, read_of, read_over, rule_of, settle_of, settle_over, slot_operand, table_of, write_of, write_over};
+ghost use Rattle.vlog_cycle.specs.Plans.{at_reset, field_of, flip_at_once_of, flip_of, flip_steps, narrow_read_of, narrow_write_of, operand_of, operands_of, part_operand, port_of, read_of, read_over, rule_of, settle_of, settle_over, slot_operand, table_of, write_of, write_over};
 ghost use Rattle.vlog_cycle.specs.Found.{places_in};
 
 use crate::plan::{
@@ -285,6 +285,16 @@ fn read_of(places: &Places, item: &Item) -> Option<Read>
             places.words.slot(target.bytes()),
             Taken::Word,
         ),
+        _ => narrow_read_of(places, item),
+    }
+}
+
+/// The narrow read of an item, where it is one.
+fn narrow_read_of(places: &Places, item: &Item) -> Option<Read>
+    requires { IsShaped item.now }
+    ensures { result ≡ narrow_read_of (places_in places.now) item.now }
+{
+    match item {
         Item::ReadNarrow {
             falling,
             clock,
@@ -354,6 +364,16 @@ fn write_of(places: &Places, item: &Item) -> Option<Write>
             Kept::Masked(operands_of(&places.bits, &places.words, mask)),
             bits,
         ),
+        _ => narrow_write_of(places, item),
+    }
+}
+
+/// The narrow write of an item, where it is one.
+fn narrow_write_of(places: &Places, item: &Item) -> Option<Write>
+    requires { IsShaped item.now }
+    ensures { result ≡ narrow_write_of (places_in places.now) item.now }
+{
+    match item {
         Item::WriteNarrow {
             falling,
             clock,

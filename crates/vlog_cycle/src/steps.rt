@@ -186,7 +186,7 @@ fn set_word_at(words: &mut [u16], slot: usize, word: u16)
     }
 }
 
-/// Gives the registers of reads whose edge it is the words of memories.
+/// Gives the registers of reads that act what they take of memories.
 fn run_reads(
     reads: &[Read],
     event: Event,

@@ -5,11 +5,12 @@ use Rattle.vlog_module.specs.Maps.{value_in}
 use Rattle.vlog_cycle.specs.Named.{names_of, values_of}
 use Rattle.vlog_cycle.specs.declared.event.Event.{Event as ModuleEvent}
 use Rattle.vlog_cycle.specs.Entries.{Entry as ModuleEntry}
-use Rattle.net_extract.specs.Fabric.{Fabric, inputs_of, outputs_of}
+use Rattle.net_extract.specs.Fabric.{Fabric, inputs_of}
+use Rattle.net_extract.specs.Outputs.{outputs_of}
 use Rattle.net_extract.specs.Drivers.{is_driven}
 use Rattle.net_extract.specs.Values.{bit_in}
 use Rattle.net_extract.specs.Steps.{Event, Entry}
-use Rattle.fabric_module.specs.Names.{port_name, register_name, read_name, memory_name, wire_name}
+use Rattle.fabric_module.specs.Names.{port_name, output_name, register_name, read_name, memory_name, wire_name}
 
 -- exactly these names, in this order, have these values
 pub record HasValues {A : Type 0} (entries : List (List ℕ × A)) (names : List (List ℕ)) (values : List A) : Type 0 where
@@ -22,11 +23,11 @@ pub record HasWires (fabric : Fabric) (v : List Bool) (wires : List (List ℕ ×
   pub only : (wire : List ℕ × Bool) → Contains wires wire
       → (class : ℕ) × (is_driven fabric class ≡ true) × (wire.0 ≡ wire_name class) × (wire.1 ≡ bit_in v class)
 
--- An entry of a fabric and one of a module match: inputs and outputs have the values of the pins, in the order of the ports,
+-- An entry of a fabric and one of a module match: inputs have the values of the pins and outputs those of the outputs, in the order of the ports,
 -- registers and memories those of the state, and wires those of the nets.
 pub record Matches (fabric : Fabric) (entry : Entry) (other : ModuleEntry) : Type 0 where
   pub inputs : HasValues other.inputs (map port_name (inputs_of fabric)) entry.pins
-  pub outputs : HasValues other.outputs (map port_name (outputs_of fabric)) entry.outputs
+  pub outputs : HasValues other.outputs (map output_name (outputs_of fabric)) entry.outputs
   pub registers : HasValues other.registers (map register_name fabric.registers) entry.state.bits
   pub words : HasValues other.words (map read_name fabric.rams) (map word_of entry.state.reads)
   pub memories : HasValues other.memories (map memory_name fabric.rams) (map (map word_of) entry.state.words)

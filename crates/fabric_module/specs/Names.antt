@@ -1,10 +1,11 @@
 -- The names of a module that is written for a fabric.
-use Rattle.std.specs.Prelude.{ℕ, List, ◌++◌, codes, decimal}
+use Rattle.std.specs.Prelude.{ℕ, List, ◌++◌, codes, decimal, if◌then◌else◌}
 use Rattle.net_extract.specs.declared.driver.ClockUser.{ClockUser}
-use Rattle.net_extract.specs.declared.driver.ClockUser.TheVariants.{Cell, Read, Write}
+use Rattle.net_extract.specs.declared.driver.ClockUser.TheVariants.{Cell, Input, Output, Read, Write}
 use Rattle.net_extract.specs.declared.register.Register.{Register}
 use Rattle.net_extract.specs.declared.ram.RamCell.{RamCell}
 use Rattle.net_extract.specs.declared.pin.Pin.{Pin}
+use Rattle.net_extract.specs.Outputs.{Output as OutputPort}
 
 -- two numbers with `_` between them
 unfoldable pub two_numbers : ℕ → ℕ → List ℕ
@@ -18,15 +19,33 @@ three_numbers x y n = decimal x ++ (codes "_" ++ (decimal y ++ (codes "_" ++ dec
 unfoldable pub port_name : Pin → List ℕ
 port_name pin = codes "io_" ++ three_numbers pin.x pin.y pin.n
 
--- the number of a register's user in its tile; the ports of RAMs are no registers of one bit
+-- the port that tells whether a tri-state pin is switched on: `io_X_Y_N_en`
+unfoldable pub enable_name : Pin → List ℕ
+enable_name pin = port_name pin ++ codes "_en"
+
+-- the port of an output
+abbrev pub output_name : OutputPort → List ℕ
+output_name output = if output.enable then enable_name output.pin else port_name output.pin
+
+-- the beginning of a register's name, by what it is; the ports of RAMs are no registers of one bit
+abbrev pub user_prefix : ClockUser → List ℕ
+user_prefix (Cell i) = codes "ff_"
+user_prefix (Input n) = codes "pi_"
+user_prefix (Output n) = codes "po_"
+user_prefix Read = codes "ff_"
+user_prefix Write = codes "ff_"
+
+-- its number in its tile
 abbrev pub user_number : ClockUser → ℕ
 user_number (Cell i) = i
+user_number (Input n) = n
+user_number (Output n) = n
 user_number Read = 0
 user_number Write = 0
 
--- a register: `ff_X_Y_I` for the flip-flop of a cell
+-- a register: `ff_X_Y_I` for the flip-flop of a cell, `pi_X_Y_N` for that of an input pin, `po_X_Y_N` for that of an output pin
 unfoldable pub register_name : Register → List ℕ
-register_name register = codes "ff_" ++ three_numbers register.x register.y (user_number register.user)
+register_name register = user_prefix register.user ++ three_numbers register.x register.y (user_number register.user)
 
 -- the read register of a RAM: `rd_X_Y`
 unfoldable pub read_name : RamCell → List ℕ

@@ -1,5 +1,6 @@
 -- What is written for inputs and for drivers.
-use Rattle.std.specs.Prelude.{ℕ, Bool, true, false, List, [], ◌∷◌, map, get_or, Option, Some, None, if◌then◌else◌}
+use Rattle.std.specs.Prelude.{ℕ, ◌+◌, ◌/◌, nat_lt, Bool, true, false, List, [], ◌∷◌, map, get_or, Option, Some, None, if◌then◌else◌}
+use Rattle.rams_narrow.specs.Narrow.{share}
 use Rattle.vlog_module.specs.declared.atoms.Atom.{Atom}
 use Rattle.vlog_module.specs.declared.atoms.Atom.TheVariants.{Bit, Whole, Part}
 use Rattle.vlog_module.specs.declared.item.Lut.{Lut}
@@ -9,6 +10,8 @@ use Rattle.net_extract.specs.declared.register.Source.{Source}
 use Rattle.net_extract.specs.declared.register.Source.TheVariants.{Net, Pin as SourcePin}
 use Rattle.net_extract.specs.declared.register.Table.{Table}
 use Rattle.net_extract.specs.declared.register.Register.{Register}
+use Rattle.net_extract.specs.Tiles.{each_below}
+use Rattle.net_extract.specs.Rams.{data_bit}
 use Rattle.net_extract.specs.Joins.{class_of}
 use Rattle.net_extract.specs.Fabric.{Fabric, inputs_of}
 use Rattle.net_extract.specs.Drivers.{Rule, Drive, drivers_of}
@@ -78,6 +81,33 @@ setting_wire fabric register = if register.at_once then driven_wire fabric regis
 abbrev pub register_right : Register → Option (List ℕ) → Right
 register_right register (Some wire) = Choose wire register.«set» (register_name register)
 register_right register None = RightWhole (register_name register)
+
+-- ---- narrow words
+
+-- the word of a mode: its bits are 1 where a narrow word of high part 0 has bits
+abbrev pub pattern_of : ℕ → ℕ
+pattern_of mode = get_or (65535 ∷ 21845 ∷ 4369 ∷ 257 ∷ []) mode 0
+
+-- a bit of the high part of an address, and 0 where the mode has no such bit
+abbrev pub shift_atom : Fabric → ℕ → List (Option ℕ) → ℕ → Atom
+shift_atom fabric mode ports k = if nat_lt k mode then atom_or_0 fabric (get_or ports (8 + k) None) else Bit false
+
+-- the high part of an address in three atoms, the lowest first
+abbrev pub shift_atoms : Fabric → ℕ → List (Option ℕ) → List Atom
+shift_atoms fabric mode ports = shift_atom fabric mode ports 0 ∷ shift_atom fabric mode ports 1 ∷ shift_atom fabric mode ports 2 ∷ []
+
+-- what is written in a mode: place j has the data for the bit of a narrow word that stands there
+abbrev pub data_atoms : Fabric → ℕ → List (Option ℕ) → List Atom
+data_atoms fabric mode ports = each_below 16 (λ j. atom_or_0 fabric (get_or ports (data_bit mode (j / share mode)) None))
+
+-- ---- atoms of outputs
+
+-- the atom that has the value of an output; outputs have no other rules
+abbrev pub output_atom : Fabric → Rule → Atom
+output_atom fabric (input stated net) = input_atom fabric stated net
+output_atom fabric (register_bit place register) = Whole (register_name register)
+output_atom fabric (constant bit) = Bit bit
+output_atom fabric _ = Bit false
 
 -- ---- right sides
 

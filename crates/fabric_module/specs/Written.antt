@@ -1,19 +1,21 @@
 -- The module that is written for a fabric.
-use Rattle.std.specs.Prelude.{ℕ, Bool, false, List, [], ◌∷◌, ◌++◌, map, flat_map, get_or, Option, Some, None}
+use Rattle.std.specs.Prelude.{ℕ, Bool, true, false, ◌==◌, List, [], ◌∷◌, ◌++◌, map, flat_map, get_or, take, Option, Some, None, if◌then◌else◌}
 use Rattle.bit_plane.specs.BitList.{word_of}
 use Rattle.vlog_module.specs.Parts.{Parts}
 use Rattle.vlog_module.specs.declared.item.Item.{Item}
-use Rattle.vlog_module.specs.declared.item.Item.TheVariants.{Register as RegisterItem, Word, Memory, Wire, Assign, Flip, FlipAtOnce, SetAtOnce, Read, Write, Start}
+use Rattle.vlog_module.specs.declared.item.Item.TheVariants.{Register as RegisterItem, Word, Memory, Wire, Assign, Flip, FlipAtOnce, SetAtOnce, Read, ReadNarrow, Write, WriteNarrow, Start}
 use Rattle.vlog_module.specs.declared.modules.Port.{Port}
 use Rattle.net_extract.specs.declared.register.Register.{Register}
 use Rattle.net_extract.specs.declared.ram.RamCell.{RamCell}
 use Rattle.net_extract.specs.declared.pin.Pin.{Pin}
 use Rattle.net_extract.specs.Tiles.{each_below}
-use Rattle.net_extract.specs.Fabric.{Fabric, numbered, outputs_of}
+use Rattle.net_extract.specs.Pins.{is_tri_state}
+use Rattle.net_extract.specs.Fabric.{Fabric, numbered}
+use Rattle.net_extract.specs.Outputs.{Output, outputs_of}
 use Rattle.net_extract.specs.Clocks.{ClockEnd, clock_end}
 use Rattle.net_extract.specs.Clocks.ClockEnd.{at_pin, undriven, logic}
-use Rattle.fabric_module.specs.Names.{port_name, register_name, read_name, memory_name, wire_name}
-use Rattle.fabric_module.specs.Rights.{atom_or_0, atom_or_1, port_atoms, lut_of, input_name, setting_wire, class_right}
+use Rattle.fabric_module.specs.Names.{port_name, enable_name, output_name, register_name, read_name, memory_name, wire_name}
+use Rattle.fabric_module.specs.Rights.{atom_or_0, atom_or_1, port_atoms, lut_of, input_name, setting_wire, pattern_of, shift_atoms, data_atoms, output_atom, class_right}
 
 -- ---- clocks
 
@@ -38,6 +40,14 @@ clocked (Some clock) item = item clock ∷ []
 abbrev pub port_of : Pin → Port
 port_of pin = record { name = port_name pin; output = pin.output }
 
+-- the port that tells whether a tri-state pin is switched on
+abbrev pub enable_ports : Pin → List Port
+enable_ports pin = if is_tri_state pin then record { name = enable_name pin; output = true } ∷ [] else []
+
+-- the ports of a pin
+abbrev pub pin_ports : Pin → List Port
+pin_ports pin = port_of pin ∷ enable_ports pin
+
 -- a register, which starts at 0
 abbrev pub register_item : Register → Item
 register_item register = RegisterItem (register_name register) false
@@ -53,9 +63,9 @@ ram_memory ram = Memory (memory_name ram)
 abbrev pub class_wire : Fabric → ℕ → Item
 class_wire fabric class = Wire (wire_name class) (class_right fabric class)
 
--- an output has the value of `io_n/D_OUT_0`
-abbrev pub output_assign : Fabric → Pin → Item
-output_assign fabric pin = Assign (port_name pin) (atom_or_0 fabric pin.dout)
+-- an output has its value
+abbrev pub output_assign : Fabric → Output → Item
+output_assign fabric output = Assign (output_name output) (output_atom fabric output.rule)
 
 -- a register whose reset waits for the clock: by its enable, its reset and its table
 abbrev pub flip_item : Fabric → Register → List ℕ → Item
@@ -78,19 +88,27 @@ items_by fabric register None None = []
 abbrev pub register_items : Fabric → Register → List Item
 register_items fabric register = items_by fabric register (setting_wire fabric register) (clock_name fabric register.clk)
 
--- the read port of a RAM
+-- the read port of a RAM, by its mode
 abbrev pub read_item : Fabric → RamCell → List ℕ → Item
 read_item fabric ram clock =
-    Read ram.rneg clock (atom_or_1 fabric ram.rclke) (atom_or_0 fabric ram.re) (read_name ram) (memory_name ram) (port_atoms fabric ram.raddr)
+    let address = port_atoms fabric (take 8 ram.raddr) in
+    if ram.read == 0
+    then Read ram.rneg clock (atom_or_1 fabric ram.rclke) (atom_or_0 fabric ram.re) (read_name ram) (memory_name ram) address
+    else ReadNarrow ram.rneg clock (atom_or_1 fabric ram.rclke) (atom_or_0 fabric ram.re) (read_name ram) (memory_name ram) address
+    (shift_atoms fabric ram.read ram.raddr) (pattern_of ram.read)
 
 abbrev pub read_items : Fabric → RamCell → List Item
 read_items fabric ram = clocked (clock_name fabric ram.rclk) (read_item fabric ram)
 
--- the write port of a RAM
+-- the write port of a RAM, by its mode
 abbrev pub write_item : Fabric → RamCell → List ℕ → Item
 write_item fabric ram clock =
-    Write ram.wneg clock (atom_or_1 fabric ram.wclke) (atom_or_0 fabric ram.we) (memory_name ram) (port_atoms fabric ram.waddr)
+    let address = port_atoms fabric (take 8 ram.waddr) in
+    if ram.write == 0
+    then Write ram.wneg clock (atom_or_1 fabric ram.wclke) (atom_or_0 fabric ram.we) (memory_name ram) address
     (port_atoms fabric ram.mask) (port_atoms fabric ram.wdata)
+    else WriteNarrow ram.wneg clock (atom_or_1 fabric ram.wclke) (atom_or_0 fabric ram.we) (memory_name ram) address
+    (pattern_of ram.write) (shift_atoms fabric ram.write ram.waddr) (data_atoms fabric ram.write ram.wdata)
 
 abbrev pub write_items : Fabric → RamCell → List Item
 write_items fabric ram = clocked (clock_name fabric ram.wclk) (write_item fabric ram)
@@ -121,6 +139,6 @@ items_of fabric order =
 unfoldable pub module_of : Fabric → List ℕ → List ℕ → Parts
 module_of fabric order name = record {
   name = name;
-  ports = map port_of fabric.pins;
+  ports = flat_map pin_ports fabric.pins;
   items = items_of fabric order;
 }

@@ -1,5 +1,5 @@
 -- What drives each net.
-use Rattle.std.specs.Prelude.{ℕ, Bool, true, false, not, ◌&&◌, List, [], ◌∷◌, ◌++◌, length, filter, flat_map, position, option_to_list, get_or, ◌==◌, if◌then◌else◌, Option, Some, None, unwrap_or}
+use Rattle.std.specs.Prelude.{ℕ, Bool, true, false, not, ◌&&◌, ◌-◌, ◌%◌, nat_le, List, [], ◌∷◌, ◌++◌, filter, find, flat_map, option_to_list, get_or, ◌==◌, if◌then◌else◌, Option, Some, None}
 use Rattle.std.specs.List.{list_any}
 use Rattle.net_extract.specs.declared.cell.Lc.{Lc}
 use Rattle.net_extract.specs.declared.cell.CarrySet.{CarrySet}
@@ -13,10 +13,13 @@ use Rattle.net_extract.specs.declared.register.Source.TheVariants.{Net, Pin as S
 use Rattle.net_extract.specs.declared.register.Table.{Table}
 use Rattle.net_extract.specs.declared.register.Register.{Register}
 use Rattle.net_extract.specs.declared.driver.ClockUser.{ClockUser}
-use Rattle.net_extract.specs.declared.driver.ClockUser.TheVariants.{Cell, Read, Write}
+use Rattle.net_extract.specs.declared.driver.ClockUser.TheVariants.{Cell, Input, Output}
 use Rattle.net_extract.specs.declared.driver.Driver.{Driver}
 use Rattle.net_extract.specs.declared.driver.Driver.TheVariants as driver
 use Rattle.net_extract.specs.Joins.{class_of}
+use Rattle.rams_narrow.specs.Narrow.{share}
+use Rattle.net_extract.specs.Rams.{first_data_bit}
+use Rattle.net_extract.specs.Pins.{is_registered, place_among}
 use Rattle.net_extract.specs.Registers.{table_of}
 use Rattle.net_extract.specs.Fabric.{Fabric, Buffer, numbered, inputs_of}
 
@@ -50,29 +53,54 @@ abbrev pub drives_if : Driver → Rule → Option ℕ → List Drive
 drives_if by rule None = []
 drives_if by rule (Some net) = record { driver = by; net = net; rule = rule } ∷ []
 
--- ---- the ten kinds of drivers
+-- ---- the eleven kinds of drivers
 
--- 1: the net `io_n/D_IN_0` of an input pin has the pin's value
+-- 1: the net `io_n/D_IN_0` of an input pin without a register has the pin's value
 abbrev pub pin_drives : ℕ × Pin → List Drive
-pin_drives place = drives_if (driver.Pin place.1.x place.1.y place.1.n) (pin_bit place.0) place.1.din
+pin_drives place =
+    if is_registered place.1 then []
+    else drives_if (driver.Pin place.1.x place.1.y place.1.n) (pin_bit place.0) place.1.din
 
--- 2: that of an output pin that can be read has the value of `io_n/D_OUT_0`
-abbrev pub back_drives : Pin → List Drive
-back_drives pin = drives_if (driver.Back pin.x pin.y pin.n) (input false pin.dout) pin.din
+-- whether a user of a clock is the register of output pin n
+abbrev pub is_output_user : ℕ → ClockUser → Bool
+is_output_user n (Output other) = other == n
+is_output_user n _ = false
+
+-- whether a register is that of an output pin
+abbrev pub is_output_register : Pin → ℕ × Register → Bool
+is_output_register pin place = (place.1.x == pin.x) && ((place.1.y == pin.y) && is_output_user pin.n place.1.user)
+
+-- the value of a register, where there is one
+abbrev pub register_rule : Option (ℕ × Register) → Rule
+register_rule None = constant false
+register_rule (Some place) = register_bit place.0 place.1
+
+-- what an output pin has: its register's value where it is registered, else that of `io_n/D_OUT_0`
+abbrev pub output_rule : List Register → Pin → Rule
+output_rule registers pin =
+    if is_registered pin then register_rule (find (is_output_register pin) (numbered registers)) else input false pin.dout
+
+-- 2: the net `io_n/D_IN_0` of an output pin that can be read has what the pin has
+abbrev pub back_drives : List Register → Pin → List Drive
+back_drives registers pin = drives_if (driver.Back pin.x pin.y pin.n) (output_rule registers pin) pin.din
 
 -- 3: `lutff_i/out` of a cell without flip-flop has the LUT's value
 abbrev pub lut_drives : Lc → List Drive
 lut_drives lc = drives_if (driver.Lut lc.x lc.y lc.i) (table_entry (table_of lc)) lc.out
 
--- which driver a register is; the ports of RAMs are no registers of one bit
-abbrev pub register_driver : Register → ClockUser → Driver
-register_driver register (Cell i) = driver.Flip register.x register.y i
-register_driver register Read = driver.Flip register.x register.y 0
-register_driver register Write = driver.Flip register.x register.y 0
+-- what a register with a driver drives
+abbrev pub drives_by : ℕ × Register → Option Driver → List Drive
+drives_by place None = []
+drives_by place (Some by) = drives_if by (register_bit place.0 place.1) place.1.out
+
+-- the driver that the flip-flop of a cell is
+abbrev pub flip_driver : Register → ClockUser → Option Driver
+flip_driver register (Cell i) = Some (driver.Flip register.x register.y i)
+flip_driver register _ = None
 
 -- 4: `lutff_i/out` of a cell with flip-flop has the register's value
-abbrev pub register_drives : ℕ × Register → List Drive
-register_drives place = drives_if (register_driver place.1 place.1.user) (register_bit place.0 place.1) place.1.out
+abbrev pub flip_drives : ℕ × Register → List Drive
+flip_drives place = drives_by place (flip_driver place.1 place.1.user)
 
 -- 5: `lutff_i/lout` has the LUT's value
 abbrev pub lout_drives : Lc → List Drive
@@ -86,20 +114,23 @@ carry_drives lc = drives_if (driver.Carry lc.x lc.y lc.i) (majority_of (get_or l
 abbrev pub set_drives : CarrySet → List Drive
 set_drives set = drives_if (driver.CarrySet set.x set.y) (constant true) (Some set.net)
 
--- 8: `ram/RDATA_bit` has that bit of the read register
+-- What port bit b of the read data of a RAM has: the data of a mode begins at some port bit, and one of each `share` bits from there on
+-- has a bit of the read register, the first that of bit 0. The others are 0. In mode 0 it is bit b of the read register.
+abbrev pub read_data_rule : ℕ → ℕ → ℕ → Rule
+read_data_rule ram mode b =
+    let place = b - first_data_bit mode in
+    if nat_le (first_data_bit mode) b && (place % share mode == 0) then read_bit ram place else constant false
+
+-- 8: `ram/RDATA_bit` has that bit of the read data
 abbrev pub ram_drive : ℕ × RamCell → ℕ × Option ℕ → List Drive
-ram_drive place port = drives_if (driver.Ram place.1.x place.1.y port.0) (read_bit place.0 port.0) port.1
+ram_drive place port = drives_if (driver.Ram place.1.x place.1.y port.0) (read_data_rule place.0 place.1.read port.0) port.1
 
 abbrev pub ram_drives : ℕ × RamCell → List Drive
 ram_drives place = flat_map (ram_drive place) (numbered place.1.rdata)
 
--- the place of a pad among the input pins; one that isn't an input pin has none, and counts as the place behind the last
-abbrev pub pad_place : List Pin → ℕ → ℕ → ℕ → ℕ
-pad_place pins x y n = unwrap_or (position (λ pin. (pin.x == x) && ((pin.y == y) && (pin.n == n))) pins) (length pins)
-
 -- 9: the net of a global has the value of its pad, or of its net `fabout`
 abbrev pub global_rule : List Pin → GlobalFrom → Rule
-global_rule pins (Pad x y n) = pin_bit (pad_place pins x y n)
+global_rule pins (Pad x y n) = pin_bit (place_among pins x y n)
 global_rule pins (Fabout net) = copied net
 
 abbrev pub global_drives : List Pin → GlobalNet → List Drive
@@ -109,21 +140,31 @@ global_drives pins global = drives_if (driver.Global global.g global.net) (globa
 abbrev pub buffer_drives : Buffer → List Drive
 buffer_drives buffer = drives_if (driver.Link buffer.line) (copied buffer.src) (Some buffer.dst)
 
+-- the driver that the register of an input pin is
+abbrev pub pin_register_driver : Register → ClockUser → Option Driver
+pin_register_driver register (Input n) = Some (driver.PinReg register.x register.y n)
+pin_register_driver register _ = None
+
+-- 11: the net `io_n/D_IN_0` of a registered input pin has the register's value
+abbrev pub pin_register_drives : ℕ × Register → List Drive
+pin_register_drives place = drives_by place (pin_register_driver place.1 place.1.user)
+
 -- ---- all drivers
 
 -- the drivers in their order
 unfoldable pub drives_of : Fabric → List Drive
 drives_of fabric =
     flat_map pin_drives (numbered (inputs_of fabric))
-    ++ (flat_map back_drives (filter (λ pin. pin.back) fabric.pins)
+    ++ (flat_map (back_drives fabric.registers) (filter (λ pin. pin.back) fabric.pins)
     ++ (flat_map lut_drives (filter (λ lc. not lc.flip) fabric.lcs)
-    ++ (flat_map register_drives (numbered fabric.registers)
+    ++ (flat_map flip_drives (numbered fabric.registers)
     ++ (flat_map lout_drives fabric.lcs
     ++ (flat_map carry_drives (filter (λ lc. lc.carry) fabric.lcs)
     ++ (flat_map set_drives fabric.sets
     ++ (flat_map ram_drives (numbered fabric.rams)
     ++ (flat_map (global_drives (inputs_of fabric)) fabric.globals
-    ++ flat_map buffer_drives fabric.buffers))))))))
+    ++ (flat_map buffer_drives fabric.buffers
+    ++ flat_map pin_register_drives (numbered fabric.registers))))))))))
 
 -- whether a driver drives a net of a class
 abbrev pub is_driver_of : Fabric → ℕ → Drive → Bool

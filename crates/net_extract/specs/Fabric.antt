@@ -1,5 +1,5 @@
 -- A configured fabric: its parts, from a database and an image.
-use Rattle.std.specs.Prelude.{ℕ, suc, Bool, not, List, [], ◌∷◌, map, filter}
+use Rattle.std.specs.Prelude.{ℕ, suc, Bool, not, List, [], ◌∷◌, ◌++◌, map, filter}
 use Rattle.ice_image.specs.Configuration.{Configuration}
 use Rattle.chipdb_reader.specs.Database.{Database, Link}
 use Rattle.net_extract.specs.declared.cell.Lc.{Lc}
@@ -12,7 +12,7 @@ use Rattle.net_extract.specs.On.{is_link_on}
 use Rattle.net_extract.specs.Cells.{cells_of, sets_of}
 use Rattle.net_extract.specs.Rams.{rams_of, over_rams, start_words}
 use Rattle.net_extract.specs.Pins.{pins_of, globals_of}
-use Rattle.net_extract.specs.Registers.{registers_of}
+use Rattle.net_extract.specs.Registers.{registers_of, pin_registers_of}
 
 -- a buffer that is on, by its place among the database's buffers
 pub record Buffer : Type 0 where
@@ -20,7 +20,8 @@ pub record Buffer : Type 0 where
   pub src : ℕ
   pub dst : ℕ
 
--- The nets are the numbers below `nets`. Each list is in the order of tiles, buffers in that of the database.
+-- The nets are the numbers below `nets`. Each list is in the order of tiles, buffers in that of the database. The registers are the
+-- flip-flops of the cells, then those of pins.
 pub record Fabric : Type 0 where
   pub nets : ℕ
   pub joins : List (ℕ × ℕ)
@@ -68,7 +69,7 @@ fabric_of db image = record {
   pins = pins_of db image;
   globals = globals_of db image;
   lcs = cells_of db image;
-  registers = registers_of (cells_of db image);
+  registers = registers_of (cells_of db image) ++ pin_registers_of db image (pins_of db image);
   sets = sets_of db image;
   rams = rams_of db image;
   start = over_rams db image (λ x y. start_words image x y ∷ []);
@@ -79,7 +80,3 @@ fabric_of db image = record {
 -- the input pins, whose values events give
 abbrev pub inputs_of : Fabric → List Pin
 inputs_of fabric = filter (λ pin. not pin.output) fabric.pins
-
--- the output pins
-abbrev pub outputs_of : Fabric → List Pin
-outputs_of fabric = filter (λ pin. pin.output) fabric.pins

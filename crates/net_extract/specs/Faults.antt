@@ -10,7 +10,7 @@ use Rattle.place_search.specs.Places.{gathered_below, or_else}
 use Rattle.net_extract.specs.declared.driver.Driver.{Driver}
 use Rattle.net_extract.specs.declared.driver.ClockUser.{ClockUser}
 use Rattle.net_extract.specs.Tiles.{over_tiles, item_if, first_of}
-use Rattle.net_extract.specs.Rams.{over_rams, read_mode, write_mode, is_narrow, is_cascaded}
+use Rattle.net_extract.specs.Rams.{over_rams, is_cascaded}
 use Rattle.net_extract.specs.Pins.{over_pins, pintype_of, is_refused_with, has_pll}
 use Rattle.net_extract.specs.Fabric.{Fabric, fabric_of}
 use Rattle.net_extract.specs.Drivers.{Drive, drivers_of}
@@ -26,8 +26,6 @@ pub data Fault : Type 0 where
   pll : (x y : ℕ) → Fault
   -- a pin of a type that isn't taken
   pin_mode : (x y n pintype : ℕ) → Fault
-  -- a RAM whose words are narrow at a port
-  mode : (x y read write : ℕ) → Fault
   -- a RAM that passes on its address
   cascade : (x y : ℕ) → Fault
   -- a class with two drivers or more, and the first two
@@ -56,10 +54,6 @@ unfoldable pub pin_faults : Database → Configuration → List Fault
 pin_faults db image = over_pins db image (pin_fault_at db image)
 
 -- ---- RAMs
-
-unfoldable pub mode_faults : Database → Configuration → List Fault
-mode_faults db image = over_rams db image (λ x y.
-    item_if (is_narrow db image x y) (mode x y (read_mode db image x y) (write_mode db image x y)))
 
 unfoldable pub cascade_faults : Database → Configuration → List Fault
 cascade_faults db image = over_rams db image (λ x y. item_if (is_cascaded db image x y) (cascade x y))
@@ -102,7 +96,7 @@ pins_fault db image = or_else (first_of (pll_faults db image)) (first_of (pin_fa
 
 -- what is wrong with RAMs
 unfoldable pub rams_fault : Database → Configuration → Option Fault
-rams_fault db image = or_else (first_of (mode_faults db image)) (first_of (cascade_faults db image))
+rams_fault db image = first_of (cascade_faults db image)
 
 -- what is wrong with a fabric
 unfoldable pub fabric_fault : DeviceName → Fabric → Option Fault

@@ -10,11 +10,13 @@ pub mod Joins
 pub mod Registers
 pub mod Fabric
 pub mod Drivers
+pub mod Outputs
 pub mod Values
 pub mod Steps
 pub mod Wiring
 pub mod Clocks
 pub mod Faults
+pub mod NarrowMemories
 pub mod Links
 pub mod Found
 pub mod Parents

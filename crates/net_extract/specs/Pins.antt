@@ -1,5 +1,5 @@
 -- Pins and global nets.
-use Rattle.std.specs.Prelude.{ℕ, ◌/◌, ◌%◌, Bool, false, not, ◌&&◌, ◌||◌, List, [], map, bytes_eq, codes, ◌==◌, if◌then◌else◌, Option, Some, None, option_map, option_and_then}
+use Rattle.std.specs.Prelude.{ℕ, ◌/◌, ◌%◌, Bool, true, false, not, ◌&&◌, ◌||◌, List, [], length, map, position, unwrap_or, bytes_eq, codes, ◌==◌, if◌then◌else◌, Option, Some, None, option_map, option_and_then}
 use Rattle.std.specs.List.{list_any}
 use Rattle.bit_plane.specs.BitList.{word_of}
 use Rattle.bit_plane.specs.Rows.{row_from}
@@ -10,6 +10,8 @@ use Rattle.chipdb_reader.specs.Lookups.{input_of, pad_of}
 use Rattle.chipdb_reader.specs.declared.items.PinXy.{PinXy}
 use Rattle.place_search.specs.Places.{any_below, gathered_below}
 use Rattle.net_extract.specs.declared.pin.Pin.{Pin}
+use Rattle.net_extract.specs.declared.pin.PinKind.{PinKind}
+use Rattle.net_extract.specs.declared.pin.PinKind.TheVariants.{Plain, Registered, TriState}
 use Rattle.net_extract.specs.declared.pin.GlobalNet.{GlobalNet}
 use Rattle.net_extract.specs.declared.pin.GlobalFrom.{GlobalFrom}
 use Rattle.net_extract.specs.declared.pin.GlobalFrom.TheVariants.{Pad, Fabout}
@@ -43,19 +45,52 @@ has_no_output pintype = output_part pintype == 0
 abbrev pub has_plain_output : ℕ → Bool
 has_plain_output pintype = output_part pintype == 6
 
+-- the output part 0101: an output that is registered
+abbrev pub has_registered_output : ℕ → Bool
+has_registered_output pintype = output_part pintype == 5
+
+-- the output part 1010: an output that can be switched off
+abbrev pub has_tri_state_output : ℕ → Bool
+has_tri_state_output pintype = output_part pintype == 10
+
 -- the input part 01: an input that isn't registered
 abbrev pub has_plain_input : ℕ → Bool
 has_plain_input pintype = input_part pintype == 1
 
-abbrev pub is_input_pin : ℕ → Bool
-is_input_pin pintype = has_no_output pintype && has_plain_input pintype
+-- the input part 00: an input that is registered
+abbrev pub has_registered_input : ℕ → Bool
+has_registered_input pintype = input_part pintype == 0
+
+-- a pin of no output and a plain input
+abbrev pub is_plain_input : ℕ → Bool
+is_plain_input pintype = has_no_output pintype && has_plain_input pintype
+
+-- a pin of no output and a registered input, which is an input pin where its input is read
+abbrev pub is_registered_input : ℕ → Bool
+is_registered_input pintype = has_no_output pintype && has_registered_input pintype
 
 abbrev pub is_output_pin : ℕ → Bool
-is_output_pin pintype = has_plain_output pintype
+is_output_pin pintype = has_plain_output pintype || (has_registered_output pintype || has_tri_state_output pintype)
 
--- every input pin and every output pin is a port
-abbrev pub is_port : ℕ → Bool
-is_port pintype = is_input_pin pintype || is_output_pin pintype
+-- every input pin and every output pin is a port; `read` tells whether the pin's input is read
+abbrev pub is_port : ℕ → Bool → Bool
+is_port pintype read = is_plain_input pintype || ((is_registered_input pintype && read) || is_output_pin pintype)
+
+abbrev pub is_registered_kind : PinKind → Bool
+is_registered_kind Plain = false
+is_registered_kind Registered = true
+is_registered_kind TriState = false
+
+abbrev pub is_tri_state_kind : PinKind → Bool
+is_tri_state_kind Plain = false
+is_tri_state_kind Registered = false
+is_tri_state_kind TriState = true
+
+abbrev pub kind_of : ℕ → PinKind
+kind_of pintype =
+    if has_registered_output pintype || is_registered_input pintype then Registered
+    else if has_tri_state_output pintype then TriState
+    else Plain
 
 -- ---- pins
 
@@ -63,23 +98,29 @@ is_port pintype = is_input_pin pintype || is_output_pin pintype
 abbrev pub io_net : Database → ℕ → ℕ → ℕ → List ℕ → Option ℕ
 io_net db x y n port = net_named db x y (with_number (codes "io_") n port)
 
+-- whether the input of pin n is read
+abbrev pub is_input_read : Database → Configuration → ℕ → ℕ → ℕ → Bool
+is_input_read db image x y n = is_some_read db image (io_net db x y n (codes "/D_IN_0"))
+
 -- pin n of the tile at (x, y), which has that type
 unfoldable pub pin_with : Database → ℕ → ℕ → ℕ → ℕ → Pin
 pin_with db x y n pintype = record {
   x = x;
   y = y;
   n = n;
+  kind = kind_of pintype;
   output = is_output_pin pintype;
-  back = is_output_pin pintype && has_plain_input pintype;
+  back = (has_plain_output pintype || has_registered_output pintype) && has_plain_input pintype;
   din = io_net db x y n (codes "/D_IN_0");
   dout = io_net db x y n (codes "/D_OUT_0");
+  enable = io_net db x y n (codes "/OUT_ENB");
 }
 
 -- pin n where it is a port
 abbrev pub port_at : Database → Configuration → ℕ → ℕ → ℕ → List Pin
 port_at db image x y n =
     let pintype = pintype_of db image x y n in
-    item_if (is_port pintype) (pin_with db x y n pintype)
+    item_if (is_port pintype (is_input_read db image x y n)) (pin_with db x y n pintype)
 
 -- what pins 0 and 1 of each io tile give, by tile and number
 abbrev pub over_pins : {A : Type 0} → Database → Configuration → (ℕ → ℕ → ℕ → List A) → List A
@@ -88,6 +129,18 @@ over_pins db image given = over_tiles image.layout.device Io (λ x y. gathered_b
 -- the pins that are ports, by tile and number
 unfoldable pub pins_of : Database → Configuration → List Pin
 pins_of db image = over_pins db image (port_at db image)
+
+-- whether a pin has a register
+abbrev pub is_registered : Pin → Bool
+is_registered pin = is_registered_kind pin.kind
+
+-- whether a pin is an output that can be switched off
+abbrev pub is_tri_state : Pin → Bool
+is_tri_state pin = pin.output && is_tri_state_kind pin.kind
+
+-- the place of pin n of the tile at (x, y) among pins; one that isn't among them has none, and counts as the place behind the last
+abbrev pub place_among : List Pin → ℕ → ℕ → ℕ → ℕ
+place_among pins x y n = unwrap_or (position (λ pin. (pin.x == x) && ((pin.y == y) && (pin.n == n))) pins) (length pins)
 
 -- ---- globals
 
@@ -135,14 +188,17 @@ is_pin_at x y n (Some pin) = (pin.x == x) && ((pin.y == y) && (pin.n == n))
 abbrev pub is_global_pad : Database → Configuration → ℕ → ℕ → ℕ → Bool
 is_global_pad db image x y n = any_below 8 (λ g. is_pin_at x y n (global_pad db image g))
 
--- whether pin n, which has that type, isn't taken
+-- Whether pin n, which has that type, isn't taken: its output part is another one; its input is read, which is neither plain nor that of a
+-- registered input pin; its second input is read; it is the pad of a global and no plain input pin; it is a port of a tile with LVDS; or it
+-- can be switched off and its input is read.
 unfoldable pub is_refused_with : Database → Configuration → ℕ → ℕ → ℕ → ℕ → Bool
 is_refused_with db image x y n pintype =
-    not (has_no_output pintype || has_plain_output pintype)
-    || ((not (has_plain_input pintype) && is_some_read db image (io_net db x y n (codes "/D_IN_0")))
+    not (has_no_output pintype || is_output_pin pintype)
+    || ((is_input_read db image x y n && not (has_plain_input pintype || is_registered_input pintype))
     || (is_some_read db image (io_net db x y n (codes "/D_IN_1"))
-    || ((is_global_pad db image x y n && not (is_input_pin pintype))
-    || (is_port pintype && is_function_on db image Io x y (codes "IoCtrl.LVDS")))))
+    || ((is_global_pad db image x y n && not (is_plain_input pintype))
+    || ((is_port pintype (is_input_read db image x y n) && is_function_on db image Io x y (codes "IoCtrl.LVDS"))
+    || (has_tri_state_output pintype && is_input_read db image x y n)))))
 
 -- whether a function `PLL.` and so on is on in the io tile
 abbrev pub has_pll : Database → Configuration → ℕ → ℕ → Bool

@@ -1,5 +1,5 @@
 -- Block RAMs. A RAM is a lower tile at (x, y) with the upper tile at (x, y + 1), and is named by the lower one.
-use Rattle.std.specs.Prelude.{ℕ, ◌+◌, ◌*◌, Bool, false, not, ◌||◌, List, [], ◌∷◌, ◌++◌, is_some, codes, ◌==◌, if◌then◌else◌, Option}
+use Rattle.std.specs.Prelude.{ℕ, ◌+◌, ◌*◌, Bool, false, ◌||◌, List, [], ◌∷◌, ◌++◌, get_or, is_some, codes, if◌then◌else◌, Option}
 use Rattle.bit_plane.specs.BitList.{bit_value}
 use Rattle.bit_plane.specs.Rows.{row_from}
 use Rattle.plane_map.specs.declared.tile.TileKind.TheVariants.{RamB, RamT}
@@ -7,6 +7,7 @@ use Rattle.ice_image.specs.Configuration.{Configuration}
 use Rattle.ice_image.specs.Bits.{word_bit_of}
 use Rattle.chipdb_reader.specs.Database.{Database}
 use Rattle.place_search.specs.Places.{any_below, or_else}
+use Rattle.rams_narrow.specs.Narrow.{share}
 use Rattle.net_extract.specs.declared.ram.RamCell.{RamCell}
 use Rattle.net_extract.specs.On.{is_function_on, is_any_on}
 use Rattle.net_extract.specs.Tiles.{over_tiles, each_below}
@@ -47,9 +48,13 @@ write_mode db image x y = mode_of db image x y 0 1
 abbrev pub read_mode : Database → Configuration → ℕ → ℕ → ℕ
 read_mode db image x y = mode_of db image x y 2 3
 
--- whether the words have another width than 16 at one of the ports
-abbrev pub is_narrow : Database → Configuration → ℕ → ℕ → Bool
-is_narrow db image x y = not (read_mode db image x y == 0) || not (write_mode db image x y == 0)
+-- the least port bit at which a mode has data
+abbrev pub first_data_bit : ℕ → ℕ
+first_data_bit mode = get_or (0 ∷ 0 ∷ 1 ∷ 3 ∷ []) mode 0
+
+-- the port bit that has bit d of a narrow word
+abbrev pub data_bit : ℕ → ℕ → ℕ
+data_bit mode d = share mode * d + first_data_bit mode
 
 -- whether a function `RamCascade.` and so on is on in one of the two tiles
 abbrev pub is_cascaded : Database → Configuration → ℕ → ℕ → Bool
@@ -66,13 +71,15 @@ unfoldable pub ram_at : Database → Configuration → ℕ → ℕ → RamCell
 ram_at db image x y = record {
   x = x;
   y = y;
+  read = read_mode db image x y;
+  write = write_mode db image x y;
   wneg = is_port_inverted db image x y (codes "ram/WCLK");
   rneg = is_port_inverted db image x y (codes "ram/RCLK");
   rdata = ram_nets db x y (codes "RDATA_") 16;
   wdata = ram_nets db x y (codes "WDATA_") 16;
   mask = ram_nets db x y (codes "MASK_") 16;
-  waddr = ram_nets db x y (codes "WADDR_") 8;
-  raddr = ram_nets db x y (codes "RADDR_") 8;
+  waddr = ram_nets db x y (codes "WADDR_") 11;
+  raddr = ram_nets db x y (codes "RADDR_") 11;
   wclk = ram_net db x y (codes "WCLK");
   wclke = ram_net db x y (codes "WCLKE");
   we = ram_net db x y (codes "WE");

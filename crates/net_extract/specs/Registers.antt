@@ -1,10 +1,20 @@
 -- Registers of one bit.
-use Rattle.std.specs.Prelude.{List, map, filter}
+use Rattle.std.specs.Prelude.{ℕ, false, not, List, [], ◌∷◌, ◌++◌, map, filter, codes, if◌then◌else◌, Option, None}
+use Rattle.plane_map.specs.declared.tile.TileKind.TheVariants.{Io}
+use Rattle.ice_image.specs.Configuration.{Configuration}
+use Rattle.chipdb_reader.specs.Database.{Database}
 use Rattle.net_extract.specs.declared.cell.Lc.{Lc}
-use Rattle.net_extract.specs.declared.driver.ClockUser.TheVariants.{Cell}
-use Rattle.net_extract.specs.declared.register.Source.TheVariants.{Net}
+use Rattle.net_extract.specs.declared.pin.Pin.{Pin}
+use Rattle.net_extract.specs.declared.driver.ClockUser.TheVariants.{Cell, Input, Output}
+use Rattle.net_extract.specs.declared.register.Source.{Source}
+use Rattle.net_extract.specs.declared.register.Source.TheVariants.{Net, Pin as SourcePin}
 use Rattle.net_extract.specs.declared.register.Table.{Table}
 use Rattle.net_extract.specs.declared.register.Register.{Register}
+use Rattle.net_extract.specs.On.{is_function_on}
+use Rattle.net_extract.specs.Nets.{net_named}
+use Rattle.net_extract.specs.Pins.{is_registered, place_among}
+
+-- ---- flip-flops
 
 -- the LUT of a cell, whose inputs are nets
 abbrev pub table_of : Lc → Table
@@ -29,3 +39,37 @@ register_of lc = record {
 -- the registers of cells: the flip-flops, in the order of the cells
 unfoldable pub registers_of : List Lc → List Register
 registers_of lcs = map register_of (filter (λ lc. lc.flip) lcs)
+
+-- ---- registers of pins
+
+-- the net of a name `io_global/` and so on, which the pins of a tile share
+abbrev pub io_shared_net : Database → Pin → List ℕ → Option ℕ
+io_shared_net db pin port = net_named db pin.x pin.y (codes "io_global/" ++ port)
+
+-- what the register of a pin takes: an input register the pin, which has a place among the input pins, an output register `io_n/D_OUT_0`
+abbrev pub pin_source : List Pin → Pin → Source
+pin_source inputs pin = if pin.output then Net pin.dout else SourcePin (place_among inputs pin.x pin.y pin.n)
+
+-- the table that has the value of its lowest input
+abbrev pub table_as : Source → Table
+table_as source = record { word = 43690; ins = source ∷ Net None ∷ Net None ∷ Net None ∷ [] }
+
+-- The register of a pin, which has no reset. An input register drives `io_n/D_IN_0`; what an output register drives is told by its pin.
+unfoldable pub pin_register : Database → Configuration → List Pin → Pin → Register
+pin_register db image inputs pin = record {
+  x = pin.x;
+  y = pin.y;
+  user = if pin.output then Output pin.n else Input pin.n;
+  out = if pin.output then None else pin.din;
+  clk = io_shared_net db pin (if pin.output then codes "outclk" else codes "inclk");
+  neg = is_function_on db image Io pin.x pin.y (codes "NegClk");
+  cen = io_shared_net db pin (codes "cen");
+  sr = None;
+  «set» = false;
+  at_once = false;
+  table = table_as (pin_source inputs pin);
+}
+
+-- the registers of pins, in the order of the pins
+unfoldable pub pin_registers_of : Database → Configuration → List Pin → List Register
+pin_registers_of db image pins = map (pin_register db image (filter (λ pin. not pin.output) pins)) (filter is_registered pins)

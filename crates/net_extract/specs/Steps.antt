@@ -1,11 +1,14 @@
 -- What an event changes, how registers settle, and runs.
-use Rattle.std.specs.Prelude.{◌≡◌, ℕ, Bool, false, not, ◌&&◌, List, [], ◌∷◌, length, map, get_or, set, replicate, Option, Some, None, if◌then◌else◌}
+use Rattle.std.specs.Prelude.{◌≡◌, ℕ, Bool, false, not, ◌&&◌, List, [], ◌∷◌, ◌==◌, length, map, take, drop, get_or, set, replicate, Option, Some, None, if◌then◌else◌}
 use Rattle.bit_plane.specs.BitList.{word_of}
 use Rattle.bit_plane.specs.Rows.{row_from}
 use Rattle.net_extract.specs.declared.register.Register.{Register}
 use Rattle.net_extract.specs.declared.ram.RamCell.{RamCell}
-use Rattle.net_extract.specs.Fabric.{Fabric, numbered, inputs_of, outputs_of}
-use Rattle.net_extract.specs.Values.{State, IsConsistent, input_or_0, input_or_1, lut_value, settled_bit, bit_in, is_connected}
+use Rattle.rams_narrow.specs.Narrow.{put_bit, got_bit}
+use Rattle.net_extract.specs.Rams.{data_bit}
+use Rattle.net_extract.specs.Fabric.{Fabric, numbered, inputs_of}
+use Rattle.net_extract.specs.Outputs.{outputs_of}
+use Rattle.net_extract.specs.Values.{State, IsConsistent, input_or_0, input_or_1, lut_value, value_of, settled_bit, bit_in, is_connected}
 
 -- ---- edges
 
@@ -41,24 +44,50 @@ next_bit connected pins bit register old =
 abbrev pub address_of : (ℕ → Bool) → (ℕ → Bool) → List (Option ℕ) → ℕ
 address_of connected bit ports = word_of (map (input_or_0 connected bit) ports)
 
+-- the number of the word that a port addresses: its eight lowest address bits
+abbrev pub word_address : (ℕ → Bool) → (ℕ → Bool) → List (Option ℕ) → ℕ
+word_address connected bit ports = address_of connected bit (take 8 ports)
+
+-- the high part of a narrow word that a port addresses: as many address bits behind those as the mode says
+abbrev pub high_part : (ℕ → Bool) → (ℕ → Bool) → ℕ → List (Option ℕ) → ℕ
+high_part connected bit mode ports = address_of connected bit (take mode (drop 8 ports))
+
 -- a word, and no bits past the last
 abbrev pub word_at : List (List Bool) → ℕ → List Bool
 word_at words address = get_or words address []
 
--- The next word of a RAM at the place that is written: bit b becomes `WDATA_b` where `MASK_b` is 0, and stays where it is 1.
-unfoldable pub written : (ℕ → Bool) → (ℕ → Bool) → RamCell → List Bool → List Bool
-written connected bit ram word = row_from 16 (λ b.
-    if input_or_0 connected bit (get_or ram.mask b None) then get_or word b false
-    else input_or_0 connected bit (get_or ram.wdata b None))
+-- a bit of a word, and 0 past the last
+abbrev pub bit_of_word : List Bool → ℕ → Bool
+bit_of_word word b = get_or word b false
 
--- The next read register of a RAM that is read: the addressed word.
-unfoldable pub shown : (ℕ → Bool) → (ℕ → Bool) → RamCell → List (List Bool) → List Bool
-shown connected bit ram words = word_at words (address_of connected bit ram.raddr)
+-- bit b of a word that is written whole: `WDATA_b` where `MASK_b` is 0, and as it was where that is 1
+abbrev pub masked_bit : (ℕ → Bool) → (ℕ → Bool) → RamCell → List Bool → ℕ → Bool
+masked_bit connected bit ram word b =
+    if input_or_0 connected bit (get_or ram.mask b None) then bit_of_word word b
+    else input_or_0 connected bit (get_or ram.wdata b None)
+
+-- bit d of the narrow word that is written
+abbrev pub written_data : (ℕ → Bool) → (ℕ → Bool) → RamCell → ℕ → Bool
+written_data connected bit ram d = input_or_0 connected bit (get_or ram.wdata (data_bit ram.write d) None)
+
+-- The next word of a RAM at the place that is written. In mode 0 the mask tells which bits stay; in another mode the narrow word at the
+-- high part of the address is put in the word, and the mask isn't read.
+unfoldable pub written : (ℕ → Bool) → (ℕ → Bool) → RamCell → List Bool → List Bool
+written connected bit ram word =
+    if ram.write == 0 then row_from 16 (masked_bit connected bit ram word)
+    else row_from 16 (put_bit ram.write (bit_of_word word) (high_part connected bit ram.write ram.waddr) (written_data connected bit ram))
+
+-- The next read register of a RAM that is read, by the addressed word: in mode 0 that word; in another mode what is got of its narrow word
+-- at the high part of the address.
+unfoldable pub shown : (ℕ → Bool) → (ℕ → Bool) → RamCell → List Bool → List Bool
+shown connected bit ram word =
+    if ram.read == 0 then word
+    else row_from 16 (got_bit ram.read (bit_of_word word) (high_part connected bit ram.read ram.raddr))
 
 -- what the words of a RAM become at a write edge
 unfoldable pub next_words : (ℕ → Bool) → (ℕ → Bool) → RamCell → List (List Bool) → List (List Bool)
 next_words connected bit ram words =
-    let address = address_of connected bit ram.waddr in
+    let address = word_address connected bit ram.waddr in
     if input_or_1 connected bit ram.wclke && input_or_0 connected bit ram.we
     then set words address (written connected bit ram (word_at words address))
     else words
@@ -66,7 +95,9 @@ next_words connected bit ram words =
 -- what the read register becomes at a read edge
 unfoldable pub next_register : (ℕ → Bool) → (ℕ → Bool) → RamCell → List (List Bool) → List Bool → List Bool
 next_register connected bit ram words register =
-    if input_or_1 connected bit ram.rclke && input_or_0 connected bit ram.re then shown connected bit ram words else register
+    if input_or_1 connected bit ram.rclke && input_or_0 connected bit ram.re
+    then shown connected bit ram (word_at words (word_address connected bit ram.raddr))
+    else register
 
 -- ---- the next state
 
@@ -122,13 +153,13 @@ pub record Entry : Type 0 where
   pub v : List Bool
   pub outputs : List Bool
 
--- the values of the output pins: those of `io_n/D_OUT_0`
-unfoldable pub output_values : Fabric → List Bool → List Bool
-output_values fabric v = map (λ pin. input_or_0 (is_connected fabric) (bit_in v) pin.dout) (outputs_of fabric)
+-- the values of the outputs, from the state, the bits of the input pins and the bits of nets
+unfoldable pub output_values : Fabric → State → List Bool → List Bool → List Bool
+output_values fabric state pins v = map (λ output. value_of (is_connected fabric) state pins (bit_in v) output.rule) (outputs_of fabric)
 
 pub record IsEntry (fabric : Fabric) (entry : Entry) : Type 0 where
   pub consistent : IsConsistent fabric entry.state entry.pins entry.v
-  pub outputs : entry.outputs ≡ output_values fabric entry.v
+  pub outputs : entry.outputs ≡ output_values fabric entry.state entry.pins entry.v
 
 -- an entry follows another by an event
 pub record Follows (fabric : Fabric) (before : Entry) (event : Event) (after : Entry) : Type 0 where

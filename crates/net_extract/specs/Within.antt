@@ -20,6 +20,7 @@ IsNetIn nets (Some net) = net < nets
 pub record IsPinIn (nets : ℕ) (pin : Pin) : Type 0 where
   pub din : IsNetIn nets pin.din
   pub dout : IsNetIn nets pin.dout
+  pub enable : IsNetIn nets pin.enable
 
 pub record IsCellIn (nets : ℕ) (lc : Lc) : Type 0 where
   pub ins : All (IsNetIn nets) lc.ins

@@ -4,9 +4,9 @@
 /// or `bit`; a `Global` goes by `g`, then by net, and a `Link` by line.
 #[derive(Clone, Copy, Debug, PartialEq, Eq)]
 pub enum Driver {
-    /// An input pin, on its `io_n/D_IN_0`.
+    /// An input pin without a register, on its `io_n/D_IN_0`.
     Pin { x: u8, y: u8, n: u8 },
-    /// An output pin, on its `io_n/D_IN_0`.
+    /// An output pin, or its register, on its `io_n/D_IN_0`.
     Back { x: u8, y: u8, n: u8 },
     /// The LUT of a cell without flip-flop, on `lutff_i/out`.
     Lut { x: u8, y: u8, i: u8 },
@@ -24,6 +24,8 @@ pub enum Driver {
     Global { g: u8, net: u32 },
     /// The `.buffer` line of that place in the database, on its destination.
     Link { line: u32 },
+    /// The register of an input pin, on its `io_n/D_IN_0`.
+    PinReg { x: u8, y: u8, n: u8 },
 }
 
 /// What uses a clock at a tile.
@@ -31,6 +33,10 @@ pub enum Driver {
 pub enum ClockUser {
     /// The flip-flop of cell `i`.
     Cell { i: u8 },
+    /// The register of input pin `n`.
+    Input { n: u8 },
+    /// The register of output pin `n`.
+    Output { n: u8 },
     /// The read port of a RAM.
     Read,
     /// The write port of a RAM.

@@ -34,7 +34,7 @@ pub use functions::{are_set, function_bits, is_any_on, is_on, listed_bit};
 pub use links_type::Links;
 pub use name::Name;
 pub use on::is_link_on;
-pub use pin::{GlobalFrom, GlobalNet, Pin};
+pub use pin::{GlobalFrom, GlobalNet, Pin, PinKind};
 pub use ram::RamCell;
 pub use register::{Register, Source, Table};
 pub use some_read::is_some_read;

@@ -1,11 +1,23 @@
 // Pins and global nets.
 
+/// How a pin has its value, or gives it.
+#[derive(Clone, Copy, Debug, PartialEq, Eq)]
+pub enum PinKind {
+    /// As it is.
+    Plain,
+    /// Through a register.
+    Registered,
+    /// As it is, and an output can be switched off.
+    TriState,
+}
+
 /// A pin that is a port: pin `n` of the io tile at (x, y).
 #[derive(Clone, Copy, Debug, PartialEq, Eq)]
 pub struct Pin {
     pub x: u8,
     pub y: u8,
     pub n: u8,
+    pub kind: PinKind,
     /// Whether it is an output pin; else it is an input pin.
     pub output: bool,
     /// Whether it is an output pin whose value can be read in the fabric.
@@ -14,6 +26,8 @@ pub struct Pin {
     pub din: Option<u32>,
     /// `io_n/D_OUT_0`.
     pub dout: Option<u32>,
+    /// `io_n/OUT_ENB`, which switches on a tri-state pin.
+    pub enable: Option<u32>,
 }
 
 /// A net of the global `g`, and what gives the global its value.

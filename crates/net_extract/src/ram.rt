@@ -5,6 +5,10 @@
 pub struct RamCell {
     pub x: u8,
     pub y: u8,
+    /// The mode in which words are read, 0 to 3: words of 16, 8, 4 or 2 bits.
+    pub read: u8,
+    /// The mode in which words are written.
+    pub write: u8,
     /// Whether words are written at falling edges.
     pub wneg: bool,
     /// Whether words are read at falling edges.
@@ -15,10 +19,10 @@ pub struct RamCell {
     pub wdata: [Option<u32>; 16],
     /// `ram/MASK_0` to `ram/MASK_15`.
     pub mask: [Option<u32>; 16],
-    /// `ram/WADDR_0` to `ram/WADDR_7`.
-    pub waddr: [Option<u32>; 8],
-    /// `ram/RADDR_0` to `ram/RADDR_7`.
-    pub raddr: [Option<u32>; 8],
+    /// `ram/WADDR_0` to `ram/WADDR_10`. Mode m has the first 8 + m of them.
+    pub waddr: [Option<u32>; 11],
+    /// `ram/RADDR_0` to `ram/RADDR_10`.
+    pub raddr: [Option<u32>; 11],
     /// `ram/WCLK`.
     pub wclk: Option<u32>,
     /// `ram/WCLKE`.

@@ -1,5 +1,5 @@
 -- A RAM of a narrow mode is a memory of narrow words.
-use Rattle.std.specs.Prelude.{◌≡◌, ℕ, ◌+◌, ◌*◌, ◌/◌, ◌<◌, ◌≤◌, Bool, true, false, ◌&&◌, ◌==◌, List, take, get_or, length, All, if◌then◌else◌}
+use Rattle.std.specs.Prelude.{◌≡◌, ℕ, ◌+◌, ◌*◌, ◌/◌, ◌<◌, ◌≤◌, Bool, true, false, ◌&&◌, ◌==◌, List, take, get_or, length, All, Option, if◌then◌else◌}
 use Rattle.rams_narrow.specs.Narrow.{share, narrow_bit}
 use Rattle.net_extract.specs.declared.ram.RamCell.{RamCell}
 use Rattle.net_extract.specs.Values.{input_or_0, input_or_1}

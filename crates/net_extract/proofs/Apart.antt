@@ -32,6 +32,10 @@ module _ {A : Type 0} (R : A → A → Type 0) where
   apart-if true xs apart = apart
   apart-if false xs apart = tt
 
+  pub apart-unless : (passes : Bool) (xs : List A) → AreApart R xs → AreApart R (if passes then [] else xs)
+  apart-unless true xs apart = tt
+  apart-unless false xs apart = apart
+
   pub apart-item_if : (passes : Bool) (item : A) → AreApart R (item_if passes item)
   apart-item_if passes item = apart-if passes (item ∷ []) (apart-single item)
 

@@ -1,7 +1,7 @@
 -- No driver of a database and an image stands twice: each pin, cell, carry input, RAM, global net and buffer is listed once, each
 -- gives a driver of each kind at most once, and kinds differ.
 use Rattle.std.proofs.Common.{◌≡◌, ◌≢◌, ℕ, suc, ◌≤◌, true, false, not, List, ◌∷◌, ◌++◌, get_or, refl, sym, ap, ◌∙◌, subst, arith}
-use Rattle.std.specs.Prelude.{All, Bool, Option, Some, None, filter, codes}
+use Rattle.std.specs.Prelude.{All, Bool, Option, Some, None, filter, codes, if◌then◌else◌}
 use Rattle.std.specs.List.{flat_map}
 use Rattle.std.proofs.lemmas.List.Elements.{All-nil, All-head, All-map, All-append, All-weaker}
 use Rattle.place_search.specs.Places.{gathered_below}
@@ -17,7 +17,7 @@ use Rattle.net_extract.specs.declared.pin.Pin.{Pin}
 use Rattle.net_extract.specs.declared.pin.GlobalNet.{GlobalNet}
 use Rattle.net_extract.specs.declared.pin.GlobalFrom.{GlobalFrom}
 use Rattle.net_extract.specs.declared.driver.ClockUser.{ClockUser}
-use Rattle.net_extract.specs.declared.driver.ClockUser.TheVariants.{Cell, Read, Write}
+use Rattle.net_extract.specs.declared.driver.ClockUser.TheVariants.{Cell, Input, Output, Read, Write}
 use Rattle.net_extract.specs.declared.driver.Driver.{Driver}
 use Rattle.net_extract.specs.declared.driver.Driver.TheVariants as driver
 use Rattle.net_extract.specs.On.{is_link_on, is_function_on}
@@ -25,46 +25,65 @@ use Rattle.net_extract.specs.Nets.{net_named}
 use Rattle.net_extract.specs.Tiles.{item_if}
 use Rattle.net_extract.specs.Cells.{cell_bits, cell_with, is_used, used_cell, cells_at, cells_of, set_with, sets_at, sets_of}
 use Rattle.net_extract.specs.Rams.{is_ram_used, ram_at, rams_of}
-use Rattle.net_extract.specs.Pins.{pintype_of, is_port, pin_with, port_at, pins_of, is_global_net, global_nets, nets_from, global_source, globals_of}
+use Rattle.net_extract.specs.Pins.{pintype_of, is_port, is_input_read, is_registered, pin_with, port_at, pins_of, is_global_net, global_nets, nets_from, global_source, globals_of}
 use Rattle.net_extract.specs.Fabric.{Fabric, Buffer, numbered, buffer_of, buffers_of, fabric_of, inputs_of}
-use Rattle.net_extract.specs.Registers.{table_of, register_of, registers_of}
-use Rattle.net_extract.specs.Drivers.{Rule, Drive, drives_if, pin_drives, back_drives, lut_drives, register_driver, register_drives, lout_drives, carry_drives, set_drives, ram_drive, ram_drives, global_drives, buffer_drives, global_rule, drives_of, is_driver_of, drivers_of}
-use Rattle.net_extract.proofs.Within.{All-flat_map, All-if, All-item_if, All-single}
-use Rattle.net_extract.proofs.Apart.{AreApart, apart-single, apart-if, apart-item_if, apart-append, apart-weaker, apart-filter, apart-map, apart-flat_map, apart-gathered, apart-over_tiles, All-every, numbered-apart, apart-numbered}
+use Rattle.net_extract.specs.Registers.{table_of, register_of, registers_of, pin_register, pin_registers_of}
+use Rattle.net_extract.specs.Drivers.{Rule, Drive, drives_if, drives_by, pin_drives, output_rule, back_drives, lut_drives, flip_driver, flip_drives, lout_drives, carry_drives, set_drives, read_data_rule, ram_drive, ram_drives, global_drives, buffer_drives, pin_register_driver, pin_register_drives, global_rule, drives_of, is_driver_of, drivers_of}
+use Rattle.net_extract.proofs.Within.{All-flat_map, All-if, All-unless, All-item_if, All-single}
+use Rattle.net_extract.proofs.Apart.{AreApart, apart-single, apart-if, apart-unless, apart-item_if, apart-append, apart-weaker, apart-filter, apart-map, apart-flat_map, apart-gathered, apart-over_tiles, All-every, numbered-apart, apart-numbered}
 
 -- ---- parts that differ
 
-abbrev PinsDiffer : Pin → Pin → Type 0
+abbrev pub PinsDiffer : Pin → Pin → Type 0
 PinsDiffer one two = one.x ≡ two.x → one.y ≡ two.y → one.n ≡ two.n → ⊥
 
-abbrev CellsDiffer : Lc → Lc → Type 0
+abbrev pub CellsDiffer : Lc → Lc → Type 0
 CellsDiffer one two = one.x ≡ two.x → one.y ≡ two.y → one.i ≡ two.i → ⊥
 
--- registers differ as drivers
-abbrev RegistersDiffer : Register → Register → Type 0
-RegistersDiffer one two = register_driver one one.user ≢ register_driver two two.user
+abbrev pub RegistersDiffer : Register → Register → Type 0
+RegistersDiffer one two = one.x ≡ two.x → one.y ≡ two.y → one.user ≡ two.user → ⊥
 
-abbrev SetsDiffer : CarrySet → CarrySet → Type 0
+abbrev pub SetsDiffer : CarrySet → CarrySet → Type 0
 SetsDiffer one two = one.x ≡ two.x → one.y ≡ two.y → ⊥
 
-abbrev RamsDiffer : RamCell → RamCell → Type 0
+abbrev pub RamsDiffer : RamCell → RamCell → Type 0
 RamsDiffer one two = one.x ≡ two.x → one.y ≡ two.y → ⊥
 
-abbrev GlobalsDiffer : GlobalNet → GlobalNet → Type 0
+abbrev pub GlobalsDiffer : GlobalNet → GlobalNet → Type 0
 GlobalsDiffer one two = one.g ≡ two.g → one.net ≡ two.net → ⊥
 
-abbrev BuffersDiffer : Buffer → Buffer → Type 0
+abbrev pub BuffersDiffer : Buffer → Buffer → Type 0
 BuffersDiffer one two = one.line ≡ two.line → ⊥
 
 -- the parts of a fabric differ, each from all behind it
-record ArePartsApart (fabric : Fabric) : Type 0 where
-  pins : AreApart PinsDiffer fabric.pins
-  lcs : AreApart CellsDiffer fabric.lcs
-  registers : AreApart RegistersDiffer fabric.registers
-  sets : AreApart SetsDiffer fabric.sets
-  rams : AreApart RamsDiffer fabric.rams
-  globals : AreApart GlobalsDiffer fabric.globals
-  buffers : AreApart BuffersDiffer fabric.buffers
+pub record ArePartsApart (fabric : Fabric) : Type 0 where
+  pub pins : AreApart PinsDiffer fabric.pins
+  pub lcs : AreApart CellsDiffer fabric.lcs
+  pub registers : AreApart RegistersDiffer fabric.registers
+  pub sets : AreApart SetsDiffer fabric.sets
+  pub rams : AreApart RamsDiffer fabric.rams
+  pub globals : AreApart GlobalsDiffer fabric.globals
+  pub buffers : AreApart BuffersDiffer fabric.buffers
+
+-- whether a user of a clock is the flip-flop of a cell
+is_cell_user : ClockUser → Bool
+is_cell_user (Cell i) = true
+is_cell_user (Input n) = false
+is_cell_user (Output n) = false
+is_cell_user Read = false
+is_cell_user Write = false
+
+-- the register of a pin tells the pin's number
+pin_user-number : (out other : Bool) (n m : ℕ) → (if out then Output n else Input n) ≡ (if other then Output m else Input m) → n ≡ m
+pin_user-number true true n m same = cc
+pin_user-number true false n m same = absurd cc
+pin_user-number false true n m same = absurd cc
+pin_user-number false false n m same = cc
+
+pin_user-no_cell : (out : Bool) (n : ℕ) → is_cell_user (if out then Output n else Input n) ≡ false
+unfolding is_cell_user
+pin_user-no_cell true n = refl
+pin_user-no_cell false n = refl
 
 -- nothing more is known of them
 abbrev AnyPart : {A : Type 0} → A → Type 0
@@ -90,10 +109,10 @@ module _ (db : Database) (image : Configuration) where
       apart-over_tiles PinsDiffer AnyPart (λ pin. pin.x) (λ pin. pin.y) (λ a b of_a of_b other x y n. absurd (other x)) (λ a b of_a of_b other x y n. absurd (other y))
       image.layout.device Io (λ x y. gathered_below 2 (port_at db image x y))
       (λ x y left low. All-gathered_below (λ (pin : Pin). Unit {0} × (pin.x ≡ x) × (pin.y ≡ y)) 2 (port_at db image x y)
-      (λ n few. All-item_if (λ (pin : Pin). Unit {0} × (pin.x ≡ x) × (pin.y ≡ y)) (is_port (pintype_of db image x y n)) (pin_here x y n) (pin-at x y n)))
+      (λ n few. All-item_if (λ (pin : Pin). Unit {0} × (pin.x ≡ x) × (pin.y ≡ y)) (is_port (pintype_of db image x y n) (is_input_read db image x y n)) (pin_here x y n) (pin-at x y n)))
       (λ x y left low. apart-gathered PinsDiffer AnyPart (λ pin. pin.n) (λ a b of_a of_b other same_x same_y n. absurd (other n)) 2 (port_at db image x y)
-      (λ n few. All-item_if (λ (pin : Pin). Unit {0} × (pin.n ≡ n)) (is_port (pintype_of db image x y n)) (pin_here x y n) (pin-number x y n))
-      (λ n few. apart-item_if PinsDiffer (is_port (pintype_of db image x y n)) (pin_here x y n)))
+      (λ n few. All-item_if (λ (pin : Pin). Unit {0} × (pin.n ≡ n)) (is_port (pintype_of db image x y n) (is_input_read db image x y n)) (pin_here x y n) (pin-number x y n))
+      (λ n few. apart-item_if PinsDiffer (is_port (pintype_of db image x y n) (is_input_read db image x y n)) (pin_here x y n)))
 
   -- ---- cells
 
@@ -123,14 +142,58 @@ module _ (db : Database) (image : Configuration) where
 
   flips-differ : (one two : Lc) → CellsDiffer one two → RegistersDiffer (register_of one) (register_of two)
   unfolding register_of
-  flips-differ one two other same = other (cc) (cc) (cc)
+  flips-differ one two other x y user = other x y (cc)
 
-  registers-apart : AreApart RegistersDiffer (registers_of (cells_of db image))
+  flips-apart : AreApart RegistersDiffer (registers_of (cells_of db image))
   unfolding registers_of
-  registers-apart =
+  flips-apart =
       apart-map RegistersDiffer register_of (filter (λ lc. lc.flip) (cells_of db image))
       (apart-weaker CellsDiffer (λ one two. RegistersDiffer (register_of one) (register_of two)) flips-differ (filter (λ lc. lc.flip) (cells_of db image))
       (apart-filter CellsDiffer (λ lc. lc.flip) (cells_of db image) cells-apart))
+
+  abbrev pin_register_here : Pin → Register
+  pin_register_here pin = pin_register db image (filter (λ pin. not pin.output) (pins_of db image)) pin
+
+  pin_registers-differ : (one two : Pin) → PinsDiffer one two → RegistersDiffer (pin_register_here one) (pin_register_here two)
+  unfolding pin_register
+  pin_registers-differ one two other x y user = other x y (pin_user-number one.output two.output one.n two.n user)
+
+  pin_registers-apart : AreApart RegistersDiffer (pin_registers_of db image (pins_of db image))
+  unfolding pin_registers_of
+  pin_registers-apart =
+      apart-map RegistersDiffer pin_register_here (filter is_registered (pins_of db image))
+      (apart-weaker PinsDiffer (λ one two. RegistersDiffer (pin_register_here one) (pin_register_here two)) pin_registers-differ (filter is_registered (pins_of db image))
+      (apart-filter PinsDiffer is_registered (pins_of db image) pins-apart))
+
+  flips-of_cells : All (λ (register : Register). is_cell_user register.user ≡ true) (registers_of (cells_of db image))
+  unfolding registers_of register_of is_cell_user
+  flips-of_cells =
+      All-map (λ (register : Register). is_cell_user register.user ≡ true) register_of (filter (λ lc. lc.flip) (cells_of db image))
+      (All-every (λ lc. is_cell_user (register_of lc).user ≡ true) (λ lc. refl) (filter (λ lc. lc.flip) (cells_of db image)))
+
+  pin_register-user : (pin : Pin) → is_cell_user (pin_register_here pin).user ≡ false
+  unfolding pin_register
+  pin_register-user pin = pin_user-no_cell pin.output pin.n
+
+  pin_registers-of_pins : All (λ (register : Register). is_cell_user register.user ≡ false) (pin_registers_of db image (pins_of db image))
+  unfolding pin_registers_of
+  pin_registers-of_pins =
+      All-map (λ (register : Register). is_cell_user register.user ≡ false) pin_register_here (filter is_registered (pins_of db image))
+      (All-every (λ pin. is_cell_user (pin_register_here pin).user ≡ false) pin_register-user (filter is_registered (pins_of db image)))
+
+  -- a flip-flop and the register of a pin are two
+  users-differ : (one two : Register) → is_cell_user one.user ≡ true → is_cell_user two.user ≡ false → RegistersDiffer one two
+  users-differ one two of_cell of_pin x y user =
+      let both : true ≡ false = sym of_cell ∙ (ap is_cell_user user ∙ of_pin) in absurd cc
+
+  registers-apart : AreApart RegistersDiffer (registers_of (cells_of db image) ++ pin_registers_of db image (pins_of db image))
+  registers-apart =
+      let flips = registers_of (cells_of db image) in
+      let of_pins = pin_registers_of db image (pins_of db image) in
+      apart-append RegistersDiffer flips of_pins flips-apart pin_registers-apart
+      (All-weaker (λ (register : Register). is_cell_user register.user ≡ true) (λ one. All (RegistersDiffer one) of_pins)
+      (λ one of_cell. All-weaker (λ (register : Register). is_cell_user register.user ≡ false) (RegistersDiffer one)
+      (λ two of_pin. users-differ one two of_cell of_pin) of_pins pin_registers-of_pins) flips flips-of_cells)
 
   -- ---- carry inputs that are set
 
@@ -207,7 +270,8 @@ module _ (db : Database) (image : Configuration) where
       apart-map BuffersDiffer buffer_of (filter (λ place. is_link_on image place.1) (numbered db.buffers))
       (apart-filter (λ (one two : ℕ × Link). one.0 ≢ two.0) (λ place. is_link_on image place.1) (numbered db.buffers) (numbered-apart 0 db.buffers))
 
-  parts-apart : ArePartsApart (fabric_of db image)
+  -- the parts that a database and an image configure are apart
+  pub parts-apart : ArePartsApart (fabric_of db image)
   unfolding fabric_of
   parts-apart = record { pins = pins-apart; lcs = cells-apart; registers = registers-apart; sets = sets-apart; rams = rams-apart; globals = globals-apart; buffers = buffers-apart }
 
@@ -228,6 +292,7 @@ number_of (driver.CarrySet x y) = 7
 number_of (driver.Ram x y bit) = 8
 number_of (driver.Global g net) = 9
 number_of (driver.Link line) = 10
+number_of (driver.PinReg x y n) = 11
 
 -- drivers of one kind, each apart from all behind it
 record IsOfKind (number : ℕ) (drives : List Drive) : Type 0 where
@@ -274,6 +339,17 @@ module _ {A : Type 0} (Q : A → A → Type 0) (given : A → List Drive) (Is : 
       (λ one of_one. All-weaker (λ drive. Is b drive.driver) (DriversDiffer one) (λ two of_two. differ a b other one.driver two.driver of_one of_two) (given b) (told b)) (given a) (told a))
       inside parts apart
 
+  -- what such parts give where all is of one kind
+  gives-kind : (number : ℕ) → ((a : A) (d : Driver) → Is a d → number_of d ≡ number) → ((a : A) → All (λ drive. Is a drive.driver) (given a)) → ((a : A) → AreApart DriversDiffer (given a))
+      → ((a b : A) → Q a b → (one two : Driver) → Is a one → Is b two → one ≢ two)
+      → (parts : List A) → AreApart Q parts → IsOfKind number (flat_map given parts)
+  gives-kind number kind told inside differ parts apart = record {
+    apart = gives-apart told inside differ parts apart;
+    all = All-flat_map (λ drive. number_of drive.driver ≡ number) given parts
+        (All-every (λ a. All (λ drive. number_of drive.driver ≡ number) (given a))
+        (λ a. All-weaker (λ drive. Is a drive.driver) (λ drive. number_of drive.driver ≡ number) (λ drive of_a. kind a drive.driver of_a) (given a) (told a)) parts);
+  }
+
 -- parts that have a driver of one kind each
 module _ {A : Type 0} (Q : A → A → Type 0) (by : A → Driver) (rule : A → Rule) (net : A → Option ℕ) where
   abbrev drives_each : A → List Drive
@@ -281,12 +357,9 @@ module _ {A : Type 0} (Q : A → A → Type 0) (by : A → Driver) (rule : A →
 
   each-kind : (number : ℕ) → ((a : A) → number_of (by a) ≡ number) → ((a b : A) → Q a b → by a ≢ by b)
       → (parts : List A) → AreApart Q parts → IsOfKind number (flat_map drives_each parts)
-  each-kind number is differ parts apart = record {
-    apart = gives-apart Q drives_each (λ a d. d ≡ by a) (λ a. drives_if-all (λ d. d ≡ by a) (by a) (rule a) (net a) refl) (λ a. drives_if-apart (by a) (rule a) (net a))
-        (λ a b other one two of_one of_two same. differ a b other (sym of_one ∙ (same ∙ of_two))) parts apart;
-    all = All-flat_map (λ drive. number_of drive.driver ≡ number) drives_each parts
-        (All-every (λ a. All (λ drive. number_of drive.driver ≡ number) (drives_each a)) (λ a. drives_if-all (λ d. number_of d ≡ number) (by a) (rule a) (net a) (is a)) parts);
-  }
+  each-kind number is differ parts apart =
+      gives-kind Q drives_each (λ a d. d ≡ by a) number (λ a d of_a. ap number_of of_a ∙ is a) (λ a. drives_if-all (λ d. d ≡ by a) (by a) (rule a) (net a) refl)
+      (λ a. drives_if-apart (by a) (rule a) (net a)) (λ a b other one two of_one of_two same. differ a b other (sym of_one ∙ (same ∙ of_two))) parts apart
 
 -- the bits of RAMs
 abbrev IsBitOf : ℕ × RamCell → Driver → Type 0
@@ -299,30 +372,106 @@ ram_drive-all P place each =
 
 ram_drives-apart : (place : ℕ × RamCell) → AreApart DriversDiffer (ram_drives place)
 ram_drives-apart place =
-    (each-kind (λ (one two : ℕ × Option ℕ). one.0 ≢ two.0) (λ port. driver.Ram place.1.x place.1.y port.0) (λ port. Rule.read_bit place.0 port.0) (λ port. port.1)
+    (each-kind (λ (one two : ℕ × Option ℕ). one.0 ≢ two.0) (λ port. driver.Ram place.1.x place.1.y port.0) (λ port. read_data_rule place.0 place.1.read port.0) (λ port. port.1)
     8 (λ port. refl) (λ a b other same. other (cc)) (numbered place.1.rdata) (numbered-apart 0 place.1.rdata)).apart
 
 rams-kind : (rams : List RamCell) → AreApart RamsDiffer rams → IsOfKind 8 (flat_map ram_drives (numbered rams))
-rams-kind rams apart = record {
-  apart = gives-apart (λ (one two : ℕ × RamCell). RamsDiffer one.1 two.1) ram_drives IsBitOf (λ place. ram_drive-all (IsBitOf place) place (λ bit. (bit, refl))) ram_drives-apart
+rams-kind rams apart =
+    gives-kind (λ (one two : ℕ × RamCell). RamsDiffer one.1 two.1) ram_drives IsBitOf 8 (λ place d of_place. ap number_of of_place.1)
+    (λ place. ram_drive-all (IsBitOf place) place (λ bit. (bit, refl))) ram_drives-apart
+    (λ a b other one two of_one of_two same.
+    let both : driver.Ram a.1.x a.1.y of_one.0 ≡ driver.Ram b.1.x b.1.y of_two.0 = sym of_one.1 ∙ (same ∙ of_two.1) in other (cc) (cc))
+    (numbered rams) (apart-numbered RamsDiffer 0 rams apart)
+
+-- ---- registers as drivers
+
+-- the users of clocks that are drivers of a kind
+record AreDrivers (number : ℕ) (driver_of : Register → ClockUser → Option Driver) : Type 0 where
+  kind : (register : Register) (user : ClockUser) (by : Driver) → Some by ≡ driver_of register user → number_of by ≡ number
+  tells : (one two : Register) (user other : ClockUser) (by : Driver) → Some by ≡ driver_of one user → Some by ≡ driver_of two other
+      → (one.x ≡ two.x) × (one.y ≡ two.y) × (user ≡ other)
+
+flip-kind : (register : Register) (user : ClockUser) (by : Driver) → Some by ≡ flip_driver register user → number_of by ≡ 4
+flip-kind register (Cell i) by is = let same : by ≡ driver.Flip register.x register.y i = cc in ap number_of same
+flip-kind register (Input n) by is = absurd cc
+flip-kind register (Output n) by is = absurd cc
+flip-kind register Read by is = absurd cc
+flip-kind register Write by is = absurd cc
+
+flip-tells : (one two : Register) (user other : ClockUser) (by : Driver) → Some by ≡ flip_driver one user → Some by ≡ flip_driver two other
+    → (one.x ≡ two.x) × (one.y ≡ two.y) × (user ≡ other)
+flip-tells one two (Cell i) (Cell k) by first second =
+    let same : driver.Flip one.x one.y i ≡ driver.Flip two.x two.y k = cc in
+    let number : i ≡ k = cc in (cc, cc, ap Cell number)
+flip-tells one two (Cell i) (Input m) by first second = absurd cc
+flip-tells one two (Cell i) (Output m) by first second = absurd cc
+flip-tells one two (Cell i) Read by first second = absurd cc
+flip-tells one two (Cell i) Write by first second = absurd cc
+flip-tells one two (Input n) other by first second = absurd cc
+flip-tells one two (Output n) other by first second = absurd cc
+flip-tells one two Read other by first second = absurd cc
+flip-tells one two Write other by first second = absurd cc
+
+pin_register-kind : (register : Register) (user : ClockUser) (by : Driver) → Some by ≡ pin_register_driver register user → number_of by ≡ 11
+pin_register-kind register (Cell i) by is = absurd cc
+pin_register-kind register (Input n) by is = let same : by ≡ driver.PinReg register.x register.y n = cc in ap number_of same
+pin_register-kind register (Output n) by is = absurd cc
+pin_register-kind register Read by is = absurd cc
+pin_register-kind register Write by is = absurd cc
+
+pin_register-tells : (one two : Register) (user other : ClockUser) (by : Driver) → Some by ≡ pin_register_driver one user → Some by ≡ pin_register_driver two other
+    → (one.x ≡ two.x) × (one.y ≡ two.y) × (user ≡ other)
+pin_register-tells one two (Input n) (Input m) by first second =
+    let same : driver.PinReg one.x one.y n ≡ driver.PinReg two.x two.y m = cc in
+    let number : n ≡ m = cc in (cc, cc, ap Input number)
+pin_register-tells one two (Input n) (Cell k) by first second = absurd cc
+pin_register-tells one two (Input n) (Output m) by first second = absurd cc
+pin_register-tells one two (Input n) Read by first second = absurd cc
+pin_register-tells one two (Input n) Write by first second = absurd cc
+pin_register-tells one two (Cell i) other by first second = absurd cc
+pin_register-tells one two (Output n) other by first second = absurd cc
+pin_register-tells one two Read other by first second = absurd cc
+pin_register-tells one two Write other by first second = absurd cc
+
+module _ (number : ℕ) (driver_of : Register → ClockUser → Option Driver) (are : AreDrivers number driver_of) where
+  abbrev register_given : ℕ × Register → List Drive
+  register_given place = drives_by place (driver_of place.1 place.1.user)
+
+  abbrev IsBy : ℕ × Register → Driver → Type 0
+  IsBy place by = Some by ≡ driver_of place.1 place.1.user
+
+  by-all : (place : ℕ × Register) (by : Option Driver) → All (λ (drive : Drive). Some drive.driver ≡ by) (drives_by place by)
+  by-all place None = All-nil (λ (drive : Drive). Some drive.driver ≡ None)
+  by-all place (Some by) = drives_if-all (λ d. Some d ≡ Some by) by (Rule.register_bit place.0 place.1) place.1.out refl
+
+  by-apart : (place : ℕ × Register) (by : Option Driver) → AreApart DriversDiffer (drives_by place by)
+  by-apart place None = tt
+  by-apart place (Some by) = drives_if-apart by (Rule.register_bit place.0 place.1) place.1.out
+
+  registers-kind : (registers : List Register) → AreApart RegistersDiffer registers → IsOfKind number (flat_map register_given (numbered registers))
+  registers-kind registers apart =
+      gives-kind (λ (one two : ℕ × Register). RegistersDiffer one.1 two.1) register_given IsBy number (λ place d is. are.kind place.1 place.1.user d is)
+      (λ place. by-all place (driver_of place.1 place.1.user)) (λ place. by-apart place (driver_of place.1 place.1.user))
       (λ a b other one two of_one of_two same.
-      let both : driver.Ram a.1.x a.1.y of_one.0 ≡ driver.Ram b.1.x b.1.y of_two.0 = sym of_one.1 ∙ (same ∙ of_two.1) in other (cc) (cc))
-      (numbered rams) (apart-numbered RamsDiffer 0 rams apart);
-  all = All-flat_map (λ drive. number_of drive.driver ≡ 8) ram_drives (numbered rams)
-      (All-every (λ place. All (λ drive. number_of drive.driver ≡ 8) (ram_drives place)) (λ place. ram_drive-all (λ d. number_of d ≡ 8) place (λ bit. refl)) (numbered rams));
-}
+      let found = are.tells a.1 b.1 a.1.user b.1.user one of_one (ap (λ d. Some d) same ∙ of_two) in other found.0 found.1 found.2)
+      (numbered registers) (apart-numbered RegistersDiffer 0 registers apart)
 
 -- the other kinds
 module _ (fabric : Fabric) (parts : ArePartsApart fabric) where
   pins-kind : IsOfKind 1 (flat_map pin_drives (numbered (inputs_of fabric)))
   pins-kind =
-      each-kind (λ (one two : ℕ × Pin). PinsDiffer one.1 two.1) (λ place. driver.Pin place.1.x place.1.y place.1.n) (λ place. Rule.pin_bit place.0) (λ place. place.1.din)
-      1 (λ place. refl) (λ a b other same. other (cc) (cc) (cc)) (numbered (inputs_of fabric))
+      let by : ℕ × Pin → Driver = λ place. driver.Pin place.1.x place.1.y place.1.n in
+      gives-kind (λ (one two : ℕ × Pin). PinsDiffer one.1 two.1) pin_drives (λ place d. d ≡ by place)
+      1 (λ place d is. ap number_of is)
+      (λ place. All-unless (λ (drive : Drive). drive.driver ≡ by place) (is_registered place.1) _ (drives_if-all (λ d. d ≡ by place) (by place) (Rule.pin_bit place.0) place.1.din refl))
+      (λ place. apart-unless DriversDiffer (is_registered place.1) _ (drives_if-apart (by place) (Rule.pin_bit place.0) place.1.din))
+      (λ a b other one two of_one of_two same. let both : by a ≡ by b = sym of_one ∙ (same ∙ of_two) in other (cc) (cc) (cc))
+      (numbered (inputs_of fabric))
       (apart-numbered PinsDiffer 0 (inputs_of fabric) (apart-filter PinsDiffer (λ pin. not pin.output) fabric.pins parts.pins))
 
-  backs-kind : IsOfKind 2 (flat_map back_drives (filter (λ pin. pin.back) fabric.pins))
+  backs-kind : IsOfKind 2 (flat_map (back_drives fabric.registers) (filter (λ pin. pin.back) fabric.pins))
   backs-kind =
-      each-kind PinsDiffer (λ pin. driver.Back pin.x pin.y pin.n) (λ pin. Rule.input false pin.dout) (λ pin. pin.din)
+      each-kind PinsDiffer (λ pin. driver.Back pin.x pin.y pin.n) (output_rule fabric.registers) (λ pin. pin.din)
       2 (λ pin. refl) (λ a b other same. other (cc) (cc) (cc)) (filter (λ pin. pin.back) fabric.pins) (apart-filter PinsDiffer (λ pin. pin.back) fabric.pins parts.pins)
 
   luts-kind : IsOfKind 3 (flat_map lut_drives (filter (λ lc. not lc.flip) fabric.lcs))
@@ -330,17 +479,8 @@ module _ (fabric : Fabric) (parts : ArePartsApart fabric) where
       each-kind CellsDiffer (λ lc. driver.Lut lc.x lc.y lc.i) (λ lc. Rule.table_entry (table_of lc)) (λ lc. lc.out)
       3 (λ lc. refl) (λ a b other same. other (cc) (cc) (cc)) (filter (λ lc. not lc.flip) fabric.lcs) (apart-filter CellsDiffer (λ lc. not lc.flip) fabric.lcs parts.lcs)
 
-  register_driver-kind : (register : Register) (user : ClockUser) → number_of (register_driver register user) ≡ 4
-  register_driver-kind register (Cell i) = refl
-  register_driver-kind register Read = refl
-  register_driver-kind register Write = refl
-
-  registers-kind : IsOfKind 4 (flat_map register_drives (numbered fabric.registers))
-  registers-kind =
-      each-kind (λ (one two : ℕ × Register). RegistersDiffer one.1 two.1) (λ place. register_driver place.1 place.1.user)
-      (λ place. Rule.register_bit place.0 place.1) (λ place. place.1.out)
-      4 (λ place. register_driver-kind place.1 place.1.user) (λ a b other. other) (numbered fabric.registers)
-      (apart-numbered RegistersDiffer 0 fabric.registers parts.registers)
+  flips-kind : IsOfKind 4 (flat_map flip_drives (numbered fabric.registers))
+  flips-kind = registers-kind 4 flip_driver (record { kind = flip-kind; tells = flip-tells }) fabric.registers parts.registers
 
   louts-kind : IsOfKind 5 (flat_map lout_drives fabric.lcs)
   louts-kind =
@@ -367,12 +507,15 @@ module _ (fabric : Fabric) (parts : ArePartsApart fabric) where
       each-kind BuffersDiffer (λ buffer. driver.Link buffer.line) (λ buffer. Rule.copied buffer.src) (λ buffer. Some buffer.dst)
       10 (λ buffer. refl) (λ a b other same. other (cc)) fabric.buffers parts.buffers
 
+  pin_registers-kind : IsOfKind 11 (flat_map pin_register_drives (numbered fabric.registers))
+  pin_registers-kind = registers-kind 11 pin_register_driver (record { kind = pin_register-kind; tells = pin_register-tells }) fabric.registers parts.registers
+
   drivers-apart : AreApart DriversDiffer (drives_of fabric)
   unfolding drives_of
   drivers-apart =
-      (then-kinds 1 _ _ pins-kind (then-kinds 2 _ _ backs-kind (then-kinds 3 _ _ luts-kind (then-kinds 4 _ _ registers-kind (then-kinds 5 _ _ louts-kind
+      (then-kinds 1 _ _ pins-kind (then-kinds 2 _ _ backs-kind (then-kinds 3 _ _ luts-kind (then-kinds 4 _ _ flips-kind (then-kinds 5 _ _ louts-kind
       (then-kinds 6 _ _ carries-kind (then-kinds 7 _ _ sets-kind (then-kinds 8 _ _ (rams-kind fabric.rams parts.rams) (then-kinds 9 _ _ globals-kind
-      (last-kind 10 _ buffers-kind)))))))))).apart
+      (then-kinds 10 _ _ buffers-kind (last-kind 11 _ pin_registers-kind))))))))))).apart
 
 -- the first two drivers of a class are two
 pub first-differ : (db : Database) (image : Configuration) (class : ℕ) (one two : Drive) (rest : List Drive)

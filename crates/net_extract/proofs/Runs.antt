@@ -1,15 +1,15 @@
 -- A fabric without a fault has exactly one run for each list of events. Whether a clock has an edge depends on the pins alone;
 -- so the next state is known before the values of the nets after the event are.
 use Rattle.std.proofs.Common.{◌≡◌, ℕ, zero, suc, ◌<◌, Bool, true, false, List, [], ◌∷◌, length, map, get_or, set, replicate, refl, sym, ap, ◌∙◌, subst, arith}
-use Rattle.std.specs.Prelude.{All, Contains, Option, Some, None, filter, flat_map, ◌&&◌, ◌==◌}
+use Rattle.std.specs.Prelude.{All, Contains, Option, Some, None, filter, flat_map, not, ◌&&◌, ◌==◌}
 use Rattle.std.specs.List.{AllByRecursion}
 use Rattle.std.proofs.lemmas.Bool.{and_from}
 use Rattle.std.proofs.Common.{eq-eqb}
-use Rattle.std.proofs.lemmas.List.Elements.{All-filter, All-contains, All-contains_itself, All-map, All-weaker, Contains-append_left, Contains-append_right}
+use Rattle.std.proofs.lemmas.List.Elements.{All-append, All-filter, All-contains, All-contains_itself, All-map, All-weaker, Contains-append_left, Contains-append_right}
 use Rattle.shared_lemmas.proofs.Lists.{append_empty, map-same}
 use Rattle.place_search.proofs.Gathered.{All-gathered_below, Contains-gathered_below}
 use Rattle.plane_map.specs.declared.device.DeviceName.{DeviceName}
-use Rattle.plane_map.specs.declared.tile.TileKind.TheVariants.{Logic, RamB}
+use Rattle.plane_map.specs.declared.tile.TileKind.TheVariants.{Io, Logic, RamB}
 use Rattle.plane_map.specs.Layout.{grid_width, grid_height}
 use Rattle.chipdb_reader.specs.Database.{Database}
 use Rattle.chipdb_reader.specs.Fit.{IsFit}
@@ -18,13 +18,15 @@ use Rattle.place_search.specs.Places.{gathered_below}
 use Rattle.net_extract.specs.declared.cell.Lc.{Lc}
 use Rattle.net_extract.specs.declared.register.Register.{Register}
 use Rattle.net_extract.specs.declared.ram.RamCell.{RamCell}
+use Rattle.net_extract.specs.declared.pin.Pin.{Pin}
 use Rattle.net_extract.specs.declared.driver.ClockUser.TheVariants.{Read, Write}
 use Rattle.net_extract.specs.Unique.{ExactlyOne}
 use Rattle.net_extract.specs.Tiles.{over_grid}
 use Rattle.net_extract.specs.Cells.{cell_bits, cell_with, used_cell, cells_at, cells_of}
 use Rattle.net_extract.specs.Rams.{is_ram_used, ram_at, rams_of}
+use Rattle.net_extract.specs.Pins.{is_registered, pin_with, port_at, pins_of}
 use Rattle.net_extract.specs.Fabric.{Fabric, numbered, inputs_of, fabric_of}
-use Rattle.net_extract.specs.Registers.{register_of, registers_of}
+use Rattle.net_extract.specs.Registers.{register_of, registers_of, pin_register, pin_registers_of}
 use Rattle.net_extract.specs.Values.{State, bit_in, is_connected, IsConsistent}
 use Rattle.net_extract.specs.Steps.{has_edge, bit_after, words_after, read_after, state_after, settled_state, Event, Entry, output_values, IsEntry, Follows, start_state, IsFirst, FollowEach, IsRun}
 use Rattle.net_extract.specs.Clocks.{ClockEnd, User, register_user, ram_users, users_at, users_of, clock_end}
@@ -73,11 +75,24 @@ pub record IsAt (device : DeviceName) (x y : ℕ) : Type 0 where
   pub low : y < grid_height device
 
 pub record IsPlaced (device : DeviceName) (fabric : Fabric) : Type 0 where
+  pub pins : All (λ pin. IsAt device pin.x pin.y) fabric.pins
   pub lcs : All (λ lc. IsAt device lc.x lc.y) fabric.lcs
   pub registers : All (λ register. IsAt device register.x register.y) fabric.registers
   pub rams : All (λ ram. IsAt device ram.x ram.y) fabric.rams
 
 module _ (db : Database) (image : Configuration) where
+  pin-placed : (x y n pintype : ℕ) → IsAt image.layout.device x y → IsAt image.layout.device (pin_with db x y n pintype).x (pin_with db x y n pintype).y
+  unfolding pin_with
+  pin-placed x y n pintype at = at
+
+  pins-placed : All (λ pin. IsAt image.layout.device pin.x pin.y) (pins_of db image)
+  unfolding pins_of
+  pins-placed =
+      All-over_tiles (λ pin. IsAt image.layout.device pin.x pin.y) image.layout.device Io (λ x y. gathered_below 2 (port_at db image x y))
+      (λ x y left low. All-gathered_below (λ pin. IsAt image.layout.device pin.x pin.y) 2 (port_at db image x y)
+      (λ n below. All-item_if (λ pin. IsAt image.layout.device pin.x pin.y) _ (pin_with db x y n _)
+      (pin-placed x y n _ (record { left = left; low = low }))))
+
   cell-placed : (x y i : ℕ) (bits : List Bool) → IsAt image.layout.device x y
       → IsAt image.layout.device (cell_with db image x y i bits).x (cell_with db image x y i bits).y
   unfolding cell_with
@@ -95,12 +110,25 @@ module _ (db : Database) (image : Configuration) where
   unfolding register_of
   register-placed lc at = at
 
-  registers-placed : All (λ register. IsAt image.layout.device register.x register.y) (registers_of (cells_of db image))
+  flips-placed : All (λ register. IsAt image.layout.device register.x register.y) (registers_of (cells_of db image))
   unfolding registers_of
-  registers-placed =
+  flips-placed =
       All-map (λ register. IsAt image.layout.device register.x register.y) register_of (filter (λ lc. lc.flip) (cells_of db image))
       (All-filter (λ lc. lc.flip) (λ lc. IsAt image.layout.device (register_of lc).x (register_of lc).y) (cells_of db image)
       (All-weaker (λ lc. IsAt image.layout.device lc.x lc.y) (λ lc. IsAt image.layout.device (register_of lc).x (register_of lc).y) register-placed (cells_of db image) cells-placed))
+
+  pin_register-placed : (inputs : List Pin) (pin : Pin) → IsAt image.layout.device pin.x pin.y
+      → IsAt image.layout.device (pin_register db image inputs pin).x (pin_register db image inputs pin).y
+  unfolding pin_register
+  pin_register-placed inputs pin at = at
+
+  pin_registers-placed : All (λ register. IsAt image.layout.device register.x register.y) (pin_registers_of db image (pins_of db image))
+  unfolding pin_registers_of
+  pin_registers-placed =
+      let made = pin_register db image (filter (λ pin. not pin.output) (pins_of db image)) in
+      All-map (λ register. IsAt image.layout.device register.x register.y) made (filter is_registered (pins_of db image))
+      (All-filter is_registered (λ pin. IsAt image.layout.device (made pin).x (made pin).y) (pins_of db image)
+      (All-weaker (λ pin. IsAt image.layout.device pin.x pin.y) (λ pin. IsAt image.layout.device (made pin).x (made pin).y) (pin_register-placed _) (pins_of db image) pins-placed))
 
   ram-placed : (x y : ℕ) → IsAt image.layout.device x y → IsAt image.layout.device (ram_at db image x y).x (ram_at db image x y).y
   unfolding ram_at
@@ -113,10 +141,15 @@ module _ (db : Database) (image : Configuration) where
       (λ x y left low. All-if (λ ram. IsAt image.layout.device ram.x ram.y) (is_ram_used db image x y) (ram_at db image x y ∷ [])
       (All-single (λ ram. IsAt image.layout.device ram.x ram.y) (ram_at db image x y) (ram-placed x y (record { left = left; low = low }))))
 
-  -- cells, registers and RAMs of a database and an image stand at places of the grid
+  -- pins, cells, registers and RAMs of a database and an image stand at places of the grid
   pub fabric-placed : IsPlaced image.layout.device (fabric_of db image)
   unfolding fabric_of
-  fabric-placed = record { lcs = cells-placed; registers = registers-placed; rams = rams-placed }
+  fabric-placed = record {
+    pins = pins-placed;
+    lcs = cells-placed;
+    registers = All-append (λ register. IsAt image.layout.device register.x register.y) (registers_of (cells_of db image)) (pin_registers_of db image (pins_of db image)) flips-placed pin_registers-placed;
+    rams = rams-placed;
+  }
 
 -- ---- clocks that agree
 
@@ -292,13 +325,15 @@ module _ (device : DeviceName) (fabric : Fabric) (taken : fabric_fault device fa
         let moved : IsConsistent fabric state two.pins one.v = subst (λ p. IsConsistent fabric state p one.v) pins (entry-raw one state of_one first) in
         let v : one.v ≡ two.v = value.only one.v moved ∙ sym (value.only two.v (entry-raw two state of_two second)) in
         let settles : one.state ≡ two.state = first ∙ (ap (λ w. settled_state fabric (bit_in w) state) v ∙ sym second) in
-        entry-same one two pins settles v (of_one.outputs ∙ (ap (output_values fabric) v ∙ sym of_two.outputs))
+        let outputs : output_values fabric one.state one.pins one.v ≡ output_values fabric two.state two.pins two.v = rw (settles, pins, v) refl in
+        entry-same one two pins settles v (of_one.outputs ∙ (outputs ∙ sym of_two.outputs))
 
     -- the entry of some pins and of what a state settles to
     entry_of : List Bool → State → Entry
     entry_of pins state =
         let v = (taken-value device fabric taken within state pins).it in
-        record { pins = pins; state = settled_state fabric (bit_in v) state; v = v; outputs = output_values fabric v }
+        let settled = settled_state fabric (bit_in v) state in
+        record { pins = pins; state = settled; v = v; outputs = output_values fabric settled pins v }
 
     entry_of-is : (pins : List Bool) (state : State) → IsEntry fabric (entry_of pins state)
     unfolding entry_of

@@ -1,8 +1,8 @@
 -- How a state settles: to settle twice is to settle once, and the values of nets don't see it.
 use Rattle.std.proofs.Common.{◌≡◌, ℕ, zero, suc, ◌+◌, ◌&&◌, Bool, true, false, List, [], ◌∷◌, map, get_or, refl, sym, ap, ◌∙◌, arith, inl, inr}
-use Rattle.std.specs.Prelude.{All, Contains, Option, Some, None, filter, flat_map, not}
+use Rattle.std.specs.Prelude.{All, Contains, Option, Some, None, filter, find, flat_map, not, if◌then◌else◌}
 use Rattle.std.proofs.lemmas.Bool.{cases_Bool}
-use Rattle.std.proofs.lemmas.List.Elements.{All-nil, All-append, All-contains, All-contains_itself, All-weaker}
+use Rattle.std.proofs.lemmas.List.Elements.{All-nil, All-cons, All-append, All-filter, All-contains, All-contains_itself, All-weaker}
 use Rattle.shared_lemmas.proofs.Lists.{map-same}
 use Rattle.net_extract.specs.declared.register.Register.{Register}
 use Rattle.net_extract.specs.declared.ram.RamCell.{RamCell}
@@ -10,13 +10,16 @@ use Rattle.net_extract.specs.declared.pin.Pin.{Pin}
 use Rattle.net_extract.specs.declared.pin.GlobalFrom.{GlobalFrom}
 use Rattle.net_extract.specs.declared.pin.GlobalFrom.TheVariants.{Pad, Fabout}
 use Rattle.net_extract.specs.declared.driver.Driver.{Driver}
+use Rattle.net_extract.specs.declared.driver.ClockUser.{ClockUser}
 use Rattle.net_extract.specs.Fabric.{Fabric, numbered_from, numbered, inputs_of}
 use Rattle.net_extract.specs.Registers.{table_of}
-use Rattle.net_extract.specs.Drivers.{Rule, Drive, drives_if, pin_drives, back_drives, lut_drives, register_drives, lout_drives, carry_drives, set_drives, ram_drive, ram_drives, global_rule, global_drives, buffer_drives, drives_of}
+use Rattle.net_extract.specs.Pins.{is_registered}
+use Rattle.net_extract.specs.Outputs.{Output, enable_outputs, pin_outputs, outputs_of}
+use Rattle.net_extract.specs.Drivers.{Rule, Drive, drives_if, drives_by, pin_drives, is_output_register, register_rule, output_rule, back_drives, lut_drives, flip_driver, flip_drives, lout_drives, carry_drives, set_drives, read_data_rule, ram_drive, ram_drives, global_rule, global_drives, buffer_drives, pin_register_driver, pin_register_drives, drives_of}
 use Rattle.net_extract.specs.Drivers.Rule.{pin_bit, constant, input, table_entry, majority_of, register_bit, read_bit, copied}
 use Rattle.net_extract.specs.Values.{State, input_or_0, settled_bit, value_of, bit_in, is_connected, IsConsistent}
-use Rattle.net_extract.specs.Steps.{settled_bits, settled_state}
-use Rattle.net_extract.proofs.Within.{All-flat_map, All-single}
+use Rattle.net_extract.specs.Steps.{settled_bits, settled_state, output_values}
+use Rattle.net_extract.proofs.Within.{All-flat_map, All-if, All-single, All-unless, HoldsOf, find-holds}
 use Rattle.net_extract.proofs.Apart.{All-every}
 
 -- ---- items at their places
@@ -73,32 +76,80 @@ module _ (fabric : Fabric) where
   each-has : {X : Type 0} (given : X → List Drive) → ((x : X) → All DriveHas (given x)) → (parts : List X) → All DriveHas (flat_map given parts)
   each-has given has parts = All-flat_map DriveHas given parts (All-every (λ x. All DriveHas (given x)) has parts)
 
-  ram_drives-has : (place : ℕ × RamCell) → All DriveHas (ram_drives place)
-  ram_drives-has place = each-has (ram_drive place) (λ port. drives_if-has _ (read_bit place.0 port.0) port.1 tt) (numbered place.1.rdata)
+  pin_drives-has : (place : ℕ × Pin) → All DriveHas (pin_drives place)
+  pin_drives-has place = All-unless DriveHas (is_registered place.1) _ (drives_if-has _ (pin_bit place.0) place.1.din tt)
 
-  registers-have : All DriveHas (flat_map register_drives (numbered fabric.registers))
-  registers-have =
-      All-flat_map DriveHas register_drives (numbered fabric.registers)
-      (All-weaker (Contains (numbered fabric.registers)) (λ (place : ℕ × Register). All DriveHas (register_drives place))
-      (λ place there. drives_if-has _ (register_bit place.0 place.1) place.1.out there) (numbered fabric.registers) (All-contains_itself (numbered fabric.registers)))
+  -- one rule or another
+  has_if : (passes : Bool) (one other : Rule) → HasRegister fabric one → HasRegister fabric other → HasRegister fabric (if passes then one else other)
+  has_if true one other of_one of_other = of_one
+  has_if false one other of_one of_other = of_other
+
+  register_rule-has : (found : Option (ℕ × Register)) → HoldsOf (Contains (numbered fabric.registers)) found → HasRegister fabric (register_rule found)
+  register_rule-has None has = tt
+  register_rule-has (Some place) has = has
+
+  -- what an output pin has
+  output_rule-has : (pin : Pin) → HasRegister fabric (output_rule fabric.registers pin)
+  output_rule-has pin =
+      let found = find (is_output_register pin) (numbered fabric.registers) in
+      has_if (is_registered pin) (register_rule found) (input false pin.dout)
+      (register_rule-has found
+      (find-holds (Contains (numbered fabric.registers)) (is_output_register pin) (numbered fabric.registers) (All-contains_itself (numbered fabric.registers))))
+      tt
+
+  ram_drives-has : (place : ℕ × RamCell) → All DriveHas (ram_drives place)
+  ram_drives-has place =
+      each-has (ram_drive place)
+      (λ port. drives_if-has _ (read_data_rule place.0 place.1.read port.0) port.1 (has_if _ (read_bit place.0 _) (constant false) tt tt)) (numbered place.1.rdata)
+
+  drives_by-has : (place : ℕ × Register) (by : Option Driver) → Contains (numbered fabric.registers) place → All DriveHas (drives_by place by)
+  drives_by-has place None there = All-nil DriveHas
+  drives_by-has place (Some by) there = drives_if-has by (register_bit place.0 place.1) place.1.out there
+
+  -- what the registers drive that are drivers of some kind
+  registers-have : (driver_of : Register → ClockUser → Option Driver)
+      → All DriveHas (flat_map (λ (place : ℕ × Register). drives_by place (driver_of place.1 place.1.user)) (numbered fabric.registers))
+  registers-have driver_of =
+      let given = λ (place : ℕ × Register). drives_by place (driver_of place.1 place.1.user) in
+      All-flat_map DriveHas given (numbered fabric.registers)
+      (All-weaker (Contains (numbered fabric.registers)) (λ (place : ℕ × Register). All DriveHas (given place))
+      (λ place there. drives_by-has place (driver_of place.1 place.1.user) there) (numbered fabric.registers) (All-contains_itself (numbered fabric.registers)))
 
   drives-have : All DriveHas (drives_of fabric)
   unfolding drives_of
   drives-have =
-      let then = All-append DriveHas in
-      then _ _ (each-has pin_drives (λ place. drives_if-has _ (pin_bit place.0) place.1.din tt) (numbered (inputs_of fabric)))
-      (then _ _ (each-has back_drives (λ pin. drives_if-has _ (input false pin.dout) pin.din tt) (filter (λ pin. pin.back) fabric.pins))
-      (then _ _ (each-has lut_drives (λ lc. drives_if-has _ (table_entry (table_of lc)) lc.out tt) (filter (λ lc. not lc.flip) fabric.lcs))
-      (then _ _ registers-have
-      (then _ _ (each-has lout_drives (λ lc. drives_if-has _ (table_entry (table_of lc)) lc.lout tt) fabric.lcs)
-      (then _ _ (each-has carry_drives (λ lc. drives_if-has _ (majority_of (get_or lc.ins 1 None) (get_or lc.ins 2 None) lc.cin) lc.cout tt) (filter (λ lc. lc.carry) fabric.lcs))
-      (then _ _ (each-has set_drives (λ set. drives_if-has _ (constant true) (Some set.net) tt) fabric.sets)
-      (then _ _ (each-has ram_drives ram_drives-has (numbered fabric.rams))
-      (then _ _ (each-has (global_drives (inputs_of fabric)) (λ global. drives_if-has _ (global_rule (inputs_of fabric) global.from) (Some global.net) (global-has (inputs_of fabric) global.from)) fabric.globals)
-      (each-has buffer_drives (λ buffer. drives_if-has _ (copied buffer.src) (Some buffer.dst) tt) fabric.buffers)))))))))
+      let joins = All-append DriveHas in
+      joins _ _ (each-has pin_drives pin_drives-has (numbered (inputs_of fabric)))
+      (joins _ _ (each-has (back_drives fabric.registers) (λ pin. drives_if-has _ (output_rule fabric.registers pin) pin.din (output_rule-has pin)) (filter (λ pin. pin.back) fabric.pins))
+      (joins _ _ (each-has lut_drives (λ lc. drives_if-has _ (table_entry (table_of lc)) lc.out tt) (filter (λ lc. not lc.flip) fabric.lcs))
+      (joins _ _ (registers-have flip_driver)
+      (joins _ _ (each-has lout_drives (λ lc. drives_if-has _ (table_entry (table_of lc)) lc.lout tt) fabric.lcs)
+      (joins _ _ (each-has carry_drives (λ lc. drives_if-has _ (majority_of (get_or lc.ins 1 None) (get_or lc.ins 2 None) lc.cin) lc.cout tt) (filter (λ lc. lc.carry) fabric.lcs))
+      (joins _ _ (each-has set_drives (λ set. drives_if-has _ (constant true) (Some set.net) tt) fabric.sets)
+      (joins _ _ (each-has ram_drives ram_drives-has (numbered fabric.rams))
+      (joins _ _ (each-has (global_drives (inputs_of fabric)) (λ global. drives_if-has _ (global_rule (inputs_of fabric) global.from) (Some global.net) (global-has (inputs_of fabric) global.from)) fabric.globals)
+      (joins _ _ (each-has buffer_drives (λ buffer. drives_if-has _ (copied buffer.src) (Some buffer.dst) tt) fabric.buffers)
+      (registers-have pin_register_driver))))))))))
 
   pub drive-has : (drive : Drive) → Contains (drives_of fabric) drive → HasRegister fabric drive.rule
   drive-has drive there = All-contains DriveHas (drives_of fabric) drive drives-have there
+
+  -- outputs that are registers are those of the fabric too
+  abbrev pub OutputHas : Output → Type 0
+  OutputHas output = HasRegister fabric output.rule
+
+  pub outputs-have : All OutputHas (outputs_of fabric)
+  unfolding outputs_of
+  outputs-have =
+      All-flat_map OutputHas (pin_outputs fabric.registers) (filter (λ pin. pin.output) fabric.pins)
+      (All-every (λ pin. All OutputHas (pin_outputs fabric.registers pin))
+      (λ pin. All-cons OutputHas (record { pin = pin; enable = false; rule = output_rule fabric.registers pin }) (enable_outputs pin) (output_rule-has pin)
+      (All-if OutputHas _ (record { pin = pin; enable = true; rule = input true pin.enable } ∷ [])
+      (All-single OutputHas (record { pin = pin; enable = true; rule = input true pin.enable }) tt)))
+      (filter (λ pin. pin.output) fabric.pins))
+
+  pub output-has : (output : Output) → Contains (outputs_of fabric) output → HasRegister fabric output.rule
+  output-has output there = All-contains OutputHas (outputs_of fabric) output outputs-have there
 
   -- ---- a state settles
 
@@ -137,6 +188,17 @@ module _ (fabric : Fabric) where
         ∙ settled-again (is_connected fabric) bit register (get_or state.bits place false)
     value-settled state pins (read_bit ram place) has = refl
     value-settled state pins (copied net) has = refl
+
+  -- and neither do the values of outputs
+  pub outputs-settled : (state : State) (pins v : List Bool)
+      → output_values fabric (settled_state fabric (bit_in v) state) pins v ≡ output_values fabric state pins v
+  unfolding output_values
+  outputs-settled state pins v =
+      let settled = λ (output : Output). value_of (is_connected fabric) (settled_state fabric (bit_in v) state) pins (bit_in v) output.rule in
+      let raw = λ (output : Output). value_of (is_connected fabric) state pins (bit_in v) output.rule in
+      map-same settled raw (outputs_of fabric)
+      (All-weaker OutputHas (λ output. settled output ≡ raw output)
+      (λ output has. value-settled (bit_in v) state pins output.rule has) (outputs_of fabric) outputs-have)
 
   -- values of nets that are consistent with a state are so with what it settles to
   pub consistent-settled : (state : State) (pins v : List Bool) → IsConsistent fabric state pins v → IsConsistent fabric (settled_state fabric (bit_in v) state) pins v

@@ -1,6 +1,6 @@
 -- The fabric of a database whose lines name nets of the device has no net past their number.
 use Rattle.std.proofs.Common.{◌≡◌, ℕ, zero, suc, ◌+◌, ◌<◌, Bool, true, false, List, [], ◌∷◌, ◌++◌, subst, inl, inr}
-use Rattle.std.specs.Prelude.{All, not, Option, Some, None, find, filter, flat_map, option_map, option_and_then, option_to_list, get_or, if◌then◌else◌}
+use Rattle.std.specs.Prelude.{All, Contains, not, Option, Some, None, find, filter, flat_map, option_map, option_and_then, option_to_list, get_or, if◌then◌else◌}
 use Rattle.std.proofs.lemmas.Bool.{cases_Bool}
 use Rattle.std.proofs.lemmas.List.Elements.{All-nil, All-cons, All-head, All-tail, All-append, All-map, All-filter, All-weaker, All-contains}
 use Rattle.place_search.proofs.Gathered.{All-gathered_below}
@@ -34,12 +34,13 @@ use Rattle.net_extract.specs.Tiles.{over_grid, over_tiles, at_kind, each_below, 
 use Rattle.net_extract.specs.Nets.{net_named}
 use Rattle.net_extract.specs.Cells.{cell_bits, cell_with, used_cell, cells_at, cells_of, set_with, sets_at, sets_of, carry_in_net}
 use Rattle.net_extract.specs.Rams.{port_net, is_ram_used, ram_at, rams_of}
-use Rattle.net_extract.specs.Pins.{pin_with, port_at, pins_of, global_fabout, global_source, source_of_global, global_pad, is_global_net, global_nets, nets_from, globals_of}
+use Rattle.net_extract.specs.Pins.{is_registered, pin_with, port_at, pins_of, global_fabout, global_source, source_of_global, global_pad, is_global_net, global_nets, nets_from, globals_of}
 use Rattle.net_extract.specs.Fabric.{Fabric, Buffer, numbered_from, numbered, joins_of, buffer_of, buffers_of, fabric_of, inputs_of}
-use Rattle.net_extract.specs.Drivers.{Rule, Drive, drives_if, pin_drives, back_drives, lut_drives, register_drives, lout_drives, carry_drives, set_drives, ram_drive, ram_drives, global_rule, global_drives, buffer_drives, drives_of, source_nets, nets_read}
+use Rattle.net_extract.specs.Drivers.{Rule, Drive, drives_if, drives_by, pin_drives, is_output_register, register_rule, output_rule, back_drives, lut_drives, flip_driver, flip_drives, lout_drives, carry_drives, set_drives, read_data_rule, ram_drive, ram_drives, global_rule, global_drives, buffer_drives, pin_register_driver, pin_register_drives, drives_of, source_nets, nets_read}
 use Rattle.net_extract.specs.Drivers.Rule.{pin_bit, constant, input, table_entry, majority_of, register_bit, read_bit, copied}
 use Rattle.net_extract.specs.Wiring.{has}
-use Rattle.net_extract.specs.Registers.{table_of, register_of, registers_of}
+use Rattle.net_extract.specs.Registers.{table_of, register_of, registers_of, pin_source, pin_register, pin_registers_of}
+use Rattle.net_extract.specs.Outputs.{Output, enable_outputs, pin_outputs, outputs_of}
 use Rattle.net_extract.specs.Within.{IsNetIn, IsPinIn, IsCellIn, IsSourceIn, IsRegisterIn, IsSetIn, IsRamIn, IsFromIn, IsGlobalIn, IsBufferIn, IsJoinIn, HasNetsIn}
 use Rattle.net_extract.proofs.Order.{has-none, has-cases}
 use Rattle.net_extract.proofs.OneValue.{IsWithin}
@@ -61,6 +62,24 @@ All-item_if P false item here = All-nil P
 pub All-if : {A : Type 0} (P : A → Type 0) (passes : Bool) (list : List A) → All P list → All P (if passes then list else [])
 All-if P true list all = all
 All-if P false list all = All-nil P
+
+pub All-unless : {A : Type 0} (P : A → Type 0) (passes : Bool) (list : List A) → All P list → All P (if passes then [] else list)
+All-unless P true list all = All-nil P
+All-unless P false list all = all
+
+-- what holds of an item that may be missing
+abbrev pub HoldsOf : {A : Type 0} → (A → Type 0) → Option A → Type 0
+HoldsOf P None = Unit {0}
+HoldsOf P (Some item) = P item
+
+-- what holds of all items holds of the one that is found
+pub find-holds : {A : Type 0} (P : A → Type 0) (test : A → Bool) (items : List A) → All P items → HoldsOf P (find test items)
+find-holds P test [] all = tt
+find-holds P test (item ∷ items) all =
+    elim (cases_Bool (test item)) [
+      | inl here ↦ rw here (All-head P item items all)
+      | inr away ↦ rw away (find-holds P test items (All-tail P item items all))
+    ]
 
 -- what holds of what each place of the grid gives
 pub All-over_grid : {A : Type 0} (P : A → Type 0) (device : DeviceName) (given : ℕ → ℕ → List A)
@@ -129,11 +148,39 @@ drives_if-in nets by rule (Some net) in' reads = All-single (IsDriveIn nets) (re
 module _ (nets : ℕ) where
   pin_drives-in : (place : ℕ × Pin) → IsPinIn nets place.1 → All (IsDriveIn nets) (pin_drives place)
   unfolding nets_read
-  pin_drives-in place in' = drives_if-in nets _ (pin_bit place.0) place.1.din in'.din (All-nil (Below nets))
+  pin_drives-in place in' =
+      All-unless (IsDriveIn nets) (is_registered place.1) _ (drives_if-in nets _ (pin_bit place.0) place.1.din in'.din (All-nil (Below nets)))
 
-  back_drives-in : (pin : Pin) → IsPinIn nets pin → All (IsDriveIn nets) (back_drives pin)
+  -- one rule or another
+  reads_if-in : (passes : Bool) (one other : Rule) → All (Below nets) (nets_read one) → All (Below nets) (nets_read other)
+      → All (Below nets) (nets_read (if passes then one else other))
+  reads_if-in true one other of_one of_other = of_one
+  reads_if-in false one other of_one of_other = of_other
+
+  register_reads-in : (place : ℕ) (register : Register) → IsRegisterIn nets register → All (Below nets) (nets_read (register_bit place register))
   unfolding nets_read
-  back_drives-in pin in' = drives_if-in nets _ (input false pin.dout) pin.din in'.din (listed-in nets pin.dout in'.dout)
+  register_reads-in place register in' = All-if (Below nets) register.at_once (option_to_list register.sr) (listed-in nets register.sr in'.sr)
+
+  register_rule-in : (found : Option (ℕ × Register)) → HoldsOf (λ (place : ℕ × Register). IsRegisterIn nets place.1) found → All (Below nets) (nets_read (register_rule found))
+  unfolding nets_read
+  register_rule-in None in' = All-nil (Below nets)
+  register_rule-in (Some place) in' = register_reads-in place.0 place.1 in'
+
+  input_reads-in : (stated : Bool) (net : Option ℕ) → IsNetIn nets net → All (Below nets) (nets_read (input stated net))
+  unfolding nets_read
+  input_reads-in stated net in' = listed-in nets net in'
+
+  output_rule-in : (registers : List Register) (pin : Pin) → All (IsRegisterIn nets) registers → IsPinIn nets pin
+      → All (Below nets) (nets_read (output_rule registers pin))
+  output_rule-in registers pin all in' =
+      let found = find (is_output_register pin) (numbered registers) in
+      reads_if-in (is_registered pin) (register_rule found) (input false pin.dout)
+      (register_rule-in found
+      (find-holds (λ (place : ℕ × Register). IsRegisterIn nets place.1) (is_output_register pin) (numbered registers) (All-numbered (IsRegisterIn nets) 0 registers all)))
+      (input_reads-in false pin.dout in'.dout)
+
+  back_drives-in : (registers : List Register) → All (IsRegisterIn nets) registers → (pin : Pin) → IsPinIn nets pin → All (IsDriveIn nets) (back_drives registers pin)
+  back_drives-in registers all pin in' = drives_if-in nets _ (output_rule registers pin) pin.din in'.din (output_rule-in registers pin all in')
 
   lut_reads-in : (lc : Lc) → IsCellIn nets lc → All (Below nets) (nets_read (table_entry (table_of lc)))
   unfolding nets_read
@@ -142,13 +189,15 @@ module _ (nets : ℕ) where
   lut_drives-in : (lc : Lc) → IsCellIn nets lc → All (IsDriveIn nets) (lut_drives lc)
   lut_drives-in lc in' = drives_if-in nets _ (table_entry (table_of lc)) lc.out in'.out (lut_reads-in lc in')
 
-  register_reads-in : (place : ℕ) (register : Register) → IsRegisterIn nets register → All (Below nets) (nets_read (register_bit place register))
-  unfolding nets_read
-  register_reads-in place register in' = All-if (Below nets) register.at_once (option_to_list register.sr) (listed-in nets register.sr in'.sr)
+  drives_by-in : (place : ℕ × Register) (by : Option Driver) → IsRegisterIn nets place.1 → All (IsDriveIn nets) (drives_by place by)
+  drives_by-in place None in' = All-nil (IsDriveIn nets)
+  drives_by-in place (Some by) in' = drives_if-in nets by (register_bit place.0 place.1) place.1.out in'.out (register_reads-in place.0 place.1 in')
 
-  register_drives-in : (place : ℕ × Register) → IsRegisterIn nets place.1 → All (IsDriveIn nets) (register_drives place)
-  register_drives-in place in' =
-      drives_if-in nets _ (register_bit place.0 place.1) place.1.out in'.out (register_reads-in place.0 place.1 in')
+  flip_drives-in : (place : ℕ × Register) → IsRegisterIn nets place.1 → All (IsDriveIn nets) (flip_drives place)
+  flip_drives-in place in' = drives_by-in place (flip_driver place.1 place.1.user) in'
+
+  pin_register_drives-in : (place : ℕ × Register) → IsRegisterIn nets place.1 → All (IsDriveIn nets) (pin_register_drives place)
+  pin_register_drives-in place in' = drives_by-in place (pin_register_driver place.1 place.1.user) in'
 
   lout_drives-in : (lc : Lc) → IsCellIn nets lc → All (IsDriveIn nets) (lout_drives lc)
   lout_drives-in lc in' = drives_if-in nets _ (table_entry (table_of lc)) lc.lout in'.lout (lut_reads-in lc in')
@@ -166,12 +215,15 @@ module _ (nets : ℕ) where
   unfolding nets_read
   set_drives-in set in' = drives_if-in nets _ (constant true) (Some set.net) in' (All-nil (Below nets))
 
-  ram_drives-in : (place : ℕ × RamCell) → IsRamIn nets place.1 → All (IsDriveIn nets) (ram_drives place)
+  read_data-in : (ram mode bit : ℕ) → All (Below nets) (nets_read (read_data_rule ram mode bit))
   unfolding nets_read
+  read_data-in ram mode bit = reads_if-in _ (read_bit ram _) (constant false) (All-nil (Below nets)) (All-nil (Below nets))
+
+  ram_drives-in : (place : ℕ × RamCell) → IsRamIn nets place.1 → All (IsDriveIn nets) (ram_drives place)
   ram_drives-in place in' =
       All-flat_map (IsDriveIn nets) (ram_drive place) (numbered place.1.rdata)
       (All-weaker (λ (port : ℕ × Option ℕ). IsNetIn nets port.1) (λ (port : ℕ × Option ℕ). All (IsDriveIn nets) (ram_drive place port))
-      (λ port here. drives_if-in nets _ (read_bit place.0 port.0) port.1 here (All-nil (Below nets)))
+      (λ port here. drives_if-in nets _ (read_data_rule place.0 place.1.read port.0) port.1 here (read_data-in place.0 place.1.read port.0))
       (numbered place.1.rdata) (All-numbered (IsNetIn nets) 0 place.1.rdata in'.rdata))
 
   global_reads-in : (pins : List Pin) (from : GlobalFrom) → IsFromIn nets from → All (Below nets) (nets_read (global_rule pins from))
@@ -203,16 +255,18 @@ module _ (fabric : Fabric) (in' : HasNetsIn fabric) where
       let nets = fabric.nets in
       let inputs = All-filter (λ pin. not pin.output) (IsPinIn nets) fabric.pins in'.pins in
       All-then _ _ (gives-in nets (λ (place : ℕ × Pin). IsPinIn nets place.1) pin_drives (pin_drives-in nets) (numbered (inputs_of fabric)) (All-numbered (IsPinIn nets) 0 (inputs_of fabric) inputs))
-      (All-then _ _ (gives-in nets (IsPinIn nets) back_drives (back_drives-in nets) _ (All-filter (λ pin. pin.back) (IsPinIn nets) fabric.pins in'.pins))
+      (All-then _ _ (gives-in nets (IsPinIn nets) (back_drives fabric.registers) (back_drives-in nets fabric.registers in'.registers) _ (All-filter (λ pin. pin.back) (IsPinIn nets) fabric.pins in'.pins))
       (All-then _ _ (gives-in nets (IsCellIn nets) lut_drives (lut_drives-in nets) _ (All-filter (λ lc. not lc.flip) (IsCellIn nets) fabric.lcs in'.lcs))
-      (All-then _ _ (gives-in nets (λ (place : ℕ × Register). IsRegisterIn nets place.1) register_drives (register_drives-in nets) (numbered fabric.registers)
+      (All-then _ _ (gives-in nets (λ (place : ℕ × Register). IsRegisterIn nets place.1) flip_drives (flip_drives-in nets) (numbered fabric.registers)
       (All-numbered (IsRegisterIn nets) 0 fabric.registers in'.registers))
       (All-then _ _ (gives-in nets (IsCellIn nets) lout_drives (lout_drives-in nets) fabric.lcs in'.lcs)
       (All-then _ _ (gives-in nets (IsCellIn nets) carry_drives (carry_drives-in nets) _ (All-filter (λ lc. lc.carry) (IsCellIn nets) fabric.lcs in'.lcs))
       (All-then _ _ (gives-in nets (IsSetIn nets) set_drives (set_drives-in nets) fabric.sets in'.sets)
       (All-then _ _ (gives-in nets (λ (place : ℕ × RamCell). IsRamIn nets place.1) ram_drives (ram_drives-in nets) (numbered fabric.rams) (All-numbered (IsRamIn nets) 0 fabric.rams in'.rams))
       (All-then _ _ (gives-in nets (IsGlobalIn nets) (global_drives (inputs_of fabric)) (global_drives-in nets (inputs_of fabric)) fabric.globals in'.globals)
-      (gives-in nets (IsBufferIn nets) buffer_drives (buffer_drives-in nets) fabric.buffers in'.buffers)))))))))
+      (All-then _ _ (gives-in nets (IsBufferIn nets) buffer_drives (buffer_drives-in nets) fabric.buffers in'.buffers)
+      (gives-in nets (λ (place : ℕ × Register). IsRegisterIn nets place.1) pin_register_drives (pin_register_drives-in nets) (numbered fabric.registers)
+      (All-numbered (IsRegisterIn nets) 0 fabric.registers in'.registers)))))))))))
 
   pub within-parts : IsWithin fabric
   within-parts = record {
@@ -221,6 +275,29 @@ module _ (fabric : Fabric) (in' : HasNetsIn fabric) where
     reads = λ drive there net reads.
         has-All (Below fabric.nets) (nets_read drive.rule) net (All-contains (IsDriveIn fabric.nets) (drives_of fabric) drive drives-in there).reads reads;
   }
+
+  -- what an output reads
+  abbrev ReadsIn : Output → Type 0
+  ReadsIn output = All (Below fabric.nets) (nets_read output.rule)
+
+  enable-in : (pin : Pin) → IsPinIn fabric.nets pin → All ReadsIn (enable_outputs pin)
+  enable-in pin in'' =
+      All-if ReadsIn _ (record { pin = pin; enable = true; rule = input true pin.enable } ∷ [])
+      (All-single ReadsIn (record { pin = pin; enable = true; rule = input true pin.enable }) (input_reads-in fabric.nets true pin.enable in''.enable))
+
+  outputs-in : All ReadsIn (outputs_of fabric)
+  unfolding outputs_of
+  outputs-in =
+      All-flat_map ReadsIn (pin_outputs fabric.registers) (filter (λ pin. pin.output) fabric.pins)
+      (All-weaker (IsPinIn fabric.nets) (λ pin. All ReadsIn (pin_outputs fabric.registers pin))
+      (λ pin of_pin. All-cons ReadsIn (record { pin = pin; enable = false; rule = output_rule fabric.registers pin }) (enable_outputs pin)
+      (output_rule-in fabric.nets fabric.registers pin in'.registers of_pin) (enable-in pin of_pin))
+      (filter (λ pin. pin.output) fabric.pins) (All-filter (λ pin. pin.output) (IsPinIn fabric.nets) fabric.pins in'.pins))
+
+  -- the nets that outputs read are nets of the fabric
+  pub outputs-within : (output : Output) → Contains (outputs_of fabric) output → (net : ℕ) → has (nets_read output.rule) net ≡ true → net < fabric.nets
+  outputs-within output there net reads =
+      has-All (Below fabric.nets) (nets_read output.rule) net (All-contains ReadsIn (outputs_of fabric) output outputs-in there) reads
 
 -- ---- the fabric of a database
 
@@ -264,7 +341,7 @@ module _ (db : Database) (image : Configuration) (fit : IsFit db) where
 
   pin_with-in : (x y n pintype : ℕ) → IsPinIn db.chip.nets (pin_with db x y n pintype)
   unfolding pin_with
-  pin_with-in x y n pintype = record { din = named-in x y _; dout = named-in x y _ }
+  pin_with-in x y n pintype = record { din = named-in x y _; dout = named-in x y _; enable = named-in x y _ }
 
   pins-in : All (IsPinIn db.chip.nets) (pins_of db image)
   unfolding pins_of
@@ -310,12 +387,42 @@ module _ (db : Database) (image : Configuration) (fit : IsFit db) where
     ins = cell_sources-in db.chip.nets lc in';
   }
 
-  registers-in : All (IsRegisterIn db.chip.nets) (registers_of (cells_of db image))
+  flips-in : All (IsRegisterIn db.chip.nets) (registers_of (cells_of db image))
   unfolding registers_of
-  registers-in =
+  flips-in =
       All-map (IsRegisterIn db.chip.nets) register_of (filter (λ lc. lc.flip) (cells_of db image))
       (All-filter (λ lc. lc.flip) (λ lc. IsRegisterIn db.chip.nets (register_of lc)) (cells_of db image)
       (All-weaker (IsCellIn db.chip.nets) (λ lc. IsRegisterIn db.chip.nets (register_of lc)) register_of-in (cells_of db image) cells-in))
+
+  pin_source-in : (inputs : List Pin) (pin : Pin) → IsPinIn db.chip.nets pin → IsSourceIn db.chip.nets (pin_source inputs pin)
+  pin_source-in inputs pin in' = elim (cases_Bool pin.output) [ inl out ↦ rw out (in'.dout) | inr goes_in ↦ rw goes_in tt ]
+
+  out-in : (pin : Pin) → IsPinIn db.chip.nets pin → IsNetIn db.chip.nets (if pin.output then None else pin.din)
+  out-in pin in' = elim (cases_Bool pin.output) [ inl out ↦ rw out tt | inr goes_in ↦ rw goes_in (in'.din) ]
+
+  sources_from-in : (source : Source) → IsSourceIn db.chip.nets source → All (IsSourceIn db.chip.nets) (source ∷ Net None ∷ Net None ∷ Net None ∷ [])
+  sources_from-in source in' =
+      let Is = IsSourceIn db.chip.nets in
+      All-cons Is source (Net None ∷ Net None ∷ Net None ∷ []) in'
+      (All-cons Is (Net None) (Net None ∷ Net None ∷ []) tt (All-cons Is (Net None) (Net None ∷ []) tt (All-single Is (Net None) tt)))
+
+  pin_register-in : (inputs : List Pin) (pin : Pin) → IsPinIn db.chip.nets pin → IsRegisterIn db.chip.nets (pin_register db image inputs pin)
+  unfolding pin_register
+  pin_register-in inputs pin in' = record {
+    out = out-in pin in';
+    clk = named-in pin.x pin.y _;
+    cen = named-in pin.x pin.y _;
+    sr = tt;
+    ins = sources_from-in (pin_source inputs pin) (pin_source-in inputs pin in');
+  }
+
+  pin_registers-in : All (IsRegisterIn db.chip.nets) (pin_registers_of db image (pins_of db image))
+  unfolding pin_registers_of
+  pin_registers-in =
+      let made = pin_register db image (filter (λ pin. not pin.output) (pins_of db image)) in
+      All-map (IsRegisterIn db.chip.nets) made (filter is_registered (pins_of db image))
+      (All-filter is_registered (λ pin. IsRegisterIn db.chip.nets (made pin)) (pins_of db image)
+      (All-weaker (IsPinIn db.chip.nets) (λ pin. IsRegisterIn db.chip.nets (made pin)) (pin_register-in _) (pins_of db image) pins-in))
 
   set_with-in : (x y : ℕ) (net : Option ℕ) → IsNetIn db.chip.nets net → All (IsSetIn db.chip.nets) (set_with x y net)
   set_with-in x y None in' = All-nil (IsSetIn db.chip.nets)
@@ -332,8 +439,8 @@ module _ (db : Database) (image : Configuration) (fit : IsFit db) where
     rdata = each-in 16 _ (λ k. port-in x y _);
     wdata = each-in 16 _ (λ k. port-in x y _);
     mask = each-in 16 _ (λ k. port-in x y _);
-    waddr = each-in 8 _ (λ k. port-in x y _);
-    raddr = each-in 8 _ (λ k. port-in x y _);
+    waddr = each-in 11 _ (λ k. port-in x y _);
+    raddr = each-in 11 _ (λ k. port-in x y _);
     wclk = port-in x y _;
     wclke = port-in x y _;
     we = port-in x y _;
@@ -384,7 +491,7 @@ module _ (db : Database) (image : Configuration) (fit : IsFit db) where
     pins = pins-in;
     globals = globals-in;
     lcs = cells-in;
-    registers = registers-in;
+    registers = All-append (IsRegisterIn db.chip.nets) (registers_of (cells_of db image)) (pin_registers_of db image (pins_of db image)) flips-in pin_registers-in;
     sets = sets-in;
     rams = rams-in;
   }

@@ -1,0 +1,2 @@
+-- numbers that are made bit by bit, the highest first
+pub mod Bits

@@ -2,7 +2,7 @@
 use Rattle.std.proofs.Common.{◌≡◌, ℕ, zero, suc, ◌+◌, ◌&&◌, Bool, true, false, List, [], ◌∷◌, map, get_or, refl, sym, ap, ◌∙◌, arith, inl, inr}
 use Rattle.std.specs.Prelude.{All, Contains, Option, Some, None, filter, find, flat_map, not, if◌then◌else◌}
 use Rattle.std.proofs.lemmas.Bool.{cases_Bool}
-use Rattle.std.proofs.lemmas.List.Elements.{All-nil, All-cons, All-append, All-filter, All-contains, All-contains_itself, All-weaker}
+use Rattle.std.proofs.lemmas.List.Elements.{All-nil, All-cons, All-append, All-contains, All-contains_itself, All-weaker}
 use Rattle.shared_lemmas.proofs.Lists.{map-same}
 use Rattle.net_extract.specs.declared.register.Register.{Register}
 use Rattle.net_extract.specs.declared.ram.RamCell.{RamCell}
@@ -15,7 +15,7 @@ use Rattle.net_extract.specs.Fabric.{Fabric, numbered_from, numbered, inputs_of}
 use Rattle.net_extract.specs.Registers.{table_of}
 use Rattle.net_extract.specs.Pins.{is_registered}
 use Rattle.net_extract.specs.Outputs.{Output, enable_outputs, pin_outputs, outputs_of}
-use Rattle.net_extract.specs.Drivers.{Rule, Drive, drives_if, drives_by, pin_drives, is_output_register, register_rule, output_rule, back_drives, lut_drives, flip_driver, flip_drives, lout_drives, carry_drives, set_drives, read_data_rule, ram_drive, ram_drives, global_rule, global_drives, buffer_drives, pin_register_driver, pin_register_drives, drives_of}
+use Rattle.net_extract.specs.Drivers.{Rule, Drive, drives_if, drives_by, pin_drives, is_output_register, register_rule, output_rule, back_drives, lut_drives, flip_driver, lout_drives, carry_drives, set_drives, read_data_rule, ram_drive, ram_drives, global_rule, global_drives, buffer_drives, pin_register_driver, drives_of}
 use Rattle.net_extract.specs.Drivers.Rule.{pin_bit, constant, input, table_entry, majority_of, register_bit, read_bit, copied}
 use Rattle.net_extract.specs.Values.{State, input_or_0, settled_bit, value_of, bit_in, is_connected, IsConsistent}
 use Rattle.net_extract.specs.Steps.{settled_bits, settled_state, output_values}

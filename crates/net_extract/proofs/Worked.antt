@@ -13,7 +13,7 @@ use Rattle.net_extract.specs.declared.driver.Driver.{Driver}
 use Rattle.net_extract.specs.declared.driver.Driver.TheVariants as driver
 use Rattle.net_extract.specs.declared.driver.ClockUser.TheVariants.{Cell, Input}
 use Rattle.net_extract.specs.declared.register.Source.TheVariants.{Net, Pin as SourcePin}
-use Rattle.net_extract.specs.declared.pin.PinKind.TheVariants.{Plain, Registered, TriState}
+use Rattle.net_extract.specs.declared.pin.PinKind.TheVariants.{Plain}
 use Rattle.net_extract.specs.declared.pin.GlobalFrom.TheVariants.{Pad, Fabout}
 use Rattle.net_extract.specs.declared.cell.Lc.{Lc}
 use Rattle.net_extract.specs.declared.register.Register.{Register}
@@ -38,7 +38,7 @@ use Rattle.net_extract.specs.Joins.{is_joined, class_of}
 use Rattle.net_extract.specs.Fabric.{numbered_from, joins_of, buffers_of, fabric_of}
 use Rattle.net_extract.specs.Registers.{table_of, register_of, registers_of, pin_register, pin_registers_of}
 use Rattle.net_extract.specs.Drivers.{drives_of, drivers_of, is_driven, nets_read, read_data_rule}
-use Rattle.net_extract.specs.Outputs.{Output, outputs_of}
+use Rattle.net_extract.specs.Outputs.{outputs_of}
 use Rattle.net_extract.specs.Drivers.{Rule}
 use Rattle.net_extract.specs.Drivers.Rule.{majority_of, register_bit, read_bit, constant, input}
 use Rattle.net_extract.specs.Values.{State, lut_value, settled_bit, value_of}

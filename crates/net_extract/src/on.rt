@@ -43,7 +43,7 @@ pub fn is_link_on(db: &ChipDb, image: &AnyImage, link: LinkLine) -> bool
 }
 
 /// A place as it is kept. For one that needs more than 32 bits there is no room.
-fn place_of(place: usize) -> Result<u32, AllocError>
+pub fn place_of(place: usize) -> Result<u32, AllocError>
     ensures { IfOk result (λ kept. kept ≡ place) }
 {
     u32::try_from(place).map_err(|_| AllocError)

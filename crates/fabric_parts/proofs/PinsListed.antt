@@ -1,18 +1,22 @@
 -- Lists over io tiles.
-use Rattle.std.proofs.Common.{◌≡◌, List, ap, sym, ◌∙◌}
-use Rattle.std.specs.Prelude.{Option, Some}
+use Rattle.std.proofs.Common.{◌≡◌, ℕ, Bool, List, ap, sym, ◌∙◌}
+use Rattle.std.specs.Prelude.{All, Option, Some}
 use Rattle.std.specs.List.{flat_map}
+use Rattle.std.proofs.lemmas.List.Elements.{All-weaker}
+use Rattle.place_search.proofs.Gathered.{All-gathered_below}
 use Rattle.place_search.specs.Places.{gathered_below, or_else}
 use Rattle.plane_map.specs.declared.tile.TileKind.TheVariants.{Io}
 use Rattle.ice_image.specs.Configuration.{Configuration}
+use Rattle.ice_image.specs.declared.any.AnyImage.{AnyImage}
 use Rattle.chipdb_reader.specs.Database.{Database}
 use Rattle.chipdb_reader.specs.declared.items.TileXy8.{TileXy8}
 use Rattle.net_extract.specs.declared.pin.Pin.{Pin}
-use Rattle.net_extract.specs.Pins.{pins_of, port_at}
+use Rattle.net_extract.specs.Pins.{is_input_read, is_port, pin_with, pins_of, pintype_of, port_at}
 use Rattle.net_extract.specs.Faults.{Fault, pins_fault, pll_faults, pin_faults}
 use Rattle.net_extract.specs.Tiles.{first_of}
-use Rattle.net_extract.specs.TilesOfKind.{tiles_of}
+use Rattle.net_extract.specs.TilesOfKind.{HasTile, tiles_of}
 use Rattle.net_extract.proofs.InOrder.{over_tiles-listed}
+use Rattle.net_extract.proofs.Within.{All-flat_map, All-item_if}
 use Rattle.fabric_parts.specs.PinFaults.{pll_at, pin_faults_in}
 
 pub pins_listed : (db : Database) (image : Configuration) (tiles : List TileXy8) → tiles ≡ tiles_of image.layout.device Io
@@ -21,6 +25,23 @@ unfolding pins_of
 pins_listed db image tiles all =
     let given : TileXy8 → List Pin = λ tile. gathered_below 2 (port_at db image tile.x tile.y) in
     ap (flat_map given) all ∙ sym (over_tiles-listed image.layout.device Io (λ x y. gathered_below 2 (port_at db image x y)))
+
+pin_with-placed : (image : AnyImage) (db : Database) (x y n pintype : ℕ) → HasTile image Io x y → HasTile image Io (pin_with db x y n pintype).x (pin_with db x y n pintype).y
+unfolding pin_with
+pin_with-placed image db x y n pintype here = here
+
+-- the ports of io tiles stand in io tiles
+pub pins_placed : (image : AnyImage) (db : Database) (of : Configuration) (tiles : List TileXy8) → All (λ (tile : TileXy8). HasTile image Io tile.x tile.y) tiles
+    → All (λ (pin : Pin). HasTile image Io pin.x pin.y) (flat_map (λ (tile : TileXy8). gathered_below 2 (port_at db of tile.x tile.y)) tiles)
+pins_placed image db of tiles each =
+    let Placed : Pin → Type 0 = λ pin. HasTile image Io pin.x pin.y in
+    let given : TileXy8 → List Pin = λ tile. gathered_below 2 (port_at db of tile.x tile.y) in
+    All-flat_map Placed given tiles
+    (All-weaker (λ (tile : TileXy8). HasTile image Io tile.x tile.y) (λ tile. All Placed (given tile))
+    (λ tile here. All-gathered_below Placed 2 (port_at db of tile.x tile.y)
+    (λ n few. All-item_if Placed (is_port (pintype_of db of tile.x tile.y n) (is_input_read db of tile.x tile.y n)) (pin_with db tile.x tile.y n (pintype_of db of tile.x tile.y n))
+    (pin_with-placed image db tile.x tile.y n (pintype_of db of tile.x tile.y n) here)))
+    tiles each)
 
 plls_listed : (db : Database) (image : Configuration) (tiles : List TileXy8) → tiles ≡ tiles_of image.layout.device Io
     → pll_faults db image ≡ flat_map (λ (tile : TileXy8). pll_at db image tile.x tile.y) tiles

@@ -12,12 +12,12 @@ use Rattle.chipdb_reader.specs.declared.items.TileXy8.{TileXy8}
 use Rattle.net_extract.specs.declared.ram.RamCell.{RamCell}
 use Rattle.net_extract.specs.Nets.{net_named}
 use Rattle.net_extract.specs.Rams.{is_ram_used, over_rams, port_net, ram_at, rams_of}
-use Rattle.net_extract.specs.Faults.{Fault, rams_fault, mode_faults, cascade_faults}
+use Rattle.net_extract.specs.Faults.{Fault, rams_fault, cascade_faults}
 use Rattle.net_extract.specs.Tiles.{first_of}
 use Rattle.net_extract.specs.TilesOfKind.{tiles_of}
 use Rattle.net_extract.proofs.InOrder.{over_tiles-listed}
 use Rattle.net_extract.proofs.Nets.{net_named-inside}
-use Rattle.fabric_parts.specs.RamFaults.{mode_at, cascade_at}
+use Rattle.fabric_parts.specs.RamFaults.{cascade_at}
 
 -- what items that pass give
 pub flat_map-filter : {A B : Type 0} (passes : A → Bool) (given : A → List B) (items : List A)
@@ -47,13 +47,6 @@ rams_listed db image used all =
     let given : TileXy8 → List RamCell = λ tile. ram_at db image tile.x tile.y ∷ [] in
     ap (flat_map given) all ∙ sym (over_rams-listed db image (λ x y. ram_at db image x y ∷ []))
 
-modes_listed : (db : Database) (image : Configuration) (used : List TileXy8) → AreUsed db image used
-    → mode_faults db image ≡ flat_map (λ (tile : TileXy8). mode_at db image tile.x tile.y) used
-unfolding mode_faults
-modes_listed db image used all =
-    let given : TileXy8 → List Fault = λ tile. mode_at db image tile.x tile.y in
-    over_rams-listed db image (mode_at db image) ∙ ap (flat_map given) (sym all)
-
 cascades_listed : (db : Database) (image : Configuration) (used : List TileXy8) → AreUsed db image used
     → cascade_faults db image ≡ flat_map (λ (tile : TileXy8). cascade_at db image tile.x tile.y) used
 unfolding cascade_faults
@@ -61,22 +54,12 @@ cascades_listed db image used all =
     let given : TileXy8 → List Fault = λ tile. cascade_at db image tile.x tile.y in
     over_rams-listed db image (cascade_at db image) ∙ ap (flat_map given) (sym all)
 
--- the first mode goes before the first cascade
-pub fault_listed : (db : Database) (image : Configuration) (used : List TileXy8) (mode cascade : Option Fault) → AreUsed db image used
-    → first_of (flat_map (λ (tile : TileXy8). mode_at db image tile.x tile.y) used) ≡ mode
+-- the first cascade is the first fault
+pub fault_listed : (db : Database) (image : Configuration) (used : List TileXy8) (cascade : Option Fault) → AreUsed db image used
     → first_of (flat_map (λ (tile : TileXy8). cascade_at db image tile.x tile.y) used) ≡ cascade
-    → rams_fault db image ≡ or_else mode cascade
+    → rams_fault db image ≡ cascade
 unfolding rams_fault
-fault_listed db image used mode cascade all mode_is cascade_is =
-    ap (λ first. or_else first (first_of (cascade_faults db image))) (ap first_of (modes_listed db image used all) ∙ mode_is)
-    ∙ ap (or_else mode) (ap first_of (cascades_listed db image used all) ∙ cascade_is)
-
-pub mode_listed : (db : Database) (image : Configuration) (used : List TileXy8) (fault : Fault) → AreUsed db image used
-    → first_of (flat_map (λ (tile : TileXy8). mode_at db image tile.x tile.y) used) ≡ Some fault
-    → rams_fault db image ≡ Some fault
-unfolding rams_fault
-mode_listed db image used fault all is =
-    ap (λ first. or_else first (first_of (cascade_faults db image))) (ap first_of (modes_listed db image used all) ∙ is)
+fault_listed db image used cascade all is = ap first_of (cascades_listed db image used all) ∙ is
 
 -- ---- ports
 

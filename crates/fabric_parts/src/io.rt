@@ -6,3 +6,4 @@ pub(crate) mod globals;
 pub(crate) mod pin;
 pub(crate) mod pintype;
 pub(crate) mod refused;
+pub(crate) mod registers;

@@ -1,5 +1,6 @@
 // Block RAMs.
 
+pub(crate) mod cascade;
 pub(crate) mod fault;
 pub(crate) mod gather;
 pub(crate) mod modes;

@@ -14,7 +14,7 @@ ghost use Rattle.fabric_parts.specs.PinFaults.{IsCause};
 
 use crate::io::fault::PinFault;
 use crate::io::globals::globals;
-use crate::io::pin::{PinSet, pin};
+use crate::io::pin::{PinSet, is_net_read, pin};
 use crate::io::pintype::{is_port, pintype};
 use crate::io::refused::{first_pll, first_refused};
 use chipdb_reader::{ChipDb, TileXy8};
@@ -30,6 +30,7 @@ pub fn pins(alloc: Global, db: &ChipDb, image: &AnyImage, links: &Links) -> Resu
     requires device { db.now.chip.device ≡ (configuration_of image.now).layout.device }
     requires links { AreLinks (database_in db.now) (configuration_of image.now) links.now }
     ensures pins { IfOk result (λ set. set.pins.items ≡ pins_of (database_in db.now) (configuration_of image.now)) }
+    ensures placed { IfOk result (λ set. All (λ pin. HasTile image.now Io pin.x pin.y) set.pins.items) }
     ensures globals { IfOk result (λ set. set.globals.items ≡ globals_of (database_in db.now) (configuration_of image.now)) }
     ensures taken { OnOk result (pins_fault (database_in db.now) (configuration_of image.now) ≡ None) }
     ensures refused { IfErr result (IsCause (pins_fault (database_in db.now) (configuration_of image.now))) }
@@ -51,13 +52,14 @@ fn pins_in(
     requires all { tiles.now ≡ tiles_of (configuration_of image.now).layout.device Io }
     requires each { All (λ tile. HasTile image.now Io tile.x tile.y) tiles.now }
     ensures pins { IfOk result (λ set. set.pins.items ≡ pins_of (database_in db.now) (configuration_of image.now)) }
+    ensures placed { IfOk result (λ set. All (λ pin. HasTile image.now Io pin.x pin.y) set.pins.items) }
     ensures globals { IfOk result (λ set. set.globals.items ≡ globals_of (database_in db.now) (configuration_of image.now)) }
     ensures taken { OnOk result (pins_fault (database_in db.now) (configuration_of image.now) ≡ None) }
     ensures refused { IfErr result (IsCause (pins_fault (database_in db.now) (configuration_of image.now))) }
 {
     taken(db, image, links, tiles)?;
     Ok(PinSet {
-        pins: ports(alloc, db, image, tiles)?,
+        pins: ports(alloc, db, image, links, tiles)?,
         globals: globals(alloc, db, image)?,
     })
 }
@@ -92,14 +94,16 @@ fn ports(
     alloc: Global,
     db: &ChipDb,
     image: &AnyImage,
+    links: &Links,
     tiles: &[TileXy8],
 ) -> Result<Vec<Pin>, AllocError>
-    requires { All (λ tile. HasTile image.now Io tile.x tile.y) tiles.now }
+    requires together { BelongTogether db.now image.now links.now }
+    requires each { All (λ tile. HasTile image.now Io tile.x tile.y) tiles.now }
     ensures { IfOk result (λ pins. pins.items ≡ flat_map (λ tile. gathered_below 2 (port_at (database_in db.now) (configuration_of image.now) tile.x tile.y)) tiles.now) }
 {
     let mut pins = Vec::new(alloc);
     for tile in tiles {
-        append_ports(&mut pins, db, image, tile.x, tile.y)?;
+        append_ports(&mut pins, db, image, links, tile.x, tile.y)?;
     }
     Ok(pins)
 }
@@ -109,14 +113,16 @@ fn append_ports(
     pins: &mut Vec<Pin>,
     db: &ChipDb,
     image: &AnyImage,
+    links: &Links,
     x: u8,
     y: u8,
 ) -> Result<(), AllocError>
-    requires { HasTile image.now Io x y }
+    requires together { BelongTogether db.now image.now links.now }
+    requires tile { HasTile image.now Io x y }
     ensures { OnOk result (pins.new.items ≡ pins.old.items ++ gathered_below 2 (port_at (database_in db.now) (configuration_of image.now) x y)) }
 {
     for n in 0..2 {
-        append_port(pins, db, image, x, y, n)?;
+        append_port(pins, db, image, links, x, y, n)?;
     }
     Ok(())
 }
@@ -126,15 +132,18 @@ fn append_port(
     pins: &mut Vec<Pin>,
     db: &ChipDb,
     image: &AnyImage,
+    links: &Links,
     x: u8,
     y: u8,
     n: u8,
 ) -> Result<(), AllocError>
-    requires { HasTile image.now Io x y }
+    requires together { BelongTogether db.now image.now links.now }
+    requires tile { HasTile image.now Io x y }
     ensures { OnOk result (pins.new.items ≡ pins.old.items ++ port_at (database_in db.now) (configuration_of image.now) x y n) }
 {
     let pintype = pintype(db, image, x, y, n);
-    if is_port(pintype) {
+    let read = is_net_read(db, links, x, y, n, b"/D_IN_0");
+    if is_port(pintype, read) {
         pins.push(pin(db, x, y, n, pintype))?;
     }
     Ok(())

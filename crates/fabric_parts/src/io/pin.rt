@@ -1,11 +1,15 @@
 // Pins.
-ghost use Rattle.std.specs.Prelude.{◌≡◌, ◌<◌, ◌≤◌, length, IfSome};
+ghost use Rattle.std.specs.Prelude.{◌≡◌, ◌≤◌, ◌&&◌, ◌||◌, length};
 ghost use Rattle.chipdb_reader.specs.Kept.{database_in};
-ghost use Rattle.net_extract.specs.Pins.{io_net, pin_with};
+ghost use Rattle.chipdb_reader.specs.Fit.{IsFit};
+ghost use Rattle.net_extract.specs.Pins.{io_net, pin_with, has_plain_output, has_registered_output, has_plain_input};
+ghost use Rattle.net_extract.specs.BelongTogether.{is_some_read_in};
 
-use crate::io::pintype::{has_plain_input, has_plain_output};
+use crate::io::pintype::{
+    has_plain_input, has_plain_output, has_registered_output, is_output_pin, kind_of,
+};
 use chipdb_reader::ChipDb;
-use net_extract::{GlobalNet, Name, Pin};
+use net_extract::{GlobalNet, Links, Name, Pin, is_some_read};
 
 /// The pins that are ports, by tile and number, and the nets of the globals 0 to 7, by global and net. Tiles go by rows, then by
 /// columns.
@@ -23,19 +27,37 @@ pub(crate) fn io_net(db: &ChipDb, x: u8, y: u8, n: u8, port: &[u8]) -> Option<u3
     db.net_of(x, y, Name::with_number(b"io_", n, port).bytes())
 }
 
+/// Whether the net of a port of pin `n` is read.
+pub(crate) fn is_net_read(db: &ChipDb, links: &Links, x: u8, y: u8, n: u8, port: &[u8]) -> bool
+    requires fit { IsFit (database_in db.now) }
+    requires nets { length links.now.classes ≡ db.now.chip.nets }
+    requires short { length port.now ≤ 20 }
+    ensures { result ≡ is_some_read_in links.now (io_net (database_in db.now) x y n port.now) }
+{
+    is_some_read(links, io_net(db, x, y, n, port))
+}
+
+/// Whether the value of an output pin of a type can be read in the fabric.
+fn can_be_read(pintype: u8) -> bool
+    ensures { result ≡ ((has_plain_output pintype || has_registered_output pintype) && has_plain_input pintype) }
+{
+    (has_plain_output(pintype) || has_registered_output(pintype)) && has_plain_input(pintype)
+}
+
 /// Pin `n` of the tile at (x, y), which has that type.
 #[tactic(auto, unfolding(net_extract::specs::Pins::pin_with))]
 pub(crate) fn pin(db: &ChipDb, x: u8, y: u8, n: u8, pintype: u8) -> Pin
     ensures { result ≡ pin_with (database_in db.now) x y n pintype }
 {
-    let output = has_plain_output(pintype);
     Pin {
         x,
         y,
         n,
-        output,
-        back: output && has_plain_input(pintype),
+        kind: kind_of(pintype),
+        output: is_output_pin(pintype),
+        back: can_be_read(pintype),
         din: io_net(db, x, y, n, b"/D_IN_0"),
         dout: io_net(db, x, y, n, b"/D_OUT_0"),
+        enable: io_net(db, x, y, n, b"/OUT_ENB"),
     }
 }

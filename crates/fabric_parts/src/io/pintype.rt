@@ -3,12 +3,12 @@ ghost use Rattle.std.specs.Prelude.{◌≡◌, ◌<◌};
 ghost use Rattle.plane_map.specs.declared.tile.TileKind.TheVariants.{Io};
 ghost use Rattle.ice_image.specs.Either.{configuration_of};
 ghost use Rattle.chipdb_reader.specs.Kept.{database_in};
-ghost use Rattle.net_extract.specs.Pins.{pintype_of, pintype_bit, has_no_output, has_plain_output, has_plain_input, is_input_pin, is_port};
+ghost use Rattle.net_extract.specs.Pins.{pintype_of, pintype_bit, has_no_output, has_plain_output, has_registered_output, has_tri_state_output, has_plain_input, has_registered_input, is_plain_input, is_registered_input, is_output_pin, is_port, kind_of};
 ghost use Rattle.net_extract.specs.TilesOfKind.{HasTile};
 
 use chipdb_reader::ChipDb;
 use ice_image::AnyImage;
-use net_extract::{Name, is_on};
+use net_extract::{Name, PinKind, is_on};
 use plane_map::TileKind;
 
 /// The type of pin `n` of the io tile at (x, y): a number of six bits.
@@ -54,6 +54,20 @@ pub(crate) fn has_plain_output(pintype: u8) -> bool
     pintype / 4 == 0b0110
 }
 
+/// Whether a type has a registered output.
+pub(crate) fn has_registered_output(pintype: u8) -> bool
+    ensures { result ≡ has_registered_output pintype }
+{
+    pintype / 4 == 0b0101
+}
+
+/// Whether a type has an output that can be switched off.
+pub(crate) fn has_tri_state_output(pintype: u8) -> bool
+    ensures { result ≡ has_tri_state_output pintype }
+{
+    pintype / 4 == 0b1010
+}
+
 /// Whether a type has an input that isn't registered.
 pub(crate) fn has_plain_input(pintype: u8) -> bool
     ensures { result ≡ has_plain_input pintype }
@@ -61,16 +75,50 @@ pub(crate) fn has_plain_input(pintype: u8) -> bool
     pintype % 4 == 0b01
 }
 
-/// Whether a pin of a type is an input pin.
-pub(crate) fn is_input_pin(pintype: u8) -> bool
-    ensures { result ≡ is_input_pin pintype }
+/// Whether a type has a registered input.
+fn has_registered_input(pintype: u8) -> bool
+    ensures { result ≡ has_registered_input pintype }
+{
+    pintype % 4 == 0b00
+}
+
+/// Whether a pin of a type is an input pin without a register.
+pub(crate) fn is_plain_input(pintype: u8) -> bool
+    ensures { result ≡ is_plain_input pintype }
 {
     has_no_output(pintype) && has_plain_input(pintype)
 }
 
-/// Whether a pin of a type is a port: an input pin or an output pin.
-pub(crate) fn is_port(pintype: u8) -> bool
-    ensures { result ≡ is_port pintype }
+/// Whether a pin of a type is a registered input pin, once it is read.
+pub(crate) fn is_registered_input(pintype: u8) -> bool
+    ensures { result ≡ is_registered_input pintype }
 {
-    is_input_pin(pintype) || has_plain_output(pintype)
+    has_no_output(pintype) && has_registered_input(pintype)
+}
+
+/// Whether a pin of a type is an output pin.
+pub(crate) fn is_output_pin(pintype: u8) -> bool
+    ensures { result ≡ is_output_pin pintype }
+{
+    has_plain_output(pintype) || (has_registered_output(pintype) || has_tri_state_output(pintype))
+}
+
+/// Whether a pin of a type, whose input is read or isn't, is a port: an input pin or an output pin.
+pub(crate) fn is_port(pintype: u8, read: bool) -> bool
+    ensures { result ≡ is_port pintype read }
+{
+    is_plain_input(pintype) || ((is_registered_input(pintype) && read) || is_output_pin(pintype))
+}
+
+/// The kind of a pin of a type.
+pub(crate) fn kind_of(pintype: u8) -> PinKind
+    ensures { result ≡ kind_of pintype }
+{
+    if has_registered_output(pintype) || is_registered_input(pintype) {
+        PinKind::Registered
+    } else if has_tri_state_output(pintype) {
+        PinKind::TriState
+    } else {
+        PinKind::Plain
+    }
 }

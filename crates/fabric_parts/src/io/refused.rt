@@ -1,10 +1,10 @@
 // Pins and tiles that aren't taken.
-ghost use Rattle.std.specs.Prelude.{◌≡◌, ◌≤◌, ◌||◌, ◌&&◌, not, codes, length, All};
+ghost use Rattle.std.specs.Prelude.{◌≡◌, ◌||◌, ◌&&◌, not, codes, length, All};
 ghost use Rattle.std.specs.List.{flat_map};
 ghost use Rattle.plane_map.specs.declared.tile.TileKind.TheVariants.{Io};
 ghost use Rattle.ice_image.specs.Either.{configuration_of};
 ghost use Rattle.chipdb_reader.specs.Kept.{database_in};
-ghost use Rattle.net_extract.specs.Pins.{has_no_output, has_plain_output, has_plain_input, is_input_pin, is_port, io_net, is_global_pad, is_pin_at, is_refused_with};
+ghost use Rattle.net_extract.specs.Pins.{has_no_output, has_tri_state_output, has_plain_input, is_plain_input, is_registered_input, is_output_pin, is_port, io_net, is_global_pad, is_pin_at, is_refused_with};
 ghost use Rattle.net_extract.specs.On.{is_function_on};
 ghost use Rattle.chipdb_reader.specs.Fit.{IsFit};
 ghost use Rattle.net_extract.specs.Tiles.{first_of};
@@ -14,13 +14,14 @@ ghost use Rattle.fabric_parts.specs.Globals.{AreOneDevice};
 ghost use Rattle.fabric_parts.specs.PinFaults.{pll_at, pin_faults_in, pll_fault, pin_fault};
 
 use crate::io::globals::global_pad;
-use crate::io::pin::io_net;
+use crate::io::pin::is_net_read;
 use crate::io::pintype::{
-    has_no_output, has_plain_input, has_plain_output, is_input_pin, is_port, pintype,
+    has_no_output, has_plain_input, has_tri_state_output, is_output_pin, is_plain_input, is_port,
+    is_registered_input, pintype,
 };
 use chipdb_reader::{ChipDb, PinXy, TileXy8};
 use ice_image::AnyImage;
-use net_extract::{Links, is_any_on, is_on, is_some_read};
+use net_extract::{Links, is_any_on, is_on};
 use plane_map::TileKind;
 
 /// Pin `n` of the tile at (x, y), and its type.
@@ -85,45 +86,58 @@ fn is_refused(db: &ChipDb, image: &AnyImage, links: &Links, pin: TypedPin) -> bo
     requires tile { HasTile image.now Io pin.x pin.y }
     ensures { result ≡ is_refused_with (database_in db.now) (configuration_of image.now) pin.x pin.y pin.n pin.pintype }
 {
-    has_other_output(pin.pintype)
-        || has_read_input(db, links, pin)
-        || is_net_read(db, links, pin, b"/D_IN_1")
-        || is_odd_pad(db, image, pin)
-        || is_differential(db, image, pin)
+    let read = is_net_read(db, links, pin.x, pin.y, pin.n, b"/D_IN_0");
+    is_type_refused(pin.pintype, read) || is_place_refused(db, image, links, pin, read)
 }
 
-/// Whether a type has another output than a plain one.
+/// Whether a type has another output than those that are taken.
 fn has_other_output(pintype: u8) -> bool
-    ensures { result ≡ not (has_no_output pintype || has_plain_output pintype) }
+    ensures { result ≡ not (has_no_output pintype || is_output_pin pintype) }
 {
-    !(has_no_output(pintype) || has_plain_output(pintype))
+    !(has_no_output(pintype) || is_output_pin(pintype))
 }
 
-/// Whether the input is read and isn't a plain one.
-fn has_read_input(db: &ChipDb, links: &Links, pin: TypedPin) -> bool
-    requires fit { IsFit (database_in db.now) }
-    requires nets { length links.now.classes ≡ db.now.chip.nets }
-    ensures { result ≡ (not (has_plain_input pin.pintype) && is_some_read_in links.now (io_net (database_in db.now) pin.x pin.y pin.n (codes "/D_IN_0"))) }
+/// Whether the input of a pin of a type is read, and is neither a plain nor a registered one.
+fn is_oddly_read(pintype: u8, read: bool) -> bool
+    ensures { result ≡ (read && not (has_plain_input pintype || is_registered_input pintype)) }
 {
-    !has_plain_input(pin.pintype) && is_net_read(db, links, pin, b"/D_IN_0")
+    read && !(has_plain_input(pintype) || is_registered_input(pintype))
 }
 
-/// Whether the net of a port of a pin is read.
-fn is_net_read(db: &ChipDb, links: &Links, pin: TypedPin, port: &[u8]) -> bool
-    requires fit { IsFit (database_in db.now) }
-    requires nets { length links.now.classes ≡ db.now.chip.nets }
-    requires short { length port.now ≤ 20 }
-    ensures { result ≡ is_some_read_in links.now (io_net (database_in db.now) pin.x pin.y pin.n port.now) }
+/// Whether a pin isn't taken by its type, and by whether its input is read.
+fn is_type_refused(pintype: u8, read: bool) -> bool
+    ensures { result ≡ (not (has_no_output pintype || is_output_pin pintype) || ((read && not (has_plain_input pintype || is_registered_input pintype)) || (has_tri_state_output pintype && read))) }
 {
-    is_some_read(links, io_net(db, pin.x, pin.y, pin.n, port))
+    has_other_output(pintype)
+        || (is_oddly_read(pintype, read) || (has_tri_state_output(pintype) && read))
 }
 
-/// Whether a pin is the pad of a global that its pad drives, and isn't an input pin.
+/// Whether a pin isn't taken by where it stands.
+fn is_place_refused(
+    db: &ChipDb,
+    image: &AnyImage,
+    links: &Links,
+    pin: TypedPin,
+    read: bool,
+) -> bool
+    requires together { BelongTogether db.now image.now links.now }
+    requires tile { HasTile image.now Io pin.x pin.y }
+    ensures {
+        result ≡ (is_some_read_in links.now (io_net (database_in db.now) pin.x pin.y pin.n (codes "/D_IN_1"))
+        || ((is_global_pad (database_in db.now) (configuration_of image.now) pin.x pin.y pin.n && not (is_plain_input pin.pintype))
+        || (is_port pin.pintype read && is_function_on (database_in db.now) (configuration_of image.now) Io pin.x pin.y (codes "IoCtrl.LVDS"))))
+    }
+{
+    is_net_read(db, links, pin.x, pin.y, pin.n, b"/D_IN_1")
+        || (is_odd_pad(db, image, pin) || is_differential(db, image, pin, read))
+}
+
+/// Whether a pin is the pad of a global that its pad drives, and isn't a plain input pin.
 fn is_odd_pad(db: &ChipDb, image: &AnyImage, pin: TypedPin) -> bool
     requires { AreOneDevice db.now image.now }
-    ensures { result ≡ (is_global_pad (database_in db.now) (configuration_of image.now) pin.x pin.y pin.n && not (is_input_pin pin.pintype)) }
+    ensures { result ≡ (is_global_pad (database_in db.now) (configuration_of image.now) pin.x pin.y pin.n && not (is_plain_input pin.pintype)) }
 {
-    is_global_pad(db, image, pin.x, pin.y, pin.n) && !is_input_pin(pin.pintype)
+    is_global_pad(db, image, pin.x, pin.y, pin.n) && !is_plain_input(pin.pintype)
 }
 
 /// Whether a pin is the pad of a global that its pad drives.
@@ -150,9 +164,9 @@ fn is_pin_at(x: u8, y: u8, n: u8, pad: Option<PinXy>) -> bool
 }
 
 /// Whether a pin is a port in a tile with differential inputs.
-fn is_differential(db: &ChipDb, image: &AnyImage, pin: TypedPin) -> bool
+fn is_differential(db: &ChipDb, image: &AnyImage, pin: TypedPin, read: bool) -> bool
     requires { HasTile image.now Io pin.x pin.y }
-    ensures { result ≡ (is_port pin.pintype && is_function_on (database_in db.now) (configuration_of image.now) Io pin.x pin.y (codes "IoCtrl.LVDS")) }
+    ensures { result ≡ (is_port pin.pintype read && is_function_on (database_in db.now) (configuration_of image.now) Io pin.x pin.y (codes "IoCtrl.LVDS")) }
 {
-    is_port(pin.pintype) && is_on(db, image, TileKind::Io, pin.x, pin.y, b"IoCtrl.LVDS")
+    is_port(pin.pintype, read) && is_on(db, image, TileKind::Io, pin.x, pin.y, b"IoCtrl.LVDS")
 }

@@ -7,8 +7,6 @@ use std::alloc::AllocError;
 /// RAM is named by its lower tile.
 #[derive(Clone, Copy, Debug, PartialEq, Eq)]
 pub enum RamFault {
-    /// The words of the RAM at (x, y) have another width than 16 where they are read or written: a mode isn't 0.
-    Mode { x: u8, y: u8, read: u8, write: u8 },
     /// The RAM at (x, y) passes on its address.
     Cascade { x: u8, y: u8 },
     /// Out of memory. It may come in place of any other answer.

@@ -12,7 +12,7 @@ ghost use Rattle.fabric_parts.specs.Rams.{HasRam};
 ghost use Rattle.fabric_parts.specs.RamFaults.{IsCause};
 
 use crate::ram::fault::RamFault;
-use crate::ram::modes::{first_cascaded, first_narrow};
+use crate::ram::cascade::first_cascaded;
 use crate::ram::ram::ram;
 use crate::ram::used::used_rams;
 use chipdb_reader::{ChipDb, TileXy8};
@@ -66,20 +66,12 @@ fn taken(db: &ChipDb, image: &AnyImage, used: &[TileXy8]) -> Result<(), RamFault
     ensures taken { OnOk result (rams_fault (database_in db.now) (configuration_of image.now) ≡ None) }
     ensures refused { IfErr result (IsCause (rams_fault (database_in db.now) (configuration_of image.now))) }
 {
-    match first_narrow(db, image, used) {
-        Some(modes) => Err(RamFault::Mode {
-            x: modes.x,
-            y: modes.y,
-            read: modes.read,
-            write: modes.write,
+    match first_cascaded(db, image, used) {
+        Some(tile) => Err(RamFault::Cascade {
+            x: tile.x,
+            y: tile.y,
         }),
-        None => match first_cascaded(db, image, used) {
-            Some(tile) => Err(RamFault::Cascade {
-                x: tile.x,
-                y: tile.y,
-            }),
-            None => Ok(()),
-        },
+        None => Ok(()),
     }
 }
 

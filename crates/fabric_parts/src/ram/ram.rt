@@ -5,6 +5,7 @@ ghost use Rattle.chipdb_reader.specs.Kept.{database_in};
 ghost use Rattle.net_extract.specs.Rams.{is_port_inverted, ram_at};
 ghost use Rattle.fabric_parts.specs.Rams.{HasRam};
 
+use crate::ram::modes::{read_mode, write_mode};
 use crate::ram::ports::{numbered_nets, port_net};
 use chipdb_reader::ChipDb;
 use ice_image::AnyImage;
@@ -20,6 +21,8 @@ pub(crate) fn ram(db: &ChipDb, image: &AnyImage, x: u8, y: u8) -> RamCell
     RamCell {
         x,
         y,
+        read: read_mode(db, image, x, y),
+        write: write_mode(db, image, x, y),
         wneg: is_inverted(db, image, x, y, b"ram/WCLK"),
         rneg: is_inverted(db, image, x, y, b"ram/RCLK"),
         rdata: numbered_nets(db, x, y, b"ram/RDATA_"),

@@ -8,7 +8,7 @@ use Rattle.net_extract.specs.Tiles.{first_of}
 use Rattle.net_extract.specs.Rams.{is_cascaded}
 use Rattle.net_extract.proofs.InOrder.{none_listed-more, first_of-flat_map, gathered-all, item_if-item, item_if-none}
 use Rattle.fabric_parts.specs.RamFaults.{cascade_at}
-use Rattle.fabric_parts.proofs.ram.modes.first_cascaded.Goals as goal
+use Rattle.fabric_parts.proofs.ram.cascade.first_cascaded.Goals as goal
 
 pub loop-ram-preserved : goal.loop-ram-preserved
 loop-ram-preserved c =

@@ -1,0 +1,36 @@
+// RAMs that pass on their addresses, which aren't taken.
+ghost use Rattle.std.specs.Prelude.{◌≡◌, All};
+ghost use Rattle.std.specs.List.{flat_map};
+ghost use Rattle.ice_image.specs.Either.{configuration_of};
+ghost use Rattle.chipdb_reader.specs.Kept.{database_in};
+ghost use Rattle.net_extract.specs.Rams.{is_cascaded};
+ghost use Rattle.net_extract.specs.Tiles.{first_of};
+ghost use Rattle.fabric_parts.specs.Rams.{HasRam};
+ghost use Rattle.fabric_parts.specs.RamFaults.{cascade_at, cascade_fault};
+
+use chipdb_reader::{ChipDb, TileXy8};
+use ice_image::AnyImage;
+use net_extract::is_any_on;
+use plane_map::TileKind;
+
+/// The first RAM that passes on its address.
+pub(crate) fn first_cascaded(db: &ChipDb, image: &AnyImage, rams: &[TileXy8]) -> Option<TileXy8>
+    requires { All (λ tile. HasRam image.now tile.x tile.y) rams.now }
+    ensures { first_of (flat_map (λ tile. cascade_at (database_in db.now) (configuration_of image.now) tile.x tile.y) rams.now) ≡ cascade_fault result }
+{
+    for ram in rams {
+        if is_cascaded(db, image, ram.x, ram.y) {
+            return Some(*ram);
+        }
+    }
+    None
+}
+
+/// Whether a RAM passes on its address.
+fn is_cascaded(db: &ChipDb, image: &AnyImage, x: u8, y: u8) -> bool
+    requires { HasRam image.now x y }
+    ensures { result ≡ is_cascaded (database_in db.now) (configuration_of image.now) x y }
+{
+    is_any_on(db, image, TileKind::RamB, x, y, b"RamCascade.")
+        || is_any_on(db, image, TileKind::RamT, x, y + 1, b"RamCascade.")
+}

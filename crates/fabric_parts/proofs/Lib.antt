@@ -12,3 +12,5 @@ pub mod PinsListed
 pub mod Upper
 -- lists over used RAMs
 pub mod RamsListed
+-- the registers of pins are those of the pins that are registered
+pub mod RegistersListed

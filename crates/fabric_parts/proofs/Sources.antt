@@ -5,13 +5,18 @@ use Rattle.place_search.specs.Places.{gathered_below}
 use Rattle.place_search.proofs.Places.{gathered_below-more}
 use Rattle.net_extract.specs.Tiles.{item_if}
 
--- five tests in a row
-pub five_tests : (a b c d e : Bool) → ((((a || b) || c) || d) || e) ≡ (a || (b || (c || (d || e))))
-five_tests true b c d e = refl
-five_tests false true c d e = refl
-five_tests false false true d e = refl
-five_tests false false false true e = refl
-five_tests false false false false e = refl
+-- six tests in a row, of which the first two and the last are made before the others
+pub six_tests : (a b c d e f : Bool) → ((a || (b || f)) || (c || (d || e))) ≡ (a || (b || (c || (d || (e || f)))))
+six_tests true b c d e f = refl
+six_tests false true c d e f = refl
+six_tests false false true d e true = refl
+six_tests false false true d e false = refl
+six_tests false false false true e true = refl
+six_tests false false false true e false = refl
+six_tests false false false false true true = refl
+six_tests false false false false true false = refl
+six_tests false false false false false true = refl
+six_tests false false false false false false = refl
 
 -- two tests in a row, of which the second is made where the first fails
 pub first_passes : (a b value : Bool) → a ≡ true → value ≡ true → value ≡ (a || b)

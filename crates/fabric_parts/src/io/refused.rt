@@ -113,20 +113,12 @@ fn is_type_refused(pintype: u8, read: bool) -> bool
 }
 
 /// Whether a pin isn't taken by where it stands.
-fn is_place_refused(
-    db: &ChipDb,
-    image: &AnyImage,
-    links: &Links,
-    pin: TypedPin,
-    read: bool,
-) -> bool
+fn is_place_refused(db: &ChipDb, image: &AnyImage, links: &Links, pin: TypedPin, read: bool) -> bool
     requires together { BelongTogether db.now image.now links.now }
     requires tile { HasTile image.now Io pin.x pin.y }
-    ensures {
-        result ≡ (is_some_read_in links.now (io_net (database_in db.now) pin.x pin.y pin.n (codes "/D_IN_1"))
+    ensures { result ≡ (is_some_read_in links.now (io_net (database_in db.now) pin.x pin.y pin.n (codes "/D_IN_1"))
         || ((is_global_pad (database_in db.now) (configuration_of image.now) pin.x pin.y pin.n && not (is_plain_input pin.pintype))
-        || (is_port pin.pintype read && is_function_on (database_in db.now) (configuration_of image.now) Io pin.x pin.y (codes "IoCtrl.LVDS"))))
-    }
+        || (is_port pin.pintype read && is_function_on (database_in db.now) (configuration_of image.now) Io pin.x pin.y (codes "IoCtrl.LVDS")))) }
 {
     is_net_read(db, links, pin.x, pin.y, pin.n, b"/D_IN_1")
         || (is_odd_pad(db, image, pin) || is_differential(db, image, pin, read))

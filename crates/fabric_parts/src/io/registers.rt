@@ -106,7 +106,12 @@ fn pin_register(
         at_once: false,
         table: Table {
             word: SAME,
-            ins: [source, Source::Net(None), Source::Net(None), Source::Net(None)],
+            ins: [
+                source,
+                Source::Net(None),
+                Source::Net(None),
+                Source::Net(None),
+            ],
         },
     })
 }

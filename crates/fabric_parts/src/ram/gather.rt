@@ -11,8 +11,8 @@ ghost use Rattle.net_extract.specs.TilesOfKind.{tiles_of};
 ghost use Rattle.fabric_parts.specs.Rams.{HasRam};
 ghost use Rattle.fabric_parts.specs.RamFaults.{IsCause};
 
-use crate::ram::fault::RamFault;
 use crate::ram::cascade::first_cascaded;
+use crate::ram::fault::RamFault;
 use crate::ram::ram::ram;
 use crate::ram::used::used_rams;
 use chipdb_reader::{ChipDb, TileXy8};

@@ -28,7 +28,7 @@ WritesNarrow connected bit ram words =
     → input_or_1 connected bit ram.wclke ≡ true → input_or_0 connected bit ram.we ≡ true
     → (address d : ℕ) → address < 256 * share ram.write → d < 16 / share ram.write
     → narrow_in ram.write (next_words connected bit ram words) address d
-    ≡ (if address == narrow_address connected bit ram.write ram.waddr then written_data connected bit ram d else narrow_in ram.write words address d)
+      ≡ (if address == narrow_address connected bit ram.write ram.waddr then written_data connected bit ram d else narrow_in ram.write words address d)
 
 -- at a read edge of a narrow mode with both enables, bit `share * d` of the read register becomes bit d of the narrow word at the address
 abbrev pub ReadsNarrow : (ℕ → Bool) → (ℕ → Bool) → RamCell → List (List Bool) → List Bool → Type 0
@@ -37,7 +37,7 @@ ReadsNarrow connected bit ram words register =
     → input_or_1 connected bit ram.rclke ≡ true → input_or_0 connected bit ram.re ≡ true
     → (d : ℕ) → d < 16 / share ram.read
     → get_or (next_register connected bit ram words register) (share ram.read * d) false
-    ≡ narrow_in ram.read words (narrow_address connected bit ram.read ram.raddr) d
+      ≡ narrow_in ram.read words (narrow_address connected bit ram.read ram.raddr) d
 
 -- at a read edge without both enables the read register stays
 abbrev pub KeepsRegister : (ℕ → Bool) → (ℕ → Bool) → RamCell → List (List Bool) → List Bool → Type 0

@@ -5,6 +5,7 @@
 //!
 //! No call takes memory, and none refuses.
 #![tactic(auto)]
+
 ghost use Rattle.std.specs.Prelude.{◌≡◌, ℕ, ◌+◌, ◌*◌, ◌/◌, ◌^◌, ◌<◌, ◌≤◌, length, get_or};
 ghost use Rattle.rams_narrow.specs.Narrow.{share, bit_at, put_bit, got_bit, narrow_bit};
 
@@ -37,7 +38,11 @@ fn put_bit(mode: u8, word: u16, high: u8, value: u16, b: u8) -> bool
     ensures { result ≡ put_bit mode (bit_at word) high (bit_at value) b }
 {
     let share = share(mode);
-    if b % share == high { bit_at(value, b / share) } else { bit_at(word, b) }
+    if b % share == high {
+        bit_at(value, b / share)
+    } else {
+        bit_at(word, b)
+    }
 }
 
 /// Bit `b` of what is got of the narrow word of high part `high`.
@@ -47,7 +52,11 @@ fn got_bit(mode: u8, word: u16, high: u8, b: u8) -> bool
     requires few { b < 16 }
     ensures { result ≡ got_bit mode (bit_at word) high b }
 {
-    if b % share(mode) == 0 { bit_at(word, b + high) } else { false }
+    if b % share(mode) == 0 {
+        bit_at(word, b + high)
+    } else {
+        false
+    }
 }
 
 /// The word in which the narrow word of high part `high` is put.
@@ -95,3 +104,6 @@ pub fn narrow(mode: u8, words: &[u16], address: u16) -> u16
     }
     result
 }
+
+#[cfg(test)]
+mod tests;

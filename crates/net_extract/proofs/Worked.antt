@@ -11,9 +11,9 @@ use Rattle.chipdb_lines.specs.Items.{FunctionLine, NameLine}
 use Rattle.chipdb_reader.specs.Database.{Database, Link}
 use Rattle.net_extract.specs.declared.driver.Driver.{Driver}
 use Rattle.net_extract.specs.declared.driver.Driver.TheVariants as driver
-use Rattle.net_extract.specs.declared.driver.ClockUser.TheVariants.{Cell, Input}
+use Rattle.net_extract.specs.declared.driver.ClockUser.TheVariants.{Cell, Input, Output as UsedByOutput}
 use Rattle.net_extract.specs.declared.register.Source.TheVariants.{Net, Pin as SourcePin}
-use Rattle.net_extract.specs.declared.pin.PinKind.TheVariants.{Plain}
+use Rattle.net_extract.specs.declared.pin.PinKind.TheVariants.{Plain, Registered}
 use Rattle.net_extract.specs.declared.pin.GlobalFrom.TheVariants.{Pad, Fabout}
 use Rattle.net_extract.specs.declared.cell.Lc.{Lc}
 use Rattle.net_extract.specs.declared.register.Register.{Register}
@@ -345,6 +345,27 @@ switched : map {B = Bool × Rule} (λ output. (output.enable, output.rule))
     ≡ (false, input false (Some 3)) ∷ (true, input true None) ∷ []
 unfolding database_a image_with digits word_bits word_of bytes_of blank flat rows_of row_from rows_from kind_of start_in standard_widths standard_side_columns standard_pad_columns standard_pad_rows standard_banks place_of word_place_of any_below least_below last_below first_below gathered_below net_at names_of_net function_place extra_place input_of pad_of are_set is_link_on is_function_on is_any_on is_extra_on over_grid is_read cell_places cell_bits entry_bits cell_with cells_at cells_of register_of registers_of pin_register pin_registers_of sets_of is_ram_used ram_at rams_of start_words pintype_of pin_with pins_of global_nets globals_of is_refused_with is_joined class_of numbered_from joins_of buffers_of fabric_of drives_of drivers_of is_driven nets_read lut_value settled_bit value_of next_bit written shown next_words next_register state_after settled_state outputs_of output_values wiring_of has leads_below is_on_cycle turn_at end_within clock_end users_of device_faults pll_faults pin_faults cascade_faults driver_faults loop_faults clock_faults pins_fault rams_fault fabric_fault design_fault
 switched = refl
+
+-- a registered output has the value of its register, which takes what is given to the pin and has no clock here
+registered_output : outputs_of (fabric_of database_a (image_with (at 0 1 0 0 ∷ at 0 2 0 0 ∷ at 0 2 2 0 ∷ at 0 2 4 0 ∷ at 0 2 6 0 ∷ (lut_i ++ at 1 1 2 0 ∷ [])))) ≡ record {
+  pin = record { x = 0; y = 2; n = 0; kind = Registered; output = true; back = true; din = None; dout = Some 3; enable = None };
+  enable = false;
+  rule = register_bit 0 (record {
+    x = 0;
+    y = 2;
+    user = UsedByOutput 0;
+    out = None;
+    clk = None;
+    neg = false;
+    cen = None;
+    sr = None;
+    «set» = false;
+    at_once = false;
+    table = record { word = 43690; ins = Net (Some 3) ∷ Net None ∷ Net None ∷ Net None ∷ [] };
+  });
+} ∷ []
+unfolding database_a image_with digits word_bits word_of bytes_of blank flat rows_of row_from rows_from kind_of start_in standard_widths standard_side_columns standard_pad_columns standard_pad_rows standard_banks place_of word_place_of any_below least_below last_below first_below gathered_below net_at names_of_net function_place extra_place input_of pad_of are_set is_link_on is_function_on is_any_on is_extra_on over_grid is_read cell_places cell_bits entry_bits cell_with cells_at cells_of register_of registers_of pin_register pin_registers_of sets_of is_ram_used ram_at rams_of start_words pintype_of pin_with pins_of global_nets globals_of is_refused_with is_joined class_of numbered_from joins_of buffers_of fabric_of drives_of drivers_of is_driven nets_read lut_value settled_bit value_of next_bit written shown next_words next_register state_after settled_state outputs_of output_values wiring_of has leads_below is_on_cycle turn_at end_within clock_end users_of device_faults pll_faults pin_faults cascade_faults driver_faults loop_faults clock_faults pins_fault rams_fault fabric_fault design_fault
+registered_output = refl
 
 -- another output part
 not_switched : design_fault database_a (image_with (at 0 1 0 0 ∷ at 0 2 0 0 ∷ at 0 2 2 0 ∷ at 0 2 5 0 ∷ at 0 2 6 0 ∷ (lut_i ++ at 1 1 2 0 ∷ []))) ≡ Some (fault.pin_mode 0 2 0 37)

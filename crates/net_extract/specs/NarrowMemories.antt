@@ -1,9 +1,14 @@
--- A RAM of a narrow mode is a memory of narrow words.
-use Rattle.std.specs.Prelude.{◌≡◌, ℕ, ◌+◌, ◌*◌, ◌/◌, ◌<◌, ◌≤◌, Bool, true, false, ◌&&◌, ◌==◌, List, take, get_or, length, All, Option, if◌then◌else◌}
+-- A RAM of a narrow mode is a memory of narrow words, in each run of a fabric.
+use Rattle.std.specs.Prelude.{◌≡◌, ℕ, ◌+◌, ◌*◌, ◌/◌, ◌<◌, Bool, true, false, ◌&&◌, ◌==◌, List, [], ◌∷◌, take, get_or, length, All, Option, None, if◌then◌else◌}
+use Rattle.ice_image.specs.Configuration.{Configuration}
+use Rattle.chipdb_reader.specs.Database.{Database}
 use Rattle.rams_narrow.specs.Narrow.{share, narrow_bit}
 use Rattle.net_extract.specs.declared.ram.RamCell.{RamCell}
-use Rattle.net_extract.specs.Values.{input_or_0, input_or_1}
-use Rattle.net_extract.specs.Steps.{address_of, bit_of_word, word_at, written_data, next_words, next_register}
+use Rattle.net_extract.specs.Fabric.{Fabric, fabric_of, numbered}
+use Rattle.net_extract.specs.Values.{State, input_or_0, input_or_1, bit_in, is_connected}
+use Rattle.net_extract.specs.Steps.{Event, Entry, IsRun, address_of, bit_of_word, word_at, has_edge}
+
+-- ---- narrow words
 
 -- bit d of the narrow word at an address of a RAM's words
 abbrev pub narrow_in : ℕ → List (List Bool) → ℕ → ℕ → Bool
@@ -13,33 +18,83 @@ narrow_in mode words address d = narrow_bit mode (λ a. bit_of_word (word_at wor
 abbrev pub narrow_address : (ℕ → Bool) → (ℕ → Bool) → ℕ → List (Option ℕ) → ℕ
 narrow_address connected bit mode ports = address_of connected bit (take (8 + mode) ports)
 
+-- the port bit that has bit d of a narrow word, in modes 1, 2 and 3
+abbrev pub port_place : ℕ → ℕ → ℕ
+port_place mode d = if mode == 1 then 2 * d else if mode == 2 then 4 * d + 1 else 8 * d + 3
+
+-- bit d of the narrow word that a port writes
+abbrev pub given_bit : (ℕ → Bool) → (ℕ → Bool) → RamCell → ℕ → Bool
+given_bit connected bit ram d = input_or_0 connected bit (get_or ram.wdata (port_place ram.write d) None)
+
+-- ---- states
+
 -- 256 words of 16 bits
 abbrev pub AreWords : List (List Bool) → Type 0
 AreWords words = (length words ≡ 256) × All (λ word. length word ≡ 16) words
 
--- 11 address bits, and modes up to 3
-abbrev pub IsRam : RamCell → Type 0
-IsRam ram = (length ram.waddr ≡ 11) × (length ram.raddr ≡ 11) × (ram.write ≤ 3) × (ram.read ≤ 3)
+-- the words and the read register of the RAM at a place
+abbrev pub words_in : State → ℕ → List (List Bool)
+words_in state place = get_or state.words place []
 
--- at a write edge of a narrow mode with both enables, the narrow word at the address becomes the data, and every other narrow word stays
-abbrev pub WritesNarrow : (ℕ → Bool) → (ℕ → Bool) → RamCell → List (List Bool) → Type 0
-WritesNarrow connected bit ram words =
-    IsRam ram → AreWords words → 0 < ram.write
+abbrev pub read_in : State → ℕ → List Bool
+read_in state place = get_or state.reads place []
+
+-- ---- what an event does to the RAM at a place, between an entry and the next one
+
+-- At a write edge of a narrow mode with both enables, the narrow word at the address becomes what is given, and every other narrow word
+-- stays.
+abbrev pub WritesNarrow : Fabric → Entry → Entry → ℕ × RamCell → Type 0
+WritesNarrow fabric before after place =
+    let connected = is_connected fabric in
+    let bit = bit_in before.v in
+    let ram = place.1 in
+    0 < ram.write → has_edge ram.wneg ram.wclk bit (bit_in after.v) ≡ true
     → input_or_1 connected bit ram.wclke ≡ true → input_or_0 connected bit ram.we ≡ true
     → (address d : ℕ) → address < 256 * share ram.write → d < 16 / share ram.write
-    → narrow_in ram.write (next_words connected bit ram words) address d
-      ≡ (if address == narrow_address connected bit ram.write ram.waddr then written_data connected bit ram d else narrow_in ram.write words address d)
+    → narrow_in ram.write (words_in after.state place.0) address d
+      ≡ (if address == narrow_address connected bit ram.write ram.waddr then given_bit connected bit ram d
+        else narrow_in ram.write (words_in before.state place.0) address d)
 
--- at a read edge of a narrow mode with both enables, bit `share * d` of the read register becomes bit d of the narrow word at the address
-abbrev pub ReadsNarrow : (ℕ → Bool) → (ℕ → Bool) → RamCell → List (List Bool) → List Bool → Type 0
-ReadsNarrow connected bit ram words register =
-    IsRam ram → AreWords words → 0 < ram.read
+-- At a read edge of a narrow mode with both enables, bit `share * d` of the read register becomes bit d of the narrow word at the address,
+-- as it was before the event.
+abbrev pub ReadsNarrow : Fabric → Entry → Entry → ℕ × RamCell → Type 0
+ReadsNarrow fabric before after place =
+    let connected = is_connected fabric in
+    let bit = bit_in before.v in
+    let ram = place.1 in
+    0 < ram.read → has_edge ram.rneg ram.rclk bit (bit_in after.v) ≡ true
     → input_or_1 connected bit ram.rclke ≡ true → input_or_0 connected bit ram.re ≡ true
     → (d : ℕ) → d < 16 / share ram.read
-    → get_or (next_register connected bit ram words register) (share ram.read * d) false
-      ≡ narrow_in ram.read words (narrow_address connected bit ram.read ram.raddr) d
+    → get_or (read_in after.state place.0) (share ram.read * d) false
+      ≡ narrow_in ram.read (words_in before.state place.0) (narrow_address connected bit ram.read ram.raddr) d
 
--- at a read edge without both enables the read register stays
-abbrev pub KeepsRegister : (ℕ → Bool) → (ℕ → Bool) → RamCell → List (List Bool) → List Bool → Type 0
-KeepsRegister connected bit ram words register =
-    (input_or_1 connected bit ram.rclke && input_or_0 connected bit ram.re) ≡ false → next_register connected bit ram words register ≡ register
+-- At a read edge without both enables the read register stays.
+abbrev pub KeepsRead : Fabric → Entry → Entry → ℕ × RamCell → Type 0
+KeepsRead fabric before after place =
+    let connected = is_connected fabric in
+    let bit = bit_in before.v in
+    let ram = place.1 in
+    has_edge ram.rneg ram.rclk bit (bit_in after.v) ≡ true
+    → (input_or_1 connected bit ram.rclke && input_or_0 connected bit ram.re) ≡ false
+    → read_in after.state place.0 ≡ read_in before.state place.0
+
+pub record IsNarrowMemory (fabric : Fabric) (before after : Entry) (place : ℕ × RamCell) : Type 0 where
+  pub writes : WritesNarrow fabric before after place
+  pub reads : ReadsNarrow fabric before after place
+  pub keeps : KeepsRead fabric before after place
+
+-- ---- runs
+
+-- each entry and the next one
+abbrev pub EachStep : (Entry → Entry → Type 0) → Entry → List Entry → Type 0
+EachStep Holds entry [] = Unit {0}
+EachStep Holds entry (next ∷ entries) = Holds entry next × EachStep Holds next entries
+
+-- In each run of the fabric of a database and an image each used RAM has 256 words of 16 bits after the start and after each event, and is a
+-- memory of narrow words at the ports of a narrow mode.
+abbrev pub RamsAreMemories : Database → Configuration → Type 0
+RamsAreMemories db image =
+    let fabric = fabric_of db image in
+    (events : List Event) (first : Entry) (entries : List Entry) → IsRun fabric events (first ∷ entries)
+    → All (λ entry. All AreWords entry.state.words) (first ∷ entries)
+    × EachStep (λ before after. All (IsNarrowMemory fabric before after) (numbered fabric.rams)) first entries

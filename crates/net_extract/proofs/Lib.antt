@@ -27,6 +27,8 @@ pub mod Within
 pub mod Settling
 -- a fabric without a fault has exactly one run for each list of events
 pub mod Runs
+-- a used RAM of a narrow mode is a memory of narrow words
+pub mod NarrowMemories
 -- the definitions at small databases and images, worked out by hand
 pub mod Worked
 -- classes of joined nets, one routing after the other

@@ -52,8 +52,8 @@ WritesNarrow fabric before after place =
     → input_or_1 connected bit ram.wclke ≡ true → input_or_0 connected bit ram.we ≡ true
     → (address d : ℕ) → address < 256 * share ram.write → d < 16 / share ram.write
     → narrow_in ram.write (words_in after.state place.0) address d
-      ≡ (if address == narrow_address connected bit ram.write ram.waddr then given_bit connected bit ram d
-        else narrow_in ram.write (words_in before.state place.0) address d)
+    ≡ (if address == narrow_address connected bit ram.write ram.waddr then given_bit connected bit ram d
+    else narrow_in ram.write (words_in before.state place.0) address d)
 
 -- At a read edge of a narrow mode with both enables, bit `share * d` of the read register becomes bit d of the narrow word at the address,
 -- as it was before the event.
@@ -66,7 +66,7 @@ ReadsNarrow fabric before after place =
     → input_or_1 connected bit ram.rclke ≡ true → input_or_0 connected bit ram.re ≡ true
     → (d : ℕ) → d < 16 / share ram.read
     → get_or (read_in after.state place.0) (share ram.read * d) false
-      ≡ narrow_in ram.read (words_in before.state place.0) (narrow_address connected bit ram.read ram.raddr) d
+    ≡ narrow_in ram.read (words_in before.state place.0) (narrow_address connected bit ram.read ram.raddr) d
 
 -- At a read edge without both enables the read register stays.
 abbrev pub KeepsRead : Fabric → Entry → Entry → ℕ × RamCell → Type 0

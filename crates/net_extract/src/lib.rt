@@ -6,6 +6,8 @@
 //!
 //! The code reads what is on: [`links`] finds the links that an image sets, the classes of joined nets and the nets that are read,
 //! and [`is_on`], [`is_any_on`] and [`function_bits`] look functions up at a tile. The calls of [`Links`] take no memory.
+//!
+//! [`narrow_rams_are_memories`] is a law of the definitions: in each run a used RAM of a narrow mode is a memory of narrow words.
 #![tactic(auto)]
 
 mod cell;
@@ -16,6 +18,7 @@ mod fault;
 mod found_links;
 mod functions;
 mod input_pins;
+mod law;
 mod links_type;
 mod name;
 mod on;
@@ -33,6 +36,7 @@ pub use fault::LinkFault;
 pub use found_links::links;
 pub use functions::{are_set, function_bits, is_any_on, is_on, listed_bit};
 pub use input_pins::{inputs, place_among};
+pub use law::narrow_rams_are_memories;
 pub use links_type::Links;
 pub use name::Name;
 pub use on::{is_link_on, place_of};

@@ -4,6 +4,8 @@ pub mod Passed
 pub mod Same
 -- the driver of a class, and the nets that it reads
 pub mod Drives
+-- what is found among the items of a list with their places
+pub mod FoundPlaces
 -- the ends of chains, found along the write order
 pub mod Following
 -- rows and marks of the classes of a fabric

@@ -1,4 +1,5 @@
 pub mod Drives
+pub mod Outputs
 pub mod Parts
 pub mod DriverLists
 pub mod Faults

@@ -8,11 +8,11 @@ ghost use Rattle.fabric_wiring.specs.Parts.{buffer_of, ArePartsOf};
 use crate::cells::{append_carries, append_louts, append_luts, append_sets};
 use crate::drive::{Drive, Rule};
 use crate::parts::{Buffer, Parts};
-use crate::pins::{append_backs, append_globals, append_pins, inputs};
+use crate::pins::{append_backs, append_globals, append_pins};
 use crate::push::push_if;
 use crate::rams::append_rams;
-use crate::registers::append_registers;
-use net_extract::Driver;
+use crate::registers::{append_flips, append_pin_registers};
+use net_extract::{Driver, inputs};
 use std::alloc::{AllocError, Global};
 
 /// Appends what buffers drive: their destinations.
@@ -33,14 +33,15 @@ pub(crate) fn all_drives(alloc: Global, parts: &Parts) -> Result<Vec<Drive>, All
     let inputs = inputs(alloc, &parts.pins)?;
     let mut drives = Vec::new(alloc);
     append_pins(&mut drives, &inputs)?;
-    append_backs(&mut drives, &parts.pins)?;
+    append_backs(&mut drives, &parts.registers, &parts.pins)?;
     append_luts(&mut drives, &parts.lcs)?;
-    append_registers(&mut drives, &parts.registers)?;
+    append_flips(&mut drives, &parts.registers)?;
     append_louts(&mut drives, &parts.lcs)?;
     append_carries(&mut drives, &parts.lcs)?;
     append_sets(&mut drives, &parts.sets)?;
     append_rams(&mut drives, &parts.rams)?;
     append_globals(&mut drives, &inputs, &parts.globals)?;
     append_buffers(&mut drives, &parts.buffers)?;
+    append_pin_registers(&mut drives, &parts.registers)?;
     Ok(drives)
 }

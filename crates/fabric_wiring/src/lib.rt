@@ -1,9 +1,10 @@
 //! The wiring of a fabric: what drives each class of nets, what each class reads, where the clocks come from, and the order in
 //! which the classes can be written.
 //!
-//! [`registers_of`] makes the registers of cells, and [`drivers`] finds the drivers from the parts of a fabric. [`wires`] and
-//! [`clock_ends`] go over them, and [`first_unclocked`] over the registers and RAMs. [`write_order`] finds the order of writing, for classes that are given as marks and rows; where there is none,
-//! [`least_cycle`] finds the least class that lies on a cycle. The calls of [`Drivers`] take no memory.
+//! [`registers_of`] makes the registers of cells, and [`drivers`] and [`outputs`] find the drivers and the outputs from the parts of a
+//! fabric. [`wires`] and [`clock_ends`] go over the drivers, and [`first_unclocked`] over the registers and RAMs. [`write_order`] finds
+//! the order of writing, for classes that are given as marks and rows; where there is none, [`least_cycle`] finds the least class that
+//! lies on a cycle. The calls of [`Drivers`] take no memory.
 #![tactic(auto)]
 
 mod cells;
@@ -16,6 +17,7 @@ mod fault;
 mod gather;
 mod levels;
 mod order;
+mod output_pins;
 mod parts;
 mod pins;
 mod places;
@@ -37,6 +39,7 @@ pub use ends::{ClockEnd, clock_ends};
 pub use fault::DriverFault;
 pub use gather::drivers;
 pub use order::write_order;
+pub use output_pins::{Output, outputs};
 pub use parts::{Buffer, Parts};
 pub use reading::wires;
 pub use registers::registers_of;

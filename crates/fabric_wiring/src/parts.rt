@@ -23,7 +23,7 @@ pub struct Parts {
     pub globals: Vec<GlobalNet>,
     /// The used cells.
     pub lcs: Vec<Lc>,
-    /// The registers: the flip-flops of the cells.
+    /// The registers: the flip-flops of the cells, then those of pins.
     pub registers: Vec<Register>,
     /// The carry inputs that are set.
     pub sets: Vec<CarrySet>,

@@ -8,9 +8,8 @@ ghost use Rattle.fabric_wiring.specs.Passed.{ArePassed, and_driver, drivers_in, 
 
 use crate::drive::Drive;
 use crate::fault::DriverFault;
-use crate::push::place_of;
 use crate::twice::{Twice, lesser};
-use net_extract::Links;
+use net_extract::{Links, place_of};
 use std::alloc::{AllocError, Global};
 
 /// The driver at a place, where there is the place.

@@ -1,18 +1,11 @@
 // One driver more.
-ghost use Rattle.std.specs.Prelude.{◌≡◌, ◌++◌, map, IfOk, OnOk};
+ghost use Rattle.std.specs.Prelude.{◌≡◌, ◌++◌, map, OnOk};
 ghost use Rattle.net_extract.specs.Drivers.{drives_if};
 ghost use Rattle.fabric_wiring.specs.Drives.{drive_of, rule_of};
 
 use crate::drive::{Drive, Rule};
 use net_extract::Driver;
 use std::alloc::AllocError;
-
-/// A place as it is kept. For one that needs more than 32 bits there is no room.
-pub(crate) fn place_of(place: usize) -> Result<u32, AllocError>
-    ensures { IfOk result (λ kept. kept ≡ place) }
-{
-    u32::try_from(place).map_err(|_| AllocError)
-}
 
 /// Appends a driver of a net, where there is the net.
 pub(crate) fn push_if(

@@ -1,13 +1,46 @@
 // What RAMs drive.
-ghost use Rattle.std.specs.Prelude.{◌≡◌, ◌++◌, map, flat_map, OnOk};
+ghost use Rattle.std.specs.Prelude.{◌≡◌, ◌++◌, ◌%◌, ◌==◌, map, flat_map, OnOk};
+ghost use Rattle.rams_narrow.specs.Narrow.{share};
+ghost use Rattle.net_extract.specs.Rams.{first_data_bit};
 ghost use Rattle.net_extract.specs.Fabric.{numbered};
-ghost use Rattle.net_extract.specs.Drivers.{ram_drives};
-ghost use Rattle.fabric_wiring.specs.Drives.{drive_of};
+ghost use Rattle.net_extract.specs.Drivers.{ram_drives, read_data_rule};
+ghost use Rattle.fabric_wiring.specs.Drives.{drive_of, rule_of};
 
 use crate::drive::{Drive, Rule};
-use crate::push::{place_of, push_if};
-use net_extract::{Driver, RamCell};
+use crate::push::push_if;
+use net_extract::{Driver, RamCell, place_of};
 use std::alloc::AllocError;
+
+/// The least port bit at which a mode has data.
+fn first_data_bit(mode: u8) -> u8
+    ensures { result ≡ first_data_bit mode }
+{
+    match mode {
+        2 => 1,
+        3 => 3,
+        _ => 0,
+    }
+}
+
+/// Whether a port bit, counted from the first that has data, has data too: one of each two, four or eight has in modes 1 to 3.
+fn is_data_bit(mode: u8, place: u8) -> bool
+    ensures { result ≡ (place % share mode == 0) }
+{
+    match 2_u8.checked_pow(u32::from(mode)) {
+        Some(share) => place % share == 0,
+        None => place == 0,
+    }
+}
+
+/// What a port bit of the read data of the RAM at a place has, which is read in that mode.
+fn read_data_rule(ram: u32, mode: u8, bit: u8) -> Rule
+    ensures { rule_of result ≡ read_data_rule ram mode bit }
+{
+    match bit.checked_sub(first_data_bit(mode)) {
+        Some(place) if is_data_bit(mode, place) => Rule::ReadBit { ram, bit: place },
+        _ => Rule::Constant(false),
+    }
+}
 
 /// Appends what a RAM drives: that of a place among the used RAMs.
 fn append_ram(drives: &mut Vec<Drive>, place: u32, ram: &RamCell) -> Result<(), AllocError>
@@ -19,7 +52,7 @@ fn append_ram(drives: &mut Vec<Drive>, place: u32, ram: &RamCell) -> Result<(), 
             y: ram.y,
             bit,
         };
-        let rule = Rule::ReadBit { ram: place, bit };
+        let rule = read_data_rule(place, ram.read, bit);
         push_if(drives, driver, rule, ram.rdata[bit as usize])?;
     }
     Ok(())

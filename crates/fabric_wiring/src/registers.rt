@@ -1,13 +1,13 @@
 // Registers, and what they drive.
-ghost use Rattle.std.specs.Prelude.{◌≡◌, ◌++◌, [], ◌∷◌, map, flat_map, filter, IfOk, OnOk};
+ghost use Rattle.std.specs.Prelude.{◌≡◌, ◌++◌, [], ◌∷◌, map, flat_map, filter, IfOk, OnOk, Some};
 ghost use Rattle.net_extract.specs.Fabric.{numbered};
 ghost use Rattle.net_extract.specs.Registers.{table_of, register_of, registers_of};
-ghost use Rattle.net_extract.specs.Drivers.{register_driver, register_drives};
+ghost use Rattle.net_extract.specs.Drivers.{drives_by, flip_drives, pin_register_drives};
 ghost use Rattle.fabric_wiring.specs.Drives.{drive_of};
 
 use crate::drive::{Drive, Rule};
-use crate::push::{place_of, push_if};
-use net_extract::{ClockUser, Driver, Lc, Register, Source, Table};
+use crate::push::push_if;
+use net_extract::{ClockUser, Driver, Lc, Register, Source, Table, place_of};
 use std::alloc::{AllocError, Global};
 
 /// The LUT of a cell.
@@ -62,35 +62,74 @@ pub fn registers_of(alloc: Global, lcs: &[Lc]) -> Result<Vec<Register>, AllocErr
     Ok(registers)
 }
 
-/// Which driver a register is.
-fn driver_of(register: &Register) -> Driver
-    ensures { result ≡ register_driver register.now register.now.user }
+/// Appends what a register drives: that of a place among the registers, which is that driver.
+fn append_register(
+    drives: &mut Vec<Drive>,
+    driver: Driver,
+    place: u32,
+    register: &Register,
+) -> Result<(), AllocError>
+    ensures { OnOk result (map drive_of drives.new.items ≡ map drive_of drives.old.items ++ drives_by (place, register.now) (Some driver)) }
 {
-    let i = match register.user {
-        ClockUser::Cell { i } => i,
-        ClockUser::Read | ClockUser::Write => 0,
+    let rule = Rule::RegisterBit {
+        place,
+        register: *register,
     };
-    Driver::Flip {
-        x: register.x,
-        y: register.y,
-        i,
+    push_if(drives, driver, rule, register.out)
+}
+
+/// Appends what a register drives where it is a flip-flop.
+fn append_flip(drives: &mut Vec<Drive>, place: u32, register: &Register) -> Result<(), AllocError>
+    ensures { OnOk result (map drive_of drives.new.items ≡ map drive_of drives.old.items ++ flip_drives (place, register.now)) }
+{
+    let (x, y) = (register.x, register.y);
+    match register.user {
+        ClockUser::Cell { i } => {
+            append_register(drives, Driver::Flip { x, y, i }, place, register)
+        }
+        _ => Ok(()),
     }
 }
 
-/// Appends what registers drive.
-pub(crate) fn append_registers(
+/// Appends what flip-flops drive.
+pub(crate) fn append_flips(
     drives: &mut Vec<Drive>,
     registers: &[Register],
 ) -> Result<(), AllocError>
-    ensures { OnOk result (map drive_of drives.new.items ≡ map drive_of drives.old.items ++ flat_map register_drives (numbered registers.now)) }
+    ensures { OnOk result (map drive_of drives.new.items ≡ map drive_of drives.old.items ++ flat_map flip_drives (numbered registers.now)) }
 {
     for (i, register) in registers.iter().enumerate() {
-        let place = place_of(i)?;
-        let rule = Rule::RegisterBit {
-            place,
-            register: *register,
-        };
-        push_if(drives, driver_of(register), rule, register.out)?;
+        append_flip(drives, place_of(i)?, register)?;
+    }
+    Ok(())
+}
+
+/// Appends what a register drives where it is that of an input pin.
+fn append_pin_register(
+    drives: &mut Vec<Drive>,
+    place: u32,
+    register: &Register,
+) -> Result<(), AllocError>
+    ensures { OnOk result (map drive_of drives.new.items ≡ map drive_of drives.old.items ++ pin_register_drives (place, register.now)) }
+{
+    let (x, y) = (register.x, register.y);
+    match register.user {
+        ClockUser::Input { n } => {
+            append_register(drives, Driver::PinReg { x, y, n }, place, register)
+        }
+        _ => Ok(()),
+    }
+}
+
+/// Appends what the registers of input pins drive.
+pub(crate) fn append_pin_registers(
+    drives: &mut Vec<Drive>,
+    registers: &[Register],
+) -> Result<(), AllocError>
+    ensures { OnOk result (map drive_of drives.new.items ≡ map drive_of drives.old.items ++ flat_map pin_register_drives (numbered registers.now)) }
+{
+    for (i, register) in registers.iter().enumerate() {
+        append_pin_register(drives, place_of(i)?, register)?;
     }
     Ok(())
 }

@@ -6,4 +6,4 @@ use Rattle.net_extract.specs.declared.pin.Pin.{Pin}
 use Rattle.fabric_wiring.proofs.pins.append_backs.Given as goal
 
 abbrev pub invariant-loop-pin : goal.invariant-loop-pin
-invariant-loop-pin l = map drive_of l.drives.items ≡ map drive_of l.initial.drives.items ++ flat_map back_drives (filter (λ (pin : Pin). pin.back) (take l.pin-index l.pins))
+invariant-loop-pin l = map drive_of l.drives.items ≡ map drive_of l.initial.drives.items ++ flat_map (back_drives l.registers) (filter (λ (pin : Pin). pin.back) (take l.pin-index l.pins))

@@ -7,4 +7,4 @@ pub loop-i-init : goal.loop-i-init
 loop-i-init c = numbered-none pin_drives c.args.inputs.now _
 
 pub loop-i-preserved : goal.loop-i-preserved
-loop-i-preserved c = numbered-more pin_drives c.args.inputs.now c.loop-i.i _ _ _ _ (omega arith) c.loop-i.invariant (rw c.in_ok-place.ensures at c.in_ok-push_if.ensures)
+loop-i-preserved c = numbered-more pin_drives c.args.inputs.now c.loop-i.i _ _ _ _ (omega arith) c.loop-i.invariant (rw c.in_ok-place_of.ensures at c.in_ok-append_pin.ensures)

@@ -8,4 +8,4 @@ loop-bit-init c = numbered-none (ram_drive (c.args.place, c.args.ram.now)) c.arg
 
 pub loop-bit-preserved : goal.loop-bit-preserved
 loop-bit-preserved c =
-    numbered-more (ram_drive (c.args.place, c.args.ram.now)) c.args.ram.now.rdata c.loop-bit.bit _ _ _ _ (omega arith) c.loop-bit.invariant c.in_ok-push_if.ensures
+    numbered-more (ram_drive (c.args.place, c.args.ram.now)) c.args.ram.now.rdata c.loop-bit.bit _ _ _ _ (omega arith) c.loop-bit.invariant (rw c.read_data_rule-rule.ensures at c.in_ok-push_if.ensures)

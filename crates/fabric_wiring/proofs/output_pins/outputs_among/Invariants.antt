@@ -1,0 +1,9 @@
+use Rattle.std.proofs.Common.{◌≡◌, map, take}
+use Rattle.std.specs.Prelude.{flat_map, filter}
+use Rattle.net_extract.specs.declared.pin.Pin.{Pin}
+use Rattle.net_extract.specs.Outputs.{pin_outputs}
+use Rattle.fabric_wiring.specs.Outputs.{output_of}
+use Rattle.fabric_wiring.proofs.output_pins.outputs_among.Given as goal
+
+abbrev pub invariant-loop-pin : goal.invariant-loop-pin
+invariant-loop-pin l = map output_of l.outputs.items ≡ flat_map (pin_outputs l.registers) (filter (λ (pin : Pin). pin.output) (take l.pin-index l.pins))

@@ -3,13 +3,13 @@ use Rattle.std.specs.Prelude.{All, filter, flat_map, not, Some, None}
 use Rattle.plane_map.specs.Layout.{kind_of}
 use Rattle.plane_map.specs.declared.device.DeviceName.{DeviceName}
 use Rattle.plane_map.specs.declared.tile.TileKind.TheVariants.{RamB}
-use Rattle.std.proofs.Common.{arith, ◌≡◌, ℕ, ◌≤◌, List, map, sym, ap, subst, ◌∙◌}
+use Rattle.std.proofs.Common.{arith, ◌≡◌, ◌++◌, ℕ, ◌≤◌, List, map, sym, ap, subst, ◌∙◌}
 use Rattle.ice_image.specs.Configuration.{Configuration}
 use Rattle.chipdb_reader.specs.Database.{Database}
 use Rattle.chipdb_reader.specs.Fit.{IsFit}
 use Rattle.net_extract.specs.Links.{AreLinks}
 use Rattle.net_extract.specs.Cells.{cells_of, sets_of}
-use Rattle.net_extract.specs.Registers.{registers_of}
+use Rattle.net_extract.specs.Registers.{registers_of, pin_registers_of}
 use Rattle.net_extract.specs.Rams.{rams_of}
 use Rattle.net_extract.specs.Pins.{pins_of, globals_of}
 use Rattle.ice_image.specs.Bits.{ram_word_of}
@@ -25,6 +25,9 @@ use Rattle.net_extract.specs.Wiring.{wiring_of, IsWriteOrder}
 use Rattle.fabric_wiring.specs.DriverLists.{DriverSet, AreDriversOf}
 use Rattle.fabric_wiring.specs.declared.ends.ClockEnd.{ClockEnd}
 use Rattle.fabric_wiring.specs.Ends.{AreEndsOf}
+use Rattle.net_extract.specs.Outputs.{outputs_of}
+use Rattle.fabric_wiring.specs.declared.output_pins.Output.{Output}
+use Rattle.fabric_wiring.specs.Outputs.{output_of}
 use Rattle.fabric.specs.Kept.{Kept, AreWordsOf, IsKeptOf}
 use Rattle.fabric.specs.Design.{IsDesignOf}
 use Rattle.fabric.specs.Faults.{AreTaken}
@@ -34,7 +37,7 @@ use Rattle.fabric.proofs.StartWords.{rams-lower, words-are}
 module _ (db : Database) (image : Configuration) where
   pub parts-of : IsFit db → (parts : Parts) → AreLinks db image parts.links → map buffer_of parts.buffers.items ≡ buffers_of db image
       → parts.pins.items ≡ pins_of db image → parts.globals.items ≡ globals_of db image
-      → parts.lcs.items ≡ cells_of db image → parts.registers.items ≡ registers_of parts.lcs.items → parts.sets.items ≡ sets_of db image → parts.rams.items ≡ rams_of db image
+      → parts.lcs.items ≡ cells_of db image → parts.registers.items ≡ registers_of parts.lcs.items ++ pin_registers_of db image parts.pins.items → parts.sets.items ≡ sets_of db image → parts.rams.items ≡ rams_of db image
       → ArePartsOf (fabric_of db image) parts
   unfolding fabric_of
   parts-of fit parts linked buffers pins globals lcs registers sets rams = record {
@@ -45,7 +48,7 @@ module _ (db : Database) (image : Configuration) where
     pins = pins;
     globals = globals;
     lcs = lcs;
-    registers = registers ∙ ap registers_of lcs;
+    registers = registers ∙ (ap (λ cells. registers_of cells ++ pin_registers_of db image parts.pins.items) lcs ∙ ap (λ ports. registers_of (cells_of db image) ++ pin_registers_of db image ports) pins);
     sets = sets;
     rams = rams;
   }
@@ -76,14 +79,16 @@ module _ (db : Database) (image : Configuration) where
   pub designed : IsFit db → (fabric_of db image).nets ≤ 4294967295 → AreTaken db image → fabric_fault db.chip.device (fabric_of db image) ≡ None
       → (device : DeviceName) → image.layout.device ≡ device → (parts : Parts) → ArePartsOf (fabric_of db image) parts
       → (inputs : List Pin) → inputs ≡ filter (λ pin. not pin.output) parts.pins.items
+      → (outputs : List Output) → map output_of outputs ≡ outputs_of (fabric_of db image)
       → (drivers : DriverSet) → AreDriversOf (fabric_of db image) drivers → (order : List ℕ) → IsWriteOrder (wiring_of (fabric_of db image)) order
       → (ends : List ClockEnd) → AreEndsOf (fabric_of db image) ends
       → (words : List ℕ) → words ≡ flat_map (λ ram. each_below 256 (ram_word_of image ram.x ram.y)) parts.rams.items
-      → IsDesignOf db image (record { parts = parts; inputs = inputs; drivers = drivers; order = order; ends = ends; words = words })
-  designed fit few taken none device same parts are inputs inputs-are drivers drivers-are order ordered ends ends-are words words-read =
+      → IsDesignOf db image (record { parts = parts; inputs = inputs; outputs = outputs; drivers = drivers; order = order; ends = ends; words = words })
+  designed fit few taken none device same parts are inputs inputs-are outputs outputs-are drivers drivers-are order ordered ends ends-are words words-read =
       design-of fit few taken (subst (λ d. fabric_fault d (fabric_of db image) ≡ None) taken.device none) _ (record {
         parts = are;
         inputs = inputs-are ∙ ap (filter (λ pin. not pin.output)) are.pins;
+        outputs = outputs-are;
         drivers = drivers-are;
         order = ordered;
         ends = ends-are;

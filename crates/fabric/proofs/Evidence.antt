@@ -24,7 +24,7 @@ use Rattle.fabric_wiring.specs.declared.fault.DriverFault.{DriverFault}
 use Rattle.fabric_wiring.specs.declared.fault.DriverFault.TheVariants as drivers
 use Rattle.fabric_wiring.specs.Faults.{IsCause as IsDriverCause}
 use Rattle.fabric.specs.declared.fault.FabricFault.{FabricFault}
-use Rattle.fabric.specs.declared.fault.FabricFault.TheVariants.{Device, Pll, PinMode, Mode, Cascade, TwoDrivers, Loop, Clock, Memory}
+use Rattle.fabric.specs.declared.fault.FabricFault.TheVariants.{Device, Pll, PinMode, Cascade, TwoDrivers, Loop, Clock, Memory}
 use Rattle.fabric_wiring.specs.Wires.{AreAlike}
 use Rattle.fabric_wiring.proofs.Alike.{is_on_cycle-alike, cycle-alike}
 use Rattle.net_extract.proofs.OneValue.{count-is}
@@ -190,7 +190,6 @@ module _ (device : DeviceName) (fabric : Fabric) where
   same-cause one two goes Device is = goes _ is
   same-cause one two goes (Pll x y) is = goes _ is
   same-cause one two goes (PinMode x y pio pintype) is = goes _ is
-  same-cause one two goes (Mode x y read write) is = goes _ is
   same-cause one two goes (Cascade x y) is = goes _ is
   same-cause one two goes (TwoDrivers net first second) is = (goes _ is.0, is.1)
   same-cause one two goes (Loop net cycle) is = (goes _ is.0, is.1)

@@ -64,7 +64,6 @@ module _ (db : Database) (image : Configuration) where
   pins-cause same (pins.Memory failed) is = tt
 
   pub rams-cause : (same : db.chip.device ≡ image.layout.device) → pins_fault db image ≡ None → (fault : RamFault) → IsRamCause (rams_fault db image) fault → IsRefusal (of_rams fault)
-  rams-cause same taken (rams.Mode x y read write) is = rams-refuse same taken _ is
   rams-cause same taken (rams.Cascade x y) is = rams-refuse same taken _ is
   rams-cause same taken (rams.Memory failed) is = tt
 

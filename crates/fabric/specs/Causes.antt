@@ -8,7 +8,7 @@ use Rattle.fabric_parts.specs.declared.ram.fault.RamFault.TheVariants as rams
 use Rattle.fabric_wiring.specs.declared.fault.DriverFault.{DriverFault}
 use Rattle.fabric_wiring.specs.declared.fault.DriverFault.TheVariants as drivers
 use Rattle.fabric.specs.declared.fault.FabricFault.{FabricFault}
-use Rattle.fabric.specs.declared.fault.FabricFault.TheVariants.{Device, Pll, PinMode, Mode, Cascade, TwoDrivers, Memory}
+use Rattle.fabric.specs.declared.fault.FabricFault.TheVariants.{Device, Pll, PinMode, Cascade, TwoDrivers, Memory}
 
 abbrev pub of_links : LinkFault → FabricFault
 of_links links.Device = Device
@@ -20,7 +20,6 @@ of_pins (pins.PinMode x y pio pintype) = PinMode x y pio pintype
 of_pins (pins.Memory failed) = Memory failed
 
 abbrev pub of_rams : RamFault → FabricFault
-of_rams (rams.Mode x y read write) = Mode x y read write
 of_rams (rams.Cascade x y) = Cascade x y
 of_rams (rams.Memory failed) = Memory failed
 

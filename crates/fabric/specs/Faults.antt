@@ -14,7 +14,7 @@ use Rattle.chipdb_reader.specs.Database.{Database}
 use Rattle.net_extract.specs.Faults.{Fault, pins_fault, rams_fault}
 use Rattle.plane_map.specs.declared.device.DeviceName.{DeviceName}
 use Rattle.fabric.specs.declared.fault.FabricFault.{FabricFault}
-use Rattle.fabric.specs.declared.fault.FabricFault.TheVariants.{Device, Pll, PinMode, Mode, Cascade, TwoDrivers, Loop, Clock, Memory}
+use Rattle.fabric.specs.declared.fault.FabricFault.TheVariants.{Device, Pll, PinMode, Cascade, TwoDrivers, Loop, Clock, Memory}
 
 -- ---- evidence
 
@@ -51,7 +51,6 @@ abbrev pub IsCause : DeviceName → Fabric → Option Fault → FabricFault → 
 IsCause device fabric fault Device = fault ≡ Some Fault.other_device
 IsCause device fabric fault (Pll x y) = fault ≡ Some (Fault.pll x y)
 IsCause device fabric fault (PinMode x y pio pintype) = fault ≡ Some (Fault.pin_mode x y pio pintype)
-IsCause device fabric fault (Mode x y read write) = fault ≡ Some (Fault.mode x y read write)
 IsCause device fabric fault (Cascade x y) = fault ≡ Some (Fault.cascade x y)
 IsCause device fabric fault (TwoDrivers net first second) = (fault ≡ Some (Fault.two_drivers net first second)) × AreTwoDrivers fabric net first second
 IsCause device fabric fault (Loop net cycle) = (fault ≡ Some (Fault.loop net)) × IsCycleFrom fabric net cycle

@@ -1,20 +1,24 @@
 -- What is kept of a design, and when it is that of a fabric.
-use Rattle.std.specs.Prelude.{◌≡◌, ℕ, ◌+◌, ◌*◌, ◌<◌, List, [], length, get_or}
+use Rattle.std.specs.Prelude.{◌≡◌, ℕ, ◌+◌, ◌*◌, ◌<◌, List, [], length, map, get_or}
 use Rattle.bit_plane.specs.BitList.{word_of}
 use Rattle.net_extract.specs.declared.pin.Pin.{Pin}
 use Rattle.net_extract.specs.Fabric.{Fabric, inputs_of}
 use Rattle.net_extract.specs.Wiring.{wiring_of, IsWriteOrder}
+use Rattle.net_extract.specs.Outputs.{outputs_of}
 use Rattle.fabric_wiring.specs.declared.parts.Parts.{Parts}
 use Rattle.fabric_wiring.specs.Parts.{ArePartsOf}
 use Rattle.fabric_wiring.specs.DriverLists.{DriverSet, AreDriversOf}
 use Rattle.fabric_wiring.specs.declared.ends.ClockEnd.{ClockEnd}
 use Rattle.fabric_wiring.specs.Ends.{AreEndsOf}
+use Rattle.fabric_wiring.specs.declared.output_pins.Output.{Output}
+use Rattle.fabric_wiring.specs.Outputs.{output_of}
 
--- the parts of a fabric, its input pins and its drivers, the order in which classes are written, where the chain from each class
--- ends, and the start words of the used RAMs, 256 for each
+-- the parts of a fabric, its input pins, its outputs and its drivers, the order in which classes are written, where the chain from
+-- each class ends, and the start words of the used RAMs, 256 for each
 pub record Kept : Type 0 where
   pub parts : Parts
   pub inputs : List Pin
+  pub outputs : List Output
   pub drivers : DriverSet
   pub order : List ℕ
   pub ends : List ClockEnd
@@ -33,6 +37,7 @@ pub record AreWordsOf (fabric : Fabric) (words : List ℕ) : Type 0 where
 pub record IsKeptOf (fabric : Fabric) (design : Kept) : Type 0 where
   pub parts : ArePartsOf fabric design.parts
   pub inputs : design.inputs ≡ inputs_of fabric
+  pub outputs : map output_of design.outputs ≡ outputs_of fabric
   pub drivers : AreDriversOf fabric design.drivers
   pub order : IsWriteOrder (wiring_of fabric) design.order
   pub ends : AreEndsOf fabric design.ends

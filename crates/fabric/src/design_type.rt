@@ -11,7 +11,7 @@ ghost use Rattle.fabric.specs.Kept.{word_in, IsKeptOf};
 ghost use Rattle.fabric.specs.Design.{IsDesign, end_pin, ends_of, link_in};
 
 use chipdb_reader::PinXy;
-use fabric_wiring::{Buffer, ClockEnd, Drive, Drivers, Parts, Rule};
+use fabric_wiring::{Buffer, ClockEnd, Drive, Drivers, Output, Parts, Rule};
 use net_extract::{CarrySet, Driver, GlobalNet, Lc, Pin, RamCell, Register};
 use std::marker::Model;
 
@@ -30,6 +30,7 @@ pub struct LinkEnds {
 pub struct Design {
     parts: Parts,
     inputs: Vec<Pin>,
+    outputs: Vec<Output>,
     drivers: Drivers,
     order: Vec<u32>,
     ends: Vec<ClockEnd>,
@@ -42,9 +43,9 @@ impl Model for Design {
 
     ghost Value = { Kept };
 
-    ghost view = { λ design. record { parts = design.parts; inputs = design.inputs.items; drivers = design.drivers; order = design.order.items; ends = design.ends.items; words = design.words.items } };
+    ghost view = { λ design. record { parts = design.parts; inputs = design.inputs.items; outputs = design.outputs.items; drivers = design.drivers; order = design.order.items; ends = design.ends.items; words = design.words.items } };
 
-    ghost invariant = { λ design. IsDesign (record { parts = design.parts; inputs = design.inputs.items; drivers = design.drivers; order = design.order.items; ends = design.ends.items; words = design.words.items }) };
+    ghost invariant = { λ design. IsDesign (record { parts = design.parts; inputs = design.inputs.items; outputs = design.outputs.items; drivers = design.drivers; order = design.order.items; ends = design.ends.items; words = design.words.items }) };
 }
 
 /// The two nets of the buffer of a line, where there is one.
@@ -65,17 +66,19 @@ impl Design {
     pub(crate) fn of(
         parts: Parts,
         inputs: Vec<Pin>,
+        outputs: Vec<Output>,
         drivers: Drivers,
         order: Vec<u32>,
         ends: Vec<ClockEnd>,
         words: Vec<u16>,
     ) -> Design
-        requires { IsDesign (record { parts = parts; inputs = inputs.items; drivers = drivers; order = order.items; ends = ends.items; words = words.items }) }
-        ensures { result ≡ record { parts = parts; inputs = inputs.items; drivers = drivers; order = order.items; ends = ends.items; words = words.items } }
+        requires { IsDesign (record { parts = parts; inputs = inputs.items; outputs = outputs.items; drivers = drivers; order = order.items; ends = ends.items; words = words.items }) }
+        ensures { result ≡ record { parts = parts; inputs = inputs.items; outputs = outputs.items; drivers = drivers; order = order.items; ends = ends.items; words = words.items } }
     {
         Design {
             parts,
             inputs,
+            outputs,
             drivers,
             order,
             ends,
@@ -99,6 +102,14 @@ impl Design {
         &self.inputs
     }
 
+    /// The outputs of the output pins, in their order. A pin that can be switched off has two, and the second tells whether it is on.
+    pub fn outputs(&self) -> &[Output]
+        ensures outputs { result.now ≡ self.now.outputs }
+        ensures design { IsDesign self.now }
+    {
+        &self.outputs
+    }
+
     /// The used logic cells, by tile and index.
     pub fn lcs(&self) -> &[Lc]
         ensures lcs { result.now ≡ self.now.parts.lcs.items }
@@ -107,7 +118,7 @@ impl Design {
         &self.parts.lcs
     }
 
-    /// The registers: the flip-flops of the cells, in their order.
+    /// The registers: the flip-flops of the cells, in their order, then those of pins, by tile and number.
     pub fn registers(&self) -> &[Register]
         ensures registers { result.now ≡ self.now.parts.registers.items }
         ensures design { IsDesign self.now }

@@ -25,13 +25,6 @@ pub enum FabricFault {
         pio: u8,
         pintype: u8,
     },
-    /// The words of the RAM at (x, y) have another width than 16 where they are read or written: a mode isn't 0.
-    Mode {
-        x: u8,
-        y: u8,
-        read: u8,
-        write: u8,
-    },
     /// The RAM at (x, y) passes on its address.
     Cascade {
         x: u8,
@@ -103,7 +96,6 @@ impl From<RamFault> for FabricFault {
 
     fn from(e: RamFault) -> FabricFault {
         match e {
-            RamFault::Mode { x, y, read, write } => FabricFault::Mode { x, y, read, write },
             RamFault::Cascade { x, y } => FabricFault::Cascade { x, y },
             RamFault::Memory(e) => FabricFault::Memory(e),
         }

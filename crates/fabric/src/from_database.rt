@@ -1,5 +1,5 @@
 // The design of a database and an image.
-ghost use Rattle.std.specs.Prelude.{◌≡◌, ℕ, All, Bool, List, IfOk, IfErr, OnOk, None, filter, not};
+ghost use Rattle.std.specs.Prelude.{◌≡◌, ℕ, All, Bool, List, IfOk, IfErr, OnOk, None};
 ghost use Rattle.ice_image.specs.Either.{configuration_of};
 ghost use Rattle.chipdb_reader.specs.Kept.{database_in};
 ghost use Rattle.net_extract.specs.Fabric.{fabric_of};
@@ -19,18 +19,8 @@ use crate::parts::parts;
 use crate::wire::wire;
 use chipdb_reader::ChipDb;
 use ice_image::AnyImage;
-use net_extract::Pin;
-use std::alloc::{AllocError, Global};
-
-/// The input pins among pins.
-fn inputs(alloc: Global, pins: &[Pin]) -> Result<Vec<Pin>, AllocError>
-    ensures { IfOk result (λ inputs. inputs.items ≡ filter (λ pin. not pin.output) pins.now) }
-{
-    pins.iter()
-        .filter(|pin| !pin.output)
-        .copied()
-        .collect(alloc)
-}
+use net_extract::inputs;
+use std::alloc::Global;
 
 /// Finds the design of a database and an image.
 ///
@@ -56,6 +46,7 @@ pub fn design(alloc: Global, db: &ChipDb, image: &AnyImage) -> Result<Design, Fa
     Ok(Design::of(
         parts,
         inputs,
+        wired.outputs,
         wired.drivers,
         wired.order,
         wired.ends,

@@ -1,8 +1,11 @@
 // The parts of the fabric of a database and an image.
-ghost use Rattle.std.specs.Prelude.{◌≡◌, ◌++◌, map, IfOk, IfErr, OnOk, slice_get};
+ghost use Rattle.std.specs.Prelude.{◌≡◌, ◌++◌, map, All, IfOk, IfErr, OnOk, slice_get};
+ghost use Rattle.plane_map.specs.declared.tile.TileKind.TheVariants.{Io};
 ghost use Rattle.ice_image.specs.Either.{configuration_of};
 ghost use Rattle.chipdb_reader.specs.Fit.{IsFit};
 ghost use Rattle.chipdb_reader.specs.Kept.{database_in};
+ghost use Rattle.net_extract.specs.TilesOfKind.{HasTile};
+ghost use Rattle.net_extract.specs.Registers.{registers_of, pin_registers_of};
 ghost use Rattle.net_extract.specs.Fabric.{fabric_of};
 ghost use Rattle.net_extract.specs.Faults.{design_fault};
 ghost use Rattle.fabric_wiring.specs.Parts.{ArePartsOf, buffer_of};
@@ -11,10 +14,10 @@ ghost use Rattle.fabric.specs.Buffers.{buffer_if, buffers_at};
 
 use crate::fault::FabricFault;
 use chipdb_reader::{ChipDb, LinkLine};
-use fabric_parts::{cells, pins, rams};
+use fabric_parts::{cells, pin_registers, pins, rams};
 use fabric_wiring::{Buffer, Parts, registers_of};
 use ice_image::AnyImage;
-use net_extract::links;
+use net_extract::{Lc, Pin, Register, links};
 use std::alloc::{AllocError, Global};
 
 /// Appends the buffer of the line at a place, where there is one.
@@ -48,6 +51,22 @@ fn buffers(alloc: Global, db: &ChipDb, places: &[u32]) -> Result<Vec<Buffer>, Al
     Ok(buffers)
 }
 
+/// The registers: the flip-flops of cells, then those of pins.
+fn registers(
+    alloc: Global,
+    db: &ChipDb,
+    image: &AnyImage,
+    lcs: &[Lc],
+    pins: &[Pin],
+) -> Result<Vec<Register>, AllocError>
+    requires { All (λ pin. HasTile image.now Io pin.x pin.y) pins.now }
+    ensures { IfOk result (λ registers. registers.items ≡ registers_of lcs.now ++ pin_registers_of (database_in db.now) (configuration_of image.now) pins.now) }
+{
+    let mut registers = registers_of(alloc, lcs)?;
+    registers.extend_from_slice(&pin_registers(alloc, db, image, pins)?)?;
+    Ok(registers)
+}
+
 /// Finds the parts, or the first cause why they aren't taken.
 pub(crate) fn parts(alloc: Global, db: &ChipDb, image: &AnyImage) -> Result<Parts, FabricFault>
     ensures parts { IfOk result (ArePartsOf (fabric_of (database_in db.now) (configuration_of image.now))) }
@@ -59,7 +78,7 @@ pub(crate) fn parts(alloc: Global, db: &ChipDb, image: &AnyImage) -> Result<Part
     let pins = pins(alloc, db, image, &links)?;
     let rams = rams(alloc, db, image, &links)?;
     let cells = cells(alloc, db, image)?;
-    let registers = registers_of(alloc, &cells.lcs)?;
+    let registers = registers(alloc, db, image, &cells.lcs, &pins.pins)?;
     let buffers = buffers(alloc, db, links.buffers())?;
     Ok(Parts {
         links,

@@ -1,5 +1,5 @@
 // The drivers, the order and the clocks of a fabric.
-ghost use Rattle.std.specs.Prelude.{◌≡◌, ◌≤◌, ℕ, All, IfOk, IfErr, OnOk, Some, None};
+ghost use Rattle.std.specs.Prelude.{◌≡◌, ◌≤◌, ℕ, map, All, IfOk, IfErr, OnOk, Some, None};
 ghost use Rattle.std.specs.List.{flat_map};
 ghost use Rattle.plane_map.specs.Layout.{kind_of};
 ghost use Rattle.plane_map.specs.declared.tile.TileKind.TheVariants.{RamB};
@@ -11,27 +11,32 @@ ghost use Rattle.net_extract.specs.Wiring.{wiring_of, IsWriteOrder};
 ghost use Rattle.net_extract.specs.Clocks.{LeadsTo, clock_end};
 ghost use Rattle.net_extract.specs.Faults.{clock_faults, fabric_fault};
 ghost use Rattle.net_extract.specs.Joins.{class_of};
+ghost use Rattle.net_extract.specs.Outputs.{outputs_of};
 ghost use Rattle.fabric_wiring.specs.Parts.{ArePartsOf};
 ghost use Rattle.fabric_wiring.specs.DriverLists.{AreDriversOf};
 ghost use Rattle.fabric_wiring.specs.Ends.{AreEndsOf};
+ghost use Rattle.fabric_wiring.specs.Outputs.{output_of};
 ghost use Rattle.fabric.specs.Faults.{HasDriversApart, IsCause};
 
 use crate::fault::FabricFault;
 use crate::order::order;
 use crate::words::start_words;
 use chipdb_reader::ChipDb;
-use fabric_wiring::{ClockEnd, Drivers, Parts, clock_ends, drivers, first_unclocked};
+use fabric_wiring::{
+    ClockEnd, Drivers, Output, Parts, clock_ends, drivers, first_unclocked, outputs,
+};
 use ice_image::AnyImage;
 use plane_map::DeviceName;
 use std::alloc::Global;
 
-/// The drivers of a fabric, the order in which its classes are written, where the chain from each class ends, and the start words
-/// of its RAMs.
+/// The drivers of a fabric, the order in which its classes are written, where the chain from each class ends, its outputs, and the start
+/// words of its RAMs.
 #[derive(Drop)]
 pub(crate) struct Wired {
     pub(crate) drivers: Drivers,
     pub(crate) order: Vec<u32>,
     pub(crate) ends: Vec<ClockEnd>,
+    pub(crate) outputs: Vec<Output>,
     pub(crate) words: Vec<u16>,
 }
 
@@ -70,6 +75,7 @@ pub(crate) fn wire(
     ensures drivers { IfOk result (λ wired. AreDriversOf fabric wired.drivers) }
     ensures order { IfOk result (λ wired. IsWriteOrder (wiring_of fabric) wired.order.items) }
     ensures ends { IfOk result (λ wired. AreEndsOf fabric wired.ends.items) }
+    ensures outputs { IfOk result (λ wired. map output_of wired.outputs.items ≡ outputs_of fabric) }
     ensures words { IfOk result (λ wired. wired.words.items ≡ flat_map (λ ram. each_below 256 (ram_word_of (configuration_of image.now) ram.x ram.y)) parts.now.rams.items) }
     ensures taken { OnOk result (fabric_fault db.now.chip.device fabric ≡ None) }
     ensures refused { IfErr result (IsCause db.now.chip.device fabric (fabric_fault db.now.chip.device fabric)) }
@@ -82,6 +88,7 @@ pub(crate) fn wire(
         drivers,
         order,
         ends,
+        outputs: outputs(alloc, parts)?,
         words: start_words(alloc, image, &parts.rams)?,
     })
 }

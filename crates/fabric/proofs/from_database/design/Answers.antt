@@ -44,6 +44,7 @@ of-requires c =
       designed db image c.in_ok-parts.ensures.fit c.in_ok-wired.ensures.few c.in_ok-parts.ensures.taken c.in_ok-wired.ensures.taken
           (device_of c.args.image.now) refl c.in_ok-parts.parts c.in_ok-parts.ensures.parts
           c.in_ok-inputs.inputs.items (c.in_ok-inputs.ensures ∙ ap (filter (λ pin. not pin.output)) c.deref.ensures.value)
+          c.in_ok-wired.wired.outputs.items c.in_ok-wired.ensures.outputs
           c.in_ok-wired.wired.drivers c.in_ok-wired.ensures.drivers c.in_ok-wired.wired.order.items c.in_ok-wired.ensures.order
           c.in_ok-wired.wired.ends.items c.in_ok-wired.ensures.ends c.in_ok-wired.wired.words.items c.in_ok-wired.ensures.words,
     )
@@ -55,6 +56,7 @@ returns-clause-design c =
     subst (IsDesignOf db image) (sym c.of.ensures) (designed db image c.in_ok-parts.ensures.fit c.in_ok-wired.ensures.few c.in_ok-parts.ensures.taken c.in_ok-wired.ensures.taken
     (device_of c.args.image.now) refl c.in_ok-parts.parts c.in_ok-parts.ensures.parts
     c.in_ok-inputs.inputs.items (c.in_ok-inputs.ensures ∙ ap (filter (λ pin. not pin.output)) c.deref.ensures.value)
+    c.in_ok-wired.wired.outputs.items c.in_ok-wired.ensures.outputs
     c.in_ok-wired.wired.drivers c.in_ok-wired.ensures.drivers c.in_ok-wired.wired.order.items c.in_ok-wired.ensures.order
     c.in_ok-wired.wired.ends.items c.in_ok-wired.ensures.ends c.in_ok-wired.wired.words.items c.in_ok-wired.ensures.words)
 

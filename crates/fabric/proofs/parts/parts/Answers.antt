@@ -1,7 +1,7 @@
-use Rattle.std.proofs.Common.{ap, ◌∙◌}
+use Rattle.std.proofs.Common.{◌++◌, ap, ◌∙◌}
 use Rattle.ice_image.specs.Either.{configuration_of}
 use Rattle.chipdb_reader.specs.Kept.{database_in}
-use Rattle.net_extract.specs.Registers.{registers_of}
+use Rattle.net_extract.specs.Registers.{registers_of, pin_registers_of}
 use Rattle.fabric.specs.Buffers.{buffers_at}
 use Rattle.fabric.proofs.Buffers.{buffers-on}
 use Rattle.fabric.proofs.Refused.{links-cause, pins-cause, rams-cause, told}
@@ -26,6 +26,8 @@ returns-in_err-rams-clause-refused c =
 
 pub returns-clause-parts : goal.returns-clause-parts
 returns-clause-parts c =
-    parts-of (database_in c.args.db.now) (configuration_of c.args.image.now) c.in_ok-buffers.ensures.fit _ c.in_ok-links.ensures.links
+    let db = database_in c.args.db.now in
+    let image = configuration_of c.args.image.now in
+    parts-of db image c.in_ok-buffers.ensures.fit _ c.in_ok-links.ensures.links
     (c.in_ok-buffers.ensures.buffers ∙ (ap (buffers_at c.args.db.now.buffers) (c.buffers.ensures ∙ c.in_ok-links.ensures.links.buffers) ∙ buffers-on c.args.db.now (configuration_of c.args.image.now)))
-    c.in_ok-pins.ensures.pins c.in_ok-pins.ensures.globals c.in_ok-cells.ensures.cells (c.in_ok-registers.ensures ∙ ap registers_of c.deref.ensures.value) c.in_ok-cells.ensures.sets c.in_ok-rams.ensures.rams
+    c.in_ok-pins.ensures.pins c.in_ok-pins.ensures.globals c.in_ok-cells.ensures.cells (c.in_ok-registers.ensures ∙ (ap (λ cells. registers_of cells ++ pin_registers_of db image c.deref-2.result.now) c.deref.ensures.value ∙ ap (λ ports. registers_of c.in_ok-cells.cells.lcs.items ++ pin_registers_of db image ports) c.deref-2.ensures.value)) c.in_ok-cells.ensures.sets c.in_ok-rams.ensures.rams

@@ -11,3 +11,6 @@ ghost-clock_ends g a = g.fabric
 
 abbrev pub ghost-clocked : goal.ghost-clocked
 ghost-clocked g a = g.fabric
+
+abbrev pub ghost-outputs : goal.ghost-outputs
+ghost-outputs g a = g.fabric

@@ -48,7 +48,6 @@ module _ (db : Database) (image : Configuration) where
       rams-refuse cause is = behind-device same ∙ rw (pins-taken, is) refl
 
       pub rams-cause : (fault : RamFault) → IsRamCause (rams_fault db image) fault → IsCause (stat_fault db image) (of_rams fault)
-      rams-cause (rams.Mode x y read write) is = rams-refuse _ is
       rams-cause (rams.Cascade x y) is = rams-refuse _ is
       rams-cause (rams.Memory failed) is = tt
 

@@ -18,6 +18,5 @@ of_pins (pins.PinMode x y pio pintype) = Pins (pins.PinMode x y pio pintype)
 of_pins (pins.Memory failed) = Memory failed
 
 abbrev pub of_rams : RamFault → StatFault
-of_rams (rams.Mode x y read write) = Rams (rams.Mode x y read write)
 of_rams (rams.Cascade x y) = Rams (rams.Cascade x y)
 of_rams (rams.Memory failed) = Memory failed

@@ -24,7 +24,6 @@ IsPinCause fault (pins.Memory failed) = ⊥
 
 -- a refusal for RAMs tells their fault; it isn't one for memory
 abbrev pub IsRamCause : Option Fault → RamFault → Type 0
-IsRamCause fault (rams.Mode x y read write) = fault ≡ Some (Fault.mode x y read write)
 IsRamCause fault (rams.Cascade x y) = fault ≡ Some (Fault.cascade x y)
 IsRamCause fault (rams.Memory failed) = ⊥
 

@@ -62,7 +62,7 @@ impl From<RamFault> for StatFault {
     fn from(e: RamFault) -> StatFault {
         match e {
             RamFault::Memory(e) => StatFault::Memory(e),
-            RamFault::Mode { .. } | RamFault::Cascade { .. } => StatFault::Rams(e),
+            RamFault::Cascade { .. } => StatFault::Rams(e),
         }
     }
 }

@@ -14,13 +14,14 @@ mod drives;
 mod explained;
 mod nets;
 mod orders;
+mod pin_kinds;
 mod pins;
 mod rams;
 
 use chipdb_reader::{ChipDb, PinXy};
 use fabric::{Design, FabricFault, LinkEnds, design};
 use fabric_parts::{cells as find_cells, pins as find_pins, rams as find_rams};
-use fabric_wiring::{ClockEnd, Drive};
+use fabric_wiring::{ClockEnd, Drive, Output};
 use ice_image::AnyImage;
 use net_extract::{
     CarrySet, ClockUser, Driver, GlobalNet, Lc, Links, Pin, RamCell, Register, links,
@@ -74,6 +75,10 @@ enum Gives<'a> {
     /// A design with one RAM, whose words are written at falling edges and read at falling edges.
     Ram(bool, bool),
     NoRam,
+    /// A design with one RAM, which is read and written in these modes.
+    Modes(u8, u8),
+    /// A design with these outputs.
+    Outputs(&'a [Output]),
     /// A design in which these drive the nets.
     Drives(&'a [Option<Drive>]),
     /// A design with two pins whose classes are written in this order.
@@ -91,7 +96,6 @@ enum Gives<'a> {
 enum Cause<'a> {
     Pll(u8, u8),
     PinMode(u8, u8, u8, u8),
-    Mode(u8, u8, u8, u8),
     Cascade(u8, u8),
     TwoDrivers(u32, Driver, Driver),
     Loop(u32, &'a [u32]),
@@ -193,12 +197,21 @@ fn are_rams(rams: &[RamCell], wneg: bool, rneg: bool) -> bool {
     }
 }
 
+fn have_modes(rams: &[RamCell], read: u8, write: u8) -> bool {
+    match rams {
+        [ram] => (ram.read, ram.write) == (read, write),
+        _ => false,
+    }
+}
+
 fn has_parts(design: &Design, gives: Gives) -> bool {
     match gives {
         Gives::Pins(pins, globals) => design.pins() == pins && design.globals() == globals,
         Gives::Cells(lcs, sets) => design.lcs() == lcs && design.sets() == sets,
         Gives::Ram(wneg, rneg) => are_rams(design.rams(), wneg, rneg),
         Gives::NoRam => design.rams().is_empty(),
+        Gives::Modes(read, write) => have_modes(design.rams(), read, write),
+        Gives::Outputs(outputs) => design.outputs() == outputs,
         Gives::Drives(drives) => are_drives(design, drives),
         Gives::Registers(registers, order) => {
             design.registers() == registers && design.order() == order
@@ -212,7 +225,6 @@ fn cause_of(fault: &FabricFault) -> Cause {
     match fault {
         FabricFault::Pll { x, y } => Cause::Pll(*x, *y),
         FabricFault::PinMode { x, y, pio, pintype } => Cause::PinMode(*x, *y, *pio, *pintype),
-        FabricFault::Mode { x, y, read, write } => Cause::Mode(*x, *y, *read, *write),
         FabricFault::Cascade { x, y } => Cause::Cascade(*x, *y),
         FabricFault::TwoDrivers { net, first, second } => Cause::TwoDrivers(*net, *first, *second),
         FabricFault::Loop { net, cycle } => Cause::Loop(*net, cycle.nets()),

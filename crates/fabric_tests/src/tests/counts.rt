@@ -117,12 +117,7 @@ fn counts_nothing_for_the_first_cause(rt: HostRuntime) {
         pio: 0,
         pintype: 4,
     };
-    let mode = RamFault::Mode {
-        x: 3,
-        y: 1,
-        read: 0,
-        write: 1,
-    };
+    let cascade = RamFault::Cascade { x: 3, y: 1 };
     for (text, bits, fault) in [
         (OTHER, &[][..], StatFault::Device),
         (
@@ -134,12 +129,7 @@ fn counts_nothing_for_the_first_cause(rt: HostRuntime) {
         (
             RAM,
             &[(3, 1, 0, 0), (3, 1, 3, 0), (3, 2, 1, 0)],
-            StatFault::Rams(mode),
-        ),
-        (
-            RAM,
-            &[(3, 1, 0, 0), (3, 1, 3, 0)],
-            StatFault::Rams(RamFault::Cascade { x: 3, y: 1 }),
+            StatFault::Rams(cascade),
         ),
     ] {
         assert!(rt;

@@ -1,7 +1,7 @@
 // Pins and globals.
 
 use super::{Case, Cause, Gives, is_so};
-use net_extract::{GlobalFrom, GlobalNet, Pin};
+use net_extract::{GlobalFrom, GlobalNet, Pin, PinKind};
 use sample_images::SampleBit;
 use std::alloc::Global;
 
@@ -47,19 +47,23 @@ const FOUND: [Pin; 2] = [
         x: 0,
         y: 1,
         n: 0,
+        kind: PinKind::Plain,
         output: false,
         back: false,
         din: Some(0),
         dout: None,
+        enable: None,
     },
     Pin {
         x: 0,
         y: 2,
         n: 0,
+        kind: PinKind::Plain,
         output: true,
         back: true,
         din: None,
         dout: Some(3),
+        enable: None,
     },
 ];
 

@@ -16,7 +16,7 @@ use Rattle.std.specs.Int.{w16}
 use Rattle.ice_image.proofs.Spread.{same-row}
 
 -- bit k of the number of some bits is bit k of them
-bit_at-word_of : (bits : List Bool) (k : ℕ) → bit_at (word_of bits) k ≡ bit_value (get_or bits k false)
+pub bit_at-word_of : (bits : List Bool) (k : ℕ) → bit_at (word_of bits) k ≡ bit_value (get_or bits k false)
 unfolding word_of
 bit_at-word_of [] k = bit_at-zero k
 bit_at-word_of (true ∷ bits) zero =

@@ -2,10 +2,16 @@
 pub mod Bits
 -- lists of names with their values
 pub mod Lists
+-- narrow words: patterns that are moved down and up
+pub mod Narrow
 -- the sections of a written module, each by itself
 pub mod Sections
 -- items that change the values of names, each name by its own items
 pub mod Fills
+-- items that assign what they compute, each its own name
+pub mod Computed
+-- the ports of a written module, inputs and outputs each by themselves
+pub mod Ports
 -- the right side that is written for a driver has the driver's value, where pins, state and the wires that it reads have theirs
 pub mod Rights
 -- the wires, registers and outputs of a module once they have settled, where its inputs, registers and memories hold what the
@@ -19,7 +25,7 @@ pub mod Ticks
 pub mod Clocked
 -- the run of the written module and the run of the fabric match after the start and after each event of each list
 pub mod Headline
--- names with other numbers are apart
+-- names with other numbers are apart, and those of parts of several kinds
 pub mod Apart
 -- what holds of the fabric that a database and an image configure: its names are apart, its RAMs have all their ports and start
 -- words, and its drivers name parts that it has

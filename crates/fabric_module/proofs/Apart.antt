@@ -1,10 +1,16 @@
--- Names with other numbers are apart.
-use Rattle.std.proofs.Common.{◌≡◌, ℕ, ◌^◌, ◌<◌, List, [], ◌∷◌, ◌++◌, refl, subst, arith}
-use Rattle.std.specs.Prelude.{decimal}
+-- Names with other numbers are apart, and names of parts of several kinds begin differently.
+use Rattle.std.proofs.Common.{◌≡◌, ℕ, ◌^◌, ◌<◌, List, [], ◌∷◌, ◌++◌, refl, ap, ◌∙◌, subst, arith, append_assoc}
+use Rattle.std.specs.Prelude.{Bool, true, false, bytes_eq, codes, decimal, if◌then◌else◌}
 use Rattle.std.specs.Char.{digit_value}
 use Rattle.std.specs.Str.Parse.{AllDigits}
 use Rattle.std.proofs.lemmas.Fmt.{decimal_injective, decimal_is_IsNumeral}
-use Rattle.fabric_module.specs.Names.{two_numbers, three_numbers}
+use Rattle.net_extract.specs.declared.driver.ClockUser.{ClockUser}
+use Rattle.net_extract.specs.declared.driver.ClockUser.TheVariants.{Cell, Input, Output, Read, Write}
+use Rattle.net_extract.specs.declared.register.Register.{Register}
+use Rattle.net_extract.specs.declared.ram.RamCell.{RamCell}
+use Rattle.net_extract.specs.declared.pin.Pin.{Pin}
+use Rattle.net_extract.specs.Outputs.{Output as OutputPort}
+use Rattle.fabric_module.specs.Names.{two_numbers, three_numbers, port_name, enable_name, output_name, user_prefix, user_number, register_name, read_name, memory_name, wire_name}
 
 -- ---- numbers in names
 
@@ -20,6 +26,14 @@ cut-same (x ∷ xs) (y ∷ ys) u w of_x of_y same =
     let rest = cut-same xs ys u w of_x.1 of_y.1 behind in
     let front : xs ≡ ys = rest.0 in
     (cc, rest.1)
+
+no-tail : (xs ys w : List ℕ) → AllDigits 10 xs → xs ≡ ys ++ 95 ∷ w → ⊥
+no-tail [] [] w of_x same = absurd cc
+no-tail [] (y ∷ ys) w of_x same = absurd cc
+no-tail (x ∷ xs) [] w of_x same =
+    let first : x ≡ 95 = cc in let never : digit_value 95 < 10 = subst (λ c. digit_value c < 10) first of_x.0 in absurd (omega arith)
+no-tail (x ∷ xs) (y ∷ ys) w of_x same =
+    let behind : xs ≡ ys ++ 95 ∷ w = cc in no-tail xs ys w of_x.1 behind
 
 -- a number that a name can have
 abbrev pub IsSmall : ℕ → Type 0
@@ -41,3 +55,93 @@ three-same x y n a b c of_x of_y of_n of_a of_b of_c same =
     let cut = cut-same (decimal x) (decimal a) (decimal y ++ 95 ∷ decimal n) (decimal b ++ 95 ∷ decimal c) (number-digits x of_x) (number-digits a of_a) same in
     let rest = cut-same (decimal y) (decimal b) (decimal n) (decimal c) (number-digits y of_y) (number-digits b of_b) cut.1 in
     (decimal_injective x a of_x of_a cut.0, decimal_injective y b of_y of_b rest.0, decimal_injective n c of_n of_c rest.1)
+
+-- a tail behind a third number tells three numbers from others
+pub three-tail : (x y n a b c : ℕ) (tail : List ℕ) → IsSmall x → IsSmall y → IsSmall n → IsSmall a → IsSmall b → three_numbers x y n ≡ three_numbers a b c ++ 95 ∷ tail → ⊥
+unfolding three_numbers
+three-tail x y n a b c tail of_x of_y of_n of_a of_b same =
+    let joined : (decimal a ++ 95 ∷ (decimal b ++ 95 ∷ decimal c)) ++ 95 ∷ tail ≡ decimal a ++ 95 ∷ (decimal b ++ 95 ∷ (decimal c ++ 95 ∷ tail)) =
+    append_assoc (decimal a) (95 ∷ (decimal b ++ 95 ∷ decimal c)) (95 ∷ tail)
+    ∙ ap (λ list. decimal a ++ 95 ∷ list) (append_assoc (decimal b) (95 ∷ decimal c) (95 ∷ tail)) in
+    let cut = cut-same (decimal x) (decimal a) (decimal y ++ 95 ∷ decimal n) (decimal b ++ 95 ∷ (decimal c ++ 95 ∷ tail)) (number-digits x of_x) (number-digits a of_a) (same ∙ joined) in
+    let rest = cut-same (decimal y) (decimal b) (decimal n) (decimal c ++ 95 ∷ tail) (number-digits y of_y) (number-digits b of_b) cut.1 in
+    no-tail (decimal n) (decimal c) tail (number-digits n of_n) rest.1
+
+-- ---- how names begin
+
+by-user : (P : List ℕ → Type 0) → ((rest : List ℕ) → P (codes "ff_" ++ rest)) → ((rest : List ℕ) → P (codes "pi_" ++ rest)) → ((rest : List ℕ) → P (codes "po_" ++ rest))
+    → (user : ClockUser) (rest : List ℕ) → P (user_prefix user ++ rest)
+by-user P of_flip of_input of_output (Cell i) rest = of_flip rest
+by-user P of_flip of_input of_output (Input n) rest = of_input rest
+by-user P of_flip of_input of_output (Output n) rest = of_output rest
+by-user P of_flip of_input of_output Read rest = of_flip rest
+by-user P of_flip of_input of_output Write rest = of_flip rest
+
+-- the name of a register begins in one of three ways
+pub register-begins : (P : List ℕ → Type 0) → ((rest : List ℕ) → P (codes "ff_" ++ rest)) → ((rest : List ℕ) → P (codes "pi_" ++ rest)) → ((rest : List ℕ) → P (codes "po_" ++ rest))
+    → (register : Register) → P (register_name register)
+unfolding register_name
+register-begins P of_flip of_input of_output register = by-user P of_flip of_input of_output register.user (three_numbers register.x register.y (user_number register.user))
+
+by-enable : (P : List ℕ → Type 0) → ((rest : List ℕ) → P (codes "io_" ++ rest)) → (enable : Bool) (pin : Pin) → P (if enable then enable_name pin else port_name pin)
+unfolding port_name enable_name
+by-enable P each true pin = each (three_numbers pin.x pin.y pin.n ++ codes "_en")
+by-enable P each false pin = each (three_numbers pin.x pin.y pin.n)
+
+-- the names of the ports of pins and of outputs begin in one way
+port-begins : (P : List ℕ → Type 0) → ((rest : List ℕ) → P (codes "io_" ++ rest)) → (pin : Pin) → P (port_name pin)
+port-begins P each pin = by-enable P each false pin
+
+output-begins : (P : List ℕ → Type 0) → ((rest : List ℕ) → P (codes "io_" ++ rest)) → (output : OutputPort) → P (output_name output)
+output-begins P each output = by-enable P each output.enable output.pin
+
+-- a name that begins so is no register's, RAM's or wire's
+pub io-no_register : (rest : List ℕ) (register : Register) → bytes_eq (codes "io_" ++ rest) (register_name register) ≡ false
+io-no_register rest register = register-begins (λ name. bytes_eq (codes "io_" ++ rest) name ≡ false) (λ more. refl) (λ more. refl) (λ more. refl) register
+
+pub io-no_read : (rest : List ℕ) (ram : RamCell) → bytes_eq (codes "io_" ++ rest) (read_name ram) ≡ false
+unfolding read_name
+io-no_read rest ram = refl
+
+pub io-no_memory : (rest : List ℕ) (ram : RamCell) → bytes_eq (codes "io_" ++ rest) (memory_name ram) ≡ false
+unfolding memory_name
+io-no_memory rest ram = refl
+
+pub io-no_wire : (rest : List ℕ) (class : ℕ) → bytes_eq (codes "io_" ++ rest) (wire_name class) ≡ false
+unfolding wire_name
+io-no_wire rest class = refl
+
+pub register-no_wire : (register : Register) (class : ℕ) → bytes_eq (register_name register) (wire_name class) ≡ false
+unfolding wire_name
+register-no_wire register class = register-begins (λ name. bytes_eq name (wire_name class) ≡ false) (λ rest. refl) (λ rest. refl) (λ rest. refl) register
+
+pub wire-no_register : (class : ℕ) (register : Register) → bytes_eq (wire_name class) (register_name register) ≡ false
+unfolding wire_name
+wire-no_register class register = register-begins (λ name. bytes_eq (wire_name class) name ≡ false) (λ rest. refl) (λ rest. refl) (λ rest. refl) register
+
+pub register-no_read : (register : Register) (ram : RamCell) → bytes_eq (register_name register) (read_name ram) ≡ false
+unfolding read_name
+register-no_read register ram = register-begins (λ name. bytes_eq name (read_name ram) ≡ false) (λ rest. refl) (λ rest. refl) (λ rest. refl) register
+
+pub register-no_memory : (register : Register) (ram : RamCell) → bytes_eq (register_name register) (memory_name ram) ≡ false
+unfolding memory_name
+register-no_memory register ram = register-begins (λ name. bytes_eq name (memory_name ram) ≡ false) (λ rest. refl) (λ rest. refl) (λ rest. refl) register
+
+pub port-no_register : (pin : Pin) (register : Register) → bytes_eq (port_name pin) (register_name register) ≡ false
+port-no_register pin register = port-begins (λ name. bytes_eq name (register_name register) ≡ false) (λ rest. io-no_register rest register) pin
+
+pub port-no_wire : (pin : Pin) (class : ℕ) → bytes_eq (port_name pin) (wire_name class) ≡ false
+port-no_wire pin class = port-begins (λ name. bytes_eq name (wire_name class) ≡ false) (λ rest. io-no_wire rest class) pin
+
+pub output-no_register : (output : OutputPort) (register : Register) → bytes_eq (output_name output) (register_name register) ≡ false
+output-no_register output register = output-begins (λ name. bytes_eq name (register_name register) ≡ false) (λ rest. io-no_register rest register) output
+
+pub output-no_read : (output : OutputPort) (ram : RamCell) → bytes_eq (output_name output) (read_name ram) ≡ false
+output-no_read output ram = output-begins (λ name. bytes_eq name (read_name ram) ≡ false) (λ rest. io-no_read rest ram) output
+
+pub output-no_memory : (output : OutputPort) (ram : RamCell) → bytes_eq (output_name output) (memory_name ram) ≡ false
+output-no_memory output ram = output-begins (λ name. bytes_eq name (memory_name ram) ≡ false) (λ rest. io-no_memory rest ram) output
+
+pub read-no_memory : (a b : RamCell) → bytes_eq (read_name a) (memory_name b) ≡ false
+unfolding read_name memory_name
+read-no_memory a b = refl

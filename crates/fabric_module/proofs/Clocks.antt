@@ -9,26 +9,27 @@ use Rattle.vlog_module.specs.declared.item.Item.{Item}
 use Rattle.vlog_module.specs.WellFormed.{is_read_unless, Scope, IsAllowed}
 use Rattle.net_extract.specs.declared.register.Register.{Register}
 use Rattle.net_extract.specs.declared.ram.RamCell.{RamCell}
-use Rattle.net_extract.specs.declared.pin.Pin.{Pin}
 use Rattle.net_extract.specs.Joins.{class_of}
-use Rattle.net_extract.specs.Fabric.{Fabric, outputs_of}
-use Rattle.net_extract.proofs.Apart.{apart-filter, All-every}
+use Rattle.net_extract.specs.Fabric.{Fabric}
+use Rattle.net_extract.specs.Outputs.{Output, outputs_of}
+use Rattle.net_extract.proofs.Apart.{All-every}
 use Rattle.net_extract.specs.Drivers.{is_driven}
 use Rattle.net_extract.specs.Clocks.{ClockEnd, LeadsTo, clock_end}
 use Rattle.net_extract.specs.Clocks.ClockEnd.{at_pin, undriven, logic}
 use Rattle.net_extract.specs.Wiring.{wiring_of, IsWriteOrder}
 use Rattle.net_extract.proofs.Chains.{clock_end-leads}
 use Rattle.net_extract.proofs.OneValue.{IsWithin}
-use Rattle.fabric_module.specs.Names.{port_name, register_name, read_name, memory_name}
+use Rattle.fabric_module.specs.Names.{output_name, register_name, read_name, memory_name}
 use Rattle.fabric_module.specs.Rights.{input_name, setting_wire}
 use Rattle.fabric_module.specs.Written.{end_name, clock_name, clocked, output_assign, register_items, read_item, read_items, write_item, write_items}
-use Rattle.fabric_module.proofs.Lists.{NamesDiffer, Apart, flat_map-every, names-absent}
-use Rattle.fabric_module.proofs.Settled.{IsWritable, port-no_register}
+use Rattle.fabric_module.proofs.Lists.{Apart, flat_map-every, names-absent}
+use Rattle.fabric_module.proofs.Apart.{output-no_register, output-no_read, output-no_memory, register-no_read, register-no_memory, read-no_memory}
+use Rattle.fabric_module.proofs.Ports.{outputs-apart}
+use Rattle.fabric_module.proofs.Settled.{IsWritable}
 use Rattle.fabric_module.proofs.Beginning.{IsPorted, IsStarted}
 use Rattle.fabric_module.proofs.Ticks.{leads-place}
 use Rattle.fabric_module.proofs.Grown.{grown, Grows}
-use Rattle.fabric_module.proofs.Declared.{port-no_read, port-no_memory, register-no_read, register-no_memory, read-no_memory}
-use Rattle.fabric_module.proofs.Rights.{IsSourceThere}
+use Rattle.fabric_module.proofs.Rights.{IsSourceThere, IsOutputRule, outputs-ruled}
 use Rattle.fabric_module.proofs.Used.{IsThere, Knows, there-more, setting-class}
 use Rattle.fabric_module.proofs.Readings.{IsReadWell, read-unless}
 use Rattle.fabric_module.proofs.Known.{Stands, stands-more}
@@ -146,20 +147,32 @@ standing-after fabric j k assigned names before after standing more = record {
 -- ---- outputs
 
 module _ (fabric : Fabric) (writable : IsWritable fabric) (scope : Scope) (standing : Standing fabric 5 [] scope) where
-  outputs-next : (next : Scope) (pin : Pin) → IsThere scope (port_name pin) sort.Output → next.section ≤ 6 → next.declared ≡ scope.declared → next.read ≡ scope.read
-      → All (λ n. bytes_eq n (port_name pin) ≡ false) next.assigned → IsAllowed next (output_assign fabric pin)
-  outputs-next next pin there low same same_read away =
-      output-allowed fabric next pin (knows-same fabric scope next (is_driven fabric) same standing.knows) (there-same scope next (port_name pin) sort.Output same there) low away
+  IsOutput : Output → Type 0
+  IsOutput output = IsThere scope (output_name output) sort.Output × IsOutputRule fabric output.rule
+
+  outputs-next : (next : Scope) (output : Output) → IsOutput output → next.section ≤ 6 → next.declared ≡ scope.declared → next.read ≡ scope.read
+      → All (λ n. bytes_eq n (output_name output) ≡ false) next.assigned → IsAllowed next (output_assign fabric output)
+  unfolding IsOutput
+  outputs-next next output is low same same_read away =
+      output-allowed fabric next output (knows-same fabric scope next (is_driven fabric) same standing.knows) is.1
+      (there-same scope next (output_name output) sort.Output same is.0) low away
+
+  outputs-are : All IsOutput (outputs_of fabric)
+  unfolding IsOutput
+  outputs-are =
+      All-both (λ (output : Output). IsThere scope (output_name output) sort.Output) (λ (output : Output). IsOutputRule fabric output.rule)
+      (λ (output : Output). IsThere scope (output_name output) sort.Output × IsOutputRule fabric output.rule) (λ output there ruled. (there, ruled))
+      (outputs_of fabric) standing.stands.outputs (outputs-ruled fabric)
 
   pub outputs-grow : Grows scope (map (output_assign fabric) (outputs_of fabric))
-      × Standing fabric 6 (map port_name (outputs_of fabric)) (fold grown scope (map (output_assign fabric) (outputs_of fabric)))
+      × Standing fabric 6 (map output_name (outputs_of fabric)) (fold grown scope (map (output_assign fabric) (outputs_of fabric)))
   outputs-grow =
       let found =
-      grows-assigned 6 port_name (output_assign fabric) (output-one fabric) (λ pin. IsThere scope (port_name pin) sort.Output) scope.declared scope.read outputs-next
-      (outputs_of fabric) standing.stands.outputs (apart-filter (NamesDiffer port_name) (λ pin. pin.output) fabric.pins writable.ports) scope (omega (arith, standing.section)) refl refl
-      (All-every (λ pin. All (λ n. bytes_eq n (port_name pin) ≡ false) scope.assigned)
-      (λ pin. subst (All (λ n. bytes_eq n (port_name pin) ≡ false)) (sym standing.assigned_is) (All-nil (λ n. bytes_eq n (port_name pin) ≡ false))) (outputs_of fabric)) in
-      (found.0, standing-after fabric 5 6 [] (map port_name (outputs_of fabric)) scope (fold grown scope (map (output_assign fabric) (outputs_of fabric))) standing found.1)
+      grows-assigned 6 output_name (output_assign fabric) (output-one fabric) IsOutput scope.declared scope.read outputs-next
+      (outputs_of fabric) outputs-are (outputs-apart fabric writable.ports) scope (omega (arith, standing.section)) refl refl
+      (All-every (λ output. All (λ n. bytes_eq n (output_name output) ≡ false) scope.assigned)
+      (λ output. subst (All (λ n. bytes_eq n (output_name output) ≡ false)) (sym standing.assigned_is) (All-nil (λ n. bytes_eq n (output_name output) ≡ false))) (outputs_of fabric)) in
+      (found.0, standing-after fabric 5 6 [] (map output_name (outputs_of fabric)) scope (fold grown scope (map (output_assign fabric) (outputs_of fabric))) standing found.1)
 
 -- ---- items of registers and of RAM ports
 
@@ -175,16 +188,16 @@ write_pairs fabric = way_pairs (λ ram. clock_name fabric ram.wclk) fabric.rams
 
 -- what they assign
 pub after_registers : Fabric → List (List ℕ)
-after_registers fabric = map port_name (outputs_of fabric) ++ map (λ (pair : Register × Way). register_name pair.0) (register_pairs fabric)
+after_registers fabric = map output_name (outputs_of fabric) ++ map (λ (pair : Register × Way). register_name pair.0) (register_pairs fabric)
 
 pub after_reads : Fabric → List (List ℕ)
 after_reads fabric =
-    (map port_name (outputs_of fabric) ++ map (λ (pair : Register × Way). register_name pair.0) (register_pairs fabric))
+    (map output_name (outputs_of fabric) ++ map (λ (pair : Register × Way). register_name pair.0) (register_pairs fabric))
     ++ map (λ (pair : RamCell × List ℕ). read_name pair.0) (read_pairs fabric)
 
 pub after_writes : Fabric → List (List ℕ)
 after_writes fabric =
-    ((map port_name (outputs_of fabric) ++ map (λ (pair : Register × Way). register_name pair.0) (register_pairs fabric))
+    ((map output_name (outputs_of fabric) ++ map (λ (pair : Register × Way). register_name pair.0) (register_pairs fabric))
     ++ map (λ (pair : RamCell × List ℕ). read_name pair.0) (read_pairs fabric))
     ++ map (λ (pair : RamCell × List ℕ). memory_name pair.0) (write_pairs fabric)
 
@@ -194,7 +207,7 @@ IsTabled fabric register = (register.table.word < 65536) × All (IsSourceThere f
 
 module _ (fabric : Fabric) (within : IsWithin fabric) (writable : IsWritable fabric) (sized : IsStarted fabric) (few : All (λ register. register.table.word < 65536) fabric.registers)
     (order : List ℕ) (ordered : IsWriteOrder (wiring_of fabric) order) where
-  module _ (scope : Scope) (standing : Standing fabric 6 (map port_name (outputs_of fabric)) scope) where
+  module _ (scope : Scope) (standing : Standing fabric 6 (map output_name (outputs_of fabric)) scope) where
     -- the wire that sets a register at once is there
     setting-there : (register : Register) (wire : List ℕ) → setting_wire fabric register ≡ Some wire → IsThere scope wire sort.Wire
     setting-there register wire is =
@@ -270,7 +283,7 @@ module _ (fabric : Fabric) (within : IsWithin fabric) (writable : IsWritable fab
         scope (omega (arith, standing.section)) refl refl
         (All-every (λ (pair : Register × Way). All (λ n. bytes_eq n (register_name pair.0) ≡ false) scope.assigned)
         (λ pair. subst (All (λ n. bytes_eq n (register_name pair.0) ≡ false)) (sym standing.assigned_is)
-        (names-absent port_name (outputs_of fabric) (register_name pair.0) (λ pin. port-no_register pin pair.0))) (register_pairs fabric)) in
+        (names-absent output_name (outputs_of fabric) (register_name pair.0) (λ output. output-no_register output pair.0))) (register_pairs fabric)) in
         subst (λ items. Grows scope items × Standing fabric 7 (after_registers fabric) (fold grown scope items))
         (sym (given-map way (item_in fabric) (register_items fabric) (λ register. items_by-way fabric register (setting_wire fabric register) (clock_name fabric register.clk)) fabric.registers))
         (found.0, standing-after fabric 6 7 _ _ scope (fold grown scope (map (λ (pair : Register × Way). item_in fabric pair.0 pair.1) (register_pairs fabric))) standing found.1)
@@ -300,8 +313,8 @@ module _ (fabric : Fabric) (within : IsWithin fabric) (writable : IsWritable fab
     reads-away : (ram : RamCell) → All (λ n. bytes_eq n (read_name ram) ≡ false) (after_registers fabric)
     unfolding after_registers
     reads-away ram =
-        All-append (λ n. bytes_eq n (read_name ram) ≡ false) (map port_name (outputs_of fabric)) (map (λ (pair : Register × Way). register_name pair.0) (register_pairs fabric))
-        (names-absent port_name (outputs_of fabric) (read_name ram) (λ pin. port-no_read pin ram))
+        All-append (λ n. bytes_eq n (read_name ram) ≡ false) (map output_name (outputs_of fabric)) (map (λ (pair : Register × Way). register_name pair.0) (register_pairs fabric))
+        (names-absent output_name (outputs_of fabric) (read_name ram) (λ output. output-no_read output ram))
         (names-absent (λ (pair : Register × Way). register_name pair.0) (register_pairs fabric) (read_name ram) (λ pair. register-no_read pair.0 ram))
 
     pub reads-tick : Grows scope (flat_map (read_items fabric) fabric.rams) × Standing fabric 8 (after_reads fabric) (fold grown scope (flat_map (read_items fabric) fabric.rams))
@@ -339,10 +352,10 @@ module _ (fabric : Fabric) (within : IsWithin fabric) (writable : IsWritable fab
     writes-away : (ram : RamCell) → All (λ n. bytes_eq n (memory_name ram) ≡ false) (after_reads fabric)
     unfolding after_reads
     writes-away ram =
-        All-append (λ n. bytes_eq n (memory_name ram) ≡ false) (map port_name (outputs_of fabric) ++ map (λ (pair : Register × Way). register_name pair.0) (register_pairs fabric))
+        All-append (λ n. bytes_eq n (memory_name ram) ≡ false) (map output_name (outputs_of fabric) ++ map (λ (pair : Register × Way). register_name pair.0) (register_pairs fabric))
         (map (λ (pair : RamCell × List ℕ). read_name pair.0) (read_pairs fabric))
-        (All-append (λ n. bytes_eq n (memory_name ram) ≡ false) (map port_name (outputs_of fabric)) (map (λ (pair : Register × Way). register_name pair.0) (register_pairs fabric))
-        (names-absent port_name (outputs_of fabric) (memory_name ram) (λ pin. port-no_memory pin ram))
+        (All-append (λ n. bytes_eq n (memory_name ram) ≡ false) (map output_name (outputs_of fabric)) (map (λ (pair : Register × Way). register_name pair.0) (register_pairs fabric))
+        (names-absent output_name (outputs_of fabric) (memory_name ram) (λ output. output-no_memory output ram))
         (names-absent (λ (pair : Register × Way). register_name pair.0) (register_pairs fabric) (memory_name ram) (λ pair. register-no_memory pair.0 ram)))
         (names-absent (λ (pair : RamCell × List ℕ). read_name pair.0) (read_pairs fabric) (memory_name ram) (λ pair. read-no_memory pair.0 ram))
 

@@ -1,6 +1,6 @@
 -- Each output of a written module is assigned.
-use Rattle.std.proofs.Common.{◌≡◌, ℕ, true, List, [], ◌∷◌, ◌++◌, map, refl, ap, ◌∙◌}
-use Rattle.std.specs.Prelude.{All, Contains, ◌||◌, flat_map, bytes_eq, IsTrue}
+use Rattle.std.proofs.Common.{◌≡◌, ℕ, true, List, [], ◌∷◌, ◌++◌, map, refl, sym, ap, ◌∙◌, subst}
+use Rattle.std.specs.Prelude.{All, Contains, ◌||◌, filter, flat_map, bytes_eq, IsTrue}
 use Rattle.std.specs.List.{list_any}
 use Rattle.std.proofs.lemmas.Grind.{flat_map-append}
 use Rattle.std.proofs.lemmas.List.Folds.{list_any-append}
@@ -10,11 +10,13 @@ use Rattle.shared_lemmas.proofs.Bytes.{bytes_eq-same}
 use Rattle.vlog_module.specs.declared.item.Item.{Item}
 use Rattle.vlog_module.specs.Uses.{uses_of}
 use Rattle.vlog_module.specs.WellFormed.{assigned_by, is_assigned, IsComplete}
-use Rattle.net_extract.specs.declared.pin.Pin.{Pin}
-use Rattle.net_extract.specs.Fabric.{Fabric, outputs_of}
+use Rattle.vlog_module.specs.declared.modules.Port.{Port}
+use Rattle.net_extract.specs.Fabric.{Fabric}
+use Rattle.net_extract.specs.Outputs.{Output, outputs_of}
 use Rattle.net_extract.proofs.OneValue.{filter-has}
-use Rattle.fabric_module.specs.Names.{port_name}
-use Rattle.fabric_module.specs.Written.{port_of, output_assign}
+use Rattle.fabric_module.specs.Names.{output_name}
+use Rattle.fabric_module.specs.Written.{output_assign}
+use Rattle.fabric_module.proofs.Ports.{ports_of, output_port, outputs-ports}
 
 assigned-both : (first second : List Item) (name : List ℕ) → is_assigned (first ++ second) name ≡ (is_assigned first name || is_assigned second name)
 assigned-both first second name =
@@ -29,22 +31,26 @@ pub assigned-behind : (first second : List Item) (name : List ℕ) → is_assign
 assigned-behind first second name is = assigned-both first second name ∙ or_right (is_assigned first name) (is_assigned second name) is
 
 module _ (fabric : Fabric) where
-  all-assigned : (pins : List Pin) → All (λ pin. is_assigned (map (output_assign fabric) pins) (port_name pin) ≡ true) pins
-  all-assigned [] = All-nil (λ pin. is_assigned [] (port_name pin) ≡ true)
-  all-assigned (pin ∷ pins) =
-      All-cons (λ other. is_assigned (map (output_assign fabric) (pin ∷ pins)) (port_name other) ≡ true) pin pins
-      (rw (bytes_eq-same (port_name pin) (port_name pin) refl) refl)
-      (All-weaker (λ other. is_assigned (map (output_assign fabric) pins) (port_name other) ≡ true) (λ other. is_assigned (map (output_assign fabric) (pin ∷ pins)) (port_name other) ≡ true)
-      (λ other is. assigned-behind (output_assign fabric pin ∷ []) (map (output_assign fabric) pins) (port_name other) is) pins (all-assigned pins))
+  all-assigned : (outputs : List Output) → All (λ output. is_assigned (map (output_assign fabric) outputs) (output_name output) ≡ true) outputs
+  all-assigned [] = All-nil (λ output. is_assigned [] (output_name output) ≡ true)
+  all-assigned (output ∷ outputs) =
+      All-cons (λ other. is_assigned (map (output_assign fabric) (output ∷ outputs)) (output_name other) ≡ true) output outputs
+      (rw (bytes_eq-same (output_name output) (output_name output) refl) refl)
+      (All-weaker (λ other. is_assigned (map (output_assign fabric) outputs) (output_name other) ≡ true) (λ other. is_assigned (map (output_assign fabric) (output ∷ outputs)) (output_name other) ≡ true)
+      (λ other is. assigned-behind (output_assign fabric output ∷ []) (map (output_assign fabric) outputs) (output_name other) is) outputs (all-assigned outputs))
 
   -- items that assign all outputs, with others around them
-  pub outputs-complete : (front back : List Item) → IsComplete (map port_of fabric.pins) (front ++ (map (output_assign fabric) (outputs_of fabric) ++ back))
+  pub outputs-complete : (front back : List Item) → IsComplete (ports_of fabric) (front ++ (map (output_assign fabric) (outputs_of fabric) ++ back))
   outputs-complete front back =
       let items = front ++ (map (output_assign fabric) (outputs_of fabric) ++ back) in
-      All-map (λ port. IsTrue port.output → IsTrue (is_assigned items port.name)) port_of fabric.pins
-      (All-weaker (λ (pin : Pin). Contains fabric.pins pin) (λ (pin : Pin). IsTrue pin.output → IsTrue (is_assigned items (port_name pin)))
-      (λ pin there is.
-      assigned-behind front (map (output_assign fabric) (outputs_of fabric) ++ back) (port_name pin)
-      (assigned-front (map (output_assign fabric) (outputs_of fabric)) back (port_name pin)
-      (All-contains (λ other. is_assigned (map (output_assign fabric) (outputs_of fabric)) (port_name other) ≡ true) (outputs_of fabric) pin (all-assigned (outputs_of fabric))
-      (filter-has (λ other. other.output) fabric.pins pin there is)))) fabric.pins (All-contains_itself fabric.pins))
+      let assigned : All (λ (port : Port). is_assigned (front ++ (map (output_assign fabric) (outputs_of fabric) ++ back)) port.name ≡ true) (filter (λ port. port.output) (ports_of fabric)) =
+      subst (All (λ (port : Port). is_assigned (front ++ (map (output_assign fabric) (outputs_of fabric) ++ back)) port.name ≡ true)) (sym (outputs-ports fabric))
+      (All-map (λ (port : Port). is_assigned (front ++ (map (output_assign fabric) (outputs_of fabric) ++ back)) port.name ≡ true) output_port (outputs_of fabric)
+      (All-weaker (λ output. is_assigned (map (output_assign fabric) (outputs_of fabric)) (output_name output) ≡ true) (λ output. is_assigned (front ++ (map (output_assign fabric) (outputs_of fabric) ++ back)) (output_name output) ≡ true)
+      (λ output is.
+      assigned-behind front (map (output_assign fabric) (outputs_of fabric) ++ back) (output_name output)
+      (assigned-front (map (output_assign fabric) (outputs_of fabric)) back (output_name output) is)) (outputs_of fabric) (all-assigned (outputs_of fabric)))) in
+      All-weaker (λ (port : Port). Contains (ports_of fabric) port) (λ (port : Port). IsTrue port.output → IsTrue (is_assigned items port.name))
+      (λ port there is.
+      All-contains (λ (other : Port). is_assigned items other.name ≡ true) (filter (λ other. other.output) (ports_of fabric)) port assigned
+      (filter-has (λ other. other.output) (ports_of fabric) port there is)) (ports_of fabric) (All-contains_itself (ports_of fabric))

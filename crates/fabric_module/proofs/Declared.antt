@@ -14,15 +14,14 @@ use Rattle.vlog_module.specs.Uses.Use.{Declares}
 use Rattle.vlog_module.specs.WellFormed.{section_of, port_sort, Scope, scope_of, is_known, is_first, IsInRange, IsShaped, IsAllowed}
 use Rattle.vlog_cycle.specs.Named.{names_of}
 use Rattle.net_extract.proofs.Within.{All-single}
-use Rattle.net_extract.specs.declared.register.Register.{Register}
-use Rattle.net_extract.specs.declared.ram.RamCell.{RamCell}
-use Rattle.net_extract.specs.declared.pin.Pin.{Pin}
 use Rattle.net_extract.specs.Fabric.{Fabric}
 use Rattle.net_extract.proofs.Apart.{All-every}
-use Rattle.fabric_module.specs.Names.{port_name, register_name, read_name, memory_name}
-use Rattle.fabric_module.specs.Written.{port_of, register_item, read_register, ram_memory}
+use Rattle.fabric_module.specs.Names.{register_name, read_name, memory_name}
+use Rattle.fabric_module.specs.Written.{register_item, read_register, ram_memory}
 use Rattle.fabric_module.proofs.Lists.{Apart, names-absent, map-map}
-use Rattle.fabric_module.proofs.Settled.{IsWritable, port-no_register}
+use Rattle.fabric_module.proofs.Apart.{io-no_register, io-no_read, io-no_memory, register-no_read, register-no_memory, read-no_memory}
+use Rattle.fabric_module.proofs.Ports.{ports_of, port_label, ports-absent}
+use Rattle.fabric_module.proofs.Settled.{IsWritable}
 use Rattle.fabric_module.proofs.Grown.{grown, grown-section, grown-declared, grown-assigned, grown-started, Grows, Grows-append}
 
 pub value_in-none : {A : Type 0} (entries : List (List ℕ × A)) (q : List ℕ) → All (λ name. bytes_eq name q ≡ false) (names_of entries) → value_in entries q ≡ None
@@ -104,35 +103,15 @@ module _ {X : Type 0} (k : ℕ) (as_sort : Sort) (name : X → List ℕ) (item :
 
 -- the names of a fabric's parts are names
 pub record AreNamed (fabric : Fabric) : Type 0 where
-  pub ports : All (λ pin. IsName (port_name pin)) fabric.pins
+  pub ports : All (λ port. IsName (port_label port)) (ports_of fabric)
   pub registers : All (λ register. IsName (register_name register)) fabric.registers
   pub reads : All (λ ram. IsName (read_name ram)) fabric.rams
   pub memories : All (λ ram. IsName (memory_name ram)) fabric.rams
 
-pub port-no_read : (pin : Pin) (ram : RamCell) → bytes_eq (port_name pin) (read_name ram) ≡ false
-unfolding port_name read_name
-port-no_read pin ram = refl
-
-pub port-no_memory : (pin : Pin) (ram : RamCell) → bytes_eq (port_name pin) (memory_name ram) ≡ false
-unfolding port_name memory_name
-port-no_memory pin ram = refl
-
-pub register-no_read : (register : Register) (ram : RamCell) → bytes_eq (register_name register) (read_name ram) ≡ false
-unfolding register_name read_name
-register-no_read register ram = refl
-
-pub register-no_memory : (register : Register) (ram : RamCell) → bytes_eq (register_name register) (memory_name ram) ≡ false
-unfolding register_name memory_name
-register-no_memory register ram = refl
-
-pub read-no_memory : (a b : RamCell) → bytes_eq (read_name a) (memory_name b) ≡ false
-unfolding read_name memory_name
-read-no_memory a b = refl
-
 -- what ports and state declare
 abbrev pub state_names : Fabric → List (List ℕ × Sort)
 state_names fabric =
-    ((map (λ pin. (port_name pin, port_sort (port_of pin))) fabric.pins
+    ((map (λ port. (port_label port, port_sort port)) (ports_of fabric)
     ++ map (λ register. (register_name register, sort.Register)) fabric.registers)
     ++ map (λ ram. (read_name ram, sort.Word)) fabric.rams)
     ++ map (λ ram. (memory_name ram, sort.Memory)) fabric.rams
@@ -146,14 +125,13 @@ pub record StateLeft (fabric : Fabric) (scope : Scope) : Type 0 where
 
 module _ (fabric : Fabric) (writable : IsWritable fabric) (named : AreNamed fabric) where
   scope-ports : Scope
-  scope-ports = scope_of (map port_of fabric.pins) []
+  scope-ports = scope_of (ports_of fabric) []
 
-  ports-names : names_of scope-ports.declared ≡ map port_name fabric.pins
-  unfolding scope-ports port_name
+  ports-names : names_of scope-ports.declared ≡ map port_label (ports_of fabric)
+  unfolding scope-ports
   ports-names =
-      ap names_of (append-nil (map (λ port. (port.name, port_sort port)) (map port_of fabric.pins)))
-      ∙ (ap names_of (map-map port_of (λ port. (port.name, port_sort port)) fabric.pins)
-      ∙ map-map (λ pin. ((port_of pin).name, port_sort (port_of pin))) (λ (entry : List ℕ × Sort). entry.0) fabric.pins)
+      ap names_of (append-nil (map (λ port. (port.name, port_sort port)) (ports_of fabric)))
+      ∙ map-map (λ port. (port_label port, port_sort port)) (λ (entry : List ℕ × Sort). entry.0) (ports_of fabric)
 
   ports-low : scope-ports.section ≡ 1
   unfolding scope-ports
@@ -174,18 +152,18 @@ module _ (fabric : Fabric) (writable : IsWritable fabric) (named : AreNamed fabr
       grows-declared 2 sort.Register register_name register_item registers-one fabric.registers scope-ports (omega (arith, ports-low))
       named.registers writable.registers
       (All-every (λ register. All (λ n. bytes_eq n (register_name register) ≡ false) (names_of scope-ports.declared)) (λ register.
-      subst (All (λ n. bytes_eq n (register_name register) ≡ false)) (sym ports-names) (names-absent port_name fabric.pins (register_name register) (λ pin. port-no_register pin register))) fabric.registers)
+      subst (All (λ n. bytes_eq n (register_name register) ≡ false)) (sym ports-names) (ports-absent fabric.pins (register_name register) (λ rest. io-no_register rest register))) fabric.registers)
 
   scope-registers : Scope
   scope-registers = fold grown scope-ports (map register_item fabric.registers)
 
-  registers-names : names_of scope-registers.declared ≡ map port_name fabric.pins ++ map register_name fabric.registers
+  registers-names : names_of scope-registers.declared ≡ map port_label (ports_of fabric) ++ map register_name fabric.registers
   unfolding scope-registers
   registers-names =
       ap names_of registers-grow.1.declared_is
       ∙ (map-append (λ (entry : List ℕ × Sort). entry.0) scope-ports.declared (map (λ register. (register_name register, sort.Register)) fabric.registers)
       ∙ (ap (λ list. list ++ names_of (map (λ register. (register_name register, sort.Register)) fabric.registers)) ports-names
-      ∙ ap (λ list. map port_name fabric.pins ++ list) (map-map (λ register. (register_name register, sort.Register)) (λ (entry : List ℕ × Sort). entry.0) fabric.registers)))
+      ∙ ap (λ list. map port_label (ports_of fabric) ++ list) (map-map (λ register. (register_name register, sort.Register)) (λ (entry : List ℕ × Sort). entry.0) fabric.registers)))
 
   reads-grow : Grows scope-registers (map read_register fabric.rams)
       × Declared scope-registers (fold grown scope-registers (map read_register fabric.rams)) 3 (map (λ ram. (read_name ram, sort.Word)) fabric.rams)
@@ -195,20 +173,20 @@ module _ (fabric : Fabric) (writable : IsWritable fabric) (named : AreNamed fabr
       named.reads writable.reads
       (All-every (λ ram. All (λ n. bytes_eq n (read_name ram) ≡ false) (names_of scope-registers.declared)) (λ ram.
       subst (All (λ n. bytes_eq n (read_name ram) ≡ false)) (sym registers-names)
-      (All-append (λ n. bytes_eq n (read_name ram) ≡ false) (map port_name fabric.pins) (map register_name fabric.registers)
-      (names-absent port_name fabric.pins (read_name ram) (λ pin. port-no_read pin ram))
+      (All-append (λ n. bytes_eq n (read_name ram) ≡ false) (map port_label (ports_of fabric)) (map register_name fabric.registers)
+      (ports-absent fabric.pins (read_name ram) (λ rest. io-no_read rest ram))
       (names-absent register_name fabric.registers (read_name ram) (λ register. register-no_read register ram)))) fabric.rams)
 
   scope-reads : Scope
   scope-reads = fold grown scope-registers (map read_register fabric.rams)
 
-  reads-names : names_of scope-reads.declared ≡ (map port_name fabric.pins ++ map register_name fabric.registers) ++ map read_name fabric.rams
+  reads-names : names_of scope-reads.declared ≡ (map port_label (ports_of fabric) ++ map register_name fabric.registers) ++ map read_name fabric.rams
   unfolding scope-reads
   reads-names =
       ap names_of reads-grow.1.declared_is
       ∙ (map-append (λ (entry : List ℕ × Sort). entry.0) scope-registers.declared (map (λ ram. (read_name ram, sort.Word)) fabric.rams)
       ∙ (ap (λ list. list ++ names_of (map (λ ram. (read_name ram, sort.Word)) fabric.rams)) registers-names
-      ∙ ap (λ list. (map port_name fabric.pins ++ map register_name fabric.registers) ++ list) (map-map (λ ram. (read_name ram, sort.Word)) (λ (entry : List ℕ × Sort). entry.0) fabric.rams)))
+      ∙ ap (λ list. (map port_label (ports_of fabric) ++ map register_name fabric.registers) ++ list) (map-map (λ ram. (read_name ram, sort.Word)) (λ (entry : List ℕ × Sort). entry.0) fabric.rams)))
 
   memories-grow : Grows scope-reads (map ram_memory fabric.rams)
       × Declared scope-reads (fold grown scope-reads (map ram_memory fabric.rams)) 4 (map (λ ram. (memory_name ram, sort.Memory)) fabric.rams)
@@ -218,29 +196,29 @@ module _ (fabric : Fabric) (writable : IsWritable fabric) (named : AreNamed fabr
       named.memories writable.memories
       (All-every (λ ram. All (λ n. bytes_eq n (memory_name ram) ≡ false) (names_of scope-reads.declared)) (λ ram.
       subst (All (λ n. bytes_eq n (memory_name ram) ≡ false)) (sym reads-names)
-      (All-append (λ n. bytes_eq n (memory_name ram) ≡ false) (map port_name fabric.pins ++ map register_name fabric.registers) (map read_name fabric.rams)
-      (All-append (λ n. bytes_eq n (memory_name ram) ≡ false) (map port_name fabric.pins) (map register_name fabric.registers)
-      (names-absent port_name fabric.pins (memory_name ram) (λ pin. port-no_memory pin ram))
+      (All-append (λ n. bytes_eq n (memory_name ram) ≡ false) (map port_label (ports_of fabric) ++ map register_name fabric.registers) (map read_name fabric.rams)
+      (All-append (λ n. bytes_eq n (memory_name ram) ≡ false) (map port_label (ports_of fabric)) (map register_name fabric.registers)
+      (ports-absent fabric.pins (memory_name ram) (λ rest. io-no_memory rest ram))
       (names-absent register_name fabric.registers (memory_name ram) (λ register. register-no_memory register ram)))
       (names-absent read_name fabric.rams (memory_name ram) (λ other. read-no_memory other ram)))) fabric.rams)
 
   -- registers, words and memories may stand after the ports
-  pub state-grows : Grows (scope_of (map port_of fabric.pins) []) (map register_item fabric.registers ++ (map read_register fabric.rams ++ map ram_memory fabric.rams))
+  pub state-grows : Grows (scope_of (ports_of fabric) []) (map register_item fabric.registers ++ (map read_register fabric.rams ++ map ram_memory fabric.rams))
   unfolding scope-ports scope-registers scope-reads
   state-grows =
       Grows-append scope-ports (map register_item fabric.registers) (map read_register fabric.rams ++ map ram_memory fabric.rams) registers-grow.0
       (Grows-append scope-registers (map read_register fabric.rams) (map ram_memory fabric.rams) reads-grow.0 memories-grow.0)
 
   -- what stands after registers, words and memories
-  pub state-left : StateLeft fabric (fold grown (scope_of (map port_of fabric.pins) []) (map register_item fabric.registers ++ (map read_register fabric.rams ++ map ram_memory fabric.rams)))
+  pub state-left : StateLeft fabric (fold grown (scope_of (ports_of fabric) []) (map register_item fabric.registers ++ (map read_register fabric.rams ++ map ram_memory fabric.rams)))
   unfolding scope-ports scope-registers scope-reads
   state-left =
-      let joined : fold grown (scope_of (map port_of fabric.pins) []) (map register_item fabric.registers ++ (map read_register fabric.rams ++ map ram_memory fabric.rams))
+      let joined : fold grown (scope_of (ports_of fabric) []) (map register_item fabric.registers ++ (map read_register fabric.rams ++ map ram_memory fabric.rams))
       ≡ fold grown scope-reads (map ram_memory fabric.rams) =
       fold-append grown scope-ports (map register_item fabric.registers) (map read_register fabric.rams ++ map ram_memory fabric.rams)
       ∙ fold-append grown scope-registers (map read_register fabric.rams) (map ram_memory fabric.rams) in
-      let ports : scope-ports.declared ≡ map (λ pin. (port_name pin, port_sort (port_of pin))) fabric.pins =
-      append-nil (map (λ port. (port.name, port_sort port)) (map port_of fabric.pins)) ∙ map-map port_of (λ port. (port.name, port_sort port)) fabric.pins in
+      let ports : scope-ports.declared ≡ map (λ port. (port_label port, port_sort port)) (ports_of fabric) =
+      append-nil (map (λ port. (port.name, port_sort port)) (ports_of fabric)) in
       subst (StateLeft fabric) (sym joined) (record {
         section = memories-grow.1.section;
         declared_is = memories-grow.1.declared_is

@@ -1,6 +1,6 @@
 -- What stands before the wires, the outputs and the clocked items of a written module: the names that they use.
 use Rattle.std.proofs.Common.{◌≡◌, ℕ, Bool, true, false, List, [], ◌∷◌, ◌++◌, map, refl, sym, ap, ◌∙◌, subst, inl, inr, append-nil}
-use Rattle.std.specs.Prelude.{All, Some, filter, bytes_eq, not, if◌then◌else◌}
+use Rattle.std.specs.Prelude.{All, Some, filter, bytes_eq, codes, not, if◌then◌else◌}
 use Rattle.std.proofs.lemmas.Bool.{cases_Bool}
 use Rattle.std.proofs.lemmas.List.{map-append}
 use Rattle.std.proofs.lemmas.List.Elements.{All-nil, All-cons, All-head, All-tail, All-append, All-weaker, All-contains, All-filter, filter_passes}
@@ -13,15 +13,18 @@ use Rattle.vlog_module.specs.Names.{IsName}
 use Rattle.vlog_module.specs.WellFormed.{port_sort, Scope}
 use Rattle.vlog_cycle.specs.Named.{names_of}
 use Rattle.net_extract.specs.declared.ram.RamCell.{RamCell}
-use Rattle.net_extract.specs.declared.pin.Pin.{Pin}
-use Rattle.net_extract.specs.Fabric.{Fabric, inputs_of, outputs_of}
+use Rattle.vlog_module.specs.declared.modules.Port.{Port}
+use Rattle.net_extract.specs.Fabric.{Fabric, inputs_of}
+use Rattle.net_extract.specs.Outputs.{outputs_of}
 use Rattle.net_extract.specs.Wiring.{has}
 use Rattle.net_extract.proofs.Order.{has-none, has-cases}
-use Rattle.fabric_module.specs.Names.{port_name, register_name, read_name, memory_name, wire_name}
+use Rattle.fabric_module.specs.Names.{port_name, output_name, register_name, read_name, memory_name, wire_name}
 use Rattle.fabric_module.specs.Written.{port_of}
 use Rattle.fabric_module.proofs.Lists.{Apart, value_in-front, value_in-behind, names-absent, map-map, All-pick}
-use Rattle.fabric_module.proofs.Settled.{IsWritable, port-no_register, port-no_wire, register-no_wire}
-use Rattle.fabric_module.proofs.Declared.{AreNamed, StateLeft, port-no_read, port-no_memory, register-no_read, register-no_memory, read-no_memory}
+use Rattle.fabric_module.proofs.Apart.{io-no_register, io-no_read, io-no_memory, io-no_wire, register-no_read, register-no_memory, register-no_wire, read-no_memory}
+use Rattle.fabric_module.proofs.Ports.{ports_of, port_label, output_port, ports-inputs, outputs-ports, All-unmap, ports-absent}
+use Rattle.fabric_module.proofs.Settled.{IsWritable}
+use Rattle.fabric_module.proofs.Declared.{AreNamed, StateLeft}
 use Rattle.fabric_module.proofs.Used.{IsThere, Knows, there-more}
 
 -- ---- names with their sorts
@@ -79,7 +82,7 @@ no-name-both first second q of_first of_second =
 -- all ports, registers, words and memories of a fabric are declared
 pub record Stands (fabric : Fabric) (scope : Scope) : Type 0 where
   pub inputs : All (λ pin. IsThere scope (port_name pin) sort.Input) (inputs_of fabric)
-  pub outputs : All (λ pin. IsThere scope (port_name pin) sort.Output) (outputs_of fabric)
+  pub outputs : All (λ output. IsThere scope (output_name output) sort.Output) (outputs_of fabric)
   pub registers : All (λ register. IsThere scope (register_name register) sort.Register) fabric.registers
   pub reads : All (λ ram. IsThere scope (read_name ram) sort.Word) fabric.rams
   pub memories : All (λ ram. IsThere scope (memory_name ram) sort.Memory) fabric.rams
@@ -89,7 +92,7 @@ pub stands-more : (fabric : Fabric) (old new : Scope) (more : List (List ℕ × 
 stands-more fabric old new more is stands =
     let moved = λ (name : List ℕ) (as_sort : Sort) (there : IsThere old name as_sort). there-more old new more name as_sort is there in record {
       inputs = All-weaker (λ pin. IsThere old (port_name pin) sort.Input) (λ pin. IsThere new (port_name pin) sort.Input) (λ pin there. moved (port_name pin) sort.Input there) (inputs_of fabric) stands.inputs;
-      outputs = All-weaker (λ pin. IsThere old (port_name pin) sort.Output) (λ pin. IsThere new (port_name pin) sort.Output) (λ pin there. moved (port_name pin) sort.Output there) (outputs_of fabric) stands.outputs;
+      outputs = All-weaker (λ output. IsThere old (output_name output) sort.Output) (λ output. IsThere new (output_name output) sort.Output) (λ output there. moved (output_name output) sort.Output there) (outputs_of fabric) stands.outputs;
       registers = All-weaker (λ register. IsThere old (register_name register) sort.Register) (λ register. IsThere new (register_name register) sort.Register) (λ register there. moved (register_name register) sort.Register there) fabric.registers stands.registers;
       reads = All-weaker (λ ram. IsThere old (read_name ram) sort.Word) (λ ram. IsThere new (read_name ram) sort.Word) (λ ram there. moved (read_name ram) sort.Word there) fabric.rams stands.reads;
       memories = All-weaker (λ ram. IsThere old (memory_name ram) sort.Memory) (λ ram. IsThere new (memory_name ram) sort.Memory) (λ ram there. moved (memory_name ram) sort.Memory there) fabric.rams stands.memories;
@@ -104,15 +107,15 @@ stands-knows fabric scope wired stands wires = record {
   wire = wires;
 }
 
-input-sort : (pin : Pin) → not pin.output ≡ true → port_sort (port_of pin) ≡ sort.Input
-input-sort pin is = by-bit pin.output is
+input-sort : (port : Port) → not port.output ≡ true → port_sort port ≡ sort.Input
+input-sort port is = by-bit port.output is
   where
     by-bit : (output : Bool) → not output ≡ true → (if output then sort.Output else sort.Input) ≡ sort.Input
     by-bit true never = absurd cc
     by-bit false is = refl
 
-output-sort : (pin : Pin) → pin.output ≡ true → port_sort (port_of pin) ≡ sort.Output
-output-sort pin is = rw is refl
+output-sort : (port : Port) → port.output ≡ true → port_sort port ≡ sort.Output
+output-sort port is = rw is refl
 
 read-no_wire : (ram : RamCell) (class : ℕ) → bytes_eq (read_name ram) (wire_name class) ≡ false
 unfolding read_name wire_name
@@ -124,7 +127,7 @@ memory-no_wire ram class = refl
 
 module _ (fabric : Fabric) (writable : IsWritable fabric) (named : AreNamed fabric) (scope : Scope) (left : StateLeft fabric scope) where
   ports : List (List ℕ × Sort)
-  ports = with_sorts port_name (λ pin. port_sort (port_of pin)) fabric.pins
+  ports = with_sorts port_label port_sort (ports_of fabric)
 
   registers : List (List ℕ × Sort)
   registers = with_sorts register_name (λ register. sort.Register) fabric.registers
@@ -139,13 +142,19 @@ module _ (fabric : Fabric) (writable : IsWritable fabric) (named : AreNamed fabr
   unfolding ports registers words memories
   state-is = left.declared_is
 
-  port-sorts : All (IsSorted port_name (λ pin. port_sort (port_of pin)) scope.declared) fabric.pins
+  port-sorts : All (IsSorted port_label port_sort scope.declared) (ports_of fabric)
   unfolding ports
   port-sorts =
-      subst (λ list. All (IsSorted port_name (λ pin. port_sort (port_of pin)) list) fabric.pins) (sym state-is)
-      (sorted-front port_name (λ pin. port_sort (port_of pin)) ((ports ++ registers) ++ words) memories fabric.pins
-      (sorted-front port_name (λ pin. port_sort (port_of pin)) (ports ++ registers) words fabric.pins
-      (sorted-front port_name (λ pin. port_sort (port_of pin)) ports registers fabric.pins (sorted-there port_name (λ pin. port_sort (port_of pin)) fabric.pins writable.ports))))
+      subst (λ list. All (IsSorted port_label port_sort list) (ports_of fabric)) (sym state-is)
+      (sorted-front port_label port_sort ((ports ++ registers) ++ words) memories (ports_of fabric)
+      (sorted-front port_label port_sort (ports ++ registers) words (ports_of fabric)
+      (sorted-front port_label port_sort ports registers (ports_of fabric) (sorted-there port_label port_sort (ports_of fabric) writable.ports))))
+
+  no-port : (q : List ℕ) → ((rest : List ℕ) → bytes_eq (codes "io_" ++ rest) q ≡ false) → NoName ports q
+  unfolding ports
+  no-port q away =
+      subst (All (λ n. bytes_eq n q ≡ false)) (sym (map-map (λ port. (port_label port, port_sort port)) (λ (entry : List ℕ × Sort). entry.0) (ports_of fabric)))
+      (ports-absent fabric.pins q away)
 
   register-sorts : All (IsSorted register_name (λ register. sort.Register) scope.declared) fabric.registers
   unfolding ports registers
@@ -153,7 +162,7 @@ module _ (fabric : Fabric) (writable : IsWritable fabric) (named : AreNamed fabr
       subst (λ list. All (IsSorted register_name (λ register. sort.Register) list) fabric.registers) (sym state-is)
       (sorted-front register_name (λ register. sort.Register) ((ports ++ registers) ++ words) memories fabric.registers
       (sorted-between register_name (λ register. sort.Register) ports words fabric.registers writable.registers
-      (λ register. no-name-of port_name (λ pin. port_sort (port_of pin)) fabric.pins (register_name register) (λ pin. port-no_register pin register))))
+      (λ register. no-port (register_name register) (λ rest. io-no_register rest register))))
 
   word-sorts : All (IsSorted read_name (λ ram. sort.Word) scope.declared) fabric.rams
   unfolding ports registers words
@@ -161,7 +170,7 @@ module _ (fabric : Fabric) (writable : IsWritable fabric) (named : AreNamed fabr
       subst (λ list. All (IsSorted read_name (λ ram. sort.Word) list) fabric.rams) (sym state-is)
       (sorted-between read_name (λ ram. sort.Word) (ports ++ registers) memories fabric.rams writable.reads
       (λ ram. no-name-both ports registers (read_name ram)
-      (no-name-of port_name (λ pin. port_sort (port_of pin)) fabric.pins (read_name ram) (λ pin. port-no_read pin ram))
+      (no-port (read_name ram) (λ rest. io-no_read rest ram))
       (no-name-of register_name (λ register. sort.Register) fabric.registers (read_name ram) (λ register. register-no_read register ram))))
 
   memory-sorts : All (IsSorted memory_name (λ ram. sort.Memory) scope.declared) fabric.rams
@@ -171,25 +180,30 @@ module _ (fabric : Fabric) (writable : IsWritable fabric) (named : AreNamed fabr
       (sorted-between memory_name (λ ram. sort.Memory) ((ports ++ registers) ++ words) [] fabric.rams writable.memories
       (λ ram. no-name-both (ports ++ registers) words (memory_name ram)
       (no-name-both ports registers (memory_name ram)
-      (no-name-of port_name (λ pin. port_sort (port_of pin)) fabric.pins (memory_name ram) (λ pin. port-no_memory pin ram))
+      (no-port (memory_name ram) (λ rest. io-no_memory rest ram))
       (no-name-of register_name (λ register. sort.Register) fabric.registers (memory_name ram) (λ register. register-no_memory register ram)))
       (no-name-of read_name (λ ram. sort.Word) fabric.rams (memory_name ram) (λ other. read-no_memory other ram))))
 
-  port-there : (as_sort : Sort) (test : Pin → Bool) → ((pin : Pin) → test pin ≡ true → port_sort (port_of pin) ≡ as_sort)
-      → All (λ pin. IsThere scope (port_name pin) as_sort) (filter test fabric.pins)
-  port-there as_sort test is =
-      All-both (λ pin. IsThere scope (port_name pin) (port_sort (port_of pin))) (λ pin. test pin ≡ true) (λ pin. IsThere scope (port_name pin) as_sort)
-      (λ pin there passes. subst (IsThere scope (port_name pin)) (is pin passes) there) (filter test fabric.pins)
-      (All-filter test (λ pin. IsThere scope (port_name pin) (port_sort (port_of pin))) fabric.pins
-      (All-both (λ pin. IsName (port_name pin)) (IsSorted port_name (λ pin. port_sort (port_of pin)) scope.declared) (λ pin. IsThere scope (port_name pin) (port_sort (port_of pin)))
-      (λ pin name found. record { named = name; declared = found }) fabric.pins named.ports port-sorts))
-      (filter_passes test fabric.pins)
+  -- each port is declared as what it is
+  ports-there : All (λ port. IsThere scope (port_label port) (port_sort port)) (ports_of fabric)
+  ports-there =
+      All-both (λ port. IsName (port_label port)) (IsSorted port_label port_sort scope.declared) (λ port. IsThere scope (port_label port) (port_sort port))
+      (λ port name found. record { named = name; declared = found }) (ports_of fabric) named.ports port-sorts
+
+  sorted-port : (test : Port → Bool) (as_sort : Sort) → ((port : Port) → test port ≡ true → port_sort port ≡ as_sort)
+      → All (λ port. IsThere scope (port_label port) as_sort) (filter test (ports_of fabric))
+  sorted-port test as_sort is =
+      All-both (λ port. IsThere scope (port_label port) (port_sort port)) (λ port. test port ≡ true) (λ port. IsThere scope (port_label port) as_sort)
+      (λ port there passes. subst (IsThere scope (port_label port)) (is port passes) there) (filter test (ports_of fabric))
+      (All-filter test (λ port. IsThere scope (port_label port) (port_sort port)) (ports_of fabric) ports-there) (filter_passes test (ports_of fabric))
 
   -- after the state, all of it is declared
   pub state-stands : Stands fabric scope
   state-stands = record {
-    inputs = port-there sort.Input (λ pin. not pin.output) input-sort;
-    outputs = port-there sort.Output (λ pin. pin.output) output-sort;
+    inputs = All-unmap (λ port. IsThere scope (port_label port) sort.Input) port_of (inputs_of fabric)
+        (subst (All (λ port. IsThere scope (port_label port) sort.Input)) (ports-inputs fabric.pins) (sorted-port (λ port. not port.output) sort.Input input-sort));
+    outputs = All-unmap (λ port. IsThere scope (port_label port) sort.Output) output_port (outputs_of fabric)
+        (subst (All (λ port. IsThere scope (port_label port) sort.Output)) (outputs-ports fabric) (sorted-port (λ port. port.output) sort.Output output-sort));
     registers = All-both (λ register. IsName (register_name register)) (IsSorted register_name (λ register. sort.Register) scope.declared) (λ register. IsThere scope (register_name register) sort.Register)
         (λ register name found. record { named = name; declared = found }) fabric.registers named.registers register-sorts;
     reads = All-both (λ ram. IsName (read_name ram)) (IsSorted read_name (λ ram. sort.Word) scope.declared) (λ ram. IsThere scope (read_name ram) sort.Word)
@@ -206,7 +220,7 @@ module _ (fabric : Fabric) (writable : IsWritable fabric) (named : AreNamed fabr
       (no-name-both ((ports ++ registers) ++ words) memories (wire_name class)
       (no-name-both (ports ++ registers) words (wire_name class)
       (no-name-both ports registers (wire_name class)
-      (no-name-of port_name (λ pin. port_sort (port_of pin)) fabric.pins (wire_name class) (λ pin. port-no_wire pin class))
+      (no-port (wire_name class) (λ rest. io-no_wire rest class))
       (no-name-of register_name (λ register. sort.Register) fabric.registers (wire_name class) (λ register. register-no_wire register class)))
       (no-name-of read_name (λ ram. sort.Word) fabric.rams (wire_name class) (λ ram. read-no_wire ram class)))
       (no-name-of memory_name (λ ram. sort.Memory) fabric.rams (wire_name class) (λ ram. memory-no_wire ram class)))

@@ -1,6 +1,6 @@
 -- The names of a written module are names, its ports are apart, and each of its outputs is assigned.
 use Rattle.std.proofs.Common.{◌≡◌, ℕ, Bool, true, false, List, [], ◌∷◌, ◌++◌, map, refl, ◌∙◌}
-use Rattle.std.specs.Prelude.{All, bytes_eq, decimal, not, ◌&&◌, IsTrue}
+use Rattle.std.specs.Prelude.{All, bytes_eq, codes, decimal, not, ◌&&◌, IsTrue}
 use Rattle.std.specs.List.{list_all, IsDistinct, AllByRecursion}
 use Rattle.std.specs.Str.Parse.{AllDigits}
 use Rattle.std.proofs.lemmas.Bool.{le-leb, or_right, and_from}
@@ -8,10 +8,12 @@ use Rattle.std.proofs.lemmas.Str.Parse.{tells_digits}
 use Rattle.std.proofs.lemmas.List.Folds.{list_all-append}
 use Rattle.std.proofs.lemmas.List.Elements.{All-head, All-tail}
 use Rattle.vlog_module.specs.Names.{is_name_byte, reserved_words, is_name, IsName}
+use Rattle.net_extract.specs.declared.driver.ClockUser.{ClockUser}
+use Rattle.net_extract.specs.declared.driver.ClockUser.TheVariants.{Cell, Input, Output, Read, Write}
 use Rattle.net_extract.specs.declared.register.Register.{Register}
 use Rattle.net_extract.specs.declared.ram.RamCell.{RamCell}
 use Rattle.net_extract.specs.declared.pin.Pin.{Pin}
-use Rattle.fabric_module.specs.Names.{two_numbers, three_numbers, port_name, user_number, register_name, read_name, memory_name, wire_name}
+use Rattle.fabric_module.specs.Names.{two_numbers, three_numbers, port_name, enable_name, user_prefix, user_number, register_name, read_name, memory_name, wire_name}
 use Rattle.fabric_module.proofs.Lists.{Apart}
 use Rattle.fabric_module.proofs.Apart.{IsSmall, number-digits}
 
@@ -52,11 +54,27 @@ pub port-named : (pin : Pin) → IsSmall pin.x → IsSmall pin.y → IsSmall pin
 unfolding is_name reserved_words port_name
 port-named pin of_x of_y of_n = name-true (list_all is_name_byte (three_numbers pin.x pin.y pin.n)) false (three-named pin.x pin.y pin.n of_x of_y of_n) refl
 
+pub enable-named : (pin : Pin) → IsSmall pin.x → IsSmall pin.y → IsSmall pin.n → IsName (enable_name pin)
+unfolding is_name reserved_words port_name enable_name
+enable-named pin of_x of_y of_n =
+    name-true (list_all is_name_byte (three_numbers pin.x pin.y pin.n ++ codes "_en")) false
+    (list_all-append is_name_byte (three_numbers pin.x pin.y pin.n) (codes "_en")
+    ∙ and_from (list_all is_name_byte (three_numbers pin.x pin.y pin.n)) true (three-named pin.x pin.y pin.n of_x of_y of_n) refl) refl
+
+named-begins : (P : List ℕ → Type 0) → ((rest : List ℕ) → list_all is_name_byte rest ≡ true → P (codes "ff_" ++ rest)) → ((rest : List ℕ) → list_all is_name_byte rest ≡ true → P (codes "pi_" ++ rest))
+    → ((rest : List ℕ) → list_all is_name_byte rest ≡ true → P (codes "po_" ++ rest)) → (user : ClockUser) (rest : List ℕ) → list_all is_name_byte rest ≡ true → P (user_prefix user ++ rest)
+named-begins P of_flip of_input of_output (Cell i) rest = of_flip rest
+named-begins P of_flip of_input of_output (Input n) rest = of_input rest
+named-begins P of_flip of_input of_output (Output n) rest = of_output rest
+named-begins P of_flip of_input of_output Read rest = of_flip rest
+named-begins P of_flip of_input of_output Write rest = of_flip rest
+
 pub register-named : (register : Register) → IsSmall register.x → IsSmall register.y → IsSmall (user_number register.user) → IsName (register_name register)
 unfolding is_name reserved_words register_name
 register-named register of_x of_y of_user =
-    name-true (list_all is_name_byte (three_numbers register.x register.y (user_number register.user))) false
-    (three-named register.x register.y (user_number register.user) of_x of_y of_user) refl
+    named-begins IsName (λ rest all. name-true (list_all is_name_byte rest) false all refl) (λ rest all. name-true (list_all is_name_byte rest) false all refl)
+    (λ rest all. name-true (list_all is_name_byte rest) false all refl) register.user (three_numbers register.x register.y (user_number register.user))
+    (three-named register.x register.y (user_number register.user) of_x of_y of_user)
 
 pub read-named : (ram : RamCell) → IsSmall ram.x → IsSmall ram.y → IsName (read_name ram)
 unfolding is_name reserved_words read_name

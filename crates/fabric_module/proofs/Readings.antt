@@ -16,7 +16,8 @@ use Rattle.fabric_module.specs.Names.{port_name, register_name, wire_name}
 use Rattle.fabric_module.specs.Rights.{input_name, setting_wire, right_by, class_right}
 use Rattle.fabric_module.specs.Written.{class_wire}
 use Rattle.fabric_module.proofs.Lists.{named-one}
-use Rattle.fabric_module.proofs.Settled.{IsWritable, port-no_register}
+use Rattle.fabric_module.proofs.Apart.{register-begins, port-no_register, wire-no_register}
+use Rattle.fabric_module.proofs.Settled.{IsWritable}
 use Rattle.fabric_module.proofs.Used.{Allows, right-fine}
 
 -- what is read isn't a register that a wire sets at once, or is read but for the time in which that wire is 1
@@ -35,13 +36,8 @@ read-unless fabric (one ∷ readings) all register wire there is =
     and_from (not (bytes_eq one.0 (register_name register)) || is_unless wire register.«set» one.1) (is_read_unless readings wire register.«set» (register_name register))
     (All-head (IsReadWell fabric) one readings all register wire there is) (read-unless fabric readings (All-tail (IsReadWell fabric) one readings all) register wire there is)
 
-wire-no_register : (class : ℕ) (register : Register) → bytes_eq (wire_name class) (register_name register) ≡ false
-unfolding wire_name register_name
-wire-no_register class register = refl
-
 input-no_register : (pins : List Pin) (place : ℕ) (register : Register) → bytes_eq (get_or (map port_name pins) place []) (register_name register) ≡ false
-unfolding register_name
-input-no_register [] place register = refl
+input-no_register [] place register = register-begins (λ name. bytes_eq [] name ≡ false) (λ rest. refl) (λ rest. refl) (λ rest. refl) register
 input-no_register (pin ∷ pins) zero register = port-no_register pin register
 input-no_register (pin ∷ pins) (suc place) register = input-no_register pins place register
 

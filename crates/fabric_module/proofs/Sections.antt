@@ -7,7 +7,9 @@ use Rattle.place_search.proofs.Gathered.{All-gathered_below}
 use Rattle.vlog_module.specs.declared.item.Item.{Item}
 use Rattle.vlog_module.specs.WellFormed.{section_of}
 use Rattle.net_extract.specs.declared.register.Register.{Register}
-use Rattle.net_extract.specs.Fabric.{Fabric, numbered, outputs_of}
+use Rattle.net_extract.specs.declared.ram.RamCell.{RamCell}
+use Rattle.net_extract.specs.Fabric.{Fabric, numbered}
+use Rattle.net_extract.specs.Outputs.{outputs_of}
 use Rattle.net_extract.proofs.Within.{All-single}
 use Rattle.fabric_module.specs.Rights.{setting_wire}
 use Rattle.fabric_module.specs.Written.{clocked, clock_name, register_item, read_register, ram_memory, class_wire, output_assign, items_by, register_items, read_item, read_items, write_item, write_items, start_item, start_items, items_of}
@@ -80,6 +82,13 @@ All-items_by fabric register None (Some clock) = All-single (λ i. section_of i 
 All-items_by fabric register (Some wire) None = All-single (λ i. section_of i ≡ 7) _ refl
 All-items_by fabric register (Some wire) (Some clock) = All-single (λ i. section_of i ≡ 7) _ refl
 
+-- a port of a RAM has one section in each mode
+pub read-section : (fabric : Fabric) (ram : RamCell) (clock : List ℕ) → section_of (read_item fabric ram clock) ≡ 8
+read-section fabric ram clock = elim (cases_Bool (ram.read == 0)) [ inl here ↦ rw here refl | inr away ↦ rw away refl ]
+
+pub write-section : (fabric : Fabric) (ram : RamCell) (clock : List ℕ) → section_of (write_item fabric ram clock) ≡ 9
+write-section fabric ram clock = elim (cases_Bool (ram.write == 0)) [ inl here ↦ rw here refl | inr away ↦ rw away refl ]
+
 module _ (fabric : Fabric) (order : List ℕ) where
   -- what is in one section of the module
   section-is : (k : ℕ) → filter (is_in k) (items_of fabric order)
@@ -98,10 +107,10 @@ module _ (fabric : Fabric) (order : List ℕ) where
       (picked-then k 3 _ _ _ (All-mapped 3 read_register fabric.rams (λ ram. refl))
       (picked-then k 4 _ _ _ (All-mapped 4 ram_memory fabric.rams (λ ram. refl))
       (picked-then k 5 _ _ _ (All-mapped 5 (class_wire fabric) order (λ class. refl))
-      (picked-then k 6 _ _ _ (All-mapped 6 (output_assign fabric) (outputs_of fabric) (λ pin. refl))
+      (picked-then k 6 _ _ _ (All-mapped 6 (output_assign fabric) (outputs_of fabric) (λ output. refl))
       (picked-then k 7 _ _ _ (All-given 7 (register_items fabric) fabric.registers (λ register. All-items_by fabric register (setting_wire fabric register) (clock_name fabric register.clk)))
-      (picked-then k 8 _ _ _ (All-given 8 (read_items fabric) fabric.rams (λ ram. All-clocked 8 (clock_name fabric ram.rclk) (read_item fabric ram) (λ name. refl)))
-      (picked-then k 9 _ _ _ (All-given 9 (write_items fabric) fabric.rams (λ ram. All-clocked 9 (clock_name fabric ram.wclk) (write_item fabric ram) (λ name. refl)))
+      (picked-then k 8 _ _ _ (All-given 8 (read_items fabric) fabric.rams (λ ram. All-clocked 8 (clock_name fabric ram.rclk) (read_item fabric ram) (read-section fabric ram)))
+      (picked-then k 9 _ _ _ (All-given 9 (write_items fabric) fabric.rams (λ ram. All-clocked 9 (clock_name fabric ram.wclk) (write_item fabric ram) (write-section fabric ram)))
       (picked-is k 10 _ (All-given 10 (start_items fabric) (numbered fabric.rams) (λ place.
       All-gathered_below (λ i. section_of i ≡ 10) 256 (λ n. start_item place.1 (get_or fabric.start place.0 []) n ∷ [])
       (λ n within. All-single (λ i. section_of i ≡ 10) (start_item place.1 (get_or fabric.start place.0 []) n) refl)))))))))))

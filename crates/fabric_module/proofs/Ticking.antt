@@ -1,15 +1,20 @@
 -- The clocked items of a written module may stand where what they use is declared and what they assign isn't assigned yet.
-use Rattle.std.proofs.Common.{◌≡◌, ℕ, ◌<◌, ◌≤◌, Bool, true, false, List, [], ◌∷◌, ◌++◌, refl, ap, ◌∙◌, append-nil}
-use Rattle.std.specs.Prelude.{All, Option, Some, None, flat_map, bytes_eq}
-use Rattle.std.proofs.lemmas.List.{length-map}
+use Rattle.std.proofs.Common.{◌≡◌, ℕ, ◌+◌, ◌/◌, ◌<◌, ◌≤◌, Bool, true, false, List, [], ◌∷◌, ◌++◌, length, take, get_or, refl, ap, ◌∙◌, arith, inl, inr, append-nil}
+use Rattle.std.specs.Prelude.{All, Option, Some, None, flat_map, bytes_eq, nat_lt, ◌==◌}
+use Rattle.std.proofs.lemmas.List.{length-map, length-take-le}
 use Rattle.std.proofs.lemmas.Grind.{flat_map-append}
-use Rattle.std.proofs.lemmas.Bool.{and_from}
-use Rattle.std.proofs.lemmas.List.Elements.{All-cons, All-append}
+use Rattle.std.proofs.lemmas.Bool.{cases_Bool, and_from}
+use Rattle.std.proofs.lemmas.List.Elements.{All-nil, All-cons, All-append}
+use Rattle.place_search.proofs.Gathered.{All-gathered_below}
+use Rattle.rams_narrow.specs.Narrow.{share}
+use Rattle.net_extract.specs.Rams.{data_bit}
+use Rattle.net_extract.proofs.OneValue.{each_below-length}
 use Rattle.net_extract.proofs.Within.{All-single}
+use Rattle.vlog_module.specs.declared.sort.Sort.{Sort}
 use Rattle.vlog_module.specs.declared.sort.Sort.TheVariants as sort
 use Rattle.vlog_module.specs.declared.atoms.Atom.{Atom}
 use Rattle.vlog_module.specs.declared.item.Item.{Item}
-use Rattle.vlog_module.specs.declared.item.Item.TheVariants.{SetAtOnce}
+use Rattle.vlog_module.specs.declared.item.Item.TheVariants.{SetAtOnce, Read, ReadNarrow, Write, WriteNarrow}
 use Rattle.vlog_module.specs.Uses.{Use, atom_uses, atoms_uses, lut_uses, uses_of}
 use Rattle.vlog_module.specs.Uses.Use.{Reads, ReadsBit, Takes, Assigns, AssignsAtOnce}
 use Rattle.vlog_module.specs.WellFormed.{section_of, declared_by, wire_readings, assigned_by, started_by, sort_in, is_sort, is_read_unless, Scope, IsAllowed}
@@ -19,11 +24,13 @@ use Rattle.net_extract.specs.Fabric.{Fabric}
 use Rattle.net_extract.specs.Drivers.{is_driven}
 use Rattle.net_extract.specs.Drivers.Rule.{table_entry}
 use Rattle.fabric_module.specs.Names.{register_name, read_name, memory_name}
-use Rattle.fabric_module.specs.Rights.{input_atom, atom_or_0, atom_or_1, port_atoms, lut_of}
+use Rattle.fabric_module.specs.Rights.{input_atom, atom_or_0, atom_or_1, port_atoms, lut_of, pattern_of, shift_atom, shift_atoms, data_atoms}
 use Rattle.fabric_module.specs.Written.{flip_item, at_once_item, items_by, read_item, write_item}
+use Rattle.fabric_module.proofs.Narrow.{pattern-small}
+use Rattle.fabric_module.proofs.Sections.{read-section, write-section}
 use Rattle.fabric_module.proofs.Beginning.{IsPorted}
 use Rattle.fabric_module.proofs.Rights.{IsPlaceIn}
-use Rattle.fabric_module.proofs.Used.{IsFine, fine-allowed, IsThere, Knows, knows-allows, atom-fine, ports-fine, table-fine}
+use Rattle.fabric_module.proofs.Used.{IsFine, fine-allowed, IsThere, Knows, knows-allows, atom-fine, atoms-fine, ports-fine, table-fine}
 use Rattle.fabric_module.proofs.Assigned.{AssignsOne, unassigned}
 use Rattle.fabric_module.proofs.Wired.{atom-none, atoms-none}
 
@@ -134,38 +141,102 @@ module _ (fabric : Fabric) (scope : Scope) (knows : Knows fabric scope (is_drive
     register-allowed (acts wire clock) is = at_once-allowed wire clock is
     register-allowed (sets wire) is = set-allowed wire is
 
-  -- a read port
+  -- ---- narrow words
+
+  shift-fine : (mode : ℕ) (ports : List (Option ℕ)) (k : ℕ) → All (IsFine scope) (atom_uses (shift_atom fabric mode ports k))
+  shift-fine mode ports k =
+      elim (cases_Bool (nat_lt k mode)) [
+        | inl here ↦ rw here (input-fine false (get_or ports (8 + k) None))
+        | inr away ↦ rw away (All-nil (IsFine scope))
+      ]
+
+  listed-fine : (atoms : List Atom) → All (λ atom. All (IsFine scope) (atom_uses atom)) atoms → All (IsFine scope) (atoms_uses atoms)
+  listed-fine = atoms-fine fabric (is_driven fabric) (IsFine scope) (knows-allows fabric scope (is_driven fabric) knows)
+
+  shifts-fine : (mode : ℕ) (ports : List (Option ℕ)) → All (IsFine scope) (atoms_uses (shift_atoms fabric mode ports))
+  shifts-fine mode ports =
+      let Fine = λ (atom : Atom). All (IsFine scope) (atom_uses atom) in
+      listed-fine (shift_atoms fabric mode ports)
+      (All-cons Fine (shift_atom fabric mode ports 0) (shift_atom fabric mode ports 1 ∷ shift_atom fabric mode ports 2 ∷ []) (shift-fine mode ports 0)
+      (All-cons Fine (shift_atom fabric mode ports 1) (shift_atom fabric mode ports 2 ∷ []) (shift-fine mode ports 1)
+      (All-single Fine (shift_atom fabric mode ports 2) (shift-fine mode ports 2))))
+
+  data-fine : (mode : ℕ) (ports : List (Option ℕ)) → All (IsFine scope) (atoms_uses (data_atoms fabric mode ports))
+  data-fine mode ports =
+      listed-fine (data_atoms fabric mode ports)
+      (All-gathered_below (λ atom. All (IsFine scope) (atom_uses atom)) 16 (λ j. atom_or_0 fabric (get_or ports (data_bit mode (j / share mode)) None) ∷ [])
+      (λ j within. All-single (λ atom. All (IsFine scope) (atom_uses atom)) (atom_or_0 fabric (get_or ports (data_bit mode (j / share mode)) None))
+      (input-fine false (get_or ports (data_bit mode (j / share mode)) None))))
+
+  eight-ports : (ports : List (Option ℕ)) → length ports ≡ 11 → length (port_atoms fabric (take 8 ports)) ≡ 8
+  eight-ports ports eleven = length-map (take 8 ports) (atom_or_0 fabric) ∙ length-take-le 8 ports (omega (arith, eleven))
+
+  -- ---- ports of RAMs
+
+  -- a read port, in each mode
   pub read-allowed : (ram : RamCell) (clock : List ℕ) → IsPorted ram → IsThere scope clock sort.Input → IsThere scope (read_name ram) sort.Word → IsThere scope (memory_name ram) sort.Memory
       → scope.section ≤ 8 → All (λ n. bytes_eq n (read_name ram) ≡ false) scope.assigned → IsAllowed scope (read_item fabric ram clock)
   read-allowed ram clock ported of_clock there of_memory low away =
       let first = atom_uses (atom_or_1 fabric ram.rclke) in
       let second = atom_uses (atom_or_0 fabric ram.re) in
-      let rest = Assigns sort.Word (read_name ram) ∷ Takes sort.Memory (memory_name ram) ∷ atoms_uses (port_atoms fabric ram.raddr) in
-      fine-allowed scope (read_item fabric ram clock) (length-map ram.raddr (atom_or_0 fabric) ∙ ported.read_address) low
-      (All-cons (IsFine scope) (Takes sort.Input clock) ((first ++ second) ++ rest) (takes-fine clock of_clock)
-      (All-append (IsFine scope) (first ++ second) rest (All-append (IsFine scope) first second (input-fine true ram.rclke) (input-fine false ram.re))
-      (All-cons (IsFine scope) (Assigns sort.Word (read_name ram)) (Takes sort.Memory (memory_name ram) ∷ atoms_uses (port_atoms fabric ram.raddr))
+      let address = port_atoms fabric (take 8 ram.raddr) in
+      let shift = shift_atoms fabric ram.read ram.raddr in
+      let rest = Assigns sort.Word (read_name ram) ∷ Takes sort.Memory (memory_name ram) ∷ atoms_uses address in
+      let fine : All (IsFine scope) ((first ++ second) ++ rest) =
+      All-append (IsFine scope) (first ++ second) rest (All-append (IsFine scope) first second (input-fine true ram.rclke) (input-fine false ram.re))
+      (All-cons (IsFine scope) (Assigns sort.Word (read_name ram)) (Takes sort.Memory (memory_name ram) ∷ atoms_uses address)
       (record { named = there.named; in_range = tt; known = rw (there.declared) refl; first = unassigned scope.assigned (read_name ram) away })
-      (All-cons (IsFine scope) (Takes sort.Memory (memory_name ram)) (atoms_uses (port_atoms fabric ram.raddr)) (takes-memory (memory_name ram) of_memory) (list-fine ram.raddr)))))
+      (All-cons (IsFine scope) (Takes sort.Memory (memory_name ram)) (atoms_uses address) (takes-memory (memory_name ram) of_memory) (list-fine (take 8 ram.raddr)))) in
+      elim (cases_Bool (ram.read == 0)) [
+        | inl here ↦
+            rw here
+            (fine-allowed scope
+            (Read ram.rneg clock (atom_or_1 fabric ram.rclke) (atom_or_0 fabric ram.re) (read_name ram) (memory_name ram) address) (eight-ports ram.raddr ported.read_address) low
+            (All-cons (IsFine scope) (Takes sort.Input clock) ((first ++ second) ++ rest) (takes-fine clock of_clock) fine))
+        | inr narrow ↦
+            rw narrow
+            (fine-allowed scope
+            (ReadNarrow ram.rneg clock (atom_or_1 fabric ram.rclke) (atom_or_0 fabric ram.re) (read_name ram) (memory_name ram) address shift (pattern_of ram.read))
+            (eight-ports ram.raddr ported.read_address, refl, pattern-small ram.read) low
+            (All-cons (IsFine scope) (Takes sort.Input clock) (((first ++ second) ++ rest) ++ atoms_uses shift) (takes-fine clock of_clock)
+            (All-append (IsFine scope) ((first ++ second) ++ rest) (atoms_uses shift) fine (shifts-fine ram.read ram.raddr))))
+      ]
 
-  -- a write port
+  -- a write port, in each mode
   pub write-allowed : (ram : RamCell) (clock : List ℕ) → IsPorted ram → IsThere scope clock sort.Input → IsThere scope (memory_name ram) sort.Memory
       → scope.section ≤ 9 → All (λ n. bytes_eq n (memory_name ram) ≡ false) scope.assigned → IsAllowed scope (write_item fabric ram clock)
   write-allowed ram clock ported of_clock there low away =
       let first = atom_uses (atom_or_1 fabric ram.wclke) in
       let second = atom_uses (atom_or_0 fabric ram.we) in
-      let address = Assigns sort.Memory (memory_name ram) ∷ atoms_uses (port_atoms fabric ram.waddr) in
-      let mask = atoms_uses (port_atoms fabric ram.mask) in
-      let bits = atoms_uses (port_atoms fabric ram.wdata) in
-      fine-allowed scope (write_item fabric ram clock)
-      (length-map ram.waddr (atom_or_0 fabric) ∙ ported.write_address, length-map ram.mask (atom_or_0 fabric) ∙ ported.mask, length-map ram.wdata (atom_or_0 fabric) ∙ ported.written) low
-      (All-cons (IsFine scope) (Takes sort.Input clock) ((((first ++ second) ++ address) ++ mask) ++ bits) (takes-fine clock of_clock)
-      (All-append (IsFine scope) (((first ++ second) ++ address) ++ mask) bits
-      (All-append (IsFine scope) ((first ++ second) ++ address) mask
-      (All-append (IsFine scope) (first ++ second) address (All-append (IsFine scope) first second (input-fine true ram.wclke) (input-fine false ram.we))
-      (All-cons (IsFine scope) (Assigns sort.Memory (memory_name ram)) (atoms_uses (port_atoms fabric ram.waddr))
-      (record { named = there.named; in_range = tt; known = rw (there.declared) refl; first = unassigned scope.assigned (memory_name ram) away }) (list-fine ram.waddr)))
-      (list-fine ram.mask)) (list-fine ram.wdata)))
+      let address = port_atoms fabric (take 8 ram.waddr) in
+      let mask = port_atoms fabric ram.mask in
+      let bits = port_atoms fabric ram.wdata in
+      let shift = shift_atoms fabric ram.write ram.waddr in
+      let data_bits = data_atoms fabric ram.write ram.wdata in
+      let front = (first ++ second) ++ (Assigns sort.Memory (memory_name ram) ∷ atoms_uses address) in
+      let fine : All (IsFine scope) front =
+      All-append (IsFine scope) (first ++ second) (Assigns sort.Memory (memory_name ram) ∷ atoms_uses address)
+      (All-append (IsFine scope) first second (input-fine true ram.wclke) (input-fine false ram.we))
+      (All-cons (IsFine scope) (Assigns sort.Memory (memory_name ram)) (atoms_uses address)
+      (record { named = there.named; in_range = tt; known = rw (there.declared) refl; first = unassigned scope.assigned (memory_name ram) away }) (list-fine (take 8 ram.waddr))) in
+      elim (cases_Bool (ram.write == 0)) [
+        | inl here ↦
+            rw here
+            (fine-allowed scope
+            (Write ram.wneg clock (atom_or_1 fabric ram.wclke) (atom_or_0 fabric ram.we) (memory_name ram) address mask bits)
+            (eight-ports ram.waddr ported.write_address, length-map ram.mask (atom_or_0 fabric) ∙ ported.mask, length-map ram.wdata (atom_or_0 fabric) ∙ ported.written) low
+            (All-cons (IsFine scope) (Takes sort.Input clock) ((front ++ atoms_uses mask) ++ atoms_uses bits) (takes-fine clock of_clock)
+            (All-append (IsFine scope) (front ++ atoms_uses mask) (atoms_uses bits)
+            (All-append (IsFine scope) front (atoms_uses mask) fine (list-fine ram.mask)) (list-fine ram.wdata))))
+        | inr narrow ↦
+            rw narrow
+            (fine-allowed scope
+            (WriteNarrow ram.wneg clock (atom_or_1 fabric ram.wclke) (atom_or_0 fabric ram.we) (memory_name ram) address (pattern_of ram.write) shift data_bits)
+            (eight-ports ram.waddr ported.write_address, pattern-small ram.write, refl, each_below-length 16 (λ j. atom_or_0 fabric (get_or ram.wdata (data_bit ram.write (j / share ram.write)) None))) low
+            (All-cons (IsFine scope) (Takes sort.Input clock) ((front ++ atoms_uses shift) ++ atoms_uses data_bits) (takes-fine clock of_clock)
+            (All-append (IsFine scope) (front ++ atoms_uses shift) (atoms_uses data_bits)
+            (All-append (IsFine scope) front (atoms_uses shift) fine (shifts-fine ram.write ram.waddr)) (data-fine ram.write ram.wdata))))
+      ]
 
 -- ---- what they assign
 
@@ -246,20 +317,63 @@ module _ (fabric : Fabric) where
     starts = λ pair. register-starts pair.0 pair.1;
   }
 
+  -- ports of RAMs use and read what is theirs, in each mode
+  module _ {A : Type 0} (each : Use → List A) (of_whole : (name : List ℕ) → each (Reads name) ≡ []) (of_bit : (name : List ℕ) (k : ℕ) → each (ReadsBit name k) ≡ [])
+      (of_takes : (as_sort : Sort) (name : List ℕ) → each (Takes as_sort name) ≡ []) where
+    takes-then : (name : List ℕ) (uses : List Use) (rest : List A) → flat_map each uses ≡ rest → flat_map each (Takes sort.Input name ∷ uses) ≡ rest
+    takes-then name uses rest is = ap (λ list. list ++ flat_map each uses) (of_takes sort.Input name) ∙ is
+
+    read-uses : (ram : RamCell) (clock : List ℕ) → flat_map each (uses_of (read_item fabric ram clock)) ≡ each (Assigns sort.Word (read_name ram))
+    read-uses ram clock =
+        let first = atom_or_1 fabric ram.rclke in
+        let second = atom_or_0 fabric ram.re in
+        let address = port_atoms fabric (take 8 ram.raddr) in
+        let shift = shift_atoms fabric ram.read ram.raddr in
+        let rest = (atom_uses first ++ atom_uses second) ++ (Assigns sort.Word (read_name ram) ∷ Takes sort.Memory (memory_name ram) ∷ atoms_uses address) in
+        let plain = read-then each of_whole of_bit first second (Assigns sort.Word (read_name ram)) (Takes sort.Memory (memory_name ram)) address (of_takes sort.Memory (memory_name ram)) in
+        elim (cases_Bool (ram.read == 0)) [
+          | inl here ↦ rw here (takes-then clock rest (each (Assigns sort.Word (read_name ram))) plain)
+          | inr narrow ↦
+              rw narrow
+              (takes-then clock (rest ++ atoms_uses shift) (each (Assigns sort.Word (read_name ram))) (joined-front each rest (atoms_uses shift) (atoms-none each of_whole of_bit shift) ∙ plain))
+        ]
+
+    write-uses : (ram : RamCell) (clock : List ℕ) → flat_map each (uses_of (write_item fabric ram clock)) ≡ each (Assigns sort.Memory (memory_name ram))
+    write-uses ram clock =
+        let first = atom_or_1 fabric ram.wclke in
+        let second = atom_or_0 fabric ram.we in
+        let used = Assigns sort.Memory (memory_name ram) in
+        let address = port_atoms fabric (take 8 ram.waddr) in
+        let mask = port_atoms fabric ram.mask in
+        let bits = port_atoms fabric ram.wdata in
+        let shift = shift_atoms fabric ram.write ram.waddr in
+        let data_bits = data_atoms fabric ram.write ram.wdata in
+        let front = (atom_uses first ++ atom_uses second) ++ (used ∷ atoms_uses address) in
+        elim (cases_Bool (ram.write == 0)) [
+          | inl here ↦ rw here (takes-then clock ((front ++ atoms_uses mask) ++ atoms_uses bits) (each used) (write-then each of_whole of_bit first second used address mask bits))
+          | inr narrow ↦ rw narrow (takes-then clock ((front ++ atoms_uses shift) ++ atoms_uses data_bits) (each used) (write-then each of_whole of_bit first second used address shift data_bits))
+        ]
+
+  read-still : (ram : RamCell) (clock : List ℕ) → wire_readings (read_item fabric ram clock) ≡ []
+  read-still ram clock = elim (cases_Bool (ram.read == 0)) [ inl here ↦ rw here refl | inr narrow ↦ rw narrow refl ]
+
+  write-still : (ram : RamCell) (clock : List ℕ) → wire_readings (write_item fabric ram clock) ≡ []
+  write-still ram clock = elim (cases_Bool (ram.write == 0)) [ inl here ↦ rw here refl | inr narrow ↦ rw narrow refl ]
+
   pub read-one : AssignsOne {X = RamCell × List ℕ} 8 (λ pair. read_name pair.0) (λ pair. read_item fabric pair.0 pair.1)
   read-one = record {
-    section = λ pair. refl;
-    declares = λ pair. read-then declared_by (λ name. refl) (λ name k. refl) (atom_or_1 fabric pair.0.rclke) (atom_or_0 fabric pair.0.re) (Assigns sort.Word (read_name pair.0)) (Takes sort.Memory (memory_name pair.0)) (port_atoms fabric pair.0.raddr) refl;
-    reads = λ pair. refl;
-    assigns = λ pair. read-then assigned_by (λ name. refl) (λ name k. refl) (atom_or_1 fabric pair.0.rclke) (atom_or_0 fabric pair.0.re) (Assigns sort.Word (read_name pair.0)) (Takes sort.Memory (memory_name pair.0)) (port_atoms fabric pair.0.raddr) refl;
-    starts = λ pair. read-then started_by (λ name. refl) (λ name k. refl) (atom_or_1 fabric pair.0.rclke) (atom_or_0 fabric pair.0.re) (Assigns sort.Word (read_name pair.0)) (Takes sort.Memory (memory_name pair.0)) (port_atoms fabric pair.0.raddr) refl;
+    section = λ pair. read-section fabric pair.0 pair.1;
+    declares = λ pair. read-uses declared_by (λ name. refl) (λ name k. refl) (λ as_sort name. refl) pair.0 pair.1;
+    reads = λ pair. read-still pair.0 pair.1;
+    assigns = λ pair. read-uses assigned_by (λ name. refl) (λ name k. refl) (λ as_sort name. refl) pair.0 pair.1;
+    starts = λ pair. read-uses started_by (λ name. refl) (λ name k. refl) (λ as_sort name. refl) pair.0 pair.1;
   }
 
   pub write-one : AssignsOne {X = RamCell × List ℕ} 9 (λ pair. memory_name pair.0) (λ pair. write_item fabric pair.0 pair.1)
   write-one = record {
-    section = λ pair. refl;
-    declares = λ pair. write-then declared_by (λ name. refl) (λ name k. refl) (atom_or_1 fabric pair.0.wclke) (atom_or_0 fabric pair.0.we) (Assigns sort.Memory (memory_name pair.0)) (port_atoms fabric pair.0.waddr) (port_atoms fabric pair.0.mask) (port_atoms fabric pair.0.wdata);
-    reads = λ pair. refl;
-    assigns = λ pair. write-then assigned_by (λ name. refl) (λ name k. refl) (atom_or_1 fabric pair.0.wclke) (atom_or_0 fabric pair.0.we) (Assigns sort.Memory (memory_name pair.0)) (port_atoms fabric pair.0.waddr) (port_atoms fabric pair.0.mask) (port_atoms fabric pair.0.wdata);
-    starts = λ pair. write-then started_by (λ name. refl) (λ name k. refl) (atom_or_1 fabric pair.0.wclke) (atom_or_0 fabric pair.0.we) (Assigns sort.Memory (memory_name pair.0)) (port_atoms fabric pair.0.waddr) (port_atoms fabric pair.0.mask) (port_atoms fabric pair.0.wdata);
+    section = λ pair. write-section fabric pair.0 pair.1;
+    declares = λ pair. write-uses declared_by (λ name. refl) (λ name k. refl) (λ as_sort name. refl) pair.0 pair.1;
+    reads = λ pair. write-still pair.0 pair.1;
+    assigns = λ pair. write-uses assigned_by (λ name. refl) (λ name k. refl) (λ as_sort name. refl) pair.0 pair.1;
+    starts = λ pair. write-uses started_by (λ name. refl) (λ name k. refl) (λ as_sort name. refl) pair.0 pair.1;
   }

@@ -2,7 +2,7 @@
 use Rattle.std.proofs.Common.{◌≡◌, ℕ, ◌<◌, ◌≤◌, Bool, true, false, List, [], ◌∷◌, ◌++◌, length, get_or, refl, sym, ap, ◌∙◌, subst, inl, inr}
 use Rattle.std.specs.Prelude.{All, Contains, Option, Some, None, option_to_list, IsTrue}
 use Rattle.std.proofs.lemmas.Bool.{cases_Bool}
-use Rattle.std.proofs.lemmas.List.Elements.{All-nil, All-cons, All-append, All-weaker}
+use Rattle.std.proofs.lemmas.List.Elements.{All-nil, All-cons, All-head, All-tail, All-append, All-weaker}
 use Rattle.vlog_module.specs.Maps.{value_in}
 use Rattle.vlog_module.specs.declared.sort.Sort.{Sort}
 use Rattle.vlog_module.specs.declared.sort.Sort.TheVariants as sort
@@ -117,6 +117,12 @@ module _ (fabric : Fabric) (wired : ℕ → Bool) where
           | inl here ↦ rw here (All-single P (Reads (wire_name (class_of fabric.joins n))) (allows.wire (class_of fabric.joins n) (wires n refl here)))
           | inr away ↦ rw away (All-nil P)
         ]
+
+    -- a list of atoms
+    pub atoms-fine : (atoms : List Atom) → All (λ atom. All P (atom_uses atom)) atoms → All P (atoms_uses atoms)
+    atoms-fine [] all = All-nil P
+    atoms-fine (atom ∷ atoms) all =
+        All-append P (atoms_uses atoms) (atom_uses atom) (atoms-fine atoms (All-tail (λ a. All P (atom_uses a)) atom atoms all)) (All-head (λ a. All P (atom_uses a)) atom atoms all)
 
     -- the atoms of a list of ports
     pub ports-fine : (ports : List (Option ℕ)) → ((net : Option ℕ) → IsWired net) → All P (atoms_uses (port_atoms fabric ports))

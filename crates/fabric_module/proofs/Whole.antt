@@ -1,9 +1,8 @@
 -- The written module of a fabric is well-formed.
 use Rattle.std.proofs.Common.{◌≡◌, ℕ, ◌<◌, true, false, List, [], ◌∷◌, ◌++◌, map, get_or, fold, refl, sym, ap, ◌∙◌, subst, arith, append_assoc}
 use Rattle.std.specs.Prelude.{All, flat_map, bytes_eq}
-use Rattle.std.specs.List.{IsDistinct}
 use Rattle.std.proofs.lemmas.Grind.{flat_map-append}
-use Rattle.std.proofs.lemmas.List.Elements.{All-nil, All-map}
+use Rattle.std.proofs.lemmas.List.Elements.{All-nil}
 use Rattle.bit_plane.specs.BitList.{word_of}
 use Rattle.vlog_module.specs.Maps.{value_in}
 use Rattle.vlog_module.specs.declared.sort.Sort.TheVariants as sort
@@ -11,17 +10,19 @@ use Rattle.vlog_module.specs.declared.item.Item.{Item}
 use Rattle.vlog_module.specs.Names.{IsName}
 use Rattle.vlog_module.specs.WellFormed.{wire_readings, Scope, scope_of, IsRight, IsComplete, IsModule}
 use Rattle.net_extract.specs.declared.ram.RamCell.{RamCell}
-use Rattle.net_extract.specs.Fabric.{Fabric, numbered, outputs_of}
+use Rattle.net_extract.specs.Fabric.{Fabric, numbered}
+use Rattle.net_extract.specs.Outputs.{outputs_of}
 use Rattle.net_extract.proofs.Apart.{apart-numbered, All-every}
 use Rattle.net_extract.specs.Drivers.{is_driven}
 use Rattle.net_extract.specs.Wiring.{wiring_of, has, IsWriteOrder}
 use Rattle.net_extract.proofs.Order.{order-continues}
 use Rattle.net_extract.proofs.OneValue.{IsWithin, driven-is, count-is, driven-below}
 use Rattle.net_extract.proofs.Within.{All-numbered}
-use Rattle.fabric_module.specs.Names.{port_name, memory_name, wire_name}
+use Rattle.fabric_module.specs.Names.{output_name, memory_name, wire_name}
 use Rattle.fabric_module.specs.Rights.{class_right}
-use Rattle.fabric_module.specs.Written.{port_of, register_item, read_register, ram_memory, class_wire, output_assign, register_items, read_items, write_items, start_items, items_of, module_of}
-use Rattle.fabric_module.proofs.Lists.{NamesDiffer, map-map, value_in-behind}
+use Rattle.fabric_module.specs.Written.{register_item, read_register, ram_memory, class_wire, output_assign, register_items, read_items, write_items, start_items, items_of, module_of}
+use Rattle.fabric_module.proofs.Lists.{NamesDiffer, value_in-behind}
+use Rattle.fabric_module.proofs.Ports.{ports_of, port_label}
 use Rattle.fabric_module.proofs.Settled.{IsWritable}
 use Rattle.fabric_module.proofs.Beginning.{IsStarted}
 use Rattle.fabric_module.proofs.Named.{wire-named, distinct-names}
@@ -85,7 +86,7 @@ module _ (fabric : Fabric) (within : IsWithin fabric) (writable : IsWritable fab
       (All-every (λ (place : ℕ × RamCell). NotStarted scope.started place.1)
       (λ place. subst (λ list. NotStarted list place.1) (sym standing.started_is) (All-nil (λ (p : List ℕ × ℕ). bytes_eq p.0 (memory_name place.1) ≡ false))) (numbered fabric.rams))
 
-  clocked-end : (scope : Scope) → Standing fabric 6 (map port_name (outputs_of fabric)) scope
+  clocked-end : (scope : Scope) → Standing fabric 6 (map output_name (outputs_of fabric)) scope
       → Grows scope (flat_map (register_items fabric) fabric.registers ++ (flat_map (read_items fabric) fabric.rams ++ (flat_map (write_items fabric) fabric.rams ++ flat_map (start_items fabric) (numbered fabric.rams))))
   clocked-end scope standing =
       let registers = registers-tick fabric within writable sized shapely.tables order ordered scope standing in
@@ -136,31 +137,30 @@ module _ (fabric : Fabric) (within : IsWithin fabric) (writable : IsWritable fab
       (mapped-still register_item (λ register. refl) fabric.registers)
       (still-both (map read_register fabric.rams) (map ram_memory fabric.rams) (mapped-still read_register (λ ram. refl) fabric.rams) (mapped-still ram_memory (λ ram. refl) fabric.rams))
 
-  state-reads : (fold grown (scope_of (map port_of fabric.pins) []) state).read ≡ []
-  state-reads = grown-reads (scope_of (map port_of fabric.pins) []) state ∙ state-still
+  state-reads : (fold grown (scope_of (ports_of fabric) []) state).read ≡ []
+  state-reads = grown-reads (scope_of (ports_of fabric) []) state ∙ state-still
 
-  items-grow : Grows (scope_of (map port_of fabric.pins) []) (items_of fabric order)
+  items-grow : Grows (scope_of (ports_of fabric) []) (items_of fabric order)
   unfolding state
   items-grow =
       let left = state-left fabric writable shapely.named in
-      let after = fold grown (scope_of (map port_of fabric.pins) []) state in
+      let after = fold grown (scope_of (ports_of fabric) []) state in
       let wires = wires-after after left state-reads in
-      subst (Grows (scope_of (map port_of fabric.pins) [])) (sym (parts-are ∙ append_assoc state (map (class_wire fabric) order) ends))
-      (Grows-append (scope_of (map port_of fabric.pins) []) state (map (class_wire fabric) order ++ ends) (state-grows fabric writable shapely.named)
+      subst (Grows (scope_of (ports_of fabric) [])) (sym (parts-are ∙ append_assoc state (map (class_wire fabric) order) ends))
+      (Grows-append (scope_of (ports_of fabric) []) state (map (class_wire fabric) order ++ ends) (state-grows fabric writable shapely.named)
       (Grows-append after (map (class_wire fabric) order) ends wires.0 (ends-grow (fold grown after (map (class_wire fabric) order)) (standing-wires after left state-reads))))
 
-  items-complete : IsComplete (map port_of fabric.pins) (items_of fabric order)
+  items-complete : IsComplete (ports_of fabric) (items_of fabric order)
   unfolding ends
-  items-complete = subst (IsComplete (map port_of fabric.pins)) (sym parts-are) (outputs-complete fabric (state ++ map (class_wire fabric) order) _)
+  items-complete = subst (IsComplete (ports_of fabric)) (sym parts-are) (outputs-complete fabric (state ++ map (class_wire fabric) order) _)
 
   -- the written module is a module
   pub module-well_formed : (name : List ℕ) → IsName name → IsModule (module_of fabric order name)
   unfolding module_of
   module-well_formed name is = record {
     named = is;
-    begun = grows-begun (map port_of fabric.pins) (items_of fabric order)
-        (All-map (λ port. IsName port.name) port_of fabric.pins shapely.named.ports)
-        (subst (IsDistinct bytes_eq) (sym (map-map port_of (λ port. port.name) fabric.pins)) (distinct-names port_name fabric.pins writable.ports))
+    begun = grows-begun (ports_of fabric) (items_of fabric order)
+        shapely.named.ports (distinct-names port_label (ports_of fabric) writable.ports)
         items-grow;
     complete = items-complete;
   }

@@ -1,7 +1,7 @@
 -- The start of a written module: registers are 0, and memories have the words of the image.
 use Rattle.std.proofs.Common.{◌≡◌, ◌≢◌, ℕ, zero, suc, ◌<◌, ◌≤◌, Bool, false, List, [], ◌∷◌, ◌++◌, length, map, get_or, set, fold, replicate, refl, sym, ap, ◌∙◌, subst, arith, inl, inr, append_assoc, length-set, get_or-set_same, get_or-set_other, ext_get_or}
-use Rattle.std.specs.Prelude.{All, filter, flat_map, bytes_eq, not}
-use Rattle.std.proofs.lemmas.Bool.{cases_Bool, cases_eq}
+use Rattle.std.specs.Prelude.{All, flat_map, bytes_eq}
+use Rattle.std.proofs.lemmas.Bool.{cases_eq}
 use Rattle.std.proofs.lemmas.List.{length_push, length-map, length-replicate}
 use Rattle.std.proofs.lemmas.List.Sums.{fold-append}
 use Rattle.std.proofs.lemmas.List.Elements.{All-head, All-tail}
@@ -10,11 +10,10 @@ use Rattle.shared_lemmas.proofs.Bytes.{bytes_eq-same}
 use Rattle.place_search.specs.Places.{gathered_below}
 use Rattle.bit_plane.specs.BitList.{word_of}
 use Rattle.vlog_module.specs.declared.item.Item.{Item}
-use Rattle.vlog_module.specs.declared.item.Item.TheVariants.{Register as RegisterItem, Word, Memory, Wire, Assign, Flip, FlipAtOnce, SetAtOnce, Read, Write, Start}
+use Rattle.vlog_module.specs.declared.item.Item.TheVariants.{Register as RegisterItem, Word, Memory, Wire, Assign, Flip, FlipAtOnce, SetAtOnce, Read, ReadNarrow, Write, WriteNarrow, Start}
 use Rattle.vlog_cycle.specs.Run.{input_start, register_start, word_start, memory_start, start_step, start}
 use Rattle.net_extract.specs.declared.register.Register.{Register}
 use Rattle.net_extract.specs.declared.ram.RamCell.{RamCell}
-use Rattle.net_extract.specs.declared.pin.Pin.{Pin}
 use Rattle.net_extract.specs.Tiles.{each_below}
 use Rattle.net_extract.specs.Fabric.{Fabric, numbered_from, numbered, inputs_of}
 use Rattle.net_extract.proofs.Apart.{apart-numbered}
@@ -22,11 +21,12 @@ use Rattle.net_extract.specs.Steps.{Entry, start_state, IsFirst}
 use Rattle.net_extract.specs.Wiring.{wiring_of, IsWriteOrder}
 use Rattle.net_extract.proofs.OneValue.{IsWithin}
 use Rattle.fabric_module.specs.Names.{port_name, register_name, read_name, memory_name}
-use Rattle.fabric_module.specs.Written.{port_of, register_item, read_register, ram_memory, start_item, start_items, items_of, module_of}
+use Rattle.fabric_module.specs.Written.{register_item, read_register, ram_memory, start_item, start_items, items_of, module_of}
 use Rattle.fabric_module.specs.Matching.{HasValues, Matches}
 use Rattle.fabric_module.proofs.Lists.{NamesDiffer, map-map, map-numbered, made-names, made-values}
 use Rattle.fabric_module.proofs.Sections.{is_in, Skips, fold-section, flat_map-section, registers-section, words-section, memories-section, starts-section}
 use Rattle.fabric_module.proofs.Fills.{FillsOwn, filled}
+use Rattle.fabric_module.proofs.Ports.{ports_of, inputs-start}
 use Rattle.fabric_module.proofs.Settled.{IsWritable, Holding, settled-matches, word-pick}
 
 -- ---- values by places
@@ -69,15 +69,6 @@ constant-holds name value xs = record {
 
 -- ---- what starts
 
-pub inputs-start : (pins : List Pin) → flat_map input_start (map port_of pins) ≡ map (λ pin. (port_name pin, false)) (filter (λ pin. not pin.output) pins)
-unfolding port_name
-inputs-start [] = refl
-inputs-start (pin ∷ pins) =
-    elim (cases_Bool pin.output) [
-      | inl here ↦ rw here (inputs-start pins)
-      | inr away ↦ rw away (ap (λ list. (port_name pin, false) ∷ list) (inputs-start pins))
-    ]
-
 registers-start : (registers : List Register) → flat_map register_start (map register_item registers) ≡ map (λ register. (register_name register, false)) registers
 registers-start [] = refl
 registers-start (register ∷ registers) = ap (λ list. (register_name register, false) ∷ list) (registers-start registers)
@@ -100,7 +91,9 @@ register-none (Flip falling clock enable reset set target lut) away = refl
 register-none (FlipAtOnce falling clock reset set target enable lut) away = refl
 register-none (SetAtOnce reset set target) away = refl
 register-none (Read falling clock clock_enable enable target memory address) away = refl
+register-none (ReadNarrow falling clock clock_enable enable target memory address shift pattern) away = refl
 register-none (Write falling clock clock_enable enable memory address mask bits) away = refl
+register-none (WriteNarrow falling clock clock_enable enable memory address pattern shift bits) away = refl
 register-none (Start memory k word) away = refl
 
 word-none : (item : Item) → is_in 3 item ≡ false → word_start item ≡ []
@@ -113,7 +106,9 @@ word-none (Flip falling clock enable reset set target lut) away = refl
 word-none (FlipAtOnce falling clock reset set target enable lut) away = refl
 word-none (SetAtOnce reset set target) away = refl
 word-none (Read falling clock clock_enable enable target memory address) away = refl
+word-none (ReadNarrow falling clock clock_enable enable target memory address shift pattern) away = refl
 word-none (Write falling clock clock_enable enable memory address mask bits) away = refl
+word-none (WriteNarrow falling clock clock_enable enable memory address pattern shift bits) away = refl
 word-none (Start memory k word) away = refl
 
 memory-none : (item : Item) → is_in 4 item ≡ false → memory_start item ≡ []
@@ -126,7 +121,9 @@ memory-none (Flip falling clock enable reset set target lut) away = refl
 memory-none (FlipAtOnce falling clock reset set target enable lut) away = refl
 memory-none (SetAtOnce reset set target) away = refl
 memory-none (Read falling clock clock_enable enable target memory address) away = refl
+memory-none (ReadNarrow falling clock clock_enable enable target memory address shift pattern) away = refl
 memory-none (Write falling clock clock_enable enable memory address mask bits) away = refl
+memory-none (WriteNarrow falling clock clock_enable enable memory address pattern shift bits) away = refl
 memory-none (Start memory k word) away = refl
 
 start-skips : Skips 10 start_step
@@ -139,7 +136,9 @@ start-skips (Flip falling clock enable reset set target lut) away given = refl
 start-skips (FlipAtOnce falling clock reset set target enable lut) away given = refl
 start-skips (SetAtOnce reset set target) away given = refl
 start-skips (Read falling clock clock_enable enable target memory address) away given = refl
+start-skips (ReadNarrow falling clock clock_enable enable target memory address shift pattern) away given = refl
 start-skips (Write falling clock clock_enable enable memory address mask bits) away given = refl
+start-skips (WriteNarrow falling clock clock_enable enable memory address pattern shift bits) away given = refl
 start-skips (Start memory k word) away given = absurd cc
 
 -- ---- start words
@@ -190,10 +189,12 @@ start-past (suc n) ram words entry rest away =
     ∙ (ap (λ list. fold start_step list (start_item ram words n ∷ [])) (start-past n ram words entry rest away)
     ∙ (rw away (ap (λ list. entry ∷ list) (sym (fold-append start_step rest (each_below n (start_item ram words)) (start_item ram words n ∷ []))))))
 
--- a RAM with 8 bits of address and 16 bits of data and mask
+-- a RAM with 11 bits of address, 16 bits of data and mask, and modes up to 3
 pub record IsPorted (ram : RamCell) : Type 0 where
-  pub read_address : length ram.raddr ≡ 8
-  pub write_address : length ram.waddr ≡ 8
+  pub read_mode : ram.read ≤ 3
+  pub write_mode : ram.write ≤ 3
+  pub read_address : length ram.raddr ≡ 11
+  pub write_address : length ram.waddr ≡ 11
   pub mask : length ram.mask ≡ 16
   pub written : length ram.wdata ≡ 16
   pub read : length ram.rdata ≡ 16
@@ -272,7 +273,7 @@ module _ (fabric : Fabric) (within : IsWithin fabric) (writable : IsWritable fab
       }
 
   begin-holding : Holding fabric (start_state fabric) (replicate (length (inputs_of fabric)) false)
-      (flat_map input_start (map port_of fabric.pins)) (flat_map register_start (items_of fabric order)) (flat_map word_start (items_of fabric order))
+      (flat_map input_start (ports_of fabric)) (flat_map register_start (items_of fabric order)) (flat_map word_start (items_of fabric order))
   begin-holding = record {
     input = subst (λ list. HasValues list (map port_name (inputs_of fabric)) (replicate (length (inputs_of fabric)) false)) (sym (inputs-start fabric.pins))
         (constant-holds port_name false (inputs_of fabric));
@@ -289,7 +290,7 @@ module _ (fabric : Fabric) (within : IsWithin fabric) (writable : IsWritable fab
   unfolding start module_of
   start-matches entry is =
       settled-matches fabric within writable order ordered name entry is.entry_is (start_state fabric) is.state
-      (flat_map input_start (map port_of fabric.pins)) (flat_map register_start (items_of fabric order)) (flat_map word_start (items_of fabric order))
-      (subst (λ pins. Holding fabric (start_state fabric) pins (flat_map input_start (map port_of fabric.pins)) (flat_map register_start (items_of fabric order)) (flat_map word_start (items_of fabric order)))
+      (flat_map input_start (ports_of fabric)) (flat_map register_start (items_of fabric order)) (flat_map word_start (items_of fabric order))
+      (subst (λ pins. Holding fabric (start_state fabric) pins (flat_map input_start (ports_of fabric)) (flat_map register_start (items_of fabric order)) (flat_map word_start (items_of fabric order)))
       (sym is.pins) begin-holding)
       (fold start_step (flat_map memory_start (items_of fabric order)) (items_of fabric order)) begin-memories

@@ -1,24 +1,22 @@
 -- The run of the written module and the run of the fabric match after the start and after each event of each list.
 use Rattle.std.proofs.Common.{◌≡◌, ℕ, Bool, true, false, List, [], ◌∷◌, length, map, get_or, set, fold, refl, sym, ap, ◌∙◌, subst, arith, inl, inr, map-id}
-use Rattle.std.specs.Prelude.{All, Contains, Option, Some, None, flat_map}
+use Rattle.std.specs.Prelude.{All, Contains, Option, Some, None}
 use Rattle.std.specs.List.{AllZip}
 use Rattle.std.proofs.lemmas.Bool.{cases_Bool}
 use Rattle.std.proofs.lemmas.List.{length-map, set-get_or}
 use Rattle.std.proofs.lemmas.List.Elements.{All-weaker, All-contains_itself}
 use Rattle.std.proofs.Math.ListN.{get_or-map}
-use Rattle.shared_lemmas.proofs.Lists.{map-same, map-every, All-both}
+use Rattle.shared_lemmas.proofs.Lists.{map-every, All-both}
 use Rattle.plane_map.specs.declared.device.DeviceName.{DeviceName}
 use Rattle.bit_plane.specs.BitList.{word_of}
 use Rattle.vlog_module.specs.Maps.{value_in}
 use Rattle.vlog_module.specs.Parts.{Parts}
 use Rattle.vlog_cycle.specs.Entries.{Entry as ModuleEntry}
-use Rattle.vlog_cycle.specs.Named.{names_of, values_of}
-use Rattle.vlog_cycle.specs.Run.{readable, register_step, word_step, memory_step, with_input, changed, is_same_bit, input_bit, followed, run_from, start, module_run}
+use Rattle.vlog_cycle.specs.Run.{readable, next_bit, next_word, next_put, put_given, put_given_word, register_step, word_step, memory_step, with_input, changed, is_same_bit, input_bit, followed, run_from, start, module_run}
 use Rattle.vlog_cycle.proofs.Entering.{names-input, values-input}
 use Rattle.net_extract.specs.declared.register.Register.{Register}
 use Rattle.net_extract.specs.declared.ram.RamCell.{RamCell}
 use Rattle.net_extract.specs.Fabric.{Fabric, numbered, inputs_of}
-use Rattle.net_extract.proofs.Apart.{apart-numbered}
 use Rattle.net_extract.specs.Drivers.{is_driven}
 use Rattle.net_extract.specs.Values.{State, bit_in, is_connected}
 use Rattle.net_extract.specs.Steps.{has_edge, bit_after, words_after, read_after, state_after, settled_state, Event, Entry, IsEntry, Follows, FollowEach, IsRun}
@@ -29,16 +27,16 @@ use Rattle.net_extract.proofs.Within.{All-numbered}
 use Rattle.net_extract.proofs.Runs.{IsPlaced, IsClocked, clock_bit, register-good, read-good, write-good, entry-one, state-clocked, first-settled, follows-settled}
 use Rattle.fabric_module.specs.Names.{port_name, register_name, read_name, memory_name}
 use Rattle.fabric_module.specs.Rights.{setting_wire}
-use Rattle.fabric_module.specs.Written.{clock_name, register_items, read_items, write_items, items_of, module_of}
+use Rattle.fabric_module.specs.Written.{clock_name, register_items, read_item, read_items, write_item, write_items, items_of, module_of}
 use Rattle.fabric_module.specs.Matching.{HasValues, Matches, module_event}
-use Rattle.fabric_module.proofs.Lists.{NamesDiffer, place-there, flat_map-numbered, name-there, map-map, entries-are, made-names, made-values, value_in-at}
-use Rattle.fabric_module.proofs.Sections.{fold-section, flips-section, reads-section, writes-section}
-use Rattle.fabric_module.proofs.Fills.{FillsOwn, filled}
+use Rattle.fabric_module.proofs.Lists.{place-there, name-there, map-map, value_in-at}
+use Rattle.fabric_module.proofs.Sections.{flips-section, reads-section, writes-section}
+use Rattle.fabric_module.proofs.Computed.{assigned_in, done, part-holds}
 use Rattle.fabric_module.proofs.Rights.{IsSourceThere, Gives}
 use Rattle.fabric_module.proofs.Settled.{IsWritable, Holding, gives-read, settled-matches, word-pick}
 use Rattle.fabric_module.proofs.Beginning.{IsStarted, IsPorted, values-are, start-matches}
 use Rattle.fabric_module.proofs.Ticks.{clock_test, edge-none, tick}
-use Rattle.fabric_module.proofs.Clocked.{register-skips, word-skips, memory-skips, register_by, register-own, register-past, read_by, read-own, read-past, write_by, write-own, write-past, register-same, read-same, write-same}
+use Rattle.fabric_module.proofs.Clocked.{bit-none, word-none, put-none, given_name, given_value, puts-given, put_memory, put_value, puts-word, few-register, few-clocked, own-register, own-read, own-write, register-same, read-same, write-same}
 
 -- ---- lists
 
@@ -161,7 +159,7 @@ module _ (device : DeviceName) (fabric : Fabric) (taken : fabric_fault device fa
           ∙ ap (λ list. Some list) (get_or-map (map word_of) before.state.words place.0 []))))
           (numbered fabric.rams) (All-contains_itself (numbered fabric.rams))
 
-      -- ---- registers
+      -- ---- registers, read registers and memories, each by their own items
 
       register-goods : All (λ (place : ℕ × Register). IsClocked fabric place.1.clk × All (IsSourceThere fabric) place.1.table.ins) (numbered fabric.registers)
       register-goods =
@@ -169,135 +167,75 @@ module _ (device : DeviceName) (fabric : Fabric) (taken : fabric_fault device fa
           (All-both (Contains fabric.registers) (λ register. All (IsSourceThere fabric) register.table.ins) (λ register. IsClocked fabric register.clk × All (IsSourceThere fabric) register.table.ins)
           (λ register there sources. (register-good device fabric taken placed register there, sources)) fabric.registers (All-contains_itself fabric.registers) writable.tables)
 
-      abbrev register_new : ℕ × Register → Bool → Bool
-      register_new place old =
-          register_by (module_of fabric order name) fabric held (module_event event) place.1 (setting_wire fabric place.1) (clock_name fabric place.1.clk) old
-
-      registers-fill : FillsOwn (λ (place : ℕ × Register). register_name place.1) (register_step (module_of fabric order name) held (module_event event)) (λ place. register_items fabric place.1) register_new
-      registers-fill = record {
-        own = λ place old rest. register-own (module_of fabric order name) fabric held (module_event event) place.1 (setting_wire fabric place.1) (clock_name fabric place.1.clk) old rest;
-        past = λ place entry rest away. register-past (module_of fabric order name) fabric held (module_event event) place.1 (setting_wire fabric place.1) (clock_name fabric place.1.clk) entry rest away;
-      }
-
-      registers-are : fold (register_step (module_of fabric order name) held (module_event event)) held.registers (items_of fabric order)
-          ≡ map (λ (place : ℕ × Register). (register_name place.1, register_new place (get_or before.state.bits place.0 false))) (numbered fabric.registers)
-      registers-are =
-          let step = register_step (module_of fabric order name) held (module_event event) in
-          fold-section 7 step (register-skips (module_of fabric order name) held (module_event event)) held.registers (items_of fabric order)
-          ∙ (ap (fold step held.registers) (flips-section fabric order ∙ sym (flat_map-numbered (register_items fabric) 0 fabric.registers))
-          ∙ (ap (λ given. fold step given (flat_map (λ (place : ℕ × Register). register_items fabric place.1) (numbered fabric.registers)))
-          (entries-are register_name false fabric.registers before.state.bits held.registers match.registers.named match.registers.valued)
-          ∙ filled (λ (place : ℕ × Register). register_name place.1) step (λ place. register_items fabric place.1) register_new registers-fill (λ place. get_or before.state.bits place.0 false)
-          (numbered fabric.registers) (apart-numbered (NamesDiffer register_name) 0 fabric.registers writable.registers)))
-
-      bits-after : map (λ (place : ℕ × Register). register_new place (get_or before.state.bits place.0 false)) (numbered fabric.registers) ≡ next.bits
+      registers-hold : HasValues (fold (register_step (module_of fabric order name) held (module_event event)) held.registers (items_of fabric order)) (map register_name fabric.registers) next.bits
       unfolding state_after
-      bits-after =
-          map-same (λ (place : ℕ × Register). register_new place (get_or before.state.bits place.0 false))
-          (bit_after (is_connected fabric) before.pins (bit_in before.v) (bit_in after.v) before.state.bits) (numbered fabric.registers)
+      registers-hold =
+          let next_is = next_bit (module_of fabric order name) held (module_event event) in
+          part-holds put_given given_name given_value puts-given next_is register_name (register_items fabric)
+          (λ register. few-register fabric register (setting_wire fabric register) (clock_name fabric register.clk))
+          (λ register. own-register (module_of fabric order name) fabric held (module_event event) register (setting_wire fabric register) (clock_name fabric register.clk))
+          7 (bit-none (module_of fabric order name) held (module_event event)) (items_of fabric order) fabric.registers (flips-section fabric order) writable.registers
+          false held.registers before.state.bits match.registers
+          (bit_after (is_connected fabric) before.pins (bit_in before.v) (bit_in after.v) before.state.bits)
           (All-weaker (λ (place : ℕ × Register). IsClocked fabric place.1.clk × All (IsSourceThere fabric) place.1.table.ins)
-          (λ (place : ℕ × Register). register_new place (get_or before.state.bits place.0 false) ≡ bit_after (is_connected fabric) before.pins (bit_in before.v) (bit_in after.v) before.state.bits place)
+          (λ (place : ℕ × Register). done given_value (assigned_in next_is (register_items fabric place.1)) (get_or before.state.bits place.0 false)
+          ≡ bit_after (is_connected fabric) before.pins (bit_in before.v) (bit_in after.v) before.state.bits place)
           (λ place good. register-same (module_of fabric order name) fabric within before.state before.pins before.v of_before.consistent held (module_event event) gives (bit_in after.v) before.state.bits place
           good.1 (ticks place.1.neg place.1.clk good.0)) (numbered fabric.registers) register-goods)
 
-      registers-hold : HasValues (fold (register_step (module_of fabric order name) held (module_event event)) held.registers (items_of fabric order)) (map register_name fabric.registers) next.bits
-      registers-hold = record {
-        named = ap names_of registers-are ∙ made-names register_name (λ place. register_new place (get_or before.state.bits place.0 false)) fabric.registers;
-        valued = ap values_of registers-are ∙ (made-values register_name (λ place. register_new place (get_or before.state.bits place.0 false)) fabric.registers ∙ bits-after);
-      }
-
-      -- ---- read registers
-
-      abbrev read_new : ℕ × RamCell → ℕ → ℕ
-      read_new place old = read_by (module_of fabric order name) fabric held (module_event event) place.1 (clock_name fabric place.1.rclk) old
-
-      reads-fill : FillsOwn (λ (place : ℕ × RamCell). read_name place.1) (word_step (module_of fabric order name) held (module_event event)) (λ place. read_items fabric place.1) read_new
-      reads-fill = record {
-        own = λ place old rest. read-own (module_of fabric order name) fabric held (module_event event) place.1 (clock_name fabric place.1.rclk) old rest;
-        past = λ place entry rest away. read-past (module_of fabric order name) fabric held (module_event event) place.1 (clock_name fabric place.1.rclk) entry rest away;
-      }
-
-      words-are : fold (word_step (module_of fabric order name) held (module_event event)) held.words (items_of fabric order)
-          ≡ map (λ (place : ℕ × RamCell). (read_name place.1, read_new place (get_or (map word_of before.state.reads) place.0 0))) (numbered fabric.rams)
-      words-are =
-          let step = word_step (module_of fabric order name) held (module_event event) in
-          fold-section 8 step (word-skips (module_of fabric order name) held (module_event event)) held.words (items_of fabric order)
-          ∙ (ap (fold step held.words) (reads-section fabric order ∙ sym (flat_map-numbered (read_items fabric) 0 fabric.rams))
-          ∙ (ap (λ given. fold step given (flat_map (λ (place : ℕ × RamCell). read_items fabric place.1) (numbered fabric.rams)))
-          (entries-are read_name 0 fabric.rams (map word_of before.state.reads) held.words match.words.named match.words.valued)
-          ∙ filled (λ (place : ℕ × RamCell). read_name place.1) step (λ place. read_items fabric place.1) read_new reads-fill (λ place. get_or (map word_of before.state.reads) place.0 0)
-          (numbered fabric.rams) (apart-numbered (NamesDiffer read_name) 0 fabric.rams writable.reads)))
-
-      read-goods : All (λ (place : ℕ × RamCell). IsClocked fabric place.1.rclk) (numbered fabric.rams)
-      read-goods =
-          All-numbered (λ ram. IsClocked fabric ram.rclk) 0 fabric.rams
-          (All-weaker (Contains fabric.rams) (λ ram. IsClocked fabric ram.rclk) (λ ram there. read-good device fabric taken placed ram there) fabric.rams (All-contains_itself fabric.rams))
-
-      reads-after : map (λ (place : ℕ × RamCell). read_new place (get_or (map word_of before.state.reads) place.0 0)) (numbered fabric.rams) ≡ map word_of next.reads
-      unfolding state_after
-      reads-after =
-          map-same (λ (place : ℕ × RamCell). read_new place (get_or (map word_of before.state.reads) place.0 0))
-          (λ (place : ℕ × RamCell). word_of (read_after (is_connected fabric) (bit_in before.v) (bit_in after.v) before.state place)) (numbered fabric.rams)
-          (All-both (λ (place : ℕ × RamCell). IsClocked fabric place.1.rclk)
+      -- the ports of a RAM have all that they need
+      port-goods : All (λ (place : ℕ × RamCell). (IsClocked fabric place.1.rclk × IsClocked fabric place.1.wclk × IsPorted place.1)
+          × (value_in held.memories (memory_name place.1) ≡ Some (map word_of (get_or before.state.words place.0 [])))) (numbered fabric.rams)
+      port-goods =
+          All-both (λ (place : ℕ × RamCell). IsClocked fabric place.1.rclk × IsClocked fabric place.1.wclk × IsPorted place.1)
           (λ (place : ℕ × RamCell). value_in held.memories (memory_name place.1) ≡ Some (map word_of (get_or before.state.words place.0 [])))
-          (λ (place : ℕ × RamCell). read_new place (get_or (map word_of before.state.reads) place.0 0) ≡ word_of (read_after (is_connected fabric) (bit_in before.v) (bit_in after.v) before.state place))
-          (λ place good there. ap (read_new place) (word-pick before.state.reads place.0)
-          ∙ read-same (module_of fabric order name) fabric within before.state before.pins before.v of_before.consistent held (module_event event) gives (bit_in after.v) before.state place
-          (ticks place.1.rneg place.1.rclk good) there) (numbered fabric.rams) read-goods memory-there)
-          ∙ sym (map-map (read_after (is_connected fabric) (bit_in before.v) (bit_in after.v) before.state) word_of (numbered fabric.rams))
+          (λ (place : ℕ × RamCell). (IsClocked fabric place.1.rclk × IsClocked fabric place.1.wclk × IsPorted place.1)
+          × (value_in held.memories (memory_name place.1) ≡ Some (map word_of (get_or before.state.words place.0 []))))
+          (λ place good there. (good, there)) (numbered fabric.rams)
+          (All-numbered (λ ram. IsClocked fabric ram.rclk × IsClocked fabric ram.wclk × IsPorted ram) 0 fabric.rams
+          (All-both (Contains fabric.rams) IsPorted (λ ram. IsClocked fabric ram.rclk × IsClocked fabric ram.wclk × IsPorted ram)
+          (λ ram there ported. (read-good device fabric taken placed ram there, write-good device fabric taken placed ram there, ported)) fabric.rams (All-contains_itself fabric.rams) sized.each_port))
+          memory-there
 
       words-hold : HasValues (fold (word_step (module_of fabric order name) held (module_event event)) held.words (items_of fabric order)) (map read_name fabric.rams) (map word_of next.reads)
-      words-hold = record {
-        named = ap names_of words-are ∙ made-names read_name (λ place. read_new place (get_or (map word_of before.state.reads) place.0 0)) fabric.rams;
-        valued = ap values_of words-are ∙ (made-values read_name (λ place. read_new place (get_or (map word_of before.state.reads) place.0 0)) fabric.rams ∙ reads-after);
-      }
-
-      -- ---- memories
-
-      abbrev write_new : ℕ × RamCell → List ℕ → List ℕ
-      write_new place old = write_by (module_of fabric order name) fabric held (module_event event) place.1 (clock_name fabric place.1.wclk) old
-
-      writes-fill : FillsOwn (λ (place : ℕ × RamCell). memory_name place.1) (memory_step (module_of fabric order name) held (module_event event)) (λ place. write_items fabric place.1) write_new
-      writes-fill = record {
-        own = λ place old rest. write-own (module_of fabric order name) fabric held (module_event event) place.1 (clock_name fabric place.1.wclk) old rest;
-        past = λ place entry rest away. write-past (module_of fabric order name) fabric held (module_event event) place.1 (clock_name fabric place.1.wclk) entry rest away;
-      }
-
-      memories-are : fold (memory_step (module_of fabric order name) held (module_event event)) held.memories (items_of fabric order)
-          ≡ map (λ (place : ℕ × RamCell). (memory_name place.1, write_new place (get_or (map (map word_of) before.state.words) place.0 []))) (numbered fabric.rams)
-      memories-are =
-          let step = memory_step (module_of fabric order name) held (module_event event) in
-          fold-section 9 step (memory-skips (module_of fabric order name) held (module_event event)) held.memories (items_of fabric order)
-          ∙ (ap (fold step held.memories) (writes-section fabric order ∙ sym (flat_map-numbered (write_items fabric) 0 fabric.rams))
-          ∙ (ap (λ given. fold step given (flat_map (λ (place : ℕ × RamCell). write_items fabric place.1) (numbered fabric.rams)))
-          (entries-are memory_name [] fabric.rams (map (map word_of) before.state.words) held.memories match.memories.named match.memories.valued)
-          ∙ filled (λ (place : ℕ × RamCell). memory_name place.1) step (λ place. write_items fabric place.1) write_new writes-fill (λ place. get_or (map (map word_of) before.state.words) place.0 [])
-          (numbered fabric.rams) (apart-numbered (NamesDiffer memory_name) 0 fabric.rams writable.memories)))
-
-      write-goods : All (λ (place : ℕ × RamCell). IsClocked fabric place.1.wclk × IsPorted place.1) (numbered fabric.rams)
-      write-goods =
-          All-numbered (λ ram. IsClocked fabric ram.wclk × IsPorted ram) 0 fabric.rams
-          (All-both (Contains fabric.rams) IsPorted (λ ram. IsClocked fabric ram.wclk × IsPorted ram)
-          (λ ram there ported. (write-good device fabric taken placed ram there, ported)) fabric.rams (All-contains_itself fabric.rams) sized.each_port)
-
-      memories-after : map (λ (place : ℕ × RamCell). write_new place (get_or (map (map word_of) before.state.words) place.0 [])) (numbered fabric.rams) ≡ map (map word_of) next.words
       unfolding state_after
-      memories-after =
-          map-same (λ (place : ℕ × RamCell). write_new place (get_or (map (map word_of) before.state.words) place.0 []))
-          (λ (place : ℕ × RamCell). map word_of (words_after (is_connected fabric) (bit_in before.v) (bit_in after.v) before.state place)) (numbered fabric.rams)
-          (All-both (λ (place : ℕ × RamCell). IsClocked fabric place.1.wclk × IsPorted place.1)
-          (λ (place : ℕ × RamCell). value_in held.memories (memory_name place.1) ≡ Some (map word_of (get_or before.state.words place.0 [])))
-          (λ (place : ℕ × RamCell). write_new place (get_or (map (map word_of) before.state.words) place.0 []) ≡ map word_of (words_after (is_connected fabric) (bit_in before.v) (bit_in after.v) before.state place))
-          (λ place good there. ap (write_new place) (get_or-map (map word_of) before.state.words place.0 [])
-          ∙ write-same (module_of fabric order name) fabric within before.state before.pins before.v of_before.consistent held (module_event event) gives (bit_in after.v) before.state place good.1
-          (ticks place.1.wneg place.1.wclk good.0) there) (numbered fabric.rams) write-goods memory-there)
-          ∙ sym (map-map (words_after (is_connected fabric) (bit_in before.v) (bit_in after.v) before.state) (map word_of) (numbered fabric.rams))
+      words-hold =
+          let next_is = next_word (module_of fabric order name) held (module_event event) in
+          subst (HasValues (fold (word_step (module_of fabric order name) held (module_event event)) held.words (items_of fabric order)) (map read_name fabric.rams))
+          (sym (map-map (read_after (is_connected fabric) (bit_in before.v) (bit_in after.v) before.state) word_of (numbered fabric.rams)))
+          (part-holds put_given given_name given_value puts-given next_is read_name (read_items fabric)
+          (λ ram. few-clocked (clock_name fabric ram.rclk) (read_item fabric ram))
+          (λ ram. own-read (module_of fabric order name) fabric held (module_event event) ram (clock_name fabric ram.rclk))
+          8 (word-none (module_of fabric order name) held (module_event event)) (items_of fabric order) fabric.rams (reads-section fabric order) writable.reads
+          0 held.words (map word_of before.state.reads) match.words
+          (λ (place : ℕ × RamCell). word_of (read_after (is_connected fabric) (bit_in before.v) (bit_in after.v) before.state place))
+          (All-weaker (λ (place : ℕ × RamCell). (IsClocked fabric place.1.rclk × IsClocked fabric place.1.wclk × IsPorted place.1)
+          × (value_in held.memories (memory_name place.1) ≡ Some (map word_of (get_or before.state.words place.0 []))))
+          (λ (place : ℕ × RamCell). done given_value (assigned_in next_is (read_items fabric place.1)) (get_or (map word_of before.state.reads) place.0 0)
+          ≡ word_of (read_after (is_connected fabric) (bit_in before.v) (bit_in after.v) before.state place))
+          (λ place good. ap (done given_value (assigned_in next_is (read_items fabric place.1))) (word-pick before.state.reads place.0)
+          ∙ read-same (module_of fabric order name) fabric within before.state before.pins before.v of_before.consistent held (module_event event) gives (bit_in after.v) before.state place
+          good.0.2 (ticks place.1.rneg place.1.rclk good.0.0) good.1) (numbered fabric.rams) port-goods))
 
       memories-hold : HasValues (fold (memory_step (module_of fabric order name) held (module_event event)) held.memories (items_of fabric order)) (map memory_name fabric.rams) (map (map word_of) next.words)
-      memories-hold = record {
-        named = ap names_of memories-are ∙ made-names memory_name (λ place. write_new place (get_or (map (map word_of) before.state.words) place.0 [])) fabric.rams;
-        valued = ap values_of memories-are ∙ (made-values memory_name (λ place. write_new place (get_or (map (map word_of) before.state.words) place.0 [])) fabric.rams ∙ memories-after);
-      }
+      unfolding state_after
+      memories-hold =
+          let next_is = next_put (module_of fabric order name) held (module_event event) in
+          subst (HasValues (fold (memory_step (module_of fabric order name) held (module_event event)) held.memories (items_of fabric order)) (map memory_name fabric.rams))
+          (sym (map-map (words_after (is_connected fabric) (bit_in before.v) (bit_in after.v) before.state) (map word_of) (numbered fabric.rams)))
+          (part-holds put_given_word put_memory put_value puts-word next_is memory_name (write_items fabric)
+          (λ ram. few-clocked (clock_name fabric ram.wclk) (write_item fabric ram))
+          (λ ram. own-write (module_of fabric order name) fabric held (module_event event) ram (clock_name fabric ram.wclk))
+          9 (put-none (module_of fabric order name) held (module_event event)) (items_of fabric order) fabric.rams (writes-section fabric order) writable.memories
+          [] held.memories (map (map word_of) before.state.words) match.memories
+          (λ (place : ℕ × RamCell). map word_of (words_after (is_connected fabric) (bit_in before.v) (bit_in after.v) before.state place))
+          (All-weaker (λ (place : ℕ × RamCell). (IsClocked fabric place.1.rclk × IsClocked fabric place.1.wclk × IsPorted place.1)
+          × (value_in held.memories (memory_name place.1) ≡ Some (map word_of (get_or before.state.words place.0 []))))
+          (λ (place : ℕ × RamCell). done put_value (assigned_in next_is (write_items fabric place.1)) (get_or (map (map word_of) before.state.words) place.0 [])
+          ≡ map word_of (words_after (is_connected fabric) (bit_in before.v) (bit_in after.v) before.state place))
+          (λ place good. ap (done put_value (assigned_in next_is (write_items fabric place.1))) (get_or-map (map word_of) before.state.words place.0 [])
+          ∙ write-same (module_of fabric order name) fabric within before.state before.pins before.v of_before.consistent held (module_event event) gives (bit_in after.v) before.state place
+          good.0.2 (ticks place.1.wneg place.1.wclk good.0.1) good.1) (numbered fabric.rams) port-goods))
 
       items-are : (module_of fabric order name).items ≡ items_of fabric order
       unfolding module_of
@@ -337,12 +275,12 @@ module _ (device : DeviceName) (fabric : Fabric) (taken : fabric_fault device fa
       → AllZip (Matches fabric) (entry ∷ entries) (run_from (module_of fabric order name) held (map module_event events))
   unfolding run_from
   runs-match entry is settles [] [] follow held match = (match, tt)
-  runs-match entry is settles [] (next ∷ entries) follow held match = absurd follow
+  runs-match entry is settles [] (later ∷ entries) follow held match = absurd follow
   runs-match entry is settles (event ∷ events) [] follow held match = absurd follow
-  runs-match entry is settles (event ∷ events) (next ∷ entries) follow held match = (
+  runs-match entry is settles (event ∷ events) (later ∷ entries) follow held match = (
     match,
-    runs-match next follow.0.entry (follows-settled device fabric taken placed within entry event next follow.0) events entries follow.1
-        (followed (module_of fabric order name) held (module_event event)) (step-matches entry is settles held match event next follow.0),
+    runs-match later follow.0.entry (follows-settled device fabric taken placed within entry event later follow.0) events entries follow.1
+        (followed (module_of fabric order name) held (module_event event)) (step-matches entry is settles held match event later follow.0),
   )
 
   -- For each list of events, the entries of the fabric's run and those of the module's run match, one by one.

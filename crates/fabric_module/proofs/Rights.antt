@@ -1,8 +1,8 @@
 -- The right side that is written for a driver has the driver's value, where pins, state and the wires that it reads have theirs.
 use Rattle.std.proofs.Common.{◌≡◌, ℕ, zero, suc, ◌<◌, ◌≤◌, Bool, true, false, List, [], ◌∷◌, ◌++◌, length, get_or, refl, sym, ap, ◌∙◌, ◌⊎◌, inl, inr}
-use Rattle.std.specs.Prelude.{All, Contains, Option, Some, None, option_to_list, ◌&&◌, if◌then◌else◌}
+use Rattle.std.specs.Prelude.{All, Contains, Option, Some, None, find, filter, option_to_list, ◌&&◌, if◌then◌else◌}
 use Rattle.std.proofs.lemmas.Bool.{cases_Bool}
-use Rattle.std.proofs.lemmas.List.Elements.{All-head, All-tail}
+use Rattle.std.proofs.lemmas.List.Elements.{All-cons, All-head, All-tail, All-weaker, All-contains_itself}
 use Rattle.bit_plane.specs.BitList.{word_of}
 use Rattle.vlog_module.specs.declared.atoms.Atom.{Atom}
 use Rattle.vlog_module.specs.declared.atoms.Atom.TheVariants.{Bit, Whole, Part}
@@ -14,10 +14,15 @@ use Rattle.net_extract.specs.declared.register.Table.{Table}
 use Rattle.net_extract.specs.declared.register.Register.{Register}
 use Rattle.net_extract.specs.Joins.{class_of}
 use Rattle.net_extract.specs.Fabric.{Fabric, numbered, inputs_of}
-use Rattle.net_extract.specs.Drivers.{Rule, Drive, drives_of, drivers_of, is_driven, nets_read}
+use Rattle.net_extract.specs.declared.pin.Pin.{Pin}
+use Rattle.net_extract.specs.Pins.{is_registered, is_tri_state}
+use Rattle.net_extract.specs.Outputs.{Output, enable_outputs, pin_outputs, outputs_of}
+use Rattle.net_extract.specs.Drivers.{Rule, Drive, is_output_register, register_rule, output_rule, drives_of, drivers_of, is_driven, nets_read}
 use Rattle.net_extract.specs.Drivers.Rule.{pin_bit, constant, input, table_entry, majority_of, register_bit, read_bit, copied}
 use Rattle.net_extract.specs.Values.{State, input_value, input_or_0, source_value, table_input, lut_value, settled_bit, value_of, bit_in, is_connected, IsConsistent}
 use Rattle.net_extract.specs.Wiring.{wiring_of, has, depends}
+use Rattle.net_extract.proofs.Apart.{All-every}
+use Rattle.net_extract.proofs.Within.{HoldsOf, find-holds, All-flat_map, All-if, All-single}
 use Rattle.net_extract.proofs.Joins.{class_of-class}
 use Rattle.net_extract.proofs.Facts.{has-left, has-right, has-some, has-source}
 use Rattle.net_extract.proofs.OneValue.{IsWithin, first-driver, first-is, first-class, first-reads, net-bit, class_bit, class-still}
@@ -37,6 +42,40 @@ IsPlaceIn fabric (table_entry table) = All (IsSourceThere fabric) table.ins
 IsPlaceIn fabric (register_bit place register) = Contains (numbered fabric.registers) (place, register)
 IsPlaceIn fabric (read_bit ram bit) = (ram < length fabric.rams) × (bit ≤ 15)
 IsPlaceIn fabric rule = Unit {0}
+
+-- a rule that outputs have: an input, a register of the fabric, or a bit that is always the same
+abbrev pub IsOutputRule : Fabric → Rule → Type 0
+IsOutputRule fabric (input stated net) = Unit {0}
+IsOutputRule fabric (constant bit) = Unit {0}
+IsOutputRule fabric (register_bit place register) = Contains (numbered fabric.registers) (place, register)
+IsOutputRule fabric rule = ⊥
+
+register_rule-good : (P : Rule → Type 0) → ((bit : Bool) → P (constant bit)) → (found : Option (ℕ × Register))
+    → HoldsOf (λ (place : ℕ × Register). P (register_bit place.0 place.1)) found → P (register_rule found)
+register_rule-good P of_constant None has = of_constant false
+register_rule-good P of_constant (Some place) has = has
+
+-- what holds of such rules holds of what an output pin has
+pub output_rule-good : (P : Rule → Type 0) (registers : List Register) → ((bit : Bool) → P (constant bit)) → ((stated : Bool) (net : Option ℕ) → P (input stated net))
+    → ((place : ℕ × Register) → Contains (numbered registers) place → P (register_bit place.0 place.1)) → (pin : Pin) → P (output_rule registers pin)
+output_rule-good P registers of_constant of_input of_register pin =
+    elim (cases_Bool (is_registered pin)) [
+      | inl here ↦ rw here (register_rule-good P of_constant (find (is_output_register pin) (numbered registers))
+          (find-holds (λ (place : ℕ × Register). P (register_bit place.0 place.1)) (is_output_register pin) (numbered registers)
+          (All-weaker (Contains (numbered registers)) (λ (place : ℕ × Register). P (register_bit place.0 place.1)) of_register (numbered registers) (All-contains_itself (numbered registers)))))
+      | inr away ↦ rw away (of_input false pin.dout)
+    ]
+
+-- outputs have such rules
+pub outputs-ruled : (fabric : Fabric) → All (λ (output : Output). IsOutputRule fabric output.rule) (outputs_of fabric)
+unfolding outputs_of
+outputs-ruled fabric =
+    All-flat_map (λ (output : Output). IsOutputRule fabric output.rule) (pin_outputs fabric.registers) (filter (λ pin. pin.output) fabric.pins)
+    (All-every (λ pin. All (λ (output : Output). IsOutputRule fabric output.rule) (pin_outputs fabric.registers pin))
+    (λ pin. All-cons (λ (output : Output). IsOutputRule fabric output.rule) (record { pin = pin; enable = false; rule = output_rule fabric.registers pin }) (enable_outputs pin)
+    (output_rule-good (IsOutputRule fabric) fabric.registers (λ bit. tt) (λ stated net. tt) (λ place there. there) pin)
+    (All-if (λ (output : Output). IsOutputRule fabric output.rule) (is_tri_state pin) (record { pin = pin; enable = true; rule = input true pin.enable } ∷ [])
+    (All-single (λ (output : Output). IsOutputRule fabric output.rule) (record { pin = pin; enable = true; rule = input true pin.enable }) tt))) (filter (λ pin. pin.output) fabric.pins))
 
 -- so each input of a table is
 pub source-there : (fabric : Fabric) (ins : List Source) (k : ℕ) → All (IsSourceThere fabric) ins → IsSourceThere fabric (get_or ins k (Net None))

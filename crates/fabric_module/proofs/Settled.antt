@@ -1,43 +1,46 @@
 -- The wires, registers and outputs of a module once they have settled, where its inputs, registers and memories hold what the fabric's
 -- pins are and what its state was before it settled.
 use Rattle.std.proofs.Common.{◌≡◌, ℕ, ◌^◌, ◌<◌, ◌≤◌, Bool, true, false, List, [], ◌∷◌, ◌++◌, length, map, get_or, fold, refl, sym, ap, ◌∙◌, subst, arith, inl, inr, append_assoc, append-nil}
-use Rattle.std.specs.Prelude.{All, Contains, Option, Some, None, filter, flat_map, bytes_eq, codes, decimal, not}
+use Rattle.std.specs.Prelude.{All, Contains, Option, Some, None, flat_map, bytes_eq, codes, decimal}
 use Rattle.std.proofs.lemmas.Bool.{cases_Bool}
 use Rattle.std.proofs.lemmas.Fmt.{decimal_injective}
 use Rattle.std.proofs.lemmas.List.Elements.{All-nil, All-cons, All-head, All-tail, All-append, All-map, All-contains, All-push, All-weaker}
 use Rattle.std.proofs.lemmas.List.Concat.{flat_map_single}
 use Rattle.std.proofs.lemmas.List.{map-append}
 use Rattle.std.proofs.Math.ListN.{get_or-map}
-use Rattle.shared_lemmas.proofs.Lists.{map-every}
+use Rattle.shared_lemmas.proofs.Lists.{map-same, map-every}
 use Rattle.shared_lemmas.proofs.Bytes.{same_bytes, bytes_eq-same}
 use Rattle.bit_plane.specs.BitList.{word_of}
 use Rattle.vlog_module.specs.declared.atoms.Atom.TheVariants.{Whole}
-use Rattle.vlog_module.specs.declared.item.Item.TheVariants.{Register as RegisterItem, Word, Memory, Wire, Assign, Flip, FlipAtOnce, SetAtOnce, Read, Write, Start}
+use Rattle.vlog_module.specs.declared.item.Item.TheVariants.{Register as RegisterItem, Word, Memory, Wire, Assign, Flip, FlipAtOnce, SetAtOnce, Read, ReadNarrow, Write, WriteNarrow, Start}
 use Rattle.vlog_module.specs.Maps.{value_in}
 use Rattle.vlog_cycle.specs.Named.{names_of, values_of}
 use Rattle.vlog_cycle.specs.Values.{Readable, atom_value, right_value}
 use Rattle.vlog_cycle.specs.Run.{output_start, wire_step, settle_step, output_step, settled}
 use Rattle.net_extract.specs.declared.register.Register.{Register}
-use Rattle.net_extract.specs.declared.pin.Pin.{Pin}
-use Rattle.net_extract.specs.Fabric.{Fabric, numbered, inputs_of, outputs_of}
-use Rattle.net_extract.proofs.Apart.{apart-filter, apart-numbered}
-use Rattle.net_extract.specs.Drivers.{Drive, drives_of, is_driven}
-use Rattle.net_extract.specs.Values.{State, input_or_0, settled_bit, bit_in, is_connected, IsConsistent}
+use Rattle.net_extract.specs.Fabric.{Fabric, numbered, inputs_of}
+use Rattle.net_extract.specs.Outputs.{Output, outputs_of}
+use Rattle.net_extract.proofs.Apart.{apart-numbered}
+use Rattle.net_extract.specs.Drivers.{Rule, Drive, drives_of, is_driven}
+use Rattle.net_extract.specs.Drivers.Rule.{pin_bit, constant, input, table_entry, majority_of, register_bit, read_bit, copied}
+use Rattle.net_extract.specs.Values.{State, settled_bit, value_of, bit_in, is_connected, IsConsistent}
 use Rattle.net_extract.specs.Steps.{Entry, settled_bits, settled_state, output_values, IsEntry}
 use Rattle.net_extract.specs.Wiring.{wiring_of, has, IsWriteOrder}
 use Rattle.net_extract.proofs.Order.{has-none, has-first, has-cases, Continues, order-continues}
 use Rattle.net_extract.proofs.Order.Continues.{whole, next}
 use Rattle.net_extract.proofs.Facts.{has-left, has-right}
-use Rattle.net_extract.proofs.Settling.{consistent-unsettled}
+use Rattle.net_extract.proofs.Settling.{numbered-read, consistent-unsettled, settled-twice}
 use Rattle.net_extract.proofs.OneValue.{IsWithin, driven-is, count-is, driven-below}
-use Rattle.fabric_module.specs.Names.{port_name, register_name, read_name, memory_name, wire_name}
-use Rattle.fabric_module.specs.Rights.{atom_or_0, input_name, read_at, setting_wire, class_right}
-use Rattle.fabric_module.specs.Written.{port_of, class_wire, output_assign, items_by, register_items, items_of, module_of}
+use Rattle.fabric_module.specs.Names.{port_name, output_name, register_name, read_name, memory_name, wire_name}
+use Rattle.fabric_module.specs.Rights.{output_atom, input_name, read_at, setting_wire, class_right}
+use Rattle.fabric_module.specs.Written.{class_wire, output_assign, items_by, register_items, items_of, module_of}
 use Rattle.fabric_module.specs.Matching.{HasValues, HasWires, Matches}
 use Rattle.fabric_module.proofs.Lists.{NamesDiffer, Apart, flat_map-numbered, entries-are, made-names, made-values, place-there, name-there, value_in-front, value_in-behind, value_in-at, names-absent, map-map}
 use Rattle.fabric_module.proofs.Sections.{Skips, fold-section, wires-section, assigns-section, flips-section}
 use Rattle.fabric_module.proofs.Fills.{FillsOwn, filled}
-use Rattle.fabric_module.proofs.Rights.{IsSourceThere, IsPlaceIn, Gives, atom-value, unless_set, unless-settles, class-written}
+use Rattle.fabric_module.proofs.Apart.{port-no_register, port-no_wire, register-no_wire}
+use Rattle.fabric_module.proofs.Ports.{ports_of, port_label, inputs-apart, outputs-apart, outputs-start}
+use Rattle.fabric_module.proofs.Rights.{IsSourceThere, IsPlaceIn, IsOutputRule, outputs-ruled, Gives, atom-value, unless_set, unless-settles, class-written}
 
 -- ---- premises
 
@@ -47,7 +50,7 @@ pub record IsWritable (fabric : Fabric) : Type 0 where
   pub few : fabric.nets ≤ 2 ^ 64
   pub places : (drive : Drive) → Contains (drives_of fabric) drive → IsPlaceIn fabric drive.rule
   pub tables : All (λ register. All (IsSourceThere fabric) register.table.ins) fabric.registers
-  pub ports : Apart port_name fabric.pins
+  pub ports : Apart port_label (ports_of fabric)
   pub registers : Apart register_name fabric.registers
   pub reads : Apart read_name fabric.rams
   pub memories : Apart memory_name fabric.rams
@@ -60,18 +63,6 @@ wire-one a b of_a of_b same =
     let names : codes "n_" ++ decimal a ≡ codes "n_" ++ decimal b = same_bytes (codes "n_" ++ decimal a) (codes "n_" ++ decimal b) same in
     let numbers : decimal a ≡ decimal b = cc in
     decimal_injective a b of_a of_b numbers
-
-pub port-no_wire : (pin : Pin) (class : ℕ) → bytes_eq (port_name pin) (wire_name class) ≡ false
-unfolding port_name wire_name
-port-no_wire pin class = refl
-
-pub register-no_wire : (register : Register) (class : ℕ) → bytes_eq (register_name register) (wire_name class) ≡ false
-unfolding register_name wire_name
-register-no_wire register class = refl
-
-pub port-no_register : (pin : Pin) (register : Register) → bytes_eq (port_name pin) (register_name register) ≡ false
-unfolding port_name register_name
-port-no_register pin register = refl
 
 -- ---- wires
 
@@ -124,7 +115,9 @@ wire-skips known words (Flip falling clock enable reset set target lut) away giv
 wire-skips known words (FlipAtOnce falling clock reset set target enable lut) away given = refl
 wire-skips known words (SetAtOnce reset set target) away given = refl
 wire-skips known words (Read falling clock clock_enable enable target memory address) away given = refl
+wire-skips known words (ReadNarrow falling clock clock_enable enable target memory address shift pattern) away given = refl
 wire-skips known words (Write falling clock clock_enable enable memory address mask bits) away given = refl
+wire-skips known words (WriteNarrow falling clock clock_enable enable memory address pattern shift bits) away given = refl
 wire-skips known words (Start memory k word) away given = refl
 
 output-skips : (from : Readable) → Skips 6 (output_step from)
@@ -137,7 +130,9 @@ output-skips from (Flip falling clock enable reset set target lut) away given = 
 output-skips from (FlipAtOnce falling clock reset set target enable lut) away given = refl
 output-skips from (SetAtOnce reset set target) away given = refl
 output-skips from (Read falling clock clock_enable enable target memory address) away given = refl
+output-skips from (ReadNarrow falling clock clock_enable enable target memory address shift pattern) away given = refl
 output-skips from (Write falling clock clock_enable enable memory address mask bits) away given = refl
+output-skips from (WriteNarrow falling clock clock_enable enable memory address pattern shift bits) away given = refl
 output-skips from (Start memory k word) away given = refl
 
 settle-skips : (from : Readable) → Skips 7 (settle_step from)
@@ -150,7 +145,9 @@ settle-skips from (Flip falling clock enable reset set target lut) away given = 
 settle-skips from (FlipAtOnce falling clock reset set target enable lut) away given = absurd cc
 settle-skips from (SetAtOnce reset set target) away given = absurd cc
 settle-skips from (Read falling clock clock_enable enable target memory address) away given = refl
+settle-skips from (ReadNarrow falling clock clock_enable enable target memory address shift pattern) away given = refl
 settle-skips from (Write falling clock clock_enable enable memory address mask bits) away given = refl
+settle-skips from (WriteNarrow falling clock clock_enable enable memory address pattern shift bits) away given = refl
 settle-skips from (Start memory k word) away given = refl
 
 -- the items of a register set it where its wire is 1, and pass others
@@ -195,32 +192,19 @@ module _ (fabric : Fabric) (from : Readable) where
     past = λ place entry rest away. rest-past place.1 (setting_wire fabric place.1) _ entry rest away;
   }
 
--- the outputs before they are assigned
-outputs-start : (pins : List Pin) → flat_map output_start (map port_of pins) ≡ map (λ pin. (port_name pin, false)) (filter (λ pin. pin.output) pins)
-unfolding port_name
-outputs-start [] = refl
-outputs-start (pin ∷ pins) =
-    elim (cases_Bool pin.output) [
-      | inl here ↦ rw here (ap (λ list. (port_name pin, false) ∷ list) (outputs-start pins))
-      | inr away ↦ rw away (outputs-start pins)
-    ]
-
 -- an assignment gives its output the value
 output-fills : (fabric : Fabric) (from : Readable)
-    → FillsOwn port_name (output_step from) (λ pin. output_assign fabric pin ∷ []) (λ pin old. atom_value from (atom_or_0 fabric pin.dout))
+    → FillsOwn output_name (output_step from) (λ output. output_assign fabric output ∷ []) (λ output old. atom_value from (output_atom fabric output.rule))
 output-fills fabric from = record {
-  own = λ pin old rest. rw (bytes_eq-same (port_name pin) (port_name pin) refl) refl;
-  past = λ pin entry rest away. rw away refl;
+  own = λ output old rest. rw (bytes_eq-same (output_name output) (output_name output) refl) refl;
+  past = λ output entry rest away. rw away refl;
 }
 
 module _ (fabric : Fabric) (within : IsWithin fabric) (writable : IsWritable fabric) (state : State) (pins v : List Bool) (is : IsConsistent fabric state pins v)
     (inputs registers : List (List ℕ × Bool)) (words : List (List ℕ × ℕ)) (holding : Holding fabric state pins inputs registers words) where
-  inputs-apart : Apart port_name (inputs_of fabric)
-  inputs-apart = apart-filter (NamesDiffer port_name) (λ pin. not pin.output) fabric.pins writable.ports
-
   pin-there : (place : ℕ) → place < length (inputs_of fabric) → value_in inputs (input_name fabric place) ≡ Some (get_or pins place false)
   pin-there place there =
-      value_in-at port_name false (inputs_of fabric) inputs place inputs-apart holding.input.named there
+      value_in-at port_name false (inputs_of fabric) inputs place (inputs-apart fabric.pins writable.ports) holding.input.named there
       ∙ ap (λ values. Some (get_or values place false)) holding.input.valued
 
   register-there : (place : ℕ) (register : Register) → Contains (numbered fabric.registers) (place, register) → value_in registers (register_name register) ≡ Some (get_or state.bits place false)
@@ -364,29 +348,47 @@ module _ (fabric : Fabric) (within : IsWithin fabric) (writable : IsWritable fab
 
     -- ---- outputs
 
-    output-value : (pin : Pin) → atom_value from_all (atom_or_0 fabric pin.dout)
-        ≡ input_or_0 (is_connected fabric) (bit_in v) pin.dout
-    output-value pin =
+    -- where the state has settled, the atom of an output has its value
+    output-value : settled_bits fabric (bit_in v) state.bits ≡ state.bits → (rule : Rule) → IsOutputRule fabric rule
+        → atom_value from_all (output_atom fabric rule) ≡ value_of (is_connected fabric) state pins (bit_in v) rule
+    unfolding value_of
+    output-value rested (input stated net) there =
         atom-value fabric within state pins v is (is_driven fabric) from_all (gives-read (map (wire_of v) order) wires-hold)
-        false pin.dout (λ n found connected. connected)
+        stated net (λ n found connected. connected)
+    output-value rested (constant bit) there = refl
+    output-value rested (register_bit place register) there =
+        let gives = gives-read (map (wire_of v) order) wires-hold in
+        let settles : settled_bit (is_connected fabric) (bit_in v) register (get_or state.bits place false) ≡ get_or state.bits place false =
+        sym (numbered-read (λ (p : ℕ × Register). settled_bit (is_connected fabric) (bit_in v) p.1 (get_or state.bits p.0 false)) false fabric.registers (place, register) there)
+        ∙ ap (λ bits. get_or bits place false) rested in
+        (rw (gives.register place register there) refl) ∙ sym settles
+    output-value rested (pin_bit place) there = absurd there
+    output-value rested (table_entry table) there = absurd there
+    output-value rested (majority_of a b c) there = absurd there
+    output-value rested (read_bit ram bit) there = absurd there
+    output-value rested (copied net) there = absurd there
 
-    outputs-are : fold (output_step from_all) (flat_map output_start (map port_of fabric.pins)) (items_of fabric order)
-        ≡ map (λ pin. (port_name pin, atom_value from_all (atom_or_0 fabric pin.dout))) (outputs_of fabric)
+    outputs-are : fold (output_step from_all) (flat_map output_start (ports_of fabric)) (items_of fabric order)
+        ≡ map (λ output. (output_name output, atom_value from_all (output_atom fabric output.rule))) (outputs_of fabric)
     outputs-are =
-        fold-section 6 (output_step from_all) (output-skips from_all) (flat_map output_start (map port_of fabric.pins)) (items_of fabric order)
-        ∙ (ap (fold (output_step from_all) (flat_map output_start (map port_of fabric.pins)))
+        fold-section 6 (output_step from_all) (output-skips from_all) (flat_map output_start (ports_of fabric)) (items_of fabric order)
+        ∙ (ap (fold (output_step from_all) (flat_map output_start (ports_of fabric)))
         (assigns-section fabric order ∙ sym (flat_map_single (output_assign fabric) (outputs_of fabric)))
-        ∙ (ap (λ given. fold (output_step from_all) given (flat_map (λ pin. output_assign fabric pin ∷ []) (outputs_of fabric))) (outputs-start fabric.pins)
-        ∙ filled port_name (output_step from_all) (λ pin. output_assign fabric pin ∷ []) (λ pin old. atom_value from_all (atom_or_0 fabric pin.dout))
-        (output-fills fabric from_all) (λ pin. false) (outputs_of fabric) (apart-filter (NamesDiffer port_name) (λ pin. pin.output) fabric.pins writable.ports)))
+        ∙ (ap (λ given. fold (output_step from_all) given (flat_map (λ output. output_assign fabric output ∷ []) (outputs_of fabric))) (outputs-start fabric)
+        ∙ filled output_name (output_step from_all) (λ output. output_assign fabric output ∷ []) (λ output old. atom_value from_all (output_atom fabric output.rule))
+        (output-fills fabric from_all) (λ output. false) (outputs_of fabric) (outputs-apart fabric writable.ports)))
 
-    outputs-hold : HasValues (map (λ pin. (port_name pin, atom_value from_all (atom_or_0 fabric pin.dout))) (outputs_of fabric))
-        (map port_name (outputs_of fabric)) (output_values fabric v)
+    outputs-hold : settled_bits fabric (bit_in v) state.bits ≡ state.bits
+        → HasValues (map (λ output. (output_name output, atom_value from_all (output_atom fabric output.rule))) (outputs_of fabric))
+        (map output_name (outputs_of fabric)) (output_values fabric state pins v)
     unfolding output_values
-    outputs-hold = record {
-      named = map-map (λ pin. (port_name pin, atom_value from_all (atom_or_0 fabric pin.dout))) (λ entry. entry.0) (outputs_of fabric);
-      valued = map-map (λ pin. (port_name pin, atom_value from_all (atom_or_0 fabric pin.dout))) (λ entry. entry.1) (outputs_of fabric)
-          ∙ map-every (λ pin. atom_value from_all (atom_or_0 fabric pin.dout)) (λ pin. input_or_0 (is_connected fabric) (bit_in v) pin.dout) output-value (outputs_of fabric);
+    outputs-hold rested = record {
+      named = map-map (λ output. (output_name output, atom_value from_all (output_atom fabric output.rule))) (λ entry. entry.0) (outputs_of fabric);
+      valued = map-map (λ output. (output_name output, atom_value from_all (output_atom fabric output.rule))) (λ entry. entry.1) (outputs_of fabric)
+          ∙ map-same (λ output. atom_value from_all (output_atom fabric output.rule)) (λ output. value_of (is_connected fabric) state pins (bit_in v) output.rule) (outputs_of fabric)
+          (All-weaker (λ (output : Output). IsOutputRule fabric output.rule)
+          (λ (output : Output). atom_value from_all (output_atom fabric output.rule) ≡ value_of (is_connected fabric) state pins (bit_in v) output.rule)
+          (λ output there. output-value rested output.rule there) (outputs_of fabric) (outputs-ruled fabric));
     }
 
 -- ---- the whole entry
@@ -403,7 +405,7 @@ module _ (fabric : Fabric) (within : IsWithin fabric) (writable : IsWritable fab
 
   abbrev outputs_with : List (List ℕ × Bool) → List (List ℕ × Bool)
   outputs_with wires =
-      fold (output_step (record { bits = (inputs ++ rests_with wires) ++ wires; words = words })) (flat_map output_start (map port_of fabric.pins)) (items_of fabric order)
+      fold (output_step (record { bits = (inputs ++ rests_with wires) ++ wires; words = words })) (flat_map output_start (ports_of fabric)) (items_of fabric order)
 
   registers-match : HasValues (rests_with (map (wire_of entry.v) order)) (map register_name fabric.registers) entry.state.bits
   unfolding settled_state
@@ -423,18 +425,25 @@ module _ (fabric : Fabric) (within : IsWithin fabric) (writable : IsWritable fab
   after : Holding fabric entry.state entry.pins inputs (rests_with (map (wire_of entry.v) order)) words
   after = record { input = holding.input; register = registers-match; word = words-match }
 
-  outputs-match : HasValues (outputs_with (map (wire_of entry.v) order)) (map port_name (outputs_of fabric)) entry.outputs
+  -- the state has settled
+  rested : settled_bits fabric (bit_in entry.v) entry.state.bits ≡ entry.state.bits
+  unfolding settled_state
+  rested =
+      ap (λ (state : State). state.bits)
+      (ap (settled_state fabric (bit_in entry.v)) settles ∙ (settled-twice fabric (bit_in entry.v) next ∙ sym settles))
+
+  outputs-match : HasValues (outputs_with (map (wire_of entry.v) order)) (map output_name (outputs_of fabric)) entry.outputs
   outputs-match =
-      subst (λ list. HasValues list (map port_name (outputs_of fabric)) entry.outputs)
+      subst (λ list. HasValues list (map output_name (outputs_of fabric)) entry.outputs)
       (sym (outputs-are fabric within writable entry.state entry.pins entry.v is.consistent inputs (rests_with (map (wire_of entry.v) order)) words after order ordered))
-      (subst (λ values. HasValues (map (λ pin. (
-        port_name pin,
+      (subst (λ values. HasValues (map (λ output. (
+        output_name output,
         atom_value
             (from_all fabric within writable entry.state entry.pins entry.v is.consistent inputs (rests_with (map (wire_of entry.v) order)) words after order ordered)
-            (atom_or_0 fabric pin.dout),
-      )) (outputs_of fabric)) (map port_name (outputs_of fabric)) values)
+            (output_atom fabric output.rule),
+      )) (outputs_of fabric)) (map output_name (outputs_of fabric)) values)
       (sym is.outputs)
-      (outputs-hold fabric within writable entry.state entry.pins entry.v is.consistent inputs (rests_with (map (wire_of entry.v) order)) words after order ordered))
+      (outputs-hold fabric within writable entry.state entry.pins entry.v is.consistent inputs (rests_with (map (wire_of entry.v) order)) words after order ordered rested))
 
   -- a module whose inputs, registers and memories hold pins and a state settles to the values of the fabric's entry
   pub settled-matches : (memories : List (List ℕ × List ℕ)) → HasValues memories (map memory_name fabric.rams) (map (map word_of) next.words)
@@ -444,7 +453,7 @@ module _ (fabric : Fabric) (within : IsWithin fabric) (writable : IsWritable fab
       let wires = wires-are fabric within writable next entry.pins entry.v before inputs registers words holding order ordered in
       record {
         inputs = holding.input;
-        outputs = subst (λ list. HasValues (outputs_with list) (map port_name (outputs_of fabric)) entry.outputs) (sym wires) outputs-match;
+        outputs = subst (λ list. HasValues (outputs_with list) (map output_name (outputs_of fabric)) entry.outputs) (sym wires) outputs-match;
         registers = subst (λ list. HasValues (rests_with list) (map register_name fabric.registers) entry.state.bits) (sym wires) registers-match;
         words = words-match;
         memories = memories-match memories held;

@@ -1,6 +1,6 @@
 -- An event is the edge of a clocked item of the module exactly where it is an edge of the fabric's clock.
 use Rattle.std.proofs.Common.{◌≡◌, ◌≢◌, ℕ, zero, suc, ◌+◌, ◌<◌, Bool, true, false, List, [], ◌∷◌, length, map, get_or, set, refl, sym, ap, ◌∙◌, subst, arith, inl, inr, get_or-set_same, get_or-set_other, eq-eqb}
-use Rattle.std.specs.Prelude.{Option, Some, None, filter, bytes_eq, not, ◌&&◌, ◌==◌, if◌then◌else◌}
+use Rattle.std.specs.Prelude.{Option, Some, None, filter, flat_map, bytes_eq, not, ◌&&◌, ◌==◌, if◌then◌else◌}
 use Rattle.std.proofs.lemmas.Bool.{cases_Bool, eqb-true}
 use Rattle.shared_lemmas.proofs.Bytes.{bytes_eq-same}
 use Rattle.plane_map.specs.declared.device.DeviceName.{DeviceName}
@@ -12,7 +12,6 @@ use Rattle.vlog_cycle.specs.Numbered.{numbered as counted}
 use Rattle.vlog_cycle.specs.Run.{input_names, pin_of, is_pin, is_edge, is_same_bit}
 use Rattle.net_extract.specs.declared.pin.Pin.{Pin}
 use Rattle.net_extract.specs.Fabric.{Fabric, inputs_of}
-use Rattle.net_extract.proofs.Apart.{apart-filter}
 use Rattle.net_extract.specs.Drivers.{Rule, is_driven}
 use Rattle.net_extract.specs.Drivers.Rule.{pin_bit, constant, input, table_entry, majority_of, register_bit, read_bit, copied}
 use Rattle.net_extract.specs.Values.{bit_in}
@@ -28,12 +27,12 @@ use Rattle.net_extract.proofs.Taken.{taken-order}
 use Rattle.net_extract.proofs.Runs.{IsPlaced, IsClockEnd, IsClocked, end_bit, clock-bit, clock_bit-is}
 use Rattle.fabric_module.specs.Names.{port_name}
 use Rattle.fabric_module.specs.Rights.{input_name}
-use Rattle.fabric_module.specs.Written.{end_name, clock_name, port_of}
+use Rattle.fabric_module.specs.Written.{end_name, clock_name, pin_ports}
 use Rattle.fabric_module.specs.Matching.{module_event}
-use Rattle.fabric_module.proofs.Lists.{NamesDiffer, Apart, All-pick, map-map}
+use Rattle.fabric_module.proofs.Lists.{Apart, All-pick, map-map}
 use Rattle.fabric_module.proofs.Rights.{IsPlaceIn}
 use Rattle.fabric_module.proofs.Settled.{IsWritable}
-use Rattle.fabric_module.proofs.Beginning.{inputs-start}
+use Rattle.fabric_module.proofs.Ports.{ports_of, inputs-apart, inputs-start}
 
 -- ---- edges
 
@@ -72,15 +71,15 @@ pin-from name (x ∷ xs) from (suc place) apart within =
     rw (All-pick name (λ n. bytes_eq (name x) n ≡ false) xs place apart.0 (omega arith))
     (pin-from name xs (from + 1) place apart.1 (omega arith) ∙ ap (λ n. Some n) same)
 
-input_names-are : (pins : List Pin) → input_names (map port_of pins) ≡ map port_name (filter (λ pin. not pin.output) pins)
+input_names-are : (pins : List Pin) → input_names (flat_map pin_ports pins) ≡ map port_name (filter (λ pin. not pin.output) pins)
 input_names-are pins = ap names_of (inputs-start pins) ∙ map-map (λ pin. (port_name pin, false)) (λ (entry : List ℕ × Bool). entry.0) (filter (λ pin. not pin.output) pins)
 
 -- the place of an input pin's port
-pub pin-place : (fabric : Fabric) → IsWritable fabric → (place : ℕ) → place < length (inputs_of fabric) → pin_of (map port_of fabric.pins) (input_name fabric place) ≡ Some place
+pub pin-place : (fabric : Fabric) → IsWritable fabric → (place : ℕ) → place < length (inputs_of fabric) → pin_of (ports_of fabric) (input_name fabric place) ≡ Some place
 pin-place fabric writable place there =
     let zero_more : 0 + place ≡ place = omega arith in
     ap (λ names. value_in (counted 0 names) (input_name fabric place)) (input_names-are fabric.pins)
-    ∙ (pin-from port_name (inputs_of fabric) 0 place (apart-filter (NamesDiffer port_name) (λ pin. not pin.output) fabric.pins writable.ports) there
+    ∙ (pin-from port_name (inputs_of fabric) 0 place (inputs-apart fabric.pins writable.ports) there
     ∙ ap (λ n. Some n) zero_more)
 
 -- ---- chains end at pins that are there
@@ -129,7 +128,7 @@ module _ (device : DeviceName) (fabric : Fabric) (taken : fabric_fault device fa
 
   -- a clock at a pin
   tick-pin : (inverted : Bool) (net place : ℕ) → clock_end fabric net ≡ at_pin place
-      → clock_test (map port_of fabric.pins) (module_event event) inverted (Some (input_name fabric place)) ≡ has_edge inverted (Some net) (bit_in before.v) (bit_in after.v)
+      → clock_test (ports_of fabric) (module_event event) inverted (Some (input_name fabric place)) ≡ has_edge inverted (Some net) (bit_in before.v) (bit_in after.v)
   tick-pin inverted net place is =
       let order = taken-order device fabric taken within in
       let there : place < length (inputs_of fabric) = leads-place fabric writable (clock_end-leads fabric within order.it order.is net) place is in
@@ -153,7 +152,7 @@ module _ (device : DeviceName) (fabric : Fabric) (taken : fabric_fault device fa
       ]
 
   tick-end : (inverted : Bool) (net : ℕ) (end : ClockEnd) → clock_end fabric net ≡ end → IsClockEnd end
-      → clock_test (map port_of fabric.pins) (module_event event) inverted (end_name fabric end) ≡ has_edge inverted (Some net) (bit_in before.v) (bit_in after.v)
+      → clock_test (ports_of fabric) (module_event event) inverted (end_name fabric end) ≡ has_edge inverted (Some net) (bit_in before.v) (bit_in after.v)
   tick-end inverted net (at_pin place) is good = tick-pin inverted net place is
   tick-end inverted net undriven is good =
       let stays : bit_in before.v net ≡ bit_in after.v net = bit-before net undriven is tt ∙ sym (bit-after net undriven is tt) in
@@ -163,7 +162,7 @@ module _ (device : DeviceName) (fabric : Fabric) (taken : fabric_fault device fa
 
   -- the module's clock ticks where the fabric's does
   pub tick : (inverted : Bool) (clock : Option ℕ) → IsClocked fabric clock
-      → clock_test (map port_of fabric.pins) (module_event event) inverted (clock_name fabric clock) ≡ has_edge inverted clock (bit_in before.v) (bit_in after.v)
+      → clock_test (ports_of fabric) (module_event event) inverted (clock_name fabric clock) ≡ has_edge inverted clock (bit_in before.v) (bit_in after.v)
   unfolding clock_name
   tick inverted None good = refl
   tick inverted (Some net) good = tick-end inverted net (clock_end fabric net) refl good

@@ -1,22 +1,32 @@
 -- What holds of the fabric that a database and an image configure: its names are apart, its RAMs have all their ports and start
 -- words, and its drivers name parts that it has.
-use Rattle.std.proofs.Common.{◌≡◌, ℕ, zero, suc, ◌+◌, ◌<◌, Bool, true, false, List, [], ◌∷◌, ◌++◌, length, get_or, refl, sym, ap, ◌∙◌, subst, arith}
-use Rattle.std.specs.Prelude.{All, Contains, Option, Some, None, not, filter, flat_map, if◌then◌else◌}
-use Rattle.std.proofs.lemmas.List.{length-append}
-use Rattle.std.proofs.lemmas.List.Elements.{All-nil, All-cons, All-head, All-tail, All-append, All-map, All-weaker, All-contains, All-contains_itself}
-use Rattle.shared_lemmas.proofs.Bytes.{bytes_eq-apart}
+use Rattle.std.proofs.Common.{◌≡◌, ℕ, zero, suc, ◌+◌, ◌-◌, ◌<◌, ◌≤◌, Bool, true, false, List, [], ◌∷◌, ◌++◌, length, map, get_or, refl, sym, ap, ◌∙◌, subst, arith, inl, inr, eq-eqb}
+use Rattle.std.specs.Prelude.{All, Contains, Option, Some, None, not, codes, ◌&&◌, ◌==◌, filter, flat_map, bytes_eq, if◌then◌else◌}
+use Rattle.std.specs.List.{position_or_len}
+use Rattle.std.proofs.lemmas.Bool.{cases_Bool, lt-ltb, and_from}
+use Rattle.std.proofs.lemmas.List.{length-append, append_cancel_right}
+use Rattle.std.proofs.lemmas.List.Elements.{All-nil, All-cons, All-head, All-tail, All-append, All-map, All-filter, All-weaker, All-contains, All-contains_itself}
+use Rattle.shared_lemmas.proofs.Lists.{All-both}
+use Rattle.shared_lemmas.proofs.Bytes.{bytes_eq-apart, bytes_eq-same}
+use Rattle.bit_plane.proofs.Words.{bit_value-le}
 use Rattle.place_search.proofs.Gathered.{All-gathered_below}
 use Rattle.plane_map.specs.declared.device.DeviceName.{DeviceName}
 use Rattle.plane_map.specs.declared.device.DeviceName.TheVariants.{K1, K8}
-use Rattle.plane_map.specs.declared.tile.TileKind.TheVariants.{Io, Logic, RamB}
+use Rattle.plane_map.specs.declared.tile.TileKind.TheVariants.{Io, Logic, RamB, RamT}
 use Rattle.plane_map.specs.Layout.{kind_of, grid_width, grid_height}
 use Rattle.ice_image.specs.Configuration.{Configuration}
 use Rattle.chipdb_lines.specs.Statements.{is_kind_there}
 use Rattle.chipdb_reader.specs.Database.{Database}
 use Rattle.place_search.specs.Places.{gathered_below}
 use Rattle.net_extract.specs.declared.cell.Lc.{Lc}
+use Rattle.vlog_module.specs.declared.modules.Port.{Port}
+use Rattle.net_extract.specs.declared.driver.ClockUser.TheVariants.{Input, Output}
+use Rattle.net_extract.specs.declared.register.Register.{Register}
+use Rattle.net_extract.specs.declared.register.Source.{Source}
 use Rattle.net_extract.specs.declared.register.Source.TheVariants.{Net}
-use Rattle.net_extract.specs.Registers.{table_of, register_of, registers_of}
+use Rattle.net_extract.specs.Registers.{table_of, register_of, registers_of, pin_source, table_as, pin_register, pin_registers_of}
+use Rattle.net_extract.specs.On.{is_function_on}
+use Rattle.net_extract.specs.Nets.{ending_in}
 use Rattle.net_extract.specs.declared.ram.RamCell.{RamCell}
 use Rattle.net_extract.specs.declared.pin.Pin.{Pin}
 use Rattle.net_extract.specs.declared.pin.GlobalNet.{GlobalNet}
@@ -25,19 +35,21 @@ use Rattle.net_extract.specs.declared.pin.GlobalFrom.TheVariants.{Pad, Fabout}
 use Rattle.net_extract.specs.declared.driver.Driver.{Driver}
 use Rattle.net_extract.specs.Tiles.{over_grid}
 use Rattle.net_extract.specs.Cells.{cell_bits, cell_with, used_cell, cells_at, cells_of}
-use Rattle.net_extract.specs.Rams.{is_ram_used, ram_at, rams_of, start_word, start_words}
-use Rattle.net_extract.specs.Pins.{pintype_of, is_port, pin_with, port_at, pins_of}
+use Rattle.net_extract.specs.Rams.{mode_of, first_data_bit, is_ram_used, ram_at, rams_of, start_word, start_words}
+use Rattle.net_extract.specs.Pins.{pintype_of, is_port, is_input_read, pin_with, port_at, pins_of, is_registered, is_tri_state, place_among}
 use Rattle.net_extract.specs.Fabric.{Fabric, numbered, inputs_of, fabric_of}
-use Rattle.net_extract.specs.Drivers.{Rule, Drive, drives_if, pin_drives, back_drives, lut_drives, register_drives, lout_drives, carry_drives, set_drives, ram_drive, ram_drives, pad_place, global_rule, global_drives, buffer_drives, drives_of}
-use Rattle.net_extract.specs.Drivers.Rule.{pin_bit, constant, input, table_entry, majority_of, register_bit, read_bit, copied}
-use Rattle.net_extract.proofs.OneValue.{each_below-length}
-use Rattle.net_extract.proofs.Within.{All-flat_map, All-item_if, All-if, All-single, All-over_tiles, All-numbered}
-use Rattle.fabric_module.specs.Names.{two_numbers, three_numbers, port_name, register_name, read_name, memory_name}
+use Rattle.net_extract.specs.Drivers.{Rule, Drive, drives_if, pin_drives, output_rule, back_drives, lut_drives, drives_by, flip_driver, flip_drives, lout_drives, carry_drives, set_drives, read_data_rule, ram_drive, ram_drives, global_rule, global_drives, buffer_drives, pin_register_driver, pin_register_drives, drives_of}
+use Rattle.net_extract.specs.Drivers.Rule.{pin_bit, constant, table_entry, majority_of, register_bit, read_bit, copied}
+use Rattle.net_extract.proofs.OneValue.{each_below-length, filter-has}
+use Rattle.net_extract.proofs.Within.{All-flat_map, All-item_if, All-if, All-unless, All-single, All-over_tiles, All-numbered}
+use Rattle.fabric_module.specs.Names.{two_numbers, three_numbers, port_name, enable_name, user_prefix, user_number, register_name, read_name, memory_name}
+use Rattle.fabric_module.specs.Written.{port_of, enable_ports, pin_ports}
 use Rattle.fabric_module.proofs.Lists.{NamesDiffer, Apart, places-below}
-use Rattle.fabric_module.proofs.Rights.{IsSourceThere, IsPlaceIn}
+use Rattle.fabric_module.proofs.Ports.{port_label}
+use Rattle.fabric_module.proofs.Rights.{IsSourceThere, IsPlaceIn, output_rule-good}
 use Rattle.fabric_module.proofs.Beginning.{IsStarted, IsPorted}
-use Rattle.net_extract.proofs.Apart.{All-every, apart-item_if, apart-filter, apart-map, apart-gathered, apart-over_tiles}
-use Rattle.fabric_module.proofs.Apart.{IsSmall, two-same, three-same}
+use Rattle.net_extract.proofs.Apart.{AreApart, All-every, apart-item_if, apart-filter, apart-append, apart-weaker, apart-map, apart-flat_map, apart-gathered, apart-over_tiles}
+use Rattle.fabric_module.proofs.Apart.{IsSmall, two-same, three-same, three-tail}
 
 -- ---- lists
 
@@ -112,6 +124,72 @@ pub memory-places : (a b : RamCell) → RamSmall a → RamSmall b → memory_nam
 unfolding RamSmall
 memory-places a b of_a of_b same = two-same a.x a.y b.x b.y of_a.first of_a.second of_b.first of_b.second (memory-numbers a b same)
 
+-- ---- ports of pins
+
+apart-with : {X : Type 0} (P : X → Type 0) (R : X → X → Type 0) (xs : List X) → All P xs → AreApart R xs → AreApart (λ a b. P a × P b × R a b) xs
+apart-with P R [] all apart = tt
+apart-with P R (x ∷ xs) all apart = (
+  All-both P (R x) (λ y. P x × P y × R x y) (λ y of_y away. (All-head P x xs all, of_y, away)) xs (All-tail P x xs all) apart.0,
+  apart-with P R xs (All-tail P x xs all) apart.1,
+)
+
+abbrev pub enable_port : Pin → Port
+enable_port pin = record { name = enable_name pin; output = true }
+
+pub each-port : (P : Port → Type 0) (pin : Pin) → P (port_of pin) → P (enable_port pin) → All P (pin_ports pin)
+each-port P pin of_port of_enable =
+    All-cons P (port_of pin) (enable_ports pin) of_port (All-if P (is_tri_state pin) (enable_port pin ∷ []) (All-single P (enable_port pin) of_enable))
+
+port-no_enable : (a b : Pin) → PinSmall a → PinSmall b → port_name a ≡ enable_name b → ⊥
+unfolding PinSmall port_name enable_name
+port-no_enable a b of_a of_b same =
+    let numbers : three_numbers a.x a.y a.n ≡ three_numbers b.x b.y b.n ++ 95 ∷ codes "en" = cc in
+    three-tail a.x a.y a.n b.x b.y b.n (codes "en") of_a.first of_a.second of_a.third of_b.first of_b.second numbers
+
+enable-same : (a b : Pin) → enable_name a ≡ enable_name b → port_name a ≡ port_name b
+unfolding enable_name
+enable-same a b same = append_cancel_right (port_name a) (port_name b) (codes "_en") same
+
+-- the ports of two pins
+pins-across : (a b : Pin) → PinSmall a → PinSmall b → NamesDiffer port_name a b → All (λ one. All (NamesDiffer port_label one) (pin_ports b)) (pin_ports a)
+pins-across a b of_a of_b away =
+    let second : bytes_eq (port_name a) (enable_name b) ≡ false = bytes_eq-apart (port_name a) (enable_name b) (port-no_enable a b of_a of_b) in
+    let third : bytes_eq (enable_name a) (port_name b) ≡ false = bytes_eq-apart (enable_name a) (port_name b) (λ same. port-no_enable b a of_b of_a (sym same)) in
+    let last : bytes_eq (enable_name a) (enable_name b) ≡ false =
+    bytes_eq-apart (enable_name a) (enable_name b) (λ same. let never : true ≡ false = sym (bytes_eq-same (port_name a) (port_name b) (enable-same a b same)) ∙ away in absurd cc) in
+    each-port (λ one. All (NamesDiffer port_label one) (pin_ports b)) a
+    (each-port (NamesDiffer port_label (port_of a)) b away second) (each-port (NamesDiffer port_label (enable_port a)) b third last)
+
+port-longer : (pin : Pin) → port_name pin ≡ enable_name pin → ⊥
+unfolding enable_name
+port-longer pin same = absurd (omega (arith, ap length same, length-append (port_name pin) (codes "_en")))
+
+-- the ports of one pin
+pin-inside : (pin : Pin) → Apart port_label (pin_ports pin)
+pin-inside pin = (
+  All-if (NamesDiffer port_label (port_of pin)) (is_tri_state pin) (enable_port pin ∷ [])
+      (All-single (NamesDiffer port_label (port_of pin)) (enable_port pin) (bytes_eq-apart (port_name pin) (enable_name pin) (port-longer pin))),
+  apart-item_if (NamesDiffer port_label) (is_tri_state pin) (enable_port pin),
+)
+
+-- ---- registers of pins
+
+-- the name of the register of a pin
+abbrev pin_label : ℕ → ℕ → ℕ → Bool → List ℕ
+pin_label x y n output = user_prefix (if output then Output n else Input n) ++ three_numbers x y (user_number (if output then Output n else Input n))
+
+label-numbers : (x y n a b c : ℕ) (one other : Bool) → pin_label x y n one ≡ pin_label a b c other → three_numbers x y n ≡ three_numbers a b c
+label-numbers x y n a b c true true same = cc
+label-numbers x y n a b c true false same =
+    let never : false ≡ true = bytes_eq-same (pin_label x y n true) (pin_label a b c false) same in absurd cc
+label-numbers x y n a b c false true same =
+    let never : false ≡ true = bytes_eq-same (pin_label x y n false) (pin_label a b c true) same in absurd cc
+label-numbers x y n a b c false false same = cc
+
+flip-no_label : (rest : List ℕ) (x y n : ℕ) (output : Bool) → bytes_eq (codes "ff_" ++ rest) (pin_label x y n output) ≡ false
+flip-no_label rest x y n true = refl
+flip-no_label rest x y n false = refl
+
 module _ (db : Database) (image : Configuration) where
   -- ---- pins
 
@@ -125,21 +203,34 @@ module _ (db : Database) (image : Configuration) where
   unfolding pin_with
   pin-number x y n pintype = refl
 
-  pub ports-apart : Apart port_name (pins_of db image)
+  pins-apart : Apart port_name (pins_of db image)
   unfolding pins_of
-  ports-apart =
+  pins-apart =
       apart-over_tiles (NamesDiffer port_name) PinSmall (λ pin. pin.x) (λ pin. pin.y)
       (λ a b of_a of_b other. bytes_eq-apart (port_name a) (port_name b) (λ same. other (pin-places a b of_a of_b same).0))
       (λ a b of_a of_b other. bytes_eq-apart (port_name a) (port_name b) (λ same. other (pin-places a b of_a of_b same).1))
       image.layout.device Io (λ x y. gathered_below 2 (port_at db image x y))
       (λ x y left low. All-gathered_below (λ pin. PinSmall pin × (pin.x ≡ x) × (pin.y ≡ y)) 2 (port_at db image x y)
-      (λ n few. All-item_if (λ pin. PinSmall pin × (pin.x ≡ x) × (pin.y ≡ y)) (is_port (pintype_of db image x y n)) (pin_with db x y n (pintype_of db image x y n))
+      (λ n few. All-item_if (λ pin. PinSmall pin × (pin.x ≡ x) × (pin.y ≡ y)) (is_port (pintype_of db image x y n) (is_input_read db image x y n)) (pin_with db x y n (pintype_of db image x y n))
       (pin-at x y n (pintype_of db image x y n) left low few)))
       (λ x y left low. apart-gathered (NamesDiffer port_name) PinSmall (λ pin. pin.n)
       (λ a b of_a of_b other. bytes_eq-apart (port_name a) (port_name b) (λ same. other (pin-places a b of_a of_b same).2)) 2 (port_at db image x y)
-      (λ n few. All-item_if (λ pin. PinSmall pin × (pin.n ≡ n)) (is_port (pintype_of db image x y n)) (pin_with db x y n (pintype_of db image x y n))
+      (λ n few. All-item_if (λ pin. PinSmall pin × (pin.n ≡ n)) (is_port (pintype_of db image x y n) (is_input_read db image x y n)) (pin_with db x y n (pintype_of db image x y n))
       ((pin-at x y n (pintype_of db image x y n) left low few).0, pin-number x y n (pintype_of db image x y n)))
-      (λ n few. apart-item_if (NamesDiffer port_name) (is_port (pintype_of db image x y n)) (pin_with db x y n (pintype_of db image x y n))))
+      (λ n few. apart-item_if (NamesDiffer port_name) (is_port (pintype_of db image x y n) (is_input_read db image x y n)) (pin_with db x y n (pintype_of db image x y n))))
+
+  pub pins-small : All PinSmall (pins_of db image)
+  unfolding pins_of
+  pins-small =
+      All-over_tiles PinSmall image.layout.device Io (λ x y. gathered_below 2 (port_at db image x y))
+      (λ x y left low. All-gathered_below PinSmall 2 (port_at db image x y)
+      (λ n few. All-item_if PinSmall (is_port (pintype_of db image x y n) (is_input_read db image x y n)) (pin_with db x y n (pintype_of db image x y n)) (pin-at x y n (pintype_of db image x y n) left low few).0))
+
+  -- so are the names of their ports
+  pub ports-apart : Apart port_label (flat_map pin_ports (pins_of db image))
+  ports-apart =
+      apart-flat_map (NamesDiffer port_label) (λ a b. PinSmall a × PinSmall b × NamesDiffer port_name a b) pin_ports
+      (λ a b apart. pins-across a b apart.0 apart.1 apart.2) pin-inside (pins_of db image) (apart-with PinSmall (NamesDiffer port_name) (pins_of db image) pins-small pins-apart)
 
   -- ---- cells
 
@@ -171,11 +262,42 @@ module _ (db : Database) (image : Configuration) where
       ((cell-at x y i (cell_bits db image x y i) left low few).0, cell-number x y i (cell_bits db image x y i)))
       (λ i few. apart-item_if (NamesDiffer name) _ (cell_with db image x y i (cell_bits db image x y i))))
 
-  pub registers-apart : Apart register_name (registers_of (cells_of db image))
+  flips-apart : Apart register_name (registers_of (cells_of db image))
   unfolding registers_of
-  registers-apart =
+  flips-apart =
       apart-map (NamesDiffer register_name) register_of (filter (λ lc. lc.flip) (cells_of db image))
       (apart-filter (NamesDiffer (λ lc. register_name (register_of lc))) (λ lc. lc.flip) (cells_of db image) cells-apart)
+
+  -- registers of pins are apart by the names of the pins' ports
+  pin-label_same : (inputs : List Pin) (a b : Pin) → register_name (pin_register db image inputs a) ≡ register_name (pin_register db image inputs b) → port_name a ≡ port_name b
+  unfolding register_name pin_register port_name
+  pin-label_same inputs a b same = ap (λ list. codes "io_" ++ list) (label-numbers a.x a.y a.n b.x b.y b.n a.output b.output same)
+
+  pin_registers-apart : Apart register_name (pin_registers_of db image (pins_of db image))
+  unfolding pin_registers_of
+  pin_registers-apart =
+      let inputs = filter (λ pin. not pin.output) (pins_of db image) in
+      apart-map (NamesDiffer register_name) (pin_register db image inputs) (filter is_registered (pins_of db image))
+      (apart-weaker (NamesDiffer port_name) (NamesDiffer (λ pin. register_name (pin_register db image inputs pin)))
+      (λ a b away. bytes_eq-apart (register_name (pin_register db image inputs a)) (register_name (pin_register db image inputs b))
+      (λ same. let never : true ≡ false = sym (bytes_eq-same (port_name a) (port_name b) (pin-label_same inputs a b same)) ∙ away in absurd cc))
+      (filter is_registered (pins_of db image)) (apart-filter (NamesDiffer port_name) is_registered (pins_of db image) pins-apart))
+
+  flip-no_pin : (inputs : List Pin) (lc : Lc) (pin : Pin) → NamesDiffer register_name (register_of lc) (pin_register db image inputs pin)
+  unfolding register_name register_of pin_register
+  flip-no_pin inputs lc pin = flip-no_label (three_numbers lc.x lc.y lc.i) pin.x pin.y pin.n pin.output
+
+  pub registers-apart : Apart register_name (registers_of (cells_of db image) ++ pin_registers_of db image (pins_of db image))
+  unfolding registers_of pin_registers_of
+  registers-apart =
+      let inputs = filter (λ pin. not pin.output) (pins_of db image) in
+      let of_pins = filter is_registered (pins_of db image) in
+      let flips = filter (λ lc. lc.flip) (cells_of db image) in
+      apart-append (NamesDiffer register_name) (map register_of flips) (map (pin_register db image inputs) of_pins) flips-apart pin_registers-apart
+      (All-map (λ register. All (NamesDiffer register_name register) (map (pin_register db image inputs) of_pins)) register_of flips
+      (All-every (λ lc. All (NamesDiffer register_name (register_of lc)) (map (pin_register db image inputs) of_pins))
+      (λ lc. All-map (NamesDiffer register_name (register_of lc)) (pin_register db image inputs) of_pins
+      (All-every (λ pin. NamesDiffer register_name (register_of lc) (pin_register db image inputs pin)) (flip-no_pin inputs lc) of_pins)) flips))
 
   -- ---- RAMs
 
@@ -202,11 +324,17 @@ module _ (db : Database) (image : Configuration) where
   unfolding start_words
   words-count x y = each_below-length 256 (start_word image x y)
 
+  mode-few : (x y low high : ℕ) → mode_of db image x y low high ≤ 3
+  mode-few x y low high =
+      omega (arith, bit_value-le (is_function_on db image RamT x (y + 1) (ending_in (codes "RamConfig.CBIT_") low)), bit_value-le (is_function_on db image RamT x (y + 1) (ending_in (codes "RamConfig.CBIT_") high)))
+
   ports-count : (x y : ℕ) → IsPorted (ram_at db image x y)
   unfolding ram_at
   ports-count x y = record {
-    read_address = each_below-length 8 _;
-    write_address = each_below-length 8 _;
+    read_mode = mode-few x y 2 3;
+    write_mode = mode-few x y 0 1;
+    read_address = each_below-length 11 _;
+    write_address = each_below-length 11 _;
     mask = each_below-length 16 _;
     written = each_below-length 16 _;
     read = each_below-length 16 _;
@@ -258,15 +386,71 @@ register-sources : (fabric : Fabric) (lc : Lc) → All (IsSourceThere fabric) (r
 unfolding register_of
 register-sources fabric lc = cell-sources fabric lc
 
-pub registers-sources : (fabric : Fabric) (lcs : List Lc) → All (λ register. All (IsSourceThere fabric) register.table.ins) (registers_of lcs)
+flips-sources : (fabric : Fabric) (lcs : List Lc) → All (λ register. All (IsSourceThere fabric) register.table.ins) (registers_of lcs)
 unfolding registers_of
-registers-sources fabric lcs =
+flips-sources fabric lcs =
     All-map (λ register. All (IsSourceThere fabric) register.table.ins) register_of (filter (λ lc. lc.flip) lcs)
     (All-every (λ lc. All (IsSourceThere fabric) (register_of lc).table.ins) (register-sources fabric) (filter (λ lc. lc.flip) lcs))
 
+prefix-found : {X : Type 0} (test : X → Bool) (xs : List X) (item : X) → Contains xs item → test item ≡ true → position_or_len test xs < length xs
+prefix-found test [] item (k, within, here) passes = absurd (omega (arith, within))
+prefix-found test (x ∷ xs) item (zero, within, here) passes =
+    let found : test x ≡ true = ap test here ∙ passes in rw found (omega arith)
+prefix-found test (x ∷ xs) item (suc k, within, here) passes =
+    elim (cases_Bool (test x)) [
+      | inl found ↦ rw found (omega arith)
+      | inr away ↦ rw away (omega (arith, prefix-found test xs item (k, omega (arith, within), here) passes))
+    ]
+
+-- the place of a pin that is among pins is one of theirs
+pub place-found : (pins : List Pin) (pin : Pin) → Contains pins pin → place_among pins pin.x pin.y pin.n < length pins
+place-found pins pin there =
+    let test = λ (other : Pin). (other.x == pin.x) && ((other.y == pin.y) && (other.n == pin.n)) in
+    let passes : ((pin.x == pin.x) && ((pin.y == pin.y) && (pin.n == pin.n))) ≡ true =
+    and_from (pin.x == pin.x) ((pin.y == pin.y) && (pin.n == pin.n)) (eq-eqb pin.x pin.x refl)
+    (and_from (pin.y == pin.y) (pin.n == pin.n) (eq-eqb pin.y pin.y refl) (eq-eqb pin.n pin.n refl)) in
+    let inside : position_or_len test pins < length pins = prefix-found test pins pin there passes in
+    rw (lt-ltb (position_or_len test pins) (length pins) inside) inside
+
+-- the register of a pin reads a net, or the pin
+pin_source-there : (fabric : Fabric) (pin : Pin) → Contains fabric.pins pin → IsSourceThere fabric (pin_source (inputs_of fabric) pin)
+pin_source-there fabric pin there =
+    elim (cases_Bool pin.output) [
+      | inl here ↦ rw here tt
+      | inr away ↦
+          let input : not pin.output ≡ true = rw away refl in
+          rw away (place-found (inputs_of fabric) pin (filter-has (λ other. not other.output) fabric.pins pin there input))
+    ]
+
+table_as-there : (fabric : Fabric) (source : Source) → IsSourceThere fabric source → All (IsSourceThere fabric) (table_as source).ins
+table_as-there fabric source there =
+    All-cons (IsSourceThere fabric) source (Net None ∷ Net None ∷ Net None ∷ []) there
+    (All-cons (IsSourceThere fabric) (Net None) (Net None ∷ Net None ∷ []) tt
+    (All-cons (IsSourceThere fabric) (Net None) (Net None ∷ []) tt (All-single (IsSourceThere fabric) (Net None) tt)))
+
+module _ (db : Database) (image : Configuration) where
+  pin_register-sources : (fabric : Fabric) (pin : Pin) → Contains fabric.pins pin → All (IsSourceThere fabric) (pin_register db image (inputs_of fabric) pin).table.ins
+  unfolding pin_register
+  pin_register-sources fabric pin there = table_as-there fabric (pin_source (inputs_of fabric) pin) (pin_source-there fabric pin there)
+
+  pin_registers-sources : (fabric : Fabric) → All (λ register. All (IsSourceThere fabric) register.table.ins) (pin_registers_of db image fabric.pins)
+  unfolding pin_registers_of
+  pin_registers-sources fabric =
+      All-map (λ register. All (IsSourceThere fabric) register.table.ins) (pin_register db image (inputs_of fabric)) (filter is_registered fabric.pins)
+      (All-filter is_registered (λ pin. All (IsSourceThere fabric) (pin_register db image (inputs_of fabric) pin).table.ins) fabric.pins
+      (All-weaker (Contains fabric.pins) (λ pin. All (IsSourceThere fabric) (pin_register db image (inputs_of fabric) pin).table.ins)
+      (λ pin there. pin_register-sources fabric pin there) fabric.pins (All-contains_itself fabric.pins)))
+
+  -- the tables of registers name input pins that are there
+  pub registers-sources : All (λ register. All (IsSourceThere (fabric_of db image)) register.table.ins) (fabric_of db image).registers
+  unfolding fabric_of
+  registers-sources =
+      All-append (λ register. All (IsSourceThere (fabric_of db image)) register.table.ins) (registers_of (cells_of db image)) (pin_registers_of db image (pins_of db image))
+      (flips-sources (fabric_of db image) (cells_of db image)) (pin_registers-sources (fabric_of db image))
+
 -- a pad is one of the input pins
 abbrev pub IsPadIn : List Pin → GlobalFrom → Type 0
-IsPadIn pins (Pad x y n) = pad_place pins x y n < length pins
+IsPadIn pins (Pad x y n) = place_among pins x y n < length pins
 IsPadIn pins (Fabout net) = Unit {0}
 
 module _ (fabric : Fabric) where
@@ -285,10 +469,22 @@ module _ (fabric : Fabric) where
   any-there given each [] = All-nil IsNamedIn
   any-there given each (x ∷ parts) = All-append IsNamedIn (given x) (flat_map given parts) (each x) (any-there given each parts)
 
+  by-there : (place : ℕ × Register) (by : Option Driver) → Contains (numbered fabric.registers) place → All IsNamedIn (drives_by place by)
+  by-there place None there = All-nil IsNamedIn
+  by-there place (Some by) there = drives_if-there by (register_bit place.0 place.1) place.1.out there
+
+  if-there : (passes : Bool) (one other : Rule) → IsPlaceIn fabric one → IsPlaceIn fabric other → IsPlaceIn fabric (if passes then one else other)
+  if-there true one other of_one of_other = of_one
+  if-there false one other of_one of_other = of_other
+
+  data-there : (ram mode bit : ℕ) → ram < length fabric.rams → bit < 16 → IsPlaceIn fabric (read_data_rule ram mode bit)
+  data-there ram mode bit there few =
+      if-there _ (read_bit ram (bit - first_data_bit mode)) (constant false) (there, omega (arith, few)) tt
+
   ram-there : (place : ℕ × RamCell) → (place.0 < length fabric.rams) × (length place.1.rdata ≡ 16) → All IsNamedIn (ram_drives place)
   ram-there place there =
       each-there (λ (port : ℕ × Option ℕ). port.0 < 16) (ram_drive place)
-      (λ port few. drives_if-there _ (read_bit place.0 port.0) port.1 (there.0, omega arith)) (numbered place.1.rdata)
+      (λ port few. drives_if-there _ (read_data_rule place.0 place.1.read port.0) port.1 (data-there place.0 place.1.read port.0 there.0 few)) (numbered place.1.rdata)
       (All-weaker (λ (port : ℕ × Option ℕ). port.0 < 0 + length place.1.rdata) (λ (port : ℕ × Option ℕ). port.0 < 16) (λ port found. omega (arith, found, there.1)) (numbered place.1.rdata) (places-below 0 place.1.rdata))
 
   from-there : (from : GlobalFrom) → IsPadIn (inputs_of fabric) from → IsPlaceIn fabric (global_rule (inputs_of fabric) from)
@@ -305,17 +501,19 @@ module _ (fabric : Fabric) where
     all-there : All IsNamedIn (drives_of fabric)
     unfolding drives_of
     all-there =
-        then-there _ _ (each-there (λ (place : ℕ × Pin). place.0 < 0 + length (inputs_of fabric)) pin_drives (λ place there. drives_if-there _ (pin_bit place.0) place.1.din (omega arith)) (numbered (inputs_of fabric)) (places-below 0 (inputs_of fabric)))
-        (then-there _ _ (any-there back_drives (λ pin. drives_if-there _ (input false pin.dout) pin.din tt) (filter (λ pin. pin.back) fabric.pins))
+        then-there _ _ (each-there (λ (place : ℕ × Pin). place.0 < 0 + length (inputs_of fabric)) pin_drives (λ place there. All-unless IsNamedIn (is_registered place.1) _ (drives_if-there _ (pin_bit place.0) place.1.din (omega arith))) (numbered (inputs_of fabric)) (places-below 0 (inputs_of fabric)))
+        (then-there _ _ (any-there (back_drives fabric.registers) (λ pin. drives_if-there _ (output_rule fabric.registers pin) pin.din
+        (output_rule-good (IsPlaceIn fabric) fabric.registers (λ bit. tt) (λ stated net. tt) (λ place there. there) pin)) (filter (λ pin. pin.back) fabric.pins))
         (then-there _ _ (any-there lut_drives (λ lc. drives_if-there _ (table_entry (table_of lc)) lc.out (cell-sources fabric lc)) (filter (λ lc. not lc.flip) fabric.lcs))
-        (then-there _ _ (each-there (Contains (numbered fabric.registers)) register_drives (λ place there. drives_if-there _ (register_bit place.0 place.1) place.1.out there) (numbered fabric.registers) (All-contains_itself (numbered fabric.registers)))
+        (then-there _ _ (each-there (Contains (numbered fabric.registers)) flip_drives (λ place there. by-there place (flip_driver place.1 place.1.user) there) (numbered fabric.registers) (All-contains_itself (numbered fabric.registers)))
         (then-there _ _ (any-there lout_drives (λ lc. drives_if-there _ (table_entry (table_of lc)) lc.lout (cell-sources fabric lc)) fabric.lcs)
         (then-there _ _ (any-there carry_drives (λ lc. drives_if-there _ (majority_of (get_or lc.ins 1 None) (get_or lc.ins 2 None) lc.cin) lc.cout tt) (filter (λ lc. lc.carry) fabric.lcs))
         (then-there _ _ (any-there set_drives (λ set. drives_if-there _ (constant true) (Some set.net) tt) fabric.sets)
         (then-there _ _ (each-there (λ (place : ℕ × RamCell). (place.0 < 0 + length fabric.rams) × (length place.1.rdata ≡ 16)) ram_drives (λ place found. ram-there place (omega (arith, found.0), found.1)) (numbered fabric.rams)
         (All-pair (λ (place : ℕ × RamCell). place.0 < 0 + length fabric.rams) (λ (place : ℕ × RamCell). length place.1.rdata ≡ 16) (numbered fabric.rams) (places-below 0 fabric.rams) (All-numbered (λ ram. length ram.rdata ≡ 16) 0 fabric.rams ports)))
         (then-there _ _ (each-there (λ (global : GlobalNet). IsPadIn (inputs_of fabric) global.from) (global_drives (inputs_of fabric)) global-there fabric.globals pads)
-        (any-there buffer_drives (λ buffer. drives_if-there _ (copied buffer.src) (Some buffer.dst) tt) fabric.buffers)))))))))
+        (then-there _ _ (any-there buffer_drives (λ buffer. drives_if-there _ (copied buffer.src) (Some buffer.dst) tt) fabric.buffers)
+        (each-there (Contains (numbered fabric.registers)) pin_register_drives (λ place there. by-there place (pin_register_driver place.1 place.1.user) there) (numbered fabric.registers) (All-contains_itself (numbered fabric.registers))))))))))))
 
     pub drives-there : (drive : Drive) → Contains (drives_of fabric) drive → IsPlaceIn fabric drive.rule
     unfolding IsNamedIn

@@ -10,7 +10,6 @@ use Rattle.vlog_module.specs.Names.{IsName}
 use Rattle.vlog_module.specs.WellFormed.{IsModule}
 use Rattle.vlog_cycle.specs.Run.{module_run}
 use Rattle.net_extract.specs.declared.pin.GlobalNet.{GlobalNet}
-use Rattle.net_extract.specs.Cells.{cells_of}
 use Rattle.net_extract.specs.Rams.{rams_of}
 use Rattle.net_extract.specs.Fabric.{inputs_of, fabric_of}
 use Rattle.net_extract.specs.Steps.{Event, Entry, IsRun}
@@ -42,7 +41,7 @@ module _ (db : Database) (image : Configuration) (fit : IsFit db) (few : db.chip
     few = few;
     places = drives-there (fabric_of db image) pads
         (All-weaker IsPorted (λ ram. length ram.rdata ≡ 16) (λ ram ported. ported.read) (rams_of db image) (fabric-started db image).each_port);
-    tables = registers-sources (fabric_of db image) (cells_of db image);
+    tables = registers-sources db image;
     ports = ports-apart db image;
     registers = registers-apart db image;
     reads = rams-apart db image read_name read-places;

@@ -1,8 +1,7 @@
 -- Where a database and an image aren't refused, each pad that drives a global is an input pin.
-use Rattle.std.proofs.Common.{◌≡◌, ℕ, zero, suc, ◌/◌, ◌<◌, ◌≤◌, Bool, true, false, List, [], ◌∷◌, length, refl, ap, ◌∙◌, subst, arith, inl, inr, eq-eqb}
-use Rattle.std.specs.Prelude.{All, Contains, Option, Some, None, not, codes, ◌&&◌, ◌||◌, ◌==◌, find, position, unwrap_or, option_map, if◌then◌else◌}
-use Rattle.std.specs.List.{position_or_len}
-use Rattle.std.proofs.lemmas.Bool.{cases_Bool, eqb-true, lt-ltb, and_from, or_left}
+use Rattle.std.proofs.Common.{◌≡◌, ℕ, ◌/◌, ◌<◌, ◌≤◌, Bool, true, false, List, [], ◌∷◌, length, refl, ap, subst, arith, inl, inr, eq-eqb}
+use Rattle.std.specs.Prelude.{All, Contains, Option, Some, None, not, codes, ◌&&◌, ◌||◌, ◌==◌, find, option_map, if◌then◌else◌}
+use Rattle.std.proofs.lemmas.Bool.{cases_Bool, eqb-true, and_from, or_left}
 use Rattle.std.proofs.lemmas.List.Elements.{All-nil, All-head, All-tail, All-map}
 use Rattle.plane_map.proofs.Grids.{kind_of-inside}
 use Rattle.place_search.proofs.Gathered.{All-gathered_below, Contains-gathered_below}
@@ -28,14 +27,13 @@ use Rattle.net_extract.specs.declared.pin.GlobalFrom.TheVariants.{Pad, Fabout}
 use Rattle.net_extract.specs.Tiles.{over_grid, at_kind}
 use Rattle.net_extract.specs.On.{is_function_on}
 use Rattle.net_extract.specs.Nets.{is_some_read}
-use Rattle.net_extract.specs.Pins.{pintype_of, has_no_output, has_plain_output, has_plain_input, is_input_pin, is_output_pin, is_port, io_net, pin_with, port_at, pins_of, global_pad, global_source, global_fabout, source_of_global, global_nets, nets_from, globals_of, is_pin_at, is_global_pad, is_refused_with}
+use Rattle.net_extract.specs.Pins.{pintype_of, has_no_output, has_tri_state_output, has_plain_input, is_plain_input, is_registered_input, is_output_pin, is_port, is_input_read, place_among, io_net, pin_with, port_at, pins_of, global_pad, global_source, global_fabout, source_of_global, global_nets, nets_from, globals_of, is_pin_at, is_global_pad, is_refused_with}
 use Rattle.net_extract.specs.Fabric.{inputs_of, fabric_of}
-use Rattle.net_extract.specs.Drivers.{pad_place}
 use Rattle.net_extract.specs.Faults.{Fault, device_faults, pin_fault_at, pin_faults}
 use Rattle.net_extract.proofs.OneValue.{filter-has}
 use Rattle.net_extract.proofs.Taken.{IsTaken, gathered_below-empty, item_if-none}
 use Rattle.net_extract.proofs.Runs.{contains-over_grid}
-use Rattle.fabric_module.proofs.Configured.{IsPadIn}
+use Rattle.fabric_module.proofs.Configured.{place-found, IsPadIn}
 
 -- ---- tests and places
 
@@ -46,31 +44,15 @@ fourth-none false false true d e none = absurd cc
 fourth-none false false false true e none = none
 fourth-none false false false false e none = refl
 
-prefix-found : {X : Type 0} (test : X → Bool) (xs : List X) (item : X) → Contains xs item → test item ≡ true → position_or_len test xs < length xs
-prefix-found test [] item (k, within, here) passes = absurd (omega (arith, within))
-prefix-found test (x ∷ xs) item (zero, within, here) passes =
-    let found : test x ≡ true = ap test here ∙ passes in rw found (omega arith)
-prefix-found test (x ∷ xs) item (suc k, within, here) passes =
-    elim (cases_Bool (test x)) [
-      | inl found ↦ rw found (omega arith)
-      | inr away ↦ rw away (omega (arith, prefix-found test xs item (k, omega (arith, within), here) passes))
-    ]
-
--- the place of an item that passes is a place of the list
-place-found : {X : Type 0} (test : X → Bool) (xs : List X) (item : X) → Contains xs item → test item ≡ true → unwrap_or (position test xs) (length xs) < length xs
-place-found test xs item there passes =
-    let inside : position_or_len test xs < length xs = prefix-found test xs item there passes in
-    rw (lt-ltb (position_or_len test xs) (length xs) inside) inside
-
 no-fault : (passes : Bool) (fault : Fault) → (if passes then [] else fault ∷ []) ≡ [] → passes ≡ true
 no-fault true fault none = refl
 no-fault false fault none = absurd cc
 
 -- an input pin is no output pin
-input-only : (pintype : ℕ) → is_input_pin pintype ≡ true → is_output_pin pintype ≡ false
+input-only : (pintype : ℕ) → is_plain_input pintype ≡ true → is_output_pin pintype ≡ false
 input-only pintype is =
     let none : pintype / 4 ≡ 0 = eqb-true (pintype / 4) 0 (first_true (has_no_output pintype) (has_plain_input pintype) is) in
-    ap (λ n. n == 6) none
+    ap (λ n. (n == 6) || ((n == 5) || (n == 10))) none
 
 -- ---- pads of the database
 
@@ -131,17 +113,18 @@ module _ (db : Database) (image : Configuration) (fit : IsFit db) (taken : IsTak
         (gathered_below-empty 2 pad.n (pin_fault_at db image pad.x pad.y) pins (omega (arith, pad-is.number)))
 
     -- and is an input pin
-    pad-input : is_input_pin (pintype_of db image pad.x pad.y pad.n) ≡ true
+    pad-input : is_plain_input (pintype_of db image pad.x pad.y pad.n) ≡ true
     unfolding is_refused_with
     pad-input =
         let pintype = pintype_of db image pad.x pad.y pad.n in
-        let last : (is_global_pad db image pad.x pad.y pad.n && not (is_input_pin pintype)) ≡ false =
-        fourth-none (not (has_no_output pintype || has_plain_output pintype))
-        (not (has_plain_input pintype) && is_some_read db image (io_net db pad.x pad.y pad.n (codes "/D_IN_0")))
+        let read = is_input_read db image pad.x pad.y pad.n in
+        let last : (is_global_pad db image pad.x pad.y pad.n && not (is_plain_input pintype)) ≡ false =
+        fourth-none (not (has_no_output pintype || is_output_pin pintype))
+        (read && not (has_plain_input pintype || is_registered_input pintype))
         (is_some_read db image (io_net db pad.x pad.y pad.n (codes "/D_IN_1")))
-        (is_global_pad db image pad.x pad.y pad.n && not (is_input_pin pintype))
-        (is_port pintype && is_function_on db image Io pad.x pad.y (codes "IoCtrl.LVDS")) pad-fine in
-        elim (cases_Bool (is_input_pin pintype)) [
+        (is_global_pad db image pad.x pad.y pad.n && not (is_plain_input pintype))
+        ((is_port pintype read && is_function_on db image Io pad.x pad.y (codes "IoCtrl.LVDS")) || (has_tri_state_output pintype && read)) pad-fine in
+        elim (cases_Bool (is_plain_input pintype)) [
           | inl here ↦ here
           | inr away ↦ let never : true ≡ false = rw (pad-global, away) at last in absurd cc
         ]
@@ -154,7 +137,8 @@ module _ (db : Database) (image : Configuration) (fit : IsFit db) (taken : IsTak
     pin-there =
         contains-over_grid image.layout.device (at_kind image.layout.device Io (λ x y. gathered_below 2 (port_at db image x y))) pad.x pad.y the_pin pad-in.0 pad-in.1
         (rw pad-io (Contains-gathered_below 2 pad.n (port_at db image pad.x pad.y) the_pin (omega (arith, pad-is.number))
-        (rw (or_left (is_input_pin (pintype_of db image pad.x pad.y pad.n)) (is_output_pin (pintype_of db image pad.x pad.y pad.n)) pad-input) (0, omega arith, refl))))
+        (rw (or_left (is_plain_input (pintype_of db image pad.x pad.y pad.n)) ((is_registered_input (pintype_of db image pad.x pad.y pad.n) && is_input_read db image pad.x pad.y pad.n) || is_output_pin (pintype_of db image pad.x pad.y pad.n)) pad-input)
+        (0, omega arith, refl))))
 
     pin-input : not the_pin.output ≡ true
     unfolding the_pin pin_with
@@ -164,15 +148,9 @@ module _ (db : Database) (image : Configuration) (fit : IsFit db) (taken : IsTak
     unfolding fabric_of
     pin-among = filter-has (λ pin. not pin.output) (pins_of db image) the_pin pin-there pin-input
 
-    pin-is : ((the_pin.x == pad.x) && ((the_pin.y == pad.y) && (the_pin.n == pad.n))) ≡ true
+    pad-there : place_among (inputs_of (fabric_of db image)) pad.x pad.y pad.n < length (inputs_of (fabric_of db image))
     unfolding the_pin pin_with
-    pin-is =
-        and_from (pad.x == pad.x) ((pad.y == pad.y) && (pad.n == pad.n)) (eq-eqb pad.x pad.x refl)
-        (and_from (pad.y == pad.y) (pad.n == pad.n) (eq-eqb pad.y pad.y refl) (eq-eqb pad.n pad.n refl))
-
-    pad-there : pad_place (inputs_of (fabric_of db image)) pad.x pad.y pad.n < length (inputs_of (fabric_of db image))
-    pad-there =
-        place-found (λ pin. (pin.x == pad.x) && ((pin.y == pad.y) && (pin.n == pad.n))) (inputs_of (fabric_of db image)) the_pin pin-among pin-is
+    pad-there = place-found (inputs_of (fabric_of db image)) the_pin pin-among
 
   -- what gives a global its value
   source-there : (g : ℕ) → g < 8 → (pad : Option PinXy) → global_pad db image g ≡ pad → (fabout : Option ℕ) (from : GlobalFrom)

@@ -1,16 +1,15 @@
 -- What a database and an image configure has names that are names, and tables and start words of 16 bits.
-use Rattle.std.proofs.Common.{◌≡◌, ℕ, zero, suc, ◌^◌, ◌<◌, Bool, true, false, List, [], ◌∷◌, ◌++◌, length, map, get_or, refl, subst, arith}
+use Rattle.std.proofs.Common.{◌≡◌, ℕ, zero, suc, ◌-◌, ◌^◌, ◌<◌, Bool, true, false, List, [], ◌∷◌, ◌++◌, length, map, get_or, refl, subst, arith}
 use Rattle.std.specs.Prelude.{All, Option, Some, None, not, filter, flat_map, if◌then◌else◌}
 use Rattle.std.proofs.lemmas.List.{length-map}
 use Rattle.std.proofs.lemmas.List.Elements.{All-nil, All-head, All-tail, All-append, All-map, All-weaker, All-filter}
 use Rattle.place_search.proofs.Gathered.{All-gathered_below}
-use Rattle.plane_map.specs.declared.tile.TileKind.TheVariants.{Io, Logic, RamB}
+use Rattle.plane_map.specs.declared.tile.TileKind.TheVariants.{Logic, RamB}
 use Rattle.ice_image.specs.Configuration.{Configuration}
 use Rattle.bit_plane.specs.BitList.{word_of}
 use Rattle.bit_plane.proofs.Words.{word_of-lt}
 use Rattle.bit_plane.proofs.Made.{length-row_from}
 use Rattle.chipdb_reader.specs.Database.{Database}
-use Rattle.place_search.specs.Places.{gathered_below}
 use Rattle.vlog_module.specs.declared.atoms.Atom.{Atom}
 use Rattle.vlog_module.specs.declared.atoms.Atom.TheVariants.{Bit, Whole, Part}
 use Rattle.vlog_module.specs.Names.{IsName}
@@ -18,23 +17,29 @@ use Rattle.vlog_module.specs.WellFormed.{IsRight}
 use Rattle.net_extract.specs.declared.cell.Lc.{Lc}
 use Rattle.net_extract.specs.declared.register.Table.{Table}
 use Rattle.net_extract.specs.declared.register.Register.{Register}
-use Rattle.net_extract.specs.Registers.{table_of, register_of, registers_of}
+use Rattle.net_extract.specs.Registers.{table_of, register_of, registers_of, pin_register, pin_registers_of}
+use Rattle.net_extract.specs.declared.driver.ClockUser.TheVariants.{Input, Output}
 use Rattle.net_extract.specs.declared.ram.RamCell.{RamCell}
 use Rattle.net_extract.specs.declared.pin.Pin.{Pin}
 use Rattle.net_extract.specs.declared.pin.GlobalFrom.{GlobalFrom}
 use Rattle.net_extract.specs.declared.pin.GlobalFrom.TheVariants.{Pad, Fabout}
 use Rattle.net_extract.specs.declared.driver.Driver.{Driver}
 use Rattle.net_extract.specs.Cells.{cell_bit, entry_bits, cell_bits, cell_with, used_cell, cells_at, cells_of}
-use Rattle.net_extract.specs.Rams.{is_ram_used, ram_at, rams_of, start_word, start_words}
-use Rattle.net_extract.specs.Pins.{pintype_of, is_port, pin_with, port_at, pins_of}
+use Rattle.net_extract.specs.Rams.{first_data_bit, is_ram_used, ram_at, rams_of, start_word, start_words}
+use Rattle.net_extract.specs.Pins.{pins_of, is_registered}
 use Rattle.net_extract.specs.Fabric.{Fabric, numbered, inputs_of, fabric_of}
-use Rattle.net_extract.specs.Drivers.{Rule, Drive, drives_if, pin_drives, back_drives, lut_drives, register_drives, lout_drives, carry_drives, set_drives, ram_drive, ram_drives, global_rule, global_drives, buffer_drives, drives_of, is_driver_of, drivers_of}
+use Rattle.net_extract.specs.Drivers.{Rule, Drive, drives_if, pin_drives, output_rule, back_drives, lut_drives, drives_by, flip_driver, flip_drives, lout_drives, carry_drives, set_drives, read_data_rule, ram_drive, ram_drives, global_rule, global_drives, buffer_drives, pin_register_driver, pin_register_drives, drives_of, is_driver_of, drivers_of}
 use Rattle.net_extract.specs.Drivers.Rule.{pin_bit, constant, input, table_entry, majority_of, register_bit, read_bit, copied}
-use Rattle.net_extract.proofs.Within.{All-flat_map, All-item_if, All-if, All-single, All-over_tiles}
-use Rattle.fabric_module.specs.Names.{port_name, register_name, read_name, memory_name}
+use Rattle.net_extract.proofs.Within.{All-flat_map, All-item_if, All-if, All-unless, All-single, All-over_tiles}
+use Rattle.net_extract.proofs.Apart.{All-every}
+use Rattle.fabric_module.specs.Names.{user_number, register_name, read_name, memory_name}
 use Rattle.fabric_module.specs.Rights.{input_atom, atom_or_0, setting_wire, register_right, right_alone, right_of, right_by, class_right}
-use Rattle.fabric_module.proofs.Configured.{PinSmall, CellSmall, RamSmall, pin-at, cell-at, ram-placed}
-use Rattle.fabric_module.proofs.Named.{port-named, register-named, read-named, memory-named}
+use Rattle.fabric_module.specs.Written.{pin_ports}
+use Rattle.fabric_module.proofs.Apart.{IsSmall}
+use Rattle.fabric_module.proofs.Ports.{port_label}
+use Rattle.fabric_module.proofs.Rights.{output_rule-good}
+use Rattle.fabric_module.proofs.Configured.{PinSmall, CellSmall, RamSmall, each-port, pins-small, cell-at, ram-placed}
+use Rattle.fabric_module.proofs.Named.{port-named, enable-named, register-named, read-named, memory-named}
 use Rattle.fabric_module.proofs.Declared.{AreNamed}
 use Rattle.fabric_module.proofs.Whole.{IsShapely}
 
@@ -87,6 +92,18 @@ module _ (fabric : Fabric) (tables : All (λ lc. lc.lut < 65536) fabric.lcs) whe
   unfolding right_of
   read-right ram bit = tt
 
+  by-drives : (place : ℕ × Register) (by : Option Driver) → All IsDriveRight (drives_by place by)
+  by-drives place None = All-nil IsDriveRight
+  by-drives place (Some by) = if-right by (register_bit place.0 place.1) place.1.out (register-right place.0 place.1)
+
+  either-right : (passes : Bool) (one other : Rule) → IsRight (right_of fabric one) → IsRight (right_of fabric other) → IsRight (right_of fabric (if passes then one else other))
+  either-right true one other of_one of_other = of_one
+  either-right false one other of_one of_other = of_other
+
+  data-right : (ram mode bit : ℕ) → IsRight (right_of fabric (read_data_rule ram mode bit))
+  data-right ram mode bit =
+      either-right _ (read_bit ram (bit - first_data_bit mode)) (constant false) (read-right ram (bit - first_data_bit mode)) (constant-right false)
+
   copied-right : (net : ℕ) → IsRight (right_of fabric (copied net))
   unfolding right_of
   copied-right net = alone-right (atom_or_0 fabric (Some net))
@@ -108,16 +125,18 @@ module _ (fabric : Fabric) (tables : All (λ lc. lc.lut < 65536) fabric.lcs) whe
   all-right : All IsDriveRight (drives_of fabric)
   unfolding drives_of
   all-right =
-      then-right _ _ (any-right pin_drives (λ place. if-right _ (pin_bit place.0) place.1.din (pin-right place.0)) (numbered (inputs_of fabric)))
-      (then-right _ _ (any-right back_drives (λ pin. if-right _ (input false pin.dout) pin.din (input-right false pin.dout)) (filter (λ pin. pin.back) fabric.pins))
+      then-right _ _ (any-right pin_drives (λ place. All-unless IsDriveRight (is_registered place.1) _ (if-right _ (pin_bit place.0) place.1.din (pin-right place.0))) (numbered (inputs_of fabric)))
+      (then-right _ _ (any-right (back_drives fabric.registers) (λ pin. if-right _ (output_rule fabric.registers pin) pin.din
+      (output_rule-good (λ rule. IsRight (right_of fabric rule)) fabric.registers constant-right input-right (λ place there. register-right place.0 place.1) pin)) (filter (λ pin. pin.back) fabric.pins))
       (then-right _ _ (cells-right lut_drives (λ lc small. if-right _ (table_entry (table_of lc)) lc.out (table-right (table_of lc) small)) (filter (λ lc. not lc.flip) fabric.lcs) (All-filter (λ lc. not lc.flip) (λ lc. lc.lut < 65536) fabric.lcs tables))
-      (then-right _ _ (any-right register_drives (λ place. if-right _ (register_bit place.0 place.1) place.1.out (register-right place.0 place.1)) (numbered fabric.registers))
+      (then-right _ _ (any-right flip_drives (λ place. by-drives place (flip_driver place.1 place.1.user)) (numbered fabric.registers))
       (then-right _ _ (cells-right lout_drives (λ lc small. if-right _ (table_entry (table_of lc)) lc.lout (table-right (table_of lc) small)) fabric.lcs tables)
       (then-right _ _ (any-right carry_drives (λ lc. if-right _ (majority_of (get_or lc.ins 1 None) (get_or lc.ins 2 None) lc.cin) lc.cout (majority-right (get_or lc.ins 1 None) (get_or lc.ins 2 None) lc.cin)) (filter (λ lc. lc.carry) fabric.lcs))
       (then-right _ _ (any-right set_drives (λ set. if-right _ (constant true) (Some set.net) (constant-right true)) fabric.sets)
-      (then-right _ _ (any-right ram_drives (λ place. any-right (ram_drive place) (λ port. if-right _ (read_bit place.0 port.0) port.1 (read-right place.0 port.0)) (numbered place.1.rdata)) (numbered fabric.rams))
+      (then-right _ _ (any-right ram_drives (λ place. any-right (ram_drive place) (λ port. if-right _ (read_data_rule place.0 place.1.read port.0) port.1 (data-right place.0 place.1.read port.0)) (numbered place.1.rdata)) (numbered fabric.rams))
       (then-right _ _ (any-right (global_drives (inputs_of fabric)) (λ global. if-right _ (global_rule (inputs_of fabric) global.from) (Some global.net) (global-right (inputs_of fabric) global.from)) fabric.globals)
-      (any-right buffer_drives (λ buffer. if-right _ (copied buffer.src) (Some buffer.dst) (copied-right buffer.src)) fabric.buffers)))))))))
+      (then-right _ _ (any-right buffer_drives (λ buffer. if-right _ (copied buffer.src) (Some buffer.dst) (copied-right buffer.src)) fabric.buffers)
+      (any-right pin_register_drives (λ place. by-drives place (pin_register_driver place.1 place.1.user)) (numbered fabric.registers)))))))))))
 
   by-right : (drives : List Drive) → All IsDriveRight drives → IsRight (right_by fabric drives)
   unfolding IsDriveRight
@@ -146,13 +165,6 @@ words-at (words ∷ start) (suc place) k all = words-at start place k (All-tail 
 module _ (db : Database) (image : Configuration) where
   -- ---- small numbers
 
-  pins-small : All PinSmall (pins_of db image)
-  unfolding pins_of
-  pins-small =
-      All-over_tiles PinSmall image.layout.device Io (λ x y. gathered_below 2 (port_at db image x y))
-      (λ x y left low. All-gathered_below PinSmall 2 (port_at db image x y)
-      (λ n few. All-item_if PinSmall (is_port (pintype_of db image x y n)) (pin_with db x y n (pintype_of db image x y n)) (pin-at db image x y n (pintype_of db image x y n) left low few).0))
-
   cells-small : All CellSmall (cells_of db image)
   unfolding cells_of cells_at
   cells-small =
@@ -166,9 +178,13 @@ module _ (db : Database) (image : Configuration) where
       All-over_tiles RamSmall image.layout.device RamB (λ x y. if is_ram_used db image x y then ram_at db image x y ∷ [] else [])
       (λ x y left low. All-if RamSmall (is_ram_used db image x y) (ram_at db image x y ∷ []) (All-single RamSmall (ram_at db image x y) (ram-placed db image x y left low).0))
 
-  port-name : (pin : Pin) → PinSmall pin → IsName (port_name pin)
+  ports-named : All (λ port. IsName (port_label port)) (flat_map pin_ports (pins_of db image))
   unfolding PinSmall
-  port-name pin small = port-named pin small.first small.second small.third
+  ports-named =
+      All-flat_map (λ port. IsName (port_label port)) pin_ports (pins_of db image)
+      (All-weaker PinSmall (λ pin. All (λ port. IsName (port_label port)) (pin_ports pin))
+      (λ pin small. each-port (λ port. IsName (port_label port)) pin (port-named pin small.first small.second small.third) (enable-named pin small.first small.second small.third))
+      (pins_of db image) (pins-small db image))
 
   register-name : (lc : Lc) → CellSmall lc → IsName (register_name (register_of lc))
   unfolding CellSmall register_of
@@ -199,19 +215,48 @@ module _ (db : Database) (image : Configuration) where
   unfolding register_of
   register-small lc small = small
 
-  registers-small : All (λ register. register.table.word < 65536) (registers_of (cells_of db image))
+  flips-small : All (λ register. register.table.word < 65536) (registers_of (cells_of db image))
   unfolding registers_of
-  registers-small =
+  flips-small =
       All-map (λ register. register.table.word < 65536) register_of (filter (λ lc. lc.flip) (cells_of db image))
       (All-filter (λ lc. lc.flip) (λ lc. (register_of lc).table.word < 65536) (cells_of db image)
       (All-weaker (λ lc. lc.lut < 65536) (λ lc. (register_of lc).table.word < 65536) register-small (cells_of db image) tables-small))
 
-  registers-named : All (λ register. IsName (register_name register)) (registers_of (cells_of db image))
+  flips-named : All (λ register. IsName (register_name register)) (registers_of (cells_of db image))
   unfolding registers_of
-  registers-named =
+  flips-named =
       All-map (λ register. IsName (register_name register)) register_of (filter (λ lc. lc.flip) (cells_of db image))
       (All-filter (λ lc. lc.flip) (λ lc. IsName (register_name (register_of lc))) (cells_of db image)
       (All-weaker CellSmall (λ lc. IsName (register_name (register_of lc))) register-name (cells_of db image) cells-small))
+
+  -- registers of pins
+  pin_register-small : (inputs : List Pin) (pin : Pin) → (pin_register db image inputs pin).table.word < 65536
+  unfolding pin_register
+  pin_register-small inputs pin = omega arith
+
+  user-small : (output : Bool) (n : ℕ) → IsSmall n → IsSmall (user_number (if output then Output n else Input n))
+  user-small true n small = small
+  user-small false n small = small
+
+  pin_register-name : (inputs : List Pin) (pin : Pin) → PinSmall pin → IsName (register_name (pin_register db image inputs pin))
+  unfolding PinSmall pin_register
+  pin_register-name inputs pin small =
+      register-named (pin_register db image inputs pin) small.first small.second (user-small pin.output pin.n small.third)
+
+  pin_registers-small : All (λ register. register.table.word < 65536) (pin_registers_of db image (pins_of db image))
+  unfolding pin_registers_of
+  pin_registers-small =
+      let inputs = filter (λ pin. not pin.output) (pins_of db image) in
+      All-map (λ register. register.table.word < 65536) (pin_register db image inputs) (filter is_registered (pins_of db image))
+      (All-every (λ pin. (pin_register db image inputs pin).table.word < 65536) (pin_register-small inputs) (filter is_registered (pins_of db image)))
+
+  pin_registers-named : All (λ register. IsName (register_name register)) (pin_registers_of db image (pins_of db image))
+  unfolding pin_registers_of
+  pin_registers-named =
+      let inputs = filter (λ pin. not pin.output) (pins_of db image) in
+      All-map (λ register. IsName (register_name register)) (pin_register db image inputs) (filter is_registered (pins_of db image))
+      (All-filter is_registered (λ pin. IsName (register_name (pin_register db image inputs pin))) (pins_of db image)
+      (All-weaker PinSmall (λ pin. IsName (register_name (pin_register db image inputs pin))) (pin_register-name inputs) (pins_of db image) (pins-small db image)))
 
   -- ---- start words
 
@@ -231,8 +276,8 @@ module _ (db : Database) (image : Configuration) where
   fabric-named : AreNamed (fabric_of db image)
   unfolding fabric_of
   fabric-named = record {
-    ports = All-weaker PinSmall (λ pin. IsName (port_name pin)) port-name (pins_of db image) pins-small;
-    registers = registers-named;
+    ports = ports-named;
+    registers = All-append (λ register. IsName (register_name register)) (registers_of (cells_of db image)) (pin_registers_of db image (pins_of db image)) flips-named pin_registers-named;
     reads = All-weaker RamSmall (λ ram. IsName (read_name ram)) read-name (rams_of db image) rams-small;
     memories = All-weaker RamSmall (λ ram. IsName (memory_name ram)) memory-name (rams_of db image) rams-small;
   }
@@ -243,7 +288,8 @@ module _ (db : Database) (image : Configuration) where
 
   fabric-registers : All (λ register. register.table.word < 65536) (fabric_of db image).registers
   unfolding fabric_of
-  fabric-registers = registers-small
+  fabric-registers =
+      All-append (λ register. register.table.word < 65536) (registers_of (cells_of db image)) (pin_registers_of db image (pins_of db image)) flips-small pin_registers-small
 
   pub fabric-shapely : IsShapely (fabric_of db image)
   fabric-shapely = record {

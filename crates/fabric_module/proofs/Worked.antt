@@ -1,31 +1,38 @@
 -- The written modules of small fabrics, worked out by hand.
-use Rattle.std.proofs.Common.{◌≡◌, [], ◌∷◌, refl, true, false}
+use Rattle.std.proofs.Common.{◌≡◌, [], ◌∷◌, ◌++◌, refl, true, false}
 use Rattle.std.specs.Prelude.{codes, Some, None, replicate}
 use Rattle.std.specs.Fmt.{digits}
 use Rattle.place_search.specs.Places.{any_below, least_below, gathered_below}
 use Rattle.bit_plane.specs.BitList.{word_of}
 use Rattle.vlog_module.specs.declared.atoms.Atom.TheVariants.{Bit, Whole}
-use Rattle.vlog_module.specs.declared.item.Item.TheVariants.{Wire, Assign, Flip, FlipAtOnce, SetAtOnce, Read, Write}
+use Rattle.vlog_module.specs.declared.item.Item.TheVariants.{Register as RegisterItem, Wire, Assign, Flip, FlipAtOnce, SetAtOnce, Read, ReadNarrow, Write, WriteNarrow}
 use Rattle.vlog_module.specs.declared.item.Right.TheVariants.{Whole as RightWhole, Lut as RightLut, Choose}
 use Rattle.net_extract.specs.declared.cell.Lc.{Lc}
 use Rattle.net_extract.specs.declared.ram.RamCell.{RamCell}
 use Rattle.net_extract.specs.declared.pin.Pin.{Pin}
+use Rattle.net_extract.specs.declared.pin.PinKind.TheVariants.{Plain, Registered, TriState}
+use Rattle.net_extract.specs.declared.driver.ClockUser.TheVariants.{Input as InputUser, Output as OutputUser}
+use Rattle.net_extract.specs.declared.register.Source.{Source}
+use Rattle.net_extract.specs.declared.register.Source.TheVariants.{Net, Pin as SourcePin}
+use Rattle.net_extract.specs.declared.register.Table.{Table}
+use Rattle.net_extract.specs.declared.register.Register.{Register}
+use Rattle.net_extract.specs.Outputs.{outputs_of}
 use Rattle.net_extract.specs.Registers.{register_of}
 use Rattle.net_extract.specs.Fabric.{Fabric, numbered_from}
 use Rattle.net_extract.specs.Joins.{is_joined, class_of}
 use Rattle.net_extract.specs.Drivers.{drives_of, drivers_of, is_driven}
 use Rattle.net_extract.specs.Clocks.{turn_at, end_within, clock_end}
-use Rattle.fabric_module.specs.Names.{two_numbers, three_numbers, port_name, register_name, read_name, memory_name, wire_name}
+use Rattle.fabric_module.specs.Names.{two_numbers, three_numbers, port_name, enable_name, register_name, read_name, memory_name, wire_name}
 use Rattle.fabric_module.specs.Rights.{input_atom, right_of, class_right}
 use Rattle.fabric_module.specs.Written.{clock_name, register_items, write_items, read_items, items_of, module_of}
 
 -- ---- an inverter between two pins
 
 abbrev input_pin : Pin
-input_pin = record { x = 0; y = 1; n = 0; output = false; back = false; din = Some 0; dout = None }
+input_pin = record { x = 0; y = 1; n = 0; kind = Plain; output = false; back = false; din = Some 0; dout = None; enable = None }
 
 abbrev output_pin : Pin
-output_pin = record { x = 0; y = 2; n = 0; output = true; back = false; din = None; dout = Some 3 }
+output_pin = record { x = 0; y = 2; n = 0; kind = Plain; output = true; back = false; din = None; dout = Some 3; enable = None }
 
 abbrev inverter : Lc
 inverter = record {
@@ -73,7 +80,7 @@ inverting_module : module_of inverting (0 ∷ 1 ∷ 2 ∷ 3 ∷ []) (codes "top"
       ∷ Assign (codes "io_0_2_0") (Whole (codes "n_3"))
       ∷ [];
 }
-unfolding digits any_below least_below gathered_below word_of register_of numbered_from is_joined class_of drives_of drivers_of is_driven turn_at end_within clock_end two_numbers three_numbers port_name register_name read_name memory_name wire_name input_atom right_of class_right clock_name items_of module_of
+unfolding outputs_of digits any_below least_below gathered_below word_of register_of numbered_from is_joined class_of drives_of drivers_of is_driven turn_at end_within clock_end two_numbers three_numbers port_name register_name read_name memory_name wire_name input_atom right_of class_right clock_name items_of module_of
 inverting_module = refl
 
 -- ---- a toggle at falling edges
@@ -87,12 +94,12 @@ toggling = record inverting { lcs = toggle ∷ []; registers = register_of toggl
 toggle_items : register_items toggling (register_of toggle) ≡
     Flip true (codes "io_0_1_0") (Bit true) (Bit false) false (codes "ff_1_1_0")
     (record { word = 21845; ins = Whole (codes "n_2") ∷ Bit false ∷ Bit false ∷ Bit false ∷ [] }) ∷ []
-unfolding digits any_below least_below gathered_below word_of register_of numbered_from is_joined class_of drives_of drivers_of is_driven turn_at end_within clock_end two_numbers three_numbers port_name register_name read_name memory_name wire_name input_atom right_of class_right clock_name items_of module_of
+unfolding outputs_of digits any_below least_below gathered_below word_of register_of numbered_from is_joined class_of drives_of drivers_of is_driven turn_at end_within clock_end two_numbers three_numbers port_name register_name read_name memory_name wire_name input_atom right_of class_right clock_name items_of module_of
 toggle_items = refl
 
 -- a clock without a driver is written nowhere
 still_items : register_items toggling (register_of (record toggle { clk = Some 9 })) ≡ []
-unfolding digits any_below least_below gathered_below word_of register_of numbered_from is_joined class_of drives_of drivers_of is_driven turn_at end_within clock_end two_numbers three_numbers port_name register_name read_name memory_name wire_name input_atom right_of class_right clock_name items_of module_of
+unfolding outputs_of digits any_below least_below gathered_below word_of register_of numbered_from is_joined class_of drives_of drivers_of is_driven turn_at end_within clock_end two_numbers three_numbers port_name register_name read_name memory_name wire_name input_atom right_of class_right clock_name items_of module_of
 still_items = refl
 
 -- ---- a toggle whose reset acts at once
@@ -106,23 +113,23 @@ resetting = record inverting { lcs = setting ∷ []; registers = register_of set
 setting_items : register_items resetting (register_of setting) ≡
     FlipAtOnce true (codes "io_0_1_0") (codes "n_0") true (codes "ff_1_1_0") (Bit true)
     (record { word = 21845; ins = Whole (codes "n_2") ∷ Bit false ∷ Bit false ∷ Bit false ∷ [] }) ∷ []
-unfolding digits any_below least_below gathered_below word_of register_of numbered_from is_joined class_of drives_of drivers_of is_driven turn_at end_within clock_end two_numbers three_numbers port_name register_name read_name memory_name wire_name input_atom right_of class_right clock_name items_of module_of
+unfolding outputs_of digits any_below least_below gathered_below word_of register_of numbered_from is_joined class_of drives_of drivers_of is_driven turn_at end_within clock_end two_numbers three_numbers port_name register_name read_name memory_name wire_name input_atom right_of class_right clock_name items_of module_of
 setting_items = refl
 
 setting_wires : class_right resetting 2 ≡ Choose (codes "n_0") true (codes "ff_1_1_0")
-unfolding digits any_below least_below gathered_below word_of register_of numbered_from is_joined class_of drives_of drivers_of is_driven turn_at end_within clock_end two_numbers three_numbers port_name register_name read_name memory_name wire_name input_atom right_of class_right clock_name items_of module_of
+unfolding outputs_of digits any_below least_below gathered_below word_of register_of numbered_from is_joined class_of drives_of drivers_of is_driven turn_at end_within clock_end two_numbers three_numbers port_name register_name read_name memory_name wire_name input_atom right_of class_right clock_name items_of module_of
 setting_wires = refl
 
 -- without a clock it is set alone
 clockless_items : register_items resetting (register_of (record setting { clk = None })) ≡ SetAtOnce (codes "n_0") true (codes "ff_1_1_0") ∷ []
-unfolding digits any_below least_below gathered_below word_of register_of numbered_from is_joined class_of drives_of drivers_of is_driven turn_at end_within clock_end two_numbers three_numbers port_name register_name read_name memory_name wire_name input_atom right_of class_right clock_name items_of module_of
+unfolding outputs_of digits any_below least_below gathered_below word_of register_of numbered_from is_joined class_of drives_of drivers_of is_driven turn_at end_within clock_end two_numbers three_numbers port_name register_name read_name memory_name wire_name input_atom right_of class_right clock_name items_of module_of
 clockless_items = refl
 
 -- a reset without a driver never acts
 undriven_items : register_items resetting (register_of (record setting { sr = Some 9 })) ≡
     Flip true (codes "io_0_1_0") (Bit true) (Bit false) true (codes "ff_1_1_0")
     (record { word = 21845; ins = Whole (codes "n_2") ∷ Bit false ∷ Bit false ∷ Bit false ∷ [] }) ∷ []
-unfolding digits any_below least_below gathered_below word_of register_of numbered_from is_joined class_of drives_of drivers_of is_driven turn_at end_within clock_end two_numbers three_numbers port_name register_name read_name memory_name wire_name input_atom right_of class_right clock_name items_of module_of
+unfolding outputs_of digits any_below least_below gathered_below word_of register_of numbered_from is_joined class_of drives_of drivers_of is_driven turn_at end_within clock_end two_numbers three_numbers port_name register_name read_name memory_name wire_name input_atom right_of class_right clock_name items_of module_of
 undriven_items = refl
 
 -- ---- a RAM
@@ -131,13 +138,15 @@ abbrev ram : RamCell
 ram = record {
   x = 3;
   y = 1;
+  read = 0;
+  write = 0;
   wneg = true;
   rneg = false;
   rdata = replicate 16 None;
   wdata = Some 2 ∷ replicate 15 None;
   mask = replicate 16 None;
-  waddr = replicate 8 None;
-  raddr = Some 2 ∷ replicate 7 None;
+  waddr = replicate 11 None;
+  raddr = Some 2 ∷ replicate 10 None;
   wclk = Some 1;
   wclke = None;
   we = Some 2;
@@ -149,13 +158,88 @@ ram = record {
 write : write_items inverting ram ≡
     Write true (codes "io_0_1_0") (Bit true) (Whole (codes "n_2")) (codes "mem_3_1") (replicate 8 (Bit false)) (replicate 16 (Bit false))
     (Whole (codes "n_2") ∷ replicate 15 (Bit false)) ∷ []
-unfolding digits any_below least_below gathered_below word_of register_of numbered_from is_joined class_of drives_of drivers_of is_driven turn_at end_within clock_end two_numbers three_numbers port_name register_name read_name memory_name wire_name input_atom right_of class_right clock_name items_of module_of
+unfolding outputs_of digits any_below least_below gathered_below word_of register_of numbered_from is_joined class_of drives_of drivers_of is_driven turn_at end_within clock_end two_numbers three_numbers port_name register_name read_name memory_name wire_name input_atom right_of class_right clock_name items_of module_of
 write = refl
 
 read : read_items inverting ram ≡
     Read false (codes "io_0_1_0") (Bit true) (Whole (codes "n_2")) (codes "rd_3_1") (codes "mem_3_1") (Whole (codes "n_2") ∷ replicate 7 (Bit false)) ∷ []
-unfolding digits any_below least_below gathered_below word_of register_of numbered_from is_joined class_of drives_of drivers_of is_driven turn_at end_within clock_end two_numbers three_numbers port_name register_name read_name memory_name wire_name input_atom right_of class_right clock_name items_of module_of
+unfolding outputs_of digits any_below least_below gathered_below word_of register_of numbered_from is_joined class_of drives_of drivers_of is_driven turn_at end_within clock_end two_numbers three_numbers port_name register_name read_name memory_name wire_name input_atom right_of class_right clock_name items_of module_of
 read = refl
+
+-- ---- a RAM that is read in mode 2 and written in mode 1
+
+abbrev narrow : RamCell
+narrow = record ram {
+  read = 2;
+  write = 1;
+  wdata = Some 2 ∷ replicate 15 None;
+  waddr = replicate 8 None ++ Some 2 ∷ Some 2 ∷ Some 2 ∷ [];
+  raddr = Some 2 ∷ replicate 7 None ++ Some 2 ∷ None ∷ Some 2 ∷ [];
+}
+
+narrow_write : write_items inverting narrow ≡
+    WriteNarrow true (codes "io_0_1_0") (Bit true) (Whole (codes "n_2")) (codes "mem_3_1") (replicate 8 (Bit false)) 21845
+    (Whole (codes "n_2") ∷ Bit false ∷ Bit false ∷ []) (Whole (codes "n_2") ∷ Whole (codes "n_2") ∷ replicate 14 (Bit false)) ∷ []
+unfolding outputs_of digits any_below least_below gathered_below word_of register_of numbered_from is_joined class_of drives_of drivers_of is_driven turn_at end_within clock_end two_numbers three_numbers port_name register_name read_name memory_name wire_name input_atom right_of class_right clock_name items_of module_of
+narrow_write = refl
+
+narrow_read : read_items inverting narrow ≡
+    ReadNarrow false (codes "io_0_1_0") (Bit true) (Whole (codes "n_2")) (codes "rd_3_1") (codes "mem_3_1") (Whole (codes "n_2") ∷ replicate 7 (Bit false))
+    (Whole (codes "n_2") ∷ Bit false ∷ Bit false ∷ []) 4369 ∷ []
+unfolding outputs_of digits any_below least_below gathered_below word_of register_of numbered_from is_joined class_of drives_of drivers_of is_driven turn_at end_within clock_end two_numbers three_numbers port_name register_name read_name memory_name wire_name input_atom right_of class_right clock_name items_of module_of
+narrow_read = refl
+
+-- ---- a registered output pin, a registered input pin and an output that can be switched off
+
+abbrev pin_table : Source → Table
+pin_table source = record { word = 43690; ins = source ∷ Net None ∷ Net None ∷ Net None ∷ [] }
+
+abbrev output_register : Register
+output_register = record {
+  x = 0;
+  y = 2;
+  user = OutputUser 0;
+  out = None;
+  clk = Some 1;
+  neg = false;
+  cen = None;
+  sr = None;
+  «set» = false;
+  at_once = false;
+  table = pin_table (Net (Some 3));
+}
+
+abbrev registering : Fabric
+registering = record inverting {
+  nets = 5;
+  pins =
+      input_pin ∷ record output_pin { kind = Registered } ∷ record input_pin { y = 3; kind = Registered; din = Some 4 }
+      ∷ record output_pin { y = 4; kind = TriState; enable = Some 2 } ∷ [];
+  registers = output_register ∷ record output_register { y = 3; user = InputUser 0; out = Some 4; neg = true; table = pin_table (SourcePin 1) } ∷ [];
+}
+
+registering_module : module_of registering (0 ∷ 1 ∷ 2 ∷ 3 ∷ 4 ∷ []) (codes "top") ≡ record {
+  name = codes "top";
+  ports =
+      record { name = codes "io_0_1_0"; output = false } ∷ record { name = codes "io_0_2_0"; output = true } ∷ record { name = codes "io_0_3_0"; output = false }
+      ∷ record { name = codes "io_0_4_0"; output = true } ∷ record { name = codes "io_0_4_0_en"; output = true } ∷ [];
+  items =
+      RegisterItem (codes "po_0_2_0") false
+      ∷ RegisterItem (codes "pi_0_3_0") false
+      ∷ Wire (codes "n_0") (RightWhole (codes "io_0_1_0"))
+      ∷ Wire (codes "n_1") (RightWhole (codes "n_0"))
+      ∷ Wire (codes "n_2") (RightLut (record { word = 21845; ins = Whole (codes "n_1") ∷ Bit false ∷ Bit false ∷ Bit false ∷ [] }))
+      ∷ Wire (codes "n_3") (RightWhole (codes "n_2"))
+      ∷ Wire (codes "n_4") (RightWhole (codes "pi_0_3_0"))
+      ∷ Assign (codes "io_0_2_0") (Whole (codes "po_0_2_0"))
+      ∷ Assign (codes "io_0_4_0") (Whole (codes "n_3"))
+      ∷ Assign (codes "io_0_4_0_en") (Whole (codes "n_2"))
+      ∷ Flip false (codes "io_0_1_0") (Bit true) (Bit false) false (codes "po_0_2_0") (record { word = 43690; ins = Whole (codes "n_3") ∷ Bit false ∷ Bit false ∷ Bit false ∷ [] })
+      ∷ Flip true (codes "io_0_1_0") (Bit true) (Bit false) false (codes "pi_0_3_0") (record { word = 43690; ins = Whole (codes "io_0_3_0") ∷ Bit false ∷ Bit false ∷ Bit false ∷ [] })
+      ∷ [];
+}
+unfolding outputs_of digits any_below least_below gathered_below word_of register_of numbered_from is_joined class_of drives_of drivers_of is_driven turn_at end_within clock_end two_numbers three_numbers port_name enable_name register_name read_name memory_name wire_name input_atom right_of class_right clock_name items_of module_of
+registering_module = refl
 
 -- ---- names with numbers of several digits
 

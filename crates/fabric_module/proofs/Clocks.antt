@@ -33,7 +33,7 @@ use Rattle.fabric_module.proofs.Rights.{IsSourceThere, IsOutputRule, outputs-rul
 use Rattle.fabric_module.proofs.Used.{IsThere, Knows, there-more, setting-class}
 use Rattle.fabric_module.proofs.Readings.{IsReadWell, read-unless}
 use Rattle.fabric_module.proofs.Known.{Stands, stands-more}
-use Rattle.fabric_module.proofs.Assigned.{Assigned, grows-assigned, output-one, output-allowed}
+use Rattle.fabric_module.proofs.Assigned.{Assigned, AssignsOne, grows-assigned, output-one, output-allowed}
 use Rattle.fabric_module.proofs.Ticking.{Way, way_of, item_in, optional, items_by-way, IsWay, register-allowed, read-allowed, write-allowed, register-one, read-one, write-one}
 use Rattle.fabric_module.proofs.Ticking.Way.{waits, acts, sets}
 
@@ -147,18 +147,16 @@ standing-after fabric j k assigned names before after standing more = record {
 -- ---- outputs
 
 module _ (fabric : Fabric) (writable : IsWritable fabric) (scope : Scope) (standing : Standing fabric 5 [] scope) where
-  IsOutput : Output → Type 0
+  abbrev IsOutput : Output → Type 0
   IsOutput output = IsThere scope (output_name output) sort.Output × IsOutputRule fabric output.rule
 
   outputs-next : (next : Scope) (output : Output) → IsOutput output → next.section ≤ 6 → next.declared ≡ scope.declared → next.read ≡ scope.read
       → All (λ n. bytes_eq n (output_name output) ≡ false) next.assigned → IsAllowed next (output_assign fabric output)
-  unfolding IsOutput
   outputs-next next output is low same same_read away =
       output-allowed fabric next output (knows-same fabric scope next (is_driven fabric) same standing.knows) is.1
       (there-same scope next (output_name output) sort.Output same is.0) low away
 
   outputs-are : All IsOutput (outputs_of fabric)
-  unfolding IsOutput
   outputs-are =
       All-both (λ (output : Output). IsThere scope (output_name output) sort.Output) (λ (output : Output). IsOutputRule fabric output.rule)
       (λ (output : Output). IsThere scope (output_name output) sort.Output × IsOutputRule fabric output.rule) (λ output there ruled. (there, ruled))
@@ -173,6 +171,27 @@ module _ (fabric : Fabric) (writable : IsWritable fabric) (scope : Scope) (stand
       (All-every (λ output. All (λ n. bytes_eq n (output_name output) ≡ false) scope.assigned)
       (λ output. subst (All (λ n. bytes_eq n (output_name output) ≡ false)) (sym standing.assigned_is) (All-nil (λ n. bytes_eq n (output_name output) ≡ false))) (outputs_of fabric)) in
       (found.0, standing-after fabric 5 6 [] (map output_name (outputs_of fabric)) scope (fold grown scope (map (output_assign fabric) (outputs_of fabric))) standing found.1)
+
+-- ---- things that give an item each, where they have ways
+
+-- Their items may stand where each is allowed, and where none of their names is assigned yet.
+module _ (fabric : Fabric) {X W : Type 0} (j k : ℕ) (later : j ≤ k) (name : X → List ℕ) (way : X → Option W) (item : X → W → Item) (items : X → List Item)
+    (gives : (x : X) → items x ≡ optional (way x) (item x)) (single : AssignsOne {X = X × W} k (λ pair. name pair.0) (λ pair. item pair.0 pair.1))
+    (assigned : List (List ℕ)) (scope : Scope) (standing : Standing fabric j assigned scope) where
+  pub part-grows : (P : X → Type 0) (Is : X × W → Type 0) → ((x : X) (at : W) → P x → way x ≡ Some at → Is (x, at))
+      → ((next : Scope) (pair : X × W) → Is pair → next.section ≤ k → next.declared ≡ scope.declared → next.read ≡ scope.read
+      → All (λ n. bytes_eq n (name pair.0) ≡ false) next.assigned → IsAllowed next (item pair.0 pair.1))
+      → ((x : X) → All (λ n. bytes_eq n (name x) ≡ false) assigned) → (xs : List X) → All P xs → Apart name xs
+      → Grows scope (flat_map items xs) × Standing fabric k (assigned ++ map (λ (pair : X × W). name pair.0) (way_pairs way xs)) (fold grown scope (flat_map items xs))
+  part-grows P Is is allowed away xs all apart =
+      let pairs = way_pairs way xs in
+      let found =
+      grows-assigned k (λ (pair : X × W). name pair.0) (λ (pair : X × W). item pair.0 pair.1) single Is scope.declared scope.read allowed
+      pairs (pairs-all way P Is is xs all) (pairs-apart way name xs apart) scope (omega (arith, standing.section, later)) refl refl
+      (All-every (λ (pair : X × W). All (λ n. bytes_eq n (name pair.0) ≡ false) scope.assigned)
+      (λ pair. subst (All (λ n. bytes_eq n (name pair.0) ≡ false)) (sym standing.assigned_is) (away pair.0)) pairs) in
+      subst (λ list. Grows scope list × Standing fabric k (assigned ++ map (λ (pair : X × W). name pair.0) pairs) (fold grown scope list)) (sym (given-map way item items gives xs))
+      (found.0, standing-after fabric j k assigned (map (λ (pair : X × W). name pair.0) pairs) scope (fold grown scope (map (λ (pair : X × W). item pair.0 pair.1) pairs)) standing found.1)
 
 -- ---- items of registers and of RAM ports
 
@@ -232,7 +251,7 @@ module _ (fabric : Fabric) (within : IsWithin fabric) (writable : IsWritable fab
         subst (IsWay scope register) same (clock-there fabric within writable order ordered scope standing.knows register.clk clock of_clock)
     way-is register there None None of_wire of_clock way is = absurd cc
 
-    IsRegister : Register × Way → Type 0
+    abbrev IsRegister : Register × Way → Type 0
     IsRegister pair = IsTabled fabric pair.0 × IsThere scope (register_name pair.0) sort.Register × IsWay scope pair.0 pair.1
 
     tabled-there : All (λ register. IsTabled fabric register × IsThere scope (register_name register) sort.Register × Contains fabric.registers register) fabric.registers
@@ -244,14 +263,6 @@ module _ (fabric : Fabric) (within : IsWithin fabric) (writable : IsWritable fab
         (All-both (λ register. IsThere scope (register_name register) sort.Register) (Contains fabric.registers)
         (λ register. IsThere scope (register_name register) sort.Register × Contains fabric.registers register) (λ register there among. (there, among)) fabric.registers
         standing.stands.registers (All-contains_itself fabric.registers))
-
-    registers-are : All IsRegister (register_pairs fabric)
-    unfolding IsRegister register_pairs
-    registers-are =
-        pairs-all (λ register. way_of (setting_wire fabric register) (clock_name fabric register.clk))
-        (λ register. IsTabled fabric register × IsThere scope (register_name register) sort.Register × Contains fabric.registers register)
-        (λ (pair : Register × Way). IsTabled fabric pair.0 × IsThere scope (register_name pair.0) sort.Register × IsWay scope pair.0 pair.1)
-        (λ register way here is. (here.0, here.1, way-is register here.2 (setting_wire fabric register) (clock_name fabric register.clk) refl refl way is)) fabric.registers tabled-there
 
     way-same : (next : Scope) (register : Register) → next.declared ≡ scope.declared → next.read ≡ scope.read → (way : Way) → IsWay scope register way → IsWay next register way
     way-same next register same same_read (waits clock) is = there-same scope next clock sort.Input same is
@@ -267,7 +278,6 @@ module _ (fabric : Fabric) (within : IsWithin fabric) (writable : IsWritable fab
 
     registers-next : (next : Scope) (pair : Register × Way) → IsRegister pair → next.section ≤ 7 → next.declared ≡ scope.declared → next.read ≡ scope.read
         → All (λ n. bytes_eq n (register_name pair.0) ≡ false) next.assigned → IsAllowed next (item_in fabric pair.0 pair.1)
-    unfolding IsRegister
     registers-next next pair is low same same_read away =
         register-allowed fabric next (knows-same fabric scope next (is_driven fabric) same standing.knows) pair.0 is.0.0 is.0.1
         (there-same scope next (register_name pair.0) sort.Register same is.1) low away pair.1 (way-same next pair.0 same same_read pair.1 is.2)
@@ -276,36 +286,25 @@ module _ (fabric : Fabric) (within : IsWithin fabric) (writable : IsWritable fab
         × Standing fabric 7 (after_registers fabric) (fold grown scope (flat_map (register_items fabric) fabric.registers))
     unfolding after_registers register_pairs
     registers-tick =
-        let way = λ (register : Register). way_of (setting_wire fabric register) (clock_name fabric register.clk) in
-        let found =
-        grows-assigned 7 (λ (pair : Register × Way). register_name pair.0) (λ (pair : Register × Way). item_in fabric pair.0 pair.1) (register-one fabric) IsRegister scope.declared scope.read registers-next
-        (register_pairs fabric) registers-are (pairs-apart way register_name fabric.registers writable.registers)
-        scope (omega (arith, standing.section)) refl refl
-        (All-every (λ (pair : Register × Way). All (λ n. bytes_eq n (register_name pair.0) ≡ false) scope.assigned)
-        (λ pair. subst (All (λ n. bytes_eq n (register_name pair.0) ≡ false)) (sym standing.assigned_is)
-        (names-absent output_name (outputs_of fabric) (register_name pair.0) (λ output. output-no_register output pair.0))) (register_pairs fabric)) in
-        subst (λ items. Grows scope items × Standing fabric 7 (after_registers fabric) (fold grown scope items))
-        (sym (given-map way (item_in fabric) (register_items fabric) (λ register. items_by-way fabric register (setting_wire fabric register) (clock_name fabric register.clk)) fabric.registers))
-        (found.0, standing-after fabric 6 7 _ _ scope (fold grown scope (map (λ (pair : Register × Way). item_in fabric pair.0 pair.1) (register_pairs fabric))) standing found.1)
+        part-grows fabric 6 7 (omega arith) register_name (λ register. way_of (setting_wire fabric register) (clock_name fabric register.clk)) (item_in fabric) (register_items fabric)
+        (λ register. items_by-way fabric register (setting_wire fabric register) (clock_name fabric register.clk)) (register-one fabric) (map output_name (outputs_of fabric)) scope standing
+        (λ register. IsTabled fabric register × IsThere scope (register_name register) sort.Register × Contains fabric.registers register) IsRegister
+        (λ register way here is. (here.0, here.1, way-is register here.2 (setting_wire fabric register) (clock_name fabric register.clk) refl refl way is)) registers-next
+        (λ register. names-absent output_name (outputs_of fabric) (register_name register) (λ output. output-no_register output register)) fabric.registers tabled-there writable.registers
 
   module _ (scope : Scope) (standing : Standing fabric 7 (after_registers fabric) scope) where
-    IsRead : RamCell × List ℕ → Type 0
+    abbrev IsRead : RamCell × List ℕ → Type 0
     IsRead pair = IsPorted pair.0 × IsThere scope pair.1 sort.Input × IsThere scope (read_name pair.0) sort.Word × IsThere scope (memory_name pair.0) sort.Memory
 
-    reads-are : All IsRead (read_pairs fabric)
-    unfolding IsRead read_pairs
-    reads-are =
-        pairs-all (λ ram. clock_name fabric ram.rclk) (λ ram. IsPorted ram × IsThere scope (read_name ram) sort.Word × IsThere scope (memory_name ram) sort.Memory)
-        (λ (pair : RamCell × List ℕ). IsPorted pair.0 × IsThere scope pair.1 sort.Input × IsThere scope (read_name pair.0) sort.Word × IsThere scope (memory_name pair.0) sort.Memory)
-        (λ ram at here is. (here.0, clock-there fabric within writable order ordered scope standing.knows ram.rclk at is, here.1, here.2)) fabric.rams
-        (All-both IsPorted (λ ram. IsThere scope (read_name ram) sort.Word × IsThere scope (memory_name ram) sort.Memory) (λ ram. IsPorted ram × IsThere scope (read_name ram) sort.Word × IsThere scope (memory_name ram) sort.Memory)
+    reads-there : All (λ ram. IsPorted ram × IsThere scope (read_name ram) sort.Word × IsThere scope (memory_name ram) sort.Memory) fabric.rams
+    reads-there =
+        All-both IsPorted (λ ram. IsThere scope (read_name ram) sort.Word × IsThere scope (memory_name ram) sort.Memory) (λ ram. IsPorted ram × IsThere scope (read_name ram) sort.Word × IsThere scope (memory_name ram) sort.Memory)
         (λ ram ported there. (ported, there.0, there.1)) fabric.rams sized.each_port
         (All-both (λ ram. IsThere scope (read_name ram) sort.Word) (λ ram. IsThere scope (memory_name ram) sort.Memory) (λ ram. IsThere scope (read_name ram) sort.Word × IsThere scope (memory_name ram) sort.Memory)
-        (λ ram word memory. (word, memory)) fabric.rams standing.stands.reads standing.stands.memories))
+        (λ ram word memory. (word, memory)) fabric.rams standing.stands.reads standing.stands.memories)
 
     reads-next : (next : Scope) (pair : RamCell × List ℕ) → IsRead pair → next.section ≤ 8 → next.declared ≡ scope.declared → next.read ≡ scope.read
         → All (λ n. bytes_eq n (read_name pair.0) ≡ false) next.assigned → IsAllowed next (read_item fabric pair.0 pair.1)
-    unfolding IsRead
     reads-next next pair is low same same_read away =
         read-allowed fabric next (knows-same fabric scope next (is_driven fabric) same standing.knows) pair.0 pair.1 is.0
         (there-same scope next pair.1 sort.Input same is.1) (there-same scope next (read_name pair.0) sort.Word same is.2) (there-same scope next (memory_name pair.0) sort.Memory same is.3) low away
@@ -320,31 +319,22 @@ module _ (fabric : Fabric) (within : IsWithin fabric) (writable : IsWritable fab
     pub reads-tick : Grows scope (flat_map (read_items fabric) fabric.rams) × Standing fabric 8 (after_reads fabric) (fold grown scope (flat_map (read_items fabric) fabric.rams))
     unfolding after_reads after_registers read_pairs
     reads-tick =
-        let found =
-        grows-assigned 8 (λ (pair : RamCell × List ℕ). read_name pair.0) (λ (pair : RamCell × List ℕ). read_item fabric pair.0 pair.1) (read-one fabric) IsRead scope.declared scope.read reads-next
-        (read_pairs fabric) reads-are (pairs-apart (λ ram. clock_name fabric ram.rclk) read_name fabric.rams writable.reads)
-        scope (omega (arith, standing.section)) refl refl
-        (All-every (λ (pair : RamCell × List ℕ). All (λ n. bytes_eq n (read_name pair.0) ≡ false) scope.assigned)
-        (λ pair. subst (All (λ n. bytes_eq n (read_name pair.0) ≡ false)) (sym standing.assigned_is) (reads-away pair.0)) (read_pairs fabric)) in
-        subst (λ items. Grows scope items × Standing fabric 8 (after_reads fabric) (fold grown scope items)) (sym (given-map (λ ram. clock_name fabric ram.rclk) (read_item fabric) (read_items fabric) (λ ram. clocked-optional (clock_name fabric ram.rclk) (read_item fabric ram)) fabric.rams))
-        (found.0, standing-after fabric 7 8 _ _ scope (fold grown scope (map (λ (pair : RamCell × List ℕ). read_item fabric pair.0 pair.1) (read_pairs fabric))) standing found.1)
+        part-grows fabric 7 8 (omega arith) read_name (λ ram. clock_name fabric ram.rclk) (read_item fabric) (read_items fabric)
+        (λ ram. clocked-optional (clock_name fabric ram.rclk) (read_item fabric ram)) (read-one fabric) (after_registers fabric) scope standing
+        (λ ram. IsPorted ram × IsThere scope (read_name ram) sort.Word × IsThere scope (memory_name ram) sort.Memory) IsRead
+        (λ ram at here is. (here.0, clock-there fabric within writable order ordered scope standing.knows ram.rclk at is, here.1, here.2)) reads-next reads-away fabric.rams reads-there writable.reads
 
   module _ (scope : Scope) (standing : Standing fabric 8 (after_reads fabric) scope) where
-    IsWrite : RamCell × List ℕ → Type 0
+    abbrev IsWrite : RamCell × List ℕ → Type 0
     IsWrite pair = IsPorted pair.0 × IsThere scope pair.1 sort.Input × IsThere scope (memory_name pair.0) sort.Memory
 
-    writes-are : All IsWrite (write_pairs fabric)
-    unfolding IsWrite write_pairs
-    writes-are =
-        pairs-all (λ ram. clock_name fabric ram.wclk) (λ ram. IsPorted ram × IsThere scope (memory_name ram) sort.Memory)
-        (λ (pair : RamCell × List ℕ). IsPorted pair.0 × IsThere scope pair.1 sort.Input × IsThere scope (memory_name pair.0) sort.Memory)
-        (λ ram at here is. (here.0, clock-there fabric within writable order ordered scope standing.knows ram.wclk at is, here.1)) fabric.rams
-        (All-both IsPorted (λ ram. IsThere scope (memory_name ram) sort.Memory) (λ ram. IsPorted ram × IsThere scope (memory_name ram) sort.Memory)
-        (λ ram ported there. (ported, there)) fabric.rams sized.each_port standing.stands.memories)
+    writes-there : All (λ ram. IsPorted ram × IsThere scope (memory_name ram) sort.Memory) fabric.rams
+    writes-there =
+        All-both IsPorted (λ ram. IsThere scope (memory_name ram) sort.Memory) (λ ram. IsPorted ram × IsThere scope (memory_name ram) sort.Memory)
+        (λ ram ported there. (ported, there)) fabric.rams sized.each_port standing.stands.memories
 
     writes-next : (next : Scope) (pair : RamCell × List ℕ) → IsWrite pair → next.section ≤ 9 → next.declared ≡ scope.declared → next.read ≡ scope.read
         → All (λ n. bytes_eq n (memory_name pair.0) ≡ false) next.assigned → IsAllowed next (write_item fabric pair.0 pair.1)
-    unfolding IsWrite
     writes-next next pair is low same same_read away =
         write-allowed fabric next (knows-same fabric scope next (is_driven fabric) same standing.knows) pair.0 pair.1 is.0
         (there-same scope next pair.1 sort.Input same is.1) (there-same scope next (memory_name pair.0) sort.Memory same is.2) low away
@@ -362,11 +352,7 @@ module _ (fabric : Fabric) (within : IsWithin fabric) (writable : IsWritable fab
     pub writes-tick : Grows scope (flat_map (write_items fabric) fabric.rams) × Standing fabric 9 (after_writes fabric) (fold grown scope (flat_map (write_items fabric) fabric.rams))
     unfolding after_writes after_reads write_pairs
     writes-tick =
-        let found =
-        grows-assigned 9 (λ (pair : RamCell × List ℕ). memory_name pair.0) (λ (pair : RamCell × List ℕ). write_item fabric pair.0 pair.1) (write-one fabric) IsWrite scope.declared scope.read writes-next
-        (write_pairs fabric) writes-are (pairs-apart (λ ram. clock_name fabric ram.wclk) memory_name fabric.rams writable.memories)
-        scope (omega (arith, standing.section)) refl refl
-        (All-every (λ (pair : RamCell × List ℕ). All (λ n. bytes_eq n (memory_name pair.0) ≡ false) scope.assigned)
-        (λ pair. subst (All (λ n. bytes_eq n (memory_name pair.0) ≡ false)) (sym standing.assigned_is) (writes-away pair.0)) (write_pairs fabric)) in
-        subst (λ items. Grows scope items × Standing fabric 9 (after_writes fabric) (fold grown scope items)) (sym (given-map (λ ram. clock_name fabric ram.wclk) (write_item fabric) (write_items fabric) (λ ram. clocked-optional (clock_name fabric ram.wclk) (write_item fabric ram)) fabric.rams))
-        (found.0, standing-after fabric 8 9 _ _ scope (fold grown scope (map (λ (pair : RamCell × List ℕ). write_item fabric pair.0 pair.1) (write_pairs fabric))) standing found.1)
+        part-grows fabric 8 9 (omega arith) memory_name (λ ram. clock_name fabric ram.wclk) (write_item fabric) (write_items fabric)
+        (λ ram. clocked-optional (clock_name fabric ram.wclk) (write_item fabric ram)) (write-one fabric) (after_reads fabric) scope standing
+        (λ ram. IsPorted ram × IsThere scope (memory_name ram) sort.Memory) IsWrite
+        (λ ram at here is. (here.0, clock-there fabric within writable order ordered scope standing.knows ram.wclk at is, here.1)) writes-next writes-away fabric.rams writes-there writable.memories

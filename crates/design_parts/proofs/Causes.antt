@@ -5,7 +5,7 @@ use Rattle.plane_map.specs.declared.device.DeviceName.{DeviceName}
 use Rattle.net_extract.specs.Fabric.{Fabric}
 use Rattle.net_extract.specs.Faults.{Fault}
 use Rattle.fabric.specs.declared.fault.FabricFault.{FabricFault}
-use Rattle.fabric.specs.declared.fault.FabricFault.TheVariants.{Device, Pll, PinMode, Mode, Cascade, TwoDrivers, Loop, Clock, Memory as OutOfMemory}
+use Rattle.fabric.specs.declared.fault.FabricFault.TheVariants.{Device, Pll, PinMode, Cascade, TwoDrivers, Loop, Clock, Memory as OutOfMemory}
 use Rattle.fabric.specs.Faults.{IsCause}
 use Rattle.design_parts.specs.Faults.{told_fault}
 
@@ -14,7 +14,6 @@ pub cause-told : (device : DeviceName) (fabric : Fabric) (cause : Option Fault) 
 cause-told device fabric cause Device one is told = is ∙ told
 cause-told device fabric cause (Pll x y) one is told = is ∙ told
 cause-told device fabric cause (PinMode x y pio pintype) one is told = is ∙ told
-cause-told device fabric cause (Mode x y read write) one is told = is ∙ told
 cause-told device fabric cause (Cascade x y) one is told = is ∙ told
 cause-told device fabric cause (TwoDrivers net first second) one is told = is.0 ∙ told
 cause-told device fabric cause (Loop net cycle) one is told = is.0 ∙ told

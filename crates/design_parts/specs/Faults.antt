@@ -4,7 +4,7 @@ use Rattle.net_extract.specs.declared.driver.ClockUser.{ClockUser}
 use Rattle.net_extract.specs.declared.driver.ClockUser.TheVariants as user
 use Rattle.net_extract.specs.Faults.{Fault}
 use Rattle.fabric.specs.declared.fault.FabricFault.{FabricFault}
-use Rattle.fabric.specs.declared.fault.FabricFault.TheVariants.{Device, Pll, PinMode, Mode, Cascade, TwoDrivers, Loop, Clock, Memory as OutOfMemory}
+use Rattle.fabric.specs.declared.fault.FabricFault.TheVariants.{Device, Pll, PinMode, Cascade, TwoDrivers, Loop, Clock, Memory as OutOfMemory}
 use Rattle.tool_run.specs.Lines.{refusal_text, six_digits}
 use Rattle.tool_run.specs.declared.tool.Stop.{Stop}
 use Rattle.tool_run.specs.declared.tool.Stop.TheVariants.{Refused, Memory}
@@ -30,9 +30,11 @@ cell_text i = codes " cell " ++ decimal i
 abbrev pub clock_text : ℕ → List ℕ
 clock_text net = codes ": Clock net " ++ decimal net
 
--- a cell of a tile, or a port of a RAM
+-- a cell of a tile, the register of an input or output pin, or a port of a RAM
 abbrev pub user_text : ClockUser → List ℕ
 user_text (user.Cell i) = cell_text i
+user_text (user.Input n) = codes " input " ++ decimal n
+user_text (user.Output n) = codes " output " ++ decimal n
 user_text user.Read = codes " read"
 user_text user.Write = codes " write"
 
@@ -41,7 +43,6 @@ abbrev pub design_fault_text : Fault → List ℕ
 design_fault_text Fault.other_device = codes "Device"
 design_fault_text (Fault.pll x y) = tile_text x y ++ codes ": Pll"
 design_fault_text (Fault.pin_mode x y n pintype) = tile_text x y ++ pin_text n ++ pintype_text pintype
-design_fault_text (Fault.mode x y read write) = tile_text x y ++ codes ": Mode " ++ decimal read ++ codes " " ++ decimal write
 design_fault_text (Fault.cascade x y) = tile_text x y ++ codes ": Cascade"
 design_fault_text (Fault.two_drivers net first second) = net_text net ++ codes ": TwoDrivers"
 design_fault_text (Fault.loop net) = net_text net ++ codes ": Loop"
@@ -52,7 +53,6 @@ abbrev pub told_fault : FabricFault → Option Fault
 told_fault Device = Some Fault.other_device
 told_fault (Pll x y) = Some (Fault.pll x y)
 told_fault (PinMode x y pio pintype) = Some (Fault.pin_mode x y pio pintype)
-told_fault (Mode x y read write) = Some (Fault.mode x y read write)
 told_fault (Cascade x y) = Some (Fault.cascade x y)
 told_fault (TwoDrivers net first second) = Some (Fault.two_drivers net first second)
 told_fault (Loop net cycle) = Some (Fault.loop net)

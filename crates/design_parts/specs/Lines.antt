@@ -9,7 +9,7 @@ use Rattle.vlog_cycle.specs.Text.{bit_digit, word_text}
 use Rattle.net_extract.specs.Fabric.{fabric_of}
 use Rattle.net_extract.specs.Values.{State}
 use Rattle.net_extract.specs.Steps.{Event, Entry}
-use Rattle.fabric_module.specs.Written.{port_of}
+use Rattle.fabric_module.specs.Written.{pin_ports}
 
 -- a space, the registers of one bit, and the read register of each RAM
 abbrev pub state_text : State → List ℕ
@@ -29,4 +29,4 @@ fabric_event event = record { pin = event.pin; bit = event.bit }
 
 -- the events of a text for the fabric of a database and an image
 abbrev pub fabric_events : Database → Configuration → List ℕ → List Event
-fabric_events db image events = map fabric_event (events_of (map port_of (fabric_of db image).pins) events)
+fabric_events db image events = map fabric_event (events_of (flat_map pin_ports (fabric_of db image).pins) events)

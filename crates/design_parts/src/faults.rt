@@ -43,6 +43,8 @@ fn user_phrase(user: ClockUser) -> Phrase
 {
     match user {
         ClockUser::Cell { i } => decimal(" cell ", u64::from(i)),
+        ClockUser::Input { n } => decimal(" input ", u64::from(n)),
+        ClockUser::Output { n } => decimal(" output ", u64::from(n)),
         ClockUser::Read => text(" read"),
         ClockUser::Write => text(" write"),
     }
@@ -58,11 +60,6 @@ pub fn design_stop(fault: &FabricFault) -> Stop
         FabricFault::PinMode { x, y, pio, pintype } => {
             let pin = decimal(" pin ", u64::from(*pio));
             Stop::Refused(at_tile(*x, *y, pin, pintype_phrase(*pintype)))
-        }
-        FabricFault::Mode { x, y, read, write } => {
-            let read = decimal(": Mode ", u64::from(*read));
-            let write = decimal(" ", u64::from(*write));
-            Stop::Refused(at_tile(*x, *y, read, write))
         }
         FabricFault::Cascade { x, y } => {
             Stop::Refused(at_tile(*x, *y, text(": Cascade"), text("")))

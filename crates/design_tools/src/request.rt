@@ -30,10 +30,13 @@ chips give layouts/silicon.layout, which the installed icebox_vlog does by
 itself.
 
 The module has a port for each pin that is used, io_X_Y_N for pin N of the io
-tile at column X and row Y; a register for each flip-flop, ff_X_Y_I; a register
-and a memory for each block RAM that is read, rd_X_Y and mem_X_Y; and a wire n_K
-for each net with a driver. At the start and after each change of an input they
-have the values that the configured device has. vlogrun runs the module.
+tile at column X and row Y, and behind it io_X_Y_N_en, which is 1 where the pin
+is switched on, for an output that can be switched off; a register for each
+flip-flop, ff_X_Y_I, and for each pin with a register, pi_X_Y_N for an input and
+po_X_Y_N for an output; a register and a memory for each block RAM that is read,
+rd_X_Y and mem_X_Y; and a wire n_K for each net with a driver. At the start and
+after each change of an input they have the values that the configured device
+has. vlogrun runs the module.
 
 Example: icebox_vlog -n blink chipdb-1k.txt blink.asc >blink.v
 
@@ -44,12 +47,12 @@ fault. A design is refused for these causes, looked for in this order:
 
   Device        the database is for another device: take the one for yours
   Pll           a PLL is used; modules have none. Feed the clock to a pin
-  PinMode       a pin of another kind than a plain input or output, as one with
-                a register, with two data rates or with an output that can be
-                switched off; the six digits are the bits of its type. Make it
-                plain, or keep such pins out of the design
-  Mode          a block RAM whose words aren't 16 bits wide where it is read or
-                written: use it as 256 words of 16 bits
+  PinMode       a pin that is neither a plain nor a registered input, nor an
+                output that is plain, registered or can be switched off, as one
+                with two data rates, a latch or both a register and an enable;
+                or an output that can be switched off and is read; the six
+                digits are the bits of its type. Keep such pins out of the
+                design
   Cascade       block RAMs that are chained: take single ones
   TwoDrivers    two outputs drive one net: the image wasn't made by a router, or
                 the database is for another device

@@ -24,7 +24,6 @@ cause-told cause Device one is told = is ∙ told
 cause-told cause (Pins (pins.Pll x y)) one is told = is ∙ told
 cause-told cause (Pins (pins.PinMode x y pio pintype)) one is told = is ∙ told
 cause-told cause (Pins (pins.Memory failed)) one is told = absurd is
-cause-told cause (Rams (rams.Mode x y read write)) one is told = is ∙ told
 cause-told cause (Rams (rams.Cascade x y)) one is told = is ∙ told
 cause-told cause (Rams (rams.Memory failed)) one is told = absurd is
 cause-told cause (OutOfMemory failed) one is told = cc

@@ -60,10 +60,8 @@ image is refused for these causes, looked for in this order:
 
   Device        the database is for another device: take the one for yours
   Pll           a PLL is used
-  PinMode       a pin of another kind than a plain input or output; the six
-                digits are the bits of its type
-  Mode          a block RAM whose words aren't 16 bits wide where it is read or
-                written
+  PinMode       a pin of a kind that isn't taken; the six digits are the bits of
+                its type
   Cascade       block RAMs that are chained
 
 Exit status: 0 done; 1 the database or the image is refused, with its first

@@ -1,14 +1,18 @@
 // Atoms: what is read of nets and pins.
-ghost use Rattle.std.specs.Prelude.{◌≡◌, ◌<◌, ◌∷◌, [], All, get_or, length, Some, None, if◌then◌else◌, IfOk};
+ghost use Rattle.std.specs.Prelude.{◌≡◌, ◌<◌, ◌≤◌, ◌/◌, ◌∷◌, [], All, get_or, length, Some, None, if◌then◌else◌, IfOk};
 ghost use Rattle.net_extract.specs.declared.register.Source.TheVariants.{Net};
+ghost use Rattle.rams_narrow.specs.Narrow.{share};
+ghost use Rattle.net_extract.specs.Rams.{data_bit};
 ghost use Rattle.net_extract.specs.Joins.{class_of};
 ghost use Rattle.net_extract.specs.Values.{is_connected};
 ghost use Rattle.net_extract.specs.Within.{IsNetIn};
-ghost use Rattle.fabric_module.specs.Rights.{input_atom, port_atoms, input_name, source_atom, table_atom, lut_of, driven_wire, setting_wire};
-ghost use Rattle.vlog_emit.specs.Each.{EachFabric, IsSourceIn, IsTableIn, nets_in};
+ghost use Rattle.fabric_wiring.specs.Drives.{rule_of};
+ghost use Rattle.fabric_module.specs.Rights.{input_atom, port_atoms, input_name, source_atom, table_atom, lut_of, driven_wire, setting_wire, pattern_of, shift_atom, shift_atoms, data_atoms, output_atom};
+ghost use Rattle.vlog_emit.specs.Each.{EachFabric, IsRuleIn, IsSourceIn, IsTableIn, nets_in};
 
-use crate::names::{port_name, wire_name};
+use crate::names::{port_name, register_name, wire_name};
 use fabric::Design;
+use fabric_wiring::Rule;
 use net_extract::{Register, Source, Table};
 use std::alloc::{AllocError, Global};
 use vlog_module::{Atom, Atoms, Lut, Name};
@@ -71,6 +75,108 @@ pub(crate) fn port_atoms(
         atoms.push(atom)?;
     }
     Ok(atoms)
+}
+
+/// A bit of the high part of an address: 0 where the mode has no such bit.
+fn shift_atom(
+    alloc: Global,
+    design: &Design,
+    mode: u8,
+    ports: &[Option<u32>; 11],
+    k: u8,
+) -> Result<Atom, AllocError>
+    requires place { k < 3 }
+    requires within { All (IsNetIn (nets_in design.now)) ports.now }
+    ensures { IfOk result (λ atom. EachFabric design.now (λ fabric. atom ≡ shift_atom fabric mode ports.now k)) }
+{
+    if k < mode {
+        input_atom(alloc, design, false, ports[usize::from(8 + k)])
+    } else {
+        Ok(Atom::Bit(false))
+    }
+}
+
+/// The high part of an address in three atoms, the lowest first.
+pub(crate) fn shift_atoms(
+    alloc: Global,
+    design: &Design,
+    mode: u8,
+    ports: &[Option<u32>; 11],
+) -> Result<Atoms, AllocError>
+    requires { All (IsNetIn (nets_in design.now)) ports.now }
+    ensures { IfOk result (λ atoms. EachFabric design.now (λ fabric. atoms ≡ shift_atoms fabric mode ports.now)) }
+{
+    let mut atoms = Atoms::new(alloc);
+    let low = shift_atom(alloc, design, mode, ports, 0)?;
+    let middle = shift_atom(alloc, design, mode, ports, 1)?;
+    let high = shift_atom(alloc, design, mode, ports, 2)?;
+    atoms.push(low)?;
+    atoms.push(middle)?;
+    atoms.push(high)?;
+    Ok(atoms)
+}
+
+/// What is written in a mode: for each place of a word the data for the bit of a narrow word that stands there.
+pub(crate) fn data_atoms(
+    alloc: Global,
+    design: &Design,
+    mode: u8,
+    ports: &[Option<u32>; 16],
+) -> Result<Atoms, AllocError>
+    requires mode { mode ≤ 3 }
+    requires within { All (IsNetIn (nets_in design.now)) ports.now }
+    ensures { IfOk result (λ atoms. EachFabric design.now (λ fabric. atoms ≡ data_atoms fabric mode ports.now)) }
+{
+    let mut atoms = Atoms::new(alloc);
+    for place in 0..16u8 {
+        let atom = input_atom(alloc, design, false, ports[data_bit(mode, place)])?;
+        atoms.push(atom)?;
+    }
+    Ok(atoms)
+}
+
+/// The port bit that has the data for a place of a word.
+fn data_bit(mode: u8, place: u8) -> usize
+    requires mode { mode ≤ 3 }
+    requires place { place < 16 }
+    ensures is { result ≡ data_bit mode (place / share mode) }
+    ensures within { result < 16 }
+{
+    match mode {
+        0 => usize::from(place),
+        1 => usize::from(place / 2 * 2),
+        2 => usize::from(place / 4 * 4 + 1),
+        _ => usize::from(place / 8 * 8 + 3),
+    }
+}
+
+/// The word of a mode, whose bits are 1 where a narrow word of high part 0 has bits.
+pub(crate) fn pattern_of(mode: u8) -> u16
+    requires { mode ≤ 3 }
+    ensures { result ≡ pattern_of mode }
+{
+    match mode {
+        0 => 0xFFFF,
+        1 => 0x5555,
+        2 => 0x1111,
+        _ => 0x0101,
+    }
+}
+
+/// The atom that has the value of an output. Outputs have no other rules.
+pub(crate) fn output_atom(alloc: Global, design: &Design, rule: &Rule) -> Result<Atom, AllocError>
+    requires { IsRuleIn design.now rule.now }
+    ensures { IfOk result (λ atom. EachFabric design.now (λ fabric. atom ≡ output_atom fabric (rule_of rule.now))) }
+{
+    match rule {
+        Rule::Input { stated, net } => input_atom(alloc, design, *stated, *net),
+        Rule::RegisterBit { register, .. } => {
+            let name = register_name(alloc, register)?;
+            Ok(Atom::Whole(name))
+        }
+        Rule::Constant(bit) => Ok(Atom::Bit(*bit)),
+        _ => Ok(Atom::Bit(false)),
+    }
 }
 
 /// The name of the input pin at a place.

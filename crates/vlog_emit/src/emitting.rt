@@ -1,9 +1,10 @@
 // The module of a design.
-ghost use Rattle.std.specs.Prelude.{◌≡◌, ◌++◌, map, flat_map, filter, IfOk, OnOk};
+ghost use Rattle.std.specs.Prelude.{◌≡◌, ◌++◌, map, flat_map, IfOk, OnOk};
 ghost use Rattle.ice_image.specs.Configuration.{Configuration};
 ghost use Rattle.chipdb_reader.specs.Database.{Database};
 ghost use Rattle.vlog_module.specs.Names.{IsName};
-ghost use Rattle.net_extract.specs.Fabric.{fabric_of, outputs_of};
+ghost use Rattle.net_extract.specs.Fabric.{fabric_of};
+ghost use Rattle.net_extract.specs.Outputs.{outputs_of};
 ghost use Rattle.fabric.specs.Design.{IsDesignOf};
 ghost use Rattle.fabric_module.specs.Written.{register_item, read_register, ram_memory, class_wire, output_assign, register_items, read_items, write_items, items_of, module_of};
 ghost use Rattle.vlog_emit.specs.Each.{EachFabric};
@@ -15,21 +16,8 @@ use crate::sections::{
 };
 use fabric::Design;
 use fabric_module::module_is_fabric;
-use net_extract::Pin;
 use std::alloc::{AllocError, Global};
 use vlog_module::{Item, Module, Name};
-
-/// The output pins.
-fn outputs_of(alloc: Global, design: &Design) -> Result<Vec<Pin>, AllocError>
-    ensures outputs { IfOk result (λ outputs. outputs.items ≡ filter (λ pin. pin.output) design.now.parts.pins.items) }
-{
-    design
-        .pins()
-        .iter()
-        .filter(|pin| pin.output)
-        .copied()
-        .collect(alloc)
-}
 
 /// Adds what has a state: the registers, and the read registers and the memories of RAMs.
 fn append_state(alloc: Global, design: &Design, items: &mut Vec<Item>) -> Result<(), AllocError>
@@ -44,9 +32,8 @@ fn append_state(alloc: Global, design: &Design, items: &mut Vec<Item>) -> Result
 fn append_values(alloc: Global, design: &Design, items: &mut Vec<Item>) -> Result<(), AllocError>
     ensures { OnOk result (EachFabric design.now (λ fabric. items.new.items ≡ items.old.items ++ (map (class_wire fabric) design.now.order ++ map (output_assign fabric) (outputs_of fabric)))) }
 {
-    let outputs = outputs_of(alloc, design)?;
     append_wires(alloc, design, design.order(), items)?;
-    append_outputs(alloc, design, &outputs, items)
+    append_outputs(alloc, design, design.outputs(), items)
 }
 
 /// Adds what changes the state: the registers, and the ports of RAMs.

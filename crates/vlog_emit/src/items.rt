@@ -1,22 +1,29 @@
 // Items.
-ghost use Rattle.std.specs.Prelude.{◌≡◌, ◌<◌, ◌++◌, option_to_list, IfOk, OnOk};
-ghost use Rattle.net_extract.specs.Within.{IsNetIn, IsPinIn, IsRamIn};
+ghost use Rattle.std.specs.Prelude.{◌≡◌, ◌<◌, ◌≤◌, ◌==◌, ◌++◌, false, option_to_list, IfOk, OnOk};
+ghost use Rattle.net_extract.specs.Within.{IsNetIn, IsRamIn};
+ghost use Rattle.net_extract.specs.Pins.{is_tri_state};
+ghost use Rattle.fabric_wiring.specs.Drives.{output_of};
 ghost use Rattle.fabric.specs.Design.{IsDesign};
 ghost use Rattle.fabric_module.specs.Names.{register_name};
-ghost use Rattle.fabric_module.specs.Written.{clock_name, port_of, register_item, read_register, ram_memory, class_wire, output_assign, flip_item, at_once_item, items_by, register_items, read_item, read_items, write_item, write_items};
-ghost use Rattle.vlog_emit.specs.Each.{EachFabric, IsRegisterIn, nets_in};
+ghost use Rattle.fabric_module.specs.Written.{clock_name, port_of, pin_ports, register_item, read_register, ram_memory, class_wire, output_assign, flip_item, at_once_item, items_by, register_items, read_item, read_items, write_item, write_items};
+ghost use Rattle.vlog_emit.specs.Each.{EachFabric, IsRegisterIn, IsRuleIn, nets_in};
 
-use crate::atoms::{input_atom, input_name, lut_of, port_atoms, setting_wire};
-use crate::names::{memory_name, port_name, read_name, register_name, wire_name};
+use crate::atoms::{
+    data_atoms, input_atom, input_name, lut_of, output_atom, pattern_of, port_atoms, setting_wire,
+    shift_atoms,
+};
+use crate::names::{
+    enable_name, memory_name, output_name, port_name, read_name, register_name, wire_name,
+};
 use crate::rights::class_right;
 use fabric::Design;
-use fabric_wiring::ClockEnd;
-use net_extract::{Pin, RamCell, Register};
+use fabric_wiring::{ClockEnd, Output};
+use net_extract::{Pin, PinKind, RamCell, Register};
 use std::alloc::{AllocError, Global};
 use vlog_module::{Item, Name, Port};
 
-/// The port of a pin.
-pub(crate) fn port_of(alloc: Global, pin: &Pin) -> Result<Port, AllocError>
+/// The port of a pin's value.
+fn port_of(alloc: Global, pin: &Pin) -> Result<Port, AllocError>
     ensures { IfOk result (λ port. port ≡ port_of pin.now) }
 {
     let name = port_name(alloc, pin)?;
@@ -24,6 +31,30 @@ pub(crate) fn port_of(alloc: Global, pin: &Pin) -> Result<Port, AllocError>
         name,
         output: pin.output,
     })
+}
+
+/// Adds the ports of a pin.
+pub(crate) fn append_ports(
+    alloc: Global,
+    pin: &Pin,
+    ports: &mut Vec<Port>,
+) -> Result<(), AllocError>
+    ensures { OnOk result (ports.new.items ≡ ports.old.items ++ pin_ports pin.now) }
+{
+    let port = port_of(alloc, pin)?;
+    ports.push(port)?;
+    if is_tri_state(pin) {
+        let name = enable_name(alloc, pin)?;
+        ports.push(Port { name, output: true })?;
+    }
+    Ok(())
+}
+
+/// Whether a pin is an output that can be switched off.
+fn is_tri_state(pin: &Pin) -> bool
+    ensures { result ≡ is_tri_state pin.now }
+{
+    pin.output && pin.kind == PinKind::TriState
 }
 
 /// A register.
@@ -61,13 +92,17 @@ pub(crate) fn class_wire(alloc: Global, design: &Design, class: u32) -> Result<I
     Ok(Item::Wire { name, right })
 }
 
-/// The value of an output pin.
-pub(crate) fn output_assign(alloc: Global, design: &Design, pin: &Pin) -> Result<Item, AllocError>
-    requires { IsPinIn (nets_in design.now) pin.now }
-    ensures { IfOk result (λ item. EachFabric design.now (λ fabric. item ≡ output_assign fabric pin.now)) }
+/// The value of an output.
+pub(crate) fn output_assign(
+    alloc: Global,
+    design: &Design,
+    output: &Output,
+) -> Result<Item, AllocError>
+    requires { IsRuleIn design.now output.now.rule }
+    ensures { IfOk result (λ item. EachFabric design.now (λ fabric. item ≡ output_assign fabric (output_of output.now))) }
 {
-    let name = port_name(alloc, pin)?;
-    let value = input_atom(alloc, design, false, pin.dout)?;
+    let name = output_name(alloc, output)?;
+    let value = output_atom(alloc, design, &output.rule)?;
     Ok(Item::Assign { name, value })
 }
 
@@ -212,24 +247,41 @@ pub(crate) fn append_register(
     }
 }
 
-/// The read port of a RAM with its clock.
+/// The read port of a RAM with its clock, by its mode.
 fn read_item(alloc: Global, design: &Design, ram: &RamCell, clock: Name) -> Result<Item, AllocError>
-    requires { IsRamIn (nets_in design.now) ram.now }
+    requires within { IsRamIn (nets_in design.now) ram.now }
+    requires mode { ram.now.read ≤ 3 }
     ensures { IfOk result (λ item. EachFabric design.now (λ fabric. item ≡ read_item fabric ram.now clock)) }
 {
+    let falling = ram.rneg;
     let clock_enable = input_atom(alloc, design, true, ram.rclke)?;
     let enable = input_atom(alloc, design, false, ram.re)?;
     let target = read_name(alloc, ram)?;
     let memory = memory_name(alloc, ram)?;
-    let address = port_atoms(alloc, design, &ram.raddr)?;
-    Ok(Item::Read {
-        falling: ram.rneg,
+    let address = port_atoms(alloc, design, &ram.raddr[..8])?;
+    if ram.read == 0 {
+        return Ok(Item::Read {
+            falling,
+            clock,
+            clock_enable,
+            enable,
+            target,
+            memory,
+            address,
+        });
+    }
+    let shift = shift_atoms(alloc, design, ram.read, &ram.raddr)?;
+    let pattern = pattern_of(ram.read);
+    Ok(Item::ReadNarrow {
+        falling,
         clock,
         clock_enable,
         enable,
         target,
         memory,
         address,
+        shift,
+        pattern,
     })
 }
 
@@ -242,6 +294,7 @@ pub(crate) fn append_read(
 ) -> Result<(), AllocError>
     requires design { IsDesign design.now }
     requires within { IsRamIn (nets_in design.now) ram.now }
+    requires mode { ram.now.read ≤ 3 }
     ensures { OnOk result (EachFabric design.now (λ fabric. items.new.items ≡ items.old.items ++ read_items fabric ram.now)) }
 {
     match clock_name(alloc, design, ram.rclk)? {
@@ -254,20 +307,21 @@ pub(crate) fn append_read(
     }
 }
 
-/// The write port of a RAM with its clock.
-fn write_item(
+/// The write port of a RAM whose words are written whole, with its clock.
+fn write_whole(
     alloc: Global,
     design: &Design,
     ram: &RamCell,
     clock: Name,
 ) -> Result<Item, AllocError>
-    requires { IsRamIn (nets_in design.now) ram.now }
+    requires within { IsRamIn (nets_in design.now) ram.now }
+    requires mode { ram.now.write ≡ 0 }
     ensures { IfOk result (λ item. EachFabric design.now (λ fabric. item ≡ write_item fabric ram.now clock)) }
 {
     let clock_enable = input_atom(alloc, design, true, ram.wclke)?;
     let enable = input_atom(alloc, design, false, ram.we)?;
     let memory = memory_name(alloc, ram)?;
-    let address = port_atoms(alloc, design, &ram.waddr)?;
+    let address = port_atoms(alloc, design, &ram.waddr[..8])?;
     let mask = port_atoms(alloc, design, &ram.mask)?;
     let bits = port_atoms(alloc, design, &ram.wdata)?;
     Ok(Item::Write {
@@ -282,6 +336,55 @@ fn write_item(
     })
 }
 
+/// The write port of a RAM whose words are written in parts, with its clock.
+fn write_narrow(
+    alloc: Global,
+    design: &Design,
+    ram: &RamCell,
+    clock: Name,
+) -> Result<Item, AllocError>
+    requires within { IsRamIn (nets_in design.now) ram.now }
+    requires mode { (ram.now.write == 0) ≡ false }
+    requires modes { ram.now.write ≤ 3 }
+    ensures { IfOk result (λ item. EachFabric design.now (λ fabric. item ≡ write_item fabric ram.now clock)) }
+{
+    let clock_enable = input_atom(alloc, design, true, ram.wclke)?;
+    let enable = input_atom(alloc, design, false, ram.we)?;
+    let memory = memory_name(alloc, ram)?;
+    let address = port_atoms(alloc, design, &ram.waddr[..8])?;
+    let shift = shift_atoms(alloc, design, ram.write, &ram.waddr)?;
+    let bits = data_atoms(alloc, design, ram.write, &ram.wdata)?;
+    Ok(Item::WriteNarrow {
+        falling: ram.wneg,
+        clock,
+        clock_enable,
+        enable,
+        memory,
+        address,
+        pattern: pattern_of(ram.write),
+        shift,
+        bits,
+    })
+}
+
+/// The write port of a RAM with its clock, by its mode.
+fn write_item(
+    alloc: Global,
+    design: &Design,
+    ram: &RamCell,
+    clock: Name,
+) -> Result<Item, AllocError>
+    requires within { IsRamIn (nets_in design.now) ram.now }
+    requires mode { ram.now.write ≤ 3 }
+    ensures { IfOk result (λ item. EachFabric design.now (λ fabric. item ≡ write_item fabric ram.now clock)) }
+{
+    if ram.write == 0 {
+        write_whole(alloc, design, ram, clock)
+    } else {
+        write_narrow(alloc, design, ram, clock)
+    }
+}
+
 /// Adds the write port of a RAM, where it has a clock.
 pub(crate) fn append_write(
     alloc: Global,
@@ -291,6 +394,7 @@ pub(crate) fn append_write(
 ) -> Result<(), AllocError>
     requires design { IsDesign design.now }
     requires within { IsRamIn (nets_in design.now) ram.now }
+    requires mode { ram.now.write ≤ 3 }
     ensures { OnOk result (EachFabric design.now (λ fabric. items.new.items ≡ items.old.items ++ write_items fabric ram.now)) }
 {
     match clock_name(alloc, design, ram.wclk)? {

@@ -1,8 +1,10 @@
 // The names of a module that is written for a design.
-ghost use Rattle.std.specs.Prelude.{◌≡◌, ◌≤◌, ◌++◌, length, IfOk};
-ghost use Rattle.fabric_module.specs.Names.{two_numbers, three_numbers, port_name, user_number, register_name, read_name, memory_name, wire_name};
+ghost use Rattle.std.specs.Prelude.{◌≡◌, ◌≤◌, ◌+◌, ◌++◌, length, IfOk};
+ghost use Rattle.fabric_wiring.specs.Drives.{output_of};
+ghost use Rattle.fabric_module.specs.Names.{two_numbers, three_numbers, port_name, enable_name, output_name, user_prefix, user_number, register_name, read_name, memory_name, wire_name};
 
 use crate::text::Text;
+use fabric_wiring::Output;
 use net_extract::{ClockUser, Pin, RamCell, Register};
 use std::alloc::{AllocError, Global};
 use vlog_module::Name;
@@ -17,22 +19,56 @@ pub(crate) fn port_name(alloc: Global, pin: &Pin) -> Result<Name, AllocError>
     Name::new(alloc, text.bytes())
 }
 
-/// The name of a register: `ff_X_Y_I`.
+/// The name of the port that tells whether a tri-state pin is switched on: `io_X_Y_N_en`.
+#[tactic(auto, unfolding(fabric_module::specs::Names::enable_name, fabric_module::specs::Names::port_name))]
+pub(crate) fn enable_name(alloc: Global, pin: &Pin) -> Result<Name, AllocError>
+    ensures { IfOk result (λ name. name ≡ enable_name pin.now) }
+{
+    let (x, y, n) = (pin.x, pin.y, pin.n);
+    let mut text = three_numbers(b"io_", x, y, n);
+    text.push(b"_en");
+    Name::new(alloc, text.bytes())
+}
+
+/// The name of an output's port.
+pub(crate) fn output_name(alloc: Global, output: &Output) -> Result<Name, AllocError>
+    ensures { IfOk result (λ name. name ≡ output_name (output_of output.now)) }
+{
+    if output.enable {
+        enable_name(alloc, &output.pin)
+    } else {
+        port_name(alloc, &output.pin)
+    }
+}
+
+/// The name of a register: `ff_X_Y_I`, `pi_X_Y_N` or `po_X_Y_N`.
 #[tactic(auto, unfolding(fabric_module::specs::Names::register_name))]
 pub(crate) fn register_name(alloc: Global, register: &Register) -> Result<Name, AllocError>
     ensures { IfOk result (λ name. name ≡ register_name register.now) }
 {
     let (x, y, n) = (register.x, register.y, user_number(register.user));
-    let text = three_numbers(b"ff_", x, y, n);
+    let text = three_numbers(user_prefix(register.user), x, y, n);
     Name::new(alloc, text.bytes())
 }
 
-/// The number of a register's user in its tile. The ports of RAMs are no registers of one bit.
+/// The beginning of a register's name. The ports of RAMs are no registers of one bit.
+fn user_prefix(user: ClockUser) -> &'static [u8]
+    ensures { result.now ≡ user_prefix user }
+{
+    match user {
+        ClockUser::Cell { .. } | ClockUser::Read | ClockUser::Write => b"ff_",
+        ClockUser::Input { .. } => b"pi_",
+        ClockUser::Output { .. } => b"po_",
+    }
+}
+
+/// The number of a register's user in its tile.
 fn user_number(user: ClockUser) -> u8
     ensures { result ≡ user_number user }
 {
     match user {
         ClockUser::Cell { i } => i,
+        ClockUser::Input { n } | ClockUser::Output { n } => n,
         ClockUser::Read | ClockUser::Write => 0,
     }
 }
@@ -84,7 +120,8 @@ fn two_numbers(before: &[u8], x: u8, y: u8) -> Text
 #[tactic(auto, unfolding(fabric_module::specs::Names::three_numbers))]
 fn three_numbers(before: &[u8], x: u8, y: u8, n: u8) -> Text
     requires { length before.now ≤ 4 }
-    ensures { result ≡ before.now ++ three_numbers x y n }
+    ensures text { result ≡ before.now ++ three_numbers x y n }
+    ensures short { length result ≤ length before.now + 11 }
 {
     let mut text = Text::of(before);
     text.push_small(x);

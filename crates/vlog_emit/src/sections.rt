@@ -1,29 +1,30 @@
 // The sections of a module.
-ghost use Rattle.std.specs.Prelude.{◌≡◌, ◌<◌, ◌++◌, All, map, flat_map, length, IfOk, OnOk};
+ghost use Rattle.std.specs.Prelude.{◌≡◌, ◌<◌, ◌≤◌, ◌++◌, All, map, flat_map, length, IfOk, OnOk};
 ghost use Rattle.net_extract.specs.Fabric.{numbered};
-ghost use Rattle.net_extract.specs.Within.{IsPinIn, IsRamIn};
+ghost use Rattle.net_extract.specs.Within.{IsRamIn};
+ghost use Rattle.fabric_wiring.specs.Drives.{output_of};
 ghost use Rattle.fabric.specs.Design.{IsDesign};
-ghost use Rattle.fabric_module.specs.Written.{port_of, register_item, read_register, ram_memory, class_wire, output_assign, register_items, read_items, write_items, start_items};
-ghost use Rattle.vlog_emit.specs.Each.{EachFabric, IsRegisterIn, nets_in};
+ghost use Rattle.fabric_module.specs.Written.{pin_ports, register_item, read_register, ram_memory, class_wire, output_assign, register_items, read_items, write_items, start_items};
+ghost use Rattle.vlog_emit.specs.Each.{EachFabric, IsRegisterIn, IsRuleIn, nets_in};
 
 use crate::items::{
-    append_read, append_register, append_write, class_wire, output_assign, port_of, ram_memory,
-    read_register, register_item,
+    append_ports, append_read, append_register, append_write, class_wire, output_assign,
+    ram_memory, read_register, register_item,
 };
 use crate::names::memory_name;
 use fabric::Design;
+use fabric_wiring::Output;
 use net_extract::{Pin, RamCell, Register};
 use std::alloc::{AllocError, Global};
 use vlog_module::{Item, Port};
 
 /// The ports of pins.
 pub(crate) fn ports_of(alloc: Global, pins: &[Pin]) -> Result<Vec<Port>, AllocError>
-    ensures { IfOk result (λ ports. ports.items ≡ map port_of pins.now) }
+    ensures { IfOk result (λ ports. ports.items ≡ flat_map pin_ports pins.now) }
 {
     let mut ports = Vec::new(alloc);
     for pin in pins {
-        let port = port_of(alloc, pin)?;
-        ports.push(port)?;
+        append_ports(alloc, pin, &mut ports)?;
     }
     Ok(ports)
 }
@@ -91,18 +92,18 @@ pub(crate) fn append_wires(
     Ok(())
 }
 
-/// Adds the values of output pins.
+/// Adds the values of outputs.
 pub(crate) fn append_outputs(
     alloc: Global,
     design: &Design,
-    outputs: &[Pin],
+    outputs: &[Output],
     items: &mut Vec<Item>,
 ) -> Result<(), AllocError>
-    requires { All (IsPinIn (nets_in design.now)) outputs.now }
-    ensures { OnOk result (EachFabric design.now (λ fabric. items.new.items ≡ items.old.items ++ map (output_assign fabric) outputs.now)) }
+    requires { All (λ output. IsRuleIn design.now output.rule) outputs.now }
+    ensures { OnOk result (EachFabric design.now (λ fabric. items.new.items ≡ items.old.items ++ map (output_assign fabric) (map output_of outputs.now))) }
 {
-    for pin in outputs {
-        let item = output_assign(alloc, design, pin)?;
+    for output in outputs {
+        let item = output_assign(alloc, design, output)?;
         items.push(item)?;
     }
     Ok(())
@@ -134,6 +135,7 @@ pub(crate) fn append_reads(
 ) -> Result<(), AllocError>
     requires design { IsDesign design.now }
     requires within { All (IsRamIn (nets_in design.now)) rams.now }
+    requires modes { All (λ ram. ram.read ≤ 3) rams.now }
     ensures { OnOk result (EachFabric design.now (λ fabric. items.new.items ≡ items.old.items ++ flat_map (read_items fabric) rams.now)) }
 {
     for ram in rams {
@@ -151,6 +153,7 @@ pub(crate) fn append_writes(
 ) -> Result<(), AllocError>
     requires design { IsDesign design.now }
     requires within { All (IsRamIn (nets_in design.now)) rams.now }
+    requires modes { All (λ ram. ram.write ≤ 3) rams.now }
     ensures { OnOk result (EachFabric design.now (λ fabric. items.new.items ≡ items.old.items ++ flat_map (write_items fabric) rams.now)) }
 {
     for ram in rams {

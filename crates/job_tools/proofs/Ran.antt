@@ -1,6 +1,6 @@
 -- The run of a design's module is that of its fabric.
 use Rattle.std.proofs.Common.{◌≡◌, ℕ, ◌<◌, Bool, false, List, length, map, sym, ap, ◌∙◌, subst}
-use Rattle.std.specs.Prelude.{All, filter, not}
+use Rattle.std.specs.Prelude.{All, filter, flat_map, not}
 use Rattle.std.proofs.lemmas.List.{length-map}
 use Rattle.std.proofs.lemmas.List.Elements.{All-map}
 use Rattle.ice_image.specs.Configuration.{Configuration}
@@ -17,8 +17,8 @@ use Rattle.fabric.specs.Kept.{Kept}
 use Rattle.fabric.specs.Design.{IsDesignOf, IsDesign}
 use Rattle.fabric_module.specs.Matching.{module_event}
 use Rattle.fabric_module.specs.Names.{port_name}
-use Rattle.fabric_module.specs.Written.{port_of, module_of}
-use Rattle.fabric_module.proofs.Beginning.{inputs-start}
+use Rattle.fabric_module.specs.Written.{pin_ports, module_of}
+use Rattle.fabric_module.proofs.Ports.{inputs-start}
 use Rattle.vlog_emit.specs.Runs.{RunsAs}
 use Rattle.job_tools.specs.declared.counting.Ran.{Ran}
 use Rattle.job_tools.specs.Counted.{events_for, ones_in}
@@ -29,7 +29,7 @@ use Rattle.job_tools.proofs.Runs.{bits-alike}
 -- ---- pins
 
 -- the module has an input for each input pin
-inputs-count : (pins : List Pin) → length (input_names (map port_of pins)) ≡ length (filter (λ pin. not pin.output) pins)
+inputs-count : (pins : List Pin) → length (input_names (flat_map pin_ports pins)) ≡ length (filter (λ pin. not pin.output) pins)
 inputs-count pins =
     let inputs = filter (λ (pin : Pin). not pin.output) pins in
     ap (λ (names : List (List ℕ × Bool)). length (names_of names)) (inputs-start pins)
@@ -46,7 +46,7 @@ inputs-named design name made m events is module_is events_are =
     let image = is.1 in
     let kept = is.2.kept in
     let pins = (fabric_of db image).pins in
-    let ports : m.ports ≡ map port_of pins = ap (λ (one : Parts). one.ports) (module_is db image is.2) in
+    let ports : m.ports ≡ flat_map pin_ports pins = ap (λ (one : Parts). one.ports) (module_is db image is.2) in
     let count : length design.inputs ≡ length (input_names m.ports) =
     ap (λ (list : List Pin). length list) kept.inputs ∙ sym (ap (λ (list : List Port). length (input_names list)) ports ∙ inputs-count pins) in
     let among : All (λ (event : ModuleEvent). event.pin < length design.inputs) (map module_event (events_for design.inputs made)) =

@@ -1,5 +1,5 @@
 -- The module of a design is that of each fabric whose design is kept, and it is well-formed and runs as the fabric.
-use Rattle.std.proofs.Common.{◌≡◌, ℕ, List, map, sym, ap, ◌∙◌, subst}
+use Rattle.std.proofs.Common.{◌≡◌, ℕ, List, flat_map, sym, ap, ◌∙◌, subst}
 use Rattle.ice_image.specs.Configuration.{Configuration}
 use Rattle.chipdb_reader.specs.Database.{Database}
 use Rattle.vlog_module.specs.Names.{IsName}
@@ -8,7 +8,7 @@ use Rattle.vlog_module.specs.WellFormed.{IsModule}
 use Rattle.net_extract.specs.Fabric.{Fabric, fabric_of}
 use Rattle.fabric.specs.Kept.{Kept, IsKeptOf}
 use Rattle.fabric.specs.Design.{IsDesign, IsDesignOf}
-use Rattle.fabric_module.specs.Written.{port_of, items_of, module_of}
+use Rattle.fabric_module.specs.Written.{pin_ports, items_of, module_of}
 use Rattle.fabric_module.specs.Law.{ModuleIsFabric}
 use Rattle.vlog_emit.specs.Each.{EachFabric}
 use Rattle.vlog_emit.specs.Runs.{RunsAs}
@@ -20,14 +20,14 @@ parts-same one two of_name of_ports of_items =
     ∙ ap (λ i. record { name = two.name; ports = two.ports; items = i }) of_items)
 
 module _ (law : (db : Database) (image : Configuration) → ModuleIsFabric db image) (design : Kept) (name : List ℕ) (is_name : IsName name) (made : Parts)
-    (of_name : made.name ≡ name) (of_ports : made.ports ≡ map port_of design.parts.pins.items)
+    (of_name : made.name ≡ name) (of_ports : made.ports ≡ flat_map pin_ports design.parts.pins.items)
     (of_items : EachFabric design (λ fabric. made.items ≡ items_of fabric design.order)) where
   -- the module of each fabric whose design is kept
   made-each : (fabric : Fabric) → IsKeptOf fabric design → made ≡ module_of fabric design.order name
   unfolding module_of
   made-each fabric kept =
-      parts-same made (record { name = name; ports = map port_of fabric.pins; items = items_of fabric design.order }) of_name
-      (of_ports ∙ ap (map port_of) kept.parts.pins) (of_items fabric kept)
+      parts-same made (record { name = name; ports = flat_map pin_ports fabric.pins; items = items_of fabric design.order }) of_name
+      (of_ports ∙ ap (flat_map pin_ports) kept.parts.pins) (of_items fabric kept)
 
   pub made-is : (db : Database) (image : Configuration) → IsDesignOf db image design → made ≡ module_of (fabric_of db image) design.order name
   made-is db image of = made-each (fabric_of db image) of.kept

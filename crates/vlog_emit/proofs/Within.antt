@@ -1,15 +1,18 @@
 -- The parts of a design and what its drivers name are there.
-use Rattle.std.proofs.Common.{◌≡◌, ℕ, ◌<◌, true, [], ◌∷◌, ◌++◌, length, map, get_or, refl, sym, ap, ◌∙◌, subst, arith, inl, inr}
+use Rattle.std.proofs.Common.{◌≡◌, ℕ, ◌<◌, ◌≤◌, true, [], ◌∷◌, ◌++◌, length, map, get_or, refl, sym, ap, ◌∙◌, subst, arith, inl, inr}
 use Rattle.std.specs.Prelude.{All, Contains, Option, Some, None, filter, option_to_list}
 use Rattle.std.proofs.lemmas.Bool.{cases_Bool}
-use Rattle.std.proofs.lemmas.List.Elements.{All-from_get_or, All-filter, All-contains}
+use Rattle.std.proofs.lemmas.List.Elements.{All-from_get_or, All-nil, All-cons, All-head, All-tail, All-contains, All-contains_itself, All-weaker}
 use Rattle.shared_lemmas.proofs.Lists.{All-both}
-use Rattle.net_extract.specs.Fabric.{fabric_of}
+use Rattle.net_extract.specs.Fabric.{Fabric, fabric_of}
 use Rattle.net_extract.specs.declared.register.Source.{Source}
 use Rattle.net_extract.specs.declared.register.Source.TheVariants.{Net, Pin as SourcePin}
 use Rattle.net_extract.specs.declared.register.Register.{Register}
 use Rattle.net_extract.specs.Within.{IsNetIn, IsPinIn, IsRamIn, IsSourceIn as IsNetSourceIn, IsRegisterIn as IsNetRegisterIn}
 use Rattle.net_extract.specs.Drivers.{drivers_of, drives_of, is_driven, nets_read}
+use Rattle.net_extract.specs.Outputs.{Output, outputs_of}
+use Rattle.net_extract.specs.Drivers.{Rule}
+use Rattle.net_extract.specs.Drivers.Rule.{pin_bit, constant, input, table_entry, majority_of, register_bit, read_bit, copied}
 use Rattle.net_extract.specs.Clocks.{clock_end}
 use Rattle.net_extract.specs.Clocks.ClockEnd.{at_pin}
 use Rattle.net_extract.specs.Wiring.{has}
@@ -23,12 +26,16 @@ use Rattle.fabric_wiring.specs.declared.drive.Rule.{Rule as KeptRule}
 use Rattle.fabric_wiring.specs.declared.drive.Rule.TheVariants.{PinBit, Constant, Input, TableEntry, MajorityOf, RegisterBit, ReadBit, Copied}
 use Rattle.fabric_wiring.specs.declared.drive.Drive.{Drive as KeptDrive}
 use Rattle.fabric_wiring.specs.Drives.{drive_of, rule_of}
+use Rattle.fabric_wiring.specs.declared.output_pins.Output.{Output as KeptOutput}
+use Rattle.fabric_wiring.specs.Outputs.{output_of}
 use Rattle.fabric_wiring.specs.DriverLists.{driver_in}
 use Rattle.fabric_wiring.specs.Ends.{end_in}
 use Rattle.fabric.specs.Kept.{Kept}
 use Rattle.fabric.specs.Design.{IsDesign}
 use Rattle.fabric_module.proofs.Lists.{item-there}
-use Rattle.fabric_module.proofs.Rights.{IsSourceThere, IsPlaceIn, source-there}
+use Rattle.fabric_module.proofs.Rights.{IsSourceThere, IsPlaceIn, IsOutputRule, source-there, outputs-ruled}
+use Rattle.fabric_module.proofs.Beginning.{IsPorted}
+use Rattle.fabric_module.proofs.Configured.{fabric-started}
 use Rattle.fabric_module.proofs.Settled.{IsWritable}
 use Rattle.fabric_module.proofs.Ticks.{leads-place}
 use Rattle.fabric_module.proofs.Design.{fabric-writable}
@@ -46,6 +53,24 @@ net-from nets (Some n) each = each n refl
 source-from : (nets : ℕ) (source : Source) → ((n : ℕ) → source ≡ Net (Some n) → n < nets) → IsNetSourceIn nets source
 source-from nets (Net net) each = net-from nets net (λ n at. each n (ap Net at))
 source-from nets (SourcePin place) each = tt
+
+-- what holds of each item of a changed list holds of each item, once it is changed
+all-unmapped : {A B : Type 0} (P : B → Type 0) (change : A → B) (list : List A) → All P (map change list) → All (λ item. P (change item)) list
+all-unmapped P change [] all = All-nil (λ item. P (change item))
+all-unmapped P change (item ∷ list) all =
+    All-cons (λ one. P (change one)) item list (All-head P (change item) (map change list) all)
+    (all-unmapped P change list (All-tail P (change item) (map change list) all))
+
+-- what the rule of an output names is there
+output-place : (fabric : Fabric) (rule : Rule) → IsOutputRule fabric rule → IsPlaceIn fabric rule
+output-place fabric (pin_bit place) is = absurd is
+output-place fabric (constant bit) is = tt
+output-place fabric (input stated net) is = tt
+output-place fabric (table_entry table) is = absurd is
+output-place fabric (majority_of a b c) is = absurd is
+output-place fabric (register_bit place register) is = is
+output-place fabric (read_bit ram bit) is = absurd is
+output-place fabric (copied net) is = absurd is
 
 -- ---- the parts
 
@@ -82,13 +107,20 @@ module _ (design : Kept) (is : IsDesign design) where
       subst (λ nets. All (IsPinIn nets) design.parts.pins.items) (sym count)
       (subst (All (IsPinIn (fabric_of is.0 is.1).nets)) (sym is.2.kept.parts.pins) is.2.kept.parts.within.pins)
 
-  pub outputs-within : All (IsPinIn (nets_in design)) (filter (λ pin. pin.output) design.parts.pins.items)
-  outputs-within = All-filter (λ pin. pin.output) (IsPinIn (nets_in design)) design.parts.pins.items pins-within
-
   pub rams-within : All (IsRamIn (nets_in design)) design.parts.rams.items
   rams-within =
       subst (λ nets. All (IsRamIn nets) design.parts.rams.items) (sym count)
       (subst (All (IsRamIn (fabric_of is.0 is.1).nets)) (sym is.2.kept.parts.rams) is.2.kept.parts.within.rams)
+
+  ported : All IsPorted design.parts.rams.items
+  ported = subst (All IsPorted) (sym is.2.kept.parts.rams) (fabric-started is.0 is.1).each_port
+
+  -- the modes of RAMs are 0 to 3
+  pub reads-moded : All (λ ram. ram.read ≤ 3) design.parts.rams.items
+  reads-moded = All-weaker IsPorted (λ ram. ram.read ≤ 3) (λ ram of_ram. of_ram.read_mode) design.parts.rams.items ported
+
+  pub writes-moded : All (λ ram. ram.write ≤ 3) design.parts.rams.items
+  writes-moded = All-weaker IsPorted (λ ram. ram.write ≤ 3) (λ ram of_ram. of_ram.write_mode) design.parts.rams.items ported
 
   pub order-within : All (λ class. class < nets_in design) design.order
   order-within = All-from_get_or (λ class. class < nets_in design) design.order 0 (λ place less.
@@ -124,6 +156,28 @@ module _ (design : Kept) (is : IsDesign design) where
       All-contains (IsRegisterIn design) design.parts.registers.items register registers-within among
   rule-in (ReadBit ram bit) there reads = subst (λ rams. ram < length rams) (sym is.2.kept.parts.rams) there.0
   rule-in (Copied net) there reads = reads net (has-first net [])
+
+  -- the rule of an output names what is there
+  RuleThere : Output → Type 0
+  RuleThere output =
+      IsOutputRule (fabric_of is.0 is.1) output.rule
+      × ((net : ℕ) → has (nets_read output.rule) net ≡ true → net < (fabric_of is.0 is.1).nets)
+
+  outputs-there : All RuleThere (outputs_of (fabric_of is.0 is.1))
+  outputs-there =
+      let fabric = fabric_of is.0 is.1 in
+      All-weaker (Contains (outputs_of fabric)) RuleThere
+      (λ output there. (
+        All-contains (λ (one : Output). IsOutputRule fabric one.rule) (outputs_of fabric) output (outputs-ruled fabric) there,
+        (fabric-within is.0 is.1 is.2.fit).outputs-within output there,
+      )) (outputs_of fabric) (All-contains_itself (outputs_of fabric))
+
+  pub outputs-within : All (λ output. IsRuleIn design output.rule) design.outputs
+  outputs-within =
+      All-weaker (λ output. RuleThere (output_of output)) (λ output. IsRuleIn design output.rule)
+      (λ output there. rule-in output.rule (output-place (fabric_of is.0 is.1) (rule_of output.rule) there.0)
+      (λ net reads. let below : net < (fabric_of is.0 is.1).nets = there.1 net reads in let nets = count in omega arith))
+      design.outputs (all-unmapped RuleThere output_of design.outputs (subst (All RuleThere) (sym is.2.kept.outputs) outputs-there))
 
   -- what the driver of a class names
   pub driver-within : (class : ℕ) → class < nets_in design → (drive : KeptDrive) → driver_in design.drivers class ≡ Some drive → IsRuleIn design drive.rule

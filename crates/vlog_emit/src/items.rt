@@ -2,7 +2,7 @@
 ghost use Rattle.std.specs.Prelude.{◌≡◌, ◌<◌, ◌≤◌, ◌==◌, ◌++◌, false, option_to_list, IfOk, OnOk};
 ghost use Rattle.net_extract.specs.Within.{IsNetIn, IsRamIn};
 ghost use Rattle.net_extract.specs.Pins.{is_tri_state};
-ghost use Rattle.fabric_wiring.specs.Drives.{output_of};
+ghost use Rattle.fabric_wiring.specs.Outputs.{output_of};
 ghost use Rattle.fabric.specs.Design.{IsDesign};
 ghost use Rattle.fabric_module.specs.Names.{register_name};
 ghost use Rattle.fabric_module.specs.Written.{clock_name, port_of, pin_ports, register_item, read_register, ram_memory, class_wire, output_assign, flip_item, at_once_item, items_by, register_items, read_item, read_items, write_item, write_items};

@@ -1,6 +1,6 @@
 // The names of a module that is written for a design.
 ghost use Rattle.std.specs.Prelude.{◌≡◌, ◌≤◌, ◌+◌, ◌++◌, length, IfOk};
-ghost use Rattle.fabric_wiring.specs.Drives.{output_of};
+ghost use Rattle.fabric_wiring.specs.Outputs.{output_of};
 ghost use Rattle.fabric_module.specs.Names.{two_numbers, three_numbers, port_name, enable_name, output_name, user_prefix, user_number, register_name, read_name, memory_name, wire_name};
 
 use crate::text::Text;

@@ -2,7 +2,7 @@
 ghost use Rattle.std.specs.Prelude.{◌≡◌, ◌<◌, ◌≤◌, ◌++◌, All, map, flat_map, length, IfOk, OnOk};
 ghost use Rattle.net_extract.specs.Fabric.{numbered};
 ghost use Rattle.net_extract.specs.Within.{IsRamIn};
-ghost use Rattle.fabric_wiring.specs.Drives.{output_of};
+ghost use Rattle.fabric_wiring.specs.Outputs.{output_of};
 ghost use Rattle.fabric.specs.Design.{IsDesign};
 ghost use Rattle.fabric_module.specs.Written.{pin_ports, register_item, read_register, ram_memory, class_wire, output_assign, register_items, read_items, write_items, start_items};
 ghost use Rattle.vlog_emit.specs.Each.{EachFabric, IsRegisterIn, IsRuleIn, nets_in};

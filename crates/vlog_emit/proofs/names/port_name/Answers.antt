@@ -3,4 +3,4 @@ use Rattle.vlog_emit.proofs.Named.{port-bytes}
 use Rattle.vlog_emit.proofs.names.port_name.Goals as goal
 
 pub new-requires : goal.new-requires
-new-requires c = port-bytes c.args.pin.now c.bytes.result.now (c.bytes.ensures ∙ c.three_numbers-text.ensures) (omega arith) (omega arith) (omega arith)
+new-requires c = port-bytes c.args.pin.now c.bytes.result.now (c.bytes.ensures ∙ c.three_numbers-text.ensures.text) (omega arith) (omega arith) (omega arith)

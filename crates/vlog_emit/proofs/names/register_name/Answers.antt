@@ -1,5 +1,4 @@
-use Rattle.std.proofs.Common.{ap, ◌∙◌, ◌++◌, subst, arith}
-use Rattle.std.specs.Prelude.{codes}
+use Rattle.std.proofs.Common.{ap, ap₂, ◌∙◌, ◌++◌, subst, arith}
 use Rattle.fabric_module.specs.Names.{three_numbers}
 use Rattle.fabric_module.proofs.Apart.{IsSmall}
 use Rattle.vlog_emit.proofs.Named.{register-bytes}
@@ -8,5 +7,6 @@ use Rattle.vlog_emit.proofs.names.register_name.Goals as goal
 pub new-requires : goal.new-requires
 new-requires c =
     register-bytes c.args.register.now c.bytes.result.now
-    (c.bytes.ensures ∙ (c.three_numbers-text.ensures ∙ ap (λ n. codes "ff_" ++ three_numbers c.args.register.now.x c.args.register.now.y n) c.user_number-n.ensures))
+    (c.bytes.ensures ∙ (c.three_numbers-text.ensures.text
+    ∙ ap₂ (λ prefix n. prefix ++ three_numbers c.args.register.now.x c.args.register.now.y n) c.user_prefix.ensures c.user_number-n.ensures))
     (omega arith) (omega arith) (subst IsSmall c.user_number-n.ensures (omega arith))

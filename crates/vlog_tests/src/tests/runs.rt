@@ -147,11 +147,7 @@ fn narrow_words_by(runner: &mut Runner, events: &[Event]) -> [Option<u16>; 3]
 }
 
 /// The word and the registers after some events, each of an input of the module.
-fn narrow_words_after(
-    alloc: Global,
-    module: &Module,
-    events: &[Event],
-) -> Option<[Option<u16>; 3]>
+fn narrow_words_after(alloc: Global, module: &Module, events: &[Event]) -> Option<[Option<u16>; 3]>
     requires { All (λ event. event.pin < length (input_names «module».now.ports)) events.now }
 {
     match Runner::new(alloc, module) {

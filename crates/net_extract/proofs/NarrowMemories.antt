@@ -1,10 +1,12 @@
 -- A used RAM of a narrow mode is a memory of narrow words, in each run of a fabric.
-use Rattle.std.proofs.Common.{◌≡◌, ◌≢◌, ℕ, zero, suc, ◌+◌, ◌*◌, ◌/◌, ◌%◌, ◌^◌, ◌<◌, ◌&&◌, ◌==◌, Bool, true, false, List, [], ◌∷◌, ◌++◌, length, map, take, drop, get_or, set, refl, sym, ap, ◌∙◌, subst, inl, inr, arith, eq-eqb, ne_eqb, length-append, if◌then◌else◌}
+use Rattle.std.proofs.Common.{◌≡◌, ◌≢◌, ℕ, zero, suc, ◌+◌, ◌*◌, ◌/◌, ◌%◌, ◌^◌, ◌<◌, ◌≤◌, ◌&&◌, ◌==◌, Bool, true, false, List, [], ◌∷◌, ◌++◌, length, map, take, drop, get_or, set, refl, sym, ap, ◌∙◌, subst, inl, inr, arith, eq-eqb, ne_eqb, length-append, if◌then◌else◌}
 use Rattle.std.specs.Prelude.{All, Contains, Option, None}
 use Rattle.std.proofs.lemmas.Bool.{cases_Bool}
 use Rattle.std.proofs.lemmas.Bool.Decides.{eqb_tells}
 use Rattle.std.proofs.lemmas.Grind.{get_or-set_at}
+use Rattle.std.proofs.Math.Nat.{mul_comm, mul-mod_right, le-div_iff_mul-le, div-lt_iff_lt-mul}
 use Rattle.std.proofs.Math.Seq.{take-add}
+use Rattle.std.proofs.lemmas.Nat.{mod-mul-add, div-mul-add, pow_pos}
 use Rattle.std.proofs.lemmas.List.{get_or-set_other, length-map, length-set, length-take-le, length-drop, map-append}
 use Rattle.std.proofs.lemmas.List.Elements.{All-nil, All-cons, All-map, All-set, All-get_or, All-weaker, All-contains, All-contains_itself}
 use Rattle.place_search.specs.Places.{gathered_below}
@@ -34,62 +36,22 @@ use Rattle.net_extract.proofs.Settling.{numbered-read}
 -- ---- bits of narrow words in a word
 
 -- the place in a word of a bit of a narrow word tells the high part and the bit
-record IsBitPlace (mode d high : ℕ) : Type 0 where
-  rest : (share mode * d + high) % share mode ≡ high
-  part : (share mode * d + high) / share mode ≡ d
+rest-is : (each d high : ℕ) → high < each → (each * d + high) % each ≡ high
+rest-is each d high less = ap (λ bits. (bits + high) % each) (mul_comm each d) ∙ mod-mul-add d each high less
 
-bit-place : (mode d high : ℕ) → mode < 4 → high < share mode → IsBitPlace mode d high
-bit-place zero d high few less =
-    let least : high < 1 = less in
-    let rest : (1 * d + high) % 1 ≡ high = omega (arith, least) in
-    let part : (1 * d + high) / 1 ≡ d = omega (arith, least) in
-    record { rest = rest; part = part }
-bit-place (suc zero) d high few less =
-    let least : high < 2 = less in
-    let rest : (2 * d + high) % 2 ≡ high = omega (arith, least) in
-    let part : (2 * d + high) / 2 ≡ d = omega (arith, least) in
-    record { rest = rest; part = part }
-bit-place (suc (suc zero)) d high few less =
-    let least : high < 4 = less in
-    let rest : (4 * d + high) % 4 ≡ high = omega (arith, least) in
-    let part : (4 * d + high) / 4 ≡ d = omega (arith, least) in
-    record { rest = rest; part = part }
-bit-place (suc (suc (suc zero))) d high few less =
-    let least : high < 8 = less in
-    let rest : (8 * d + high) % 8 ≡ high = omega (arith, least) in
-    let part : (8 * d + high) / 8 ≡ d = omega (arith, least) in
-    record { rest = rest; part = part }
-bit-place (suc (suc (suc (suc mode)))) d high few less = absurd (omega (arith, few))
+part-is : (each d high : ℕ) → high < each → (each * d + high) / each ≡ d
+part-is each d high less = ap (λ bits. (bits + high) / each) (mul_comm each d) ∙ div-mul-add d each high less
 
-bit-inside : (mode d high : ℕ) → mode < 4 → high < share mode → d < 16 / share mode → share mode * d + high < 16
-bit-inside zero d high few less short =
-    let least : high < 1 = less in let bits : d < 16 = short in let inside : 1 * d + high < 16 = omega (arith, least, bits) in inside
-bit-inside (suc zero) d high few less short =
-    let least : high < 2 = less in let bits : d < 8 = short in let inside : 2 * d + high < 16 = omega (arith, least, bits) in inside
-bit-inside (suc (suc zero)) d high few less short =
-    let least : high < 4 = less in let bits : d < 4 = short in let inside : 4 * d + high < 16 = omega (arith, least, bits) in inside
-bit-inside (suc (suc (suc zero))) d high few less short =
-    let least : high < 8 = less in let bits : d < 2 = short in let inside : 8 * d + high < 16 = omega (arith, least, bits) in inside
-bit-inside (suc (suc (suc (suc mode)))) d high few less short = absurd (omega (arith, few))
+-- it stands inside the word
+bit-inside : (each d high : ℕ) → high < each → d < 16 / each → each * d + high < 16
+bit-inside each d high less short =
+    let positive : 0 < each = omega (arith, less) in
+    let most : suc d * each ≤ 16 = (le-div_iff_mul-le positive).0 (omega (arith, short)) in
+    omega (arith, less, most, mul_comm each d)
 
-share-positive : (mode : ℕ) → mode < 4 → 0 < share mode
-share-positive zero few = let least : 0 < 1 = omega arith in least
-share-positive (suc zero) few = let least : 0 < 2 = omega arith in least
-share-positive (suc (suc zero)) few = let least : 0 < 4 = omega arith in least
-share-positive (suc (suc (suc zero))) few = let least : 0 < 8 = omega arith in least
-share-positive (suc (suc (suc (suc mode)))) few = absurd (omega (arith, few))
-
--- the first part of a word behind which a narrow word may stand
-high-of : (mode address : ℕ) → mode < 4 → address < 256 * share mode → address / 256 < share mode
-high-of zero address few less =
-    let least : address < 256 * 1 = less in let high : address / 256 < 1 = omega (arith, least) in high
-high-of (suc zero) address few less =
-    let least : address < 256 * 2 = less in let high : address / 256 < 2 = omega (arith, least) in high
-high-of (suc (suc zero)) address few less =
-    let least : address < 256 * 4 = less in let high : address / 256 < 4 = omega (arith, least) in high
-high-of (suc (suc (suc zero))) address few less =
-    let least : address < 256 * 8 = less in let high : address / 256 < 8 = omega (arith, least) in high
-high-of (suc (suc (suc (suc mode)))) address few less = absurd (omega (arith, few))
+-- an address of narrow words has a high part below the share
+high-of : (each address : ℕ) → address < 256 * each → address / 256 < each
+high-of each address inside = (div-lt_iff_lt-mul (omega arith)).1 (omega (arith, inside))
 
 -- the port bit of a narrow bit, by modes
 data_bit-is : (mode d : ℕ) → 0 < mode → mode < 4 → data_bit mode d ≡ port_place mode d
@@ -99,25 +61,20 @@ data_bit-is (suc (suc zero)) d narrow few = refl
 data_bit-is (suc (suc (suc zero))) d narrow few = refl
 data_bit-is (suc (suc (suc (suc mode)))) d narrow few = absurd (omega (arith, few))
 
-module _ (mode d high : ℕ) (few : mode < 4) (less : high < share mode) where
+module _ (mode d high : ℕ) (less : high < share mode) where
   -- the bits of the narrow word that is put
   put-there : (word value : ℕ → Bool) → put_bit mode word high value (share mode * d + high) ≡ value d
   put-there word value =
-      let place = bit-place mode d high few less in
-      rw (eq-eqb ((share mode * d + high) % share mode) high place.rest) (ap value place.part)
+      rw (eq-eqb ((share mode * d + high) % share mode) high (rest-is (share mode) d high less)) (ap value (part-is (share mode) d high less))
 
   -- those of the others
   put-away : (word value : ℕ → Bool) (other : ℕ) → high ≢ other → put_bit mode word other value (share mode * d + high) ≡ word (share mode * d + high)
   put-away word value other away =
-      let place = bit-place mode d high few less in
-      rw (ne_eqb ((share mode * d + high) % share mode) other (λ same. away (sym place.rest ∙ same))) refl
+      rw (ne_eqb ((share mode * d + high) % share mode) other (λ same. away (sym (rest-is (share mode) d high less) ∙ same))) refl
 
 -- what is got of a narrow word
-got-there : (mode d : ℕ) (few : mode < 4) (word : ℕ → Bool) (high : ℕ) → got_bit mode word high (share mode * d) ≡ word (share mode * d + high)
-got-there mode d few word high =
-    let place = bit-place mode d 0 few (share-positive mode few) in
-    let same : share mode * d + 0 ≡ share mode * d = omega arith in
-    rw (eq-eqb (share mode * d % share mode) 0 (ap (λ b. b % share mode) (sym same) ∙ place.rest)) refl
+got-there : (mode d : ℕ) (word : ℕ → Bool) (high : ℕ) → got_bit mode word high (share mode * d) ≡ word (share mode * d + high)
+got-there mode d word high = rw (eq-eqb (share mode * d % share mode) 0 (mul-mod_right (share mode) d)) refl
 
 -- ---- addresses
 
@@ -215,12 +172,12 @@ module _ (connected bit : ℕ → Bool) (ram : RamCell) where
         let high = high_part connected bit ram.read ram.raddr in
         let address = narrow_address connected bit ram.read ram.raddr in
         let parts = address-is connected bit ram.read ram.raddr few eleven in
-        let inside : share ram.read * d + 0 < 16 = bit-inside ram.read d 0 few (share-positive ram.read few) short in
+        let inside : share ram.read * d + 0 < 16 = bit-inside (share ram.read) d 0 (pow_pos ram.read) short in
         let first : address % 256 ≡ low = omega (arith, parts.address_is, parts.low_small) in
         let second : address / 256 ≡ high = omega (arith, parts.address_is, parts.low_small) in
         ap (λ word. get_or word (share ram.read * d) false) (shown-narrow (word_at words low) narrow)
         ∙ bit-made (got_bit ram.read (bit_of_word (word_at words low)) high) (share ram.read * d) (omega (arith, inside))
-        ∙ got-there ram.read d few (bit_of_word (word_at words low)) high
+        ∙ got-there ram.read d (bit_of_word (word_at words low)) high
         ∙ ap (λ h. bit_of_word (word_at words low) (share ram.read * d + h)) (sym second)
         ∙ ap (λ a. bit_of_word (word_at words a) (share ram.read * d + address / 256)) (sym first)
 
@@ -251,14 +208,14 @@ module _ (connected bit : ℕ → Bool) (ram : RamCell) where
           ap (λ word. bit_of_word word (bit_number address d))
           (get_or-set_at words low_number (address % 256) (written connected bit ram old_word) [] same (omega (arith, are.0, parts.low_small)) ∙ written-narrow old_word narrow)
           ∙ bit-made (put_bit ram.write (bit_of_word old_word) high_number (written_data connected bit ram)) (bit_number address d)
-          (bit-inside ram.write d (address / 256) few (high-of ram.write address few inside) short)
+          (bit-inside (share ram.write) d (address / 256) (high-of (share ram.write) address inside) short)
 
       written-bit : (address d : ℕ) → address < 256 * share ram.write → d < 16 / share ram.write
           → narrow_in ram.write words_next address d
           ≡ (if address == target then given_bit connected bit ram d else narrow_in ram.write words address d)
       written-bit address d inside short =
           let parts = address-is connected bit ram.write ram.waddr few eleven in
-          let less = high-of ram.write address few inside in
+          let less = high-of (share ram.write) address inside in
           elim (eqb_tells (address % 256) low_number) [
             | inl same ↦
                 elim (eqb_tells (address / 256) high_number) [
@@ -267,12 +224,12 @@ module _ (connected bit : ℕ → Bool) (ram : RamCell) where
                       rw (eq-eqb address target there)
                       (in-word address d inside short same.1
                       ∙ ap (λ h. put_bit ram.write (bit_of_word old_word) h (written_data connected bit ram) (bit_number address d)) (sym here.1)
-                      ∙ put-there ram.write d (address / 256) few less (bit_of_word old_word) (written_data connected bit ram)
+                      ∙ put-there ram.write d (address / 256) less (bit_of_word old_word) (written_data connected bit ram)
                       ∙ ap (λ port. input_or_0 connected bit (get_or ram.wdata port None)) (data_bit-is ram.write d narrow few))
                   | inr away ↦
                       rw (ne_eqb address target (λ there. absurd (away.1 (omega (arith, there, parts.address_is, parts.low_small)))))
                       (in-word address d inside short same.1
-                      ∙ put-away ram.write d (address / 256) few less (bit_of_word old_word) (written_data connected bit ram) high_number away.1
+                      ∙ put-away ram.write d (address / 256) less (bit_of_word old_word) (written_data connected bit ram) high_number away.1
                       ∙ ap (λ a. bit_of_word (word_at words a) (bit_number address d)) (sym same.1))
                 ]
             | inr apart ↦

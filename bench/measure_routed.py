@@ -41,6 +41,7 @@ def lines_of(program, folder, database):
     full, small, known, others = (os.path.join(folder, name) for name in ("full_8k.asc", "small_8k.asc", "from.hex", "to.hex"))
     yield "icepack", "full_8k.asc", ([program, "icepack", full, "OUTPUT"], ["icepack", full, "OUTPUT"]), os.devnull
     yield "icebram", "full_8k.asc", ([program, "icebram", known, others], ["icebram", known, others]), full
+    yield "  --by-mode", "full_8k.asc", ([program, "icebram", "--by-mode", known, others], ["icebram", known, others]), full
     for text in (full, small):
         for tool in ("icebox_explain", "icebox_vlog"):
             yield tool, os.path.basename(text), ([program, tool, database, text], [tool, text]), os.devnull

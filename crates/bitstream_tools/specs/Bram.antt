@@ -1,7 +1,11 @@
 -- `icebram`: a text with other contents of its RAMs.
-use Rattle.std.specs.Prelude.{◌≡◌, ℕ, List, [], ◌∷◌, codes, get_or, Option, None, Some, option_map}
+use Rattle.std.specs.Prelude.{◌≡◌, ℕ, Bool, true, false, List, [], ◌∷◌, codes, get_or, Option, None, Some, option_map}
 use Rattle.clap.specs.Words.{App, Row, Text, first_of}
 use Rattle.place_search.specs.Places.{or_else}
+use Rattle.text_lines.specs.Lines.{lines_of}
+use Rattle.bram_replace.specs.declared.modes.ReadModes.{ReadModes}
+use Rattle.bram_replace.specs.declared.modes.ReadModes.TheVariants.{Ignored, Followed}
+use Rattle.bram_replace.specs.ReadModes.{modes_in}
 use Rattle.bram_replace.specs.HexText.{contents_of, hex_fault_of}
 use Rattle.bram_replace.specs.Replaced.{bram_fault, replaced}
 use Rattle.tool_run.specs.Lines.{refusal_text}
@@ -10,8 +14,8 @@ use Rattle.tool_run.specs.Tasks.{Answer, Done, Refused, Task, usage_error}
 use Rattle.tool_run.specs.declared.tool.Stop.{Stop}
 use Rattle.tool_run.specs.declared.tool.Stop.TheVariants.{Refused as StopsRefused, UsageError as StopsUntaken, Memory}
 use Rattle.tool_parts.specs.Outcomes.{Manual, outcome}
-use Rattle.tool_parts.specs.Commands.{command, required}
-use Rattle.bitstream_tools.specs.declared.bram.WordFiles.{WordFiles}
+use Rattle.tool_parts.specs.Commands.{command, has_flag, long_flag, required}
+use Rattle.bitstream_tools.specs.declared.bram.Request.{Request}
 use Rattle.bitstream_tools.specs.declared.bram.TheConstants.{ICEBRAM_HELP}
 use Rattle.bitstream_tools.specs.Faults.{bram_fault_text, hex_fault_text}
 use Rattle.bitstream_tools.specs.Pack.{text_limit}
@@ -30,11 +34,12 @@ abbrev pub unless : Option (List ℕ) → List ℕ → Answer
 unless None bytes = Done bytes
 unless (Some why) bytes = Refused why
 
-abbrev pub replaced_answer : List ℕ → List ℕ → List ℕ → Answer
-replaced_answer from to text = unless (why_not from to text) (replaced text (contents_of from) (contents_of to))
+abbrev pub replaced_answer : ReadModes → List ℕ → List ℕ → List ℕ → Answer
+replaced_answer modes from to text =
+    unless (why_not from to text) (replaced text (contents_of from) (contents_of to) (modes_in modes (lines_of text)))
 
-abbrev pub icebram_answer : List (List ℕ) → Answer
-icebram_answer texts = replaced_answer (get_or texts 0 []) (get_or texts 1 []) (get_or texts 2 [])
+abbrev pub icebram_answer : ReadModes → List (List ℕ) → Answer
+icebram_answer modes texts = replaced_answer modes (get_or texts 0 []) (get_or texts 1 []) (get_or texts 2 [])
 
 -- a stop tells that reason, or that there is no memory
 abbrev pub TellsWhy : Option (List ℕ) → Stop → Type 0
@@ -51,7 +56,12 @@ abbrev pub icebram_usage : List ℕ
 icebram_usage = codes "icebram FROM TO"
 
 abbrev pub icebram_command : App
-icebram_command = command icebram_name (required (codes "from") ∷ required (codes "to") ∷ [])
+icebram_command = command icebram_name (long_flag (codes "by-mode") ∷ required (codes "from") ∷ required (codes "to") ∷ [])
+
+-- `--by-mode` follows read modes
+abbrev pub modes_wanted : Bool → ReadModes
+modes_wanted false = Ignored
+modes_wanted true = Followed
 
 -- the two files of words, and the text from standard input
 abbrev pub replace_needs : Text → Text → List Need
@@ -59,17 +69,17 @@ replace_needs from to =
     record { name = Some from; limit = text_limit } ∷ record { name = Some to; limit = text_limit }
     ∷ record { name = None; limit = text_limit } ∷ []
 
-abbrev pub replace_task : Text → Text → Task
-replace_task from to = record { tool_name = icebram_name; needs = replace_needs from to; target = None; answer = icebram_answer }
+abbrev pub replace_task : ReadModes → Text → Text → Task
+replace_task modes from to = record { tool_name = icebram_name; needs = replace_needs from to; target = None; answer = icebram_answer modes }
 
 -- both files have to be named
-abbrev pub icebram_task_of : Option Text → Option Text → Task
-icebram_task_of (Some from) (Some to) = replace_task from to
-icebram_task_of (Some from) None = usage_error icebram_name icebram_usage
-icebram_task_of None to = usage_error icebram_name icebram_usage
+abbrev pub icebram_task_of : Bool → Option Text → Option Text → Task
+icebram_task_of by_mode (Some from) (Some to) = replace_task (modes_wanted by_mode) from to
+icebram_task_of by_mode (Some from) None = usage_error icebram_name icebram_usage
+icebram_task_of by_mode None to = usage_error icebram_name icebram_usage
 
 abbrev pub icebram_task_by : List Row → Task
-icebram_task_by rows = icebram_task_of (first_of (codes "from") rows) (first_of (codes "to") rows)
+icebram_task_by rows = icebram_task_of (has_flag (codes "by-mode") rows) (first_of (codes "from") rows) (first_of (codes "to") rows)
 
 -- the tool
 abbrev pub icebram : Manual
@@ -79,7 +89,7 @@ icebram = record { name = icebram_name; usage = icebram_usage; help = ICEBRAM_HE
 abbrev pub icebram_outcome : List Text → Task
 icebram_outcome args = outcome icebram args
 
--- the task of the files that were found in the arguments
-abbrev pub icebram_task_for : Option WordFiles → Task
+-- the task of what was found in the arguments
+abbrev pub icebram_task_for : Option Request → Task
 icebram_task_for None = usage_error icebram_name icebram_usage
-icebram_task_for (Some files) = replace_task files.from.now files.to.now
+icebram_task_for (Some request) = replace_task request.modes request.from.now request.to.now

@@ -59,10 +59,10 @@ pub icebram-simple : is_simple_and_free icebram_command ≡ true
 unfolding clap_on_literals
 icebram-simple = refl
 
-bram-speaks : (from to : Option Text) → (icebram_task_of from to).tool_name ≡ icebram_name
-bram-speaks (Some from) (Some to) = refl
-bram-speaks (Some from) None = refl
-bram-speaks None to = refl
+bram-speaks : (by_mode : Bool) (from to : Option Text) → (icebram_task_of by_mode from to).tool_name ≡ icebram_name
+bram-speaks by_mode (Some from) (Some to) = refl
+bram-speaks by_mode (Some from) None = refl
+bram-speaks by_mode None to = refl
 
 pub icebram-speaks : (rows : List Row) → (icebram_task_by rows).tool_name ≡ icebram_name
-icebram-speaks rows = bram-speaks (first_of (codes "from") rows) (first_of (codes "to") rows)
+icebram-speaks rows = bram-speaks (has_flag (codes "by-mode") rows) (first_of (codes "from") rows) (first_of (codes "to") rows)

@@ -1,22 +1,24 @@
 // `icebram`: a text with other contents of its RAMs.
 ghost use Rattle.std.specs.Prelude.{◌≡◌, None, map, option_map, string_bytes, IfOk, OnOk, IfErr};
 ghost use Rattle.clap.specs.Words.{app_of, found_of, rows_of};
+ghost use Rattle.text_lines.specs.Lines.{lines_of};
 ghost use Rattle.bram_replace.specs.HexText.{contents_of, hex_fault_of};
+ghost use Rattle.bram_replace.specs.ReadModes.{modes_in};
 ghost use Rattle.bram_replace.specs.Replaced.{bram_fault, replaced};
 ghost use Rattle.tool_run.specs.Needs.{text_of};
 ghost use Rattle.tool_run.specs.Runs.{Does, outside, scene};
 ghost use Rattle.tool_run.specs.Stops.{StopsWith};
 ghost use Rattle.tool_run.specs.Tasks.{Done};
-ghost use Rattle.bitstream_tools.specs.Bram.{TellsWhy, icebram_command, icebram_outcome, icebram_task_by, icebram_task_for, icebram_task_of, replace_task, replaced_answer};
+ghost use Rattle.bitstream_tools.specs.Bram.{TellsWhy, icebram_command, icebram_outcome, icebram_task_by, icebram_task_for, icebram_task_of, modes_wanted, replace_task, replaced_answer};
 ghost use Rattle.bitstream_tools.specs.Faults.{bram_fault_text, hex_fault_text};
 
 use crate::faults::{bram_refusal, hex_refusal};
 use crate::pack::TEXT_LIMIT;
-use bram_replace::{BramFault, HexFault, HexFile, replace};
+use bram_replace::{BramFault, HexFault, HexFile, ReadModes, replace_with};
 use clap::{ArgMatches, Command};
 use ice_io::{Files, Sink, Source};
 use std::alloc::{AllocError, Global};
-use tool_parts::{CommandLine, required, run_tool, value, with};
+use tool_parts::{CommandLine, has_flag, long_flag, required, run_tool, value, with};
 use tool_run::{AtOnce, Job, Load, Stop, Tool, answer_at_once, loaded_at, perform};
 
 /// The command line of `icebram`.
@@ -26,8 +28,9 @@ pub const ICEBRAM_USAGE: &str = "icebram FROM TO";
 pub const ICEBRAM_HELP: &str = "\
 icebram: replaces the contents of RAMs in a text (.asc), without a new routing.
 
-Usage: icebram FROM TO <INPUT >OUTPUT
+Usage: icebram [--by-mode] FROM TO <INPUT >OUTPUT
 
+  --by-mode takes each RAM in its read mode, in place of 256 words of 16 bits
   FROM      the contents with which the design was made
   TO        the contents that take their place
   INPUT     the text, on standard input
@@ -41,12 +44,14 @@ be equal, so fill it with random words (each bit of 256 words is a column).
 
 Each bit column of a RAM in the text that is equal to a column of FROM becomes
 the same column of TO. Where none is equal, nothing changes: the output is the
-input, and the exit status is still 0. Only RAMs of 256 words of 16 bits keep
-their words in this order. In the narrow modes (512, 1024 or 2048 words) words
-lie in another order, so nothing is found there. yosys takes such a mode for a
-memory of more than 256 words.
+input, and the exit status is still 0.
 
-Example: icebram random.hex firmware.hex <routed.asc >loaded.asc
+yosys takes RAMs of a narrow mode (512 words of 8 bits, 1024 of 4, 2048 of 2)
+for a memory of more than 256 words. They keep their words in another order, and
+only with --by-mode they are found: then each 256 words of such a RAM have a
+column for each bit.
+
+Example: icebram --by-mode random.hex firmware.hex <routed.asc >loaded.asc
 
 Limits: FROM, TO and INPUT have at most 16777216 bytes each, a word at most 64
 digits.
@@ -58,16 +63,19 @@ than its limit.
 
 /// Replaces the contents of RAMs in a text, from the two files of words that it loads first.
 #[derive(Clone, Copy, Debug, PartialEq, Eq)]
-pub(crate) struct Replacing;
+pub(crate) struct Replacing {
+    modes: ReadModes,
+}
 
 impl Tool for Replacing {
     ghost use Rattle.bitstream_tools.specs.Bram.{icebram_answer};
 
-    ghost answer_of = { λ _ texts. icebram_answer texts };
+    ghost answer_of = { λ tool texts. icebram_answer tool.modes texts };
 
     fn answer(&self, alloc: Global, loaded: &Vec<Vec<u8>>) -> Result<Vec<u8>, Stop> {
         replaced_by(
             alloc,
+            self.modes,
             loaded_at(loaded, 0),
             loaded_at(loaded, 1),
             loaded_at(loaded, 2),
@@ -92,12 +100,18 @@ fn words_of(alloc: Global, name: &'static str, bytes: &[u8]) -> Result<HexFile, 
 }
 
 // The text with the RAMs replaced.
-fn replaced(alloc: Global, text: &[u8], from: &HexFile, to: &HexFile) -> Result<Vec<u8>, Stop>
-    ensures bytes { IfOk result (λ bytes. bytes.items ≡ replaced text.now from.now to.now) }
+fn replaced(
+    alloc: Global,
+    modes: ReadModes,
+    text: &[u8],
+    from: &HexFile,
+    to: &HexFile,
+) -> Result<Vec<u8>, Stop>
+    ensures bytes { IfOk result (λ bytes. bytes.items ≡ replaced text.now from.now to.now (modes_in modes (lines_of text.now))) }
     ensures accepted { OnOk result (bram_fault text.now from.now to.now ≡ None) }
     ensures refused { IfErr result (TellsWhy (option_map bram_fault_text (bram_fault text.now from.now to.now))) }
 {
-    match replace(alloc, text, from, to) {
+    match replace_with(alloc, text, from, to, modes) {
         Ok(answer) => Ok(answer.bytes),
         Err(BramFault::Memory(_)) => Err(Stop::Memory),
         Err(fault) => Err(Stop::Refused(bram_refusal(fault))),
@@ -105,32 +119,50 @@ fn replaced(alloc: Global, text: &[u8], from: &HexFile, to: &HexFile) -> Result<
 }
 
 // The text with the RAMs replaced, from the bytes of the two files.
-fn replaced_by(alloc: Global, from: &[u8], to: &[u8], text: &[u8]) -> Result<Vec<u8>, Stop>
-    ensures bytes { IfOk result (λ bytes. replaced_answer from.now to.now text.now ≡ Done bytes.items) }
-    ensures stops { IfErr result (StopsWith (replaced_answer from.now to.now text.now)) }
+fn replaced_by(
+    alloc: Global,
+    modes: ReadModes,
+    from: &[u8],
+    to: &[u8],
+    text: &[u8],
+) -> Result<Vec<u8>, Stop>
+    ensures bytes { IfOk result (λ bytes. replaced_answer modes from.now to.now text.now ≡ Done bytes.items) }
+    ensures stops { IfErr result (StopsWith (replaced_answer modes from.now to.now text.now)) }
 {
     match words_of(alloc, "from", from) {
         Ok(from) => match words_of(alloc, "to", to) {
-            Ok(to) => replaced(alloc, text, &from, &to),
+            Ok(to) => replaced(alloc, modes, text, &from, &to),
             Err(stop) => Err(stop),
         },
         Err(stop) => Err(stop),
     }
 }
 
-// The files of words that the command line names.
+// What the command line asks for: the files of words, and whether read modes are followed.
 #[derive(Clone, Copy)]
-pub(crate) struct WordFiles<'a> {
+pub(crate) struct Request<'a> {
+    modes: ReadModes,
     from: &'a str,
     to: &'a str,
 }
 
-// The files of words, where both are named.
-fn both<'a>(from: Option<&'a str>, to: Option<&'a str>) -> Option<WordFiles<'a>>
-    ensures { icebram_task_for result ≡ icebram_task_of (text_of from.entry) (text_of to.entry) }
+// Whether read modes are followed.
+fn modes_wanted(by_mode: bool) -> ReadModes
+    ensures { result ≡ modes_wanted by_mode }
 {
+    match by_mode {
+        false => ReadModes::Ignored,
+        true => ReadModes::Followed,
+    }
+}
+
+// The request, where both files of words are named.
+fn wanted<'a>(by_mode: bool, from: Option<&'a str>, to: Option<&'a str>) -> Option<Request<'a>>
+    ensures { icebram_task_for result ≡ icebram_task_of by_mode (text_of from.entry) (text_of to.entry) }
+{
+    let modes = modes_wanted(by_mode);
     match (from, to) {
-        (Some(from), Some(to)) => Some(WordFiles { from, to }),
+        (Some(from), Some(to)) => Some(Request { modes, from, to }),
         _ => None,
     }
 }
@@ -140,37 +172,39 @@ fn command<'a>(alloc: Global) -> Result<Command<'a>, AllocError>
     ensures { IfOk result (λ command. app_of command ≡ icebram_command) }
 {
     let command = Command::new(alloc, "icebram");
+    let command = with(command, long_flag(alloc, "by-mode"))?;
     let command = with(command, required(alloc, "from"))?;
     with(command, required(alloc, "to"))
 }
 
-// The files of words that were found in the arguments.
-fn files_in<'a>(matches: &ArgMatches<'a>) -> Option<WordFiles<'a>>
+// What was found in the arguments.
+fn request_in<'a>(matches: &ArgMatches<'a>) -> Option<Request<'a>>
     ensures { icebram_task_for result ≡ icebram_task_by (rows_of (found_of matches.now)) }
 {
-    both(value(matches, "from"), value(matches, "to"))
+    let by_mode = has_flag(matches, "by-mode");
+    wanted(by_mode, value(matches, "from"), value(matches, "to"))
 }
 
 // Replaces from standard input to standard output.
 fn replace_between<F: Files, I: Source, O: Sink, E: Sink>(
     alloc: Global,
-    names: WordFiles<'_>,
+    request: Request<'_>,
     files: &mut F,
     input: &mut I,
     output: &mut O,
     errors: &mut E,
 ) -> u8
     ensures { Does (outside F.contents F.steady F.load_faults F.store_faults I.left I.faults O.held O.faults E.held E.faults)
-        (replace_task names.entry.from.now names.entry.to.now) result
+        (replace_task request.entry.modes request.entry.from.now request.entry.to.now) result
         (scene files.old input.old output.old errors.old) (scene files.new input.new output.new errors.new) }
 {
     let loads = [
         Load {
-            name: Some(names.from),
+            name: Some(request.from),
             limit: TEXT_LIMIT,
         },
         Load {
-            name: Some(names.to),
+            name: Some(request.to),
             limit: TEXT_LIMIT,
         },
         Load {
@@ -183,24 +217,27 @@ fn replace_between<F: Files, I: Source, O: Sink, E: Sink>(
         loads: &loads,
         target: None,
     };
-    perform(alloc, &Replacing, &job, files, input, output, errors)
+    let tool = Replacing {
+        modes: request.modes,
+    };
+    perform(alloc, &tool, &job, files, input, output, errors)
 }
 
 // Does what the arguments ask for.
 fn do_request<F: Files, I: Source, O: Sink, E: Sink>(
     alloc: Global,
-    names: Option<WordFiles<'_>>,
+    request: Option<Request<'_>>,
     files: &mut F,
     input: &mut I,
     output: &mut O,
     errors: &mut E,
 ) -> u8
     ensures { Does (outside F.contents F.steady F.load_faults F.store_faults I.left I.faults O.held O.faults E.held E.faults)
-        (icebram_task_for names.entry) result
+        (icebram_task_for request.entry) result
         (scene files.old input.old output.old errors.old) (scene files.new input.new output.new errors.new) }
 {
-    match names {
-        Some(names) => replace_between(alloc, names, files, input, output, errors),
+    match request {
+        Some(request) => replace_between(alloc, request, files, input, output, errors),
         None => {
             let answer = AtOnce::UsageError(ICEBRAM_USAGE);
             answer_at_once(alloc, "icebram", answer, files, input, output, errors)
@@ -243,8 +280,8 @@ impl CommandLine for Icebram {
         output: &mut O,
         errors: &mut E,
     ) -> u8 {
-        let names = files_in(matches);
-        do_request(alloc, names, files, input, output, errors)
+        let request = request_in(matches);
+        do_request(alloc, request, files, input, output, errors)
     }
 
     ghost simple = { icebram-simple };

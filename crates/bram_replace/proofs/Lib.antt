@@ -14,6 +14,10 @@ pub mod HexLines
 pub mod Memory
 -- the columns of a file, one after the other: where each was first, and which are repeated
 pub mod Repeats
+-- the statement of a RAM in a text that can be read, and the tiles that it names
+pub mod Statements
+-- the order in which a RAM keeps the memory of a read mode
+pub mod Orders
 -- the lines and the bits of a RAM
 pub mod Rows
 -- how often a column is found: there is room for the count of each

@@ -4,6 +4,7 @@ use Rattle.std.proofs.lemmas.List.{take-append-le, take_all}
 use Rattle.text_lines.specs.Lines.{lines_of, whole_lines_of}
 use Rattle.asc_text.specs.Rams.{is_ram_line}
 use Rattle.bram_replace.specs.HexText.{Contents}
+use Rattle.bram_replace.specs.ReadModes.{Modes}
 use Rattle.bram_replace.specs.Passed.{PassesLines, Passes}
 use Rattle.bram_replace.proofs.Steps.{Progress, Progress-line}
 
@@ -28,23 +29,23 @@ passed-is text passed rest p =
     ap₂ (λ n xs. take n xs) count p.parts ∙ take-append-le (length passed) passed rest (le_refl (length passed)) ∙ take_all (length passed) passed (le_refl (length passed))
 
 -- what was taken and written, with them
-Progress-lines : (from to : Contents) (text left out found : List ℕ) (count : ℕ) (passed rest : List ℕ) → Progress from to text left out found → PassesLines left count passed rest
-    → Progress from to text rest (out ++ passed) found
-Progress-lines from to text left out found zero passed rest p lines =
-    subst (λ xs. Progress from to text xs (out ++ passed) found) (sym lines.1)
-    (subst (λ xs. Progress from to text left xs found) (sym (ap (λ xs. out ++ xs) lines.0 ∙ append-nil out)) p)
-Progress-lines from to text left out found (suc count) passed rest p lines =
+Progress-lines : (from to : Contents) (modes : Modes) (text left out found : List ℕ) (count : ℕ) (passed rest : List ℕ) → Progress from to modes text left out found → PassesLines left count passed rest
+    → Progress from to modes text rest (out ++ passed) found
+Progress-lines from to modes text left out found zero passed rest p lines =
+    subst (λ xs. Progress from to modes text xs (out ++ passed) found) (sym lines.1)
+    (subst (λ xs. Progress from to modes text left xs found) (sym (ap (λ xs. out ++ xs) lines.0 ∙ append-nil out)) p)
+Progress-lines from to modes text left out found (suc count) passed rest p lines =
     let before = lines.0 in
     let whole = lines.1 in
     let middle = lines.2 in
     let line = lines.4 in
-    Progress-line from to text middle (out ++ before) found line.content whole rest (out ++ passed) (Progress-lines from to text left out found count before middle p lines.3) line.lines line.wholes line.other
+    Progress-line from to modes text middle (out ++ before) found line.content whole rest (out ++ passed) (Progress-lines from to modes text left out found count before middle p lines.3) line.lines line.wholes line.other
     (ap (λ xs. out ++ xs) lines.5 ∙ sym (append_assoc out before whole))
 
-pub Progress-passes : (from to : Contents) (text left out found passed rest new : List ℕ) → Progress from to text left out found → Passes left passed rest → new ≡ out ++ passed
-    → Progress from to text rest new found
-Progress-passes from to text left out found passed rest new p passes is =
-    subst (λ xs. Progress from to text rest xs found) (sym is) (Progress-lines from to text left out found passes.count passed rest p passes.lines)
+pub Progress-passes : (from to : Contents) (modes : Modes) (text left out found passed rest new : List ℕ) → Progress from to modes text left out found → Passes left passed rest → new ≡ out ++ passed
+    → Progress from to modes text rest new found
+Progress-passes from to modes text left out found passed rest new p passes is =
+    subst (λ xs. Progress from to modes text rest xs found) (sym is) (Progress-lines from to modes text left out found passes.count passed rest p passes.lines)
 
 -- there are no more lines behind them
 lines-shorter : (text : List ℕ) (count : ℕ) (passed rest : List ℕ) → PassesLines text count passed rest → length (lines_of rest) ≤ length (lines_of text)

@@ -12,9 +12,10 @@ use Rattle.asc_text.specs.Rows.{is_memory_line, memory_bit, memory_bytes, memory
 use Rattle.bram_replace.specs.HexText.{Contents}
 use Rattle.bram_replace.specs.Columns.{column_at, column_bit, column_count, column_from, is_same, match_of, same_fault}
 use Rattle.bram_replace.specs.Packed.{word_from}
-use Rattle.bram_replace.specs.Replaced.{RamBits, ram_bits, ram_column, bit_from, bits_after, bit_found, word_with}
+use Rattle.bram_replace.specs.ReadModes.{RamBits}
+use Rattle.bram_replace.specs.Replaced.{ram_bits, ram_column, bit_from, column_found, word_with}
 use Rattle.asc_text.specs.Rams.{BeginsWithRam}
-use Rattle.bram_replace.specs.Rams.{AreAlike, listed}
+use Rattle.bram_replace.specs.Rams.{AreAlike, columns_after, listed}
 use Rattle.bram_replace.proofs.HexLines.{content-within}
 use Rattle.bram_replace.proofs.Made.{column_from-same}
 use Rattle.bram_replace.proofs.Packing.{word_from-same}
@@ -174,7 +175,7 @@ looked-up file bits bit found low is =
 
 -- a column that isn't found stays
 pub kept-bits : (file to : Contents) (bits : List Bool) (bit : ℕ) → None ≡ match_of file (ram_column (listed bits) bit)
-    → AreAlike 256 (listed bits) (λ word place. if place == bit then bits_after file to (listed bits) word place else listed bits word place)
+    → AreAlike 256 (listed bits) (λ word place. if place == bit then columns_after file to (listed bits) word place else listed bits word place)
 kept-bits file to bits bit none word place few low =
     elim (cases_eq place bit) [
       | inl same ↦ rw (eq-eqb place bit same) (ap (λ found. bit_from to found word (listed bits word place)) (none ∙ ap (λ n. match_of file (ram_column (listed bits) n)) (sym same)))
@@ -182,14 +183,14 @@ kept-bits file to bits bit none word place few low =
     ]
 
 pub kept-count : (file : Contents) (bits : List Bool) (bit column count : ℕ) → None ≡ match_of file (ram_column (listed bits) bit) → column < column_count file
-    → count ≡ count + length (bit_found file (listed bits) column bit)
+    → count ≡ count + length (column_found file (listed bits) column bit)
 kept-count file bits bit column count none within =
     rw (match-none file (ram_column (listed bits) bit) column (sym none) within) (omega arith)
 
 -- a column that is found is replaced
 pub put-bits : (file to : Contents) (bits new : List Bool) (bit column : ℕ) → Some column ≡ match_of file (ram_column (listed bits) bit)
     → AreAlike 256 (listed new) (λ word place. if place == bit then column_bit to column word else listed bits word place)
-    → AreAlike 256 (listed new) (λ word place. if place == bit then bits_after file to (listed bits) word place else listed bits word place)
+    → AreAlike 256 (listed new) (λ word place. if place == bit then columns_after file to (listed bits) word place else listed bits word place)
 put-bits file to bits new bit column some put word place few low =
     put word place few low ∙ elim (cases_eq place bit) [
       | inl same ↦ rw (eq-eqb place bit same) (ap (λ found. bit_from to found word (listed bits word place)) (some ∙ ap (λ n. match_of file (ram_column (listed bits) n)) (sym same)))
@@ -199,7 +200,7 @@ put-bits file to bits new bit column some put word place few low =
 -- and counted
 pub put-count : (file : Contents) (bits : List Bool) (found : List ℕ) (bit place column : ℕ) → same_fault file ≡ None → length found ≡ column_count file
     → Some place ≡ match_of file (ram_column (listed bits) bit) → column < column_count file
-    → get_or (set found place (get_or found place 0 + 1)) column 0 ≡ get_or found column 0 + length (bit_found file (listed bits) column bit)
+    → get_or (set found place (get_or found place 0 + 1)) column 0 ≡ get_or found column 0 + length (column_found file (listed bits) column bit)
 put-count file bits found bit place column none size some within =
     let only = match-only file (ram_column (listed bits) bit) place column none (sym some) within in
     elim (cases_eq place column) [
@@ -215,14 +216,14 @@ put-count file bits found bit place column none size some within =
 -- ---- all columns
 
 -- the columns from a bit on are those before
-after-alike : (from to : Contents) (bits others : RamBits) (word bit : ℕ) → ((w : ℕ) → w < 256 → bits w bit ≡ others w bit) → word < 256 → bits_after from to bits word bit ≡ bits_after from to others word bit
+after-alike : (from to : Contents) (bits others : RamBits) (word bit : ℕ) → ((w : ℕ) → w < 256 → bits w bit ≡ others w bit) → word < 256 → columns_after from to bits word bit ≡ columns_after from to others word bit
 after-alike from to bits others word bit alike few =
     ap₂ (λ column old. bit_from to (match_of from column) word old) (column_from-same (λ w. bits w bit) (λ w. others w bit) alike) (alike word few)
 
 pub bits-more : (from to : Contents) (bits new start : List Bool) (bit : ℕ) → bit < 16
-    → ((word place : ℕ) → word < 256 → place < 16 → listed bits word place ≡ (if nat_lt place bit then bits_after from to (listed start) word place else listed start word place))
-    → AreAlike 256 (listed new) (λ word place. if place == bit then bits_after from to (listed bits) word place else listed bits word place)
-    → (word place : ℕ) → word < 256 → place < 16 → listed new word place ≡ (if nat_lt place (bit + 1) then bits_after from to (listed start) word place else listed start word place)
+    → ((word place : ℕ) → word < 256 → place < 16 → listed bits word place ≡ (if nat_lt place bit then columns_after from to (listed start) word place else listed start word place))
+    → AreAlike 256 (listed new) (λ word place. if place == bit then columns_after from to (listed bits) word place else listed bits word place)
+    → (word place : ℕ) → word < 256 → place < 16 → listed new word place ≡ (if nat_lt place (bit + 1) then columns_after from to (listed start) word place else listed start word place)
 bits-more from to bits new start bit low there here word place few within =
     here word place few within ∙ elim (cases_eq place bit) [
       | inl same ↦
@@ -235,24 +236,24 @@ bits-more from to bits new start bit low there here word place few within =
     ]
 
 pub bits-ended : (from to : Contents) (bits start : List Bool) (bit : ℕ) → bit ≡ 16
-    → ((word place : ℕ) → word < 256 → place < 16 → listed bits word place ≡ (if nat_lt place bit then bits_after from to (listed start) word place else listed start word place))
-    → AreAlike 256 (listed bits) (bits_after from to (listed start))
+    → ((word place : ℕ) → word < 256 → place < 16 → listed bits word place ≡ (if nat_lt place bit then columns_after from to (listed start) word place else listed start word place))
+    → AreAlike 256 (listed bits) (columns_after from to (listed start))
 bits-ended from to bits start bit all there word place few within = there word place few within ∙ rw (lt-ltb place bit (omega arith)) refl
 
 -- the count of one bit more
 pub counts-more : (from : Contents) (bits start : List Bool) (to : Contents) (bit column before count first : ℕ) → bit < 16
-    → ((word place : ℕ) → word < 256 → place < 16 → listed bits word place ≡ (if nat_lt place bit then bits_after from to (listed start) word place else listed start word place))
-    → before ≡ first + length (gathered_below bit (bit_found from (listed start) column)) → count ≡ before + length (bit_found from (listed bits) column bit)
-    → count ≡ first + length (gathered_below (bit + 1) (bit_found from (listed start) column))
+    → ((word place : ℕ) → word < 256 → place < 16 → listed bits word place ≡ (if nat_lt place bit then columns_after from to (listed start) word place else listed start word place))
+    → before ≡ first + length (gathered_below bit (column_found from (listed start) column)) → count ≡ before + length (column_found from (listed bits) column bit)
+    → count ≡ first + length (gathered_below (bit + 1) (column_found from (listed start) column))
 counts-more from bits start to bit column before count first low there so_far next =
     let same : ram_column (listed bits) bit ≡ ram_column (listed start) bit =
     column_from-same (λ w. listed bits w bit) (λ w. listed start w bit) (λ w few. there w bit few low ∙ rw (le-ltb bit bit (omega arith)) refl) in
-    let found : bit_found from (listed bits) column bit ≡ bit_found from (listed start) column bit = ap (λ other. if is_same (column_at from column) other then bit ∷ [] else []) same in
-    let more = ap length (gathered_below-more bit (bit_found from (listed start) column)) ∙ length-append (gathered_below bit (bit_found from (listed start) column)) (bit_found from (listed start) column bit) in
+    let found : column_found from (listed bits) column bit ≡ column_found from (listed start) column bit = ap (λ other. if is_same (column_at from column) other then bit ∷ [] else []) same in
+    let more = ap length (gathered_below-more bit (column_found from (listed start) column)) ∙ length-append (gathered_below bit (column_found from (listed start) column)) (column_found from (listed start) column bit) in
     omega (arith, so_far, next, ap length found, more)
 
 -- at most one a bit
-pub count-one : (from : Contents) (bits : RamBits) (column bit : ℕ) → length (bit_found from bits column bit) ≤ 1
+pub count-one : (from : Contents) (bits : RamBits) (column bit : ℕ) → length (column_found from bits column bit) ≤ 1
 count-one from bits column bit = elim (is_same (column_at from column) (ram_column bits bit)) as (λ is. length (if is then bit ∷ [] else []) ≤ 1) [ true ↦ omega arith | false ↦ omega arith ]
 
 -- ---- words written

@@ -11,8 +11,10 @@ use Rattle.bit_plane.specs.BitList.{word_of}
 use Rattle.asc_text.specs.Canonical.{two_bytes}
 use Rattle.bram_replace.specs.HexText.{Contents}
 use Rattle.bram_replace.specs.Columns.{column_at, is_same, is_same_bit, match_of}
-use Rattle.bram_replace.specs.Replaced.{RamBits, ram_column, bit_from, bits_after, bit_found, bits_found, changes, word_with, digits_with, memory_line_with}
-use Rattle.bram_replace.specs.Rams.{AreAlike, listed}
+use Rattle.bram_replace.specs.ReadModes.{RamBits, by_columns, column_in, place_in}
+use Rattle.bram_replace.specs.Replaced.{ram_column, bit_from, bits_after, column_found, columns_found, changes, word_with, digits_with, memory_line_with}
+use Rattle.bram_replace.specs.Rams.{AreAlike, columns_after, listed}
+use Rattle.bram_replace.proofs.Orders.{by_columns-back, by_columns-same, column-within}
 use Rattle.bram_replace.proofs.Made.{made-same, column_from-same}
 use Rattle.bram_replace.proofs.Same.{is_same_bit-refl}
 
@@ -21,13 +23,48 @@ use Rattle.bram_replace.proofs.Same.{is_same_bit-refl}
 column-same : (bits others : RamBits) (bit : ℕ) → AreAlike 256 bits others → bit < 16 → ram_column bits bit ≡ ram_column others bit
 column-same bits others bit alike within = column_from-same (λ word. bits word bit) (λ word. others word bit) (λ word few. alike word bit few within)
 
-pub after-same : (from to : Contents) (bits others : RamBits) → AreAlike 256 bits others → AreAlike 256 (bits_after from to bits) (bits_after from to others)
-after-same from to bits others alike word bit few within =
+pub columns-same : (from to : Contents) (bits others : RamBits) → AreAlike 256 bits others → AreAlike 256 (columns_after from to bits) (columns_after from to others)
+columns-same from to bits others alike word bit few within =
     ap₂ (λ column old. bit_from to (match_of from column) word old) (column-same bits others bit alike within) (alike word bit few within)
 
-pub found-same : (from : Contents) (bits others : RamBits) (column : ℕ) → AreAlike 256 bits others → bits_found from bits column ≡ bits_found from others column
+pub after-same : (from to : Contents) (mode : ℕ) (bits others : RamBits) → mode < 4 → AreAlike 256 bits others → AreAlike 256 (bits_after from to mode bits) (bits_after from to mode others)
+after-same from to mode bits others small alike word bit few within =
+    ap₂ (λ column old. bit_from to (match_of from column) (place_in mode word bit) old)
+    (column-same (by_columns mode bits) (by_columns mode others) (column_in mode word bit) (by_columns-same mode bits others small alike) (column-within mode word bit small few within))
+    (alike word bit few within)
+
+-- a bit is that of its column at its place
+after-columns : (from to : Contents) (mode : ℕ) (old : RamBits) (word bit : ℕ) → mode < 4 → word < 256 → bit < 16
+    → bits_after from to mode old word bit ≡ columns_after from to (by_columns mode old) (place_in mode word bit) (column_in mode word bit)
+after-columns from to mode old word bit small few low =
+    ap (bit_from to (match_of from (ram_column (by_columns mode old) (column_in mode word bit))) (place_in mode word bit)) (sym (by_columns-back mode old word bit small few low))
+
+-- columns that were replaced and put back
+pub put-back : (from to : Contents) (mode : ℕ) (old own new result : RamBits) → mode < 4 → AreAlike 256 own (by_columns mode old) → AreAlike 256 new (columns_after from to own)
+    → AreAlike 256 result (λ word bit. new (place_in mode word bit) (column_in mode word bit)) → AreAlike 256 result (bits_after from to mode old)
+put-back from to mode old own new result small before after back word bit few low =
+    let column = column-within mode word bit small few low in
+    back word bit few low ∙ after (place_in mode word bit) (column_in mode word bit) (omega arith) column
+    ∙ columns-same from to own (by_columns mode old) before (place_in mode word bit) (column_in mode word bit) (omega arith) column ∙ sym (after-columns from to mode old word bit small few low)
+
+-- in mode 0 a column is one bit of each word
+pub by_columns-zero : (bits : RamBits) → AreAlike 256 bits (by_columns 0 bits)
+by_columns-zero bits word bit few low =
+    let word_is : word ≡ (256 * (bit / 16) + word) / 1 = omega arith in
+    let bit_is : bit ≡ 1 * (bit % 16) + 0 = omega arith in
+    ap₂ bits word_is bit_is
+
+pub put-straight : (from to : Contents) (old new : RamBits) → AreAlike 256 new (columns_after from to old) → AreAlike 256 new (bits_after from to 0 old)
+put-straight from to old new after =
+    put-back from to 0 old old new new (omega arith) (by_columns-zero old) after
+    (λ word bit few low.
+    let word_is : word ≡ place_in 0 word bit = omega arith in
+    let bit_is : bit ≡ column_in 0 word bit = omega arith in
+    ap₂ new word_is bit_is)
+
+pub found-same : (from : Contents) (bits others : RamBits) (column : ℕ) → AreAlike 256 bits others → columns_found from bits column ≡ columns_found from others column
 found-same from bits others column alike =
-    gathered_below-same 16 (bit_found from bits column) (bit_found from others column)
+    gathered_below-same 16 (column_found from bits column) (column_found from others column)
     (λ bit within. ap (λ other. if is_same (column_at from column) other then bit ∷ [] else []) (column-same bits others bit alike within))
 
 changes-same : (before old after new : RamBits) (row : ℕ) → AreAlike 256 before old → AreAlike 256 after new → row < 16 → changes before after row ≡ changes old new row

@@ -13,7 +13,9 @@ use Rattle.bram_replace.specs.declared.fault.BramFault.TheVariants.{Shape, SameC
 use Rattle.bram_replace.specs.declared.fault.HexFault.TheVariants.{Digit, Width, Depth}
 use Rattle.bram_replace.specs.HexText.{Contents, before_comment, hex_fault_of, bits_in, contents_of}
 use Rattle.bram_replace.specs.Columns.{same_fault, match_of}
-use Rattle.bram_replace.specs.Replaced.{RamBits, ram_bits, ram_column, bits_after, bits_found, memory_line_with, line_after, replaced, found_in, shape_fault}
+use Rattle.asc_text.specs.Characters.{tile_statement}
+use Rattle.bram_replace.specs.ReadModes.{RamBits, by_columns, no_modes, read_mode}
+use Rattle.bram_replace.specs.Replaced.{ram_bits, ram_column, bits_after, columns_found, memory_line_with, line_after, replaced, found_in, shape_fault}
 
 -- ---- files of words
 
@@ -76,21 +78,58 @@ unfolding least_below match_of
 no_column = refl
 
 -- the bit is that of column 1 of the second file, which has its 1 in word 2
-moved_from : bits_after old_words new_words before 1 15 ≡ false
+moved_from : bits_after old_words new_words 0 before 1 15 ≡ false
 unfolding least_below match_of
 moved_from = refl
 
-moved_to : bits_after old_words new_words before 2 15 ≡ true
+moved_to : bits_after old_words new_words 0 before 2 15 ≡ true
 unfolding least_below match_of
 moved_to = refl
 
-found_twice : bits_found old_words before 1 ≡ 9 ∷ 15 ∷ []
+found_twice : columns_found old_words (by_columns 0 before) 1 ≡ 9 ∷ 15 ∷ []
 unfolding gathered_below
 found_twice = refl
 
-found_nowhere : bits_found old_words before 0 ≡ []
+found_nowhere : columns_found old_words (by_columns 0 before) 0 ≡ []
 unfolding gathered_below
 found_nowhere = refl
+
+-- ---- read modes
+
+-- a RAM of mode 2, whose word 0 has the lowest bits of the words 0, 2, 1 and 3 of the memory in its first four bits: bit 3 of the
+-- memory is column 1 in the first block of 256 words
+abbrev narrow : RamBits
+narrow word bit = (word == 0) && (bit == 14)
+
+-- the same in the second block, which begins with word 64 of the RAM
+abbrev narrow_later : RamBits
+narrow_later word bit = (word == 64) && (bit == 14)
+
+narrow_found : columns_found old_words (by_columns 2 narrow) 1 ≡ 3 ∷ []
+unfolding gathered_below
+narrow_found = refl
+
+narrow_found_later : columns_found old_words (by_columns 2 narrow_later) 1 ≡ 7 ∷ []
+unfolding gathered_below
+narrow_found_later = refl
+
+narrow_from : bits_after old_words new_words 2 narrow 0 14 ≡ false
+unfolding least_below match_of
+narrow_from = refl
+
+narrow_to : bits_after old_words new_words 2 narrow 0 13 ≡ true
+unfolding least_below match_of
+narrow_to = refl
+
+-- row 2 of the tile above a RAM is worth 2
+mode_two : read_mode (lines_of (codes ".ramt_tile 3 2\n0\n0\n00000001\n00000000\n")) 3 1 ≡ 2
+unfolding lines_of trimmed words_of pieces_of from_word number_of numbers_of statement_in depth_at opened_before statement_at tile_statement least_below
+mode_two = refl
+
+-- a RAM without a tile above it has mode 0
+mode_zero : read_mode (lines_of (codes ".ramt_tile 3 2\n0\n0\n00000001\n00000000\n")) 3 3 ≡ 0
+unfolding lines_of trimmed words_of pieces_of from_word number_of numbers_of statement_in depth_at opened_before statement_at tile_statement least_below
+mode_zero = refl
 
 -- ---- lines of a RAM
 
@@ -119,11 +158,11 @@ line_stays = refl
 -- ---- whole texts
 
 -- lines outside of RAMs stay, with their ends
-text_stays : replaced (codes ".device 1k \r\n\n.comment\nA") old_words new_words ≡ codes ".device 1k \r\n\n.comment\nA"
+text_stays : replaced (codes ".device 1k \r\n\n.comment\nA") old_words new_words no_modes ≡ codes ".device 1k \r\n\n.comment\nA"
 unfolding lines_of whole_lines_of trimmed words_of pieces_of from_word number_of numbers_of statement_in depth_at opened_before statement_over line_after replaced gathered_below
 text_stays = refl
 
 -- and no column is found
-none_found : found_in (codes ".device 1k \r\n") old_words ≡ 0 ∷ 0 ∷ 0 ∷ 0 ∷ []
+none_found : found_in (codes ".device 1k \r\n") old_words no_modes ≡ 0 ∷ 0 ∷ 0 ∷ 0 ∷ []
 unfolding lines_of trimmed words_of pieces_of from_word number_of numbers_of statement_in depth_at opened_before statement_at found_in gathered_below
 none_found = refl

@@ -1,5 +1,6 @@
--- A text with the contents of its RAMs replaced, from two files of memory words: each column of a RAM, which is one bit of
--- its 256 words, that is equal to a column of the first file becomes the column of that number of the second file.
+-- A text with the contents of its RAMs replaced, from two files of memory words: each column of a RAM that is equal to a
+-- column of the first file becomes the column of that number of the second file. In mode 0, which is that of every RAM where
+-- modes aren't followed, a column of a RAM is one bit of its 256 words.
 use Rattle.std.specs.Prelude.{◌≡◌, ℕ, ◌+◌, ◌-◌, ◌*◌, ◌/◌, ◌%◌, Bool, not, ◌&&◌, List, [], ◌∷◌, ◌++◌, length, drop, map, ◌==◌, if◌then◌else◌, Option, Some, None}
 use Rattle.std.specs.List.{range_with_len}
 use Rattle.place_search.specs.Places.{any_below, gathered_below, or_else}
@@ -9,44 +10,43 @@ use Rattle.bit_plane.specs.BitList.{word_of}
 use Rattle.layout_file.specs.Layouts.{standard_layouts}
 use Rattle.asc_text.specs.declared.fault.AscFault.TheVariants.{At}
 use Rattle.asc_text.specs.Rows.{memory_bit}
-use Rattle.asc_text.specs.Blocks.{depth_at, statement_at}
+use Rattle.asc_text.specs.Blocks.{depth_at, statement_at, statement_over}
 use Rattle.asc_text.specs.Rams.{is_ram_data, is_in_ram, below_statement}
-use Rattle.asc_text.specs.Faults.{Fault, asc_fault_of}
+use Rattle.asc_text.specs.Faults.{Fault, asc_fault_of, tile_named}
 use Rattle.asc_text.specs.Canonical.{two_bytes}
 use Rattle.bram_replace.specs.declared.fault.BramFault.{BramFault}
 use Rattle.bram_replace.specs.declared.fault.BramFault.TheVariants.{Shape, Asc, Memory}
 use Rattle.bram_replace.specs.HexText.{Contents}
+use Rattle.bram_replace.specs.ReadModes.{RamBits, Modes, mode_for, by_columns, column_in, place_in}
 use Rattle.bram_replace.specs.Columns.{column_bit, column_at, column_count, column_from, is_same, is_same_bit, match_of, same_fault}
 
--- ---- one RAM: a bit for each word and each place in the word
-
-abbrev pub RamBits : Type 0
-RamBits = ℕ → ℕ → Bool
+-- ---- one RAM
 
 -- the bits that the lines below a statement give, sixteen words to a line
 abbrev pub ram_bits : List (List ℕ) → RamBits
 ram_bits below word bit = memory_bit (trimmed (line_at below (word / 16))) (word % 16) bit
 
--- the column of a place in the words
+-- a column, from the bits of the columns
 abbrev pub ram_column : RamBits → ℕ → List Bool
-ram_column bits bit = column_from (λ word. bits word bit)
+ram_column bits column = column_from (λ place. bits place column)
 
 -- the bit of a column of the second file, or the old one where no column of the first file is equal
 abbrev pub bit_from : Contents → Option ℕ → ℕ → Bool → Bool
 bit_from to None word old = old
 bit_from to (Some column) word old = column_bit to column word
 
--- the bits afterwards
-abbrev pub bits_after : Contents → Contents → RamBits → RamBits
-bits_after from to before word bit = bit_from to (match_of from (ram_column before bit)) word (before word bit)
+-- the bits of a RAM of a mode afterwards
+abbrev pub bits_after : Contents → Contents → ℕ → RamBits → RamBits
+bits_after from to mode before word bit =
+    bit_from to (match_of from (ram_column (by_columns mode before) (column_in mode word bit))) (place_in mode word bit) (before word bit)
 
--- a place in the words, where its column is equal to a column of the first file
-abbrev pub bit_found : Contents → RamBits → ℕ → ℕ → List ℕ
-bit_found from bits column bit = if is_same (column_at from column) (ram_column bits bit) then bit ∷ [] else []
+-- a column of a RAM, where it is equal to a column of the first file
+abbrev pub column_found : Contents → RamBits → ℕ → ℕ → List ℕ
+column_found from bits column own = if is_same (column_at from column) (ram_column bits own) then own ∷ [] else []
 
--- all such places
-abbrev pub bits_found : Contents → RamBits → ℕ → List ℕ
-bits_found from bits column = gathered_below 16 (bit_found from bits column)
+-- all such columns
+abbrev pub columns_found : Contents → RamBits → ℕ → List ℕ
+columns_found from bits column = gathered_below 16 (column_found from bits column)
 
 -- ---- lines of a RAM
 
@@ -72,28 +72,32 @@ memory_line_with before after row whole =
 -- ---- the whole text
 
 -- a line afterwards, with its end: only the lines of a RAM change
-unfoldable pub line_after : Contents → Contents → List ℕ → ℕ → List ℕ
-line_after from to text n =
+unfoldable pub line_after : Contents → Contents → Modes → List ℕ → ℕ → List ℕ
+line_after from to modes text n =
     let lines = lines_of text in
     let whole = line_at (whole_lines_of text) n in
     let before = ram_bits (below_statement lines n) in
-    if is_in_ram lines n then memory_line_with before (bits_after from to before) (depth_at lines n - 1) whole else whole
+    let after = bits_after from to (mode_for modes (tile_named (statement_over lines n))) before in
+    if is_in_ram lines n then memory_line_with before after (depth_at lines n - 1) whole else whole
 
--- the text with the RAMs replaced
-unfoldable pub replaced : List ℕ → Contents → Contents → List ℕ
-replaced text from to = gathered_below (length (lines_of text)) (line_after from to text)
+-- the text with the RAMs replaced, each in its mode
+unfoldable pub replaced : List ℕ → Contents → Contents → Modes → List ℕ
+replaced text from to modes = gathered_below (length (lines_of text)) (line_after from to modes text)
 
--- the places in the words of the RAM that a line begins whose columns are equal to a column of the first file
-abbrev pub found_at : Contents → List (List ℕ) → ℕ → ℕ → List ℕ
-found_at from lines column n = if is_ram_data (statement_at lines n) then bits_found from (ram_bits (drop (n + 1) lines)) column else []
+-- the columns of the RAM that a line begins which are equal to a column of the first file
+abbrev pub found_at : Contents → Modes → List (List ℕ) → ℕ → ℕ → List ℕ
+found_at from modes lines column n =
+    let bits = by_columns (mode_for modes (tile_named (statement_at lines n))) (ram_bits (drop (n + 1) lines)) in
+    if is_ram_data (statement_at lines n) then columns_found from bits column else []
 
--- to how many bit columns of the RAMs that the lines before a line begin a column of the first file is equal
-abbrev pub count_before : Contents → List (List ℕ) → ℕ → ℕ → ℕ
-count_before from lines n column = length (gathered_below n (found_at from lines column))
+-- to how many columns of the RAMs that the lines before a line begin a column of the first file is equal
+abbrev pub count_before : Contents → Modes → List (List ℕ) → ℕ → ℕ → ℕ
+count_before from modes lines n column = length (gathered_below n (found_at from modes lines column))
 
 -- the same of all RAMs, for each column of the first file
-unfoldable pub found_in : List ℕ → Contents → List ℕ
-found_in text from = let lines = lines_of text in map (count_before from lines (length lines)) (range_with_len 0 (column_count from))
+unfoldable pub found_in : List ℕ → Contents → Modes → List ℕ
+found_in text from modes =
+    let lines = lines_of text in map (count_before from modes lines (length lines)) (range_with_len 0 (column_count from))
 
 -- ---- refusals
 

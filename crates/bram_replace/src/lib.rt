@@ -2,16 +2,20 @@
 //!
 //! A design is made with known contents of its RAMs, and other contents are put into the finished text later. Both are
 //! given as files of hexadecimal words. A RAM of the text may hold any bits of any block of 256 words, so each bit of its
-//! words is a column of 256 bits that is looked up among the columns of the first file.
+//! words is a column of 256 bits that is looked up among the columns of the first file. Where read modes are followed, the
+//! words are those of the memory that a RAM holds in its mode, of which it may have several blocks.
 #![tactic(auto)]
 
 mod columns;
 mod fault;
 mod hex_file;
 mod hex_words;
+mod modes;
+mod order;
 mod ram;
 mod replacing;
 
 pub use fault::{BramFault, HexFault};
 pub use hex_file::HexFile;
-pub use replacing::{Replaced, replace};
+pub use modes::ReadModes;
+pub use replacing::{Replaced, replace, replace_with};

@@ -6,17 +6,19 @@ ghost use Rattle.place_search.specs.Places.{gathered_below};
 ghost use Rattle.asc_text.specs.Canonical.{two_bytes};
 ghost use Rattle.asc_text.specs.Rows.{is_memory_line, memory_bit, memory_bytes};
 ghost use Rattle.bram_replace.specs.Columns.{column_bit, column_count};
-ghost use Rattle.bram_replace.specs.Replaced.{bit_found, bits_after, bits_found, changes, digits_with, memory_line_with, ram_bits};
+ghost use Rattle.bram_replace.specs.ReadModes.{by_columns};
+ghost use Rattle.bram_replace.specs.Replaced.{bits_after, changes, column_found, columns_found, digits_with, memory_line_with, ram_bits};
 ghost use Rattle.asc_text.specs.Rams.{BeginsWithRam};
-ghost use Rattle.bram_replace.specs.Rams.{AreAlike, listed};
+ghost use Rattle.bram_replace.specs.Rams.{AreAlike, columns_after, listed};
 
 use crate::columns::{Columns, column_of, word_of};
 use crate::hex_file::HexFile;
+use crate::order::{by_columns, from_columns};
 use std::alloc::AllocError;
 use text_lines::{FirstLine, first_line, trimmed};
 
 /// How many lines a RAM has, how many words a line and how many bits a word.
-const SIXTEEN: usize = 16;
+pub(crate) const SIXTEEN: usize = 16;
 
 /// How many bits a line has.
 const LINE_BITS: usize = 256;
@@ -94,27 +96,48 @@ fn memory_bytes(line: &[u8]) -> [u8; 32]
     }
 }
 
-/// Replaces each column of a RAM that is a column of the first file by the column of that number of the second file, and
-/// counts it there.
-pub(crate) fn replace_columns(
+/// Replaces each column of a RAM in that mode that is a column of the first file by the column of that number of the second
+/// file, and counts it there.
+pub(crate) fn replace_in_mode(
     bits: &mut RamBits,
+    mode: usize,
     columns: &Columns,
     to: &HexFile,
     found: &mut [u32],
 )
+    requires mode { mode < 4 }
     requires counts { length found.old ≡ column_count columns.now.file.now }
     requires same { column_count to.now ≡ column_count columns.now.file.now }
     requires room { (column : ℕ) → get_or found.old column 0 < 2 ^ 31 }
-    ensures bits { AreAlike 256 (listed bits.new) (bits_after columns.now.file.now to.now (listed bits.old)) }
+    ensures bits { AreAlike 256 (listed bits.new) (bits_after columns.now.file.now to.now mode (listed bits.old)) }
     ensures found { (column : ℕ) → column < column_count columns.now.file.now
-        → get_or found.new column 0 ≡ get_or found.old column 0 + length (bits_found columns.now.file.now (listed bits.old) column) }
+        → get_or found.new column 0 ≡ get_or found.old column 0 + length (columns_found columns.now.file.now (by_columns mode (listed bits.old)) column) }
+{
+    if mode == 0 {
+        replace_columns(bits, columns, to, found);
+        return;
+    }
+    let mut own = by_columns(bits, mode);
+    replace_columns(&mut own, columns, to, found);
+    *bits = from_columns(&own, mode);
+}
+
+/// Replaces columns whose bits stand sixteen apart, each that is a column of the first file by the column of that number of
+/// the second file, and counts it there.
+fn replace_columns(bits: &mut RamBits, columns: &Columns, to: &HexFile, found: &mut [u32])
+    requires counts { length found.old ≡ column_count columns.now.file.now }
+    requires same { column_count to.now ≡ column_count columns.now.file.now }
+    requires room { (column : ℕ) → get_or found.old column 0 < 2 ^ 31 }
+    ensures bits { AreAlike 256 (listed bits.new) (columns_after columns.now.file.now to.now (listed bits.old)) }
+    ensures found { (column : ℕ) → column < column_count columns.now.file.now
+        → get_or found.new column 0 ≡ get_or found.old column 0 + length (columns_found columns.now.file.now (listed bits.old) column) }
 {
     for bit in 0..SIXTEEN {
         replace_column(bits, bit, columns, to, found);
     }
 }
 
-/// Replaces one column of a RAM, where it is a column of the first file, and counts it there.
+/// Replaces one of them, where it is a column of the first file, and counts it there.
 fn replace_column(
     bits: &mut RamBits,
     bit: usize,
@@ -127,9 +150,9 @@ fn replace_column(
     requires same { column_count to.now ≡ column_count columns.now.file.now }
     requires room { (column : ℕ) → get_or found.old column 0 < 2 ^ 31 + 16 }
     ensures bits { AreAlike 256 (listed bits.new)
-        (λ word place. if place == bit then bits_after columns.now.file.now to.now (listed bits.old) word place else listed bits.old word place) }
+        (λ word place. if place == bit then columns_after columns.now.file.now to.now (listed bits.old) word place else listed bits.old word place) }
     ensures found { (column : ℕ) → column < column_count columns.now.file.now
-        → get_or found.new column 0 ≡ get_or found.old column 0 + length (bit_found columns.now.file.now (listed bits.old) column bit) }
+        → get_or found.new column 0 ≡ get_or found.old column 0 + length (column_found columns.now.file.now (listed bits.old) column bit) }
 {
     let Some(place) = columns.place(column_of(bits.as_slice(), bit, SIXTEEN)) else {
         return;

@@ -4,18 +4,24 @@ ghost use Rattle.place_search.specs.Places.{gathered_below};
 ghost use Rattle.text_lines.specs.Lines.{line_at, lines_of, whole_lines_of};
 ghost use Rattle.text_lines.specs.Words.{first_word};
 ghost use Rattle.layout_file.specs.Layouts.{standard_layouts};
-ghost use Rattle.asc_text.specs.Faults.{Tells, asc_fault_of};
+ghost use Rattle.ice_image.specs.Either.{configuration_of};
+ghost use Rattle.asc_text.specs.Characters.{HasBits};
+ghost use Rattle.asc_text.specs.Faults.{asc_fault_of};
+ghost use Rattle.asc_text.specs.Meaning.{AscMeans, asc_symbols_of};
 ghost use Rattle.asc_text.specs.Statements.{ram_data_keyword};
 ghost use Rattle.bram_replace.specs.Columns.{column_count};
 ghost use Rattle.asc_text.specs.Rams.{BeginsWithRam, is_ram_line};
 ghost use Rattle.bram_replace.specs.Passed.{Passes};
-ghost use Rattle.bram_replace.specs.Replaced.{bits_after, bits_found, bram_fault, found_in, memory_line_with, ram_bits, replaced, text_fault, TellsBram};
+ghost use Rattle.bram_replace.specs.ReadModes.{by_columns, modes_in, no_modes};
+ghost use Rattle.bram_replace.specs.Replaced.{bits_after, bram_fault, columns_found, found_in, memory_line_with, ram_bits, replaced, text_fault, TellsBram};
 
 use crate::columns::Columns;
 use crate::fault::BramFault;
 use crate::hex_file::HexFile;
-use crate::ram::{append_lines, ram_bits, replace_columns};
+use crate::modes::{ReadModes, mode_of};
+use crate::ram::{append_lines, ram_bits, replace_in_mode};
 use asc_text::{AscFault, read_image_with};
+use ice_image::AnyImage;
 use layout_file::Layouts;
 use std::alloc::{AllocError, Global};
 use text_lines::{Separators, first_line, split_word, trimmed};
@@ -37,8 +43,24 @@ pub fn replace(
     from: &HexFile,
     to: &HexFile,
 ) -> Result<Replaced, BramFault>
-    ensures bytes { IfOk result (λ answer. answer.bytes.items ≡ replaced asc.now from.now to.now) }
-    ensures found { IfOk result (λ answer. answer.found.items ≡ found_in asc.now from.now) }
+    ensures bytes { IfOk result (λ answer. answer.bytes.items ≡ replaced asc.now from.now to.now no_modes) }
+    ensures found { IfOk result (λ answer. answer.found.items ≡ found_in asc.now from.now no_modes) }
+    ensures accepted { OnOk result (bram_fault asc.now from.now to.now ≡ None) }
+    ensures refused { IfErr result (TellsBram (bram_fault asc.now from.now to.now)) }
+{
+    replace_with(alloc, asc, from, to, ReadModes::Ignored)
+}
+
+/// The same, where each RAM is taken in its read mode or not.
+pub fn replace_with(
+    alloc: Global,
+    asc: &[u8],
+    from: &HexFile,
+    to: &HexFile,
+    modes: ReadModes,
+) -> Result<Replaced, BramFault>
+    ensures bytes { IfOk result (λ answer. answer.bytes.items ≡ replaced asc.now from.now to.now (modes_in modes (lines_of asc.now))) }
+    ensures found { IfOk result (λ answer. answer.found.items ≡ found_in asc.now from.now (modes_in modes (lines_of asc.now))) }
     ensures accepted { OnOk result (bram_fault asc.now from.now to.now ≡ None) }
     ensures refused { IfErr result (TellsBram (bram_fault asc.now from.now to.now)) }
 {
@@ -46,8 +68,8 @@ pub fn replace(
         return Err(BramFault::Shape);
     }
     let columns = Columns::of(alloc, from)?;
-    check_text(alloc, asc)?;
-    let answer = replace_rams(alloc, asc, &columns, to)?;
+    let image = image_of(alloc, asc)?;
+    let answer = replace_rams(alloc, asc, &image, modes, &columns, to)?;
     Ok(answer)
 }
 
@@ -58,13 +80,14 @@ fn have_one_shape(from: &HexFile, to: &HexFile) -> bool
     from.digits() == to.digits() && from.word_count() == to.word_count()
 }
 
-/// Whether the text can be read.
-fn check_text(alloc: Global, asc: &[u8]) -> Result<(), BramFault>
-    ensures accepted { OnOk result (asc_fault_of standard_layouts asc.now ≡ None) }
+/// The image that the text gives under the standard layouts.
+fn image_of(alloc: Global, asc: &[u8]) -> Result<AnyImage, BramFault>
+    ensures means { IfOk result (λ image. AscMeans standard_layouts asc.now (configuration_of image) (asc_symbols_of asc.now)) }
+    ensures bits { IfOk result (λ image. HasBits asc.now (configuration_of image)) }
     ensures refused { IfErr result (TellsBram (text_fault (asc_fault_of standard_layouts asc.now))) }
 {
-    match read_text(alloc, asc) {
-        Ok(()) => Ok(()),
+    match read_image_with(alloc, asc, Layouts::standard()) {
+        Ok(image) => Ok(image),
         Err(AscFault::Memory(e)) => Err(BramFault::Memory(e)),
         Err(AscFault::At { line, tile, cause }) => Err(BramFault::Asc(AscFault::At {
             line,
@@ -74,26 +97,20 @@ fn check_text(alloc: Global, asc: &[u8]) -> Result<(), BramFault>
     }
 }
 
-/// Reads the text under the standard layouts, and keeps nothing of it.
-fn read_text(alloc: Global, asc: &[u8]) -> Result<(), AscFault>
-    ensures accepted { OnOk result (asc_fault_of standard_layouts asc.now ≡ None) }
-    ensures refused { IfErr result (Tells (asc_fault_of standard_layouts asc.now)) }
-{
-    read_image_with(alloc, asc, Layouts::standard())?;
-    Ok(())
-}
-
-/// Replaces the RAMs of a text that can be read.
+/// Replaces the RAMs of a text that gives that image.
 fn replace_rams(
     alloc: Global,
     asc: &[u8],
+    image: &AnyImage,
+    modes: ReadModes,
     columns: &Columns,
     to: &HexFile,
 ) -> Result<Replaced, AllocError>
-    requires accepted { asc_fault_of standard_layouts asc.now ≡ None }
+    requires means { AscMeans standard_layouts asc.now (configuration_of image.now) (asc_symbols_of asc.now) }
+    requires bits { HasBits asc.now (configuration_of image.now) }
     requires same { column_count to.now ≡ column_count columns.now.file.now }
-    ensures bytes { IfOk result (λ answer. answer.bytes.items ≡ replaced asc.now columns.now.file.now to.now) }
-    ensures found { IfOk result (λ answer. answer.found.items ≡ found_in asc.now columns.now.file.now) }
+    ensures bytes { IfOk result (λ answer. answer.bytes.items ≡ replaced asc.now columns.now.file.now to.now (modes_in modes (lines_of asc.now))) }
+    ensures found { IfOk result (λ answer. answer.found.items ≡ found_in asc.now columns.now.file.now (modes_in modes (lines_of asc.now))) }
 {
     let mut bytes = Vec::new(alloc);
     let mut found = vec![in alloc; 0; columns.count()]?;
@@ -105,7 +122,8 @@ fn replace_rams(
             left = append_others(&mut bytes, left)?;
             continue;
         }
-        left = replace_ram(left, columns, to, &mut bytes, &mut found)?;
+        let mode = mode_of(modes, image, line.content);
+        left = replace_ram(left, mode, columns, to, &mut bytes, &mut found)?;
     }
     Ok(Replaced { bytes, found })
 }
@@ -150,27 +168,29 @@ fn has_ram_keyword(line: &[u8]) -> bool
     }
 }
 
-/// Replaces the RAM whose lines begin the text, and gives the text behind them.
+/// Replaces the RAM in that mode whose lines begin the text, and gives the text behind them.
 fn replace_ram<'a>(
     text: &'a [u8],
+    mode: usize,
     columns: &Columns,
     to: &HexFile,
     bytes: &mut Vec<u8>,
     found: &mut [u32],
 ) -> Result<&'a [u8], AllocError>
     requires begins { BeginsWithRam (lines_of text.now) }
+    requires mode { mode < 4 }
     requires counts { length found.old ≡ column_count columns.now.file.now }
     requires same { column_count to.now ≡ column_count columns.now.file.now }
     requires room { (column : ℕ) → get_or found.old column 0 < 2 ^ 31 }
     ensures bytes { OnOk result (let before = ram_bits (lines_of text.now) in bytes.new.items ≡ bytes.old.items
-        ++ gathered_below 16 (λ row. memory_line_with before (bits_after columns.now.file.now to.now before) row (line_at (whole_lines_of text.now) row))) }
+        ++ gathered_below 16 (λ row. memory_line_with before (bits_after columns.now.file.now to.now mode before) row (line_at (whole_lines_of text.now) row))) }
     ensures found { (column : ℕ) → column < column_count columns.now.file.now → get_or found.new column 0
-        ≡ get_or found.old column 0 + length (bits_found columns.now.file.now (ram_bits (lines_of text.now)) column) }
+        ≡ get_or found.old column 0 + length (columns_found columns.now.file.now (by_columns mode (ram_bits (lines_of text.now))) column) }
     ensures lines { IfOk result (λ left. lines_of left.now ≡ drop 16 (lines_of text.now)) }
     ensures whole_lines { IfOk result (λ left. whole_lines_of left.now ≡ drop 16 (whole_lines_of text.now)) }
 {
     let old = ram_bits(text);
     let mut new = old;
-    replace_columns(&mut new, columns, to, found);
+    replace_in_mode(&mut new, mode, columns, to, found);
     append_lines(bytes, text, &old, &new)
 }

@@ -15,6 +15,10 @@ texts_of args = map string_bytes args.items
 abbrev pub flag : Text → ℕ → Rule
 flag id short = record (new_rule id) { short = Some short; action = Some SetTrue }
 
+-- `--id`: there or not
+abbrev pub long_flag : Text → Rule
+long_flag id = record (new_rule id) { long = Some id; action = Some SetTrue }
+
 -- `-c VALUE`
 abbrev pub short_option : Text → ℕ → Rule
 short_option id short = record (new_rule id) { short = Some short; action = Some Set }

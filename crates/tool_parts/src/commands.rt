@@ -2,7 +2,7 @@
 ghost use Rattle.std.specs.Prelude.{◌≡◌, false, map, true, IfOk, IfSome, is_some, option_map, string_bytes};
 ghost use Rattle.clap.specs.Words.{App, Rule, all_of, app_of, first_of, found_of, is_simple_and_free, matches_of, rule_of, rows_of, with_rule};
 ghost use Rattle.tool_run.specs.Needs.{text_of};
-ghost use Rattle.tool_parts.specs.Commands.{flag, has_flag, is_taken, long_option, positional, required, several, short_option};
+ghost use Rattle.tool_parts.specs.Commands.{flag, has_flag, is_taken, long_flag, long_option, positional, required, several, short_option};
 
 use clap::error::ErrorKind;
 use clap::{Arg, ArgAction, ArgMatches, Command};
@@ -14,6 +14,14 @@ pub fn flag<'a>(alloc: Global, id: &'a str, short: char) -> Arg<'a>
     ensures local { result.global ≡ false }
 {
     Arg::new(alloc, id).short(short).action(ArgAction::SetTrue)
+}
+
+/// A flag named by its id.
+pub fn long_flag<'a>(alloc: Global, id: &'a str) -> Arg<'a>
+    ensures rule { rule_of result ≡ long_flag id.entry.now }
+    ensures local { result.global ≡ false }
+{
+    Arg::new(alloc, id).long(id).action(ArgAction::SetTrue)
 }
 
 /// An option of one letter with a value.

@@ -21,8 +21,8 @@ mod running;
 mod taking;
 
 pub use commands::{
-    flag, has_flag, long_option, parse, positional, required, several, short_option, value, values,
-    with,
+    flag, has_flag, long_flag, long_option, parse, positional, required, several, short_option,
+    value, values, with,
 };
 pub use database::{DB_LIMIT, read_database};
 pub use design_input::DesignInput;

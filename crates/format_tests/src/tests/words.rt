@@ -1,5 +1,7 @@
 // Memory words that are replaced in texts.
 
+mod modes;
+
 use asc_text::{AscCause, AscFault, TileXy};
 use bram_replace::{BramFault, HexFault, HexFile, replace};
 use std::alloc::{AllocError, Global};

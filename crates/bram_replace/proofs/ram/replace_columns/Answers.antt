@@ -2,7 +2,7 @@ use Rattle.std.proofs.Common.{◌≡◌, ◌+◌, length, get_or, refl, ap, ◌�
 use Rattle.std.proofs.lemmas.Bool.{cases_lt, le-ltb}
 use Rattle.place_search.specs.Places.{gathered_below}
 use Rattle.place_search.proofs.Places.{gathered_below-none}
-use Rattle.bram_replace.specs.Replaced.{bit_found}
+use Rattle.bram_replace.specs.Replaced.{column_found}
 use Rattle.std.proofs.lemmas.List.{get_or_past}
 use Rattle.bram_replace.specs.Columns.{column_count}
 use Rattle.bram_replace.specs.Rams.{listed}
@@ -14,7 +14,7 @@ loop-bit-init c =
     let from = c.args.columns.now.file.now in
     record {
       bits = λ word place few low. rw (le-ltb place 0 (omega arith)) refl;
-      counts = λ column few. omega (arith, ap length (gathered_below-none 0 (bit_found from (listed c.args.bits.now) column) (λ k below. absurd (omega arith))));
+      counts = λ column few. omega (arith, ap length (gathered_below-none 0 (column_found from (listed c.args.bits.now) column) (λ k below. absurd (omega arith))));
       room = λ column. omega (arith, c.requires.room column);
     }
 
@@ -42,4 +42,4 @@ pub returns-clause-found : goal.returns-clause-found
 returns-clause-found c column few =
     let from = c.args.columns.now.file.now in
     let all : c.loop-bit.bit ≡ 16 = omega arith in
-    c.loop-bit.invariant.counts column few ∙ ap (λ n. get_or c.args.found.now column 0 + length (gathered_below n (bit_found from (listed c.args.bits.now) column))) all
+    c.loop-bit.invariant.counts column few ∙ ap (λ n. get_or c.args.found.now column 0 + length (gathered_below n (column_found from (listed c.args.bits.now) column))) all

@@ -1,0 +1,92 @@
+// The bits of a RAM in the order of its columns, in any read mode.
+ghost use Rattle.std.specs.Prelude.{◌≡◌, ◌<◌, ◌+◌, ◌*◌, ◌^◌, ℕ};
+ghost use Rattle.bram_replace.specs.ReadModes.{address_of, by_columns, column_in, mode_width, place_in, reversed};
+ghost use Rattle.bram_replace.specs.Rams.{AreAlike, kept_at, listed};
+
+use crate::ram::{RamBits, SIXTEEN};
+
+/// How many bits a RAM has.
+const RAM_BITS: usize = 4096;
+
+/// How many words a block has.
+const BLOCK_WORDS: usize = 256;
+
+/// The bits of the columns of a RAM in that mode: at each place one bit of each column.
+pub(crate) fn by_columns(bits: &RamBits, mode: usize) -> RamBits
+    requires { mode < 4 }
+    ensures { AreAlike 256 (listed result) (by_columns mode (listed bits.now)) }
+{
+    let mut columns = [false; RAM_BITS];
+    for index in 0..RAM_BITS {
+        columns[index] = bits[kept_at(mode, index / SIXTEEN, index % SIXTEEN)];
+    }
+    columns
+}
+
+/// The bits of a RAM in that mode from the bits of its columns.
+pub(crate) fn from_columns(columns: &RamBits, mode: usize) -> RamBits
+    requires { mode < 4 }
+    ensures { AreAlike 256 (listed result) (λ word bit. listed columns.now (place_in mode word bit) (column_in mode word bit)) }
+{
+    let mut bits = [false; RAM_BITS];
+    for index in 0..RAM_BITS {
+        bits[index] = columns[stands_at(mode, index / SIXTEEN, index % SIXTEEN)];
+    }
+    bits
+}
+
+/// Where a RAM in that mode keeps the bit of a column at a place.
+fn kept_at(mode: usize, place: usize, column: usize) -> usize
+    requires mode { mode < 4 }
+    requires place { place < 256 }
+    requires column { column < 16 }
+    ensures is { result ≡ kept_at mode place column }
+    ensures within { result < 4096 }
+{
+    let words = words_each(mode);
+    let width = SIXTEEN / words;
+    let address = BLOCK_WORDS * (column / width) + place;
+    let bit = words * (column % width) + reversed(mode, address % words);
+    SIXTEEN * (address / words) + bit
+}
+
+/// Where a bit of a word of a RAM in that mode stands among the bits of its columns.
+fn stands_at(mode: usize, word: usize, bit: usize) -> usize
+    requires mode { mode < 4 }
+    requires word { word < 256 }
+    requires bit { bit < 16 }
+    ensures is { result ≡ 16 * place_in mode word bit + column_in mode word bit }
+    ensures within { result < 4096 }
+{
+    let words = words_each(mode);
+    let address = words * word + reversed(mode, bit % words);
+    let column = address / BLOCK_WORDS * (SIXTEEN / words) + bit / words;
+    SIXTEEN * (address % BLOCK_WORDS) + column
+}
+
+/// How many words of the memory a word of a RAM in that mode has bits of.
+fn words_each(mode: usize) -> usize
+    requires { mode < 4 }
+    ensures { result ≡ 2 ^ mode }
+{
+    match mode {
+        0 => 1,
+        1 => 2,
+        2 => 4,
+        _ => 8,
+    }
+}
+
+/// The last bits of a number, as many as the mode, in the reverse order.
+fn reversed(mode: usize, number: usize) -> usize
+    requires { mode < 4 }
+    ensures is { result ≡ reversed mode number }
+    ensures small { result < 2 ^ mode }
+{
+    match mode {
+        0 => 0,
+        1 => number % 2,
+        2 => 2 * (number % 2) + number / 2 % 2,
+        _ => 4 * (number % 2) + 2 * (number / 2 % 2) + number / 4 % 2,
+    }
+}

@@ -32,13 +32,15 @@ def need_chipdb(script):
         sys.exit(127)
 
 
-def limited(memory, closed):
-    """What is done in the process of a run before the program begins: it has so many bytes of memory at most, if that is a number, and
-    these streams are closed. A run that takes too long is ended by the system."""
+def limited(memory, closed, stack):
+    """What is done in the process of a run before the program begins: it has so many bytes of memory and of stack at most, if these are
+    numbers, and these streams are closed. A run that takes too long is ended by the system."""
     resource.setrlimit(resource.RLIMIT_CPU, (MOST_SECONDS, MOST_SECONDS))
     resource.setrlimit(resource.RLIMIT_CORE, (0, 0))
     for stream in closed:
         os.close(stream)
+    if stack is not None:
+        resource.setrlimit(resource.RLIMIT_STACK, (stack, stack))
     if memory is not None:
         resource.setrlimit(resource.RLIMIT_AS, (memory, memory))
 
@@ -70,15 +72,16 @@ class Tries:
     def path(self, name):
         return str(self.folder / name)
 
-    def run(self, words, source=os.devnull, output=None, memory=None, closed=(), user=None):
-        """Runs the program with these arguments and this file as standard input. Its standard output goes to `out`, or to the open stream
-        of that number. Where the system refuses to start it, the status is None."""
+    def run(self, words, source=os.devnull, output=None, memory=None, closed=(), user=None, stack=None, environment=None, program=None):
+        """Runs the program, or another one, with these arguments and this file as standard input. Its standard output goes to `out`, or to
+        the open stream of that number. The environment has these variables besides. Where the system refuses to start it, the status is
+        None."""
         target = open(self.path("out"), "wb") if output is None else output
         stdin = os.open(source, os.O_RDONLY)
         try:
             with open(self.path("said"), "wb") as stderr:
-                process = subprocess.Popen([PROGRAM] + words, stdin=stdin, stdout=target, stderr=stderr, user=user, cwd=self.folder,
-                                           preexec_fn=lambda: limited(memory, closed))
+                process = subprocess.Popen([program or PROGRAM] + words, stdin=stdin, stdout=target, stderr=stderr, user=user, cwd=self.folder,
+                                           env={**os.environ, **(environment or {})}, preexec_fn=lambda: limited(memory, closed, stack))
                 _, status, usage = os.wait4(process.pid, 0)
                 process.returncode = os.waitstatus_to_exitcode(status)
         except (OSError, subprocess.SubprocessError) as error:

@@ -9,12 +9,15 @@ mod generating;
 mod helping;
 mod joining;
 mod layouts;
+mod long;
 mod modules;
 mod packing;
 mod refusing;
 mod replacing;
 mod small;
 mod splitting;
+mod steps;
+mod turns;
 mod unpacking;
 mod writing;
 
@@ -24,6 +27,30 @@ use std::alloc::{AllocError, Global};
 
 const DEVICE: &[u8] = b".device 1k\n";
 
+/// The name and the bytes of a file.
+type Named<'a> = (&'a str, &'a [u8]);
+
+/// How many bytes a read gives at most, and a write takes.
+#[derive(Clone, Copy, Debug, PartialEq, Eq)]
+enum Part {
+    Large,
+    Middle,
+    Small,
+}
+
+impl Part {
+    /// The number of bytes.
+    fn most(self) -> usize
+        ensures { 1 ≤ result }
+    {
+        match self {
+            Part::Large => 10_000,
+            Part::Middle => 500,
+            Part::Small => 16,
+        }
+    }
+}
+
 /// What a run begins with.
 #[derive(Clone, Copy)]
 struct Setup<'a> {
@@ -32,12 +59,19 @@ struct Setup<'a> {
     first: &'a [u8],
     second_name: &'a str,
     second: &'a [u8],
-    /// How many bytes the file `out` takes.
+    /// More files.
+    more: &'a [Named<'a>],
+    /// How many bytes the file `out` takes, and standard output.
     room: usize,
+    output_room: usize,
+    /// How many bytes go at once.
+    part: Part,
     input: &'a [u8],
-    /// The read of the input that fails, from 1, and none where it is 0.
+    /// The call of files that fails, from 1, and none where it is 0: reads and stores are counted together.
+    failing_call: u64,
+    /// The read of the input that fails.
     failing_read: u64,
-    /// The write of standard output that fails. Each has at most 10,000 bytes.
+    /// The write of standard output that fails.
     failing_write: u64,
     /// The write of standard error that fails. Each has at most 7 bytes.
     failing_line: u64,
@@ -49,8 +83,12 @@ const PLAIN: Setup<'static> = Setup {
     first: b"",
     second_name: "",
     second: b"",
+    more: &[],
     room: 0,
+    output_room: 1_000_000,
+    part: Part::Large,
     input: b"",
+    failing_call: 0,
     failing_read: 0,
     failing_write: 0,
     failing_line: 0,
@@ -92,10 +130,15 @@ impl Stage {
             files: files_of(alloc, setup)?,
             input: MemSource::new(
                 setup.input.to_vec(alloc)?,
-                65_536,
+                setup.part.most(),
                 [setup.failing_read].to_vec(alloc)?,
             ),
-            output: sink(alloc, 1_000_000, 10_000, setup.failing_write)?,
+            output: sink(
+                alloc,
+                setup.output_room,
+                setup.part.most(),
+                setup.failing_write,
+            )?,
             errors: sink(alloc, 100, 7, setup.failing_line)?,
         })
     }
@@ -145,7 +188,11 @@ fn files_of(alloc: Global, setup: Setup<'_>) -> Result<MemFiles, AllocError> {
     let mut files = Vec::new(alloc);
     push_file(alloc, &mut files, setup.first_name, setup.first)?;
     push_file(alloc, &mut files, setup.second_name, setup.second)?;
-    MemFiles::new(alloc, files, "out", setup.room, 10_000, Vec::new(alloc))
+    for (name, bytes) in setup.more {
+        push_file(alloc, &mut files, name, bytes)?;
+    }
+    let failing = [setup.failing_call].to_vec(alloc)?;
+    MemFiles::new(alloc, files, "out", setup.room, setup.part.most(), failing)
 }
 
 /// A sink with that room, which takes so many bytes at a time, and of which that write fails.

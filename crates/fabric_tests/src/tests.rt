@@ -12,6 +12,7 @@ mod databases;
 mod designs;
 mod drives;
 mod explained;
+mod long_chains;
 mod nets;
 mod orders;
 mod pin_kinds;

@@ -66,6 +66,17 @@ fn joined(alloc: Global, more: &[u8]) -> Result<Vec<u8>, AllocError> {
     Ok(text)
 }
 
+/// The end of the small database, from the line of its first buffer on.
+const END: &[u8] = b"1 0\n.buffer 0 2 3 B6[0]\n1 2\n";
+
+/// The fault of the small database, of which the first buffer comes from net 6.
+fn fault_in_first_buffer(alloc: Global) -> Result<(u64, DbCause), AllocError> {
+    let len = CELL.len().saturating_sub(END.len());
+    let mut text = Vec::from_slice(alloc, CELL.get(..len).unwrap_or(b""))?;
+    text.extend_from_slice(b"1 6\n.buffer 0 2 3 B6[0]\n1 2\n")?;
+    Ok(fault_of(alloc, &text))
+}
+
 #[test]
 fn tells_each_cause(rt: HostRuntime) {
     for (more, line, cause) in [
@@ -94,6 +105,7 @@ fn tells_each_cause(rt: HostRuntime) {
     }
     assert!(rt; fault_of(rt.alloc(), b"") == (1, DbCause::NoDevice));
     assert!(rt; fault_of(rt.alloc(), CELL) == (0, DbCause::NoDevice));
+    assert!(rt; fault_in_first_buffer(rt.alloc()) == Ok((20, DbCause::NetRange)));
 }
 
 /// Whether the nets of the first database are found.

@@ -133,7 +133,7 @@ static JOBS: [Job; 20] = [
         "",
         Part::Large,
     ),
-    (&["iceunpack"], Way::InParts, &[], "stream", Part::Middle),
+    (&["iceunpack"], Way::InParts, &[], "stream", Part::Large),
     (
         &["icemulti", "-o", "out", "stream", "image"],
         Way::Whole,
@@ -146,7 +146,7 @@ static JOBS: [Job; 20] = [
         Way::Whole,
         &["image", "stream"],
         "",
-        Part::Middle,
+        Part::Large,
     ),
     (
         &["icesplit", "boot"],
@@ -230,7 +230,7 @@ static JOBS: [Job; 20] = [
         Way::Whole,
         &[],
         "",
-        Part::Middle,
+        Part::Small,
     ),
 ];
 

@@ -7,7 +7,8 @@ use Rattle.vlog_module.specs.declared.item.Item.{Item}
 use Rattle.vlog_module.specs.declared.item.Item.TheVariants.{Start}
 use Rattle.net_extract.specs.declared.ram.RamCell.{RamCell}
 use Rattle.net_extract.specs.Joins.{class_of}
-use Rattle.net_extract.specs.Fabric.{Fabric, numbered, outputs_of}
+use Rattle.net_extract.specs.Fabric.{Fabric, numbered}
+use Rattle.net_extract.specs.Outputs.{outputs_of}
 use Rattle.net_extract.specs.Drivers.{drivers_of}
 use Rattle.net_extract.specs.Values.{is_connected}
 use Rattle.net_extract.specs.Clocks.{ClockEnd, clock_end}

@@ -1,5 +1,5 @@
 -- The parts of a design and what its drivers name are there.
-use Rattle.std.proofs.Common.{◌≡◌, ℕ, ◌<◌, ◌≤◌, true, [], ◌∷◌, ◌++◌, length, map, get_or, refl, sym, ap, ◌∙◌, subst, arith, inl, inr}
+use Rattle.std.proofs.Common.{◌≡◌, ℕ, ◌<◌, ◌≤◌, true, List, [], ◌∷◌, ◌++◌, length, map, get_or, refl, sym, ap, ◌∙◌, subst, arith, inl, inr}
 use Rattle.std.specs.Prelude.{All, Contains, Option, Some, None, filter, option_to_list}
 use Rattle.std.proofs.lemmas.Bool.{cases_Bool}
 use Rattle.std.proofs.lemmas.List.Elements.{All-from_get_or, All-nil, All-cons, All-head, All-tail, All-contains, All-contains_itself, All-weaker}
@@ -19,7 +19,7 @@ use Rattle.net_extract.specs.Wiring.{has}
 use Rattle.net_extract.proofs.Facts.{has-some, has-source, has-left, has-right}
 use Rattle.net_extract.proofs.Order.{has-first}
 use Rattle.net_extract.proofs.OneValue.{first-driver, first-is, none-driven, count-is}
-use Rattle.net_extract.proofs.Within.{fabric-within}
+use Rattle.net_extract.proofs.Within.{fabric-within, outputs-within as read-by-outputs}
 use Rattle.net_extract.proofs.Chains.{clock_end-leads}
 use Rattle.net_extract.specs.Links.{class_in}
 use Rattle.fabric_wiring.specs.declared.drive.Rule.{Rule as KeptRule}
@@ -158,7 +158,7 @@ module _ (design : Kept) (is : IsDesign design) where
   rule-in (Copied net) there reads = reads net (has-first net [])
 
   -- the rule of an output names what is there
-  RuleThere : Output → Type 0
+  abbrev RuleThere : Output → Type 0
   RuleThere output =
       IsOutputRule (fabric_of is.0 is.1) output.rule
       × ((net : ℕ) → has (nets_read output.rule) net ≡ true → net < (fabric_of is.0 is.1).nets)
@@ -169,7 +169,7 @@ module _ (design : Kept) (is : IsDesign design) where
       All-weaker (Contains (outputs_of fabric)) RuleThere
       (λ output there. (
         All-contains (λ (one : Output). IsOutputRule fabric one.rule) (outputs_of fabric) output (outputs-ruled fabric) there,
-        (fabric-within is.0 is.1 is.2.fit).outputs-within output there,
+        read-by-outputs fabric is.2.kept.parts.within output there,
       )) (outputs_of fabric) (All-contains_itself (outputs_of fabric))
 
   pub outputs-within : All (λ output. IsRuleIn design output.rule) design.outputs

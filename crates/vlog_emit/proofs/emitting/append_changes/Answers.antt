@@ -9,7 +9,7 @@ append_register_items-requires-clause-within c =
     subst (All (IsRegisterIn c.args.design.now)) (sym c.registers.ensures.registers) (registers-within c.args.design.now c.registers.ensures.design)
 
 pub append_reads-requires-clause-modes : goal.append_reads-requires-clause-modes
-append_reads-requires-clause-modes c = subst (All (λ ram. ram.read ≤ 3)) (sym c.rams.ensures.rams) (reads-moded c.args.design.now c.rams.ensures.design)
+append_reads-requires-clause-modes c = subst (All (λ ram. ram.read ≤ 3)) (sym c.rams-rams.ensures.rams) (reads-moded c.args.design.now c.rams-rams.ensures.design)
 
 pub append_writes-requires-clause-modes : goal.append_writes-requires-clause-modes
-append_writes-requires-clause-modes c = subst (All (λ ram. ram.write ≤ 3)) (sym c.rams.ensures.rams) (writes-moded c.args.design.now c.rams.ensures.design)
+append_writes-requires-clause-modes c = subst (All (λ ram. ram.write ≤ 3)) (sym c.rams-rams.ensures.rams) (writes-moded c.args.design.now c.rams-rams.ensures.design)

@@ -1,0 +1,11 @@
+use Rattle.std.proofs.Common.{◌≡◌, ◌/◌, get_or}
+use Rattle.std.specs.Prelude.{None}
+use Rattle.rams_narrow.specs.Narrow.{share}
+use Rattle.net_extract.specs.Tiles.{each_below}
+use Rattle.net_extract.specs.Rams.{data_bit}
+use Rattle.fabric_module.specs.Rights.{atom_or_0}
+use Rattle.vlog_emit.specs.Each.{EachFabric}
+use Rattle.vlog_emit.proofs.atoms.data_atoms.Given as goal
+
+abbrev pub invariant-loop-place : goal.invariant-loop-place
+invariant-loop-place l = EachFabric l.design (λ fabric. l.atoms ≡ each_below l.place (λ j. atom_or_0 fabric (get_or l.ports (data_bit l.mode (j / share l.mode)) None)))

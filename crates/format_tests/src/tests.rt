@@ -3,6 +3,7 @@ ghost use Rattle.std.specs.Prelude.{◌≡◌, Some, IsTrue};
 ghost use Rattle.plane_map.specs.Layout.{kind_of, IsTileBit, IsInCram};
 
 mod boot_files;
+mod generated;
 mod images;
 mod layouts;
 mod packing;

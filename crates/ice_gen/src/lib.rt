@@ -22,6 +22,3 @@ mod tiles;
 pub use database::chipdb;
 pub use event::{PinEvent, events};
 pub use full_image::image;
-
-#[cfg(test)]
-mod tests;

@@ -1,10 +1,9 @@
 // The generated texts, images and events, against those of a program that was written apart from this one.
-ghost use Rattle.std.specs.Prelude.{◌≡◌, Some, IsTrue};
-ghost use Rattle.plane_map.specs.Layout.{kind_of};
 
-use crate::{PinEvent, chipdb, events, image};
+use super::is_lower_ram;
+use ice_gen::{PinEvent, chipdb, events, image};
 use ice_image::AnyImage;
-use plane_map::{DeviceName, TileKind, kind_on};
+use plane_map::DeviceName;
 use std::alloc::{AllocError, Global};
 
 // ---- the database
@@ -97,12 +96,6 @@ fn rows_of_tiles_have_their_bits(rt: HostRuntime) {
             "at {x} {y} {row}"
         );
     }
-}
-
-fn is_lower_ram(device: DeviceName, x: u8, y: u8) -> bool
-    ensures { IsTrue result → kind_of device x y ≡ Some TileKind.RamB }
-{
-    kind_on(device, u32::from(x), u32::from(y)) == Some(TileKind::RamB)
 }
 
 /// A word of a RAM.

@@ -10,6 +10,3 @@ mod sections;
 mod text;
 
 pub use emitting::emit;
-
-#[cfg(test)]
-mod runs;

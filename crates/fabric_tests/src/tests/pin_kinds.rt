@@ -3,98 +3,13 @@
 use super::{Case, Cause, Gives, is_so};
 use fabric_wiring::{Drive, Output, Rule};
 use net_extract::{ClockUser, Driver, Pin, PinKind, Register, Source, Table};
-use sample_images::{CELL, SampleBit};
+use sample_images::{
+    CELL, INVERTS, REGISTERED_INPUT, REGISTERED_INPUT_PINS, REGISTERED_OUTPUT,
+    REGISTERED_OUTPUT_PINS, SWITCHED_PINS, SampleBit,
+};
 use std::alloc::Global;
 
-/// An inverter from a pin whose register has its clock from another pin.
-const INPUT: &[u8] = b".device 1k 14 18 6
-.logic_tile_bits 54 16
-LC_0 B0[36] B0[37] B0[38] B0[39] B0[40] B0[41] B0[42] B0[43] B0[44] B0[45] B1[36] B1[37] B1[38] B1[39] B1[40] B1[41] B1[42] B1[43] B1[44] B1[45]
-.io_tile_bits 18 16
-IOB_0.PINTYPE_0 B0[0]
-IOB_0.PINTYPE_1 B1[0]
-IOB_0.PINTYPE_2 B2[0]
-IOB_0.PINTYPE_3 B3[0]
-IOB_0.PINTYPE_4 B4[0]
-IOB_0.PINTYPE_5 B5[0]
-.net 0
-0 1 io_0/D_IN_0
-.net 1
-1 1 lutff_0/in_0
-.net 2
-1 1 lutff_0/out
-.net 3
-0 2 io_0/D_OUT_0
-.buffer 1 1 1 B2[0]
-1 0
-.buffer 0 2 3 B6[0]
-1 2
-.net 4
-0 1 io_global/inclk
-0 3 io_0/D_IN_0
-";
-
-/// An inverter with a flip-flop, to a pin whose register has the same clock and whose value can be read.
-const OUTPUT: &[u8] = b".device 1k 14 18 6
-.logic_tile_bits 54 16
-LC_0 B0[36] B0[37] B0[38] B0[39] B0[40] B0[41] B0[42] B0[43] B0[44] B0[45] B1[36] B1[37] B1[38] B1[39] B1[40] B1[41] B1[42] B1[43] B1[44] B1[45]
-.io_tile_bits 18 16
-IOB_0.PINTYPE_0 B0[0]
-IOB_0.PINTYPE_1 B1[0]
-IOB_0.PINTYPE_2 B2[0]
-IOB_0.PINTYPE_3 B3[0]
-IOB_0.PINTYPE_4 B4[0]
-IOB_0.PINTYPE_5 B5[0]
-.net 0
-0 1 io_0/D_IN_0
-.net 1
-1 1 lutff_0/in_0
-.net 2
-1 1 lutff_0/out
-.net 3
-0 2 io_0/D_OUT_0
-.buffer 1 1 1 B2[0]
-1 0
-.buffer 0 2 3 B6[0]
-1 2
-.net 4
-0 2 io_global/outclk
-0 3 io_0/D_IN_0
-1 1 lutff_global/clk
-.net 5
-0 2 io_0/D_IN_0
-";
-
-/// The bits of the inverter and of the two buffers.
-const INVERTS: [SampleBit; 10] = [
-    (1, 1, 0, 37),
-    (1, 1, 0, 39),
-    (1, 1, 0, 40),
-    (1, 1, 0, 42),
-    (1, 1, 1, 36),
-    (1, 1, 1, 38),
-    (1, 1, 1, 41),
-    (1, 1, 1, 43),
-    (1, 1, 2, 0),
-    (0, 2, 6, 0),
-];
-
-/// The bits of a registered input pin, which are none, of a plain output pin and of the pin of the clock.
-const INPUT_PINS: [SampleBit; 4] = [(0, 2, 0, 0), (0, 2, 3, 0), (0, 2, 4, 0), (0, 3, 0, 0)];
-
-/// The bits of a plain input pin, of a registered output pin, of the pin of the clock and of the flip-flop.
-const OUTPUT_PINS: [SampleBit; 6] = [
-    (0, 1, 0, 0),
-    (0, 2, 0, 0),
-    (0, 2, 2, 0),
-    (0, 2, 4, 0),
-    (0, 3, 0, 0),
-    (1, 1, 0, 45),
-];
-
-/// The bits of a plain input pin and of an output pin that can be switched off, and of one of a type that isn't taken.
-const SWITCHED: [SampleBit; 4] = [(0, 1, 0, 0), (0, 2, 0, 0), (0, 2, 3, 0), (0, 2, 5, 0)];
-
+/// A plain input pin, and an output pin of a type that isn't taken.
 const NOT_TAKEN: [SampleBit; 4] = [(0, 1, 0, 0), (0, 2, 0, 0), (0, 2, 2, 0), (0, 2, 5, 0)];
 
 /// A table with one input.
@@ -220,12 +135,19 @@ fn a_registered_input_pin_drives_by_its_register(rt: HostRuntime) {
     ];
     let registers = [register];
     let order = [0, 1, 2, 3, 4];
-    assert!(rt; is_inverter(rt.alloc(), INPUT, &INPUT_PINS, Gives::Drives(&drives)));
     assert!(rt;
         is_inverter(
             rt.alloc(),
-            INPUT,
-            &INPUT_PINS,
+            REGISTERED_INPUT,
+            &REGISTERED_INPUT_PINS,
+            Gives::Drives(&drives)
+        )
+    );
+    assert!(rt;
+        is_inverter(
+            rt.alloc(),
+            REGISTERED_INPUT,
+            &REGISTERED_INPUT_PINS,
             Gives::Registers(&registers, &order)
         )
     );
@@ -253,7 +175,14 @@ fn a_registered_output_pin_is_read_from_its_register(rt: HostRuntime) {
             Rule::RegisterBit { place: 1, register },
         ),
     ];
-    assert!(rt; is_inverter(rt.alloc(), OUTPUT, &OUTPUT_PINS, Gives::Drives(&drives)));
+    assert!(rt;
+        is_inverter(
+            rt.alloc(),
+            REGISTERED_OUTPUT,
+            &REGISTERED_OUTPUT_PINS,
+            Gives::Drives(&drives)
+        )
+    );
 }
 
 #[test]
@@ -271,12 +200,19 @@ fn a_registered_output_pin_gives_its_register(rt: HostRuntime) {
     assert!(rt;
         is_inverter(
             rt.alloc(),
-            OUTPUT,
-            &OUTPUT_PINS,
+            REGISTERED_OUTPUT,
+            &REGISTERED_OUTPUT_PINS,
             Gives::Registers(&registers, &order)
         )
     );
-    assert!(rt; is_inverter(rt.alloc(), OUTPUT, &OUTPUT_PINS, Gives::Outputs(&outputs)));
+    assert!(rt;
+        is_inverter(
+            rt.alloc(),
+            REGISTERED_OUTPUT,
+            &REGISTERED_OUTPUT_PINS,
+            Gives::Outputs(&outputs)
+        )
+    );
 }
 
 #[test]
@@ -301,6 +237,6 @@ fn a_pin_that_can_be_switched_off_has_two_outputs(rt: HostRuntime) {
         },
     ];
     let refused = Gives::Refused(Cause::PinMode(0, 2, 0, 37));
-    assert!(rt; is_inverter(rt.alloc(), CELL, &SWITCHED, Gives::Outputs(&outputs)));
+    assert!(rt; is_inverter(rt.alloc(), CELL, &SWITCHED_PINS, Gives::Outputs(&outputs)));
     assert!(rt; is_inverter(rt.alloc(), CELL, &NOT_TAKEN, refused));
 }

@@ -4,6 +4,7 @@ ghost use Rattle.plane_map.specs.Layout.{kind_of};
 ghost use Rattle.plane_map.specs.declared.tile.TileKind.TheVariants.{RamB};
 
 mod cells;
+mod pins;
 mod rams;
 
 use fabric::{Design, design};

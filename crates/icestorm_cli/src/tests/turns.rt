@@ -387,10 +387,12 @@ fn is_cut(
     writes: u64,
 ) -> Result<bool, AllocError> {
     let line = line_on(alloc, job, "write failed", "standard output")?;
-    Ok(ended.says(4, &line)
-        && is_taken(job, writes, ended.output.len())
-        && whole.output.starts_with(&ended.output)
-        && ended.stored.as_slice() == BEFORE)
+    Ok(
+        ended.says(4, &line)
+            && is_taken(job, writes, ended.output.len())
+            && whole.output.starts_with(&ended.output)
+            && ended.stored.as_slice() == BEFORE,
+    )
 }
 
 /// More writes than any job makes.
@@ -557,17 +559,23 @@ fn keeps_usage_error(alloc: Global, tool: &str, writes: usize) -> Result<bool, A
     let ended = outcome(alloc, setup, &words)?;
     let told = ended.errors.len();
     let is_cut = told >= writes && told <= writes.saturating_mul(7);
-    Ok(ended.status == 2
-        && is_cut
-        && whole.errors.starts_with(&ended.errors)
-        && ended.output.is_empty())
+    Ok(
+        ended.status == 2
+            && is_cut
+            && whole.errors.starts_with(&ended.errors)
+            && ended.output.is_empty(),
+    )
 }
 
 #[test]
 fn keeps_the_status_where_no_line_is_told(rt: HostRuntime) {
     for tool in &TOOLS {
         for writes in 0..4 {
-            assert_eq!(rt; keeps_usage_error(rt.alloc(), tool, writes), Ok(true), "of {tool:?}");
+            assert_eq!(rt;
+                keeps_usage_error(rt.alloc(), tool, writes),
+                Ok(true),
+                "of {tool:?}"
+            );
         }
     }
 }

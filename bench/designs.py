@@ -14,6 +14,8 @@ SHAPES = (8, 256), (4, 256), (16, 512), (16, 1024), (2, 2048), (1, 4096), (8, 51
 class Design:
     """What all designs have."""
 
+    # how many designs there are in a family that doesn't go on for ever
+    COUNT = None
     inputs = []
     outputs = []
     events = []
@@ -132,7 +134,9 @@ def joined(names):
 
 
 class Memory(Design):
-    """A memory, which is also read only where the number says so."""
+    """A memory of each shape, and after these the same read only."""
+
+    COUNT = 2 * len(SHAPES)
 
     def __init__(self, number):
         draws = random.Random(number)

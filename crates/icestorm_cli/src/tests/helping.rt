@@ -1,7 +1,7 @@
 // The help of each tool: it shows the tool's command line, and a line for each option and value with its own words.
 use bitstream_tools::{
-    ICEBRAM_HELP, ICEBRAM_USAGE, ICEMULTI_HELP, ICEMULTI_USAGE, ICEPACK_HELP, ICEPACK_USAGE,
-    ICESPLIT_HELP, ICESPLIT_USAGE, ICEUNPACK_HELP, ICEUNPACK_USAGE,
+    ICEBRAM_HELP, ICEMULTI_HELP, ICEMULTI_USAGE, ICEPACK_HELP, ICEPACK_USAGE, ICESPLIT_HELP,
+    ICESPLIT_USAGE, ICEUNPACK_HELP, ICEUNPACK_USAGE,
 };
 use design_tools::{ICEBOX_VLOG_HELP, ICEBOX_VLOG_USAGE};
 use fabric_tools::{
@@ -62,8 +62,9 @@ static HELPS: [Help; 10] = [
     },
     Help {
         help: ICEBRAM_HELP,
-        usage: ICEBRAM_USAGE,
+        usage: "icebram [--by-mode] FROM TO",
         heads: &[
+            "  --by-mode takes each RAM in its read mode",
             "  FROM      the contents with which the design was made",
             "  TO        the contents that take their place",
             "  INPUT     the text, on standard input",

@@ -233,7 +233,7 @@ fn names_a_module(rt: HostRuntime) {
 /// Lines behind the database, the tiles of an image, and the line.
 type Refused = (&'static str, &'static [Tile], &'static str);
 
-static REFUSED: [Refused; 10] = [
+static REFUSED: [Refused; 9] = [
     (
         PINS,
         &[(".io_tile 0 1\n", 18, &[(7, 0)])],
@@ -241,21 +241,13 @@ static REFUSED: [Refused; 10] = [
     ),
     (
         PINS,
-        &[(".io_tile 0 1\n", 18, &[(0, 0), (2, 0), (4, 0)])],
-        "icebox_vlog: tile 0 1 pin 0: PinMode 010101\n",
+        &[(".io_tile 0 1\n", 18, &[(0, 0), (2, 0), (5, 0)])],
+        "icebox_vlog: tile 0 1 pin 0: PinMode 100101\n",
     ),
     (
         PINS,
         &[(".io_tile 0 2\n", 18, &[(3, 0), (4, 0), (8, 0)])],
         "icebox_vlog: tile 0 2 pin 0: PinMode 011000\n",
-    ),
-    (
-        RAM,
-        &[
-            (".ramb_tile 3 1\n", 42, &[(0, 0), (1, 0)]),
-            (".ramt_tile 3 2\n", 42, &[(4, 0), (3, 0)]),
-        ],
-        "icebox_vlog: tile 3 1: Mode 1 2\n",
     ),
     (
         RAM,
@@ -269,8 +261,11 @@ static REFUSED: [Refused; 10] = [
     ),
     (
         CLOCKED,
-        &[(".logic_tile 1 1\n", 54, &[(0, 45), (1, 45), (2, 0), (3, 0)])],
-        "icebox_vlog: tile 0 1 pin 0: PinMode 000000\n",
+        &[
+            (".io_tile 0 1\n", 18, &[(1, 0)]),
+            (".logic_tile 1 1\n", 54, &[(0, 45), (1, 45), (2, 0), (3, 0)]),
+        ],
+        "icebox_vlog: tile 0 1 pin 0: PinMode 000010\n",
     ),
     (
         CLOCKED,

@@ -3,10 +3,10 @@ use Rattle.std.proofs.Common.{◌≡◌, ℕ, Bool, List, [], ◌∷◌, ◌++�
 use Rattle.std.specs.Prelude.{flat_map, if◌then◌else◌}
 use Rattle.std.specs.List.{AllZip}
 use Rattle.vlog_module.specs.Parts.{Parts}
-use Rattle.vlog_cycle.specs.declared.event.Event.{Event as ModuleEvent}
-use Rattle.vlog_cycle.specs.Entries.{Entry as ModuleEntry}
+use Rattle.vlog_plan.specs.declared.event.Event.{Event as ModuleEvent}
+use Rattle.vlog_plan.specs.Entries.{Entry as ModuleEntry}
 use Rattle.vlog_cycle.specs.Events.{events_of}
-use Rattle.vlog_cycle.specs.Run.{module_run}
+use Rattle.vlog_plan.specs.Run.{module_run}
 use Rattle.vlog_cycle.specs.Text.{bit_digit, word_text, registers_text, entry_line, run_text}
 use Rattle.net_extract.specs.Fabric.{Fabric}
 use Rattle.net_extract.specs.Steps.{Entry}

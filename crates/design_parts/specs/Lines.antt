@@ -3,7 +3,7 @@ use Rattle.std.specs.Prelude.{ℕ, Bool, List, [], ◌∷◌, ◌++◌, map, fla
 use Rattle.bit_plane.specs.BitList.{word_of}
 use Rattle.ice_image.specs.Configuration.{Configuration}
 use Rattle.chipdb_reader.specs.Database.{Database}
-use Rattle.vlog_cycle.specs.declared.event.Event.{Event as ModuleEvent}
+use Rattle.vlog_plan.specs.declared.event.Event.{Event as ModuleEvent}
 use Rattle.vlog_cycle.specs.Events.{events_of}
 use Rattle.vlog_cycle.specs.Text.{bit_digit, word_text}
 use Rattle.net_extract.specs.Fabric.{fabric_of}

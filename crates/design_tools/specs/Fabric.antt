@@ -9,7 +9,7 @@ use Rattle.ice_image.specs.Configuration.{Configuration}
 use Rattle.chipdb_reader.specs.Database.{Database}
 use Rattle.vlog_forms.specs.Items.{IsSpelling}
 use Rattle.vlog_cycle.specs.Events.{events_of}
-use Rattle.vlog_cycle.specs.Run.{module_run}
+use Rattle.vlog_plan.specs.Run.{module_run}
 use Rattle.vlog_cycle.specs.Text.{run_text}
 use Rattle.net_extract.specs.Fabric.{fabric_of}
 use Rattle.net_extract.specs.Steps.{Event, Entry, IsRun}

@@ -11,7 +11,7 @@ use Rattle.place_search.specs.Places.{gathered_below}
 use Rattle.bit_plane.specs.BitList.{word_of}
 use Rattle.vlog_module.specs.declared.item.Item.{Item}
 use Rattle.vlog_module.specs.declared.item.Item.TheVariants.{Register as RegisterItem, Word, Memory, Wire, Assign, Flip, FlipAtOnce, SetAtOnce, Read, ReadNarrow, Write, WriteNarrow, Start}
-use Rattle.vlog_cycle.specs.Run.{input_start, register_start, word_start, memory_start, start_step, start}
+use Rattle.vlog_plan.specs.Run.{input_start, register_start, word_start, memory_start, start_step, start}
 use Rattle.net_extract.specs.declared.register.Register.{Register}
 use Rattle.net_extract.specs.declared.ram.RamCell.{RamCell}
 use Rattle.net_extract.specs.Tiles.{each_below}

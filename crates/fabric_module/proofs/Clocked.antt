@@ -15,11 +15,11 @@ use Rattle.vlog_module.specs.declared.item.Item.{Item}
 use Rattle.vlog_module.specs.declared.item.Item.TheVariants.{Register as RegisterItem, Word, Memory, Wire, Assign, Flip, FlipAtOnce, SetAtOnce, Read, ReadNarrow, Write, WriteNarrow, Start}
 use Rattle.vlog_module.specs.Maps.{value_in}
 use Rattle.vlog_module.specs.Parts.{Parts}
-use Rattle.vlog_cycle.specs.declared.event.Event.{Event as ModuleEvent}
-use Rattle.vlog_cycle.specs.Entries.{Entry as ModuleEntry}
-use Rattle.vlog_cycle.specs.Values.{number_of, atom_value, atoms_value, lut_value}
-use Rattle.vlog_cycle.specs.Run.{Put, readable, is_enabled, taken_from, put_at, put_given, put_given_word, masked, moved_down, moved_up}
-use Rattle.vlog_cycle.specs.Run.{next_bit as next_of_flip, next_word, next_put}
+use Rattle.vlog_plan.specs.declared.event.Event.{Event as ModuleEvent}
+use Rattle.vlog_plan.specs.Entries.{Entry as ModuleEntry}
+use Rattle.vlog_plan.specs.Values.{number_of, atom_value, atoms_value, lut_value}
+use Rattle.vlog_plan.specs.Run.{Put, readable, is_enabled, taken_from, put_at, put_given, put_given_word, masked, moved_down, moved_up}
+use Rattle.vlog_plan.specs.Run.{next_bit as next_of_flip, next_word, next_put}
 use Rattle.net_extract.specs.declared.register.Register.{Register}
 use Rattle.net_extract.specs.declared.ram.RamCell.{RamCell}
 use Rattle.net_extract.specs.Fabric.{Fabric}

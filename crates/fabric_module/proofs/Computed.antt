@@ -3,7 +3,7 @@ use Rattle.std.proofs.Common.{◌≡◌, ℕ, Bool, true, false, List, [], ◌�
 use Rattle.std.specs.Prelude.{All, Option, Some, None, filter, flat_map, bytes_eq, ◌&&◌, if◌then◌else◌}
 use Rattle.shared_lemmas.proofs.Lists.{map-same}
 use Rattle.vlog_module.specs.declared.item.Item.{Item}
-use Rattle.vlog_cycle.specs.Named.{names_of, values_of}
+use Rattle.vlog_plan.specs.Named.{names_of, values_of}
 use Rattle.net_extract.specs.Fabric.{numbered}
 use Rattle.net_extract.proofs.Apart.{apart-numbered}
 use Rattle.fabric_module.specs.Matching.{HasValues}

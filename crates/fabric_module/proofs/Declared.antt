@@ -12,7 +12,7 @@ use Rattle.vlog_module.specs.Names.{IsName}
 use Rattle.vlog_module.specs.Uses.{uses_of, used_name}
 use Rattle.vlog_module.specs.Uses.Use.{Declares}
 use Rattle.vlog_module.specs.WellFormed.{section_of, port_sort, Scope, scope_of, is_known, is_first, IsInRange, IsShaped, IsAllowed}
-use Rattle.vlog_cycle.specs.Named.{names_of}
+use Rattle.vlog_plan.specs.Named.{names_of}
 use Rattle.net_extract.proofs.Within.{All-single}
 use Rattle.net_extract.specs.Fabric.{Fabric}
 use Rattle.net_extract.proofs.Apart.{All-every}

@@ -8,7 +8,7 @@ use Rattle.chipdb_reader.specs.Database.{Database}
 use Rattle.chipdb_reader.specs.Fit.{IsFit}
 use Rattle.vlog_module.specs.Names.{IsName}
 use Rattle.vlog_module.specs.WellFormed.{IsModule}
-use Rattle.vlog_cycle.specs.Run.{module_run}
+use Rattle.vlog_plan.specs.Run.{module_run}
 use Rattle.net_extract.specs.declared.pin.GlobalNet.{GlobalNet}
 use Rattle.net_extract.specs.Rams.{rams_of}
 use Rattle.net_extract.specs.Fabric.{inputs_of, fabric_of}

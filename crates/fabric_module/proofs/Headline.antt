@@ -11,9 +11,9 @@ use Rattle.plane_map.specs.declared.device.DeviceName.{DeviceName}
 use Rattle.bit_plane.specs.BitList.{word_of}
 use Rattle.vlog_module.specs.Maps.{value_in}
 use Rattle.vlog_module.specs.Parts.{Parts}
-use Rattle.vlog_cycle.specs.Entries.{Entry as ModuleEntry}
-use Rattle.vlog_cycle.specs.Run.{readable, next_bit, next_word, next_put, put_given, put_given_word, register_step, word_step, memory_step, with_input, changed, is_same_bit, input_bit, followed, run_from, start, module_run}
-use Rattle.vlog_cycle.proofs.Entering.{names-input, values-input}
+use Rattle.vlog_plan.specs.Entries.{Entry as ModuleEntry}
+use Rattle.vlog_plan.specs.Run.{readable, next_bit, next_word, next_put, put_given, put_given_word, register_step, word_step, memory_step, with_input, changed, is_same_bit, input_bit, followed, run_from, start, module_run}
+use Rattle.vlog_plan.proofs.Entering.{names-input, values-input}
 use Rattle.net_extract.specs.declared.register.Register.{Register}
 use Rattle.net_extract.specs.declared.ram.RamCell.{RamCell}
 use Rattle.net_extract.specs.Fabric.{Fabric, numbered, inputs_of}

@@ -11,7 +11,7 @@ use Rattle.vlog_module.specs.declared.sort.Sort.{Sort}
 use Rattle.vlog_module.specs.declared.sort.Sort.TheVariants as sort
 use Rattle.vlog_module.specs.Names.{IsName}
 use Rattle.vlog_module.specs.WellFormed.{port_sort, Scope}
-use Rattle.vlog_cycle.specs.Named.{names_of}
+use Rattle.vlog_plan.specs.Named.{names_of}
 use Rattle.net_extract.specs.declared.ram.RamCell.{RamCell}
 use Rattle.vlog_module.specs.declared.modules.Port.{Port}
 use Rattle.net_extract.specs.Fabric.{Fabric, inputs_of}

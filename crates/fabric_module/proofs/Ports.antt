@@ -4,7 +4,7 @@ use Rattle.std.specs.Prelude.{All, filter, flat_map, bytes_eq, codes, not, ◌&&
 use Rattle.std.proofs.lemmas.Bool.{cases_Bool}
 use Rattle.std.proofs.lemmas.List.Elements.{All-nil, All-cons, All-head, All-tail, All-map}
 use Rattle.vlog_module.specs.declared.modules.Port.{Port}
-use Rattle.vlog_cycle.specs.Run.{input_start, output_start}
+use Rattle.vlog_plan.specs.Run.{input_start, output_start}
 use Rattle.net_extract.specs.declared.register.Register.{Register}
 use Rattle.net_extract.specs.declared.pin.Pin.{Pin}
 use Rattle.net_extract.specs.Pins.{is_tri_state_kind}

@@ -7,7 +7,7 @@ use Rattle.bit_plane.specs.BitList.{word_of}
 use Rattle.vlog_module.specs.declared.atoms.Atom.{Atom}
 use Rattle.vlog_module.specs.declared.atoms.Atom.TheVariants.{Bit, Whole, Part}
 use Rattle.vlog_module.specs.Maps.{value_in}
-use Rattle.vlog_cycle.specs.Values.{Readable, atom_value, right_value}
+use Rattle.vlog_plan.specs.Values.{Readable, atom_value, right_value}
 use Rattle.net_extract.specs.declared.register.Source.{Source}
 use Rattle.net_extract.specs.declared.register.Source.TheVariants.{Net, Pin as SourcePin}
 use Rattle.net_extract.specs.declared.register.Table.{Table}

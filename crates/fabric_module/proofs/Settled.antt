@@ -14,9 +14,9 @@ use Rattle.bit_plane.specs.BitList.{word_of}
 use Rattle.vlog_module.specs.declared.atoms.Atom.TheVariants.{Whole}
 use Rattle.vlog_module.specs.declared.item.Item.TheVariants.{Register as RegisterItem, Word, Memory, Wire, Assign, Flip, FlipAtOnce, SetAtOnce, Read, ReadNarrow, Write, WriteNarrow, Start}
 use Rattle.vlog_module.specs.Maps.{value_in}
-use Rattle.vlog_cycle.specs.Named.{names_of, values_of}
-use Rattle.vlog_cycle.specs.Values.{Readable, atom_value, right_value}
-use Rattle.vlog_cycle.specs.Run.{output_start, wire_step, settle_step, output_step, settled}
+use Rattle.vlog_plan.specs.Named.{names_of, values_of}
+use Rattle.vlog_plan.specs.Values.{Readable, atom_value, right_value}
+use Rattle.vlog_plan.specs.Run.{output_start, wire_step, settle_step, output_step, settled}
 use Rattle.net_extract.specs.declared.register.Register.{Register}
 use Rattle.net_extract.specs.Fabric.{Fabric, numbered, inputs_of}
 use Rattle.net_extract.specs.Outputs.{Output, outputs_of}

@@ -6,10 +6,10 @@ use Rattle.shared_lemmas.proofs.Bytes.{bytes_eq-same}
 use Rattle.plane_map.specs.declared.device.DeviceName.{DeviceName}
 use Rattle.vlog_module.specs.Maps.{value_in}
 use Rattle.vlog_module.specs.declared.modules.Port.{Port}
-use Rattle.vlog_cycle.specs.declared.event.Event.{Event as ModuleEvent}
-use Rattle.vlog_cycle.specs.Named.{names_of}
-use Rattle.vlog_cycle.specs.Numbered.{numbered as counted}
-use Rattle.vlog_cycle.specs.Run.{input_names, pin_of, is_pin, is_edge, is_same_bit}
+use Rattle.vlog_plan.specs.declared.event.Event.{Event as ModuleEvent}
+use Rattle.vlog_plan.specs.Named.{names_of}
+use Rattle.vlog_plan.specs.Numbered.{numbered as counted}
+use Rattle.vlog_plan.specs.Run.{input_names, pin_of, is_pin, is_edge, is_same_bit}
 use Rattle.net_extract.specs.declared.pin.Pin.{Pin}
 use Rattle.net_extract.specs.Fabric.{Fabric, inputs_of}
 use Rattle.net_extract.specs.Drivers.{Rule, is_driven}

@@ -16,7 +16,7 @@ use Rattle.vlog_module.specs.declared.item.Right.TheVariants.{Bit as RightBit, W
 use Rattle.vlog_module.specs.Uses.{Use, atom_uses, atoms_uses, right_uses}
 use Rattle.vlog_module.specs.Uses.Use.{Declares, Reads, ReadsBit, Takes, Chooses}
 use Rattle.vlog_module.specs.WellFormed.{declared_by, assigned_by, started_by, Scope, IsRight, IsAllowed}
-use Rattle.vlog_cycle.specs.Named.{names_of}
+use Rattle.vlog_plan.specs.Named.{names_of}
 use Rattle.net_extract.specs.Fabric.{Fabric}
 use Rattle.net_extract.specs.Joins.{class_of}
 use Rattle.net_extract.specs.Drivers.{is_driven}

@@ -2,9 +2,9 @@
 use Rattle.std.specs.Prelude.{◌≡◌, ℕ, Bool, true, List, map, Some, Contains}
 use Rattle.bit_plane.specs.BitList.{word_of}
 use Rattle.vlog_module.specs.Maps.{value_in}
-use Rattle.vlog_cycle.specs.Named.{names_of, values_of}
-use Rattle.vlog_cycle.specs.declared.event.Event.{Event as ModuleEvent}
-use Rattle.vlog_cycle.specs.Entries.{Entry as ModuleEntry}
+use Rattle.vlog_plan.specs.Named.{names_of, values_of}
+use Rattle.vlog_plan.specs.declared.event.Event.{Event as ModuleEvent}
+use Rattle.vlog_plan.specs.Entries.{Entry as ModuleEntry}
 use Rattle.net_extract.specs.Fabric.{Fabric, inputs_of}
 use Rattle.net_extract.specs.Outputs.{outputs_of}
 use Rattle.net_extract.specs.Drivers.{is_driven}

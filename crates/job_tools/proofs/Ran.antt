@@ -8,9 +8,9 @@ use Rattle.chipdb_reader.specs.Database.{Database}
 use Rattle.ice_gen.specs.declared.event.PinEvent.{PinEvent}
 use Rattle.vlog_module.specs.Parts.{Parts}
 use Rattle.vlog_module.specs.declared.modules.Port.{Port}
-use Rattle.vlog_cycle.specs.declared.event.Event.{Event as ModuleEvent}
-use Rattle.vlog_cycle.specs.Named.{names_of}
-use Rattle.vlog_cycle.specs.Run.{input_names, module_run}
+use Rattle.vlog_plan.specs.declared.event.Event.{Event as ModuleEvent}
+use Rattle.vlog_plan.specs.Named.{names_of}
+use Rattle.vlog_plan.specs.Run.{input_names, module_run}
 use Rattle.net_extract.specs.declared.pin.Pin.{Pin}
 use Rattle.net_extract.specs.Fabric.{fabric_of}
 use Rattle.fabric.specs.Kept.{Kept}

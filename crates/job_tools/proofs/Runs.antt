@@ -4,11 +4,11 @@ use Rattle.std.specs.List.{AllZip}
 use Rattle.std.proofs.lemmas.List.{take_more}
 use Rattle.std.proofs.lemmas.List.Concat.{flat_map-append}
 use Rattle.vlog_module.specs.Parts.{Parts}
-use Rattle.vlog_cycle.specs.declared.event.Event.{Event as ModuleEvent}
-use Rattle.vlog_cycle.specs.Entries.{Entry as ModuleEntry}
-use Rattle.vlog_cycle.specs.Named.{values_of}
-use Rattle.vlog_cycle.specs.Run.{followed, run_from}
-use Rattle.vlog_cycle.proofs.Runs.{last_entry, run-push}
+use Rattle.vlog_plan.specs.declared.event.Event.{Event as ModuleEvent}
+use Rattle.vlog_plan.specs.Entries.{Entry as ModuleEntry}
+use Rattle.vlog_plan.specs.Named.{values_of}
+use Rattle.vlog_plan.specs.Run.{followed, run_from}
+use Rattle.vlog_plan.proofs.Runs.{last_entry, run-push}
 use Rattle.net_extract.specs.Fabric.{Fabric}
 use Rattle.net_extract.specs.Steps.{Entry}
 use Rattle.fabric_module.specs.Matching.{Matches}

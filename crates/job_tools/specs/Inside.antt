@@ -3,8 +3,8 @@ use Rattle.std.specs.Prelude.{◌≡◌, Bool, List, length, flat_map}
 use Rattle.ice_image.specs.Configuration.{Configuration}
 use Rattle.chipdb_reader.specs.Database.{Database}
 use Rattle.ice_gen.specs.declared.event.PinEvent.{PinEvent}
-use Rattle.vlog_cycle.specs.Entries.{Entry as ModuleEntry}
-use Rattle.vlog_cycle.specs.Named.{values_of}
+use Rattle.vlog_plan.specs.Entries.{Entry as ModuleEntry}
+use Rattle.vlog_plan.specs.Named.{values_of}
 use Rattle.net_extract.specs.Fabric.{fabric_of, inputs_of}
 use Rattle.net_extract.specs.Steps.{Event, Entry, IsRun}
 use Rattle.fabric.specs.Kept.{Kept}

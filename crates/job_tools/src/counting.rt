@@ -10,7 +10,7 @@ ghost use Rattle.chipdb_reader.specs.Database.{Database};
 ghost use Rattle.chipdb_reader.specs.Kept.{database_in};
 ghost use Rattle.tile_bits.specs.Explained.{explained};
 ghost use Rattle.ice_gen.specs.Events.{generated_events};
-ghost use Rattle.vlog_cycle.specs.Run.{input_names, module_run};
+ghost use Rattle.vlog_plan.specs.Run.{input_names, module_run};
 ghost use Rattle.net_extract.specs.Fabric.{fabric_of};
 ghost use Rattle.fabric.specs.Design.{IsDesignOf};
 ghost use Rattle.fabric_module.specs.Written.{module_of};

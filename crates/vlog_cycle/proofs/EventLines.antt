@@ -4,16 +4,16 @@ use Rattle.std.specs.Prelude.{All, bytes_eq}
 use Rattle.std.specs.Option.{option_to_list}
 use Rattle.std.specs.Result.{result_err, result_ok}
 use Rattle.std.proofs.lemmas.List.{get_or_default}
-use Rattle.vlog_cycle.proofs.Filling.{flat_map-more}
+use Rattle.vlog_plan.proofs.Filling.{flat_map-more}
 use Rattle.place_search.proofs.Places.{first_below-first, first_below-none}
 use Rattle.text_lines.specs.Lines.{line_at, lines_of, trimmed}
 use Rattle.std.proofs.lemmas.List.Elements.{All-append, All-cons, All-nil}
 use Rattle.vlog_module.specs.declared.modules.Port.{Port}
 use Rattle.vlog_module.specs.Maps.{value_in}
 use Rattle.vlog_module.specs.Names.{is_word}
-use Rattle.vlog_cycle.specs.Numbered.{numbered}
-use Rattle.vlog_cycle.specs.Run.{input_names, pin_of}
-use Rattle.vlog_cycle.specs.declared.event.Event.{Event}
+use Rattle.vlog_plan.specs.Numbered.{numbered}
+use Rattle.vlog_plan.specs.Run.{input_names, pin_of}
+use Rattle.vlog_plan.specs.declared.event.Event.{Event}
 use Rattle.vlog_cycle.specs.declared.event.EventFault.{EventFault}
 use Rattle.vlog_cycle.specs.declared.event.EventFault.TheVariants.{Form, Pin, Memory}
 use Rattle.vlog_cycle.specs.Events.{TellsEvent, bit_event, bit_part, bit_written, cut_lines, event_of, events_of, first_fault, line_event, line_fault, name_part, pin_event}

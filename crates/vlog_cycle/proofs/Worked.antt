@@ -10,10 +10,10 @@ use Rattle.vlog_module.specs.declared.modules.Port.{Port}
 use Rattle.vlog_module.specs.Parts.{Parts}
 use Rattle.text_lines.specs.Lines.{lines_of, trimmed}
 use Rattle.place_search.specs.Places.{first_below}
-use Rattle.vlog_cycle.specs.declared.event.Event.{Event}
+use Rattle.vlog_plan.specs.declared.event.Event.{Event}
 use Rattle.vlog_cycle.specs.declared.event.EventFault.TheVariants.{Form, Pin}
 use Rattle.vlog_cycle.specs.Events.{event_fault, event_of, events_of, first_fault}
-use Rattle.vlog_cycle.specs.Run.{changed, followed, module_run, moved_up, run_from, settled, start}
+use Rattle.vlog_plan.specs.Run.{changed, followed, module_run, moved_up, run_from, settled, start}
 use Rattle.vlog_cycle.specs.Text.{entry_line, run_text}
 
 input : List ℕ → Port

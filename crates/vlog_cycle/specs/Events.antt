@@ -7,10 +7,10 @@ use Rattle.place_search.specs.Places.{first_below}
 use Rattle.text_lines.specs.Lines.{line_at, lines_of, trimmed}
 use Rattle.vlog_module.specs.declared.modules.Port.{Port}
 use Rattle.vlog_module.specs.Names.{is_word}
-use Rattle.vlog_cycle.specs.declared.event.Event.{Event}
+use Rattle.vlog_plan.specs.declared.event.Event.{Event}
 use Rattle.vlog_cycle.specs.declared.event.EventFault.{EventFault}
 use Rattle.vlog_cycle.specs.declared.event.EventFault.TheVariants.{Form, Pin, Memory}
-use Rattle.vlog_cycle.specs.Run.{pin_of}
+use Rattle.vlog_plan.specs.Run.{pin_of}
 
 -- the lines of a text, each without the blanks at its end
 abbrev pub cut_lines : List ℕ → List (List ℕ)

@@ -1,16 +1,3 @@
-pub mod Begun
-pub mod Cells
-pub mod Entries
 pub mod Events
-pub mod Found
-pub mod Held
-pub mod ModuleSlots
-pub mod Named
-pub mod Numbered
-pub mod Plans
-pub mod Run
 pub mod Showing
-pub mod Slots
-pub mod Steps
 pub mod Text
-pub mod Values

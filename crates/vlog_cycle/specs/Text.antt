@@ -1,10 +1,10 @@
 -- The text of a run: a line after the start and one after each event.
 use Rattle.std.specs.Prelude.{ℕ, ◌+◌, ◌/◌, ◌%◌, Bool, List, [], ◌∷◌, ◌++◌, flat_map, map, nat_lt, if◌then◌else◌}
 use Rattle.vlog_module.specs.Parts.{Parts}
-use Rattle.vlog_cycle.specs.declared.event.Event.{Event}
-use Rattle.vlog_cycle.specs.Entries.{Entry}
-use Rattle.vlog_cycle.specs.Named.{values_of}
-use Rattle.vlog_cycle.specs.Run.{module_run}
+use Rattle.vlog_plan.specs.declared.event.Event.{Event}
+use Rattle.vlog_plan.specs.Entries.{Entry}
+use Rattle.vlog_plan.specs.Named.{values_of}
+use Rattle.vlog_plan.specs.Run.{module_run}
 
 -- `0` or `1`
 abbrev pub bit_digit : Bool → ℕ

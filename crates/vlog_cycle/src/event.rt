@@ -1,16 +1,8 @@
-// Events: changes of the inputs of a module.
+// Why a list of events isn't read.
 
 ghost use Rattle.std.specs.Prelude.{◌≡◌};
 
 use std::alloc::AllocError;
-
-/// An input gets a bit.
-#[derive(Clone, Copy, Debug, PartialEq, Eq)]
-pub struct Event {
-    /// The place of the input among the inputs, in the order of the ports; places count from 0.
-    pub pin: usize,
-    pub bit: bool,
-}
 
 /// Why a list of events isn't read. The first faulty line counts; lines count from 1.
 #[derive(Clone, Copy, Debug, PartialEq, Eq)]

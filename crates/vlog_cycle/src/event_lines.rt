@@ -2,15 +2,14 @@
 ghost use Rattle.std.specs.Prelude.{◌≡◌, ◌<◌, ◌++◌, ◌∷◌, [], All, Option, None, flat_map, length, IfErr, IfOk, OnOk};
 ghost use Rattle.vlog_cycle.specs.Events.{bit_written, cut_lines, event_fault, pin_event, event_of, events_of, first_fault, line_event, line_fault, TellsEvent};
 ghost use Rattle.vlog_cycle.specs.declared.event.EventFault.{EventFault as fault_of};
-ghost use Rattle.vlog_cycle.specs.Run.{input_names};
-ghost use Rattle.vlog_cycle.specs.Slots.{slot_of};
+ghost use Rattle.vlog_plan.specs.Run.{input_names};
+ghost use Rattle.vlog_plan.specs.Slots.{slot_of};
 
-use crate::build::inputs_of;
-use crate::event::{Event, EventFault};
-use crate::slots::Slots;
+use crate::event::EventFault;
 use std::alloc::{AllocError, Global};
 use text_lines::{first_line, trimmed};
 use vlog_module::{Module, is_word};
+use vlog_plan::{Event, Slots, pins_of};
 
 /// The events of a text: on each line the name of an input, one space, and `0` or `1`. Spaces and tabs at a line's end
 /// don't count, and a line that is then empty is passed over.
@@ -20,8 +19,8 @@ pub fn read_events(alloc: Global, module: &Module, bytes: &[u8]) -> Result<Vec<E
     ensures accepted { OnOk result (event_fault «module».now.ports bytes.now ≡ None) }
     ensures refused { IfErr result (TellsEvent (event_fault «module».now.ports bytes.now)) }
 {
-    let inputs = inputs_of(alloc, module.ports())?;
-    read_lines(alloc, &inputs.slots, bytes)
+    let pins = pins_of(alloc, module)?;
+    read_lines(alloc, &pins, bytes)
 }
 
 /// The events of lines.

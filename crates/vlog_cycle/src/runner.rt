@@ -2,26 +2,18 @@
 ghost use Rattle.std.specs.Prelude.{◌≡◌, ◌<◌, ◌≤◌, ◌+◌, ◌*◌, All, IfOk, drop, is_some, length, get_or, take, vec_len};
 ghost use Rattle.std.specs.Option.{option_map};
 
-use crate::event::Event;
-use crate::gates::{cells_room, gates_of, settle};
-use crate::names::{Names, names_of};
-use crate::places::Places;
-use crate::plan::{Memory, Plan, Written};
-use crate::planning::{first_outputs, plan_of};
-use crate::steps::{bit_at, change, is_same_bit, word_at, word_in};
+use crate::gates::settle;
+use crate::steps::{bit_at, change, first_outputs, is_same_bit, word_at, word_in};
 use std::alloc::{AllocError, Global};
 use vlog_module::Module;
+use vlog_plan::{Event, Layout, Memory, Start, Written, lay_out};
 
 /// A module that runs: what its names have after the start, and after each event.
 ///
 /// All memory is taken when it is made.
 #[derive(Drop)]
 pub struct Runner {
-    places: Places,
-    input_count: usize,
-    /// The slot of the first wire. The inputs have the first slots, and the registers of one bit stand behind them.
-    first_wire: usize,
-    plan: Plan,
+    layout: Layout,
     bits: Vec<bool>,
     words: Vec<u16>,
     memories: Vec<Memory>,
@@ -36,46 +28,39 @@ pub struct Runner {
     ghost bits_room: { vec_len next_bits ≡ vec_len bits },
     ghost cells_room: { vec_len cells ≡ vec_len bits + 16 * vec_len words + 2 },
     ghost words_room: { vec_len next_words ≡ vec_len words },
-    ghost writes_room: { vec_len written ≡ vec_len plan.writes },
-    ghost outputs_room: { vec_len outputs ≡ vec_len plan.outputs },
+    ghost writes_room: { vec_len written ≡ vec_len layout.plan.writes },
+    ghost outputs_room: { vec_len outputs ≡ vec_len layout.plan.outputs },
 }
 
 impl Runner {
     ghost use Rattle.vlog_module.specs.Maps.{value_in};
     ghost use Rattle.vlog_module.specs.Parts.{Parts};
-    ghost use Rattle.vlog_cycle.specs.Entries.{Entry};
-    ghost use Rattle.vlog_cycle.specs.ModuleSlots.{memory_names, register_names, word_names};
-    ghost use Rattle.vlog_cycle.specs.Named.{has_name, values_of};
-    ghost use Rattle.vlog_cycle.specs.Run.{followed, input_names, last_of, module_run, run_from, start};
+    ghost use Rattle.vlog_plan.specs.Entries.{Entry};
+    ghost use Rattle.vlog_plan.specs.ModuleSlots.{memory_names, register_names, word_names};
+    ghost use Rattle.vlog_plan.specs.Named.{has_name, values_of};
+    ghost use Rattle.vlog_plan.specs.Run.{followed, input_names, last_of, module_run, run_from, start};
     ghost use Rattle.vlog_cycle.specs.Showing.{Shows, input_count};
 
     /// The module after the start: inputs are 0, registers and memories have their start values.
     pub fn new(alloc: Global, module: &Module) -> Result<Runner, AllocError>
         ensures { IfOk result (λ runner. Shows runner «module».now (start «module».now)) }
     {
-        let names = names_of(alloc, module)?;
-        let Names {
-            places,
-            input_count,
-            first_wire,
+        let start = lay_out(alloc, module)?;
+        let Start {
+            layout,
             mut bits,
             words,
             memories,
-            wires,
-        } = names;
-        let mut cells = cells_room(alloc, &bits, &words)?;
-        let gates = gates_of(alloc, bits.len(), words.len(), &wires)?;
-        let plan = plan_of(alloc, module, &places, gates)?;
+            mut cells,
+        } = start;
+        let plan = &layout.plan;
         settle(&plan.gates, &plan.settles, &words, &mut bits, &mut cells);
-        let outputs = first_outputs(alloc, &plan, &bits, &words)?;
+        let outputs = first_outputs(alloc, plan, &bits, &words)?;
         let next_bits = Vec::from_slice(alloc, &bits)?;
         let next_words = Vec::from_slice(alloc, &words)?;
-        let written = vec![in alloc; None; plan.writes.len()]?;
+        let written = vec![in alloc; None; layout.plan.writes.len()]?;
         Ok(Runner {
-            places,
-            input_count,
-            first_wire,
-            plan,
+            layout,
             bits,
             words,
             memories,
@@ -98,7 +83,7 @@ impl Runner {
             return;
         }
         change(
-            &self.plan,
+            &self.layout.plan,
             Event { pin, bit },
             &mut self.bits,
             &mut self.next_bits,
@@ -128,7 +113,7 @@ impl Runner {
         ensures is { result ≡ input_count self.now }
         ensures shown { (m : Parts) (entry : Entry) → Shows self.now m entry → result ≡ length (input_names m.ports) }
     {
-        self.input_count
+        self.layout.input_count
     }
 
     /// The bits of the outputs, in the order of the ports.
@@ -143,7 +128,7 @@ impl Runner {
         ensures is { (m : Parts) (entry : Entry) → Shows self.now m entry → result ≡ value_in entry.registers name.now }
         ensures declared { (m : Parts) (entry : Entry) → Shows self.now m entry → is_some result ≡ has_name (register_names m.items) name.now }
     {
-        match self.places.registers.slot(name) {
+        match self.layout.places.registers.slot(name) {
             Some(slot) => Some(bit_at(&self.bits, slot)),
             None => None,
         }
@@ -154,7 +139,7 @@ impl Runner {
         ensures is { (m : Parts) (entry : Entry) → Shows self.now m entry → result ≡ value_in entry.words name.now }
         ensures declared { (m : Parts) (entry : Entry) → Shows self.now m entry → is_some result ≡ has_name (word_names m.items) name.now }
     {
-        match self.places.words.slot(name) {
+        match self.layout.places.words.slot(name) {
             Some(slot) => Some(word_at(&self.words, slot)),
             None => None,
         }
@@ -166,7 +151,7 @@ impl Runner {
             → result ≡ option_map (λ words. get_or words address 0) (value_in entry.memories memory.now) }
         ensures declared { (m : Parts) (entry : Entry) → Shows self.now m entry → is_some result ≡ has_name (memory_names m.items) memory.now }
     {
-        match self.places.memories.slot(memory) {
+        match self.layout.places.memories.slot(memory) {
             Some(place) => Some(word_in(&self.memories, place, address)),
             None => None,
         }
@@ -176,7 +161,7 @@ impl Runner {
     pub(crate) fn registers(&self) -> &[bool]
         ensures { (m : Parts) (entry : Entry) → Shows self.now m entry → result.now ≡ values_of entry.registers }
     {
-        part(&self.bits, self.input_count, self.first_wire)
+        part(&self.bits, self.layout.input_count, self.layout.first_wire)
     }
 
     /// The registers of 16 bits, in the order of their declaration.

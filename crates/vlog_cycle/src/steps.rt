@@ -1,15 +1,16 @@
 // What an event does to the bits, words and memories of the slots.
-ghost use Rattle.std.specs.Prelude.{◌≡◌, ◌<◌, ◌≤◌, ◌^◌, ◌+◌, ◌*◌, List, false, length, map, fold, get_or, slice_set, if◌then◌else◌};
-ghost use Rattle.vlog_cycle.specs.Run.{is_edge, is_same_bit, masked, moved_down, moved_up};
-ghost use Rattle.vlog_cycle.specs.Steps.{bits_after, flip_slot, is_acting, is_edge_of, kept_mask, memories_after, operand_value, operands_value, put_written, read_slot, set_word, table_value, taken_word, word_in, words_after, written_by};
-ghost use Rattle.vlog_cycle.specs.Cells.{gate_of};
-ghost use Rattle.vlog_cycle.specs.Values.{bit_of};
-ghost use Rattle.vlog_cycle.specs.declared.plan.Wire.{Wire as wire_of};
+ghost use Rattle.std.specs.Prelude.{◌≡◌, ◌<◌, ◌≤◌, ◌^◌, ◌+◌, ◌*◌, IfOk, List, false, length, map, fold, get_or, slice_set, if◌then◌else◌};
+ghost use Rattle.vlog_plan.specs.Run.{is_edge, is_same_bit, masked, moved_down, moved_up};
+ghost use Rattle.vlog_plan.specs.Steps.{bits_after, flip_slot, is_acting, is_edge_of, kept_mask, memories_after, operand_value, operands_value, put_written, read_slot, set_word, table_value, taken_word, word_in, words_after, written_by};
+ghost use Rattle.vlog_plan.specs.Cells.{gate_of};
+ghost use Rattle.vlog_plan.specs.Values.{bit_of};
+ghost use Rattle.vlog_plan.specs.declared.plan.Wire.{Wire as wire_of};
 
-use crate::event::Event;
 use crate::gates::settle;
-use crate::plan::{
-    Edge, Field, Flip, Kept, Memory, MemoryPort, Operand, Plan, Read, Table, Taken, Write, Written,
+use std::alloc::{AllocError, Global};
+use vlog_plan::{
+    Edge, Event, Field, Flip, Kept, Memory, MemoryPort, Operand, Plan, Read, Table, Taken, Write,
+    Written,
 };
 
 /// The bit of a slot, and 0 past the last.
@@ -327,6 +328,20 @@ pub(crate) fn write_outputs(
         let bit = operand_value(bits, words, *operand);
         set_bit(outputs, place, bit);
     }
+}
+
+/// The bits of the outputs.
+pub(crate) fn first_outputs(
+    alloc: Global,
+    plan: &Plan,
+    bits: &[bool],
+    words: &[u16],
+) -> Result<Vec<bool>, AllocError>
+    ensures { IfOk result (λ outputs. outputs.items ≡ map (operand_value bits.now words.now) plan.now.outputs.items) }
+{
+    let mut outputs = vec![in alloc; false; plan.outputs.len()]?;
+    write_outputs(&plan.outputs, bits, words, &mut outputs);
+    Ok(outputs)
 }
 
 /// Copies bits to as many bits.

@@ -1,15 +1,15 @@
 // The text of a run.
 ghost use Rattle.std.specs.Prelude.{◌≡◌, ◌++◌, ◌<◌, ◌∷◌, [], All, flat_map, length, map, IfOk, OnOk, if◌then◌else◌};
 ghost use Rattle.vlog_module.specs.Parts.{Parts};
-ghost use Rattle.vlog_cycle.specs.Entries.{Entry};
-ghost use Rattle.vlog_cycle.specs.Run.{input_names, run_from};
+ghost use Rattle.vlog_plan.specs.Entries.{Entry};
+ghost use Rattle.vlog_plan.specs.Run.{input_names, run_from};
 ghost use Rattle.vlog_cycle.specs.Showing.{Shows};
 ghost use Rattle.vlog_cycle.specs.Text.{bit_digit, entry_line, hex_digit, registers_text, run_text, word_text};
 
-use crate::event::Event;
 use crate::runner::Runner;
 use std::alloc::{AllocError, Global};
 use vlog_module::Module;
+use vlog_plan::Event;
 
 /// The text of a run: one line after the start and one after each event. A line has the bits of the outputs in the
 /// order of the ports. With `registers` it goes on with one space and the registers of one bit in the order of their

@@ -1,6 +1,6 @@
 // Modules of pins with registers, and of output pins that can be switched off.
 ghost use Rattle.std.specs.Prelude.{◌<◌, All, length};
-ghost use Rattle.vlog_cycle.specs.Run.{input_names};
+ghost use Rattle.vlog_plan.specs.Run.{input_names};
 
 use super::module_of;
 use sample_images::{

@@ -1,7 +1,7 @@
 // Runs of a register that keeps its input at rising edges, and of registers that a wire sets and resets at once.
 
 ghost use Rattle.std.specs.Prelude.{◌<◌, All, length};
-ghost use Rattle.vlog_cycle.specs.Run.{input_names};
+ghost use Rattle.vlog_plan.specs.Run.{input_names};
 ghost use Rattle.vlog_cycle.specs.Showing.{input_count};
 
 use std::alloc::{AllocError, Global};

@@ -1,9 +1,9 @@
 use Rattle.std.proofs.Common.{◌<◌, ◌+◌, false, get_or, append-nil, ap, ap₂, arith, length, subst, sym, take, take_all, ◌∙◌}
-use Rattle.vlog_cycle.specs.declared.event.Event.{Event}
-use Rattle.vlog_cycle.specs.Named.{values_of}
-use Rattle.vlog_cycle.specs.Run.{followed, module_run, run_from, start}
+use Rattle.vlog_plan.specs.declared.event.Event.{Event}
+use Rattle.vlog_plan.specs.Named.{values_of}
+use Rattle.vlog_plan.specs.Run.{followed, module_run, run_from, start}
 use Rattle.vlog_cycle.specs.Showing.{Shows}
-use Rattle.vlog_cycle.proofs.Runs.{last_entry, last-more}
+use Rattle.vlog_plan.proofs.Runs.{last_entry, last-more}
 use Rattle.job_tools.specs.Counted.{ones_in}
 use Rattle.job_tools.specs.Inside.{module_bits}
 use Rattle.job_tools.proofs.Runs.{bits-more, ones-append}

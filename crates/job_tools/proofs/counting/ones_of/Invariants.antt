@@ -1,7 +1,7 @@
 use Rattle.std.proofs.Common.{◌≡◌, ◌<◌, ◌+◌, ◌*◌, ◌^◌, take}
-use Rattle.vlog_cycle.specs.Run.{run_from, start}
+use Rattle.vlog_plan.specs.Run.{run_from, start}
 use Rattle.vlog_cycle.specs.Showing.{Shows}
-use Rattle.vlog_cycle.proofs.Runs.{last_entry}
+use Rattle.vlog_plan.proofs.Runs.{last_entry}
 use Rattle.job_tools.specs.Counted.{ones_in}
 use Rattle.job_tools.specs.Inside.{module_bits}
 use Rattle.job_tools.proofs.counting.ones_of.Given as goal

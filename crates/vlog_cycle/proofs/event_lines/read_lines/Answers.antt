@@ -3,7 +3,7 @@ use Rattle.std.proofs.lemmas.Result.{err_from_is_err_and}
 use Rattle.text_lines.specs.Lines.{lines_of}
 use Rattle.shared_lemmas.proofs.Cuts.{drop_cons, drop_end}
 use Rattle.vlog_cycle.specs.Events.{cut_lines, line_event}
-use Rattle.vlog_cycle.specs.Slots.{slot_of}
+use Rattle.vlog_plan.specs.Slots.{slot_of}
 use Rattle.vlog_cycle.proofs.EventLines.{fine-all, fine-more, fine-none, lines-more, one-line, told-first}
 use Rattle.vlog_cycle.proofs.event_lines.read_lines.Goals as goal
 

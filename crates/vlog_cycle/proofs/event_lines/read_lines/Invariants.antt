@@ -1,6 +1,6 @@
 use Rattle.std.proofs.Common.{◌≡◌, ◌+◌, ◌≤◌, drop, flat_map, length, take}
 use Rattle.vlog_cycle.specs.Events.{cut_lines, line_event}
-use Rattle.vlog_cycle.specs.Slots.{slot_of}
+use Rattle.vlog_plan.specs.Slots.{slot_of}
 use Rattle.vlog_cycle.proofs.EventLines.{AreFine}
 use Rattle.vlog_cycle.proofs.event_lines.read_lines.Given as goal
 

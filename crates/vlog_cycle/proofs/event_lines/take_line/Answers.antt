@@ -1,6 +1,6 @@
 use Rattle.std.proofs.Common.{◌<◌, ◌++◌, ap, arith, length, sym, ◌∙◌}
 use Rattle.std.proofs.lemmas.Result.{on_ok_weaker}
-use Rattle.vlog_cycle.specs.Slots.{slot_of}
+use Rattle.vlog_plan.specs.Slots.{slot_of}
 use Rattle.vlog_cycle.specs.Events.{line_fault}
 use Rattle.vlog_cycle.proofs.EventLines.{line-event}
 use Rattle.vlog_cycle.proofs.event_lines.take_line.Goals as goal

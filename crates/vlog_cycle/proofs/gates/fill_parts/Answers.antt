@@ -1,5 +1,5 @@
 use Rattle.std.proofs.Common.{◌+◌, ap, arith, take, ◌∙◌}
-use Rattle.vlog_cycle.proofs.Cells.{parts-more}
+use Rattle.vlog_plan.proofs.Cells.{parts-more}
 use Rattle.vlog_cycle.proofs.gates.fill_parts.Goals as goal
 
 pub loop-place-preserved : goal.loop-place-preserved

@@ -1,5 +1,5 @@
 use Rattle.std.proofs.Common.{◌≡◌, take}
-use Rattle.vlog_cycle.specs.Cells.{parts_below}
+use Rattle.vlog_plan.specs.Cells.{parts_below}
 use Rattle.vlog_cycle.proofs.gates.fill_parts.Given as goal
 
 abbrev pub invariant-loop-place : goal.invariant-loop-place

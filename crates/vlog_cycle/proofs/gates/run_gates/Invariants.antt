@@ -1,5 +1,5 @@
 use Rattle.std.proofs.Common.{◌≡◌, fold, take}
-use Rattle.vlog_cycle.specs.Cells.{gate_slot}
+use Rattle.vlog_plan.specs.Cells.{gate_slot}
 use Rattle.vlog_cycle.proofs.gates.run_gates.Given as goal
 
 abbrev pub invariant-loop-gate : goal.invariant-loop-gate

@@ -1,5 +1,5 @@
 use Rattle.std.proofs.Common.{◌≡◌, fold, take}
-use Rattle.vlog_cycle.specs.Steps.{settle_slot}
+use Rattle.vlog_plan.specs.Steps.{settle_slot}
 use Rattle.vlog_cycle.proofs.gates.run_settles.Given as goal
 
 abbrev pub invariant-loop-settle : goal.invariant-loop-settle

@@ -1,8 +1,8 @@
 use Rattle.std.proofs.Common.{◌≡◌, ◌++◌, List, Bool, ap, ap₂, arith, fold, length, refl, sym, take, ◌∙◌}
 use Rattle.std.proofs.lemmas.List.{take_at}
-use Rattle.vlog_cycle.specs.Cells.{gate_slot, tail_of}
-use Rattle.vlog_cycle.specs.Steps.{settle_slot, wire_slot}
-use Rattle.vlog_cycle.proofs.Cells.{gates-same, length-settled}
+use Rattle.vlog_plan.specs.Cells.{gate_slot, tail_of}
+use Rattle.vlog_plan.specs.Steps.{settle_slot, wire_slot}
+use Rattle.vlog_plan.proofs.Cells.{gates-same, length-settled}
 use Rattle.vlog_cycle.proofs.gates.settle.Goals as goal
 
 pub returns : goal.returns

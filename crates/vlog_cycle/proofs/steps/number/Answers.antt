@@ -1,8 +1,8 @@
 use Rattle.std.proofs.Common.{◌≡◌, drop, sym, ap, ◌∙◌, arith}
 use Rattle.std.specs.Prelude.{map}
-use Rattle.vlog_cycle.specs.Steps.{operand_value}
-use Rattle.vlog_cycle.specs.Values.{number_of}
-use Rattle.vlog_cycle.proofs.Numbers.{number-none, number-next, number-fits, number-small, byte_lt}
+use Rattle.vlog_plan.specs.Steps.{operand_value}
+use Rattle.vlog_plan.specs.Values.{number_of}
+use Rattle.vlog_plan.proofs.Numbers.{number-none, number-next, number-fits, number-small, byte_lt}
 use Rattle.vlog_cycle.proofs.steps.number.Goals as goal
 
 pub loop-place-init : goal.loop-place-init

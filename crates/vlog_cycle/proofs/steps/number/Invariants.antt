@@ -1,7 +1,7 @@
 use Rattle.std.proofs.Common.{◌≡◌, drop}
 use Rattle.std.specs.Prelude.{map}
-use Rattle.vlog_cycle.specs.Steps.{operand_value}
-use Rattle.vlog_cycle.specs.Values.{number_of}
+use Rattle.vlog_plan.specs.Steps.{operand_value}
+use Rattle.vlog_plan.specs.Values.{number_of}
 use Rattle.vlog_cycle.proofs.steps.number.Given as goal
 
 abbrev pub invariant-loop-place : goal.invariant-loop-place

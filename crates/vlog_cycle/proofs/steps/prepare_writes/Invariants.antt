@@ -1,6 +1,6 @@
 use Rattle.std.proofs.Common.{◌≡◌, length, take}
 use Rattle.std.specs.Prelude.{map}
-use Rattle.vlog_cycle.specs.Steps.{written_by}
+use Rattle.vlog_plan.specs.Steps.{written_by}
 use Rattle.vlog_cycle.proofs.steps.prepare_writes.Given as goal
 
 abbrev pub invariant-loop-place : goal.invariant-loop-place

@@ -1,5 +1,5 @@
 use Rattle.std.proofs.Common.{◌≡◌, fold, take}
-use Rattle.vlog_cycle.specs.Steps.{flip_slot}
+use Rattle.vlog_plan.specs.Steps.{flip_slot}
 use Rattle.vlog_cycle.proofs.steps.run_flips.Given as goal
 
 abbrev pub invariant-loop-flip : goal.invariant-loop-flip

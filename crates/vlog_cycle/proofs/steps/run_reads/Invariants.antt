@@ -1,5 +1,5 @@
 use Rattle.std.proofs.Common.{◌≡◌, fold, take}
-use Rattle.vlog_cycle.specs.Steps.{read_slot}
+use Rattle.vlog_plan.specs.Steps.{read_slot}
 use Rattle.vlog_cycle.proofs.steps.run_reads.Given as goal
 
 abbrev pub invariant-loop-read : goal.invariant-loop-read

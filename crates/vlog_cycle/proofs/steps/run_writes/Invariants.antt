@@ -1,5 +1,5 @@
 use Rattle.std.proofs.Common.{◌≡◌, fold, take}
-use Rattle.vlog_cycle.specs.Steps.{put_written}
+use Rattle.vlog_plan.specs.Steps.{put_written}
 use Rattle.vlog_cycle.proofs.steps.run_writes.Given as goal
 
 abbrev pub invariant-loop-found : goal.invariant-loop-found

@@ -1,6 +1,6 @@
 use Rattle.std.proofs.Common.{◌≡◌, length, take}
 use Rattle.std.specs.Prelude.{map}
-use Rattle.vlog_cycle.specs.Steps.{operand_value}
+use Rattle.vlog_plan.specs.Steps.{operand_value}
 use Rattle.vlog_cycle.proofs.steps.write_outputs.Given as goal
 
 abbrev pub invariant-loop-place : goal.invariant-loop-place

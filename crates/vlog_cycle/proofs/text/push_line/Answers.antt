@@ -1,7 +1,7 @@
 use Rattle.std.proofs.Common.{◌++◌, ◌∷◌, [], List, Bool, append_assoc, ap, ◌∙◌, cond}
 use Rattle.std.specs.Prelude.{map}
 use Rattle.std.proofs.lemmas.Result.{on_ok_weaker}
-use Rattle.vlog_cycle.specs.Named.{values_of}
+use Rattle.vlog_plan.specs.Named.{values_of}
 use Rattle.vlog_cycle.specs.Text.{bit_digit, entry_line, registers_text}
 use Rattle.vlog_cycle.proofs.text.push_line.Goals as goal
 

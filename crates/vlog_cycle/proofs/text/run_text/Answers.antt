@@ -1,9 +1,10 @@
 use Rattle.std.proofs.Common.{◌<◌, ◌++◌, false, get_or, append-nil, ap, arith, flat_map, length, subst, sym, take, take_all, ◌∙◌}
-use Rattle.vlog_cycle.specs.declared.event.Event.{Event}
-use Rattle.vlog_cycle.specs.Run.{followed, module_run, run_from, start}
+use Rattle.vlog_plan.specs.declared.event.Event.{Event}
+use Rattle.vlog_plan.specs.Run.{followed, module_run, run_from, start}
 use Rattle.vlog_cycle.specs.Showing.{Shows}
 use Rattle.vlog_cycle.specs.Text.{entry_line, run_text}
-use Rattle.vlog_cycle.proofs.Runs.{last_entry, last-more, text-more}
+use Rattle.vlog_plan.proofs.Runs.{last_entry, last-more}
+use Rattle.vlog_cycle.proofs.Texts.{text-more}
 use Rattle.vlog_cycle.proofs.text.run_text.Goals as goal
 
 pub loop-event-init : goal.loop-event-init

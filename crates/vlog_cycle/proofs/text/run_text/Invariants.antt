@@ -1,8 +1,8 @@
 use Rattle.std.proofs.Common.{◌≡◌, flat_map, take}
-use Rattle.vlog_cycle.specs.Run.{run_from, start}
+use Rattle.vlog_plan.specs.Run.{run_from, start}
 use Rattle.vlog_cycle.specs.Showing.{Shows}
 use Rattle.vlog_cycle.specs.Text.{entry_line}
-use Rattle.vlog_cycle.proofs.Runs.{last_entry}
+use Rattle.vlog_plan.proofs.Runs.{last_entry}
 use Rattle.vlog_cycle.proofs.text.run_text.Given as goal
 
 abbrev pub invariant-loop-event : goal.invariant-loop-event

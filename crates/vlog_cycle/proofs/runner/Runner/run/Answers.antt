@@ -1,8 +1,8 @@
 use Rattle.std.proofs.Common.{◌<◌, ◌∙◌, false, ap, arith, length, subst, sym, take, take_all}
-use Rattle.vlog_cycle.specs.declared.event.Event.{Event}
-use Rattle.vlog_cycle.specs.Run.{module_run, start}
+use Rattle.vlog_plan.specs.declared.event.Event.{Event}
+use Rattle.vlog_plan.specs.Run.{module_run, start}
 use Rattle.vlog_cycle.specs.Showing.{Shows}
-use Rattle.vlog_cycle.proofs.Runs.{last_entry, last-more, last-run}
+use Rattle.vlog_plan.proofs.Runs.{last_entry, last-more, last-run}
 use Rattle.vlog_cycle.proofs.runner.Runner.run.Goals as goal
 
 pub event-requires : goal.event-requires

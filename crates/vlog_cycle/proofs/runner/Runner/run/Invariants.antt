@@ -1,8 +1,8 @@
 use Rattle.std.proofs.Common.{◌≡◌, take}
 use Rattle.vlog_module.specs.Parts.{Parts}
-use Rattle.vlog_cycle.specs.Entries.{Entry}
+use Rattle.vlog_plan.specs.Entries.{Entry}
 use Rattle.vlog_cycle.specs.Showing.{Shows, input_count}
-use Rattle.vlog_cycle.proofs.Runs.{last_entry}
+use Rattle.vlog_plan.proofs.Runs.{last_entry}
 use Rattle.vlog_cycle.proofs.runner.Runner.run.Given as goal
 
 abbrev pub invariant-loop-event : goal.invariant-loop-event

@@ -1,0 +1,40 @@
+-- what well-formed modules say of registers that wires set at once
+pub mod AtOnce
+-- operands over slots have the values of their atoms
+pub mod Atoms
+-- what the names of a module have at the start
+pub mod Beginning
+-- cells have what operands read, and wires over them get their values
+pub mod Cells
+-- clocked items over slots do what the items of the module do
+pub mod Clocked
+-- entries of a module, and what stands in the slots for them
+pub mod Entering
+-- lists that are filled place by place
+pub mod Filling
+-- what names with their values hold
+pub mod Holding
+-- the values of names by their slots
+pub mod Lookups
+-- reads and writes of memories over slots do what the items of the module do
+pub mod Memories
+-- the number of bits, and the bits of a number
+pub mod Numbers
+-- outputs over slots have the values of their atoms
+pub mod Outputs
+-- what slots have is what the entry has
+pub mod Reading
+-- registers that have settled stay
+pub mod Resting
+-- runs that go on
+pub mod Runs
+-- registers that wires set at once, over slots and by their names
+pub mod Settling
+-- what slots show is what follows in the module
+pub mod Showing
+-- items over slots, one after the other
+pub mod Stepping
+-- settling twice is settling once
+pub mod Twice
+-- wires over slots
+pub mod Wires

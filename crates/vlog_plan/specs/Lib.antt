@@ -1,0 +1,14 @@
+pub mod Begun
+pub mod Cells
+pub mod Entries
+pub mod Found
+pub mod Held
+pub mod Laying
+pub mod ModuleSlots
+pub mod Named
+pub mod Numbered
+pub mod Plans
+pub mod Run
+pub mod Slots
+pub mod Steps
+pub mod Values

@@ -1,0 +1,77 @@
+// A module laid out over slots.
+ghost use Rattle.std.specs.Prelude.{◌≡◌, IfOk};
+ghost use Rattle.vlog_plan.specs.Laying.{Begins};
+ghost use Rattle.vlog_plan.specs.Run.{pin_of};
+ghost use Rattle.vlog_plan.specs.Slots.{slot_of};
+
+use crate::build::inputs_of;
+use crate::gates::{cells_room, gates_of};
+use crate::names::{Names, names_of};
+use crate::places::Places;
+use crate::plan::{Memory, Plan};
+use crate::planning::plan_of;
+use crate::slots::Slots;
+use std::alloc::{AllocError, Global};
+use vlog_module::Module;
+
+/// A module over slots: where its names stand, and its items.
+#[derive(Drop)]
+pub struct Layout {
+    pub places: Places,
+    /// How many inputs there are; they have the first slots.
+    pub input_count: usize,
+    /// The slot of the first wire; the registers of one bit stand between the inputs and it.
+    pub first_wire: usize,
+    pub plan: Plan,
+}
+
+/// A module over slots, and what stands in these at the start, wires and what they set at once still without their values.
+#[derive(Drop)]
+pub struct Start {
+    pub layout: Layout,
+    pub bits: Vec<bool>,
+    pub words: Vec<u16>,
+    pub memories: Vec<Memory>,
+    /// Room for all that wires read.
+    pub cells: Vec<bool>,
+}
+
+/// Lays a module out over slots. Inputs have the first slots of one bit, in the order of the ports, then registers and then wires,
+/// in the order of the text.
+pub fn lay_out(alloc: Global, module: &Module) -> Result<Start, AllocError>
+    ensures { IfOk result (Begins «module».now) }
+{
+    let names = names_of(alloc, module)?;
+    let Names {
+        places,
+        input_count,
+        first_wire,
+        bits,
+        words,
+        memories,
+        wires,
+    } = names;
+    let cells = cells_room(alloc, &bits, &words)?;
+    let gates = gates_of(alloc, bits.len(), words.len(), &wires)?;
+    let plan = plan_of(alloc, module, &places, gates)?;
+    Ok(Start {
+        layout: Layout {
+            places,
+            input_count,
+            first_wire,
+            plan,
+        },
+        bits,
+        words,
+        memories,
+        cells,
+    })
+}
+
+/// The places of the inputs of a module, by their names.
+pub fn pins_of(alloc: Global, module: &Module) -> Result<Slots, AllocError>
+    ensures { IfOk result (λ pins. slot_of pins ≡ pin_of «module».now.ports) }
+{
+    let inputs = inputs_of(alloc, module.ports())?;
+    Ok(inputs.slots)
+}

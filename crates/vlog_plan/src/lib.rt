@@ -1,0 +1,24 @@
+//! The run of a module over events, as definitions, and a module of the Verilog subset over numbered slots: where its names stand,
+//! and its items over these.
+#![tactic(auto)]
+
+mod build;
+mod event;
+mod gates;
+mod layout;
+mod named;
+mod names;
+mod places;
+mod plan;
+mod planning;
+mod slots;
+
+pub use event::Event;
+pub use gates::Gate;
+pub use layout::{Layout, Start, lay_out, pins_of};
+pub use places::Places;
+pub use plan::{
+    Edge, Field, Flip, Kept, Memory, MemoryPort, Operand, Plan, Read, Rule, Settle, Table, Taken,
+    Wire, Write, Written,
+};
+pub use slots::Slots;

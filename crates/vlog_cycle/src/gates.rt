@@ -5,8 +5,7 @@ ghost use Rattle.vlog_plan.specs.Steps.{settle_slot, settle_slots, wire_slot};
 ghost use Rattle.vlog_plan.specs.Values.{number_of};
 ghost use Rattle.vlog_plan.specs.declared.plan.Wire.{Wire as wire_of};
 
-use crate::steps::{bit_at, bit_of, copy_bits, set_bit, word_at};
-use vlog_plan::{Gate, Settle};
+use vlog_plan::{Gate, Settle, bit_at, bit_of, copy_bits, set_bit, word_at};
 
 /// The number that cells write, the lowest first.
 fn cells_number(cells: &[bool], ins: &[usize; 4]) -> u32

@@ -3,10 +3,10 @@ ghost use Rattle.std.specs.Prelude.{◌≡◌, ◌<◌, ◌≤◌, ◌+◌, ◌*
 ghost use Rattle.std.specs.Option.{option_map};
 
 use crate::gates::settle;
-use crate::steps::{bit_at, change, first_outputs, is_same_bit, word_at, word_in};
+use crate::steps::{change, first_outputs, is_same_bit};
 use std::alloc::{AllocError, Global};
 use vlog_module::Module;
-use vlog_plan::{Event, Layout, Memory, Start, Written, lay_out};
+use vlog_plan::{Event, Layout, Memory, Start, Written, bit_at, lay_out, word_at, word_in};
 
 /// A module that runs: what its names have after the start, and after each event.
 ///

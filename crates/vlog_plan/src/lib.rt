@@ -12,6 +12,7 @@ mod places;
 mod plan;
 mod planning;
 mod slots;
+mod steps;
 
 pub use event::Event;
 pub use gates::Gate;
@@ -22,3 +23,7 @@ pub use plan::{
     Wire, Write, Written,
 };
 pub use slots::Slots;
+pub use steps::{
+    bit_at, bit_of, copy_bits, copy_words, prepare_writes, run_flips, run_reads, run_writes,
+    set_bit, word_at, word_in, write_outputs,
+};

@@ -3,7 +3,7 @@ use Rattle.std.specs.Prelude.{map}
 use Rattle.vlog_plan.specs.Steps.{operand_value}
 use Rattle.vlog_plan.specs.Values.{number_of}
 use Rattle.vlog_plan.proofs.Numbers.{number-none, number-next, number-fits, number-small, byte_lt}
-use Rattle.vlog_cycle.proofs.steps.number.Goals as goal
+use Rattle.vlog_plan.proofs.steps.number.Goals as goal
 
 pub loop-place-init : goal.loop-place-init
 loop-place-init c = sym (number-none (operand_value c.args.bits.now c.args.words.now) c.args.operands.now)

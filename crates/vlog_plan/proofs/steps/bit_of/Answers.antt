@@ -1,6 +1,6 @@
 use Rattle.std.proofs.Common.{◌≡◌, false, ltb, sym, ◌∙◌, arith}
 use Rattle.vlog_plan.proofs.Numbers.{bit_of-high}
-use Rattle.vlog_cycle.proofs.steps.bit_of.Goals as goal
+use Rattle.vlog_plan.proofs.steps.bit_of.Goals as goal
 
 pub returns-else-k-lt16 : goal.returns-else-k-lt16
 returns-else-k-lt16 c =

@@ -11,6 +11,9 @@ use vlog_cycle::Runner;
 use vlog_emit::emit;
 use vlog_text::{parse, print};
 
+/// The bytes that a chip database has at most.
+const MOST_BYTES: usize = 268_435_456;
+
 /// How much there is of what a test counts: bytes of the bitstream, cells and classes of the design, events, and outputs of the module.
 type Counts = (usize, usize, usize, usize, usize);
 
@@ -18,6 +21,9 @@ type Counts = (usize, usize, usize, usize, usize);
 #[tactic(auto, unfolding(vlog_module::specs::Names::is_name, vlog_module::specs::Names::reserved_words))]
 fn counted(alloc: Global) -> Option<Counts> {
     let text = chipdb(alloc, DeviceName::K1).ok()?;
+    if text.len() > MOST_BYTES {
+        return None;
+    }
     let made = image(alloc, DeviceName::K1, 7).ok()?;
     let events = events(alloc, 7, 10).ok()?;
     let db = read(alloc, &text).ok()?;

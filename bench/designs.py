@@ -16,6 +16,8 @@ class Design:
 
     # how many designs there are in a family that doesn't go on for ever
     COUNT = None
+    # whether its memories, if it has any, are written
+    is_written = True
     inputs = []
     outputs = []
     events = []
@@ -141,12 +143,12 @@ class Memory(Design):
     def __init__(self, number):
         draws = random.Random(number)
         self.width, self.words = SHAPES[(number - 1) % len(SHAPES)]
-        self.is_read_only = number > len(SHAPES)
+        self.is_written = number <= len(SHAPES)
         bits = (self.words - 1).bit_length()
         self.address = bus("a", bits)
-        self.data = [] if self.is_read_only else bus("d", self.width)
+        self.data = bus("d", self.width) if self.is_written else []
         self.outputs = bus("q", self.width)
-        self.inputs = ["clk", "re"] + ([] if self.is_read_only else ["we"]) + self.address + self.data
+        self.inputs = ["clk", "re"] + (["we"] if self.is_written else []) + self.address + self.data
         self.content = [draws.randrange(1 << self.width) for _ in range(self.words)]
         # few address bits change, so that words that were written are read
         weights = [24] * (len(self.inputs) - len(self.address) - len(self.data)) + [4] * len(self.address) + [3] * len(self.data)
@@ -170,7 +172,7 @@ class Memory(Design):
     def seen(self, module):
         narrow = module.count("] >> {") + module.count("& ~(16'h")
         return "%d words of %d bits%s; %d RAMs, %d narrow ports" % (
-            self.words, self.width, ", read only" if self.is_read_only else "", module.count("[0:255];"), narrow)
+            self.words, self.width, "" if self.is_written else ", read only", module.count("[0:255];"), narrow)
 
 
 class Pins(Design):

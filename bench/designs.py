@@ -18,6 +18,8 @@ class Design:
     COUNT = None
     # whether its memories, if it has any, are written
     is_written = True
+    # whether no two of its pins may be in one tile, which has one clock for registers of inputs and one for those of outputs
+    is_apart = False
     inputs = []
     outputs = []
     events = []
@@ -178,6 +180,7 @@ class Memory(Design):
 class Pins(Design):
     """Pins with registers, and pins that can be switched off."""
 
+    is_apart = True
     CELL = "  SB_IO #(.PIN_TYPE(6'b%s), .NEG_TRIGGER(1'b%d)) %s (.PACKAGE_PIN(%s)%s);"
 
     def __init__(self, number):

@@ -1,0 +1,4 @@
+-- bits of a lane, word by word
+pub mod Bits
+-- what wires read in a lane
+pub mod Settled

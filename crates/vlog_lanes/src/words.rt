@@ -1,0 +1,66 @@
+// Words with a bit for each of sixty-four lanes.
+ghost use Rattle.std.specs.Prelude.{◌≡◌, ◌<◌, ◌≤◌, ◌+◌, ℕ, [], ◌∷◌, false, get_or, slice_set, if◌then◌else◌};
+ghost use Rattle.vlog_plan.specs.Values.{bit_of, number_of};
+
+/// A word with the same bit in each lane.
+pub(crate) fn every(bit: bool) -> u64
+    ensures { (lane : ℕ) → lane < 64 → bit_of result lane ≡ bit }
+{
+    if bit { u64::MAX } else { 0 }
+}
+
+/// In each lane the bit of the one word where the choice is 1, and of the other elsewhere.
+pub(crate) fn select(choice: u64, one: u64, other: u64) -> u64
+    ensures { (lane : ℕ) → bit_of result lane ≡ (if bit_of choice lane then bit_of one lane else bit_of other lane) }
+{
+    other ^ (choice & (one ^ other))
+}
+
+/// Bit `k` of a table.
+fn bit_of(table: u16, k: u32) -> bool
+    requires { k < 16 }
+    ensures { result ≡ bit_of table k }
+{
+    (table >> k) & 1 == 1
+}
+
+/// In each lane one of two bits of a table, from `k` on.
+fn of_two(table: u16, k: u32, a: u64) -> u64
+    requires { k + 2 ≤ 16 }
+    ensures { (lane : ℕ) → lane < 64 → bit_of result lane ≡ bit_of table (k + number_of (bit_of a lane ∷ [])) }
+{
+    select(a, every(bit_of(table, k + 1)), every(bit_of(table, k)))
+}
+
+/// In each lane one of four bits of a table, from `k` on.
+fn of_four(table: u16, k: u32, a: u64, b: u64) -> u64
+    requires { k + 4 ≤ 16 }
+    ensures { (lane : ℕ) → lane < 64 → bit_of result lane ≡ bit_of table (k + number_of (bit_of a lane ∷ bit_of b lane ∷ [])) }
+{
+    select(b, of_two(table, k + 2, a), of_two(table, k, a))
+}
+
+/// In each lane one of eight bits of a table, from `k` on.
+fn of_eight(table: u16, k: u32, a: u64, b: u64, c: u64) -> u64
+    requires { k + 8 ≤ 16 }
+    ensures { (lane : ℕ) → lane < 64 → bit_of result lane ≡ bit_of table (k + number_of (bit_of a lane ∷ bit_of b lane ∷ bit_of c lane ∷ [])) }
+{
+    select(c, of_four(table, k + 4, a, b), of_four(table, k, a, b))
+}
+
+/// In each lane the bit of a table whose number four bits write, the lowest first.
+pub(crate) fn of_table(table: u16, a: u64, b: u64, c: u64, d: u64) -> u64
+    ensures { (lane : ℕ) → lane < 64 → bit_of result lane ≡ bit_of table (number_of (bit_of a lane ∷ bit_of b lane ∷ bit_of c lane ∷ bit_of d lane ∷ [])) }
+{
+    select(d, of_eight(table, 8, a, b, c), of_eight(table, 0, a, b, c))
+}
+
+/// The word of a place, and 0 past the last.
+pub(crate) fn word_at(words: &[u64], place: usize) -> u64
+    ensures { result ≡ get_or words.now place 0 }
+{
+    match words.get(place) {
+        Some(word) => *word,
+        None => 0,
+    }
+}

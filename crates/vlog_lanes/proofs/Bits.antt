@@ -1,6 +1,6 @@
 -- Bits of a lane, word by word.
 use Rattle.std.proofs.Common.{◌≡◌, ℕ, zero, suc, ◌+◌, ◌*◌, ◌/◌, ◌%◌, ◌<◌, Bool, true, false, cond, eqb, length, List, [], ◌∷◌, bit_and, bit_xor, drop, length-drop, min, pow_mono, ◌≤◌, ap, ap₂, arith, get_or, ltb, refl, set, sym, ◌∙◌}
-use Rattle.std.specs.Prelude.{map}
+use Rattle.std.specs.Prelude.{◌&&◌, map, not}
 use Rattle.std.specs.Int.{bit_at}
 use Rattle.std.proofs.lemmas.List.{length-map}
 use Rattle.vlog_plan.proofs.Numbers.{number_of-lt}
@@ -83,14 +83,14 @@ lane-set lane (first ∷ words) (suc place) word = ap (λ list. bit_of first lan
 
 -- ---- wires
 
-pub four-read : (value : ℕ → Bool) (ins : List ℕ) → length ins ≡ 4
-    → number_of (value (get_or ins 0 0) ∷ value (get_or ins 1 0) ∷ value (get_or ins 2 0) ∷ value (get_or ins 3 0) ∷ []) ≡ number_of (map value ins)
-four-read value (a ∷ b ∷ c ∷ d ∷ []) size = refl
-four-read value [] size = absurd (omega (arith, size))
-four-read value (a ∷ []) size = absurd (omega (arith, size))
-four-read value (a ∷ b ∷ []) size = absurd (omega (arith, size))
-four-read value (a ∷ b ∷ c ∷ []) size = absurd (omega (arith, size))
-four-read value (a ∷ b ∷ c ∷ d ∷ e ∷ more) size = absurd (omega (arith, size))
+pub four-read : {A : Type 0} (value : A → Bool) (d : A) (ins : List A) → length ins ≡ 4
+    → number_of (value (get_or ins 0 d) ∷ value (get_or ins 1 d) ∷ value (get_or ins 2 d) ∷ value (get_or ins 3 d) ∷ []) ≡ number_of (map value ins)
+four-read value d (a ∷ b ∷ c ∷ e ∷ []) size = refl
+four-read value d [] size = absurd (omega (arith, size))
+four-read value d (a ∷ []) size = absurd (omega (arith, size))
+four-read value d (a ∷ b ∷ []) size = absurd (omega (arith, size))
+four-read value d (a ∷ b ∷ c ∷ []) size = absurd (omega (arith, size))
+four-read value d (a ∷ b ∷ c ∷ e ∷ f ∷ more) size = absurd (omega (arith, size))
 
 pub lane-value : (lane : ℕ) (cells ins : List ℕ) (table a b c d : ℕ) → length ins ≡ 4
     → a ≡ get_or cells (get_or ins 0 0) 0 → b ≡ get_or cells (get_or ins 1 0) 0 → c ≡ get_or cells (get_or ins 2 0) 0 → d ≡ get_or cells (get_or ins 3 0) 0
@@ -100,7 +100,7 @@ lane-value lane cells ins table a b c d size a_is b_is c_is d_is =
     λ word place is. ap (λ w. bit_of w lane) is ∙ sym (lane-get lane cells place) in
     ap₂ (λ x y. bit_of table (number_of (x ∷ y ∷ bit_of c lane ∷ bit_of d lane ∷ []))) (read a (get_or ins 0 0) a_is) (read b (get_or ins 1 0) b_is)
     ∙ ap₂ (λ x y. bit_of table (number_of (cell_at (lane_of lane cells) (get_or ins 0 0) ∷ cell_at (lane_of lane cells) (get_or ins 1 0) ∷ x ∷ y ∷ []))) (read c (get_or ins 2 0) c_is) (read d (get_or ins 3 0) d_is)
-    ∙ ap (bit_of table) (four-read (cell_at (lane_of lane cells)) ins size)
+    ∙ ap (bit_of table) (four-read (cell_at (lane_of lane cells)) 0 ins size)
 
 pub lane-gate : (lane bits : ℕ) (cells : List ℕ) (gate : Gate) (word : ℕ) → bit_of word lane ≡ gate_value (lane_of lane cells) gate
     → lane_of lane (cond (ltb gate.slot bits) (set cells gate.slot word) cells) ≡ gate_slot bits (lane_of lane cells) gate
@@ -154,3 +154,23 @@ lane-settle lane bits next wire target word bit is =
     lane-set lane next target word
     ∙ ap (set (lane_of lane next) target) (is ∙ ap₂ (λ b old. cond b bit old) (sym (lane-get lane bits wire)) (sym (lane-get lane next target)))
     ∙ set-case (get_or (lane_of lane bits) wire false) bit (lane_of lane next) target
+
+-- ---- flip-flops
+
+pub edge-case : (falling bit : Bool) → cond bit (not falling) falling ≡ cond falling (not bit) bit
+edge-case true true = refl
+edge-case true false = refl
+edge-case false true = refl
+edge-case false false = refl
+
+pub both : (a b : Bool) → cond a b false ≡ (a && b)
+both true b = refl
+both false b = refl
+
+-- a register gets its next bit in the lanes where its flip-flop acts
+pub lane-flip : (lane : ℕ) (next : List ℕ) (target word : ℕ) (acts bit : Bool) → bit_of word lane ≡ cond acts bit (bit_of (get_or next target 0) lane)
+    → lane_of lane (set next target word) ≡ cond acts (set (lane_of lane next) target bit) (lane_of lane next)
+lane-flip lane next target word acts bit is =
+    lane-set lane next target word
+    ∙ ap (set (lane_of lane next) target) (is ∙ ap (cond acts bit) (sym (lane-get lane next target)))
+    ∙ set-case acts bit (lane_of lane next) target

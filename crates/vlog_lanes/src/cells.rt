@@ -1,25 +1,17 @@
 // What wires read in all lanes: the words of names, then those of the bits of words, then 0 and 1.
 ghost use Rattle.std.specs.Prelude.{◌≡◌, ◌+◌, ◌*◌, length, slice_set};
-ghost use Rattle.vlog_plan.specs.Cells.{part_at};
 ghost use Rattle.vlog_lanes.specs.Lanes.{cells_over, gathered, gathered_below};
 
 use vlog_plan::{bit_of, word_at};
 
-/// The bit of a word at its place: bit k of word w has the place 16 w + k.
-fn part_at(words: &[u16], place: usize) -> bool
-    ensures { result ≡ part_at words.now place }
-{
-    bit_of(word_at(words, place / 16), (place % 16) as u32)
-}
-
-/// The bits of all lanes at a place of their words.
-fn gather(words: &[Vec<u16>], place: usize) -> u64
+/// Bit `k` of a word in all lanes.
+pub(crate) fn gather(words: &[Vec<u16>], slot: usize, k: u32) -> u64
     requires { length words.now ≡ 64 }
-    ensures { result ≡ gathered words.now place }
+    ensures { result ≡ gathered words.now slot k }
 {
     let mut word = 0;
     for lane in (0..words.len()).rev() {
-        let bit = part_at(&words[lane], place);
+        let bit = bit_of(word_at(&words[lane], slot), k);
         word = 2 * word + u64::from(bit);
     }
     word
@@ -49,7 +41,7 @@ fn fill_parts(words: &[Vec<u16>], parts: &mut [u64])
     ensures { parts.new ≡ gathered_below words.now (length parts.old) }
 {
     for place in 0..parts.len() {
-        let word = gather(words, place);
+        let word = gather(words, place / 16, (place % 16) as u32);
         set_at(parts, place, word);
     }
 }

@@ -9,7 +9,7 @@ use crate::words::{every, of_table, select, word_at};
 use vlog_plan::{Flip, Operand, Table};
 
 /// The values of an operand.
-fn operand_word(bits: &[u64], words: &[Vec<u16>], operand: Operand) -> u64
+pub(crate) fn operand_word(bits: &[u64], words: &[Vec<u16>], operand: Operand) -> u64
     requires { length words.now ≡ 64 }
     ensures { (lane : ℕ) → lane < 64 → bit_of result lane ≡ operand_value (lane_of lane bits.now) (words_of lane words.now) operand }
 {

@@ -7,6 +7,7 @@ use Rattle.vlog_plan.proofs.Numbers.{number_of-lt}
 use Rattle.std.proofs.lemmas.Nat.Bits.{bit_at-lt, bit_at-suc, bit_at-zero, bit_at_lowest, bit_at_and, bit_at_ones, bit_at_xor}
 use Rattle.vlog_plan.specs.Cells.{cell_at, gate_slot, gate_value}
 use Rattle.vlog_plan.specs.declared.gates.Gate.{Gate}
+use Rattle.vlog_plan.specs.Run.{is_same_bit}
 use Rattle.vlog_plan.specs.Values.{bit_of, number_of}
 use Rattle.vlog_lanes.specs.Lanes.{lane_of}
 
@@ -42,6 +43,32 @@ bit-select choice one other lane =
     (bit_at_xor other (bit_and choice (bit_xor one other)) lane
     ∙ ap (λ n. (bit_at other lane + n) % 2) (bit_at_and choice (bit_xor one other) lane ∙ ap (min (bit_at choice lane)) (bit_at_xor one other lane)))
     ∙ chosen (bit_at choice lane) (bit_at one lane) (bit_at other lane) (bit_at-lt choice lane) (bit_at-lt one lane) (bit_at-lt other lane)
+
+-- ---- what changes
+
+differing : (active new old : ℕ) → active < 2 → new < 2 → old < 2
+    → eqb (min active ((new + old) % 2)) 1 ≡ cond (eqb active 1) (not (is_same_bit (eqb new 1) (eqb old 1))) false
+differing zero zero zero a n o = refl
+differing zero zero (suc zero) a n o = refl
+differing zero (suc zero) zero a n o = refl
+differing zero (suc zero) (suc zero) a n o = refl
+differing (suc zero) zero zero a n o = refl
+differing (suc zero) zero (suc zero) a n o = refl
+differing (suc zero) (suc zero) zero a n o = refl
+differing (suc zero) (suc zero) (suc zero) a n o = refl
+differing (suc (suc active)) new old a n o = absurd (omega arith)
+differing zero (suc (suc new)) old a n o = absurd (omega arith)
+differing (suc zero) (suc (suc new)) old a n o = absurd (omega arith)
+differing zero zero (suc (suc old)) a n o = absurd (omega arith)
+differing zero (suc zero) (suc (suc old)) a n o = absurd (omega arith)
+differing (suc zero) zero (suc (suc old)) a n o = absurd (omega arith)
+differing (suc zero) (suc zero) (suc (suc old)) a n o = absurd (omega arith)
+
+pub bit-changes : (active new old lane : ℕ) → bit_of (bit_and active (bit_xor new old)) lane
+    ≡ cond (bit_of active lane) (not (is_same_bit (bit_of new lane) (bit_of old lane))) false
+bit-changes active new old lane =
+    ap (λ n. eqb n 1) (bit_at_and active (bit_xor new old) lane ∙ ap (min (bit_at active lane)) (bit_at_xor new old lane))
+    ∙ differing (bit_at active lane) (bit_at new lane) (bit_at old lane) (bit_at-lt active lane) (bit_at-lt new lane) (bit_at-lt old lane)
 
 -- ---- a table, in halves
 

@@ -71,7 +71,7 @@ fn run_flip(flip: &Flip, pin: usize, event: u64, bits: &[u64], words: &[Vec<u16>
 
 /// Gives registers their next bits in each of sixty-four lanes, where the input gets the lane's bit of a word. Each slot of one bit
 /// has a word with a bit for each lane, and each lane has registers of 16 bits of its own.
-pub fn run_flips(
+pub(crate) fn run_flips(
     flips: &[Flip],
     pin: usize,
     event: u64,

@@ -9,7 +9,12 @@ use crate::flips::operand_word;
 use vlog_plan::{Operand, set_bit};
 
 /// Gives each output its values in all lanes.
-pub fn write_outputs(operands: &[Operand], bits: &[u64], words: &[Vec<u16>], outputs: &mut [u64])
+pub(crate) fn write_outputs(
+    operands: &[Operand],
+    bits: &[u64],
+    words: &[Vec<u16>],
+    outputs: &mut [u64],
+)
     requires lanes { length words.now ≡ 64 }
     requires room { length outputs.old ≡ length operands.now }
     ensures { (lane : ℕ) → lane < 64 → lane_of lane outputs.new ≡ map (operand_value (lane_of lane bits.now) (words_of lane words.now)) operands.now }
@@ -21,7 +26,7 @@ pub fn write_outputs(operands: &[Operand], bits: &[u64], words: &[Vec<u16>], out
 }
 
 /// The bit of a lane; lanes count from 0.
-fn lane_bit(word: u64, lane: u32) -> bool
+pub(crate) fn lane_bit(word: u64, lane: u32) -> bool
     requires { lane < 64 }
     ensures { result ≡ bit_of word lane }
 {
@@ -29,7 +34,7 @@ fn lane_bit(word: u64, lane: u32) -> bool
 }
 
 /// Takes the bits of a lane out of words.
-pub fn take_lane(words: &[u64], lane: u32, bits: &mut [bool])
+pub(crate) fn take_lane(words: &[u64], lane: u32, bits: &mut [bool])
     requires within { lane < 64 }
     requires room { length bits.old ≡ length words.now }
     ensures { bits.new ≡ lane_of lane words.now }

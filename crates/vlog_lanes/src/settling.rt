@@ -30,7 +30,7 @@ fn run_settles(settles: &[Settle], bits: &[u64], next: &mut [u64])
 
 /// Gives each wire its value in each of sixty-four lanes, one wire after the other, and then registers that wires set at once their bits.
 /// Each slot of one bit has a word with a bit for each lane, and each lane has `count` registers of 16 bits of its own.
-pub fn settle(
+pub(crate) fn settle(
     gates: &[Gate],
     settles: &[Settle],
     words: &[Vec<u16>],

@@ -31,6 +31,27 @@ invariant_of-result-clause-lanes c =
 pub invariant_of-result-clause-memory_lanes : goal.invariant_of-result-clause-memory_lanes
 invariant_of-result-clause-memory_lanes c = copied-length c.in_ok-memories.memories.items c.deref-3.result.now c.in_ok-memories.ensures
 
+pub invariant_of-result-clause-bits_room : goal.invariant_of-result-clause-bits_room
+invariant_of-result-clause-bits_room c = omega (arith, c.in_ok-next_bits.ensures.len, c.deref-10.ensures.len)
+
+pub invariant_of-result-clause-cells_room : goal.invariant_of-result-clause-cells_room
+invariant_of-result-clause-cells_room c =
+    let first = c.in_ok-start.start in
+    omega (arith, c.in_ok-cells.ensures.len, c.len.ensures, c.in_ok-start.ensures.cells, first.bits.ok.0, first.words.ok.0, first.cells.ok.0, c.in_ok-bits.ensures.count, c.deref.ensures.len, c.in_ok-bits.bits.ok.0)
+
+pub invariant_of-result-clause-lane_room : goal.invariant_of-result-clause-lane_room
+invariant_of-result-clause-lane_room c = omega (arith, c.in_ok-bits.ensures.count, c.deref.ensures.len, c.in_ok-bits.bits.ok.0)
+
+pub invariant_of-result-clause-writes_room : goal.invariant_of-result-clause-writes_room
+invariant_of-result-clause-writes_room c = omega (arith, c.in_ok-written.ensures.len, c.len-4.ensures)
+
+pub invariant_of-result-clause-outputs_room : goal.invariant_of-result-clause-outputs_room
+invariant_of-result-clause-outputs_room c = omega (arith, c.in_ok-outputs.ensures.len, c.len-3.ensures)
+
+pub invariant_of-result-clause-next_outputs_room : goal.invariant_of-result-clause-next_outputs_room
+invariant_of-result-clause-next_outputs_room c =
+    omega (arith, c.in_ok-next_outputs.ensures.len, c.deref-11.ensures.len, c.in_ok-outputs.ensures.len, c.len-3.ensures)
+
 pub returns : goal.returns
 returns c lane within =
     let m = c.args.module.now in

@@ -231,3 +231,64 @@ fn a_pin_that_can_be_switched_off_has_two_outputs(rt: HostRuntime) {
     assert!(rt; is_inverter(rt.alloc(), CELL, &SWITCHED_PINS, Gives::Outputs(&outputs)));
     assert!(rt; is_inverter(rt.alloc(), CELL, &NOT_TAKEN, refused));
 }
+
+/// The bits of a pin, which isn't taken, and its place and its type.
+type Refused = (&'static [SampleBit], (u8, u8, u8), u8);
+
+/// Another output than the four that are taken; a latched input that is read, without a register and with one; and a pin that can be switched
+/// off whose input is read.
+static REFUSED: [Refused; 4] = [
+    (&[(0, 2, 0, 0), (0, 2, 3, 0)], (0, 2, 0), 9),
+    (&[(0, 1, 1, 0)], (0, 1, 0), 2),
+    (&[(0, 1, 0, 0), (0, 1, 1, 0)], (0, 1, 0), 3),
+    (&[(0, 1, 0, 0), (0, 1, 3, 0), (0, 1, 5, 0)], (0, 1, 0), 41),
+];
+
+/// Whether a pin of that type isn't taken.
+fn is_refused(alloc: Global, refused: &Refused) -> bool {
+    let (x, y, n) = refused.1;
+    let gives = Gives::Refused(Cause::PinMode(x, y, n, refused.2));
+    is_inverter(alloc, REGISTERED_INPUT, refused.0, gives)
+}
+
+#[test]
+fn pins_of_other_types_are_not_taken(rt: HostRuntime) {
+    for refused in &REFUSED {
+        assert!(rt; is_refused(rt.alloc(), refused), "type {}", refused.2);
+    }
+}
+
+/// The bits of the inverter, to which no buffer leads.
+static UNREAD: [SampleBit; 9] = [
+    (1, 1, 0, 37),
+    (1, 1, 0, 39),
+    (1, 1, 0, 40),
+    (1, 1, 0, 42),
+    (1, 1, 1, 36),
+    (1, 1, 1, 38),
+    (1, 1, 1, 41),
+    (1, 1, 1, 43),
+    (0, 2, 6, 0),
+];
+
+#[test]
+fn a_registered_input_pin_that_is_not_read_is_no_port(rt: HostRuntime) {
+    let clock = Pin {
+        x: 0,
+        y: 3,
+        n: 0,
+        kind: PinKind::Plain,
+        output: false,
+        back: false,
+        din: Some(4),
+        dout: None,
+        enable: None,
+    };
+    let pins = [output_pin(PinKind::Plain, true, None), clock];
+    let gives = Gives::Pins(&pins, &[]);
+    let case = Case {
+        more: &REGISTERED_INPUT_PINS,
+        ..Case::of(REGISTERED_INPUT, &UNREAD, gives)
+    };
+    assert!(rt; is_so(rt.alloc(), case));
+}

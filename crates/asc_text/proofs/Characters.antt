@@ -10,7 +10,6 @@ use Rattle.place_search.proofs.Places.{any_below-at, any_below-place, least_belo
 use Rattle.place_search.proofs.Found.{or_else-first, or_else-other, any_below-clear, least_below-place, first_below-clear}
 use Rattle.layout_file.specs.declared.layouts.Layouts.{Layouts}
 use Rattle.layout_file.specs.Layouts.{layout_for, AreLayouts}
-use Rattle.asc_text.proofs.HasRead.{layout_for-device}
 use Rattle.asc_text.proofs.Depths.{depth_after, depth-first, depth-step, depth_after-next}
 use Rattle.plane_map.specs.Layout.{Layout, IsLayout, kind_of, IsTileBit, IsWordBit}
 use Rattle.plane_map.specs.declared.device.DeviceName.{DeviceName}
@@ -525,7 +524,7 @@ configured_bits layouts text image (Some device) are whole names fit is =
     let layout = layout_for layouts device in
     let same : image_before layout (lines_of text) (length (lines_of text)) ≡ image = cc in
     let sound : IsLayout layout = subst IsLayout (ap (λ (c : Configuration). c.layout) (sym same)) whole.layout in
-    subst (HasBits text) same (accepted_bits layouts text layout sound (record { fit = fit; names = names ∙ ap (λ d. Some d) (sym (layout_for-device layouts device are)) }))
+    subst (HasBits text) same (accepted_bits layouts text layout sound (record { fit = fit; names = names ∙ ap (λ d. Some d) (sym (are device)) }))
 
 -- What a text means has each bit that the text says.
 pub bits_of_text : (layouts : Layouts) (text : List ℕ) (image : Configuration) (symbols : List NetName) → AreLayouts layouts → IsWhole image → AscMeans layouts text image symbols → HasBits text image

@@ -4,7 +4,6 @@ use Rattle.std.specs.Prelude.{Option, Some, None, is_some}
 use Rattle.text_lines.specs.Lines.{line_at}
 use Rattle.place_search.specs.Places.{any_below, first_below, last_below}
 use Rattle.plane_map.specs.declared.device.DeviceName.{DeviceName}
-use Rattle.plane_map.specs.declared.device.DeviceName.TheVariants.{K1, K8}
 use Rattle.layout_file.specs.declared.layouts.Layouts.{Layouts}
 use Rattle.layout_file.specs.Layouts.{layout_for, AreLayouts}
 use Rattle.plane_map.specs.declared.tile.TileKind.TheVariants.{RamB}
@@ -43,11 +42,6 @@ AreNamed lines n names flags = (v w : ℕ) → v < 34 → w < 34 → has_tile fl
 abbrev pub device_known : Option AnyImage → Option DeviceName
 device_known None = None
 device_known (Some image) = Some (device_of image)
-
--- each layout is for its device
-pub layout_for-device : (layouts : Layouts) (device : DeviceName) → AreLayouts layouts → (layout_for layouts device).device ≡ device
-layout_for-device layouts K1 are = are.k1
-layout_for-device layouts K8 are = are.k8
 
 -- the image has the layout of its device, and the bits that the lines before a line set
 pub record HasBits (layouts : Layouts) (lines : List (List ℕ)) (n : ℕ) (image : AnyImage) : Type 0 where

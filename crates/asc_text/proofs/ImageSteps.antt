@@ -17,7 +17,7 @@ use Rattle.ice_image.proofs.Bits.{bit_of-blank}
 use Rattle.asc_text.specs.Blocks.{depth_at, statement_over}
 use Rattle.asc_text.specs.Meaning.{sets_bit, is_set_before}
 use Rattle.asc_text.specs.inside.Reading.{ImageGains, IsBlank}
-use Rattle.asc_text.proofs.HasRead.{SetsNone, HasImage, layout_for-device}
+use Rattle.asc_text.proofs.HasRead.{SetsNone, HasImage}
 
 -- what a line sets
 abbrev pub set_here : List (List ℕ) → ℕ → Bit → Bool
@@ -44,7 +44,7 @@ image-stays layouts lines n (Some image) has none = record {
 
 -- a blank image under a device's layout is for the device
 pub blank-device : (layouts : Layouts) (device : DeviceName) (image : AnyImage) → AreLayouts layouts → IsBlank layouts (Some device) (Some image) → device_of image ≡ device
-blank-device layouts device image are blank = ap (λ (c : Configuration). c.layout.device) blank.0 ∙ layout_for-device layouts device are
+blank-device layouts device image are blank = ap (λ (c : Configuration). c.layout.device) blank.0 ∙ are device
 
 -- the statement of the device
 pub image-begins : (layouts : Layouts) (lines : List (List ℕ)) (n : ℕ) (device : Option DeviceName) (image : Option AnyImage) → AreLayouts layouts → HasImage layouts lines n None → IsBlank layouts device image → SetsNo lines n → HasImage layouts lines (n + 1) image

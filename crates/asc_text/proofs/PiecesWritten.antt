@@ -15,7 +15,7 @@ use Rattle.bit_plane.proofs.Made.{length-row_from, length-rows_from, row_at-rows
 use Rattle.layout_file.specs.Layouts.{HasLayout}
 use Rattle.plane_map.specs.Layout.{Layout, kind_of, columns_of, columns_in, columns_at, grid_width, grid_height, cram_width, cram_height}
 use Rattle.plane_map.specs.declared.device.DeviceName.{DeviceName}
-use Rattle.plane_map.specs.declared.device.DeviceName.TheVariants.{K1, K8}
+use Rattle.plane_map.specs.declared.device.DeviceName.TheVariants.{L384, K1, K8}
 use Rattle.plane_map.specs.declared.tile.TileKind.{TileKind}
 use Rattle.plane_map.specs.declared.tile.TileKind.TheVariants.{Io, Logic, RamB, RamT}
 use Rattle.plane_map.specs.declared.tile.Place.{Place}
@@ -279,6 +279,7 @@ ram-fine layouts image x y past small_x small_y is knows new = record {
 
 -- the grid is small
 grid-small : (device : DeviceName) (x y : ℕ) → x < grid_width device → y < grid_height device → (x < 1000000000) × (y < 1000000000)
+grid-small L384 x y inside within = (omega arith, omega arith)
 grid-small K1 x y inside within = (omega arith, omega arith)
 grid-small K8 x y inside within = (omega arith, omega arith)
 
@@ -411,6 +412,7 @@ extras-at test (first ∷ places) at is passes =
 
 -- the planes are small
 planes-small : (device : DeviceName) (px py : ℕ) → px < cram_width device → py < cram_height device → (px < 1000000000) × (py < 1000000000)
+planes-small L384 px py inside within = (omega arith, omega arith)
 planes-small K1 px py inside within = (omega arith, omega arith)
 planes-small K8 px py inside within = (omega arith, omega arith)
 

@@ -10,7 +10,7 @@ use Rattle.layout_file.specs.declared.layouts.Layouts.{Layouts}
 use Rattle.layout_file.specs.Layouts.{layout_for}
 use Rattle.plane_map.specs.Layout.{Layout, kind_of, columns_of, columns_at, grid_width, grid_height}
 use Rattle.plane_map.specs.declared.device.DeviceName.{DeviceName}
-use Rattle.plane_map.specs.declared.device.DeviceName.TheVariants.{K1, K8}
+use Rattle.plane_map.specs.declared.device.DeviceName.TheVariants.{L384, K1, K8}
 use Rattle.plane_map.specs.declared.tile.TileKind.{TileKind}
 use Rattle.plane_map.specs.declared.tile.TileKind.TheVariants.{Io, Logic, RamB, RamT}
 use Rattle.plane_map.proofs.Layouts.{columns_at-in}
@@ -42,6 +42,7 @@ columns-some RamB = omega arith
 columns-some RamT = omega arith
 
 widest : (device : DeviceName) → (grid_width device ≤ 34) × (grid_height device ≤ 34)
+widest L384 = (omega arith, omega arith)
 widest K1 = (omega arith, omega arith)
 widest K8 = (omega arith, omega arith)
 

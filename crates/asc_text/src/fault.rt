@@ -22,7 +22,7 @@ pub enum AscCause {
     /// A statement that needs the device comes before it, or the text names none.
     #[error("no device has been named")]
     NoDevice,
-    /// A device other than `1k` and `8k`.
+    /// A device other than `384`, `1k` and `8k`.
     #[error("unknown device")]
     Device,
     /// There is no tile.

@@ -15,7 +15,6 @@ use Rattle.bin_stream.specs.declared.fault.BinCause.TheVariants.{NoPreamble}
 use Rattle.bin_stream.proofs.Allowed.{Follows-from_IsAllowed, IsAllowed-from_Follows, Follows-right}
 use Rattle.bin_stream.proofs.ManyCommands.{Woken, Failed, length-spelled, commands_from-woken, commands_from-failed, commands_from-Ok, commands_from-Err}
 use Rattle.bin_stream.proofs.PreamblePlace.{preamble_offset-splits}
-use Rattle.bin_stream.proofs.Laid.{device-laid}
 use Rattle.bin_stream.proofs.DeviceKnown.{device_after-woken, device_after-known}
 
 -- what is read behind a front and the preamble
@@ -80,7 +79,7 @@ spelled-woken layouts are bytes image place all front_is woken means =
     ∙ ap (λ device. meaning (layout_for layouts (device_or device)) front (commands ++ wake_up ∷ [])) (device_after-woken commands wake_up woken.wakes ∙ known.1) in
     let layout_is : layout_for layouts known.0 ≡ image.layout =
     sym (layout-meant (layout_for layouts known.0) front (commands ++ wake_up ∷ [])) ∙ ap (λ (i : Configuration). i.layout) (sym image_is) in
-    let device_is : known.0 ≡ image.layout.device = sym (device-laid layouts are known.0) ∙ ap (λ (l : Layout). l.device) layout_is in
+    let device_is : known.0 ≡ image.layout.device = sym (are known.0) ∙ ap (λ (l : Layout). l.device) layout_is in
     record {
       front = front;
       commands = commands;

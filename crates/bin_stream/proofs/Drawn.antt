@@ -29,7 +29,6 @@ use Rattle.bin_stream.specs.Refusals.{reached_in}
 use Rattle.bin_stream.specs.inside.Registers.{Fits, held_after}
 use Rattle.ice_image.specs.Planes.{with_rows}
 use Rattle.bin_stream.specs.inside.Step.{device_if, image_or_blank, IsDrawnOn, IsDrawn, Holds}
-use Rattle.bin_stream.proofs.Laid.{device-laid}
 use Rattle.bin_stream.proofs.OneMore.{device_after-more, reached_in-more, plane_bit-more}
 use Rattle.place_search.proofs.Places.{or_else-none}
 
@@ -192,7 +191,7 @@ record IsBase (layouts : Layouts) (device : DeviceName) (commands : List Command
 
 IsBase-holds : (layouts : Layouts) → AreLayouts layouts → (device : DeviceName) (commands : List Command) (image : Option AnyImage) (other : Option DeviceName) → Holds layouts commands image → or_else (device_if image) other ≡ Some device → IsBase layouts device commands (image_or_blank (layout_for layouts device) image)
 IsBase-holds layouts are device commands None other none chosen =
-    let same = device-laid layouts are device in
+    let same = are device in
     record {
       layout_is = refl;
       cram_is = ap (λ device. replicate 4 (blank (plane_width Cram device) (plane_height Cram device))) same ∙ planes_of-blank device Cram commands (none.no_bit Cram);

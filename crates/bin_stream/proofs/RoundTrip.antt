@@ -8,8 +8,9 @@ use Rattle.std.proofs.lemmas.List.Elements.{All-weaker}
 use Rattle.std.proofs.lemmas.List.Sums.{AllPass-from_list_all}
 use Rattle.place_search.specs.Places.{last_below, first_below}
 use Rattle.bit_plane.specs.BitList.{bit_value, bits_of, byte_bits}
+use Rattle.bit_plane.specs.Rows.{IsGrid}
 use Rattle.plane_map.specs.declared.device.DeviceName.{DeviceName}
-use Rattle.plane_map.specs.declared.device.DeviceName.TheVariants.{K1, K8}
+use Rattle.plane_map.specs.declared.device.DeviceName.TheVariants.{L384, K1, K8}
 use Rattle.layout_file.specs.declared.layouts.Layouts.{Layouts}
 use Rattle.layout_file.specs.Layouts.{HasLayout}
 use Rattle.ice_image.specs.Configuration.{Configuration, IsWhole, bank_rows}
@@ -28,7 +29,7 @@ use Rattle.bin_stream.proofs.CanonicalCommands.{checked_commands, before_check, 
 use Rattle.bin_stream.proofs.CheckLaw.{check_value-own}
 use Rattle.bin_stream.proofs.FrontPlace.{front_place}
 use Rattle.bin_stream.proofs.CommentBack.{HasCommentLines, comment_of-bytes, front-clear}
-use Rattle.bin_stream.proofs.PlanesBack.{length-row_bytes, cram_back, bram_back}
+use Rattle.bin_stream.proofs.PlanesBack.{length-row_bytes, bram-tall, cram_back, bram_back}
 use Rattle.bin_stream.proofs.CanonicalAllowed.{AreFit, allowed}
 use Rattle.bin_stream.proofs.Runs.{IsGrid-run}
 
@@ -67,25 +68,35 @@ no_sleep-back true true = refl
 -- what the canonical commands leave
 range-after : (device : DeviceName) (range_value mode_value : ℕ) (cram : ℕ → List ℕ) (bram : ℕ → ℕ → List ℕ) (check_payload : List ℕ) → range_after (all_commands device range_value mode_value cram bram check_payload) ≡ number_of (range_value ∷ [])
 unfolding last_below last_of
-range-after device range_value mode_value cram bram check_payload = refl
+range-after L384 range_value mode_value cram bram check_payload = refl
+range-after K1 range_value mode_value cram bram check_payload = refl
+range-after K8 range_value mode_value cram bram check_payload = refl
 
 mode-after : (device : DeviceName) (range_value mode_value : ℕ) (cram : ℕ → List ℕ) (bram : ℕ → ℕ → List ℕ) (check_payload : List ℕ) → mode_after (all_commands device range_value mode_value cram bram check_payload) ≡ mode_value
 unfolding last_below last_of
-mode-after device range_value mode_value cram bram check_payload = let e : number_of (0 ∷ mode_value ∷ []) ≡ mode_value = omega arith in e
+mode-after L384 range_value mode_value cram bram check_payload = let e : number_of (0 ∷ mode_value ∷ []) ≡ mode_value = omega arith in e
+mode-after K1 range_value mode_value cram bram check_payload = let e : number_of (0 ∷ mode_value ∷ []) ≡ mode_value = omega arith in e
+mode-after K8 range_value mode_value cram bram check_payload = let e : number_of (0 ∷ mode_value ∷ []) ≡ mode_value = omega arith in e
 
 -- the device is that of the first data
 device-after : (device : DeviceName) (range_value mode_value : ℕ) (cram : ℕ → List ℕ) (bram : ℕ → ℕ → List ℕ) (check_payload : List ℕ) → device_after (before_wake_up device range_value mode_value cram bram check_payload) ≡ Some device
 unfolding last_below first_below last_of width_after device_after
+device-after L384 range_value mode_value cram bram check_payload = refl
 device-after K1 range_value mode_value cram bram check_payload = refl
 device-after K8 range_value mode_value cram bram check_payload = refl
 
 -- ---- the wake-up
 
 -- no command before it is one
+none_wakes : (device : DeviceName) (range_value mode_value : ℕ) (cram : ℕ → List ℕ) (bram : ℕ → ℕ → List ℕ) (check_payload : List ℕ) → list_all (λ command. not (is_wake_up command)) (before_wake_up device range_value mode_value cram bram check_payload) ≡ true
+none_wakes L384 range_value mode_value cram bram check_payload = refl
+none_wakes K1 range_value mode_value cram bram check_payload = refl
+none_wakes K8 range_value mode_value cram bram check_payload = refl
+
 no_wake_up-before : (device : DeviceName) (range_value mode_value : ℕ) (cram : ℕ → List ℕ) (bram : ℕ → ℕ → List ℕ) (check_payload : List ℕ) → NoWakeUp (before_wake_up device range_value mode_value cram bram check_payload)
 no_wake_up-before device range_value mode_value cram bram check_payload =
     let commands = before_wake_up device range_value mode_value cram bram check_payload in
-    let none : list_all (λ command. not (is_wake_up command)) commands ≡ true = refl in
+    let none = none_wakes device range_value mode_value cram bram check_payload in
     All-weaker (λ command. not (is_wake_up command) ≡ true) (λ command. is_wake_up command ≡ false) (λ command. not-true (is_wake_up command)) commands (AllPass-from_list_all (λ command. not (is_wake_up command)) commands none)
 
 -- ---- the check
@@ -93,7 +104,9 @@ no_wake_up-before device range_value mode_value cram bram check_payload =
 -- the check covers what stands behind the reset
 covered-is : (device : DeviceName) (range_value mode_value : ℕ) (cram : ℕ → List ℕ) (bram : ℕ → ℕ → List ℕ) → covered (before_check device range_value mode_value cram bram) ≡ spelled (checked_commands device mode_value cram bram)
 unfolding last_below covered
-covered-is device range_value mode_value cram bram = refl
+covered-is L384 range_value mode_value cram bram = refl
+covered-is K1 range_value mode_value cram bram = refl
+covered-is K8 range_value mode_value cram bram = refl
 
 -- the two bytes of an image's check
 abbrev pub value_bytes : Configuration → List ℕ
@@ -123,7 +136,9 @@ fit-is c is = record {
   range_in = range_number-below c.settings.range;
   mode_in = mode-known c.settings.warm_boot c.settings.no_sleep;
   cram_sizes = λ bank in_bank. length-row_bytes (cram_width c.layout.device) (cram_height c.layout.device) (bank_rows c.cram bank) (is.cram.grids bank in_bank);
-  bram_sizes = λ bank first in_bank low. length-row_bytes (bram_width c.layout.device) 128 (take 128 (drop first (bank_rows c.bram bank))) (IsGrid-run (bram_width c.layout.device) 256 first 128 (bank_rows c.bram bank) (is.bram.grids bank in_bank) (omega arith));
+  bram_sizes = λ has bank first in_bank low.
+      let grid : IsGrid (bram_width c.layout.device) 256 (bank_rows c.bram bank) = subst (λ height. IsGrid (bram_width c.layout.device) height (bank_rows c.bram bank)) (bram-tall c.layout.device has) (is.bram.grids bank in_bank) in
+      length-row_bytes (bram_width c.layout.device) 128 (take 128 (drop first (bank_rows c.bram bank))) (IsGrid-run (bram_width c.layout.device) 256 first 128 (bank_rows c.bram bank) grid (omega arith));
   check_long = refl;
   check_passes = check-passes c (range_number c.settings.range);
 }

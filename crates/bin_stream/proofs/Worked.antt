@@ -31,6 +31,11 @@ data_without_width : (layouts : Layouts) → bin_read_of layouts (0x7E ∷ 0xAA 
 unfolding any_below last_below first_below least_below doubled power powers_from sum_of check_value spelled last_of width_after device_after covered preamble_offset commands_from bin_read_of
 data_without_width layouts = refl
 
+-- rows of RAM, before a width was given: the planes of a device without RAM have no rows, so that no width is theirs
+ram_without_width : (layouts : Layouts) → bin_read_of layouts (0x7E ∷ 0xAA ∷ 0x99 ∷ 0x7E ∷ 0x01 ∷ 0x03 ∷ []) ≡ Err (fault_at 4 BadWidth)
+unfolding any_below last_below first_below least_below doubled power powers_from sum_of check_value spelled last_of width_after device_after covered preamble_offset commands_from bin_read_of
+ram_without_width layouts = refl
+
 five_bytes_of_payload : (layouts : Layouts) → bin_read_of layouts (0x7E ∷ 0xAA ∷ 0x99 ∷ 0x7E ∷ 0x05 ∷ 0x00 ∷ 0x00 ∷ 0x00 ∷ 0x00 ∷ 0x01 ∷ []) ≡ Err (fault_at 4 LongPayload)
 unfolding any_below last_below first_below least_below doubled power powers_from sum_of check_value spelled last_of width_after device_after covered preamble_offset commands_from bin_read_of
 five_bytes_of_payload layouts = refl

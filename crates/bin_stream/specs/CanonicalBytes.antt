@@ -1,5 +1,5 @@
 -- The one stream that is written for a configuration: a concatenation of commands.
-use Rattle.std.specs.Prelude.{ℕ, ◌+◌, ◌-◌, ◌*◌, ◌/◌, Bool, List, [], ◌∷◌, ◌++◌, length, take, drop, flat_map, Option, None, Some}
+use Rattle.std.specs.Prelude.{ℕ, ◌+◌, ◌-◌, ◌*◌, ◌/◌, Bool, List, [], ◌∷◌, ◌++◌, length, take, drop, flat_map, if◌then◌else◌, Option, None, Some}
 use Rattle.std.specs.Int.{w16, to_be_bytes}
 use Rattle.bit_plane.specs.BitList.{bits_of, bytes_of, bit_value}
 use Rattle.bit_plane.specs.Rows.{Rows, flat}
@@ -12,6 +12,7 @@ use Rattle.ice_image.specs.declared.planes.PlaneKind.{PlaneKind}
 use Rattle.ice_image.specs.declared.planes.PlaneKind.TheVariants.{Cram, Bram}
 use Rattle.bin_stream.specs.CheckValue.{check_value}
 use Rattle.bin_stream.specs.Commands.{Short, Data, kind_number, spelling, control_opcode, bank_opcode, check_opcode, range_opcode, width_opcode, height_opcode, offset_opcode, mode_opcode, reset_number, wake_up_number}
+use Rattle.bin_stream.specs.State.{has_rows}
 use Rattle.bin_stream.specs.Front.{preamble}
 
 -- a number as two bytes, the high one first
@@ -83,10 +84,14 @@ cram_bytes device planes =
     ++ flat_map (cram_bank planes) four_banks
 
 -- the RAM planes, with the size of their halves
-unfoldable pub bram_bytes : DeviceName → List Rows → List ℕ
-bram_bytes device planes =
+abbrev pub ram_bytes : DeviceName → List Rows → List ℕ
+ram_bytes device planes =
     width_command (bram_width device) ++ height_command 128
     ++ flat_map (bram_bank planes) four_banks
+
+-- the same where they have rows, and nothing for a device without RAM
+unfoldable pub bram_bytes : DeviceName → List Rows → List ℕ
+bram_bytes device planes = if has_rows Bram device then ram_bytes device planes else []
 
 -- what the two bytes of the check are computed from: all behind the reset, the first byte of the check included
 unfoldable pub checked_bytes : Configuration → List ℕ

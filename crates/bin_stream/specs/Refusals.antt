@@ -8,8 +8,8 @@ use Rattle.ice_image.specs.declared.planes.PlaneKind.{PlaneKind}
 use Rattle.ice_image.specs.declared.planes.PlaneKind.TheVariants.{Cram, Bram}
 use Rattle.bin_stream.specs.CheckValue.{check_value}
 use Rattle.bin_stream.specs.Commands.{Command, Short, Data, number_of, kind_number, spelling, control_opcode, bank_opcode, check_opcode, boot_address_opcode, range_opcode, width_opcode, height_opcode, offset_opcode, mode_opcode, reset_number, wake_up_number}
-use Rattle.ice_image.specs.Planes.{plane_width, plane_height}
-use Rattle.bin_stream.specs.State.{height_after, first_row_after, width_after, size_after, device_with, device_after, covered}
+use Rattle.ice_image.specs.Planes.{plane_height}
+use Rattle.bin_stream.specs.State.{height_after, first_row_after, width_after, size_after, has_width, device_with, device_after, covered}
 use Rattle.bin_stream.specs.declared.fault.BinCause.{BinCause}
 use Rattle.bin_stream.specs.declared.fault.BinCause.TheVariants.{Truncated, UnknownCommand, LongPayload, BadBank, BadWidth, BadHeight, DataEnd, Check, BadRange, BadMode, NoDevice}
 
@@ -20,10 +20,10 @@ cause_if false cause = None
 
 -- ---- data
 
--- data of another width than the device's plane has
+-- data of another width than the rows of the device's planes have, of which there may be none
 abbrev pub width_cause : PlaneKind → Option DeviceName → ℕ → Option BinCause
 width_cause kind None columns = Some BadWidth
-width_cause kind (Some device) columns = cause_if (not (columns == plane_width kind device)) BadWidth
+width_cause kind (Some device) columns = cause_if (not (has_width kind device columns)) BadWidth
 
 -- whether data have no row, rows past the plane's last, or a part of a byte
 abbrev pub is_bad_height : PlaneKind → DeviceName → ℕ → ℕ → ℕ → Bool

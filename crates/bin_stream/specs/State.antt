@@ -1,10 +1,10 @@
 -- What holds behind a list of commands, by looking back in it.
-use Rattle.std.specs.Prelude.{ℕ, ◌+◌, ◌*◌, ◌/◌, Bool, false, List, length, take, drop, slice_get, ◌==◌, if◌then◌else◌, Option, Some, None}
+use Rattle.std.specs.Prelude.{ℕ, ◌+◌, ◌*◌, ◌/◌, Bool, false, not, ◌&&◌, List, length, take, drop, slice_get, ◌==◌, if◌then◌else◌, Option, Some, None}
 use Rattle.place_search.specs.Places.{last_below, first_below}
 use Rattle.plane_map.specs.declared.device.DeviceName.{DeviceName}
-use Rattle.plane_map.specs.declared.device.DeviceName.TheVariants.{K1, K8}
+use Rattle.plane_map.specs.declared.device.DeviceName.TheVariants.{L384, K1, K8}
 use Rattle.ice_image.specs.declared.planes.PlaneKind.{PlaneKind}
-use Rattle.ice_image.specs.Planes.{plane_width}
+use Rattle.ice_image.specs.Planes.{plane_width, plane_height}
 use Rattle.bin_stream.specs.Commands.{Command, Short, Data, number_of, spelled, is_reset, bank_opcode, range_opcode, width_opcode, height_opcode, offset_opcode, mode_opcode}
 
 -- whether a command that isn't data has that opcode
@@ -66,11 +66,20 @@ size_after commands = size_where (width_after commands) (height_after commands)
 
 -- ---- the device
 
--- the device whose planes have a width
+-- whether a device's planes of a kind have rows: those of RAM have none where the device has no RAM
+abbrev pub has_rows : PlaneKind → DeviceName → Bool
+has_rows kind device = not (plane_height kind device == 0)
+
+-- whether a device's planes of a kind have rows of a width
+abbrev pub has_width : PlaneKind → DeviceName → ℕ → Bool
+has_width kind device columns = has_rows kind device && (columns == plane_width kind device)
+
+-- the device whose planes have rows of a width
 abbrev pub device_with : PlaneKind → ℕ → Option DeviceName
 device_with kind columns =
-    if columns == plane_width kind K1 then Some K1
-    else if columns == plane_width kind K8 then Some K8
+    if has_width kind L384 columns then Some L384
+    else if has_width kind K1 columns then Some K1
+    else if has_width kind K8 columns then Some K8
     else None
 
 -- the device that a command fixes, where the commands before it are these

@@ -10,7 +10,8 @@ use Rattle.std.proofs.lemmas.List.Folds.{list_any-from_Any}
 use Rattle.std.proofs.lemmas.List.Quantifiers.{position-Some}
 use Rattle.place_search.proofs.Places.{any_below-at}
 use Rattle.ice_image.specs.Configuration.{Configuration}
-use Rattle.layout_file.specs.Layouts.{AreLayouts, standard_layouts}
+use Rattle.layout_file.specs.Layouts.{standard_layouts}
+use Rattle.layout_file.proofs.ByDevice.{standard-are}
 use Rattle.bin_stream.specs.Spelling.{Spells, bin_read_of}
 use Rattle.bin_stream.proofs.Decided.{decided as bin_decided}
 use Rattle.boot_read.specs.declared.fault.SplitFault.{SplitFault}
@@ -24,14 +25,11 @@ use Rattle.boot_read.proofs.Clear.{IsImage, split-clear, split-none}
 
 -- ---- bitstreams
 
-standard : AreLayouts standard_layouts
-standard = record { k1 = refl; k8 = refl }
-
 read-from_spelled : (bytes : List ℕ) (image : Configuration) → Spells standard_layouts bytes image → bin_read_of standard_layouts bytes ≡ Ok image
-read-from_spelled bytes image spells = ((bin_decided standard_layouts standard bytes).spelled image).0 spells
+read-from_spelled bytes image spells = ((bin_decided standard_layouts standard-are bytes).spelled image).0 spells
 
 spelled-from_read : (bytes : List ℕ) (image : Configuration) → bin_read_of standard_layouts bytes ≡ Ok image → Spells standard_layouts bytes image
-spelled-from_read bytes image read = ((bin_decided standard_layouts standard bytes).spelled image).1 read
+spelled-from_read bytes image read = ((bin_decided standard_layouts standard-are bytes).spelled image).1 read
 
 -- ---- places in a list
 

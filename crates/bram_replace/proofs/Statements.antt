@@ -1,21 +1,21 @@
 -- The statement of a RAM in a text that can be read, and the tiles that it names.
-use Rattle.std.proofs.Common.{◌≡◌, ◌≢◌, ℕ, ◌+◌, ◌-◌, ◌%◌, ◌<◌, ◌≤◌, Bool, true, false, ◌&&◌, ◌||◌, List, [], ◌∷◌, length, refl, sym, ap, ◌∙◌, subst, arith}
-use Rattle.std.specs.Prelude.{Option, Some, None, if◌then◌else◌, nat_le, ◌==◌, bytes_eq}
-use Rattle.std.proofs.lemmas.Bool.{and_parts, eqb-true, eqb-false, false≢true, ne_eqb, leb-false, lt-leb, or_from}
+use Rattle.std.proofs.Common.{◌≡◌, ◌≢◌, ℕ, ◌+◌, ◌-◌, ◌<◌, ◌≤◌, true, List, [], ◌∷◌, length, refl, sym, ap, ◌∙◌, subst, arith}
+use Rattle.std.specs.Prelude.{Option, Some, None, bytes_eq}
+use Rattle.std.proofs.lemmas.Bool.{and_parts, false≢true, lt-leb}
 use Rattle.std.proofs.lemmas.Slice.Eq.{bytes_eq-Decides}
-use Rattle.shared_lemmas.proofs.Tests.{second_false}
 use Rattle.place_search.specs.Places.{first_below, or_else}
 use Rattle.place_search.proofs.Places.{first_below-sum}
 use Rattle.place_search.proofs.Found.{or_else-first}
 use Rattle.text_lines.specs.Lines.{lines_of, line_at, trimmed}
 use Rattle.text_lines.specs.Words.{behind_word, first_word, numbers_of, words_of}
 use Rattle.text_lines.specs.declared.words.Separators.TheVariants.{Spaces}
-use Rattle.plane_map.specs.Layout.{kind_of, columns_in, is_side, is_end, grid_width, grid_height, ram_column, last_x, last_y, IsTileBit}
+use Rattle.plane_map.specs.Layout.{kind_of, columns_in, IsTileBit}
+use Rattle.plane_map.proofs.Words.{upper-tile}
 use Rattle.plane_map.specs.declared.device.DeviceName.{DeviceName}
-use Rattle.plane_map.specs.declared.device.DeviceName.TheVariants.{K1, K8}
 use Rattle.plane_map.specs.declared.tile.TileKind.{TileKind}
 use Rattle.plane_map.specs.declared.tile.TileKind.TheVariants.{Io, Logic, RamB, RamT}
 use Rattle.layout_file.specs.Layouts.{layout_for, standard_layouts}
+use Rattle.layout_file.proofs.ByDevice.{standard-are}
 use Rattle.ice_image.specs.Configuration.{Configuration}
 use Rattle.ice_image.specs.Bits.{image_from}
 use Rattle.asc_text.specs.declared.fault.TileXy.{TileXy}
@@ -25,7 +25,6 @@ use Rattle.asc_text.specs.Blocks.{depth_at, device_before, device_in, statement_
 use Rattle.asc_text.specs.Faults.{cause_at, kind_cause, statement_cause, tile_named}
 use Rattle.asc_text.specs.Meaning.{AscMeans, asc_image_of, image_before, image_for}
 use Rattle.asc_text.specs.Rams.{is_ram_data}
-use Rattle.asc_text.proofs.HasRead.{layout_for-device}
 use Rattle.asc_text.proofs.RamLines.{fine, ram_line-from}
 
 -- ---- the numbers of the statement
@@ -102,7 +101,7 @@ device-of text image symbols n found means within is =
     let later : device_before lines (length lines) ≡ Some found = first_below-later n (length lines) (λ k. device_in (statement_at lines k)) found is within in
     let same : Some (image_before (layout_for standard_layouts found) lines (length lines)) ≡ Some image = sym (ap (λ d. image_for standard_layouts d lines) later) ∙ means.configures in
     let one : image_before (layout_for standard_layouts found) lines (length lines) ≡ image = cc in
-    ap (λ (i : Configuration). i.layout.device) (sym one) ∙ layout_for-device standard_layouts found (record { k1 = refl; k8 = refl })
+    ap (λ (i : Configuration). i.layout.device) (sym one) ∙ standard-are found
 
 pub lower-there : (text : List ℕ) (image : Configuration) (symbols : List Symbol) (n : ℕ) (ram : TileXy) → AscMeans standard_layouts text image symbols → n < length (lines_of text)
     → depth_at (lines_of text) n ≡ 0 → is_ram_data (statement_in (line_at (lines_of text) n)) ≡ true → tile_named (statement_in (line_at (lines_of text) n)) ≡ Some ram
@@ -117,54 +116,11 @@ lower-there text image symbols n ram means within flat is named =
     ap (λ d. kind_of d ram.x ram.y) (device-of text image symbols n there.0 means (omega arith) there.1)
     ∙ ap (λ (r : TileXy). kind_of there.0 r.x r.y) (sym one) ∙ there.2
 
--- ---- the upper tile stands above it
+-- ---- the upper tile
 
--- the tile at a place by the tests of its column and its row
-abbrev kind_by : Bool → Bool → Bool → Bool → Bool → Bool → Option TileKind
-kind_by past_x past_y side end ram odd =
-    if past_x || past_y then None
-    else if side && end then None
-    else if side || end then Some Io
-    else if ram then (if odd then Some RamB else Some RamT)
-    else Some Logic
-
-lower : (past_x past_y side end ram odd : Bool) → kind_by past_x past_y side end ram odd ≡ Some RamB
-    → (past_x ≡ false) × (past_y ≡ false) × (side ≡ false) × (end ≡ false) × (ram ≡ true) × (odd ≡ true)
-lower true past_y side end ram odd is = absurd cc
-lower false true side end ram odd is = absurd cc
-lower false false true true ram odd is = absurd cc
-lower false false true false ram odd is = absurd cc
-lower false false false true ram odd is = absurd cc
-lower false false false false false odd is = absurd cc
-lower false false false false true false is = absurd cc
-lower false false false false true true is = (refl, refl, refl, refl, refl, refl)
-
--- the row above an odd one that isn't the last
-record IsAbove (height y : ℕ) : Type 0 where
-  inside : y + 1 < height
-  not_top : y + 1 ≢ height - 1
-  even : (y + 1) % 2 ≢ 1
-
-above : (device : DeviceName) (y : ℕ) → y < grid_height device → y ≢ last_y device → y % 2 ≡ 1 → IsAbove (grid_height device) y
-above K1 y below not_last odd = record { inside = omega arith; not_top = omega arith; even = omega arith }
-above K8 y below not_last odd = record { inside = omega arith; not_top = omega arith; even = omega arith }
-
-upper-there : (device : DeviceName) (x y : ℕ) → kind_of device x y ≡ Some RamB → kind_of device x (y + 1) ≡ Some RamT
-unfolding kind_of
-upper-there device x y is =
-    let ram = (x == ram_column device) || (x + ram_column device == last_x device) in
-    let tests = lower (nat_le (grid_width device) x) (nat_le (grid_height device) y) (is_side device x) (is_end device y) ram (y % 2 == 1) is in
-    let row = above device y (leb-false (grid_height device) y tests.1) (eqb-false y (last_y device) (second_false (y == 0) (y == last_y device) tests.3)) (eqb-true (y % 2) 1 tests.5) in
-    let past : nat_le (grid_height device) (y + 1) ≡ false = lt-leb (grid_height device) (y + 1) row.inside in
-    let bottom : (y + 1 == 0) ≡ false = ne_eqb (y + 1) 0 (λ e. omega arith) in
-    let top : (y + 1 == last_y device) ≡ false = ne_eqb (y + 1) (last_y device) row.not_top in
-    let end : is_end device (y + 1) ≡ false = or_from (y + 1 == 0) (y + 1 == last_y device) bottom top in
-    let even : ((y + 1) % 2 == 1) ≡ false = ne_eqb ((y + 1) % 2) 1 row.even in
-    rw (tests.0, past, tests.2, end, tests.4, even) refl
-
--- and it has a column 7
+-- it has a column 7
 pub upper-bit : (device : DeviceName) (x y row : ℕ) → kind_of device x y ≡ Some RamB → row < 16 → IsTileBit device (record { x = x; y = y + 1; row = row; col = 7 })
 upper-bit device x y row lower few = record {
   row_in = few;
-  col_in = subst (λ kind. 7 < columns_in kind) (sym (upper-there device x y lower)) (omega arith);
+  col_in = subst (λ kind. 7 < columns_in kind) (sym (upper-tile device x y lower)) (omega arith);
 }

@@ -1,5 +1,5 @@
 -- A statement of links with one space between its words.
-use Rattle.std.proofs.Common.{◌≡◌, ℕ, true, false, List, [], ◌∷◌, ◌++◌, refl, sym, ap, ◌∙◌, true≢false}
+use Rattle.std.proofs.Common.{◌≡◌, ℕ, false, List, [], ◌∷◌, refl, ap, ◌∙◌, true≢false}
 use Rattle.std.specs.Prelude.{Some}
 use Rattle.plane_map.specs.Layout.{kind_of}
 use Rattle.text_lines.specs.declared.words.Separators.TheVariants.{SpacesAndTabs}

@@ -5,8 +5,7 @@ use Rattle.std.specs.List.{list_all}
 use Rattle.text_lines.specs.Words.{numbers_of}
 use Rattle.plane_map.specs.Layout.{kind_of, columns_of, grid_width, grid_height}
 use Rattle.plane_map.specs.declared.device.DeviceName.{DeviceName}
-use Rattle.plane_map.specs.declared.device.DeviceName.TheVariants.{K1, K8}
-use Rattle.plane_map.specs.DeviceWords.{device_named}
+use Rattle.plane_map.specs.DeviceWords.{database_device_named}
 use Rattle.plane_map.specs.declared.tile.TileKind.{TileKind}
 use Rattle.plane_map.specs.declared.tile.TileKind.TheVariants.{Io, Logic, RamB, RamT}
 use Rattle.plane_map.specs.declared.tile.RowCol.{RowCol}
@@ -46,16 +45,6 @@ keyword_of word =
 
 -- ---- the device
 
--- whether the device has databases: each device of the planes stands here
-abbrev pub has_database : DeviceName → Bool
-has_database K1 = true
-has_database K8 = true
-
--- a device that has databases
-abbrev pub with_database : Option DeviceName → Option DeviceName
-with_database None = None
-with_database (Some device) = if has_database device then Some device else None
-
 -- a device with the size of its grid, and a number of nets that is allowed
 abbrev pub chip_of_numbers : Option DeviceName → Option (List ℕ) → Option Chip
 chip_of_numbers (Some device) (Some (width ∷ height ∷ nets ∷ [])) =
@@ -67,7 +56,7 @@ chip_of_numbers device numbers = None
 -- `.device NAME WIDTH HEIGHT NUM_NETS`
 unfoldable pub chip_of_words : List (List ℕ) → Option Chip
 chip_of_words [] = None
-chip_of_words (name ∷ sizes) = chip_of_numbers (with_database (device_named name)) (numbers_of sizes)
+chip_of_words (name ∷ sizes) = chip_of_numbers (database_device_named name) (numbers_of sizes)
 
 -- ---- bits
 

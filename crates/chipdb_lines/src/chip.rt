@@ -2,8 +2,7 @@
 ghost use Rattle.std.specs.Prelude.{◌≡◌, ◌∷◌, [], Option, Some};
 ghost use Rattle.text_lines.specs.Words.{numbers_of};
 ghost use Rattle.chipdb_lines.specs.Words.{words_in};
-ghost use Rattle.plane_map.specs.DeviceWords.{device_named};
-ghost use Rattle.chipdb_lines.specs.Statements.{chip_of_numbers, chip_of_words, has_database, with_database};
+ghost use Rattle.chipdb_lines.specs.Statements.{chip_of_numbers, chip_of_words};
 
 use plane_map::DeviceName;
 use text_lines::{Separators, split_word, three_numbers};
@@ -22,26 +21,7 @@ pub(crate) fn chip_of(words: &[u8]) -> Option<Chip>
 {
     match split_word(Separators::SpacesAndTabs, words) {
         None => None,
-        Some((name, sizes)) => sized_chip(device_of(name), sizes),
-    }
-}
-
-/// The device that a word names, where it has databases.
-fn device_of(word: &[u8]) -> Option<DeviceName>
-    ensures { result ≡ with_database (device_named word.now) }
-{
-    match DeviceName::named(word) {
-        Some(device) if has_database(device) => Some(device),
-        _ => None,
-    }
-}
-
-/// Whether the device has databases.
-fn has_database(device: DeviceName) -> bool
-    ensures { result ≡ has_database device }
-{
-    match device {
-        DeviceName::K1 | DeviceName::K8 => true,
+        Some((name, sizes)) => sized_chip(DeviceName::named_with_database(name), sizes),
     }
 }
 

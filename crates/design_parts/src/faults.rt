@@ -9,8 +9,8 @@ use tool_parts::{refusal, whole};
 use tool_run::{Number, Phrase, Refusal, Stop, decimal, text};
 
 // A refusal at a tile: what of it, and the cause.
-fn at_tile(x: u8, y: u8, part: Phrase, cause: Phrase) -> Refusal
-    ensures { refusal_text result ≡ tile_text x y ++ phrase_text part ++ phrase_text cause }
+fn at_tile(x: u8, y: u8, part: Phrase<'static>, cause: Phrase<'static>) -> Refusal<'static>
+    ensures { refusal_text result ≡ tile_text x y ++ phrase_text part.entry ++ phrase_text cause.entry }
 {
     Refusal {
         first: decimal("tile ", u64::from(x)),
@@ -21,14 +21,14 @@ fn at_tile(x: u8, y: u8, part: Phrase, cause: Phrase) -> Refusal
 }
 
 // A refusal of a net.
-fn at_net(net: u32, cause: &'static str) -> Refusal
+fn at_net(net: u32, cause: &'static str) -> Refusal<'static>
     ensures { refusal_text result ≡ net_text net ++ cause.now }
 {
     refusal(decimal("net ", u64::from(net)), text(cause))
 }
 
 // The six bits of a pin's type.
-fn pintype_phrase(pintype: u8) -> Phrase
+fn pintype_phrase(pintype: u8) -> Phrase<'static>
     ensures { phrase_text result ≡ pintype_text pintype }
 {
     Phrase {
@@ -38,7 +38,7 @@ fn pintype_phrase(pintype: u8) -> Phrase
 }
 
 // A user of a clock in its tile.
-fn user_phrase(user: ClockUser) -> Phrase
+fn user_phrase(user: ClockUser) -> Phrase<'static>
     ensures { phrase_text result ≡ user_text user }
 {
     match user {
@@ -51,7 +51,7 @@ fn user_phrase(user: ClockUser) -> Phrase
 }
 
 /// Why no module is written.
-pub fn design_stop(fault: &FabricFault) -> Stop
+pub fn design_stop(fault: &FabricFault) -> Stop<'static>
     ensures { StopsFor (told_fault fault.now) result }
 {
     match fault {

@@ -40,7 +40,7 @@ pub fn design(alloc: Global, db: &ChipDb, image: &AnyImage) -> Result<Design, Fa
     ensures one_run { OnOk result ((events : List Event) → ExactlyOne (IsRun (fabric_of (database_in db.now) (configuration_of image.now)) events)) }
 {
     let parts = parts(alloc, db, image)?;
-    prove!(db.device() == image.device());
+    prove!(db.device().is_same(image.device()));
     let wired = wire(alloc, db, image, &parts)?;
     let inputs = inputs(alloc, &parts.pins)?;
     Ok(Design::of(

@@ -11,7 +11,7 @@ use Rattle.shared_lemmas.proofs.Bytes.{bytes_eq-apart, bytes_eq-same}
 use Rattle.bit_plane.proofs.Words.{bit_value-le}
 use Rattle.place_search.proofs.Gathered.{All-gathered_below}
 use Rattle.plane_map.specs.declared.device.DeviceName.{DeviceName}
-use Rattle.plane_map.specs.declared.device.DeviceName.TheVariants.{K1, K8}
+use Rattle.plane_map.specs.declared.device.DeviceName.TheVariants.{L384, K1, K8}
 use Rattle.plane_map.specs.declared.tile.TileKind.TheVariants.{Io, Logic, RamB, RamT}
 use Rattle.plane_map.specs.Layout.{kind_of, grid_width, grid_height}
 use Rattle.ice_image.specs.Configuration.{Configuration}
@@ -69,10 +69,12 @@ few-small : (n : ℕ) → n < 34 → IsSmall n
 few-small n few = omega arith
 
 width-few : (device : DeviceName) (x : ℕ) → x < grid_width device → x < 34
+width-few L384 x within = omega arith
 width-few K1 x within = omega arith
 width-few K8 x within = omega arith
 
 height-few : (device : DeviceName) (y : ℕ) → y < grid_height device → y < 34
+height-few L384 y within = omega arith
 height-few K1 y within = omega arith
 height-few K8 y within = omega arith
 

@@ -10,7 +10,6 @@ ghost use Rattle.fabric_wiring.specs.Parts.{ArePartsOf};
 
 use crate::drive::Rule;
 use crate::parts::Parts;
-use crate::pins::is_registered;
 use net_extract::{ClockUser, Pin, PinKind, Register, place_of};
 use std::alloc::{AllocError, Global};
 
@@ -66,7 +65,7 @@ fn register_rule(registers: &[Register], pin: Pin) -> Result<Rule, AllocError>
 pub(crate) fn output_rule(registers: &[Register], pin: Pin) -> Result<Rule, AllocError>
     ensures { IfOk result (λ rule. rule_of rule ≡ output_rule registers.now pin) }
 {
-    if is_registered(pin) {
+    if pin.is_registered() {
         return register_rule(registers, pin);
     }
     Ok(Rule::Input {

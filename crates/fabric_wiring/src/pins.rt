@@ -1,6 +1,5 @@
 // What pins and globals drive.
 ghost use Rattle.std.specs.Prelude.{◌≡◌, ◌∷◌, [], ◌++◌, map, filter, flat_map, IfOk, OnOk};
-ghost use Rattle.net_extract.specs.Pins.{is_registered};
 ghost use Rattle.net_extract.specs.Fabric.{numbered};
 ghost use Rattle.net_extract.specs.Drivers.{pin_drives, back_drives, global_rule, global_drives};
 ghost use Rattle.fabric_wiring.specs.Drives.{drive_of, rule_of};
@@ -8,24 +7,14 @@ ghost use Rattle.fabric_wiring.specs.Drives.{drive_of, rule_of};
 use crate::drive::{Drive, Rule};
 use crate::output_pins::output_rule;
 use crate::push::push_if;
-use net_extract::{Driver, GlobalFrom, GlobalNet, Pin, PinKind, Register, place_among, place_of};
+use net_extract::{Driver, GlobalFrom, GlobalNet, Pin, Register, place_among, place_of};
 use std::alloc::AllocError;
-
-/// Whether a pin has a register.
-pub(crate) fn is_registered(pin: Pin) -> bool
-    ensures { result ≡ is_registered pin }
-{
-    match pin.kind {
-        PinKind::Registered => true,
-        PinKind::Plain | PinKind::TriState => false,
-    }
-}
 
 /// Appends what the input pin of a place drives, which is nothing where it has a register.
 fn append_pin(drives: &mut Vec<Drive>, place: u32, pin: Pin) -> Result<(), AllocError>
     ensures { OnOk result (map drive_of drives.new.items ≡ map drive_of drives.old.items ++ pin_drives (place, pin)) }
 {
-    if is_registered(pin) {
+    if pin.is_registered() {
         return Ok(());
     }
     let driver = Driver::Pin {

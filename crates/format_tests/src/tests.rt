@@ -44,11 +44,7 @@ fn is_lower_ram(device: DeviceName, x: u8, y: u8) -> bool
 fn is_in_cram(device: DeviceName, at: Place) -> bool
     ensures { IsTrue result → IsInCram device at }
 {
-    let (width, height) = match device {
-        DeviceName::K1 => (332, 144),
-        DeviceName::K8 => (872, 272),
-    };
-    at.bank < 4 && at.px < width && at.py < height
+    at.bank < 4 && u32::from(at.px) < device.cram_columns() && u32::from(at.py) < device.cram_rows()
 }
 
 /// A comment of those lines that a comment may hold.

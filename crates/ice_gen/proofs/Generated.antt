@@ -67,10 +67,11 @@ module _ (device : DeviceName) (seed : ℕ) where
 
       extra : (other : Place) → is_extra (standard_layout device) other ≡ true → bit_of after (Extra other) ≡ is_generated device seed (Extra other)
       extra other is =
-          rw (sym at_is) (elim (cases_Bool (is_same_place other at)) [
+          let known : bit_of after (Extra other) ≡ is_same_place other at = elim (cases_Bool (is_same_place other at)) [
             | inr apart_from ↦ set.others.bits (Extra other) (in_before (Extra other) is) (other_than other apart_from) ∙ filled.bits (Extra other) is ∙ sym apart_from
             | inl same ↦ ap (λ o. bit_of after (Extra o)) (is_same_place-same other at same) ∙ set.set ∙ sym same
-          ])
+          ] in
+          known ∙ ap (is_same_place other) at_is
 
   -- or there is no such bit
   pub generated-unset : (image : Configuration) → is_extra (standard_layout device) (pad_drive device) ≡ false → IsFilled device seed is_filled image → image ≡ generated_image device seed

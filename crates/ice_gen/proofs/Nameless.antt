@@ -1,13 +1,14 @@
 -- Which rows of the grid, and which tiles, give a net no name.
-use Rattle.std.proofs.Common.{◌≡◌, ◌≢◌, ℕ, ◌+◌, ◌-◌, ◌*◌, ◌<◌, ◌≤◌, ◌⊎◌, false, ◌&&◌, ◌||◌, ◌==◌, [], map, refl, ap, ◌∙◌, arith}
+use Rattle.std.proofs.Common.{◌≡◌, ◌≢◌, ℕ, ◌+◌, ◌-◌, ◌*◌, ◌<◌, ◌≤◌, ◌⊎◌, true, false, ◌&&◌, ◌||◌, ◌==◌, [], map, refl, ap, ◌∙◌, arith}
 use Rattle.std.specs.Prelude.{nat_le, nat_lt, Option, Some, None}
 use Rattle.std.proofs.lemmas.Bool.Decides.{nat_tests}
 use Rattle.std.proofs.lemmas.Bool.{or_parts}
 use Rattle.place_search.specs.Places.{gathered_below}
 use Rattle.place_search.proofs.Places.{gathered_below-none}
+use Rattle.plane_map.specs.Devices.{has_database}
 use Rattle.plane_map.specs.Layout.{kind_of, grid_width}
 use Rattle.plane_map.specs.declared.device.DeviceName.{DeviceName}
-use Rattle.plane_map.specs.declared.device.DeviceName.TheVariants.{K1, K8}
+use Rattle.plane_map.specs.declared.device.DeviceName.TheVariants.{L384, K1, K8}
 use Rattle.plane_map.specs.declared.tile.TileKind.{TileKind}
 use Rattle.plane_map.specs.declared.tile.TileKind.TheVariants.{Io, Logic, RamB, RamT}
 use Rattle.ice_gen.specs.Numbers.{rams, logic_columns, cell_number, ram_number, clock_net, input_net, out_net, in_0_net, address_net, write_net, read_net, in_3_net, read_enable_net, write_enable_net, middle_net}
@@ -15,14 +16,16 @@ use Rattle.ice_gen.specs.Database.{cell_names, logic_names, ram_names, pin_names
 use Rattle.ice_gen.specs.Inside.{is_of_cells, is_shared, is_of_row, first_of_row}
 
 -- a logic tile is one of its row
-logic-in : (device : DeviceName) (x y : ℕ) → kind_of device x y ≡ Some Logic → (first_of_row device y ≤ cell_number device x y 0) × (cell_number device x y 0 + 8 ≤ first_of_row device y + 8 * logic_columns device)
+logic-in : (device : DeviceName) (x y : ℕ) → has_database device ≡ true → kind_of device x y ≡ Some Logic → (first_of_row device y ≤ cell_number device x y 0) × (cell_number device x y 0 + 8 ≤ first_of_row device y + 8 * logic_columns device)
 unfolding kind_of
-logic-in K1 x y is = grind (arith, nat_tests)
-logic-in K8 x y is = grind (arith, nat_tests)
+logic-in L384 x y database is = absurd cc
+logic-in K1 x y database is = grind (arith, nat_tests)
+logic-in K8 x y database is = grind (arith, nat_tests)
 
 -- there are so many RAMs
 ram-in : (device : DeviceName) (x y : ℕ) → kind_of device x y ≡ Some RamB → ram_number device x y < rams device
 unfolding kind_of
+ram-in L384 x y is = grind (arith, nat_tests)
 ram-in K1 x y is = grind (arith, nat_tests)
 ram-in K8 x y is = grind (arith, nat_tests)
 
@@ -59,7 +62,7 @@ cell-nameless device net y j i away from below =
     let e3 : (net == out_net j) ≡ false = grind (arith, nat_tests, away.out) in
     rw (e0, e1, e2, e3) refl
 
-module _ (device : DeviceName) (net y : ℕ) (away : IsElsewhere device net y) where
+module _ (device : DeviceName) (net y : ℕ) (database : has_database device ≡ true) (away : IsElsewhere device net y) where
   io-nameless : (x : ℕ) → pin_names device net x y ≡ []
   unfolding pin_names
   io-nameless x =
@@ -71,7 +74,7 @@ module _ (device : DeviceName) (net y : ℕ) (away : IsElsewhere device net y) w
   logic-nameless : (x : ℕ) → kind_of device x y ≡ Some Logic → logic_names device net x y ≡ []
   unfolding logic_names
   logic-nameless x is =
-      let inside = logic-in device x y is in
+      let inside = logic-in device x y database is in
       let e0 : (net == clock_net) ≡ false = grind (arith, nat_tests, away.low) in
       let none = gathered_below-none 8 (λ i. cell_names device net (cell_number device x y i) i) (λ i within. cell-nameless device net y (cell_number device x y i) i away (omega (arith, inside.0)) (omega (arith, inside.1))) in
       rw (e0, none) refl
@@ -117,7 +120,7 @@ cells-nameless device net x y none =
     let same : cell_number device x y i ≡ cell_number device x y 0 + i = omega arith in
     ap (λ j. cell_names device net j i) same ∙ one-nameless device net (cell_number device x y 0) i within none)
 
-pub row-nameless : (device : DeviceName) (net y : ℕ) → (is_shared device net || is_of_row device net y) ≡ false → names_in_row device net y ≡ []
-row-nameless device net y none =
+pub row-nameless : (device : DeviceName) (net y : ℕ) → has_database device ≡ true → (is_shared device net || is_of_row device net y) ≡ false → names_in_row device net y ≡ []
+row-nameless device net y database none =
     let parts = or_parts (is_shared device net) (is_of_row device net y) none in
-    row-none device net y (elsewhere device net y parts.0 parts.1)
+    row-none device net y database (elsewhere device net y parts.0 parts.1)

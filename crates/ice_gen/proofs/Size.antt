@@ -11,7 +11,7 @@ use Rattle.asc_text.proofs.Pieces.{text_of-append, text_of-none, text_of-one}
 use Rattle.asc_text.specs.Canonical.{with_word, grid_line}
 use Rattle.plane_map.specs.Layout.{kind_of, grid_width, grid_height}
 use Rattle.plane_map.specs.declared.device.DeviceName.{DeviceName}
-use Rattle.plane_map.specs.declared.device.DeviceName.TheVariants.{K1, K8}
+use Rattle.plane_map.specs.declared.device.DeviceName.TheVariants.{L384, K1, K8}
 use Rattle.plane_map.specs.declared.tile.TileKind.{TileKind}
 use Rattle.plane_map.specs.declared.tile.TileKind.TheVariants.{Io, Logic, RamB, RamT}
 use Rattle.plane_map.proofs.Grids.{grid_width-le, grid_height-le}
@@ -23,18 +23,22 @@ use Rattle.ice_gen.specs.Database.{bit_word, buffer_line, by_all_cells, by_cells
 -- ---- bounds
 
 in_0-small : (device : DeviceName) (j : ℕ) → j < 10000 → in_0_net device j < 1000000
+in_0-small L384 j few = omega arith
 in_0-small K1 j few = omega arith
 in_0-small K8 j few = omega arith
 
 in_3-small : (device : DeviceName) (j : ℕ) → j < 10000 → in_3_net device j < 1000000
+in_3-small L384 j few = omega arith
 in_3-small K1 j few = omega arith
 in_3-small K8 j few = omega arith
 
 read-small : (device : DeviceName) (j : ℕ) → j < 10000 → read_net device j 0 < 1000000
+read-small L384 j few = omega arith
 read-small K1 j few = omega arith
 read-small K8 j few = omega arith
 
 cell-small : (device : DeviceName) (x y i : ℕ) → x < 34 → y < 34 → i < 8 → cell_number device x y i < 10000
+cell-small L384 x y i near low few = grind (arith, nat_tests)
 cell-small K1 x y i near low few = grind (arith, nat_tests)
 cell-small K8 x y i near low few = grind (arith, nat_tests)
 
@@ -502,22 +506,25 @@ pin-length : (k : ℕ) → k < 6 → length (pin_type_line k) ≤ 36
 pin-length k small =
     word-behind (codes "IOB_0.PINTYPE_" ++ decimal k) (bit_word k 0) 20 15 (let digits = few-digits k (omega arith) in omega (arith, digits, length-append (codes "IOB_0.PINTYPE_") (decimal k))) (bit-length k 0 (omega arith) (omega arith))
 
-name-length : (device : DeviceName) → length (with_word device_keyword (device_word device)) ≤ 10
+name-length : (device : DeviceName) → length (with_word device_keyword (device_word device)) ≤ 11
+name-length L384 = lit≤ tt
 name-length K1 = lit≤ tt
 name-length K8 = lit≤ tt
 
 nets-few : (device : DeviceName) → nets device < 20000
+nets-few L384 = lit< tt
 nets-few K1 = lit< tt
 nets-few K8 = lit< tt
 
-device-length : (device : DeviceName) → length (device_line device) ≤ 31
+device-length : (device : DeviceName) → length (device_line device) ≤ 32
 device-length device =
     let name = with_word device_keyword (device_word device) in
     let wide : grid_width device < 1000000 = omega (arith, grid_width-le device) in
     let high : grid_height device < 1000000 = omega (arith, grid_height-le device) in
-    word-behind (grid_line name (grid_width device) (grid_height device)) (decimal (nets device)) 24 6 (grid-length name (grid_width device) (grid_height device) 10 wide high (name-length device)) (few-digits (nets device) (omega (arith, nets-few device)))
+    word-behind (grid_line name (grid_width device) (grid_height device)) (decimal (nets device)) 25 6 (grid-length name (grid_width device) (grid_height device) 11 wide high (name-length device)) (few-digits (nets device) (omega (arith, nets-few device)))
 
 pad-length : (device : DeviceName) → length (pad_drive_line device) ≤ 40
+pad-length L384 = grid-length (with_word (codes "padin_glb_netwk.0") (decimal 0)) 180 79 26 (lit< tt) (lit< tt) (word-behind (codes "padin_glb_netwk.0") (decimal 0) 19 6 (lit≤ tt) (few-digits 0 (lit< tt)))
 pad-length K1 = grid-length (with_word (codes "padin_glb_netwk.0") (decimal 0)) 330 143 26 (lit< tt) (lit< tt) (word-behind (codes "padin_glb_netwk.0") (decimal 0) 19 6 (lit≤ tt) (few-digits 0 (lit< tt)))
 pad-length K8 = grid-length (with_word (codes "padin_glb_netwk.0") (decimal 0)) 870 271 26 (lit< tt) (lit< tt) (word-behind (codes "padin_glb_netwk.0") (decimal 0) 19 6 (lit≤ tt) (few-digits 0 (lit< tt)))
 
@@ -585,5 +592,6 @@ whole-size device =
 -- The text is short enough to be read as a database.
 pub database-size : (device : DeviceName) → length (generated_database device) ≤ 2 ^ 28
 unfolding generated_database
+database-size L384 = let whole = whole-size L384 in omega (arith, whole)
 database-size K1 = let whole = whole-size K1 in omega (arith, whole)
 database-size K8 = let whole = whole-size K8 in omega (arith, whole)

@@ -2,9 +2,8 @@
 use Rattle.std.specs.Prelude.{ℕ, ◌+◌, ◌-◌, ◌*◌, Bool, true, false, ◌&&◌, List, [], ◌∷◌, ◌++◌, map, codes, decimal, nat_le, nat_lt, ◌==◌, if◌then◌else◌, Option, None, Some}
 use Rattle.place_search.specs.Places.{gathered_below}
 use Rattle.text_lines.specs.Written.{text_of}
-use Rattle.plane_map.specs.Layout.{kind_of, grid_width, grid_height}
+use Rattle.plane_map.specs.Layout.{kind_of, grid_width, grid_height, cram_width, cram_height}
 use Rattle.plane_map.specs.declared.device.DeviceName.{DeviceName}
-use Rattle.plane_map.specs.declared.device.DeviceName.TheVariants.{K1, K8}
 use Rattle.plane_map.specs.declared.tile.Place.{Place}
 use Rattle.plane_map.specs.declared.tile.TileKind.{TileKind}
 use Rattle.plane_map.specs.declared.tile.TileKind.TheVariants.{Io, Logic, RamB, RamT}
@@ -35,10 +34,9 @@ ten_bits row = gathered_below 10 (λ k. 32 ∷ bit_word row (36 + k))
 abbrev pub cell_line : ℕ → List ℕ
 cell_line i = codes "LC_" ++ decimal i ++ ten_bits (2 * i) ++ ten_bits (2 * i + 1)
 
--- where the bit lies by which a pad drives the global net 0
+-- where the bit lies by which a pad drives the global net 0: the last but one of the last row of bank 0, which no tile has
 abbrev pub pad_drive : DeviceName → Place
-pad_drive K1 = record { bank = 0; px = 330; py = 143 }
-pad_drive K8 = record { bank = 0; px = 870; py = 271 }
+pad_drive device = record { bank = 0; px = cram_width device - 2; py = cram_height device - 1 }
 
 abbrev pub pad_drive_line : DeviceName → List ℕ
 pad_drive_line device = grid_line (with_word (codes "padin_glb_netwk.0") (decimal (pad_drive device).bank)) (pad_drive device).px (pad_drive device).py

@@ -1,5 +1,6 @@
 // The chip database of the generated design.
-ghost use Rattle.std.specs.Prelude.{◌≡◌, ◌≤◌, ◌^◌, IfOk, length};
+ghost use Rattle.std.specs.Prelude.{◌≡◌, ◌≤◌, ◌^◌, true, IfOk, length};
+ghost use Rattle.plane_map.specs.Devices.{has_database};
 ghost use Rattle.ice_gen.specs.Database.{generated_database};
 
 use crate::buffers::{Input, append_buffers};
@@ -10,6 +11,7 @@ use std::alloc::{AllocError, Global};
 
 /// The chip database of a device's generated design.
 pub fn chipdb(alloc: Global, device: DeviceName) -> Result<Vec<u8>, AllocError>
+    requires { has_database device ≡ true }
     ensures text { IfOk result (λ text. text.items ≡ generated_database device) }
     // So it is short enough to be read.
     ensures limit { IfOk result (λ text. length text.items ≤ 2 ^ 28) }
@@ -21,6 +23,7 @@ pub fn chipdb(alloc: Global, device: DeviceName) -> Result<Vec<u8>, AllocError>
 /// Writes the parts of the text.
 #[tactic(auto, using(crate::proofs::Texts::joined), unfolding(crate::specs::Database::generated_database, crate::specs::Database::database_lines))]
 fn write(alloc: Global, device: DeviceName) -> Result<Vec<u8>, AllocError>
+    requires { has_database device ≡ true }
     ensures { IfOk result (λ text. text.items ≡ generated_database device) }
 {
     let mut text = Vec::with_capacity(alloc, usual_len(device))?;
@@ -36,7 +39,7 @@ fn usual_len(device: DeviceName) -> usize
     ensures { result ≤ 2 ^ 20 }
 {
     match device {
-        DeviceName::K1 => 1 << 18,
+        DeviceName::L384 | DeviceName::K1 => 1 << 18,
         DeviceName::K8 => 1 << 20,
     }
 }

@@ -1,5 +1,6 @@
 // The image of the generated design.
-ghost use Rattle.std.specs.Prelude.{◌≡◌, ℕ, IfOk};
+ghost use Rattle.std.specs.Prelude.{◌≡◌, ℕ, true, IfOk};
+ghost use Rattle.plane_map.specs.Devices.{has_database};
 ghost use Rattle.plane_map.specs.Layout.{grid_height};
 ghost use Rattle.ice_image.specs.Either.{configuration_of, device_of};
 ghost use Rattle.ice_gen.specs.Image.{generated_image};
@@ -15,6 +16,7 @@ use std::alloc::{AllocError, Global};
 
 /// The image of a device's generated design, which the seed fixes.
 pub fn image(alloc: Global, device: DeviceName, seed: u64) -> Result<AnyImage, AllocError>
+    requires { has_database device ≡ true }
     ensures { IfOk result (λ image. configuration_of image ≡ generated_image device seed) }
 {
     let mut image = AnyImage::zeroed(alloc, device)?;

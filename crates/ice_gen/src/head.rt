@@ -101,17 +101,10 @@ fn append_ten_bits(text: &mut Vec<u8>, row: u32) -> Result<(), AllocError>
 pub(crate) fn pad_drive(device: DeviceName) -> Place
     ensures { result ≡ pad_drive_of device }
 {
-    match device {
-        DeviceName::K1 => Place {
-            bank: 0,
-            px: 330,
-            py: 143,
-        },
-        DeviceName::K8 => Place {
-            bank: 0,
-            px: 870,
-            py: 271,
-        },
+    Place {
+        bank: 0,
+        px: (device.cram_columns() - 2) as u16,
+        py: (device.cram_rows() - 1) as u16,
     }
 }
 

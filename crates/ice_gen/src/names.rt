@@ -1,5 +1,6 @@
 // The nets and their names.
-ghost use Rattle.std.specs.Prelude.{◌≡◌, ◌<◌, ◌≤◌, ◌+◌, ◌^◌, [], ◌∷◌, ◌++◌, OnOk, map, codes, decimal, nat_le, nat_lt, ◌-◌, ◌==◌, ◌&&◌, ◌||◌};
+ghost use Rattle.plane_map.specs.Devices.{has_database};
+ghost use Rattle.std.specs.Prelude.{◌≡◌, ◌<◌, ◌≤◌, ◌+◌, ◌^◌, true, [], ◌∷◌, ◌++◌, OnOk, map, codes, decimal, nat_le, nat_lt, ◌-◌, ◌==◌, ◌&&◌, ◌||◌};
 ghost use Rattle.place_search.specs.Places.{gathered_below};
 ghost use Rattle.text_lines.specs.Written.{text_of};
 ghost use Rattle.plane_map.specs.Layout.{grid_height, grid_width, kind_of};
@@ -19,6 +20,7 @@ use std::alloc::AllocError;
 /// Appends all nets.
 #[tactic(auto, using(crate::proofs::Texts::joined), unfolding(place_search::specs::Places::gathered_below))]
 pub(crate) fn append_nets(text: &mut Vec<u8>, device: DeviceName) -> Result<(), AllocError>
+    requires { has_database device ≡ true }
     ensures { OnOk result (text.new.items ≡ text.old.items ++ text_of (gathered_below (nets_of device) (net_lines device))) }
 {
     for net in 0..nets(device) {
@@ -30,7 +32,8 @@ pub(crate) fn append_nets(text: &mut Vec<u8>, device: DeviceName) -> Result<(), 
 /// Appends a net and all its names.
 #[tactic(auto, using(crate::proofs::Texts::joined), unfolding(place_search::specs::Places::gathered_below, crate::specs::Database::net_lines))]
 fn append_net(text: &mut Vec<u8>, device: DeviceName, net: u32) -> Result<(), AllocError>
-    requires { net < 2 ^ 20 }
+    requires database { has_database device ≡ true }
+    requires net { net < 2 ^ 20 }
     ensures { OnOk result (text.new.items ≡ text.old.items ++ text_of (net_lines device net)) }
 {
     append_statement(text, net)?;
@@ -52,6 +55,7 @@ fn append_statement(text: &mut Vec<u8>, net: u32) -> Result<(), AllocError>
 
 /// Appends the names of a net by the tiles of a row of the grid.
 fn append_row(text: &mut Vec<u8>, device: DeviceName, net: u32, y: u32) -> Result<(), AllocError>
+    requires database { has_database device ≡ true }
     requires row { y < grid_height device }
     requires net { net < 2 ^ 20 }
     ensures { OnOk result (text.new.items ≡ text.old.items ++ text_of (names_in_row device net y)) }

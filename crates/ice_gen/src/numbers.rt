@@ -10,10 +10,7 @@ pub(crate) fn cells(device: DeviceName) -> u32
     ensures number { result ≡ cells_of device }
     ensures small { result ≤ 7680 }
 {
-    match device {
-        DeviceName::K1 => 1280,
-        DeviceName::K8 => 7680,
-    }
+    8 * ((device.columns() - 4) * (device.rows() - 2))
 }
 
 /// How many RAMs there are.
@@ -37,6 +34,7 @@ fn ram_column(device: DeviceName) -> u32
     ensures { result ≡ ram_column_of device }
 {
     match device {
+        DeviceName::L384 => 0,
         DeviceName::K1 => 3,
         DeviceName::K8 => 8,
     }
@@ -50,10 +48,10 @@ fn logic_to_left(device: DeviceName, x: u32) -> u32
     let ram = ram_column(device);
     let mut columns = x.saturating_sub(1);
     if x > ram {
-        columns -= 1;
+        columns = columns.saturating_sub(1);
     }
     if x + ram > device.columns() - 1 {
-        columns -= 1;
+        columns = columns.saturating_sub(1);
     }
     columns
 }

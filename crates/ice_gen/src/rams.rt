@@ -1,5 +1,6 @@
 // The words of the RAMs.
-ghost use Rattle.std.specs.Prelude.{◌≡◌, ◌<◌, ◌+◌, ◌*◌, Some};
+ghost use Rattle.std.specs.Prelude.{◌≡◌, true, ◌<◌, ◌+◌, ◌*◌, Some};
+ghost use Rattle.plane_map.specs.Devices.{has_database};
 ghost use Rattle.plane_map.specs.Layout.{grid_height, grid_width, kind_of};
 ghost use Rattle.ice_image.specs.Either.{configuration_of, device_of};
 ghost use Rattle.ice_gen.specs.Numbers.{cells, ram_number};
@@ -12,6 +13,7 @@ use plane_map::{TileKind, WordBit, kind_on};
 
 /// Sets the bits of all words that are 1, RAM by RAM.
 pub(crate) fn fill_rams(image: &mut AnyImage, draws: &mut Draws)
+    requires database { has_database (device_of image.old) ≡ true }
     requires count { draws.old.count ≡ 2 * cells (device_of image.old) }
     requires filled { IsFilled (device_of image.old) draws.old.seed (is_word_before 0) (configuration_of image.old) }
     ensures device { device_of image.new ≡ device_of image.old }
@@ -24,6 +26,7 @@ pub(crate) fn fill_rams(image: &mut AnyImage, draws: &mut Draws)
 
 /// Sets the bits of the RAMs of a row of the grid.
 fn fill_grid_row(image: &mut AnyImage, draws: &mut Draws, y: u8)
+    requires database { has_database (device_of image.old) ≡ true }
     requires row { y < grid_height (device_of image.old) }
     requires count { draws.old.count ≡ 2 * cells (device_of image.old) + 256 * rams_before (device_of image.old) 0 y }
     requires filled { IsFilled (device_of image.old) draws.old.seed (is_word_before (word_turn 0 y 0 0)) (configuration_of image.old) }
@@ -39,6 +42,7 @@ fn fill_grid_row(image: &mut AnyImage, draws: &mut Draws, y: u8)
 
 /// Sets the bits of the RAM at a place of the grid, where one is.
 fn fill_place(image: &mut AnyImage, draws: &mut Draws, x: u8, y: u8)
+    requires database { has_database (device_of image.old) ≡ true }
     requires column { x < grid_width (device_of image.old) }
     requires row { y < grid_height (device_of image.old) }
     requires count { draws.old.count ≡ 2 * cells (device_of image.old) + 256 * rams_before (device_of image.old) x y }

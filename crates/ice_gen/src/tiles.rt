@@ -1,5 +1,6 @@
 // The bits of all tiles.
-ghost use Rattle.std.specs.Prelude.{◌≡◌, ◌<◌, ◌+◌, ◌*◌};
+ghost use Rattle.std.specs.Prelude.{◌≡◌, true, ◌<◌, ◌+◌, ◌*◌};
+ghost use Rattle.plane_map.specs.Devices.{has_database};
 ghost use Rattle.plane_map.specs.Layout.{grid_height, grid_width};
 ghost use Rattle.ice_image.specs.Either.{configuration_of, device_of};
 ghost use Rattle.ice_gen.specs.Numbers.{cells};
@@ -13,6 +14,7 @@ use plane_map::{TileKind, kind_on};
 
 /// Sets the bits of all tiles that are 1, row of the grid by row of the grid.
 pub(crate) fn fill_tiles(image: &mut AnyImage, draws: &mut Draws)
+    requires database { has_database (device_of image.old) ≡ true }
     requires first { draws.old.count ≡ 0 }
     requires filled { IsFilled (device_of image.old) draws.old.seed (is_tile_before 0) (configuration_of image.old) }
     ensures device { device_of image.new ≡ device_of image.old }
@@ -27,6 +29,7 @@ pub(crate) fn fill_tiles(image: &mut AnyImage, draws: &mut Draws)
 
 /// Sets the bits of the tiles of a row of the grid.
 fn fill_grid_row(image: &mut AnyImage, draws: &mut Draws, y: u8)
+    requires database { has_database (device_of image.old) ≡ true }
     requires row { y < grid_height (device_of image.old) }
     requires count { draws.old.count ≡ 16 * logic_before (device_of image.old) 0 y }
     requires filled { IsFilled (device_of image.old) draws.old.seed (is_tile_before (turn 0 y 0 0)) (configuration_of image.old) }
@@ -42,6 +45,7 @@ fn fill_grid_row(image: &mut AnyImage, draws: &mut Draws, y: u8)
 
 /// Sets the bits of the tile at a place.
 fn fill_tile(image: &mut AnyImage, draws: &mut Draws, x: u8, y: u8)
+    requires database { has_database (device_of image.old) ≡ true }
     requires column { x < grid_width (device_of image.old) }
     requires row { y < grid_height (device_of image.old) }
     requires count { draws.old.count ≡ 16 * logic_before (device_of image.old) x y }

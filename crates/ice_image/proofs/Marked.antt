@@ -13,7 +13,7 @@ use Rattle.plane_map.proofs.Layouts.{columns_at-in}
 use Rattle.plane_map.proofs.RowRuns.{column-mate}
 use Rattle.plane_map.specs.Layout.{Layout, IsLayout, columns_at, grid_width, cram_height, place_of, IsTileBit}
 use Rattle.plane_map.specs.declared.device.DeviceName.{DeviceName}
-use Rattle.plane_map.specs.declared.device.DeviceName.TheVariants.{K1, K8}
+use Rattle.plane_map.specs.declared.device.DeviceName.TheVariants.{L384, K1, K8}
 use Rattle.plane_map.specs.declared.tile.Place.{Place}
 use Rattle.plane_map.specs.declared.tile.TileBit.{TileBit}
 use Rattle.ice_image.specs.Bits.{number_bit}
@@ -106,6 +106,7 @@ marked-more layout bank before now after so_far kept ends marks kept_then inner 
 
 -- planes have rows of inner tiles
 room : (device : DeviceName) → 16 < cram_height device
+room L384 = omega arith
 room K1 = omega arith
 room K8 = omega arith
 

@@ -1,4 +1,4 @@
-// Images of either device.
+// Images of any device.
 ghost use Rattle.std.specs.Prelude.{◌≡◌, ◌+◌, ◌*◌, ◌<◌, ◌≤◌, ◌↔◌, Some, IfOk, IsTrue, All, true, false, length, take, drop, option_copied, MatchOption};
 ghost use Rattle.bit_plane.specs.BitList.{word_bits, word_of, bits_of, bytes_of};
 ghost use Rattle.bit_plane.specs.Rows.{flat, rows_of};
@@ -18,13 +18,25 @@ use crate::planes::PlaneKind;
 use crate::settings::Settings;
 use bit_plane::Tile;
 use plane_map::{
-    DeviceName, Hx1k, Hx8k, Layout, Place, RowCol, TileBit, TileKind, TileRuns, WordBit,
+    DeviceName, Hx1k, Hx8k, Layout, Lp384, Place, RowCol, TileBit, TileKind, TileRuns, WordBit,
 };
 use std::alloc::{AllocError, Global};
+
+/// What an expression gives of the image, whichever device that is for.
+macro_rules! with_image {
+    ($any:expr, |$image:ident| $given:expr) => {
+        match $any {
+            AnyImage::L384($image) => $given,
+            AnyImage::K1($image) => $given,
+            AnyImage::K8($image) => $given,
+        }
+    };
+}
 
 /// An image of one of the devices.
 #[derive(Drop)]
 pub enum AnyImage {
+    L384(Image<Lp384>),
     K1(Image<Hx1k>),
     K8(Image<Hx8k>),
 }
@@ -42,6 +54,7 @@ impl AnyImage {
         ensures { IfOk result (λ image. configuration_of image ≡ blank_image layout) }
     {
         Ok(match layout.device() {
+            DeviceName::L384 => AnyImage::L384(Image::zeroed_with(alloc, layout)?),
             DeviceName::K1 => AnyImage::K1(Image::zeroed_with(alloc, layout)?),
             DeviceName::K8 => AnyImage::K8(Image::zeroed_with(alloc, layout)?),
         })
@@ -52,10 +65,7 @@ impl AnyImage {
         ensures layout { result ≡ (configuration_of self.now).layout }
         ensures whole { IsWhole (configuration_of self.now) }
     {
-        match self {
-            AnyImage::K1(image) => image.layout(),
-            AnyImage::K8(image) => image.layout(),
-        }
+        with_image!(self, |image| image.layout())
     }
 
     /// The device.
@@ -63,20 +73,14 @@ impl AnyImage {
         ensures device { result ≡ device_of self.now }
         ensures whole { IsWhole (configuration_of self.now) }
     {
-        match self {
-            AnyImage::K1(image) => image.device(),
-            AnyImage::K8(image) => image.device(),
-        }
+        with_image!(self, |image| image.device())
     }
 
     /// The settings.
     pub fn settings(&self) -> Settings
         ensures { result ≡ (configuration_of self.now).settings }
     {
-        match self {
-            AnyImage::K1(image) => image.settings(),
-            AnyImage::K8(image) => image.settings(),
-        }
+        with_image!(self, |image| image.settings())
     }
 
     /// Sets the settings.
@@ -84,20 +88,14 @@ impl AnyImage {
         ensures device { device_of self.new ≡ device_of self.old }
         ensures changed { configuration_of self.new ≡ record (configuration_of self.old) { settings = settings } }
     {
-        match self {
-            AnyImage::K1(image) => image.set_settings(settings),
-            AnyImage::K8(image) => image.set_settings(settings),
-        }
+        with_image!(self, |image| image.set_settings(settings))
     }
 
     /// The comment, where there is one.
     pub fn comment(&self) -> Option<&Comment>
         ensures { option_copied result ≡ (configuration_of self.now).comment }
     {
-        match self {
-            AnyImage::K1(image) => image.comment(),
-            AnyImage::K8(image) => image.comment(),
-        }
+        with_image!(self, |image| image.comment())
     }
 
     /// Sets the comment, or removes it.
@@ -105,10 +103,7 @@ impl AnyImage {
         ensures device { device_of self.new ≡ device_of self.old }
         ensures changed { configuration_of self.new ≡ record (configuration_of self.old) { comment = comment } }
     {
-        match self {
-            AnyImage::K1(image) => image.set_comment(comment),
-            AnyImage::K8(image) => image.set_comment(comment),
-        }
+        with_image!(self, |image| image.set_comment(comment))
     }
 
     /// A bit of a tile.
@@ -116,10 +111,7 @@ impl AnyImage {
         requires { IsTileBit (device_of self.now) at }
         ensures { result ≡ bit_of (configuration_of self.now) (OfTile at) }
     {
-        match self {
-            AnyImage::K1(image) => image.tile_bit(at),
-            AnyImage::K8(image) => image.tile_bit(at),
-        }
+        with_image!(self, |image| image.tile_bit(at))
     }
 
     /// Sets a bit of a tile.
@@ -128,10 +120,7 @@ impl AnyImage {
         ensures device { device_of self.new ≡ device_of self.old }
         ensures bits { IsSet (OfTile at) bit (configuration_of self.old) (configuration_of self.new) }
     {
-        match self {
-            AnyImage::K1(image) => image.set_tile_bit(at, bit),
-            AnyImage::K8(image) => image.set_tile_bit(at, bit),
-        }
+        with_image!(self, |image| image.set_tile_bit(at, bit))
     }
 
     /// The bits of a row of a tile as a word. Column c is the bit of value 2^c.
@@ -139,10 +128,7 @@ impl AnyImage {
         requires { row < 16 }
         ensures { result ≡ word_of (row_of (configuration_of self.now) x y row) }
     {
-        match self {
-            AnyImage::K1(image) => image.tile_row(x, y, row),
-            AnyImage::K8(image) => image.tile_row(x, y, row),
-        }
+        with_image!(self, |image| image.tile_row(x, y, row))
     }
 
     /// Sets the bits of a row of a tile at which `ones` has a 1. Column c is the bit of value 2^c; bits past the tile's
@@ -152,20 +138,14 @@ impl AnyImage {
         ensures device { device_of self.new ≡ device_of self.old }
         ensures bits { Gains (row_ones x y row ones) (configuration_of self.old) (configuration_of self.new) }
     {
-        match self {
-            AnyImage::K1(image) => image.set_ones(x, y, row, ones),
-            AnyImage::K8(image) => image.set_ones(x, y, row, ones),
-        }
+        with_image!(self, |image| image.set_ones(x, y, row, ones))
     }
 
     /// Where the rows of the tile at (x, y) lie; none where there is no tile.
     pub fn tile_runs(&self, x: u8, y: u8) -> Option<TileRuns>
         ensures { MatchOption result (columns_at (device_of self.now) x y ≡ 0) (AreRunsOf (configuration_of self.now).layout x y) }
     {
-        match self {
-            AnyImage::K1(image) => image.tile_runs(x, y),
-            AnyImage::K8(image) => image.tile_runs(x, y),
-        }
+        with_image!(self, |image| image.tile_runs(x, y))
     }
 
     /// The same as `set_ones`, for a tile whose `tile_runs` were asked for before.
@@ -175,10 +155,7 @@ impl AnyImage {
         ensures device { device_of self.new ≡ device_of self.old }
         ensures bits { Gains (row_ones runs.x runs.y row ones) (configuration_of self.old) (configuration_of self.new) }
     {
-        match self {
-            AnyImage::K1(image) => image.set_ones_in(runs, row, ones),
-            AnyImage::K8(image) => image.set_ones_in(runs, row, ones),
-        }
+        with_image!(self, |image| image.set_ones_in(runs, row, ones))
     }
 
     /// Sets an extra bit.
@@ -187,10 +164,7 @@ impl AnyImage {
         ensures device { device_of self.new ≡ device_of self.old }
         ensures bits { IsSet (Extra at) bit (configuration_of self.old) (configuration_of self.new) }
     {
-        match self {
-            AnyImage::K1(image) => image.set_extra_bit(at, bit),
-            AnyImage::K8(image) => image.set_extra_bit(at, bit),
-        }
+        with_image!(self, |image| image.set_extra_bit(at, bit))
     }
 
     /// The bit at a place of the configuration planes.
@@ -198,10 +172,7 @@ impl AnyImage {
         requires { IsInCram (device_of self.now) at }
         ensures { result ≡ place_bit (configuration_of self.now).cram at }
     {
-        match self {
-            AnyImage::K1(image) => image.cram_bit(at),
-            AnyImage::K8(image) => image.cram_bit(at),
-        }
+        with_image!(self, |image| image.cram_bit(at))
     }
 
     /// Sets the bit at a place of the configuration planes.
@@ -210,10 +181,7 @@ impl AnyImage {
         ensures device { device_of self.new ≡ device_of self.old }
         ensures changed { configuration_of self.new ≡ record (configuration_of self.old) { cram = with_place_bit (configuration_of self.old).cram at bit } }
     {
-        match self {
-            AnyImage::K1(image) => image.set_cram_bit(at, bit),
-            AnyImage::K8(image) => image.set_cram_bit(at, bit),
-        }
+        with_image!(self, |image| image.set_cram_bit(at, bit))
     }
 
     /// The tile at (x, y), which has C columns.
@@ -221,10 +189,7 @@ impl AnyImage {
         requires { columns_at (device_of self.now) x y ≡ C }
         ensures { result ≡ tile_of (configuration_of self.now) x y }
     {
-        match self {
-            AnyImage::K1(image) => image.tile(x, y),
-            AnyImage::K8(image) => image.tile(x, y),
-        }
+        with_image!(self, |image| image.tile(x, y))
     }
 
     /// Sets all bits of the tile at (x, y), which has C columns, to those of another tile.
@@ -233,10 +198,7 @@ impl AnyImage {
         ensures device { device_of self.new ≡ device_of self.old }
         ensures bits { IsTileSet x y tile.now (configuration_of self.old) (configuration_of self.new) }
     {
-        match self {
-            AnyImage::K1(image) => image.put_tile(x, y, tile),
-            AnyImage::K8(image) => image.put_tile(x, y, tile),
-        }
+        with_image!(self, |image| image.put_tile(x, y, tile))
     }
 
     /// Whether bit k of the list has the value of bit k of `values`, for each k.
@@ -245,10 +207,7 @@ impl AnyImage {
         requires in_tile { All (IsBitOfTile (configuration_of self.now).layout x y) bits.now }
         ensures { IsTrue result ↔ (listed_bits (configuration_of self.now) x y bits.now ≡ word_bits (length bits.now) values) }
     {
-        match self {
-            AnyImage::K1(image) => image.tile_equals(x, y, bits, values),
-            AnyImage::K8(image) => image.tile_equals(x, y, bits, values),
-        }
+        with_image!(self, |image| image.tile_equals(x, y, bits, values))
     }
 
     /// A word of the RAM whose lower tile is at (x, y), bit b having the value 2^b.
@@ -256,10 +215,7 @@ impl AnyImage {
         requires { kind_of (device_of self.now) x y ≡ Some TileKind.RamB }
         ensures { result ≡ ram_word_of (configuration_of self.now) x y word }
     {
-        match self {
-            AnyImage::K1(image) => image.ram_word(x, y, word),
-            AnyImage::K8(image) => image.ram_word(x, y, word),
-        }
+        with_image!(self, |image| image.ram_word(x, y, word))
     }
 
     /// Sets a word of the RAM whose lower tile is at (x, y), bit b having the value 2^b.
@@ -268,10 +224,7 @@ impl AnyImage {
         ensures device { device_of self.new ≡ device_of self.old }
         ensures bits { IsWordSet x y word value (configuration_of self.old) (configuration_of self.new) }
     {
-        match self {
-            AnyImage::K1(image) => image.set_ram_word(x, y, word, value),
-            AnyImage::K8(image) => image.set_ram_word(x, y, word, value),
-        }
+        with_image!(self, |image| image.set_ram_word(x, y, word, value))
     }
 
     /// Sets the bits of a word of the RAM whose lower tile is at (x, y) at which `ones` has a 1. Bit b has the value 2^b.
@@ -280,10 +233,7 @@ impl AnyImage {
         ensures device { device_of self.new ≡ device_of self.old }
         ensures bits { Gains (word_ones x y word ones) (configuration_of self.old) (configuration_of self.new) }
     {
-        match self {
-            AnyImage::K1(image) => image.set_word_ones(x, y, word, ones),
-            AnyImage::K8(image) => image.set_word_ones(x, y, word, ones),
-        }
+        with_image!(self, |image| image.set_word_ones(x, y, word, ones))
     }
 
     /// Sets a bit of a word of a RAM.
@@ -292,10 +242,7 @@ impl AnyImage {
         ensures device { device_of self.new ≡ device_of self.old }
         ensures bits { IsSet (OfWord at) bit (configuration_of self.old) (configuration_of self.new) }
     {
-        match self {
-            AnyImage::K1(image) => image.set_word_bit(at, bit),
-            AnyImage::K8(image) => image.set_word_bit(at, bit),
-        }
+        with_image!(self, |image| image.set_word_bit(at, bit))
     }
 
     /// The place of the configuration planes with these numbers, where it belongs to no tile.
@@ -303,10 +250,7 @@ impl AnyImage {
         ensures { MatchOption result (is_extra (configuration_of self.now).layout (record { bank = bank; px = px; py = py }) ≡ false)
             (λ at. (is_extra (configuration_of self.now).layout at ≡ true) × (at ≡ record { bank = bank; px = px; py = py })) }
     {
-        match self {
-            AnyImage::K1(image) => image.extra_place(bank, px, py),
-            AnyImage::K8(image) => image.extra_place(bank, px, py),
-        }
+        with_image!(self, |image| image.extra_place(bank, px, py))
     }
 
     /// Fills `out` with the bytes of `count` rows of a bank's plane, from row `first` on, the most significant bit of each
@@ -317,10 +261,7 @@ impl AnyImage {
         requires bytes { 8 * length out.old ≡ count * plane_width kind (device_of self.now) }
         ensures { out.new ≡ bytes_of (length out.old) (flat (take count (drop first (rows_of_bank kind bank (configuration_of self.now))))) }
     {
-        match self {
-            AnyImage::K1(image) => image.rows(kind, bank, first, count, out),
-            AnyImage::K8(image) => image.rows(kind, bank, first, count, out),
-        }
+        with_image!(self, |image| image.rows(kind, bank, first, count, out))
     }
 
     /// Sets `count` rows of a bank's plane, from row `first` on, to the bits of bytes, the most significant bit of each byte
@@ -339,10 +280,10 @@ impl AnyImage {
         ensures device { device_of self.new ≡ device_of self.old }
         ensures rows { configuration_of self.new ≡ with_rows kind bank first (rows_of (plane_width kind (device_of self.old)) count (bits_of bytes.now)) (configuration_of self.old) }
     {
-        match self {
-            AnyImage::K1(image) => image.set_rows(kind, bank, first, count, bytes),
-            AnyImage::K8(image) => image.set_rows(kind, bank, first, count, bytes),
-        }
+        with_image!(
+            self,
+            |image| image.set_rows(kind, bank, first, count, bytes)
+        )
     }
 
     /// The set bits of the configuration planes that belong to no tile, by bank, then by row, then by column.
@@ -350,9 +291,6 @@ impl AnyImage {
         ensures exact { IfOk result (λ places. AreSetExtras (configuration_of self.now).layout (configuration_of self.now).cram places.items) }
         ensures bits { IfOk result (λ places. places.items ≡ set_extras (configuration_of self.now)) }
     {
-        match self {
-            AnyImage::K1(image) => image.extra_bits(alloc),
-            AnyImage::K8(image) => image.extra_bits(alloc),
-        }
+        with_image!(self, |image| image.extra_bits(alloc))
     }
 }

@@ -18,22 +18,21 @@ impl PlaneKind {
     pub fn columns(self, device: DeviceName) -> usize
         ensures { result ≡ plane_width self device }
     {
-        match (self, device) {
-            (PlaneKind::Cram, DeviceName::K1) => 332,
-            (PlaneKind::Cram, DeviceName::K8) => 872,
-            (PlaneKind::Bram, DeviceName::K1) => 64,
-            (PlaneKind::Bram, DeviceName::K8) => 128,
-        }
+        let columns = match self {
+            PlaneKind::Cram => device.cram_columns(),
+            PlaneKind::Bram => device.bram_columns(),
+        };
+        columns as usize
     }
 
     /// How many rows of bits these planes have.
     pub fn rows(self, device: DeviceName) -> usize
         ensures { result ≡ plane_height self device }
     {
-        match (self, device) {
-            (PlaneKind::Cram, DeviceName::K1) => 144,
-            (PlaneKind::Cram, DeviceName::K8) => 272,
-            (PlaneKind::Bram, _) => 256,
-        }
+        let rows = match self {
+            PlaneKind::Cram => device.cram_rows(),
+            PlaneKind::Bram => device.bram_rows(),
+        };
+        rows as usize
     }
 }

@@ -2,26 +2,21 @@
 use Rattle.std.proofs.Common.{◌≡◌, ℕ, ◌∙◌, Bool, true, false, List, length, Option, Some, None, refl, sym, ap, subst}
 use Rattle.text_lines.specs.Lines.{lines_of}
 use Rattle.plane_map.specs.declared.device.DeviceName.{DeviceName}
-use Rattle.plane_map.specs.declared.device.DeviceName.TheVariants.{K1, K8}
 use Rattle.layout_file.specs.declared.layouts.Layouts.{Layouts}
 use Rattle.layout_file.specs.Layouts.{AreLayouts, HasLayout, layout_for}
+use Rattle.layout_file.proofs.ByDevice.{own-layout}
 use Rattle.ice_image.specs.Bits.{image_from}
 use Rattle.ice_image.specs.Configuration.{Configuration}
 use Rattle.asc_text.specs.Blocks.{device_before}
 use Rattle.asc_text.specs.Meaning.{asc_image_of, image_for}
 use Rattle.ice_pack.specs.Packed.{awake_where}
 
--- the layout of a device is the one of its device
-own_layout : (layouts : Layouts) → AreLayouts layouts → (device : DeviceName) → HasLayout layouts (layout_for layouts device)
-own_layout layouts are K1 = ap (layout_for layouts) are.k1
-own_layout layouts are K8 = ap (layout_for layouts) are.k8
-
 has_layout-for : (layouts : Layouts) → AreLayouts layouts → (lines : List (List ℕ)) (image : Configuration) (device : Option DeviceName) → image_for layouts device lines ≡ Some image → HasLayout layouts image.layout
 unfolding image_from
 has_layout-for layouts are lines image None is = absurd cc
 has_layout-for layouts are lines image (Some device) is =
     let layout_is : layout_for layouts device ≡ image.layout = cc in
-    ap (λ layout. layout_for layouts layout.device) (sym layout_is) ∙ own_layout layouts are device ∙ layout_is
+    ap (λ layout. layout_for layouts layout.device) (sym layout_is) ∙ own-layout layouts device are ∙ layout_is
 
 has_layout : (layouts : Layouts) → AreLayouts layouts → (text : List ℕ) (image : Configuration) → asc_image_of layouts text ≡ Some image → HasLayout layouts image.layout
 unfolding asc_image_of

@@ -1,13 +1,14 @@
 -- The image of a generated design has the standard layout.
 use Rattle.std.proofs.Common.{◌≡◌, ℕ, refl}
 use Rattle.plane_map.specs.declared.device.DeviceName.{DeviceName}
-use Rattle.plane_map.specs.declared.device.DeviceName.TheVariants.{K1, K8}
+use Rattle.plane_map.specs.declared.device.DeviceName.TheVariants.{L384, K1, K8}
 use Rattle.plane_map.specs.Layout.{standard_layout}
 use Rattle.layout_file.specs.Layouts.{HasLayout, standard_layouts}
 use Rattle.ice_image.specs.Bits.{image_from}
 use Rattle.ice_gen.specs.Image.{generated_image}
 
 has-standard : (device : DeviceName) → HasLayout standard_layouts (standard_layout device)
+has-standard L384 = refl
 has-standard K1 = refl
 has-standard K8 = refl
 

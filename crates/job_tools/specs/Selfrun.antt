@@ -6,7 +6,7 @@ use Rattle.clap.specs.Words.{App, Row, Text, first_of, matches_of}
 use Rattle.text_lines.specs.Words.{digits_value, number_of}
 use Rattle.plane_map.specs.declared.device.DeviceName.{DeviceName}
 use Rattle.ice_image.specs.Configuration.{Configuration}
-use Rattle.plane_map.specs.DeviceWords.{device_named}
+use Rattle.plane_map.specs.DeviceWords.{database_device_named}
 use Rattle.chipdb_reader.specs.Database.{Database}
 use Rattle.ice_gen.specs.Database.{generated_database}
 use Rattle.ice_gen.specs.Image.{generated_image}
@@ -95,7 +95,7 @@ request_with None seed events = None
 
 abbrev pub request_by : List Row → Option Request
 request_by rows =
-    request_with (given device_named (first_of (codes "device") rows)) (given seed_of (first_of (codes "seed") rows))
+    request_with (given database_device_named (first_of (codes "device") rows)) (given seed_of (first_of (codes "seed") rows))
     (given events_count (first_of (codes "events") rows))
 
 -- what the arguments of `selfrun` ask for, where they are taken

@@ -48,6 +48,7 @@ fn append_device(text: &mut Vec<u8>, device: DeviceName) -> Result<(), AllocErro
     ensures { OnOk result (text.new.items ≡ text.old.items ++ text_of (with_word (codes "device") (device_word device) ∷ [])) }
 {
     match device {
+        DeviceName::L384 => text.extend_from_slice(b"device 384\n"),
         DeviceName::K1 => text.extend_from_slice(b"device 1k\n"),
         DeviceName::K8 => text.extend_from_slice(b"device 8k\n"),
     }

@@ -4,7 +4,7 @@ ghost use Rattle.std.specs.Char.{is_ascii_digit};
 ghost use Rattle.std.specs.List.{list_all};
 ghost use Rattle.clap.specs.Words.{app_of};
 ghost use Rattle.text_lines.specs.Words.{digits_value, number_of};
-ghost use Rattle.plane_map.specs.DeviceWords.{device_named};
+ghost use Rattle.plane_map.specs.DeviceWords.{database_device_named};
 ghost use Rattle.tool_run.specs.Needs.{text_of};
 ghost use Rattle.job_tools.specs.Selfrun.{events_count, given, request_with, seed_of, selfrun_command, selfrun_request, within_limit};
 
@@ -63,11 +63,11 @@ pub(crate) struct Request {
     pub(crate) events: u32,
 }
 
-// The device that a word names.
+// The device that a word names, where it has a database.
 fn device_named(word: &str) -> Option<DeviceName>
-    ensures { result ≡ device_named word.now }
+    ensures { result ≡ database_device_named word.now }
 {
-    DeviceName::named(word.as_bytes())
+    DeviceName::named_with_database(word.as_bytes())
 }
 
 // Whether each byte is a decimal digit.
@@ -121,9 +121,9 @@ fn events_count(word: &[u8]) -> Option<u32>
     }
 }
 
-// The device, where there is a word for it that names one.
+// The device, where there is a word for it that names one with a database.
 fn device_given(word: Option<&str>) -> Option<DeviceName>
-    ensures { result ≡ given device_named (text_of word.entry) }
+    ensures { result ≡ given database_device_named (text_of word.entry) }
 {
     match word {
         Some(word) => device_named(word),

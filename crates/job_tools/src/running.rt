@@ -1,5 +1,6 @@
 // `selfrun`: a design that a number makes, through all parts.
-ghost use Rattle.std.specs.Prelude.{◌≡◌, List, None, IfOk, IfErr, length, map, string_bytes};
+ghost use Rattle.std.specs.Prelude.{◌≡◌, true, List, None, IfOk, IfErr, length, map, string_bytes};
+ghost use Rattle.plane_map.specs.Devices.{has_database};
 ghost use Rattle.ice_image.specs.Either.{configuration_of};
 ghost use Rattle.chipdb_reader.specs.Kept.{database_in};
 ghost use Rattle.bin_stream.specs.CanonicalBytes.{canonical_bytes};
@@ -39,7 +40,7 @@ impl<'a> Tool for Telling<'a> {
 
     ghost answer_of = { λ tool texts. Done tool.text.now };
 
-    fn answer(&self, alloc: Global, _loaded: &Vec<Vec<u8>>) -> Result<Vec<u8>, Stop> {
+    fn answer(&self, alloc: Global, _loaded: &Vec<Vec<u8>>) -> Result<Vec<u8>, Stop<'_>> {
         Ok(Vec::from_slice(alloc, self.text)?)
     }
 }
@@ -91,7 +92,12 @@ fn design_text(
 }
 
 // What is told of a database and an image that was packed.
-fn told_by(alloc: Global, request: Request, db: &ChipDb, packed: &Packed) -> Result<Vec<u8>, Stop>
+fn told_by(
+    alloc: Global,
+    request: Request,
+    db: &ChipDb,
+    packed: &Packed,
+) -> Result<Vec<u8>, Stop<'static>>
     requires image { configuration_of packed.now.image ≡ image_for request }
     requires bytes { packed.now.bytes ≡ length (canonical_bytes (image_for request)) }
     ensures bytes { IfOk result (λ bytes. IsAnswerWith request (database_in db.now) (design_fault (database_in db.now) (image_for request)) (Done bytes.items)) }
@@ -104,7 +110,12 @@ fn told_by(alloc: Global, request: Request, db: &ChipDb, packed: &Packed) -> Res
 }
 
 // What is told of a database and an image.
-fn told_of(alloc: Global, request: Request, db: &ChipDb, image: &AnyImage) -> Result<Vec<u8>, Stop>
+fn told_of(
+    alloc: Global,
+    request: Request,
+    db: &ChipDb,
+    image: &AnyImage,
+) -> Result<Vec<u8>, Stop<'static>>
     requires { configuration_of image.now ≡ image_for request }
     ensures bytes { IfOk result (λ bytes. IsAnswerWith request (database_in db.now) (design_fault (database_in db.now) (image_for request)) (Done bytes.items)) }
     ensures stops { IfErr result (StopsAs (IsAnswerWith request (database_in db.now) (design_fault (database_in db.now) (image_for request)))) }
@@ -120,7 +131,7 @@ fn told_from(
     request: Request,
     text: &[u8],
     image: &AnyImage,
-) -> Result<Vec<u8>, Stop>
+) -> Result<Vec<u8>, Stop<'static>>
     requires { configuration_of image.now ≡ image_for request }
     ensures bytes { IfOk result (λ bytes. IsAnswerBy request (database_read text.now) (Done bytes.items)) }
     ensures stops { IfErr result (StopsAs (IsAnswerBy request (database_read text.now))) }
@@ -130,7 +141,8 @@ fn told_from(
 }
 
 // What is told of a request.
-fn told(alloc: Global, request: Request) -> Result<Vec<u8>, Stop>
+fn told(alloc: Global, request: Request) -> Result<Vec<u8>, Stop<'static>>
+    requires { has_database request.device ≡ true }
     ensures bytes { IfOk result (λ bytes. IsAnswer request (Done bytes.items)) }
     ensures stops { IfErr result (StopsAs (IsAnswer request)) }
 {
@@ -148,6 +160,7 @@ fn tell<F: Files, I: Source, O: Sink, E: Sink>(
     output: &mut O,
     errors: &mut E,
 ) -> u8
+    requires { has_database request.device ≡ true }
     ensures { (answer : Answer) → IsAnswer request answer
         → Does (outside F.contents F.steady F.load_faults F.store_faults I.left I.faults O.held O.faults E.held E.faults)
         (at_once selfrun_name None answer) result

@@ -1,27 +1,24 @@
 -- What the reader keeps behind a line.
-use Rattle.std.proofs.Common.{◌≡◌, ℕ, suc, Bool, true, false, List, refl, ap, ◌∙◌}
+use Rattle.std.proofs.Common.{◌≡◌, ℕ, suc, Bool, true, false, List, refl, sym, ap, ◌∙◌}
 use Rattle.std.specs.Prelude.{Option, Some, None, is_some, not, length, ◌==◌}
 use Rattle.shared_lemmas.proofs.Options.{none_from_is_some}
 use Rattle.place_search.specs.Places.{first_below, last_below, or_else}
 use Rattle.place_search.proofs.Found.{or_else-first, or_else-other}
 use Rattle.plane_map.specs.declared.device.DeviceName.{DeviceName}
-use Rattle.plane_map.specs.declared.device.DeviceName.TheVariants.{K1, K8}
 use Rattle.plane_map.specs.DeviceWords.{device_named}
+use Rattle.plane_map.proofs.Devices.{same-device}
 use Rattle.layout_file.specs.declared.field.Numbers.{Numbers}
 use Rattle.layout_file.specs.declared.field.Numbers.TheVariants.{Widths, SideColumns, PadColumns, PadRows, Banks}
 use Rattle.layout_file.specs.declared.field.Flag.{Flag}
 use Rattle.layout_file.specs.declared.field.Flag.TheVariants.{Mirror, Flip, PadMirror, RamFlip}
 use Rattle.layout_file.specs.declared.fault.LayoutCause.TheVariants.{Statement, Repeated}
+use Rattle.layout_file.specs.declared.section.Section.{Section as Part}
+use Rattle.layout_file.specs.declared.reader.Reader.{Reader}
 use Rattle.layout_file.specs.Lines.{Line, Passed, Section, List_of, Flag_of, Unknown}
 use Rattle.layout_file.specs.Faults.{said_at, is_section, device_in, section_before, is_device, is_numbers, is_flag, numbers_in, flag_in, numbers_given, flag_given, numbers_before, flag_before, cause_if, cause_of, count_of, numbers_cause, section_cause, list_cause, flag_cause}
-use Rattle.layout_file.specs.inside.Reading.{begun_with, taken, with_flag, with_flag_at, with_list_at, with_numbers}
+use Rattle.layout_file.specs.inside.Reading.{begun_with, reader_of, section_for, taken, with_flag, with_flag_at, with_list_at, with_numbers, with_section}
 use Rattle.layout_file.proofs.AcceptedNumbers.{no-cause}
-use Rattle.layout_file.proofs.LineSteps.{GivesNothing, begun-kept, current-kept, flag-kept, nothing-elsewhere, nothing-without, numbers-kept, part-begun, part-kept, part_before, reader-of, reader_before}
-
--- no device is the one that isn't there
-no-device : (device : DeviceName) → is_device device None ≡ false
-no-device K1 = refl
-no-device K8 = refl
+use Rattle.layout_file.proofs.LineSteps.{GivesNothing, begun-kept, current-kept, flag-kept, nothing-elsewhere, nothing-without, numbers-kept, part-begun, other-section, part-kept, part_before, reader_before, same-sections, section-of}
 
 -- ---- fields of numbers
 
@@ -57,7 +54,7 @@ part-numbers : (lines : List (List ℕ)) (n : ℕ) (device : DeviceName) (field 
     → said_at lines n ≡ List_of field numbers → is_device device (section_before lines n) ≡ true → numbers_before lines n device field ≡ None
     → part_before lines (suc n) device ≡ with_numbers (part_before lines n device) field numbers
 part-numbers lines n device Widths numbers said here none =
-    let begun : is_device device (device_in (said_at lines n)) ≡ false = rw said (no-device device) in
+    let begun : is_device device (device_in (said_at lines n)) ≡ false = rw said refl in
     rw (
       numbers-first lines n device Widths numbers said here none,
       numbers-other lines n device SideColumns Widths numbers said here refl,
@@ -71,7 +68,7 @@ part-numbers lines n device Widths numbers said here none =
       begun-kept lines n device begun,
     ) refl
 part-numbers lines n device SideColumns numbers said here none =
-    let begun : is_device device (device_in (said_at lines n)) ≡ false = rw said (no-device device) in
+    let begun : is_device device (device_in (said_at lines n)) ≡ false = rw said refl in
     rw (
       numbers-first lines n device SideColumns numbers said here none,
       numbers-other lines n device Widths SideColumns numbers said here refl,
@@ -85,7 +82,7 @@ part-numbers lines n device SideColumns numbers said here none =
       begun-kept lines n device begun,
     ) refl
 part-numbers lines n device PadColumns numbers said here none =
-    let begun : is_device device (device_in (said_at lines n)) ≡ false = rw said (no-device device) in
+    let begun : is_device device (device_in (said_at lines n)) ≡ false = rw said refl in
     rw (
       numbers-first lines n device PadColumns numbers said here none,
       numbers-other lines n device Widths PadColumns numbers said here refl,
@@ -99,7 +96,7 @@ part-numbers lines n device PadColumns numbers said here none =
       begun-kept lines n device begun,
     ) refl
 part-numbers lines n device PadRows numbers said here none =
-    let begun : is_device device (device_in (said_at lines n)) ≡ false = rw said (no-device device) in
+    let begun : is_device device (device_in (said_at lines n)) ≡ false = rw said refl in
     rw (
       numbers-first lines n device PadRows numbers said here none,
       numbers-other lines n device Widths PadRows numbers said here refl,
@@ -113,7 +110,7 @@ part-numbers lines n device PadRows numbers said here none =
       begun-kept lines n device begun,
     ) refl
 part-numbers lines n device Banks numbers said here none =
-    let begun : is_device device (device_in (said_at lines n)) ≡ false = rw said (no-device device) in
+    let begun : is_device device (device_in (said_at lines n)) ≡ false = rw said refl in
     rw (
       numbers-first lines n device Banks numbers said here none,
       numbers-other lines n device Widths Banks numbers said here refl,
@@ -157,7 +154,7 @@ part-flag : (lines : List (List ℕ)) (n : ℕ) (device : DeviceName) (field : F
     → said_at lines n ≡ Flag_of field value → is_device device (section_before lines n) ≡ true → flag_before lines n device field ≡ None
     → part_before lines (suc n) device ≡ with_flag (part_before lines n device) field value
 part-flag lines n device Mirror value said here none =
-    let begun : is_device device (device_in (said_at lines n)) ≡ false = rw said (no-device device) in
+    let begun : is_device device (device_in (said_at lines n)) ≡ false = rw said refl in
     rw (
       flag-first lines n device Mirror value said here none,
       flag-other lines n device Flip Mirror value said here refl,
@@ -171,7 +168,7 @@ part-flag lines n device Mirror value said here none =
       begun-kept lines n device begun,
     ) refl
 part-flag lines n device Flip value said here none =
-    let begun : is_device device (device_in (said_at lines n)) ≡ false = rw said (no-device device) in
+    let begun : is_device device (device_in (said_at lines n)) ≡ false = rw said refl in
     rw (
       flag-first lines n device Flip value said here none,
       flag-other lines n device Mirror Flip value said here refl,
@@ -185,7 +182,7 @@ part-flag lines n device Flip value said here none =
       begun-kept lines n device begun,
     ) refl
 part-flag lines n device PadMirror value said here none =
-    let begun : is_device device (device_in (said_at lines n)) ≡ false = rw said (no-device device) in
+    let begun : is_device device (device_in (said_at lines n)) ≡ false = rw said refl in
     rw (
       flag-first lines n device PadMirror value said here none,
       flag-other lines n device Mirror PadMirror value said here refl,
@@ -199,7 +196,7 @@ part-flag lines n device PadMirror value said here none =
       begun-kept lines n device begun,
     ) refl
 part-flag lines n device RamFlip value said here none =
-    let begun : is_device device (device_in (said_at lines n)) ≡ false = rw said (no-device device) in
+    let begun : is_device device (device_in (said_at lines n)) ≡ false = rw said refl in
     rw (
       flag-first lines n device RamFlip value said here none,
       flag-other lines n device Mirror RamFlip value said here refl,
@@ -221,11 +218,9 @@ step-nothing : (lines : List (List ℕ)) (n : ℕ) (line : Line) → said_at lin
     → is_section line ≡ false → device_in line ≡ None
     → reader_before lines (suc n) ≡ reader_before lines n
 step-nothing lines n line said numbers flags section device =
-    let none : (d : DeviceName) → is_device d (device_in (said_at lines n)) ≡ false = λ d. rw (said, device) (no-device d) in
-    reader-of (part_before lines (suc n) K1) (part_before lines n K1) (part_before lines (suc n) K8) (part_before lines n K8)
-    (section_before lines (suc n)) (section_before lines n)
-    (part-kept lines n K1 (nothing-without lines n K1 line said numbers flags) (none K1))
-    (part-kept lines n K8 (nothing-without lines n K8 line said numbers flags) (none K8))
+    let none : (d : DeviceName) → is_device d (device_in (said_at lines n)) ≡ false = λ d. rw (said, device) refl in
+    same-sections (part_before lines n) (part_before lines (suc n)) (section_before lines n) (section_before lines (suc n))
+    (λ d. part-kept lines n d (nothing-without lines n d line said numbers flags) (none d))
     (current-kept lines n (ap is_section said ∙ section))
 
 -- the section of a line behind a beginning
@@ -236,21 +231,18 @@ current-begun lines n word said = rw said (rw said refl)
 step-section : (lines : List (List ℕ)) (n : ℕ) (word : List ℕ) (device : Option DeviceName) → said_at lines n ≡ Section word → device_named word ≡ device
     → section_cause lines n device ≡ None → reader_before lines (suc n) ≡ begun_with (reader_before lines n) device
 step-section lines n word None said named none = absurd cc
-step-section lines n word (Some K1) said named none =
-    let in_line : device_in (said_at lines n) ≡ Some K1 = ap device_in said ∙ named in
+step-section lines n word (Some device) said named none =
+    let in_line : device_in (said_at lines n) ≡ Some device = ap device_in said ∙ named in
     let nothing : (d : DeviceName) → GivesNothing lines n d = λ d. nothing-without lines n d (Section word) said (λ field. refl) (λ field. refl) in
-    reader-of (part_before lines (suc n) K1) (record (part_before lines n K1) { begun = true }) (part_before lines (suc n) K8) (part_before lines n K8)
-    (section_before lines (suc n)) (Some K1)
-    (part-begun lines n K1 (nothing K1) (ap (is_device K1) in_line))
-    (part-kept lines n K8 (nothing K8) (ap (is_device K8) in_line))
-    (current-begun lines n word said ∙ named)
-step-section lines n word (Some K8) said named none =
-    let in_line : device_in (said_at lines n) ≡ Some K8 = ap device_in said ∙ named in
-    let nothing : (d : DeviceName) → GivesNothing lines n d = λ d. nothing-without lines n d (Section word) said (λ field. refl) (λ field. refl) in
-    reader-of (part_before lines (suc n) K1) (part_before lines n K1) (part_before lines (suc n) K8) (record (part_before lines n K8) { begun = true })
-    (section_before lines (suc n)) (Some K8)
-    (part-kept lines n K1 (nothing K1) (ap (is_device K1) in_line))
-    (part-begun lines n K8 (nothing K8) (ap (is_device K8) in_line))
+    let before = part_before lines n in
+    let current = section_before lines n in
+    let begins : part_before lines (suc n) device ≡ record (section_for (reader_of before current) device) { begun = true } =
+    part-begun lines n device (nothing device) (ap (is_device device) in_line ∙ same-device device)
+    ∙ ap (λ (part : Part). record part { begun = true }) (sym (section-of before current device)) in
+    ap (λ (reader : Reader). record reader { current = section_before lines (suc n) })
+    (other-section before (part_before lines (suc n)) current current device (record (section_for (reader_of before current) device) { begun = true }) begins
+    (λ other differs. part-kept lines n other (nothing other) (ap (is_device other) in_line ∙ differs)) refl)
+    ∙ ap (λ (now : Option DeviceName). record (with_section (reader_of before current) device (record (section_for (reader_of before current) device) { begun = true })) { current = now })
     (current-begun lines n word said ∙ named)
 
 -- numbers whose field was given are refused
@@ -267,19 +259,15 @@ step-list : (lines : List (List ℕ)) (n : ℕ) (device : Option DeviceName) (fi
     → section_before lines n ≡ device → list_cause lines n device field numbers ≡ None
     → reader_before lines (suc n) ≡ with_list_at (reader_before lines n) device field numbers
 step-list lines n None field numbers said current none = absurd cc
-step-list lines n (Some K1) field numbers said current none =
-    let begun : is_device K8 (device_in (said_at lines n)) ≡ false = rw said refl in
-    reader-of (part_before lines (suc n) K1) (with_numbers (part_before lines n K1) field numbers) (part_before lines (suc n) K8) (part_before lines n K8)
-    (section_before lines (suc n)) (section_before lines n)
-    (part-numbers lines n K1 field numbers said (ap (is_device K1) current) (not-given lines n K1 field numbers none))
-    (part-kept lines n K8 (nothing-elsewhere lines n K8 (ap (is_device K8) current)) begun)
-    (current-kept lines n (ap is_section said))
-step-list lines n (Some K8) field numbers said current none =
-    let begun : is_device K1 (device_in (said_at lines n)) ≡ false = rw said refl in
-    reader-of (part_before lines (suc n) K1) (part_before lines n K1) (part_before lines (suc n) K8) (with_numbers (part_before lines n K8) field numbers)
-    (section_before lines (suc n)) (section_before lines n)
-    (part-kept lines n K1 (nothing-elsewhere lines n K1 (ap (is_device K1) current)) begun)
-    (part-numbers lines n K8 field numbers said (ap (is_device K8) current) (not-given lines n K8 field numbers none))
+step-list lines n (Some device) field numbers said current none =
+    let before = part_before lines n in
+    let reader = reader_before lines n in
+    let here : is_device device (section_before lines n) ≡ true = ap (is_device device) current ∙ same-device device in
+    let takes : part_before lines (suc n) device ≡ with_numbers (section_for reader device) field numbers =
+    part-numbers lines n device field numbers said here (not-given lines n device field numbers none)
+    ∙ ap (λ (part : Part). with_numbers part field numbers) (sym (section-of before (section_before lines n) device)) in
+    other-section before (part_before lines (suc n)) (section_before lines n) (section_before lines (suc n)) device (with_numbers (section_for reader device) field numbers) takes
+    (λ other differs. part-kept lines n other (nothing-elsewhere lines n other (ap (is_device other) current ∙ differs)) (rw said refl))
     (current-kept lines n (ap is_section said))
 
 not-given_flag : (lines : List (List ℕ)) (n : ℕ) (device : DeviceName) (field : Flag)
@@ -291,19 +279,15 @@ step-flag : (lines : List (List ℕ)) (n : ℕ) (device : Option DeviceName) (fi
     → section_before lines n ≡ device → flag_cause lines n device field ≡ None
     → reader_before lines (suc n) ≡ with_flag_at (reader_before lines n) device field value
 step-flag lines n None field value said current none = absurd cc
-step-flag lines n (Some K1) field value said current none =
-    let begun : is_device K8 (device_in (said_at lines n)) ≡ false = rw said refl in
-    reader-of (part_before lines (suc n) K1) (with_flag (part_before lines n K1) field value) (part_before lines (suc n) K8) (part_before lines n K8)
-    (section_before lines (suc n)) (section_before lines n)
-    (part-flag lines n K1 field value said (ap (is_device K1) current) (not-given_flag lines n K1 field none))
-    (part-kept lines n K8 (nothing-elsewhere lines n K8 (ap (is_device K8) current)) begun)
-    (current-kept lines n (ap is_section said))
-step-flag lines n (Some K8) field value said current none =
-    let begun : is_device K1 (device_in (said_at lines n)) ≡ false = rw said refl in
-    reader-of (part_before lines (suc n) K1) (part_before lines n K1) (part_before lines (suc n) K8) (with_flag (part_before lines n K8) field value)
-    (section_before lines (suc n)) (section_before lines n)
-    (part-kept lines n K1 (nothing-elsewhere lines n K1 (ap (is_device K1) current)) begun)
-    (part-flag lines n K8 field value said (ap (is_device K8) current) (not-given_flag lines n K8 field none))
+step-flag lines n (Some device) field value said current none =
+    let before = part_before lines n in
+    let reader = reader_before lines n in
+    let here : is_device device (section_before lines n) ≡ true = ap (is_device device) current ∙ same-device device in
+    let takes : part_before lines (suc n) device ≡ with_flag (section_for reader device) field value =
+    part-flag lines n device field value said here (not-given_flag lines n device field none)
+    ∙ ap (λ (part : Part). with_flag part field value) (sym (section-of before (section_before lines n) device)) in
+    other-section before (part_before lines (suc n)) (section_before lines n) (section_before lines (suc n)) device (with_flag (section_for reader device) field value) takes
+    (λ other differs. part-kept lines n other (nothing-elsewhere lines n other (ap (is_device other) current ∙ differs)) (rw said refl))
     (current-kept lines n (ap is_section said))
 
 -- what the reader keeps behind a line that isn't faulty

@@ -1,5 +1,7 @@
 -- what is known of numbers that aren't refused
 pub mod AcceptedNumbers
+-- layouts by their devices
+pub mod ByDevice
 -- the lines of a text, read one after the other, and the first that is faulty
 pub mod Ends
 -- what the reader keeps behind a line

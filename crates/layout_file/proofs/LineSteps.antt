@@ -5,19 +5,21 @@ use Rattle.std.proofs.Math.Bool.{or-false, or-true}
 use Rattle.place_search.specs.Places.{any_below, first_below, last_below, or_else}
 use Rattle.place_search.proofs.Places.{or_else-none}
 use Rattle.plane_map.specs.declared.device.DeviceName.{DeviceName}
-use Rattle.plane_map.specs.declared.device.DeviceName.TheVariants.{K1, K8}
+use Rattle.plane_map.specs.declared.device.DeviceName.TheVariants.{L384, K1, K8}
+use Rattle.plane_map.specs.Devices.{is_same_device}
 use Rattle.plane_map.specs.DeviceWords.{device_named}
 use Rattle.layout_file.specs.declared.field.Numbers.{Numbers}
 use Rattle.layout_file.specs.declared.field.Numbers.TheVariants.{Widths, SideColumns, PadColumns, PadRows, Banks}
 use Rattle.layout_file.specs.declared.field.Flag.{Flag}
 use Rattle.layout_file.specs.declared.field.Flag.TheVariants.{Mirror, Flip, PadMirror, RamFlip}
+use Rattle.layout_file.specs.declared.fault.LayoutCause.TheVariants.{Repeated}
 use Rattle.layout_file.specs.declared.section.Given.{Given}
 use Rattle.layout_file.specs.declared.section.Section.{Section as Part}
 use Rattle.layout_file.specs.declared.reader.Reader.{Reader}
 use Rattle.layout_file.specs.Lines.{Line, Passed, Section, List_of, Flag_of, Unknown}
-use Rattle.layout_file.specs.Faults.{said_at, is_section, device_in, section_before, has_section, is_device, numbers_in, flag_in, numbers_given, flag_given, numbers_before, flag_before, cause_of, section_cause, list_cause, flag_cause}
+use Rattle.layout_file.specs.Faults.{said_at, is_section, device_in, section_before, has_section, is_device, numbers_in, flag_in, numbers_given, flag_given, numbers_before, flag_before, cause_if, cause_of, section_cause, list_cause, flag_cause}
 use Rattle.layout_file.specs.Layouts.{layout_before}
-use Rattle.layout_file.specs.inside.Reading.{begin_refusal, flag_refusal_at, has_flag, has_numbers, list_refusal_at, refusal, unread}
+use Rattle.layout_file.specs.inside.Reading.{begin_refusal, flag_refusal, flag_refusal_at, has_flag, has_numbers, list_refusal_at, numbers_refusal, reader_of, refusal, section_for, unread, with_section}
 
 -- ---- what is kept before a line
 
@@ -38,12 +40,33 @@ abbrev pub part_before : List (List ℕ) → ℕ → DeviceName → Part
 part_before lines n device = record { layout = layout_before lines n device; begun = has_section lines n device; given = given_before lines n device }
 
 abbrev pub reader_before : List (List ℕ) → ℕ → Reader
-reader_before lines n = record { k1 = part_before lines n K1; k8 = part_before lines n K8; current = section_before lines n }
+reader_before lines n = reader_of (part_before lines n) (section_before lines n)
 
 -- before the first line
 pub reader-first : (lines : List (List ℕ)) → reader_before lines 0 ≡ unread
 unfolding section_before has_section numbers_before flag_before any_below first_below last_below
 reader-first lines = refl
+
+-- ---- the sections of a reader
+
+-- that of a device
+pub section-of : (section : DeviceName → Part) (current : Option DeviceName) (device : DeviceName) → section_for (reader_of section current) device ≡ section device
+section-of section current L384 = refl
+section-of section current K1 = refl
+section-of section current K8 = refl
+
+-- readers with the same sections
+pub same-sections : (before after : DeviceName → Part) (current now : Option DeviceName)
+    → ((device : DeviceName) → after device ≡ before device) → now ≡ current → reader_of after now ≡ reader_of before current
+same-sections before after current now kept is = rw (kept L384, kept K1, kept K8, is) refl
+
+-- readers whose sections differ at one device
+pub other-section : (before after : DeviceName → Part) (current now : Option DeviceName) (device : DeviceName) (part : Part)
+    → after device ≡ part → ((other : DeviceName) → is_same_device other device ≡ false → after other ≡ before other) → now ≡ current
+    → reader_of after now ≡ with_section (reader_of before current) device part
+other-section before after current now L384 part here kept is = rw (here, kept K1 refl, kept K8 refl, is) refl
+other-section before after current now K1 part here kept is = rw (here, kept L384 refl, kept K8 refl, is) refl
+other-section before after current now K8 part here kept is = rw (here, kept L384 refl, kept K1 refl, is) refl
 
 -- ---- a refusal is the cause of the line
 
@@ -64,20 +87,21 @@ flag-known lines n device RamFlip = refl
 
 refusal-section : (lines : List (List ℕ)) (n : ℕ) (device : Option DeviceName) → begin_refusal (reader_before lines n) device ≡ section_cause lines n device
 refusal-section lines n None = refl
-refusal-section lines n (Some K1) = refl
-refusal-section lines n (Some K8) = refl
+refusal-section lines n (Some device) = ap (λ (part : Part). cause_if part.begun Repeated) (section-of (part_before lines n) (section_before lines n) device)
 
 refusal-list : (lines : List (List ℕ)) (n : ℕ) (device : Option DeviceName) (field : Numbers) (numbers : List ℕ)
     → list_refusal_at (reader_before lines n) device field numbers ≡ list_cause lines n device field numbers
 refusal-list lines n None field numbers = refl
-refusal-list lines n (Some K1) field numbers = rw (numbers-known lines n K1 field) refl
-refusal-list lines n (Some K8) field numbers = rw (numbers-known lines n K8 field) refl
+refusal-list lines n (Some device) field numbers =
+    ap (λ (part : Part). numbers_refusal part field numbers) (section-of (part_before lines n) (section_before lines n) device)
+    ∙ rw (numbers-known lines n device field) refl
 
 refusal-flag : (lines : List (List ℕ)) (n : ℕ) (device : Option DeviceName) (field : Flag)
     → flag_refusal_at (reader_before lines n) device field ≡ flag_cause lines n device field
 refusal-flag lines n None field = refl
-refusal-flag lines n (Some K1) field = rw (flag-known lines n K1 field) refl
-refusal-flag lines n (Some K8) field = rw (flag-known lines n K8 field) refl
+refusal-flag lines n (Some device) field =
+    ap (λ (part : Part). flag_refusal part field) (section-of (part_before lines n) (section_before lines n) device)
+    ∙ rw (flag-known lines n device field) refl
 
 pub refusal-is : (lines : List (List ℕ)) (n : ℕ) (line : Line) → refusal (reader_before lines n) line ≡ cause_of lines n line
 refusal-is lines n Passed = refl
@@ -164,10 +188,3 @@ nothing-without lines n device line said numbers flags = record {
   numbers = λ field. if-none (is_device device (section_before lines n)) (numbers_in field (said_at lines n)) (ap (numbers_in field) said ∙ numbers field);
   flags = λ field. if-none (is_device device (section_before lines n)) (flag_in field (said_at lines n)) (ap (flag_in field) said ∙ flags field);
 }
-
-abbrev pub reader_with : Part → Part → Option DeviceName → Reader
-reader_with k1 k8 current = record { k1 = k1; k8 = k8; current = current }
-
-pub reader-of : (k1 now1 k8 now8 : Part) (current now : Option DeviceName) → k1 ≡ now1 → k8 ≡ now8 → current ≡ now
-    → reader_with k1 k8 current ≡ reader_with now1 now8 now
-reader-of k1 now1 k8 now8 current now first second third = rw (first, second, third) refl

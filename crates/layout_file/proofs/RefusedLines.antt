@@ -3,7 +3,7 @@ use Rattle.std.proofs.Common.{◌≡◌, ℕ, ◌<◌, ◌≤◌, true, false, L
 use Rattle.std.specs.Prelude.{Option, Some, None, nat_lt, ◌==◌}
 use Rattle.std.proofs.lemmas.Bool.{ltb-true, ne_eqb}
 use Rattle.plane_map.specs.declared.device.DeviceName.{DeviceName}
-use Rattle.plane_map.specs.declared.device.DeviceName.TheVariants.{K1, K8}
+use Rattle.plane_map.specs.declared.device.DeviceName.TheVariants.{L384, K1, K8}
 use Rattle.layout_file.specs.declared.field.Numbers.{Numbers}
 use Rattle.layout_file.specs.declared.field.Numbers.TheVariants.{Widths, SideColumns, PadColumns, PadRows, Banks}
 use Rattle.layout_file.specs.declared.fault.LayoutCause.TheVariants.{Statement}
@@ -11,10 +11,11 @@ use Rattle.layout_file.specs.declared.section.Section.{Section as Part}
 use Rattle.layout_file.specs.declared.reader.Reader.{Reader}
 use Rattle.layout_file.specs.Lines.{Line, Passed, Section, List_of, Flag_of, Unknown}
 use Rattle.layout_file.specs.Faults.{count_of}
-use Rattle.layout_file.specs.inside.Reading.{is_refused_always, list_refusal_at, numbers_refusal, refusal}
+use Rattle.layout_file.specs.inside.Reading.{is_refused_always, list_refusal_at, numbers_refusal, refusal, section_for}
 
 -- no field has more than 18 numbers
 few : (device : DeviceName) (field : Numbers) → count_of device field ≤ 18
+few L384 Widths = omega arith
 few K1 Widths = omega arith
 few K8 Widths = omega arith
 few device SideColumns = omega arith
@@ -31,8 +32,7 @@ too-many section field numbers many =
 too-many-at : (reader : Reader) (device : Option DeviceName) (field : Numbers) (numbers : List ℕ) → nat_lt 18 (length numbers) ≡ true
     → list_refusal_at reader device field numbers ≡ Some Statement
 too-many-at reader None field numbers many = refl
-too-many-at reader (Some K1) field numbers many = too-many reader.k1 field numbers many
-too-many-at reader (Some K8) field numbers many = too-many reader.k8 field numbers many
+too-many-at reader (Some device) field numbers many = too-many (section_for reader device) field numbers many
 
 -- each reader refuses them
 pub refused-as-none : (reader : Reader) (line : Line) → is_refused_always line ≡ true → refusal reader line ≡ Some Statement

@@ -5,7 +5,7 @@ use Rattle.text_lines.specs.Lines.{lines_of, trimmed}
 use Rattle.text_lines.specs.Words.{words_of, pieces_of, numbers_of, number_of}
 use Rattle.place_search.specs.Places.{any_below, first_below, last_below}
 use Rattle.plane_map.specs.Layout.{start_in, standard_layout}
-use Rattle.plane_map.specs.declared.device.DeviceName.TheVariants.{K1, K8}
+use Rattle.plane_map.specs.declared.device.DeviceName.TheVariants.{L384, K1, K8}
 use Rattle.layout_file.specs.declared.fault.LayoutFault.{LayoutFault}
 use Rattle.layout_file.specs.declared.fault.LayoutCause.{LayoutCause}
 use Rattle.layout_file.specs.declared.fault.LayoutCause.TheVariants.{Statement, Device, Repeated, Width, Place}
@@ -60,6 +60,23 @@ other_count : layout_fault_of (codes ".layout 8k\nwidths 18 54 54 42 54 54 54\n"
 unfolding layout_fault_of lines_of line_of without_blanks trimmed words_of pieces_of numbers_of number_of section_before has_section numbers_before flag_before any_below first_below last_below start_in
 other_count = refl
 
+-- widths of the smallest device: too few, too narrow, too many columns of bits, and a second section
+small_count : layout_fault_of (codes ".layout 384\nwidths 18 54 54 42 54 54 54\n") ≡ fault 2 Statement
+unfolding layout_fault_of lines_of line_of without_blanks trimmed words_of pieces_of numbers_of number_of section_before has_section numbers_before flag_before any_below first_below last_below start_in
+small_count = refl
+
+small_narrow : layout_fault_of (codes ".layout 384\nwidths 18 54 54 53\n") ≡ fault 2 Width
+unfolding layout_fault_of lines_of line_of without_blanks trimmed words_of pieces_of numbers_of number_of section_before has_section numbers_before flag_before any_below first_below last_below start_in
+small_narrow = refl
+
+small_wide : layout_fault_of (codes ".layout 384\nwidths 18 54 54 57\n") ≡ fault 2 Width
+unfolding layout_fault_of lines_of line_of without_blanks trimmed words_of pieces_of numbers_of number_of section_before has_section numbers_before flag_before any_below first_below last_below start_in
+small_wide = refl
+
+small_twice : layout_fault_of (codes ".layout 384\n.layout 1k\n.layout 384\n") ≡ fault 3 Repeated
+unfolding layout_fault_of lines_of line_of without_blanks trimmed words_of pieces_of numbers_of number_of section_before has_section numbers_before flag_before any_below first_below last_below start_in
+small_twice = refl
+
 -- lines with `#` and lines without a word are passed over, and count
 passed_over : layout_fault_of (codes "# a\n \t\n\n.layout 1k\n#\nbanks\n") ≡ fault 6 Statement
 unfolding layout_fault_of lines_of line_of without_blanks trimmed words_of pieces_of numbers_of number_of section_before has_section numbers_before flag_before any_below first_below last_below start_in
@@ -87,13 +104,13 @@ other_word = refl
 
 -- the layout of the other device stays the standard one
 flags : layouts_in (codes ".layout 8k\npadmirror yes\nramflip no\n")
-    ≡ record { k1 = standard_layout K1; k8 = record (standard_layout K8) { pad_mirror = true; ram_flip = false } }
+    ≡ record { k384 = standard_layout L384; k1 = standard_layout K1; k8 = record (standard_layout K8) { pad_mirror = true; ram_flip = false } }
 unfolding layouts_in lines_of line_of without_blanks trimmed words_of pieces_of numbers_of number_of section_before numbers_before flag_before first_below last_below
 flags = refl
 
 -- blanks before the first word and at the end of a line carry nothing
 blanks : layouts_in (codes " .layout 1k \n\tbanks  3 2 1 0\t\n.layout 8k\nmirror no")
-    ≡ record { k1 = record (standard_layout K1) { banks = 3 ∷ 2 ∷ 1 ∷ 0 ∷ [] }; k8 = record (standard_layout K8) { mirror = false } }
+    ≡ record { k384 = standard_layout L384; k1 = record (standard_layout K1) { banks = 3 ∷ 2 ∷ 1 ∷ 0 ∷ [] }; k8 = record (standard_layout K8) { mirror = false } }
 unfolding layouts_in lines_of line_of without_blanks trimmed words_of pieces_of numbers_of number_of section_before numbers_before flag_before first_below last_below
 blanks = refl
 
@@ -101,9 +118,15 @@ blanks_fine : layout_fault_of (codes " .layout 1k \n\tbanks  3 2 1 0\t\n.layout 
 unfolding layout_fault_of lines_of line_of without_blanks trimmed words_of pieces_of numbers_of number_of section_before has_section numbers_before flag_before any_below first_below last_below start_in
 blanks_fine = refl
 
+-- the smallest device alone
+small : layouts_in (codes ".layout 384\nwidths 20 54 54 54\npadmirror yes\n")
+    ≡ record { k384 = record (standard_layout L384) { widths = 20 ∷ 54 ∷ 54 ∷ 54 ∷ []; pad_mirror = true }; k1 = standard_layout K1; k8 = standard_layout K8 }
+unfolding layouts_in lines_of line_of without_blanks trimmed words_of pieces_of numbers_of number_of section_before numbers_before flag_before first_below last_below
+small = refl
+
 -- widths that leave columns over
 widths : layouts_in (codes ".layout 1k\nwidths 20 54 54 42 54 54 54")
-    ≡ record { k1 = record (standard_layout K1) { widths = 20 ∷ 54 ∷ 54 ∷ 42 ∷ 54 ∷ 54 ∷ 54 ∷ [] }; k8 = standard_layout K8 }
+    ≡ record { k384 = standard_layout L384; k1 = record (standard_layout K1) { widths = 20 ∷ 54 ∷ 54 ∷ 42 ∷ 54 ∷ 54 ∷ 54 ∷ [] }; k8 = standard_layout K8 }
 unfolding layouts_in lines_of line_of without_blanks trimmed words_of pieces_of numbers_of number_of section_before numbers_before flag_before first_below last_below
 widths = refl
 

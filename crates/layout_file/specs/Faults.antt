@@ -3,7 +3,7 @@ use Rattle.std.specs.Prelude.{ℕ, ◌+◌, Bool, true, false, not, List, length
 use Rattle.text_lines.specs.Lines.{lines_of, line_at}
 use Rattle.place_search.specs.Places.{any_below, last_below, first_below, or_else}
 use Rattle.plane_map.specs.declared.device.DeviceName.{DeviceName}
-use Rattle.plane_map.specs.declared.device.DeviceName.TheVariants.{K1, K8}
+use Rattle.plane_map.specs.Devices.{is_same_device}
 use Rattle.plane_map.specs.DeviceWords.{device_named}
 use Rattle.plane_map.specs.Layout.{half_width, are_widths, are_places}
 use Rattle.layout_file.specs.declared.field.Numbers.{Numbers}
@@ -42,9 +42,8 @@ section_before lines n = device_at lines (last_below n (λ k. is_section (said_a
 
 -- whether a device, where there is one, is that device
 abbrev pub is_device : DeviceName → Option DeviceName → Bool
-is_device K1 (Some K1) = true
-is_device K8 (Some K8) = true
-is_device device other = false
+is_device device None = false
+is_device device (Some other) = is_same_device device other
 
 -- whether a section of the device begins before a line
 unfoldable pub has_section : List (List ℕ) → ℕ → DeviceName → Bool

@@ -1,23 +1,27 @@
--- The layouts of both devices, and those that a layout file gives.
+-- The layouts of the devices, and those that a layout file gives.
 use Rattle.std.specs.Prelude.{◌≡◌, ℕ, true, false, List, length, unwrap_or}
 use Rattle.text_lines.specs.Lines.{lines_of}
 use Rattle.plane_map.specs.declared.device.DeviceName.{DeviceName}
-use Rattle.plane_map.specs.declared.device.DeviceName.TheVariants.{K1, K8}
+use Rattle.plane_map.specs.declared.device.DeviceName.TheVariants.{L384, K1, K8}
 use Rattle.plane_map.specs.Layout.{Layout, standard_layout, standard_widths, standard_side_columns, standard_pad_columns, standard_pad_rows, standard_banks}
 use Rattle.layout_file.specs.declared.field.Numbers.TheVariants.{Widths, SideColumns, PadColumns, PadRows, Banks}
 use Rattle.layout_file.specs.declared.field.Flag.TheVariants.{Mirror, Flip, PadMirror, RamFlip}
 use Rattle.layout_file.specs.declared.layouts.Layouts.{Layouts}
 use Rattle.layout_file.specs.Faults.{numbers_before, flag_before}
 
--- each layout is one of the device that it is named for
-pub record AreLayouts (layouts : Layouts) : Type 0 where
-  pub k1 : layouts.k1.device ≡ K1
-  pub k8 : layouts.k8.device ≡ K8
-
 -- the layout of a device
 abbrev pub layout_for : Layouts → DeviceName → Layout
+layout_for layouts L384 = layouts.k384
 layout_for layouts K1 = layouts.k1
 layout_for layouts K8 = layouts.k8
+
+-- a layout of each device
+abbrev pub layouts_by : (DeviceName → Layout) → Layouts
+layouts_by layout = record { k384 = layout L384; k1 = layout K1; k8 = layout K8 }
+
+-- each layout is one of the device that it is named for
+abbrev pub AreLayouts : Layouts → Type 0
+AreLayouts layouts = (device : DeviceName) → (layout_for layouts device).device ≡ device
 
 -- the layouts give this layout for its device
 abbrev pub HasLayout : Layouts → Layout → Type 0
@@ -25,7 +29,7 @@ HasLayout layouts layout = layout_for layouts layout.device ≡ layout
 
 -- the layouts where no others are given
 abbrev pub standard_layouts : Layouts
-standard_layouts = record { k1 = standard_layout K1; k8 = standard_layout K8 }
+standard_layouts = layouts_by standard_layout
 
 -- the layout of a device that the lines before a line give; what isn't given is standard
 abbrev pub layout_before : List (List ℕ) → ℕ → DeviceName → Layout
@@ -44,5 +48,4 @@ layout_before lines n device = record {
 
 -- the layouts that a layout file without a faulty line gives
 unfoldable pub layouts_in : List ℕ → Layouts
-layouts_in bytes =
-    let lines = lines_of bytes in record { k1 = layout_before lines (length lines) K1; k8 = layout_before lines (length lines) K8 }
+layouts_in bytes = let lines = lines_of bytes in layouts_by (layout_before lines (length lines))

@@ -41,10 +41,7 @@ pub(crate) fn numbers_cause(
 fn half_width(device: DeviceName) -> usize
     ensures { result ≡ half_width device }
 {
-    match device {
-        DeviceName::K1 => 7,
-        DeviceName::K8 => 17,
-    }
+    device.columns() as usize / 2
 }
 
 /// How many columns of bits a column of tiles needs at least, by how far it is from the side edge.
@@ -52,6 +49,7 @@ fn least_width(device: DeviceName, column: usize) -> u32
     ensures { result ≡ least_width device column }
 {
     let ram_column = match device {
+        DeviceName::L384 => 0,
         DeviceName::K1 => 3,
         DeviceName::K8 => 8,
     };

@@ -6,7 +6,7 @@ pub enum LayoutCause {
     /// It isn't a line of a layout file: another word at its beginning, another number of words, a word that isn't a decimal
     /// number, or another word than `yes` or `no`. Or it stands before the first `.layout`.
     Statement = 1,
-    /// A section of a device that isn't `1k` or `8k`.
+    /// A section of a device that isn't `384`, `1k` or `8k`.
     Device = 2,
     /// A second section of a device, or a second line of one field in a section.
     Repeated = 3,

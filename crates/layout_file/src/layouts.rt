@@ -1,4 +1,4 @@
-// The layouts of both devices.
+// The layouts of the devices.
 ghost use Rattle.std.specs.Prelude.{◌≡◌, Some, None, IfOk, IfErr};
 ghost use Rattle.layout_file.specs.Layouts.{standard_layouts, layouts_in, layout_for, AreLayouts};
 ghost use Rattle.layout_file.specs.Faults.{layout_fault_of};
@@ -11,6 +11,7 @@ use text_lines::first_line;
 /// A layout of each device.
 #[derive(Clone, Copy)]
 pub struct Layouts {
+    pub k384: Layout,
     pub k1: Layout,
     pub k8: Layout,
 }
@@ -18,9 +19,11 @@ pub struct Layouts {
 impl Layouts {
     /// The layouts where no others are given.
     pub fn standard() -> Layouts
-        ensures { result ≡ standard_layouts }
+        ensures layouts { result ≡ standard_layouts }
+        ensures devices { AreLayouts result }
     {
         Layouts {
+            k384: Layout::standard(DeviceName::L384),
             k1: Layout::standard(DeviceName::K1),
             k8: Layout::standard(DeviceName::K8),
         }
@@ -28,10 +31,10 @@ impl Layouts {
 
     /// The layouts that a layout file gives, or its first faulty line.
     ///
-    /// A section begins with `.layout 1k` or `.layout 8k`. Its lines, each at most once, are `widths` with 7 or 17 numbers,
-    /// `sidecols` with 18, `iocols` with 18, `iorows` with 16, `banks` with 4, and `mirror`, `flip`, `padmirror` and
-    /// `ramflip` with `yes` or `no`. What isn't given is standard. Spaces part words. Lines that begin with `#`, and lines
-    /// with no word, are passed over.
+    /// A section begins with `.layout 384`, `.layout 1k` or `.layout 8k`. Its lines, each at most once, are `widths` with 4, 7
+    /// or 17 numbers, `sidecols` with 18, `iocols` with 18, `iorows` with 16, `banks` with 4, and `mirror`, `flip`,
+    /// `padmirror` and `ramflip` with `yes` or `no`. What isn't given is standard. Spaces part words. Lines that begin with
+    /// `#`, and lines with no word, are passed over.
     pub fn read(bytes: &[u8]) -> Result<Layouts, LayoutFault>
         ensures layouts { IfOk result (λ layouts. layouts ≡ layouts_in bytes.now) }
         ensures devices { IfOk result AreLayouts }
@@ -54,6 +57,7 @@ impl Layouts {
         ensures { result ≡ layout_for self.now device }
     {
         match device {
+            DeviceName::L384 => self.k384,
             DeviceName::K1 => self.k1,
             DeviceName::K8 => self.k8,
         }

@@ -1,7 +1,10 @@
 // A layout file read line by line.
 ghost use Rattle.std.specs.Prelude.{◌≡◌, None, Some, IfOk, IfErr, OnOk};
 ghost use Rattle.layout_file.specs.Lines.{line_of};
-ghost use Rattle.layout_file.specs.inside.Reading.{begin_refusal, begun_with, flag_refusal_in, layouts_of, list_refusal, refusal, taken, unread, with_flag_in, with_list};
+ghost use Rattle.layout_file.specs.inside.Reading.{begin_refusal, begun_with, flag_refusal_in, layouts_of, list_refusal, refusal, section_for, taken, unread, with_flag_in, with_list, with_section};
+ghost use Rattle.std.specs.Borrow.{Lends, sem};
+ghost use Rattle.layout_file.specs.contracts.reader.Reader.{the_row};
+ghost use Rattle.layout_file.specs.contracts.section.Section.{the_row as section_row};
 
 use crate::fault::LayoutCause;
 use crate::field::{Flag, Numbers};
@@ -13,6 +16,7 @@ use plane_map::DeviceName;
 /// What the lines so far have given.
 #[derive(Drop)]
 pub(crate) struct Reader {
+    k384: Section,
     k1: Section,
     k8: Section,
     /// The device of the section in which the next line stands.
@@ -25,9 +29,22 @@ impl Reader {
         ensures { result ≡ unread }
     {
         Reader {
+            k384: Section::unread(DeviceName::L384),
             k1: Section::unread(DeviceName::K1),
             k8: Section::unread(DeviceName::K8),
             current: None,
+        }
+    }
+
+    /// The section of a device.
+    fn section_mut(&mut self, device: DeviceName) -> &mut Section
+        ensures* writes_back { sem 𝓛 (Lends the_row section_row self.entry result (λ section. with_section self.old device section)) }
+        ensures section { result.now ≡ section_for self.old device }
+    {
+        match device {
+            DeviceName::L384 => &mut self.k384,
+            DeviceName::K1 => &mut self.k1,
+            DeviceName::K8 => &mut self.k8,
         }
     }
 
@@ -52,11 +69,10 @@ impl Reader {
         ensures fits { OnOk result (begin_refusal self.old device ≡ None) }
         ensures refused { IfErr result (λ cause. begin_refusal self.old device ≡ Some cause) }
     {
-        match device {
-            None => return Err(LayoutCause::Device),
-            Some(DeviceName::K1) => self.k1.begin()?,
-            Some(DeviceName::K8) => self.k8.begin()?,
-        }
+        let Some(name) = device else {
+            return Err(LayoutCause::Device);
+        };
+        self.section_mut(name).begin()?;
         self.current = device;
         Ok(())
     }
@@ -69,8 +85,7 @@ impl Reader {
     {
         match self.current {
             None => Err(LayoutCause::Statement),
-            Some(DeviceName::K1) => self.k1.accept_numbers(field, numbers),
-            Some(DeviceName::K8) => self.k8.accept_numbers(field, numbers),
+            Some(device) => self.section_mut(device).accept_numbers(field, numbers),
         }
     }
 
@@ -82,8 +97,7 @@ impl Reader {
     {
         match self.current {
             None => Err(LayoutCause::Statement),
-            Some(DeviceName::K1) => self.k1.accept_flag(field, value),
-            Some(DeviceName::K8) => self.k8.accept_flag(field, value),
+            Some(device) => self.section_mut(device).accept_flag(field, value),
         }
     }
 
@@ -92,6 +106,7 @@ impl Reader {
         ensures { result ≡ layouts_of self.now }
     {
         Layouts {
+            k384: self.k384.layout,
             k1: self.k1.layout,
             k8: self.k8.layout,
         }

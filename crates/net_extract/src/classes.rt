@@ -83,7 +83,11 @@ fn all_nets(alloc: Global, nets: u32) -> Result<Vec<u32>, AllocError>
     ensures length { IfOk result (λ all. length all.items ≡ nets) }
     ensures apart { IfOk result (λ all. (net : ℕ) → net < nets → slice_index all.items net ≡ net) }
 {
-    (0..nets).collect(alloc)
+    let mut all = Vec::with_capacity(alloc, nets as usize)?;
+    for net in 0..nets {
+        all.push(net)?;
+    }
+    Ok(all)
 }
 
 /// The class of each net, where the two nets of each link are joined.

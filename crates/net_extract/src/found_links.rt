@@ -22,7 +22,7 @@ pub fn links(alloc: Global, db: &ChipDb, image: &AnyImage) -> Result<Links, Link
     ensures taken { OnOk result (db.now.chip.device ≡ (configuration_of image.now).layout.device) }
     ensures refused { IfErr result (λ fault. (fault ≡ LinkFault.Device) ↔ ¬ (db.now.chip.device ≡ (configuration_of image.now).layout.device)) }
 {
-    if db.device() == image.device() {
+    if db.device().is_same(image.device()) {
         Ok(found(alloc, db, image)?)
     } else {
         Err(LinkFault::Device)
@@ -51,5 +51,9 @@ fn found(alloc: Global, db: &ChipDb, image: &AnyImage) -> Result<Links, AllocErr
 fn places(alloc: Global, links: &[OnLink]) -> Result<Vec<u32>, AllocError>
     ensures { IfOk result (λ places. places.items ≡ map (λ link. link.place) links.now) }
 {
-    links.iter().map(|link| link.place).collect(alloc)
+    let mut places = Vec::with_capacity(alloc, links.len())?;
+    for link in links {
+        places.push(link.place)?;
+    }
+    Ok(places)
 }

@@ -1,4 +1,6 @@
 // Pins and global nets.
+ghost use Rattle.std.specs.Prelude.{◌≡◌};
+ghost use Rattle.net_extract.specs.Pins.{is_registered};
 
 /// How a pin has its value, or gives it.
 #[derive(Clone, Copy, Debug, PartialEq, Eq)]
@@ -28,6 +30,18 @@ pub struct Pin {
     pub dout: Option<u32>,
     /// `io_n/OUT_ENB`, which switches on a tri-state pin.
     pub enable: Option<u32>,
+}
+
+impl Pin {
+    /// Whether it has a register.
+    pub fn is_registered(self) -> bool
+        ensures { result ≡ is_registered self }
+    {
+        match self.kind {
+            PinKind::Registered => true,
+            PinKind::Plain | PinKind::TriState => false,
+        }
+    }
 }
 
 /// A net of the global `g`, and what gives the global its value.

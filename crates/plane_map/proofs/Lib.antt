@@ -4,7 +4,7 @@ pub mod Devices
 pub mod Entries
 -- how large a grid of tiles is, which places are in it, and how many columns of bits a tile has
 pub mod Grids
--- what the tests of a layout say, and what the grids of both devices have
+-- what the tests of a layout say, and what the grids of the devices have
 pub mod Layouts
 -- bits of a tile as places within its column and its row of tiles, over any lists of the io tiles' columns and rows and any
 -- widths, so long as the tests of the lists pass

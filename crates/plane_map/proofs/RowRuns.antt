@@ -3,7 +3,7 @@ use Rattle.std.proofs.Common.{◌≡◌, ℕ, ◌+◌, ◌-◌, ◌*◌, ◌/◌
 use Rattle.std.proofs.lemmas.Bool.Decides.{nat_tests}
 use Rattle.std.specs.Prelude.{nat_lt}
 use Rattle.plane_map.specs.declared.device.DeviceName.{DeviceName}
-use Rattle.plane_map.specs.declared.device.DeviceName.TheVariants.{K1, K8}
+use Rattle.plane_map.specs.declared.device.DeviceName.TheVariants.{L384, K1, K8}
 use Rattle.plane_map.specs.declared.tile.TileBit.{TileBit}
 use Rattle.plane_map.specs.declared.tile.TileKind.TheVariants.{RamB}
 use Rattle.plane_map.specs.declared.tile.Place.{Place}
@@ -12,7 +12,7 @@ use Rattle.plane_map.specs.Runs.{IsRunIn, run_place, word_run}
 use Rattle.plane_map.proofs.Offsets.{ArePlaces, entry-onto, entry-same, height, height-same, quarter, quarter-below}
 use Rattle.plane_map.proofs.Layouts.{from_end-same, are_banks, are_pad_rows}
 use Rattle.plane_map.proofs.Places.{tile_bit_is_placed, py_of-is, height_of, height_of-below, bank_of-below}
-use Rattle.plane_map.proofs.Words.{ram_of_below}
+use Rattle.plane_map.proofs.Words.{ram-rows, ram_of_below}
 
 -- ---- runs of words
 
@@ -30,7 +30,7 @@ module _ (layout : Layout) (sound : IsLayout layout) (x y word : ℕ) (lower : k
     some = omega arith;
     few = omega arith;
     columns_in = ram_of_below layout x y lower;
-    row_in = word_in;
+    row_in = omega (arith, word_in, ram-rows layout.device x y lower);
   }
 
 -- the run that the code makes of a word
@@ -88,11 +88,13 @@ abbrev mate : DeviceName → ℕ → ℕ → ℕ
 mate device y v = if is_top device y then last_y device - v else v
 
 mate-is : (device : DeviceName) (y v : ℕ) → y < grid_height device → 16 * v < cram_height device → (mate device y v < grid_height device) × (is_top device (mate device y v) ≡ is_top device y) × (from_end device (mate device y v) ≡ v)
+mate-is L384 y v inside within = (grind (arith, nat_tests), grind (arith, nat_tests), grind (arith, nat_tests))
 mate-is K1 y v inside within = (grind (arith, nat_tests), grind (arith, nat_tests), grind (arith, nat_tests))
 mate-is K8 y v inside within = (grind (arith, nat_tests), grind (arith, nat_tests), grind (arith, nat_tests))
 
 -- an end row is at no distance from the end edge
 end-is : (device : DeviceName) (y : ℕ) → y < grid_height device → is_end device y ≡ (from_end device y == 0)
+end-is L384 y inside = grind (arith, nat_tests)
 end-is K1 y inside = grind (arith, nat_tests)
 end-is K8 y inside = grind (arith, nat_tests)
 

@@ -4,7 +4,7 @@
 -- needs only how far a column of tiles is from its side edge, and a row of tiles from its end edge.
 use Rattle.std.specs.Prelude.{◌≡◌, ◌≢◌, ℕ, zero, suc, ◌+◌, ◌-◌, ◌*◌, ◌/◌, ◌%◌, ◌<◌, Bool, true, false, ◌&&◌, ◌||◌, List, [], ◌∷◌, slice_index, nat_lt, nat_le, not, ◌==◌, if◌then◌else◌, Option, Some, None, length}
 use Rattle.plane_map.specs.declared.device.DeviceName.{DeviceName}
-use Rattle.plane_map.specs.declared.device.DeviceName.TheVariants.{K1, K8}
+use Rattle.plane_map.specs.declared.device.DeviceName.TheVariants.{L384, K1, K8}
 use Rattle.plane_map.specs.declared.tile.TileKind.{TileKind}
 use Rattle.plane_map.specs.declared.tile.TileKind.TheVariants.{Io, Logic, RamB, RamT}
 use Rattle.plane_map.specs.declared.tile.TileBit.{TileBit}
@@ -15,16 +15,20 @@ use Rattle.plane_map.specs.declared.tile.Place.{Place}
 
 -- how many columns of tiles there are
 abbrev pub grid_width : DeviceName → ℕ
+grid_width L384 = 8
 grid_width K1 = 14
 grid_width K8 = 34
 
 -- how many rows of tiles there are
 abbrev pub grid_height : DeviceName → ℕ
+grid_height L384 = 10
 grid_height K1 = 18
 grid_height K8 = 34
 
--- the left one of the two columns of RAM, as far from the left edge as the other from the right one
+-- the left one of the two columns of RAM, as far from the left edge as the other from the right one: the edge itself, which has
+-- io tiles alone, where the device has no RAM
 abbrev pub ram_column : DeviceName → ℕ
+ram_column L384 = 0
 ram_column K1 = 3
 ram_column K8 = 8
 
@@ -85,20 +89,25 @@ pub record IsWordBit (device : DeviceName) (at : WordBit) : Type 0 where
 
 -- how many columns and rows of bits each of the four configuration planes has
 abbrev pub cram_width : DeviceName → ℕ
+cram_width L384 = 182
 cram_width K1 = 332
 cram_width K8 = 872
 
 abbrev pub cram_height : DeviceName → ℕ
+cram_height L384 = 80
 cram_height K1 = 144
 cram_height K8 = 272
 
--- how many columns and rows of bits each of the four RAM planes has
+-- how many columns and rows of bits each of the four RAM planes has: none where the device has no RAM
 abbrev pub bram_width : DeviceName → ℕ
+bram_width L384 = 0
 bram_width K1 = 64
 bram_width K8 = 128
 
 abbrev pub bram_height : DeviceName → ℕ
-bram_height device = 256
+bram_height L384 = 0
+bram_height K1 = 256
+bram_height K8 = 256
 
 -- a place of the device's four configuration planes
 pub record IsInCram (device : DeviceName) (at : Place) : Type 0 where
@@ -192,6 +201,7 @@ pub record IsLayout (layout : Layout) : Type 0 where
 
 -- how many columns of bits the columns of tiles take
 unfoldable pub standard_widths : DeviceName → List ℕ
+standard_widths L384 = 18 ∷ 54 ∷ 54 ∷ 54 ∷ []
 standard_widths K1 = 18 ∷ 54 ∷ 54 ∷ 42 ∷ 54 ∷ 54 ∷ 54 ∷ []
 standard_widths K8 = 18 ∷ 54 ∷ 54 ∷ 54 ∷ 54 ∷ 54 ∷ 54 ∷ 54 ∷ 42 ∷ 54 ∷ 54 ∷ 54 ∷ 54 ∷ 54 ∷ 54 ∷ 54 ∷ 54 ∷ []
 

@@ -1,8 +1,8 @@
-// The two devices.
+// The devices.
 ghost use Rattle.std.specs.Prelude.{◌≡◌, ℕ, refl};
 ghost use Rattle.plane_map.specs.declared.device.DeviceName.{DeviceName as Name};
-ghost use Rattle.plane_map.specs.declared.device.DeviceName.TheVariants.{K1, K8};
-ghost use Rattle.plane_map.specs.Devices.{is_same_device};
+ghost use Rattle.plane_map.specs.declared.device.DeviceName.TheVariants.{L384, K1, K8};
+ghost use Rattle.plane_map.specs.Devices.{has_database, is_same_device};
 ghost use Rattle.plane_map.specs.Layout.{grid_width, grid_height, ram_column, cram_width, cram_height, bram_width, bram_height};
 
 use bit_plane::{Bits, Plane};
@@ -10,6 +10,8 @@ use bit_plane::{Bits, Plane};
 /// A device by its name.
 #[derive(Clone, Copy, Debug, PartialEq, Eq)]
 pub enum DeviceName {
+    /// LP384, a grid of 8 by 10 without RAM.
+    L384,
     /// HX1K, a grid of 14 by 18.
     K1,
     /// HX8K, a grid of 34 by 34.
@@ -24,11 +26,22 @@ impl DeviceName {
         self == other
     }
 
+    /// Whether there are databases of its fabric: those of an LP384 aren't read.
+    pub fn has_database(self) -> bool
+        ensures { result ≡ has_database self }
+    {
+        match self {
+            DeviceName::L384 => false,
+            DeviceName::K1 | DeviceName::K8 => true,
+        }
+    }
+
     /// How many columns of tiles there are.
     pub fn columns(self) -> u32
         ensures { result ≡ grid_width self }
     {
         match self {
+            DeviceName::L384 => 8,
             DeviceName::K1 => 14,
             DeviceName::K8 => 34,
         }
@@ -39,6 +52,7 @@ impl DeviceName {
         ensures { result ≡ grid_height self }
     {
         match self {
+            DeviceName::L384 => 10,
             DeviceName::K1 => 18,
             DeviceName::K8 => 34,
         }
@@ -49,6 +63,7 @@ impl DeviceName {
         ensures { result ≡ cram_width self }
     {
         match self {
+            DeviceName::L384 => 182,
             DeviceName::K1 => 332,
             DeviceName::K8 => 872,
         }
@@ -59,16 +74,39 @@ impl DeviceName {
         ensures { result ≡ cram_height self }
     {
         match self {
+            DeviceName::L384 => 80,
             DeviceName::K1 => 144,
             DeviceName::K8 => 272,
         }
     }
 
-    /// The left of the two columns of RAM.
+    /// How many columns of bits each of the four RAM planes has, and 0 where there is no RAM.
+    pub fn bram_columns(self) -> u32
+        ensures { result ≡ bram_width self }
+    {
+        match self {
+            DeviceName::L384 => 0,
+            DeviceName::K1 => 64,
+            DeviceName::K8 => 128,
+        }
+    }
+
+    /// How many rows of bits each of the four RAM planes has, and 0 where there is no RAM.
+    pub fn bram_rows(self) -> u32
+        ensures { result ≡ bram_height self }
+    {
+        match self {
+            DeviceName::L384 => 0,
+            DeviceName::K1 | DeviceName::K8 => 256,
+        }
+    }
+
+    /// The left of the two columns of RAM, and 0 where there is none.
     pub(crate) fn left_ram_column(self) -> u32
         ensures { result ≡ ram_column self }
     {
         match self {
+            DeviceName::L384 => 0,
             DeviceName::K1 => 3,
             DeviceName::K8 => 8,
         }
@@ -100,7 +138,7 @@ pub trait Device {
     /// How many rows of tiles there are.
     const GRID_H: usize;
 
-    /// The left of the two columns of RAM.
+    /// The left of the two columns of RAM, and 0 where there is none.
     const RAM_COLUMN: usize;
 
     /// The device's name.
@@ -120,6 +158,49 @@ pub trait Device {
     ghost bram_width_is: { Self.Bram.WIDTH ≡ bram_width NAME };
 
     ghost bram_height_is: { Self.Bram.HEIGHT ≡ bram_height NAME };
+}
+
+/// The device LP384.
+pub struct Lp384;
+
+impl Device for Lp384 {
+    type Cram = Plane<182, 80>;
+
+    type Bram = Plane<0, 0>;
+
+    ghost NAME = { L384 };
+
+    ghost GRID_W = { 8 };
+
+    ghost GRID_H = { 10 };
+
+    ghost RAM_COLUMN = { 0 };
+
+    const NAME: DeviceName = DeviceName::L384;
+
+    const GRID_W: usize = 8;
+
+    const GRID_H: usize = 10;
+
+    const RAM_COLUMN: usize = 0;
+
+    fn device_name() -> DeviceName {
+        Self::NAME
+    }
+
+    ghost grid_width_is = { refl };
+
+    ghost grid_height_is = { refl };
+
+    ghost ram_column_is = { refl };
+
+    ghost cram_width_is = { refl };
+
+    ghost cram_height_is = { refl };
+
+    ghost bram_width_is = { refl };
+
+    ghost bram_height_is = { refl };
 }
 
 /// The device HX1K.

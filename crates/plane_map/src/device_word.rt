@@ -1,15 +1,16 @@
 // The words for the devices in texts.
 ghost use Rattle.std.specs.Prelude.{◌≡◌};
-ghost use Rattle.plane_map.specs.DeviceWords.{device_word, device_named};
+ghost use Rattle.plane_map.specs.DeviceWords.{device_word, device_named, database_device_named};
 
 use crate::device::DeviceName;
 
 impl DeviceName {
-    /// The word for the device: `1k` or `8k`.
+    /// The word for the device: `384`, `1k` or `8k`.
     pub fn word(self) -> &'static [u8]
         ensures { result.now ≡ device_word self }
     {
         match self {
+            DeviceName::L384 => b"384",
             DeviceName::K1 => b"1k",
             DeviceName::K8 => b"8k",
         }
@@ -19,12 +20,24 @@ impl DeviceName {
     pub fn named(word: &[u8]) -> Option<DeviceName>
         ensures { result ≡ device_named word.now }
     {
-        if word == b"1k".as_slice() {
+        if word == b"384".as_slice() {
+            Some(DeviceName::L384)
+        } else if word == b"1k".as_slice() {
             Some(DeviceName::K1)
         } else if word == b"8k".as_slice() {
             Some(DeviceName::K8)
         } else {
             None
+        }
+    }
+
+    /// The device that a word names in a database, and wherever a database is needed.
+    pub fn named_with_database(word: &[u8]) -> Option<DeviceName>
+        ensures { result ≡ database_device_named word.now }
+    {
+        match DeviceName::named(word) {
+            Some(device) if device.has_database() => Some(device),
+            _ => None,
         }
     }
 }

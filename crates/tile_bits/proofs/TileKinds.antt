@@ -3,7 +3,7 @@ use Rattle.std.proofs.Common.{◌≡◌, ℕ, ◌<◌, ◌≤◌, List, Some, ap
 use Rattle.std.specs.Prelude.{All}
 use Rattle.plane_map.specs.Layout.{kind_of, columns_of, columns_in, grid_width, grid_height, standard_layout, IsTileBit}
 use Rattle.plane_map.specs.declared.device.DeviceName.{DeviceName}
-use Rattle.plane_map.specs.declared.device.DeviceName.TheVariants.{K1, K8}
+use Rattle.plane_map.specs.declared.device.DeviceName.TheVariants.{L384, K1, K8}
 use Rattle.plane_map.specs.declared.tile.RowCol.{RowCol}
 use Rattle.plane_map.specs.declared.tile.TileBit.{TileBit}
 use Rattle.plane_map.specs.declared.tile.TileKind.{TileKind}
@@ -28,10 +28,12 @@ on-board kind bits inside = λ k d lt. record {
 }
 
 least : (device : DeviceName) (n : ℕ) → n < grid_width device → n < 64
+least L384 n lt = omega arith
 least K1 n lt = omega arith
 least K8 n lt = omega arith
 
 least_y : (device : DeviceName) (n : ℕ) → n < grid_height device → n < 64
+least_y L384 n lt = omega arith
 least_y K1 n lt = omega arith
 least_y K8 n lt = omega arith
 

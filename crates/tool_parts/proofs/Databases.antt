@@ -12,8 +12,8 @@ use Rattle.chipdb_lines.specs.declared.chip.Chip.{Chip}
 use Rattle.chipdb_lines.specs.declared.keyword.Keyword.{Keyword}
 use Rattle.chipdb_lines.specs.declared.keyword.Keyword.TheVariants as keyword
 use Rattle.chipdb_lines.specs.Words.{is_statement, words_in}
-use Rattle.plane_map.specs.DeviceWords.{device_named}
-use Rattle.chipdb_lines.specs.Statements.{chip_of_numbers, chip_of_words, keyword_of, with_database}
+use Rattle.plane_map.specs.DeviceWords.{database_device_named}
+use Rattle.chipdb_lines.specs.Statements.{chip_of_numbers, chip_of_words, keyword_of}
 use Rattle.chipdb_reader.specs.Blocks.{chip_before, chip_by, chip_in}
 use Rattle.chipdb_reader.specs.Database.{Database, database_of}
 use Rattle.chipdb_reader.specs.Faults.{DbMeans, Fault, db_fault_of}
@@ -42,7 +42,7 @@ few-numbers None numbers = tt
 few-args : (args : List (List ℕ)) → IfSome (chip_of_words args) HasFew
 unfolding chip_of_words
 few-args [] = tt
-few-args (name ∷ sizes) = few-numbers (with_database (device_named name)) (numbers_of sizes)
+few-args (name ∷ sizes) = few-numbers (database_device_named name) (numbers_of sizes)
 
 few-else : (first other : Option Chip) → IfSome first HasFew → IfSome other HasFew → IfSome (or_else first other) HasFew
 few-else (Some chip) other few more = few

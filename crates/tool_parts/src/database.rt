@@ -14,7 +14,7 @@ pub const DB_LIMIT: usize = 268_435_456;
 
 /// A database from its text, or what is told of its first fault.
 #[tactic(auto, unfolding(crate::specs::Databases::database_read))]
-pub fn read_database(alloc: Global, bytes: &[u8]) -> Result<ChipDb, Stop>
+pub fn read_database(alloc: Global, bytes: &[u8]) -> Result<ChipDb, Stop<'static>>
     ensures database { IfOk result (λ db. database_read bytes.now ≡ Ok (database_in db)) }
     ensures stops { IfErr result (StopsDatabase (database_read bytes.now)) }
 {
@@ -31,7 +31,7 @@ pub fn read_database(alloc: Global, bytes: &[u8]) -> Result<ChipDb, Stop>
 
 /// The database of what was fed to a reader, or what is told of its first fault.
 #[tactic(auto, unfolding(crate::specs::Databases::database_read))]
-pub(crate) fn finish_database(reader: DbReader) -> Result<ChipDb, Stop>
+pub(crate) fn finish_database(reader: DbReader) -> Result<ChipDb, Stop<'static>>
     ensures database { IfOk result (λ db. (text : List ℕ) → StandsFor text reader → database_read text ≡ Ok (database_in db)) }
     ensures stops { IfErr result (λ stop. (text : List ℕ) → StandsFor text reader → StopsDatabase (database_read text) stop) }
 {

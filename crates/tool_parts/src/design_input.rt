@@ -82,7 +82,10 @@ impl DesignInput {
     ghost use Rattle.std.specs.Prelude.{get_or};
 
     /// The database and the image, or what is told of the first fault: of the layout file, the database or the image.
-    pub fn read(alloc: Global, taking: Taking<DesignInput>) -> Result<(ChipDb, AnyImage), Stop>
+    pub fn read(
+        alloc: Global,
+        taking: Taking<DesignInput>,
+    ) -> Result<(ChipDb, AnyImage), Stop<'static>>
         ensures read { IfOk result (λ read. (named : Bool) (texts : List (List ℕ)) (answer : Database → Configuration → Answer)
             → IsTaking TakesInput named texts [] taking
             → input_answer named answer texts ≡ answer (database_in read.0) (configuration_of read.1)) }
@@ -96,7 +99,7 @@ impl DesignInput {
     }
 
     // The same of what stands behind the layout file.
-    fn read_both(self, alloc: Global) -> Result<(ChipDb, AnyImage), Stop>
+    fn read_both(self, alloc: Global) -> Result<(ChipDb, AnyImage), Stop<'static>>
         ensures read { IfOk result (λ read. (layouts : Layouts) (texts : List (List ℕ)) (answer : Database → Configuration → Answer)
             → TakesInput layouts texts self []
             → answer_to_both answer (get_or texts 0 []) (get_or texts 1 []) layouts ≡ answer (database_in read.0) (configuration_of read.1)) }
@@ -110,7 +113,11 @@ impl DesignInput {
 }
 
 // The image of the bytes that were collected, or what is told of their fault.
-fn collected_image(alloc: Global, collected: &Collected, layouts: Layouts) -> Result<AnyImage, Stop>
+fn collected_image(
+    alloc: Global,
+    collected: &Collected,
+    layouts: Layouts,
+) -> Result<AnyImage, Stop<'static>>
     requires { AreLayouts layouts }
     ensures image { IfOk result (λ image. (bytes : List ℕ) → Collects bytes collected.now → image_read layouts bytes ≡ Ok (configuration_of image)) }
     ensures stops { IfErr result (λ stop. (bytes : List ℕ) → Collects bytes collected.now → StopsImage (image_read layouts bytes) stop) }

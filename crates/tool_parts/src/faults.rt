@@ -43,7 +43,7 @@ fn asc_cause_text(cause: AscCause) -> &'static str
 }
 
 /// The fault of a text.
-pub fn asc_refusal(line: u64, tile: Option<TileXy>, cause: AscCause) -> Refusal
+pub fn asc_refusal(line: u64, tile: Option<TileXy>, cause: AscCause) -> Refusal<'static>
     ensures { refusal_text result ≡ asc_fault_text line tile cause }
 {
     let cause = text(asc_cause_text(cause));
@@ -59,7 +59,7 @@ pub fn asc_refusal(line: u64, tile: Option<TileXy>, cause: AscCause) -> Refusal
 }
 
 /// What is wrong with a bitstream, behind a colon, and the value that a check found.
-pub fn bin_cause(cause: BinCause) -> Phrase
+pub fn bin_cause(cause: BinCause) -> Phrase<'static>
     ensures { phrase_text result ≡ codes ": " ++ bin_cause_text cause }
 {
     match cause {
@@ -82,7 +82,7 @@ pub fn bin_cause(cause: BinCause) -> Phrase
 }
 
 /// The fault of a bitstream.
-pub fn bin_refusal(offset: u64, cause: BinCause) -> Refusal
+pub fn bin_refusal(offset: u64, cause: BinCause) -> Refusal<'static>
     ensures { refusal_text result ≡ bin_fault_text offset cause }
 {
     refusal(decimal("offset ", offset), bin_cause(cause))
@@ -109,7 +109,7 @@ fn db_cause_text(cause: DbCause) -> &'static str
 }
 
 /// The fault of a database.
-pub(crate) fn db_refusal(line: u64, cause: DbCause) -> Refusal
+pub(crate) fn db_refusal(line: u64, cause: DbCause) -> Refusal<'static>
     ensures { refusal_text result ≡ db_fault_text line cause }
 {
     refusal(decimal("database line ", line), text(db_cause_text(cause)))

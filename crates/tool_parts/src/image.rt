@@ -22,7 +22,7 @@ const PREAMBLE: [u8; 4] = [0x7E, 0xAA, 0x99, 0x7E];
 /// An image under layouts, or what is told of its fault: a bitstream where the preamble stands somewhere in the bytes, and else
 /// a text.
 #[tactic(auto, unfolding(crate::specs::Images::image_read))]
-pub fn read_image(alloc: Global, bytes: &[u8], layouts: Layouts) -> Result<AnyImage, Stop>
+pub fn read_image(alloc: Global, bytes: &[u8], layouts: Layouts) -> Result<AnyImage, Stop<'static>>
     requires { AreLayouts layouts }
     ensures image { IfOk result (λ image. image_read layouts bytes.now ≡ Ok (configuration_of image)) }
     ensures stops { IfErr result (StopsImage (image_read layouts bytes.now)) }

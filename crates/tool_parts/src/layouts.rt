@@ -22,7 +22,7 @@ pub fn with_layout<'a>(layout: Option<&str>, loads: &'a [Load<'a>]) -> &'a [Load
 }
 
 /// The layouts for a tool: those of the file that it loaded first where one is named, and else the standard ones.
-pub fn layouts_for(named: bool, loaded: &[Vec<u8>]) -> Result<Layouts, Stop>
+pub fn layouts_for(named: bool, loaded: &[Vec<u8>]) -> Result<Layouts, Stop<'static>>
     ensures layouts { IfOk result (λ layouts. layouts_for named (map vec_items loaded.now) ≡ Ok layouts) }
     ensures devices { IfOk result AreLayouts }
     ensures stops { IfErr result (StopsLayouts (layouts_for named (map vec_items loaded.now))) }
@@ -44,7 +44,7 @@ pub fn behind_layout(named: bool, loaded: &[Vec<u8>], place: usize) -> &[u8]
 
 /// The layouts that a layout file gives, or what is told of its first faulty line.
 #[tactic(auto, unfolding(crate::specs::Layouts::layouts_read))]
-pub(crate) fn layouts_in(bytes: &[u8]) -> Result<Layouts, Stop>
+pub(crate) fn layouts_in(bytes: &[u8]) -> Result<Layouts, Stop<'static>>
     ensures layouts { IfOk result (λ layouts. layouts_read bytes.now ≡ Ok layouts) }
     ensures devices { IfOk result AreLayouts }
     ensures stops { IfErr result (StopsLayouts (layouts_read bytes.now)) }
@@ -56,7 +56,7 @@ pub(crate) fn layouts_in(bytes: &[u8]) -> Result<Layouts, Stop>
 }
 
 // The fault of a layout file.
-fn layout_refusal(fault: LayoutFault) -> Refusal
+fn layout_refusal(fault: LayoutFault) -> Refusal<'static>
     ensures { refusal_text result ≡ layout_fault_text fault }
 {
     let cause = match fault.cause {

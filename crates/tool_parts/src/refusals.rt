@@ -5,8 +5,8 @@ ghost use Rattle.tool_run.specs.Lines.{phrase_text, refusal_text};
 use tool_run::{Phrase, Refusal, text};
 
 /// A refusal of two phrases: mostly the place, and the cause.
-pub fn refusal(first: Phrase, second: Phrase) -> Refusal
-    ensures { refusal_text result ≡ phrase_text first ++ phrase_text second }
+pub fn refusal<'a>(first: Phrase<'a>, second: Phrase<'a>) -> Refusal<'a>
+    ensures { refusal_text result ≡ phrase_text first.entry ++ phrase_text second.entry }
 {
     Refusal {
         first,
@@ -17,7 +17,7 @@ pub fn refusal(first: Phrase, second: Phrase) -> Refusal
 }
 
 /// A refusal of one text.
-pub fn whole(what: &'static str) -> Refusal
+pub fn whole(what: &'static str) -> Refusal<'static>
     ensures { refusal_text result ≡ what.entry.now }
 {
     Refusal {

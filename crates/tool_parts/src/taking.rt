@@ -50,7 +50,7 @@ pub enum Taking<T: TextTaker> {
     /// The texts behind it, under its layouts.
     Texts(T),
     /// The layout file is refused, or there was no memory for it. The texts behind it are passed over.
-    Stopped(Stop),
+    Stopped(Stop<'static>),
 }
 
 impl<T: TextTaker> Taking<T> {
@@ -100,7 +100,7 @@ impl<T: TextTaker> Taking<T> {
     }
 
     /// What has taken the texts behind the layout file, or why nothing has.
-    pub fn finish(self, alloc: Global) -> Result<T, Stop>
+    pub fn finish(self, alloc: Global) -> Result<T, Stop<'static>>
         ensures taken { IfOk result (λ taker. (named : Bool) (texts : List (List ℕ)) → IsTaking T.takes named texts [] self
             → (layouts : Layouts) × (layouts_for named texts ≡ Ok layouts) × T.takes layouts (texts_behind named texts) taker []) }
         ensures stops { IfErr result (λ stop. (named : Bool) (texts : List (List ℕ)) (answer : Layouts → Answer) → IsTaking T.takes named texts [] self
@@ -115,7 +115,7 @@ impl<T: TextTaker> Taking<T> {
 }
 
 // What takes texts under the layouts of a file, or why nothing does.
-fn begun<T: TextTaker>(alloc: Global, file: &Collected) -> Result<T, Stop>
+fn begun<T: TextTaker>(alloc: Global, file: &Collected) -> Result<T, Stop<'static>>
     ensures taken { IfOk result (λ taker. (text : List ℕ) → Collects text file.now
         → (layouts : Layouts) × (layouts_read text ≡ Ok layouts) × T.takes layouts [] taker []) }
     ensures none { IfOk result (λ taker. T.fed taker ≡ 0) }

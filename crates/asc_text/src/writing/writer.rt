@@ -49,6 +49,7 @@ fn usual_len(device: DeviceName) -> usize
     ensures { result ≤ 2 ^ 20 }
 {
     match device {
+        DeviceName::L384 => 1 << 16,
         DeviceName::K1 => 1 << 18,
         DeviceName::K8 => 1 << 20,
     }

@@ -2,7 +2,7 @@
 ghost use Rattle.std.specs.Prelude.{◌≡◌, ◌+◌, ◌*◌, ◌/◌, ◌%◌, ◌<◌, ◌≤◌, ◌^◌, ◌==◌, not, None, Some, IfOk, nat_lt};
 ghost use Rattle.plane_map.specs.declared.device.DeviceName.{DeviceName as Name};
 ghost use Rattle.bin_stream.specs.Refusals.{cause_if, is_mode, device_where, is_bad_height, check_cause};
-ghost use Rattle.bin_stream.specs.State.{device_with};
+ghost use Rattle.bin_stream.specs.State.{has_width, device_with};
 ghost use Rattle.bin_stream.specs.Meaning.{range_of};
 ghost use Rattle.bin_stream.specs.inside.Heads.{opcode_in, number_in};
 ghost use Rattle.bin_stream.specs.inside.Registers.{held_first, refusal_of, short_cause_by, checked, after_short, data_cause_by, gives_last_by, Fits, after_data, settings_by, size_by};
@@ -236,7 +236,7 @@ impl Registers {
         match fixed.or(device_with(kind, self.width)) {
             None => Err(BinCause::BadWidth),
             Some(device) => {
-                if self.width != kind.columns(device) {
+                if !has_width(kind, device, self.width) {
                     Err(BinCause::BadWidth)
                 } else if self.has_bad_height(kind, device) {
                     Err(BinCause::BadHeight)
@@ -289,13 +289,22 @@ fn range_of(number: u32) -> Range
     }
 }
 
-/// The device whose planes have that many columns.
+/// Whether a device's planes have rows of that many columns.
+fn has_width(kind: PlaneKind, device: DeviceName, columns: usize) -> bool
+    ensures { result ≡ has_width kind device columns }
+{
+    kind.rows(device) != 0 && columns == kind.columns(device)
+}
+
+/// The device whose planes have rows of that many columns.
 fn device_with(kind: PlaneKind, columns: usize) -> Option<DeviceName>
     ensures { result ≡ device_with kind columns }
 {
-    if columns == kind.columns(DeviceName::K1) {
+    if has_width(kind, DeviceName::L384, columns) {
+        Some(DeviceName::L384)
+    } else if has_width(kind, DeviceName::K1, columns) {
         Some(DeviceName::K1)
-    } else if columns == kind.columns(DeviceName::K8) {
+    } else if has_width(kind, DeviceName::K8, columns) {
         Some(DeviceName::K8)
     } else {
         None

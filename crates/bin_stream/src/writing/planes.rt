@@ -1,8 +1,10 @@
 // Writing the planes of an image.
-ghost use Rattle.std.specs.Prelude.{◌≡◌, ◌+◌, ◌*◌, ◌%◌, ◌<◌, ◌≤◌, ◌^◌, ◌++◌, ◌∷◌, [], take, drop, OnOk, flat_map};
+ghost use Rattle.std.specs.Prelude.{◌≡◌, ◌+◌, ◌*◌, ◌%◌, ◌<◌, ◌≤◌, ◌^◌, ◌++◌, ◌∷◌, [], true, take, drop, OnOk, flat_map};
 ghost use Rattle.ice_image.specs.Either.{configuration_of, device_of};
 ghost use Rattle.ice_image.specs.Planes.{plane_width, plane_height, rows_of_bank};
-ghost use Rattle.bin_stream.specs.CanonicalBytes.{row_bytes, data_command, cram_bytes, bram_bytes, cram_bank, bram_half, bram_bank, four_banks};
+ghost use Rattle.bin_stream.specs.State.{has_rows};
+ghost use Rattle.ice_image.specs.declared.planes.PlaneKind.TheVariants.{Bram};
+ghost use Rattle.bin_stream.specs.CanonicalBytes.{row_bytes, data_command, cram_bytes, ram_bytes, bram_bytes, cram_bank, bram_half, bram_bank, four_banks};
 
 use super::command::{append_command, append_control, append_word};
 use crate::marks::DATA_END;
@@ -49,10 +51,21 @@ fn append_cram_bank(out: &mut Vec<u8>, image: &AnyImage, bank: u8) -> Result<(),
     append_data(out, image, PlaneKind::Cram, bank, 0, rows)
 }
 
-/// Appends the RAM planes, with the size of their halves.
+/// Appends the RAM planes, with the size of their halves; nothing where there is no RAM.
 #[tactic(auto, unfolding(crate::specs::CanonicalBytes::bram_bytes))]
 pub(crate) fn append_bram(out: &mut Vec<u8>, image: &AnyImage) -> Result<(), AllocError>
     ensures { OnOk result (out.new.items ≡ out.old.items ++ bram_bytes (configuration_of image.now).layout.device (configuration_of image.now).bram) }
+{
+    if PlaneKind::Bram.rows(image.device()) == 0 {
+        return Ok(());
+    }
+    append_ram(out, image)
+}
+
+/// Appends the RAM planes, with the size of their halves.
+fn append_ram(out: &mut Vec<u8>, image: &AnyImage) -> Result<(), AllocError>
+    requires { has_rows Bram (device_of image.now) ≡ true }
+    ensures { OnOk result (out.new.items ≡ out.old.items ++ ram_bytes (configuration_of image.now).layout.device (configuration_of image.now).bram) }
 {
     let device = image.device();
     append_word(
@@ -66,6 +79,7 @@ pub(crate) fn append_bram(out: &mut Vec<u8>, image: &AnyImage) -> Result<(), All
 
 /// Appends the RAM planes of the four banks.
 fn append_bram_banks(out: &mut Vec<u8>, image: &AnyImage) -> Result<(), AllocError>
+    requires { has_rows Bram (device_of image.now) ≡ true }
     ensures { OnOk result (out.new.items ≡ out.old.items ++ flat_map (bram_bank (configuration_of image.now).bram) four_banks) }
 {
     append_bram_bank(out, image, 0)?;
@@ -76,7 +90,8 @@ fn append_bram_banks(out: &mut Vec<u8>, image: &AnyImage) -> Result<(), AllocErr
 
 /// Appends a bank's RAM plane, in two halves.
 fn append_bram_bank(out: &mut Vec<u8>, image: &AnyImage, bank: u8) -> Result<(), AllocError>
-    requires { bank < 4 }
+    requires ram { has_rows Bram (device_of image.now) ≡ true }
+    requires bank { bank < 4 }
     ensures { OnOk result (out.new.items ≡ out.old.items ++ bram_bank (configuration_of image.now).bram bank) }
 {
     append_command(out, Opcode::Bank, &[bank])?;
@@ -91,6 +106,7 @@ fn append_bram_half(
     bank: u8,
     first: usize,
 ) -> Result<(), AllocError>
+    requires ram { has_rows Bram (device_of image.now) ≡ true }
     requires bank { bank < 4 }
     requires rows { first ≤ 128 }
     ensures { OnOk result (out.new.items ≡ out.old.items ++ bram_half (configuration_of image.now).bram bank first) }

@@ -52,6 +52,7 @@ fn usual_size(device: DeviceName) -> usize
     ensures { result ≤ planes_size device + 1024 }
 {
     match device {
+        DeviceName::L384 => 8_000,
         DeviceName::K1 => 33_000,
         DeviceName::K8 => 136_000,
     }

@@ -35,7 +35,7 @@ pub fn pins(alloc: Global, db: &ChipDb, image: &AnyImage, links: &Links) -> Resu
     ensures taken { OnOk result (pins_fault (database_in db.now) (configuration_of image.now) ≡ None) }
     ensures refused { IfErr result (IsCause (pins_fault (database_in db.now) (configuration_of image.now))) }
 {
-    prove!(db.device() == image.device());
+    prove!(db.device().is_same(image.device()));
     let tiles = tiles_of_image(alloc, image, TileKind::Io)?;
     pins_in(alloc, db, image, links, &tiles)
 }

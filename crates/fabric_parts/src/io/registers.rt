@@ -11,9 +11,7 @@ ghost use Rattle.net_extract.specs.declared.driver.ClockUser.TheVariants.{Input,
 
 use chipdb_reader::ChipDb;
 use ice_image::AnyImage;
-use net_extract::{
-    ClockUser, Pin, PinKind, Register, Source, Table, inputs, is_on, place_among, place_of,
-};
+use net_extract::{ClockUser, Pin, Register, Source, Table, inputs, is_on, place_among, place_of};
 use plane_map::TileKind;
 use std::alloc::{AllocError, Global};
 
@@ -64,21 +62,10 @@ fn append_register(
     requires { HasTile image.now Io pin.x pin.y }
     ensures { OnOk result (registers.new.items ≡ registers.old.items ++ item_if (is_registered pin) (pin_register (database_in db.now) (configuration_of image.now) inputs.now pin)) }
 {
-    if is_registered(pin) {
+    if pin.is_registered() {
         registers.push(pin_register(db, image, inputs, pin)?)?;
     }
     Ok(())
-}
-
-/// Whether a pin is registered.
-fn is_registered(pin: Pin) -> bool
-    ensures { result ≡ is_registered pin }
-{
-    match pin.kind {
-        PinKind::Plain => false,
-        PinKind::Registered => true,
-        PinKind::TriState => false,
-    }
 }
 
 /// The register of a pin among these input pins.

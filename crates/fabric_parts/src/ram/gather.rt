@@ -36,7 +36,7 @@ pub fn rams(
     ensures taken { OnOk result (rams_fault (database_in db.now) (configuration_of image.now) ≡ None) }
     ensures refused { IfErr result (IsCause (rams_fault (database_in db.now) (configuration_of image.now))) }
 {
-    prove!(db.device() == image.device());
+    prove!(db.device().is_same(image.device()));
     let tiles = tiles_of_image(alloc, image, TileKind::RamB)?;
     let used = used_rams(alloc, db, image, links, &tiles)?;
     rams_at(alloc, db, image, &used)

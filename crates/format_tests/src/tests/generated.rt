@@ -8,9 +8,18 @@ use std::alloc::{AllocError, Global};
 
 // ---- the database
 
+/// A device's text, and no byte where it has no databases.
+fn text_of(alloc: Global, device: DeviceName) -> Result<Vec<u8>, AllocError> {
+    if device.has_database() {
+        chipdb(alloc, device)
+    } else {
+        Ok(Vec::new(alloc))
+    }
+}
+
 /// How many bytes a device's text has, and how many of them end a line.
 fn size_of(alloc: Global, device: DeviceName) -> Result<(usize, usize), AllocError> {
-    let text = chipdb(alloc, device)?;
+    let text = text_of(alloc, device)?;
     let lines = text.iter().filter(|byte| **byte == b'\n').count();
     Ok((text.len(), lines))
 }
@@ -28,7 +37,7 @@ fn has_piece(
     place: usize,
     piece: &[u8],
 ) -> Result<bool, AllocError> {
-    let text = chipdb(alloc, device)?;
+    let text = text_of(alloc, device)?;
     Ok(
         text.as_slice()
             .get(place..)
@@ -64,6 +73,15 @@ fn a_text_has_its_pieces_at_their_places(rt: HostRuntime) {
 
 // ---- the image
 
+/// The image that a device and a seed fix, and one without a bit where the device has no databases.
+fn image_of(alloc: Global, device: DeviceName, seed: u64) -> Result<AnyImage, AllocError> {
+    if device.has_database() {
+        image(alloc, device, seed)
+    } else {
+        AnyImage::zeroed(alloc, device)
+    }
+}
+
 /// The bits of a row of a tile, where a device and a seed fix them.
 fn row_of(
     alloc: Global,
@@ -73,7 +91,7 @@ fn row_of(
     y: u8,
     row: u8,
 ) -> Result<u64, AllocError> {
-    let made = image(alloc, device, seed)?;
+    let made = image_of(alloc, device, seed)?;
     Ok(if row < 16 {
         made.tile_row(x, y, row)
     } else {
@@ -116,7 +134,7 @@ fn word_of(
     y: u8,
     word: u8,
 ) -> Result<u16, AllocError> {
-    let made = image(alloc, device, seed)?;
+    let made = image_of(alloc, device, seed)?;
     Ok(word_in(&made, x, y, word))
 }
 
@@ -136,7 +154,7 @@ fn words_of_rams_are_draws(rt: HostRuntime) {
 
 /// How many extra bits are set, where a device and a seed fix them.
 fn extra_bits(alloc: Global, device: DeviceName) -> Result<usize, AllocError> {
-    let made = image(alloc, device, 7)?;
+    let made = image_of(alloc, device, 7)?;
     Ok(made.extra_bits(alloc)?.len())
 }
 

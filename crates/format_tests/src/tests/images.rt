@@ -1,4 +1,4 @@
-// Images: each call at both devices, with places that are known from outside.
+// Images: each call at each device, with places that are known from outside.
 ghost use Rattle.std.specs.Prelude.{◌≡◌, IsTrue, All};
 ghost use Rattle.plane_map.specs.Layout.{columns_at};
 ghost use Rattle.ice_image.specs.Contents.{IsBitOfTile};
@@ -7,7 +7,7 @@ use super::{at, bit, comment_of, is_in_cram, is_lower_ram, is_tile_bit};
 use bit_plane::{Bits, Tile};
 use ice_image::{AnyImage, Comment, Image, Range, Settings, is_comment_line};
 use plane_map::{
-    Device, DeviceName, Hx1k, Hx8k, Layout, Place, RowCol, TileBit, TileKind, kind_on,
+    Device, DeviceName, Hx1k, Hx8k, Layout, Lp384, Place, RowCol, TileBit, TileKind, kind_on,
 };
 use std::alloc::{AllocError, Global};
 
@@ -50,6 +50,7 @@ fn a_new_image_has_the_usual_settings(rt: HostRuntime) {
         warm_boot: true,
         no_sleep: false,
     };
+    assert!(rt; is_new(rt.alloc(), DeviceName::L384, usual) == Ok(true));
     assert!(rt; is_new(rt.alloc(), DeviceName::K1, usual) == Ok(true));
     assert!(rt; is_new(rt.alloc(), DeviceName::K8, usual) == Ok(true));
 }
@@ -74,6 +75,8 @@ fn lies_at(alloc: Global, layout: Layout, bit: TileBit, place: Place) -> Result<
 #[test]
 fn bits_of_tiles_lie_at_their_places(rt: HostRuntime) {
     for (device, bit, place) in [
+        (DeviceName::L384, bit(1, 1, 0, 0), at(0, 18, 16)),
+        (DeviceName::L384, bit(6, 8, 0, 0), at(3, 71, 31)),
         (DeviceName::K1, bit(1, 1, 0, 0), at(0, 18, 16)),
         (DeviceName::K1, bit(12, 16, 0, 0), at(3, 71, 31)),
         (DeviceName::K1, bit(1, 17, 2, 4), at(1, 34, 12)),
@@ -136,6 +139,7 @@ fn keeps_a_tile(alloc: Global, device: DeviceName, x: u8, y: u8) -> Result<bool,
 
 #[test]
 fn tiles_are_read_and_written_whole(rt: HostRuntime) {
+    assert!(rt; keeps_a_tile(rt.alloc(), DeviceName::L384, 6, 1) == Ok(true));
     assert!(rt; keeps_a_tile(rt.alloc(), DeviceName::K1, 12, 1) == Ok(true));
     assert!(rt; keeps_a_tile(rt.alloc(), DeviceName::K8, 32, 1) == Ok(true));
 }
@@ -166,6 +170,7 @@ fn has_row(
 #[test]
 fn rows_of_tiles_gain_the_ones_of_words(rt: HostRuntime) {
     for (device, x, y, first, all) in [
+        (DeviceName::L384, 6, 8, at(3, 71, 31), 0x3f_ffff_ffff_ffff),
         (DeviceName::K1, 1, 1, at(0, 18, 16), 0x3f_ffff_ffff_ffff),
         (DeviceName::K1, 12, 16, at(3, 71, 31), 0x3f_ffff_ffff_ffff),
         (DeviceName::K1, 0, 1, at(0, 17, 16), 0x3_ffff),
@@ -236,6 +241,11 @@ fn is_word_bit<D: Device>(
     image.ram_word(ram.0, ram.1, y) == 8 && image.bram(bank).get(x, row)
 }
 
+fn smallest_planes_hold_bits(alloc: Global) -> Result<bool, AllocError> {
+    let mut image = Image::<Lp384>::zeroed(alloc)?;
+    Ok(is_in_plane(&mut image, at(3, 181, 79)))
+}
+
 fn small_planes_hold_bits(alloc: Global) -> Result<bool, AllocError> {
     let mut image = Image::<Hx1k>::zeroed(alloc)?;
     Ok(is_in_plane(&mut image, at(3, 331, 143)) && is_word_bit(&mut image, (3, 1), 0, 12, 2))
@@ -248,6 +258,7 @@ fn large_planes_hold_bits(alloc: Global) -> Result<bool, AllocError> {
 
 #[test]
 fn planes_hold_bits_of_places_and_words(rt: HostRuntime) {
+    assert!(rt; smallest_planes_hold_bits(rt.alloc()) == Ok(true));
     assert!(rt; small_planes_hold_bits(rt.alloc()) == Ok(true));
     assert!(rt; large_planes_hold_bits(rt.alloc()) == Ok(true));
 }
@@ -278,6 +289,9 @@ fn has_extras(
 
 #[test]
 fn extra_bits_come_in_order(rt: HostRuntime) {
+    let smallest = [at(1, 180, 79), at(3, 71, 31), at(0, 181, 79), at(1, 181, 2)];
+    let ordered = [at(0, 181, 79), at(1, 181, 2), at(1, 180, 79)];
+    assert!(rt; has_extras(rt.alloc(), DeviceName::L384, &smallest, &ordered) == Ok(true));
     let small = [at(1, 330, 0), at(0, 18, 16), at(0, 330, 143), at(0, 331, 5)];
     let ordered = [at(0, 331, 5), at(0, 330, 143), at(1, 330, 0)];
     assert!(rt; has_extras(rt.alloc(), DeviceName::K1, &small, &ordered) == Ok(true));

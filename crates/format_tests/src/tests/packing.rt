@@ -83,6 +83,14 @@ fn texts_are_packed_and_come_back(rt: HostRuntime) {
             b".device 1k\n.io_tile 1 0\n",
             b"0\n.extra_bit 0 330 143\n",
         ),
+        (
+            b".device 384\n",
+            false,
+            7_330,
+            0x20,
+            b".device 384\n.io_tile 1 0\n000000000000000000\n",
+            b"0\n",
+        ),
     ] {
         let alloc = rt.alloc();
         assert!(rt;
@@ -127,15 +135,56 @@ fn append_row(text: &mut Vec<u8>, bit: u8) -> Result<(), AllocError> {
     Ok(())
 }
 
-/// A text that sets column 0 of row 0 of a logic tile in the right half.
-fn text_of_a_bit(alloc: Global) -> Result<Vec<u8>, AllocError> {
+/// A text of that head and the rows of a logic tile, of which column 0 of row 0 is set.
+fn text_of_a_bit(alloc: Global, head: &[u8]) -> Result<Vec<u8>, AllocError> {
     let mut text = Vec::new(alloc);
-    text.extend_from_slice(b".device 1k\n.logic_tile 12 1\n")?;
+    text.extend_from_slice(head)?;
     append_row(&mut text, b'1')?;
     for _ in 1..16 {
         append_row(&mut text, b'0')?;
     }
     Ok(text)
+}
+
+/// Whether a text's bytes have a piece at an offset, and their text is packed to them again.
+fn has_piece(alloc: Global, text: &[u8], length: usize, offset: usize, piece: &[u8]) -> bool {
+    match there_and_back(alloc, text, false) {
+        Some((bytes, back)) => {
+            bytes.len() == length
+                && bytes
+                    .as_slice()
+                    .get(offset..)
+                    .is_some_and(|rest| rest.starts_with(piece))
+                && packs_to(alloc, &back, &bytes)
+        }
+        None => false,
+    }
+}
+
+/// Whether the bit of a text of that head has that byte at an offset.
+fn packs_a_bit(alloc: Global, head: &[u8], offset: usize, byte: u8) -> Result<bool, AllocError> {
+    let text = text_of_a_bit(alloc, head)?;
+    Ok(has_piece(alloc, &text, 7_334, offset, &[byte]))
+}
+
+#[test]
+fn texts_of_the_smallest_device_are_packed(rt: HostRuntime) {
+    let sizes = [0x62, 0x00, 0xB5, 0x72, 0x00, 0x50];
+    let text = b".comment\n.device 384\n";
+    assert!(rt; has_piece(rt.alloc(), text, 7_334, 15, &sizes));
+    for (head, offset, byte) in [
+        (
+            b".comment\n.device 384\n.logic_tile 1 1\n" as &[u8],
+            394,
+            0x20,
+        ),
+        (b".comment\n.device 384\n.logic_tile 6 8\n", 6_220, 0x40),
+    ] {
+        assert!(rt;
+            packs_a_bit(rt.alloc(), head, offset, byte) == Ok(true),
+            "at {offset}"
+        );
+    }
 }
 
 /// A text's bytes under layouts, and the text that is unpacked from them; nothing where one is refused.
@@ -160,7 +209,7 @@ fn has_byte(bytes: &[u8], offset: usize, byte: u8, zero: usize) -> bool {
 fn moves_and_comes_back(alloc: Global, layouts: &Layouts) -> Result<bool, AllocError>
     requires { AreLayouts layouts.now }
 {
-    let text = text_of_a_bit(alloc)?;
+    let text = text_of_a_bit(alloc, b".device 1k\n.logic_tile 12 1\n")?;
     let usual = there_and_back(alloc, &text, false);
     let moved = there_and_back_with(alloc, &text, layouts);
     Ok(match (usual, moved) {

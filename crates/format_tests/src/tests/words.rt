@@ -4,6 +4,7 @@ mod modes;
 
 use asc_text::{AscCause, AscFault, TileXy};
 use bram_replace::{BramFault, HexFault, HexFile, replace};
+use plane_map::TileKind;
 use std::alloc::{AllocError, Global};
 
 /// The lines of a RAM whose word a is the digit a mod 16, and of one whose word a is 15 less that digit.
@@ -16,6 +17,9 @@ const CAPITALS: &str = "000F000E000D000C000B000A00090008000700060005000400030002
 
 /// A line in which no word is a rising one.
 const UNLIKE: &str = "ABCDABCDABCDABCDABCDABCDABCDABCDABCDABCDABCDABCDABCDABCDABCDABCD";
+
+/// A row of a logic tile.
+const ROW: &str = "010000000000000000000000000000000000000000000000000001";
 
 /// So many times one line, with one end.
 type Lines<'a> = (usize, &'a str, &'a str);
@@ -177,6 +181,11 @@ fn passes(alloc: Global, asc: &[Lines]) -> Result<bool, HexFault> {
 fn passes_everything_else(rt: HostRuntime) {
     for asc in [
         [(1, ".device 1k", "\n")].as_slice(),
+        &[
+            (1, ".device 384", "\n"),
+            (1, ".logic_tile 1 1", "\n"),
+            (16, ROW, "\n"),
+        ],
         &ram(UNLIKE, " \r\n"),
         &[
             (1, ".comment", "\n"),
@@ -273,6 +282,13 @@ fn refuses_to_replace(rt: HostRuntime) {
         tile: Some(TileXy { x: 3, y: 1 }),
         cause: AscCause::Hex,
     });
+    let no_ram = BramFault::Asc(AscFault::At {
+        line: 2,
+        tile: Some(TileXy { x: 3, y: 1 }),
+        cause: AscCause::Kind {
+            expected: TileKind::Logic,
+        },
+    });
     let same = BramFault::SameColumns {
         first: 0,
         second: 1,
@@ -283,6 +299,7 @@ fn refuses_to_replace(rt: HostRuntime) {
         (".device 5k", zeros, rising, same),
         (".device 5k", rising, zeros, device),
         (".device 1k\n.ram_data 3 1", rising, rising, hex),
+        (".device 384\n.ram_data 3 1", rising, rising, no_ram),
     ] {
         assert!(rt;
             is_refused(rt.alloc(), asc, from, to, fault) == Ok(true),

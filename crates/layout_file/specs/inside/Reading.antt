@@ -2,7 +2,7 @@
 use Rattle.std.specs.Prelude.{◌≡◌, ℕ, Bool, true, false, not, List, length, nat_lt, ◌==◌, Option, Some, None}
 use Rattle.place_search.specs.Places.{or_else}
 use Rattle.plane_map.specs.declared.device.DeviceName.{DeviceName}
-use Rattle.plane_map.specs.declared.device.DeviceName.TheVariants.{K1, K8}
+use Rattle.plane_map.specs.declared.device.DeviceName.TheVariants.{L384, K1, K8}
 use Rattle.plane_map.specs.DeviceWords.{device_named}
 use Rattle.plane_map.specs.Layout.{standard_layout}
 use Rattle.layout_file.specs.declared.field.Numbers.{Numbers}
@@ -18,6 +18,7 @@ use Rattle.layout_file.specs.declared.section.Given.{Given}
 use Rattle.layout_file.specs.declared.section.Section.{Section as Part}
 use Rattle.layout_file.specs.declared.reader.Reader.{Reader}
 use Rattle.layout_file.specs.Lines.{Line, Passed, Section, List_of, Flag_of, Unknown}
+use Rattle.layout_file.specs.Layouts.{layouts_by}
 use Rattle.layout_file.specs.Faults.{is_section, device_in, cause_if, count_of, numbers_cause}
 
 -- ---- sections
@@ -89,35 +90,47 @@ with_flag section RamFlip value =
 
 -- ---- the reader
 
+-- a reader by the sections that it keeps
+abbrev pub reader_of : (DeviceName → Part) → Option DeviceName → Reader
+reader_of section current = record { k384 = section L384; k1 = section K1; k8 = section K8; current = current }
+
+-- the section of a device
+abbrev pub section_for : Reader → DeviceName → Part
+section_for reader L384 = reader.k384
+section_for reader K1 = reader.k1
+section_for reader K8 = reader.k8
+
+-- the reader with that section for a device
+abbrev pub with_section : Reader → DeviceName → Part → Reader
+with_section reader L384 section = record reader { k384 = section }
+with_section reader K1 section = record reader { k1 = section }
+with_section reader K8 section = record reader { k8 = section }
+
 -- no line was read
 abbrev pub unread : Reader
-unread = record { k1 = unread_section K1; k8 = unread_section K8; current = None }
+unread = reader_of unread_section None
 
 -- the layouts that were given
 abbrev pub layouts_of : Reader → Layouts
-layouts_of reader = record { k1 = reader.k1.layout; k8 = reader.k8.layout }
+layouts_of reader = layouts_by (λ device. (section_for reader device).layout)
 
 -- a section begins
 abbrev pub begin_refusal : Reader → Option DeviceName → Option LayoutCause
 begin_refusal reader None = Some Device
-begin_refusal reader (Some K1) = cause_if reader.k1.begun Repeated
-begin_refusal reader (Some K8) = cause_if reader.k8.begun Repeated
+begin_refusal reader (Some device) = cause_if (section_for reader device).begun Repeated
 
 abbrev pub begun_with : Reader → Option DeviceName → Reader
 begun_with reader None = reader
-begun_with reader (Some K1) = record reader { k1 = record reader.k1 { begun = true }; current = Some K1 }
-begun_with reader (Some K8) = record reader { k8 = record reader.k8 { begun = true }; current = Some K8 }
+begun_with reader (Some device) = record (with_section reader device (record (section_for reader device) { begun = true })) { current = Some device }
 
 -- a field of numbers in the section of a device
 abbrev pub list_refusal_at : Reader → Option DeviceName → Numbers → List ℕ → Option LayoutCause
 list_refusal_at reader None field numbers = Some Statement
-list_refusal_at reader (Some K1) field numbers = numbers_refusal reader.k1 field numbers
-list_refusal_at reader (Some K8) field numbers = numbers_refusal reader.k8 field numbers
+list_refusal_at reader (Some device) field numbers = numbers_refusal (section_for reader device) field numbers
 
 abbrev pub with_list_at : Reader → Option DeviceName → Numbers → List ℕ → Reader
 with_list_at reader None field numbers = reader
-with_list_at reader (Some K1) field numbers = record reader { k1 = with_numbers reader.k1 field numbers }
-with_list_at reader (Some K8) field numbers = record reader { k8 = with_numbers reader.k8 field numbers }
+with_list_at reader (Some device) field numbers = with_section reader device (with_numbers (section_for reader device) field numbers)
 
 abbrev pub list_refusal : Reader → Numbers → List ℕ → Option LayoutCause
 list_refusal reader field numbers = list_refusal_at reader reader.current field numbers
@@ -128,13 +141,11 @@ with_list reader field numbers = with_list_at reader reader.current field number
 -- a field of `yes` or `no` in the section of a device
 abbrev pub flag_refusal_at : Reader → Option DeviceName → Flag → Option LayoutCause
 flag_refusal_at reader None field = Some Statement
-flag_refusal_at reader (Some K1) field = flag_refusal reader.k1 field
-flag_refusal_at reader (Some K8) field = flag_refusal reader.k8 field
+flag_refusal_at reader (Some device) field = flag_refusal (section_for reader device) field
 
 abbrev pub with_flag_at : Reader → Option DeviceName → Flag → Bool → Reader
 with_flag_at reader None field value = reader
-with_flag_at reader (Some K1) field value = record reader { k1 = with_flag reader.k1 field value }
-with_flag_at reader (Some K8) field value = record reader { k8 = with_flag reader.k8 field value }
+with_flag_at reader (Some device) field value = with_section reader device (with_flag (section_for reader device) field value)
 
 abbrev pub flag_refusal_in : Reader → Flag → Option LayoutCause
 flag_refusal_in reader field = flag_refusal_at reader reader.current field

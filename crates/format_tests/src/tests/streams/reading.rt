@@ -9,6 +9,9 @@ use std::alloc::{AllocError, Global};
 /// Up to the bytes of the last two rows of a configuration plane of the HX1K.
 pub(super) const HX1K_HEAD: &[u8] = b"\x7E\xAA\x99\x7E\x62\x01\x4B\x72\x00\x02\x82\x00\x8E\x01\x01";
 
+/// Up to the bytes of the last four rows of a configuration plane of the LP384, which are 91.
+const LP384_HEAD: &[u8] = b"\x7E\xAA\x99\x7E\x62\0\xB5\x72\0\x04\x82\0\x4C\x01\x01";
+
 /// Up to the bytes of the last row of bank 3's configuration plane of the HX8K.
 const HX8K_HEAD: &[u8] = b"\x7E\xAA\x99\x7E\x62\x03\x67\x72\x00\x01\x82\x01\x0F\x11\x03\x01\x01";
 
@@ -63,9 +66,16 @@ fn each_cause_is_told_at_its_offset(rt: HostRuntime) {
         ),
         (b"\x7E\xAA\x99\x7E\x11\x04", 4, BinCause::BadBank),
         (b"\x7E\xAA\x99\x7E\x02\x00\x01", 4, BinCause::BadWidth),
+        // RAM planes without rows have no width.
+        (b"\x7E\xAA\x99\x7E\x01\x03", 4, BinCause::BadWidth),
         (
             b"\x7E\xAA\x99\x7E\x62\x01\x4B\x01\x01",
             7,
+            BinCause::BadHeight,
+        ),
+        (
+            b"\x7E\xAA\x99\x7E\x62\0\xB5\x72\0\x54\x01\x01",
+            10,
             BinCause::BadHeight,
         ),
         (
@@ -92,6 +102,27 @@ fn each_cause_is_told_at_its_offset(rt: HostRuntime) {
         ),
     ] {
         assert!(rt; is_refused(rt.alloc(), bytes, offset, cause), "{bytes:?}");
+    }
+}
+
+/// Whether data of the LP384 and then such bytes are refused where the kind of the last data is told.
+fn is_refused_behind(alloc: Global, bytes: &'static [u8]) -> Result<bool, AllocError> {
+    let stream = stream_of(alloc, &[(LP384_HEAD, 0, 91), (bytes, 0, 0)])?;
+    let offset = stream.len().saturating_sub(2);
+    Ok(is_refused(alloc, &stream, offset, BinCause::BadWidth))
+}
+
+#[test]
+fn a_device_without_ram_takes_no_rows_of_ram(rt: HostRuntime) {
+    for bytes in [
+        b"\0\0\x01\x03".as_slice(),
+        b"\0\0\x62\0\x3F\x72\0\x80\x01\x03",
+        b"\0\0\x62\x01\x4B\x72\0\x02\x01\x01",
+    ] {
+        assert!(rt;
+            is_refused_behind(rt.alloc(), bytes) == Ok(true),
+            "{bytes:?}"
+        );
     }
 }
 
@@ -152,6 +183,12 @@ fn data_are_rows_of_a_plane(rt: HostRuntime) {
             DeviceName::K1,
             at(0, 0, 142),
             at(0, 331, 143),
+        ),
+        (
+            [(LP384_HEAD, 0xFF, 91), (END, 0, 0)].as_slice(),
+            DeviceName::L384,
+            at(0, 181, 79),
+            at(0, 181, 75),
         ),
         (
             [(HX8K_HEAD, 0xFF, 109), (END, 0, 0)].as_slice(),

@@ -1,9 +1,9 @@
 // Streams as they are written.
 
-use crate::tests::{at, comment_of, is_in_cram, is_lower_ram};
+use crate::tests::{at, bit as tile_bit, comment_of, is_in_cram, is_lower_ram, is_tile_bit};
 use bin_stream::encode;
-use ice_image::{AnyImage, Range, Settings};
-use plane_map::{DeviceName, Place};
+use ice_image::{AnyImage, Comment, Range, Settings};
+use plane_map::{DeviceName, Place, TileBit};
 use std::alloc::{AllocError, Global};
 
 /// The settings of a new image.
@@ -81,6 +81,19 @@ fn images_without_a_bit_are_written(rt: HostRuntime) {
             32_220,
             23_952,
             b"\x62\0\x3F\x72\0\x80\x11\0\x82\0\0\x01\x03",
+        ),
+        (
+            (DeviceName::L384, USUAL, Some(none)),
+            7_334,
+            15,
+            b"\x62\0\xB5\x72\0\x50\x82\0\0\x11\0\x01\x01",
+        ),
+        // No RAM planes between the last configuration plane and the check.
+        (
+            (DeviceName::L384, USUAL, Some(none)),
+            7_334,
+            7_326,
+            b"\0\0\x22\xBE\x21\x01\x06\0",
         ),
         (
             (DeviceName::K8, USUAL, Some(none)),
@@ -203,6 +216,16 @@ fn each_change_has_its_bytes(rt: HostRuntime) {
             [(19_265, 0x10), (32_211, 0x9C), (32_212, 0x6B)].as_slice(),
         ),
         (
+            DeviceName::L384,
+            [bit(0, 18, 16)].as_slice(),
+            [(390, 0x20), (7_325, 0xFB), (7_326, 0x00)].as_slice(),
+        ),
+        (
+            DeviceName::L384,
+            [bit(3, 71, 31)].as_slice(),
+            [(6_216, 0x40), (7_325, 0x7C), (7_326, 0x36)].as_slice(),
+        ),
+        (
             DeviceName::K8,
             [bit(3, 71, 31)].as_slice(),
             [(92_373, 0x01), (135_091, 0xDB), (135_092, 0xC0)].as_slice(),
@@ -227,5 +250,33 @@ fn each_change_has_its_bytes(rt: HostRuntime) {
     ] {
         let answer = changes_bytes(rt.alloc(), device, changes, bytes);
         assert!(rt; answer == Ok(true), "{bytes:?}");
+    }
+}
+
+/// Sets a bit of a tile, where the image has the tile.
+fn set(image: &mut AnyImage, bit: TileBit) {
+    if is_tile_bit(image.device(), bit) {
+        image.set_tile_bit(bit, true);
+    }
+}
+
+/// The byte at an offset of the stream of an image of the LP384 with a comment without lines and one bit of a tile.
+fn byte_with(alloc: Global, bit: TileBit, offset: usize) -> Result<Option<u8>, AllocError> {
+    let mut image = AnyImage::zeroed(alloc, DeviceName::L384)?;
+    image.set_comment(Some(Comment::new(alloc)));
+    set(&mut image, bit);
+    Ok(encode(alloc, &image)?.get(offset).copied())
+}
+
+#[test]
+fn bits_of_tiles_of_the_smallest_device_have_their_bytes(rt: HostRuntime) {
+    for (bit, offset, byte) in [
+        (tile_bit(1, 1, 0, 0), 394, 0x20),
+        (tile_bit(6, 8, 0, 0), 6_220, 0x40),
+    ] {
+        assert!(rt;
+            byte_with(rt.alloc(), bit, offset) == Ok(Some(byte)),
+            "at {offset}"
+        );
     }
 }

@@ -12,7 +12,7 @@ use std::test::Fail;
 /// A faulty text, its first faulty line, the tile or RAM to which that belongs, and what is wrong.
 type Faulty = (&'static str, u64, Option<TileXy>, AscCause);
 
-static FAULTY: [Faulty; 29] = [
+static FAULTY: [Faulty; 35] = [
     ("", 1, None, AscCause::NoDevice),
     (".comment\n.sym 1 a\n", 3, None, AscCause::NoDevice),
     (
@@ -51,6 +51,36 @@ static FAULTY: [Faulty; 29] = [
             expected: TileKind::RamT,
         },
     ),
+    (
+        ".device 384\n.ramb_tile 3 1\n",
+        2,
+        Some(TileXy { x: 3, y: 1 }),
+        AscCause::Kind {
+            expected: TileKind::Logic,
+        },
+    ),
+    (
+        ".device 384\n.ram_data 3 1\n",
+        2,
+        Some(TileXy { x: 3, y: 1 }),
+        AscCause::Kind {
+            expected: TileKind::Logic,
+        },
+    ),
+    (
+        ".device 384\n.logic_tile 7 9\n",
+        2,
+        Some(TileXy { x: 7, y: 9 }),
+        AscCause::Coordinates,
+    ),
+    (
+        ".device 384\n.extra_bit 3 180 79\n.extra_bit 3 179 79\n",
+        3,
+        None,
+        AscCause::ExtraPlace,
+    ),
+    (".device 384\n.device 384\n", 2, None, AscCause::Repeated),
+    (".device 0384\n", 1, None, AscCause::Device),
     (
         ".device 1k\n.io_tile 1 0\n0101\n",
         3,

@@ -78,6 +78,7 @@ fn line_count(alloc: Global, device: DeviceName) -> Result<usize, AllocError> {
 
 #[test]
 fn writes_each_tile(rt: HostRuntime) {
+    assert!(rt; line_count(rt.alloc(), DeviceName::L384) == Ok(1293));
     assert!(rt; line_count(rt.alloc(), DeviceName::K1) == Ok(4489));
     assert!(rt; line_count(rt.alloc(), DeviceName::K8) == Ok(20129));
 }

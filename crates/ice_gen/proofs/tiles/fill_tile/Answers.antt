@@ -18,13 +18,13 @@ pub returns-in-Some-Logic-clause-count : goal.returns-in-Some-Logic-clause-count
 returns-in-Some-Logic-clause-count c =
     let device = device_of c.args.image.now in
     let there : kind_of device c.args.x c.args.y ≡ Some Logic = cc (c.in-Some-Logic.ensures.kind, c.device.ensures.device, c.from.ensures, c.from-2.ensures) in
-    omega (arith, c.fill_cells.ensures.count, c.requires.count, logic-more device c.args.x c.args.y there)
+    omega (arith, c.fill_cells.ensures.count, c.requires.count, logic-more device c.args.x c.args.y c.requires.database there)
 
 pub returns-in-Some-Io-clause-count : goal.returns-in-Some-Io-clause-count
 returns-in-Some-Io-clause-count c =
     let device = device_of c.args.image.now in
     let there : kind_of device c.args.x c.args.y ≡ Some Io = cc (c.in-Some-Io.ensures.kind, c.device.ensures.device, c.from.ensures, c.from-2.ensures) in
-    c.requires.count ∙ ap (λ n. 16 * n) (sym (logic-same device c.args.x c.args.y c.requires.column c.requires.row (λ e. cc (sym there ∙ e))))
+    c.requires.count ∙ ap (λ n. 16 * n) (sym (logic-same device c.args.x c.args.y c.requires.database c.requires.column c.requires.row (λ e. cc (sym there ∙ e))))
 
 pub returns-in-Some-Io-clause-filled : goal.returns-in-Some-Io-clause-filled
 returns-in-Some-Io-clause-filled c =
@@ -38,7 +38,7 @@ pub returns-in-Some-RamB-clause-count : goal.returns-in-Some-RamB-clause-count
 returns-in-Some-RamB-clause-count c =
     let device = device_of c.args.image.now in
     let there : kind_of device c.args.x c.args.y ≡ Some RamB = cc (c.in-Some-RamB.ensures.kind, c.device.ensures.device, c.from.ensures, c.from-2.ensures) in
-    c.requires.count ∙ ap (λ n. 16 * n) (sym (logic-same device c.args.x c.args.y c.requires.column c.requires.row (λ e. cc (sym there ∙ e))))
+    c.requires.count ∙ ap (λ n. 16 * n) (sym (logic-same device c.args.x c.args.y c.requires.database c.requires.column c.requires.row (λ e. cc (sym there ∙ e))))
 
 pub returns-in-Some-RamB-clause-filled : goal.returns-in-Some-RamB-clause-filled
 returns-in-Some-RamB-clause-filled c =
@@ -50,7 +50,7 @@ pub returns-in-Some-RamT-clause-count : goal.returns-in-Some-RamT-clause-count
 returns-in-Some-RamT-clause-count c =
     let device = device_of c.args.image.now in
     let there : kind_of device c.args.x c.args.y ≡ Some RamT = cc (c.in-Some-RamT.ensures.kind, c.device.ensures.device, c.from.ensures, c.from-2.ensures) in
-    c.requires.count ∙ ap (λ n. 16 * n) (sym (logic-same device c.args.x c.args.y c.requires.column c.requires.row (λ e. cc (sym there ∙ e))))
+    c.requires.count ∙ ap (λ n. 16 * n) (sym (logic-same device c.args.x c.args.y c.requires.database c.requires.column c.requires.row (λ e. cc (sym there ∙ e))))
 
 pub returns-in-Some-RamT-clause-filled : goal.returns-in-Some-RamT-clause-filled
 returns-in-Some-RamT-clause-filled c =
@@ -62,7 +62,7 @@ pub returns-in-None-clause-count : goal.returns-in-None-clause-count
 returns-in-None-clause-count c =
     let device = device_of c.args.image.now in
     let there : kind_of device c.args.x c.args.y ≡ None = cc (c.in-None.ensures.kind, c.device.ensures.device, c.from.ensures, c.from-2.ensures) in
-    c.requires.count ∙ ap (λ n. 16 * n) (sym (logic-same device c.args.x c.args.y c.requires.column c.requires.row (λ e. cc (sym there ∙ e))))
+    c.requires.count ∙ ap (λ n. 16 * n) (sym (logic-same device c.args.x c.args.y c.requires.database c.requires.column c.requires.row (λ e. cc (sym there ∙ e))))
 
 pub returns-in-None-clause-filled : goal.returns-in-None-clause-filled
 returns-in-None-clause-filled c =

@@ -1,10 +1,17 @@
-use Rattle.std.proofs.Common.{◌∙◌, ap, refl, subst, sym}
-use Rattle.std.specs.Prelude.{None, Option}
+use Rattle.std.proofs.Common.{◌≡◌, ◌∙◌, true, ap, refl, subst, sym}
+use Rattle.std.specs.Prelude.{None, Option, IfSome, map, string_bytes}
+use Rattle.plane_map.specs.Devices.{has_database}
 use Rattle.tool_run.specs.Tasks.{at_once}
 use Rattle.tool_run.proofs.Same.{Does-same}
 use Rattle.job_tools.specs.declared.request.Request.{Request}
 use Rattle.job_tools.specs.Selfrun.{IsAnswerFor, selfrun_name}
+use Rattle.job_tools.proofs.Words.{request-database}
 use Rattle.job_tools.proofs.running.do_args.Goals as goal
+
+pub tell-requires : goal.tell-requires
+tell-requires g c =
+    let asked = sym c.in-Ok-Some.ensures ∙ c.in-Ok-Some.field-0-is in
+    subst (λ (request : Option Request). IfSome request (λ request. has_database request.device ≡ true)) asked (request-database (map string_bytes c.args.args.now))
 
 pub returns-in-Ok-Some : goal.returns-in-Ok-Some
 returns-in-Ok-Some g c answer given =

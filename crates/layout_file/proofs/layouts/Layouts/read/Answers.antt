@@ -3,6 +3,9 @@ use Rattle.std.proofs.lemmas.Result.{err_from_is_err_and}
 use Rattle.shared_lemmas.proofs.Cuts.{drop_cons}
 use Rattle.text_lines.specs.Lines.{lines_of}
 use Rattle.place_search.specs.Places.{first_below}
+use Rattle.layout_file.specs.Layouts.{layouts_in}
+use Rattle.layout_file.specs.inside.Reading.{layouts_of}
+use Rattle.layout_file.proofs.ByDevice.{read-are}
 use Rattle.layout_file.proofs.LineSteps.{reader-first}
 use Rattle.layout_file.proofs.Ends.{accepted, answered, cut-end, fit-next, read-next, refused}
 use Rattle.layout_file.proofs.layouts.Layouts.read.Goals as goal
@@ -53,3 +56,10 @@ returns-clause-accepted c =
     let i = c.loop-line.invariant in
     let all = cut-end (lines_of c.args.bytes.now) c.loop-line.count c.loop-line.left.now c.in_default.ensures.lines i.rest i.within in
     accepted c.args.bytes.now c.loop-line.count all i.fit
+
+pub returns-clause-devices : goal.returns-clause-devices
+returns-clause-devices c =
+    let i = c.loop-line.invariant in
+    let all = cut-end (lines_of c.args.bytes.now) c.loop-line.count c.loop-line.left.now c.in_default.ensures.lines i.rest i.within in
+    let are : layouts_of c.loop-line.reader ≡ layouts_in c.args.bytes.now = answered c.args.bytes.now c.loop-line.count c.loop-line.reader all i.read in
+    rw (c.layouts.ensures, are) (read-are c.args.bytes.now)

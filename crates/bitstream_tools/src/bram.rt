@@ -72,7 +72,7 @@ impl Tool for Replacing {
 
     ghost answer_of = { λ tool texts. icebram_answer tool.modes texts };
 
-    fn answer(&self, alloc: Global, loaded: &Vec<Vec<u8>>) -> Result<Vec<u8>, Stop> {
+    fn answer(&self, alloc: Global, loaded: &Vec<Vec<u8>>) -> Result<Vec<u8>, Stop<'_>> {
         replaced_by(
             alloc,
             self.modes,
@@ -84,7 +84,7 @@ impl Tool for Replacing {
 }
 
 // The words of a file of that name. More bytes than its limit are never loaded.
-fn words_of(alloc: Global, name: &'static str, bytes: &[u8]) -> Result<HexFile, Stop>
+fn words_of(alloc: Global, name: &'static str, bytes: &[u8]) -> Result<HexFile, Stop<'static>>
     ensures words { IfOk result (λ words. words ≡ contents_of bytes.now) }
     ensures accepted { OnOk result (hex_fault_of bytes.now ≡ None) }
     ensures refused { IfErr result (TellsWhy (option_map (hex_fault_text name.now) (hex_fault_of bytes.now))) }
@@ -106,7 +106,7 @@ fn replaced(
     text: &[u8],
     from: &HexFile,
     to: &HexFile,
-) -> Result<Vec<u8>, Stop>
+) -> Result<Vec<u8>, Stop<'static>>
     ensures bytes { IfOk result (λ bytes. bytes.items ≡ replaced text.now from.now to.now (modes_in modes (lines_of text.now))) }
     ensures accepted { OnOk result (bram_fault text.now from.now to.now ≡ None) }
     ensures refused { IfErr result (TellsWhy (option_map bram_fault_text (bram_fault text.now from.now to.now))) }
@@ -125,7 +125,7 @@ fn replaced_by(
     from: &[u8],
     to: &[u8],
     text: &[u8],
-) -> Result<Vec<u8>, Stop>
+) -> Result<Vec<u8>, Stop<'static>>
     ensures bytes { IfOk result (λ bytes. replaced_answer modes from.now to.now text.now ≡ Done bytes.items) }
     ensures stops { IfErr result (StopsWith (replaced_answer modes from.now to.now text.now)) }
 {

@@ -10,7 +10,7 @@ use tool_parts::{asc_refusal, refusal, whole};
 use tool_run::{Phrase, Refusal, decimal, text};
 
 /// Why images aren't joined.
-pub(crate) fn multi_refusal(fault: MultiFault) -> Refusal
+pub(crate) fn multi_refusal(fault: MultiFault) -> Refusal<'static>
     ensures { refusal_text result ≡ multi_fault_text fault }
 {
     let phrase = match fault {
@@ -25,8 +25,8 @@ pub(crate) fn multi_refusal(fault: MultiFault) -> Refusal
 }
 
 // A refusal of a file of that name: where, and the cause.
-fn file_refusal(name: &'static str, place: Phrase, cause: &'static str) -> Refusal
-    ensures { refusal_text result ≡ name.now ++ phrase_text place ++ cause.now }
+fn file_refusal(name: &'static str, place: Phrase<'static>, cause: &'static str) -> Refusal<'static>
+    ensures { refusal_text result ≡ name.now ++ phrase_text place.entry ++ cause.now }
 {
     Refusal {
         first: text(name),
@@ -37,7 +37,7 @@ fn file_refusal(name: &'static str, place: Phrase, cause: &'static str) -> Refus
 }
 
 /// Why a file of words of that name isn't read.
-pub(crate) fn hex_refusal(name: &'static str, fault: HexFault) -> Refusal
+pub(crate) fn hex_refusal(name: &'static str, fault: HexFault) -> Refusal<'static>
     ensures { refusal_text result ≡ hex_fault_text name.now fault }
 {
     match fault {
@@ -49,7 +49,7 @@ pub(crate) fn hex_refusal(name: &'static str, fault: HexFault) -> Refusal
 }
 
 /// Why the contents of RAMs aren't replaced.
-pub(crate) fn bram_refusal(fault: BramFault) -> Refusal
+pub(crate) fn bram_refusal(fault: BramFault) -> Refusal<'static>
     ensures { refusal_text result ≡ bram_fault_text fault }
 {
     match fault {

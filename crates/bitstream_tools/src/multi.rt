@@ -55,7 +55,7 @@ impl Tool for Joining {
 
     ghost answer_of = { λ tool images. join_answer tool.options images };
 
-    fn answer(&self, alloc: Global, loaded: &Vec<Vec<u8>>) -> Result<Vec<u8>, Stop> {
+    fn answer(&self, alloc: Global, loaded: &Vec<Vec<u8>>) -> Result<Vec<u8>, Stop<'_>> {
         match join(alloc, loaded, self.options) {
             Ok(file) => Ok(file),
             Err(MultiFault::Memory(_)) => Err(Stop::Memory),

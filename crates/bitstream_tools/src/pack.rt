@@ -89,7 +89,11 @@ impl PieceTool for Pack {
         packing.close(alloc);
     }
 
-    fn finish(&self, alloc: Global, packing: Taking<First<AscReader>>) -> Result<Vec<u8>, Stop> {
+    fn finish(
+        &self,
+        alloc: Global,
+        packing: Taking<First<AscReader>>,
+    ) -> Result<Vec<u8>, Stop<'_>> {
         packed_after(alloc, self.named, self.no_sleep, packing)
     }
 }

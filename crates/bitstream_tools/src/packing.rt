@@ -22,7 +22,7 @@ pub(crate) fn packed_after(
     named: bool,
     no_sleep: bool,
     packing: Taking<First<AscReader>>,
-) -> Result<Vec<u8>, Stop>
+) -> Result<Vec<u8>, Stop<'static>>
     ensures bytes { IfOk result (λ made. (texts : List (List ℕ)) → IsTaking (TakesFirst StandsFor) named texts [] packing
         → pack_answer named no_sleep texts ≡ Done made.items) }
     ensures stops { IfErr result (λ stop. (texts : List (List ℕ)) → IsTaking (TakesFirst StandsFor) named texts [] packing
@@ -35,7 +35,7 @@ pub(crate) fn packed_after(
 }
 
 /// The bitstream of what was fed to a reader, or why there is none.
-fn packed(alloc: Global, no_sleep: bool, reader: AscReader) -> Result<Vec<u8>, Stop>
+fn packed(alloc: Global, no_sleep: bool, reader: AscReader) -> Result<Vec<u8>, Stop<'static>>
     ensures bytes { IfOk result (λ made. (layouts : Layouts) (text : List ℕ) → StandsFor layouts text reader
         → packed_under no_sleep text layouts ≡ Done made.items) }
     ensures stops { IfErr result (λ stop. (layouts : Layouts) (text : List ℕ) → StandsFor layouts text reader

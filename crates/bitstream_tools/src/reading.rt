@@ -105,7 +105,10 @@ impl<R: PieceReader> TextTaker for First<R> {
 }
 
 /// The reader of the text behind the layout file, or why nothing has read it.
-pub(crate) fn reader_of<R: PieceReader>(alloc: Global, taking: Taking<First<R>>) -> Result<R, Stop>
+pub(crate) fn reader_of<R: PieceReader>(
+    alloc: Global,
+    taking: Taking<First<R>>,
+) -> Result<R, Stop<'static>>
     ensures reader { IfOk result (λ reader. (named : Bool) (texts : List (List ℕ)) → IsTaking (TakesFirst R.stands) named texts [] taking
         → (layouts : Layouts) × (layouts_for named texts ≡ Ok layouts) × R.stands layouts (get_or texts (behind_layout named 0) []) reader) }
     ensures stops { IfErr result (λ stop. (named : Bool) (texts : List (List ℕ)) (answer : Layouts → Answer) → IsTaking (TakesFirst R.stands) named texts [] taking

@@ -63,13 +63,13 @@ impl Tool for Splitting {
 
     ghost answer_of = { λ tool texts. icesplit_answer tool.wanted texts };
 
-    fn answer(&self, alloc: Global, loaded: &Vec<Vec<u8>>) -> Result<Vec<u8>, Stop> {
+    fn answer(&self, alloc: Global, loaded: &Vec<Vec<u8>>) -> Result<Vec<u8>, Stop<'_>> {
         split_bytes(alloc, loaded_at(loaded, 0), self.wanted)
     }
 }
 
 // The lines of a boot file, or the image that is wanted.
-fn split_bytes(alloc: Global, bytes: &[u8], wanted: Option<u32>) -> Result<Vec<u8>, Stop>
+fn split_bytes(alloc: Global, bytes: &[u8], wanted: Option<u32>) -> Result<Vec<u8>, Stop<'static>>
     ensures bytes { IfOk result (λ answer. split_answer wanted (boot_read_of bytes.now) ≡ Done answer.items) }
     ensures stops { IfErr result (StopsWith (split_answer wanted (boot_read_of bytes.now))) }
 {
@@ -83,7 +83,7 @@ fn split_bytes(alloc: Global, bytes: &[u8], wanted: Option<u32>) -> Result<Vec<u
 }
 
 // The canonical bytes of an image, where there is one of that number.
-fn image_bytes(alloc: Global, images: &[BootImage], index: u32) -> Result<Vec<u8>, Stop>
+fn image_bytes(alloc: Global, images: &[BootImage], index: u32) -> Result<Vec<u8>, Stop<'static>>
     ensures bytes { IfOk result (λ bytes. extracted index (slice_get (map placed_of images.now) index) ≡ Done bytes.items) }
     ensures stops { IfErr result (StopsWith (extracted index (slice_get (map placed_of images.now) index))) }
 {

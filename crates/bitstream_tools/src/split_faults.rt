@@ -10,7 +10,7 @@ use tool_parts::{bin_cause, refusal, whole};
 use tool_run::{Refusal, Stop, decimal, text};
 
 /// Why a boot file isn't split.
-pub(crate) fn split_stop(fault: SplitFault) -> Stop
+pub(crate) fn split_stop(fault: SplitFault) -> Stop<'static>
     ensures { (found : Option Fault) → Tells found fault → StopsSplit found result }
 {
     match fault {
@@ -20,7 +20,7 @@ pub(crate) fn split_stop(fault: SplitFault) -> Stop
 }
 
 // What is said of a fault.
-fn split_refusal(fault: SplitFault) -> Refusal
+fn split_refusal(fault: SplitFault) -> Refusal<'static>
     ensures { refusal_text result ≡ split_fault_text fault }
 {
     match fault {

@@ -88,7 +88,7 @@ impl PieceTool for Unpack {
         &self,
         alloc: Global,
         unpacking: Taking<First<Decoder>>,
-    ) -> Result<CanonicalText, Stop> {
+    ) -> Result<CanonicalText, Stop<'_>> {
         unpacked_after(alloc, self.named, unpacking)
     }
 }

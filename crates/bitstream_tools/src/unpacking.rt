@@ -25,7 +25,7 @@ pub(crate) fn unpacked_after(
     alloc: Global,
     named: bool,
     unpacking: Taking<First<Decoder>>,
-) -> Result<CanonicalText, Stop>
+) -> Result<CanonicalText, Stop<'static>>
     ensures text { IfOk result (λ text. (texts : List (List ℕ)) → IsTaking (TakesFirst StandsFor) named texts [] unpacking
         → unpack_answer named texts ≡ Done (canonical_in text)) }
     ensures stops { IfErr result (λ stop. (texts : List (List ℕ)) → IsTaking (TakesFirst StandsFor) named texts [] unpacking
@@ -38,7 +38,7 @@ pub(crate) fn unpacked_after(
 }
 
 /// The text of what was fed to a decoder, or its first fault.
-fn text_of(alloc: Global, decoder: Decoder) -> Result<CanonicalText, Stop>
+fn text_of(alloc: Global, decoder: Decoder) -> Result<CanonicalText, Stop<'static>>
     ensures text { IfOk result (λ text. (layouts : Layouts) (bytes : List ℕ) → StandsFor layouts bytes decoder
         → unpacked_under bytes layouts ≡ Done (canonical_in text)) }
     ensures stops { IfErr result (λ stop. (layouts : Layouts) (bytes : List ℕ) → StandsFor layouts bytes decoder
@@ -51,7 +51,7 @@ fn text_of(alloc: Global, decoder: Decoder) -> Result<CanonicalText, Stop>
 }
 
 /// Why there is no text of a bitstream with a fault.
-pub(crate) fn stop_of(fault: BinFault) -> Stop
+pub(crate) fn stop_of(fault: BinFault) -> Stop<'static>
     ensures { (read : Result Configuration Fault) → Tells read fault → StopsWith (unpacked read) result }
 {
     match fault {

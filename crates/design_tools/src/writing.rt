@@ -66,13 +66,17 @@ impl<'a> PieceTool for Writing<'a> {
         taking.close(alloc);
     }
 
-    fn finish(&self, alloc: Global, taking: Taking<DesignInput>) -> Result<Vec<u8>, Stop> {
+    fn finish(&self, alloc: Global, taking: Taking<DesignInput>) -> Result<Vec<u8>, Stop<'_>> {
         written_after(alloc, self.name.text.as_bytes(), taking)
     }
 }
 
 // The module of the database and the image, after the last piece of both.
-fn written_after(alloc: Global, name: &[u8], taking: Taking<DesignInput>) -> Result<Vec<u8>, Stop>
+fn written_after(
+    alloc: Global,
+    name: &[u8],
+    taking: Taking<DesignInput>,
+) -> Result<Vec<u8>, Stop<'static>>
     requires { IsName name.now }
     ensures bytes { IfOk result (λ bytes. (named : Bool) (texts : List (List ℕ)) → IsTaking TakesInput named texts [] taking
         → vlog_answer named name.now texts ≡ Done bytes.items) }
@@ -87,7 +91,12 @@ fn written_after(alloc: Global, name: &[u8], taking: Taking<DesignInput>) -> Res
 
 // The module of a database and an image.
 #[tactic(auto, using(crate::proofs::Written::stops_design))]
-fn text_of(alloc: Global, db: &ChipDb, image: &AnyImage, name: &[u8]) -> Result<Vec<u8>, Stop>
+fn text_of(
+    alloc: Global,
+    db: &ChipDb,
+    image: &AnyImage,
+    name: &[u8],
+) -> Result<Vec<u8>, Stop<'static>>
     requires { IsName name.now }
     ensures bytes { IfOk result (λ bytes. written name.now (database_in db.now) (configuration_of image.now) ≡ Done bytes.items) }
     ensures stops { IfErr result (StopsWith (written name.now (database_in db.now) (configuration_of image.now))) }

@@ -100,13 +100,13 @@ impl PieceTool for Counting {
         taking.close(alloc);
     }
 
-    fn finish(&self, alloc: Global, taking: Taking<DesignInput>) -> Result<Vec<u8>, Stop> {
+    fn finish(&self, alloc: Global, taking: Taking<DesignInput>) -> Result<Vec<u8>, Stop<'_>> {
         counted_after(alloc, taking)
     }
 }
 
 // The counts, after the last piece of both.
-fn counted_after(alloc: Global, taking: Taking<DesignInput>) -> Result<Vec<u8>, Stop>
+fn counted_after(alloc: Global, taking: Taking<DesignInput>) -> Result<Vec<u8>, Stop<'static>>
     ensures bytes { IfOk result (λ bytes. (texts : List (List ℕ)) → IsTaking TakesInput false texts [] taking
         → stat_answer texts ≡ Done bytes.items) }
     ensures stops { IfErr result (λ stop. (texts : List (List ℕ)) → IsTaking TakesInput false texts [] taking
@@ -120,7 +120,7 @@ fn counted_after(alloc: Global, taking: Taking<DesignInput>) -> Result<Vec<u8>, 
 
 // The counts of an image by a database.
 #[tactic(auto, using(crate::proofs::Counted::stops_counted, crate::proofs::Counted::counted_done))]
-fn count_text(alloc: Global, db: &ChipDb, image: &AnyImage) -> Result<Vec<u8>, Stop>
+fn count_text(alloc: Global, db: &ChipDb, image: &AnyImage) -> Result<Vec<u8>, Stop<'static>>
     ensures bytes { IfOk result (λ bytes. counted (database_in db.now) (configuration_of image.now) ≡ Done bytes.items) }
     ensures stops { IfErr result (StopsWith (counted (database_in db.now) (configuration_of image.now))) }
 {

@@ -60,7 +60,7 @@ impl PieceTool for Explaining {
         taking.close(alloc);
     }
 
-    fn finish(&self, alloc: Global, taking: Taking<DesignInput>) -> Result<Vec<u8>, Stop> {
+    fn finish(&self, alloc: Global, taking: Taking<DesignInput>) -> Result<Vec<u8>, Stop<'_>> {
         explained_after(alloc, self.only, taking)
     }
 }
@@ -70,7 +70,7 @@ fn explained_after(
     alloc: Global,
     only: Option<TileXy>,
     taking: Taking<DesignInput>,
-) -> Result<Vec<u8>, Stop>
+) -> Result<Vec<u8>, Stop<'static>>
     ensures bytes { IfOk result (λ bytes. (named : Bool) (texts : List (List ℕ)) → IsTaking TakesInput named texts [] taking
         → explain_answer named only texts ≡ Done bytes.items) }
     ensures stops { IfErr result (λ stop. (named : Bool) (texts : List (List ℕ)) → IsTaking TakesInput named texts [] taking
@@ -88,7 +88,7 @@ fn text_of(
     db: &ChipDb,
     image: &AnyImage,
     only: Option<TileXy>,
-) -> Result<Vec<u8>, Stop>
+) -> Result<Vec<u8>, Stop<'static>>
     ensures bytes { IfOk result (λ bytes. told (database_in db.now) (configuration_of image.now) only ≡ Done bytes.items) }
     ensures stops { IfErr result (StopsWith (told (database_in db.now) (configuration_of image.now) only)) }
 {

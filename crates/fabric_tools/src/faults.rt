@@ -12,7 +12,7 @@ use tool_parts::whole;
 use tool_run::{Refusal, Stop, decimal, text};
 
 /// Why nothing is explained.
-pub(crate) fn explain_refusal(fault: ExplainFault) -> Refusal
+pub(crate) fn explain_refusal(fault: ExplainFault) -> Refusal<'static>
     ensures { refusal_text result ≡ explain_fault_text fault }
 {
     match fault {
@@ -28,7 +28,7 @@ pub(crate) fn explain_refusal(fault: ExplainFault) -> Refusal
 }
 
 /// Why nothing is counted: it is told in the words for a design.
-pub(crate) fn stat_stop(fault: StatFault) -> Stop
+pub(crate) fn stat_stop(fault: StatFault) -> Stop<'static>
     ensures { StopsFor (told_fault (of_counts fault)) result }
 {
     design_stop(&design_fault(fault))

@@ -9,10 +9,11 @@ use Rattle.bitstream_tools.specs.Unpack.{iceunpack_outcome}
 use Rattle.fabric_tools.specs.Explain.{explain_outcome}
 use Rattle.fabric_tools.specs.Stat.{stat_outcome}
 use Rattle.module_tools.specs.Vlogrun.{vlogrun_outcome}
+use Rattle.module_tools.specs.Vlogsweep.{vlogsweep_outcome}
 use Rattle.design_tools.specs.Vlog.{vlog_outcome}
 use Rattle.job_tools.specs.Selfrun.{IsSelfrunAnswer, selfrun_outcome}
 use Rattle.icestorm_cli.specs.declared.tool.Tool.{Tool}
-use Rattle.icestorm_cli.specs.declared.tool.Tool.TheVariants.{Icepack, Iceunpack, Icemulti, Icesplit, Icebram, IceboxExplain, IceboxStat, IceboxVlog, Vlogrun, Selfrun}
+use Rattle.icestorm_cli.specs.declared.tool.Tool.TheVariants.{Icepack, Iceunpack, Icemulti, Icesplit, Icebram, IceboxExplain, IceboxStat, IceboxVlog, Vlogrun, Vlogsweep, Selfrun}
 use Rattle.icestorm_cli.specs.declared.tool.TheConstants.{HELP, VERSION}
 
 -- the tool that a word names
@@ -27,6 +28,7 @@ tool_named word =
     else if bytes_eq word (codes "icebox_stat") then Some IceboxStat
     else if bytes_eq word (codes "icebox_vlog") then Some IceboxVlog
     else if bytes_eq word (codes "vlogrun") then Some Vlogrun
+    else if bytes_eq word (codes "vlogsweep") then Some Vlogsweep
     else if bytes_eq word (codes "selfrun") then Some Selfrun
     else None
 
@@ -64,6 +66,7 @@ IsOutcomeOf (Some IceboxExplain) args task = task ≡ explain_outcome args
 IsOutcomeOf (Some IceboxStat) args task = task ≡ stat_outcome args
 IsOutcomeOf (Some IceboxVlog) args task = task ≡ vlog_outcome args
 IsOutcomeOf (Some Vlogrun) args task = task ≡ vlogrun_outcome args
+IsOutcomeOf (Some Vlogsweep) args task = task ≡ vlogsweep_outcome args
 IsOutcomeOf (Some Selfrun) args task = (answer : Answer) × IsSelfrunAnswer args answer × (task ≡ selfrun_outcome args answer)
 IsOutcomeOf None args task = task ≡ other_outcome args
 

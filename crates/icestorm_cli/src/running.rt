@@ -15,7 +15,7 @@ use design_tools::run_icebox_vlog;
 use fabric_tools::{run_icebox_explain, run_icebox_stat};
 use ice_io::{Files, Sink, Source};
 use job_tools::run_selfrun;
-use module_tools::run_vlogrun;
+use module_tools::{run_vlogrun, run_vlogsweep};
 use std::alloc::Global;
 use tool_run::{AtOnce, answer_at_once};
 
@@ -76,6 +76,7 @@ pub fn run<F: Files, I: Source, O: Sink, E: Sink>(
         Some(Tool::IceboxStat) => run_icebox_stat(alloc, args, files, input, output, errors),
         Some(Tool::IceboxVlog) => run_icebox_vlog(alloc, args, files, input, output, errors),
         Some(Tool::Vlogrun) => run_vlogrun(alloc, args, files, input, output, errors),
+        Some(Tool::Vlogsweep) => run_vlogsweep(alloc, args, files, input, output, errors),
         Some(Tool::Selfrun) => run_selfrun(alloc, args, files, input, output, errors),
         None => {
             let answer = own_answer(args);

@@ -5,8 +5,8 @@ ghost use Rattle.icestorm_cli.specs.Starts.{DoesArgs, Starts};
 
 use crate::running::run;
 use ice_io::{Files, Sink, Source};
-use std::alloc::Global;
-use std::env;
+use std::alloc::{AllocError, Global};
+use std::env::{self, Args};
 use std::io::ErrorKind;
 use std::rt::Env;
 
@@ -27,6 +27,15 @@ fn status_without_args(kind: ErrorKind) -> u8
     }
 }
 
+/// The arguments in a list, or want of memory where room for them is refused.
+fn listed(alloc: Global, args: Args) -> Result<Vec<String>, AllocError> {
+    let mut list = Vec::with_capacity(alloc, args.len())?;
+    for arg in args {
+        list.push(arg).map_err(AllocError::from)?;
+    }
+    Ok(list)
+}
+
 /// The program's arguments, the first of which is its own name, or the exit status where they can't be had.
 fn args_of(rt: &(impl Env + AllocGlobal)) -> Result<Vec<String>, u8>
     ensures { IfErr result (λ status. (status ≡ 2) ⊎ (status ≡ 5)) }
@@ -35,9 +44,9 @@ fn args_of(rt: &(impl Env + AllocGlobal)) -> Result<Vec<String>, u8>
         Ok(args) => args,
         Err(error) => return Err(status_without_args(error.kind())),
     };
-    match args.collect(rt.alloc()) {
+    match listed(rt.alloc(), args) {
         Ok(args) => Ok(args),
-        Err(_) => Err(OUT_OF_MEMORY),
+        Err(AllocError) => Err(OUT_OF_MEMORY),
     }
 }
 

@@ -17,6 +17,7 @@ mod replacing;
 mod small;
 mod splitting;
 mod steps;
+mod sweeping;
 mod turns;
 mod unpacking;
 mod writing;

@@ -23,6 +23,8 @@ pub enum Tool {
     IceboxVlog,
     /// A run of a module.
     Vlogrun,
+    /// Runs of a module over several lists of events.
+    Vlogsweep,
     /// A design that a number makes, taken through the others.
     Selfrun,
 }
@@ -50,6 +52,7 @@ Tools:
   icebox_stat  counts what an image uses
   icebox_vlog  writes the design of an image in a subset of Verilog
   vlogrun      runs a module of that subset over a list of events
+  vlogsweep    runs a module over up to 64 lists of events, each on its own
   selfrun      makes a design from a number and takes it through all other tools
 
 Example: icestorm icepack blink.asc blink.bin
@@ -84,6 +87,7 @@ fn tool_named(word: &str) -> Option<Tool>
         "icebox_stat" => Some(Tool::IceboxStat),
         "icebox_vlog" => Some(Tool::IceboxVlog),
         "vlogrun" => Some(Tool::Vlogrun),
+        "vlogsweep" => Some(Tool::Vlogsweep),
         "selfrun" => Some(Tool::Selfrun),
         _ => None,
     }

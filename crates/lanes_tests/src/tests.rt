@@ -1,10 +1,12 @@
 // Runs of an inverter, and of a memory.
 
+mod sweeps;
+
 use std::alloc::Global;
 use vlog_lanes::{Call, Lanes};
 use vlog_text::parse;
 
-const INVERTER: &[u8] = b"module chip (io_0_1_0, io_0_2_0);
+pub(crate) const INVERTER: &[u8] = b"module chip (io_0_1_0, io_0_2_0);
   input io_0_1_0;
   output io_0_2_0;
   wire n_0 = io_0_1_0;

@@ -21,3 +21,7 @@ abbrev pub event_fault_text : EventFault → List ℕ
 event_fault_text (Form line) = codes "line " ++ decimal line ++ codes ": Form"
 event_fault_text (Pin line) = codes "line " ++ decimal line ++ codes ": Pin"
 event_fault_text (Memory e) = codes "out of memory"
+
+-- the same behind the name of the file, where there are several
+abbrev pub file_fault_text : List ℕ → EventFault → List ℕ
+file_fault_text name fault = name ++ codes " " ++ event_fault_text fault

@@ -1,9 +1,13 @@
--- What holds of the command line of `vlogrun`: its command is simple, and each task is told under its name.
-use Rattle.std.specs.Prelude.{◌≡◌, Bool, true, List, codes, refl, Option, None, Some}
+-- What holds of the command lines of the tools: each command is simple, and each task is told under the name of its tool.
+use Rattle.std.specs.Prelude.{◌≡◌, ◌&&◌, Bool, true, false, List, codes, if◌then◌else◌, length, nat_le, refl, Option, None, Some}
 use Rattle.clap.specs.Words.{Row, Text, first_of, is_simple_and_free}
 use Rattle.clap.proofs.OnLiterals.{clap_on_literals}
-use Rattle.tool_parts.specs.Commands.{has_flag}
+use Rattle.tool_run.specs.Tasks.{usage_error}
+use Rattle.tool_parts.specs.Commands.{has_flag, values_of}
 use Rattle.module_tools.specs.Vlogrun.{vlogrun_command, vlogrun_name, vlogrun_task_by, vlogrun_task_of}
+use Rattle.module_tools.specs.Vlogsweep.{most_lists, sweep_task, vlogsweep_command, vlogsweep_name, vlogsweep_task_by, vlogsweep_task_of, vlogsweep_usage}
+
+-- ---- vlogrun
 
 pub vlogrun-simple : is_simple_and_free vlogrun_command ≡ true
 unfolding clap_on_literals
@@ -15,3 +19,20 @@ of-speaks registers None events = refl
 
 pub vlogrun-speaks : (rows : List Row) → (vlogrun_task_by rows).tool_name ≡ vlogrun_name
 vlogrun-speaks rows = of-speaks (has_flag (codes "registers") rows) (first_of (codes "module") rows) (first_of (codes "events") rows)
+
+-- ---- vlogsweep
+
+pub vlogsweep-simple : is_simple_and_free vlogsweep_command ≡ true
+unfolding clap_on_literals
+vlogsweep-simple = refl
+
+counted-speaks : (counts : Bool) (text : Text) (names : List Text) → (if counts then sweep_task text names else usage_error vlogsweep_name vlogsweep_usage).tool_name ≡ vlogsweep_name
+counted-speaks true text names = refl
+counted-speaks false text names = refl
+
+sweep-speaks : (text : Option Text) (names : List Text) → (vlogsweep_task_of text names).tool_name ≡ vlogsweep_name
+sweep-speaks (Some text) names = counted-speaks (nat_le 1 (length names) && nat_le (length names) most_lists) text names
+sweep-speaks None names = refl
+
+pub vlogsweep-speaks : (rows : List Row) → (vlogsweep_task_by rows).tool_name ≡ vlogsweep_name
+vlogsweep-speaks rows = sweep-speaks (first_of (codes "module") rows) (values_of (codes "events") rows)

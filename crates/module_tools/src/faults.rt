@@ -2,7 +2,7 @@
 ghost use Rattle.std.specs.Prelude.{◌≡◌, ◌++◌, codes};
 ghost use Rattle.tool_run.specs.Lines.{refusal_text};
 ghost use Rattle.vlog_forms.specs.Outcome.{fault};
-ghost use Rattle.module_tools.specs.Faults.{event_fault_text, vlog_cause_text, vlog_fault_text};
+ghost use Rattle.module_tools.specs.Faults.{event_fault_text, file_fault_text, vlog_cause_text, vlog_fault_text};
 
 use tool_parts::{refusal, whole};
 use tool_run::{Refusal, decimal, text};
@@ -22,19 +22,36 @@ fn vlog_cause_text(cause: VlogCause) -> &'static str
 }
 
 /// The fault of the text of a module.
-pub(crate) fn vlog_refusal(offset: u64, cause: VlogCause) -> Refusal
+pub(crate) fn vlog_refusal(offset: u64, cause: VlogCause) -> Refusal<'static>
     ensures { refusal_text result ≡ vlog_fault_text (fault offset cause) }
 {
     refusal(decimal("offset ", offset), text(vlog_cause_text(cause)))
 }
 
 /// The fault of a list of events.
-pub(crate) fn event_refusal(fault: EventFault) -> Refusal
+pub(crate) fn event_refusal(fault: EventFault) -> Refusal<'static>
     ensures { refusal_text result ≡ event_fault_text fault }
 {
     match fault {
         EventFault::Form { line } => refusal(decimal("line ", line), text(": Form")),
         EventFault::Pin { line } => refusal(decimal("line ", line), text(": Pin")),
         EventFault::Memory(_) => whole("out of memory"),
+    }
+}
+
+/// The fault of a list of events, behind the name of its file.
+pub(crate) fn file_refusal(name: &str, fault: EventFault) -> Refusal<'_>
+    ensures { refusal_text result ≡ file_fault_text name.now fault }
+{
+    let (told, cause) = match fault {
+        EventFault::Form { line } => (decimal("line ", line), ": Form"),
+        EventFault::Pin { line } => (decimal("line ", line), ": Pin"),
+        EventFault::Memory(_) => (text("out of memory"), ""),
+    };
+    Refusal {
+        first: text(name),
+        second: text(" "),
+        third: told,
+        fourth: text(cause),
     }
 }

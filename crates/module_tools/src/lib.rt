@@ -1,4 +1,4 @@
-//! The tools that take modules of the Verilog subset: `vlogrun`.
+//! The tools that take modules of the Verilog subset: `vlogrun` and `vlogsweep`.
 //!
 //! Each tool has its command line, its usage line and what it makes of what it loads. The function that runs it has one clause: a
 //! run does the task that the command line asks for.
@@ -7,6 +7,10 @@
 mod faults;
 mod request;
 mod running;
+mod sweep_request;
+mod sweeping;
 
 pub use request::{VLOGRUN_HELP, VLOGRUN_USAGE};
 pub use running::run_vlogrun;
+pub use sweep_request::{VLOGSWEEP_HELP, VLOGSWEEP_USAGE};
+pub use sweeping::run_vlogsweep;

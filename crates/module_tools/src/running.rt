@@ -18,7 +18,7 @@ use vlog_cycle::{EventFault, read_events, run_text};
 use vlog_text::{Module, VlogFault, parse};
 
 /// The most bytes of a module.
-const MODULE_LIMIT: usize = 67_108_864;
+pub(crate) const MODULE_LIMIT: usize = 67_108_864;
 
 /// The most bytes of a list of events.
 const EVENTS_LIMIT: usize = 1_048_576;
@@ -34,7 +34,7 @@ impl Tool for Running {
 
     ghost answer_of = { λ tool texts. vlogrun_answer tool.registers texts };
 
-    fn answer(&self, alloc: Global, loaded: &Vec<Vec<u8>>) -> Result<Vec<u8>, Stop> {
+    fn answer(&self, alloc: Global, loaded: &Vec<Vec<u8>>) -> Result<Vec<u8>, Stop<'_>> {
         run_texts(
             alloc,
             loaded_at(loaded, 0),
@@ -46,7 +46,12 @@ impl Tool for Running {
 
 // The lines of the run of a module over events, both in bytes.
 #[tactic(auto, using(crate::proofs::Outcomes::outcome_spelled, crate::proofs::Outcomes::outcome_faulty))]
-fn run_texts(alloc: Global, text: &[u8], events: &[u8], registers: bool) -> Result<Vec<u8>, Stop>
+fn run_texts(
+    alloc: Global,
+    text: &[u8],
+    events: &[u8],
+    registers: bool,
+) -> Result<Vec<u8>, Stop<'static>>
     ensures bytes { IfOk result (λ bytes. run_of registers (outcome_of text.now) events.now ≡ Done bytes.items) }
     ensures stops { IfErr result (StopsWith (run_of registers (outcome_of text.now) events.now)) }
 {
@@ -63,7 +68,7 @@ fn run_module(
     module: &Module,
     events: &[u8],
     registers: bool,
-) -> Result<Vec<u8>, Stop>
+) -> Result<Vec<u8>, Stop<'static>>
     ensures bytes { IfOk result (λ bytes. run_over registers «module».now events.now (event_fault «module».now.ports events.now) ≡ Done bytes.items) }
     ensures stops { IfErr result (StopsWith (run_over registers «module».now events.now (event_fault «module».now.ports events.now))) }
 {

@@ -13,11 +13,11 @@ use std::alloc::Global;
 /// Loads each need whole, and makes the tool's answer.
 pub(crate) fn answer_whole<'a, T: Tool, F: Files, I: Source>(
     alloc: Global,
-    tool: &T,
+    tool: &'a T,
     loads: &[Load<'a>],
     files: &mut F,
     input: &mut I,
-) -> Result<Result<Vec<u8>, Stop>, LoadStop<'a>>
+) -> Result<Result<Vec<u8>, Stop<'a>>, LoadStop<'a>>
     requires { IsSound (map need_of loads.now) }
     ensures { Answers F.contents F.steady F.load_faults F.store_faults I.left I.faults (map need_of loads.now) (T.answer_of tool.now) vec_items result
         files.old files.new input.old input.new }
@@ -32,11 +32,11 @@ pub(crate) fn answer_whole<'a, T: Tool, F: Files, I: Source>(
 /// Takes each need in pieces, and makes the tool's answer.
 pub(crate) fn answer_in_pieces<'a, T: PieceTool, F: Files, I: Source>(
     alloc: Global,
-    tool: &T,
+    tool: &'a T,
     loads: &[Load<'a>],
     files: &mut F,
     input: &mut I,
-) -> Result<Result<T::Made, Stop>, LoadStop<'a>>
+) -> Result<Result<T::Made, Stop<'a>>, LoadStop<'a>>
     requires { IsSound (map need_of loads.now) }
     ensures { Answers F.contents F.steady F.load_faults F.store_faults I.left I.faults (map need_of loads.now) (T.answer_of tool.now) T.Made.bytes result
         files.old files.new input.old input.new }

@@ -16,7 +16,7 @@ pub enum AtOnce {
     /// A text for standard output.
     Tells(&'static str),
     /// A refusal.
-    Refuses(Refusal),
+    Refuses(Refusal<'static>),
     /// The command line isn't taken; this one would be.
     UsageError(&'static str),
 }
@@ -26,7 +26,7 @@ impl Tool for AtOnce {
 
     ghost answer_of = { λ tool texts. at_once_answer tool };
 
-    fn answer(&self, alloc: Global, _loaded: &Vec<Vec<u8>>) -> Result<Vec<u8>, Stop> {
+    fn answer(&self, alloc: Global, _loaded: &Vec<Vec<u8>>) -> Result<Vec<u8>, Stop<'_>> {
         match *self {
             AtOnce::Tells(text) => Ok(Vec::from_slice(alloc, text.as_bytes())?),
             AtOnce::Refuses(refusal) => Err(Stop::Refused(refusal)),

@@ -24,18 +24,18 @@ pub enum Number {
 
 /// A text of a line, and the number behind it.
 #[derive(Clone, Copy, Debug, PartialEq, Eq)]
-pub struct Phrase {
-    pub text: &'static str,
+pub struct Phrase<'a> {
+    pub text: &'a str,
     pub number: Number,
 }
 
 /// Why a tool refuses what it was given: the phrases of the line behind the tool's name.
 #[derive(Clone, Copy, Debug, PartialEq, Eq)]
-pub struct Refusal {
-    pub first: Phrase,
-    pub second: Phrase,
-    pub third: Phrase,
-    pub fourth: Phrase,
+pub struct Refusal<'a> {
+    pub first: Phrase<'a>,
+    pub second: Phrase<'a>,
+    pub third: Phrase<'a>,
+    pub fourth: Phrase<'a>,
 }
 
 /// A part of a line: a text or a number.
@@ -46,7 +46,7 @@ enum Part<'a> {
 }
 
 /// A text without a number.
-pub const fn text(text: &'static str) -> Phrase
+pub const fn text(text: &str) -> Phrase<'_>
     ensures { result ≡ plain text.entry }
 {
     Phrase {
@@ -56,7 +56,7 @@ pub const fn text(text: &'static str) -> Phrase
 }
 
 /// A text and a number in decimal digits.
-pub const fn decimal(text: &'static str, number: u64) -> Phrase
+pub const fn decimal(text: &str, number: u64) -> Phrase<'_>
     ensures { result ≡ numbered text.entry number }
 {
     Phrase {
@@ -140,8 +140,8 @@ fn write_parts<E: Sink>(errors: &mut E, parts: &[Part<'_>])
 }
 
 /// Writes the line of a tool_name who refuses.
-pub(crate) fn write_refusal<E: Sink>(errors: &mut E, tool_name: &str, refusal: Refusal)
-    ensures { Writes (line_of tool_name.now (refusal_text refusal)) (E.held errors.old) (E.held errors.new) (E.faults errors.old) (E.faults errors.new) }
+pub(crate) fn write_refusal<'a, E: Sink>(errors: &mut E, tool_name: &'a str, refusal: Refusal<'a>)
+    ensures { Writes (line_of tool_name.now (refusal_text refusal.entry)) (E.held errors.old) (E.held errors.new) (E.faults errors.old) (E.faults errors.new) }
 {
     let parts = [
         Part::Text(tool_name),
@@ -165,9 +165,9 @@ pub(crate) fn write_named<'a, E: Sink>(
     tool_name: &'a str,
     what: &'a str,
     name: &'a str,
-    behind: Phrase,
+    behind: Phrase<'a>,
 )
-    ensures { Writes (line_of tool_name.now (what.now ++ name.now ++ phrase_text behind)) (E.held errors.old) (E.held errors.new) (E.faults errors.old) (E.faults errors.new) }
+    ensures { Writes (line_of tool_name.now (what.now ++ name.now ++ phrase_text behind.entry)) (E.held errors.old) (E.held errors.new) (E.faults errors.old) (E.faults errors.new) }
 {
     let parts = [
         Part::Text(tool_name),

@@ -59,12 +59,12 @@ fn write_out_of_memory<E: Sink>(errors: &mut E, tool_name: &str)
 fn conclude<C: Content, F: Files, O: Sink, E: Sink>(
     alloc: Global,
     job: &Job<'_>,
-    made: Result<C, Stop>,
+    made: Result<C, Stop<'_>>,
     files: &mut F,
     output: &mut O,
     errors: &mut E,
 ) -> u8
-    ensures { Concludes F.contents F.store_faults O.held O.faults E.held E.faults job.now.tool_name.now (text_of job.now.target) C.bytes made result
+    ensures { Concludes F.contents F.store_faults O.held O.faults E.held E.faults job.now.tool_name.now (text_of job.now.target) C.bytes made.entry result
         files.old files.new output.old output.new errors.old errors.new }
 {
     match made {

@@ -45,7 +45,7 @@ pub trait PieceTool {
         ensures none { fed intake.new ≡ 0 };
 
     /// The bytes for the target, or why there are none, after the last text.
-    fn finish(&self, alloc: Global, intake: Self::Intake) -> Result<Self::Made, Stop>
+    fn finish(&self, alloc: Global, intake: Self::Intake) -> Result<Self::Made, Stop<'_>>
         ensures bytes { IfOk result (λ made. (texts : List (List ℕ)) → takes self.now texts intake []
             → answer_of self.now texts ≡ Done (Self.Made.bytes made)) }
         ensures stops { IfErr result (λ stop. (texts : List (List ℕ)) → takes self.now texts intake []

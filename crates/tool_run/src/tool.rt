@@ -8,21 +8,21 @@ use std::alloc::{AllocError, Global};
 
 /// Why a tool gives no bytes.
 #[derive(Clone, Copy, Debug, PartialEq, Eq)]
-pub enum Stop {
+pub enum Stop<'a> {
     /// The tool refuses what it was given.
-    Refused(Refusal),
+    Refused(Refusal<'a>),
     /// The command line isn't taken.
-    UsageError(Refusal),
+    UsageError(Refusal<'a>),
     /// Out of memory.
     Memory,
 }
 
-impl From<AllocError> for Stop {
+impl From<AllocError> for Stop<'_> {
     ghost use Rattle.tool_run.specs.declared.tool.Stop.TheVariants.{Memory};
 
     ghost from_gives = { λ _ stop. stop ≡ Memory };
 
-    fn from(_: AllocError) -> Stop {
+    fn from(_: AllocError) -> Self {
         Stop::Memory
     }
 }
@@ -33,7 +33,7 @@ pub trait Tool {
     ghost answer_of: { Self → List (List ℕ) → Answer };
 
     /// The bytes for the target, or why there are none.
-    fn answer(&self, alloc: Global, loaded: &Vec<Vec<u8>>) -> Result<Vec<u8>, Stop>
+    fn answer(&self, alloc: Global, loaded: &Vec<Vec<u8>>) -> Result<Vec<u8>, Stop<'_>>
         ensures bytes { IfOk result (λ bytes. answer_of self.now (map vec_items loaded.now.items) ≡ Done bytes.items) }
         ensures stops { IfErr result (StopsWith (answer_of self.now (map vec_items loaded.now.items))) };
 }

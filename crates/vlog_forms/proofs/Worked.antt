@@ -18,7 +18,7 @@ unfolding vlog_fault_of outcome_of spots_outcome items_outcome ports_outcome por
 ends_early = refl
 
 -- a flip-flop that a wire sets at once
-set_at_once : vlog_fault_of (codes "module m (c); input c; reg r = 1'b0; wire s = c; wire w = s ? 1'b1 : r; always @(posedge c or posedge s) if (s) r <= 1'b1; else if (1'b1) r <= 16'h5555 >> {1'b0, 1'b0, 1'b0, w}; endmodule") ≡ None
+set_at_once : vlog_fault_of (codes "module m (c); input c; reg r = 1'b0; wire s = c; wire w = s?1'b1:r; always @(posedge c or posedge s) if (s) r <= 1'b1; else if (1'b1) r <= 16'h5555 >> {1'b0, 1'b0, 1'b0, w}; endmodule") ≡ None
 unfolding vlog_fault_of outcome_of spots_outcome items_outcome ports_outcome port_names read_forms read_slots slots_of item_of atoms_in behind spots_from front_token front_length digits_token digits_length sign_token sign_length name_or_word word_of pair_of sign_of
 set_at_once = refl
 

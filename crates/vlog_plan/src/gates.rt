@@ -30,7 +30,7 @@ pub(crate) fn cells_room(
 }
 
 /// Where an operand stands.
-fn operand_cell(bits: usize, words: usize, operand: Operand) -> usize
+pub fn operand_cell(bits: usize, words: usize, operand: Operand) -> usize
     requires { bits + 16 * words + 2 < 2 ^ 64 }
     ensures { result ≡ operand_cell bits words operand }
 {

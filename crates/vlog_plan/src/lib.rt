@@ -15,7 +15,7 @@ mod slots;
 mod steps;
 
 pub use event::Event;
-pub use gates::Gate;
+pub use gates::{Gate, operand_cell};
 pub use layout::{Layout, Start, lay_out, pins_of};
 pub use places::Places;
 pub use plan::{
@@ -24,6 +24,6 @@ pub use plan::{
 };
 pub use slots::Slots;
 pub use steps::{
-    bit_at, bit_of, copy_bits, copy_words, prepare_writes, run_flips, run_reads, run_writes,
-    set_bit, word_at, word_in, write_outputs,
+    bit_at, bit_of, copy_bits, copy_words, is_edge_of, next_bit, operand_value, prepare_writes,
+    run_flips, run_reads, run_writes, set_bit, word_at, word_in, write_outputs,
 };

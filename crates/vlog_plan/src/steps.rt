@@ -37,7 +37,7 @@ pub fn bit_of(word: u16, k: u32) -> bool
 }
 
 /// The value of an operand.
-fn operand_value(bits: &[bool], words: &[u16], operand: Operand) -> bool
+pub fn operand_value(bits: &[bool], words: &[u16], operand: Operand) -> bool
     ensures { result ≡ operand_value bits.now words.now operand }
 {
     match operand {
@@ -78,7 +78,7 @@ pub fn set_bit(bits: &mut [bool], slot: usize, bit: bool)
 }
 
 /// Whether an event is this edge.
-fn is_edge_of(event: Event, edge: Edge) -> bool
+pub fn is_edge_of(event: Event, edge: Edge) -> bool
     ensures { result ≡ is_edge_of event edge }
 {
     edge.pin == event.pin && is_edge(edge.falling, event.bit)
@@ -104,7 +104,7 @@ pub fn run_flips(flips: &[Flip], event: Event, bits: &[bool], words: &[u16], nex
 }
 
 /// The next bit of a register.
-fn next_bit(flip: &Flip, bits: &[bool], words: &[u16]) -> bool
+pub fn next_bit(flip: &Flip, bits: &[bool], words: &[u16]) -> bool
     ensures { result ≡ (if operand_value bits.now words.now flip.now.reset then flip.now.set else table_value bits.now words.now flip.now.table) }
 {
     if operand_value(bits, words, flip.reset) {

@@ -33,10 +33,16 @@ fn counts_an_image(rt: HostRuntime) {
 /// Words, an image, the status and the line.
 type Refused = (&'static [&'static str], &'static [u8], u8, &'static str);
 
-static REFUSED: [Refused; 3] = [
+static REFUSED: [Refused; 4] = [
     (
         &["icebox_stat", "A"],
         b".device 8k\n",
+        1,
+        "icebox_stat: Device\n",
+    ),
+    (
+        &["icebox_stat", "A"],
+        b".device 384\n",
         1,
         "icebox_stat: Device\n",
     ),

@@ -66,7 +66,7 @@ type Refused = (
 
 const ALL: &[&str] = &["icebox_explain", "A"];
 
-static REFUSED: [Refused; 18] = [
+static REFUSED: [Refused; 19] = [
     (
         &["icebox_explain", "-t", "0 0", "A"],
         "",
@@ -75,6 +75,7 @@ static REFUSED: [Refused; 18] = [
         "icebox_explain: tile 0 0: NoTile\n",
     ),
     (ALL, "", b".device 8k\n", 1, "icebox_explain: Device\n"),
+    (ALL, "", b".device 384\n", 1, "icebox_explain: Device\n"),
     (
         ALL,
         ".device 1k 14 18 6\n",

@@ -53,10 +53,11 @@ fn takes_a_design_through_all_tools(rt: HostRuntime) {
     assert!(rt; tells(rt.alloc(), RUN.0, RUN.1) == Ok(true));
 }
 
-/// Words that aren't taken: too few, another device, a seed and a count past their limits, and no numbers.
-static USAGE_ERROR: [&[&str]; 6] = [
+/// Words that aren't taken: too few, another device, one that has no database, a seed and a count past their limits, and no numbers.
+static USAGE_ERROR: [&[&str]; 7] = [
     &["selfrun", "1k", "7"],
     &["selfrun", "5k", "7", "10"],
+    &["selfrun", "384", "7", "0"],
     &["selfrun", "1k", "18446744073709551616", "10"],
     &["selfrun", "1k", "7", "100001"],
     &["selfrun", "1k", "-7", "10"],

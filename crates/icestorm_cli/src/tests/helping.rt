@@ -8,7 +8,7 @@ use fabric_tools::{
     ICEBOX_EXPLAIN_HELP, ICEBOX_EXPLAIN_USAGE, ICEBOX_STAT_HELP, ICEBOX_STAT_USAGE,
 };
 use job_tools::{SELFRUN_HELP, SELFRUN_USAGE};
-use module_tools::{VLOGRUN_HELP, VLOGRUN_USAGE};
+use module_tools::{VLOGRUN_HELP, VLOGRUN_USAGE, VLOGSWEEP_HELP, VLOGSWEEP_USAGE};
 
 /// The words of a help.
 struct Help {
@@ -18,7 +18,7 @@ struct Help {
     heads: &'static [&'static str],
 }
 
-static HELPS: [Help; 10] = [
+static HELPS: [Help; 11] = [
     Help {
         help: ICEPACK_HELP,
         usage: ICEPACK_USAGE,
@@ -106,6 +106,14 @@ static HELPS: [Help; 10] = [
             "  MODULE    the text of a module",
             "  EVENTS    the events;",
             "  -s        shows the registers too",
+        ],
+    },
+    Help {
+        help: VLOGSWEEP_HELP,
+        usage: VLOGSWEEP_USAGE,
+        heads: &[
+            "  MODULE    the text of a module",
+            "  EVENTS    a list of events;",
         ],
     },
     Help {

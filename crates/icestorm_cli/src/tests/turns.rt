@@ -103,7 +103,7 @@ type Job = (
     Part,
 );
 
-static JOBS: [Job; 20] = [
+static JOBS: [Job; 21] = [
     (
         &["icepack", "image", "out"],
         Way::InParts,
@@ -223,6 +223,13 @@ static JOBS: [Job; 20] = [
         Way::Whole,
         &["module"],
         "events",
+        Part::Small,
+    ),
+    (
+        &["vlogsweep", "module", "events", "events"],
+        Way::Whole,
+        &["module", "events", "events"],
+        "",
         Part::Small,
     ),
     (
@@ -535,7 +542,7 @@ fn leaves_what_a_file_has_room_for(rt: HostRuntime) {
 }
 
 /// The first word of each command line that isn't taken.
-static TOOLS: [&str; 10] = [
+static TOOLS: [&str; 11] = [
     "icepack",
     "iceunpack",
     "icemulti",
@@ -545,6 +552,7 @@ static TOOLS: [&str; 10] = [
     "icebox_stat",
     "icebox_vlog",
     "vlogrun",
+    "vlogsweep",
     "selfrun",
 ];
 

@@ -305,8 +305,9 @@ fn tells_why_a_design_is_not_taken(rt: HostRuntime) {
 /// Lines behind the database, an image in bytes, and the line.
 type Faulty = (&'static str, &'static [u8], &'static str);
 
-static FAULTY: [Faulty; 5] = [
+static FAULTY: [Faulty; 6] = [
     ("", b".device 8k\n", "icebox_vlog: Device\n"),
+    ("", b".device 384\n", "icebox_vlog: Device\n"),
     (".net x\n", b"", "icebox_vlog: database line 23: Number\n"),
     ("", b"", "icebox_vlog: line 1: NoDevice\n"),
     (

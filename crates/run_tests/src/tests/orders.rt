@@ -60,7 +60,7 @@ struct Stamp {
 }
 
 /// The answer of a stamp.
-fn stamp_answer(alloc: Global, refuses: bool) -> Result<Vec<u8>, Stop>
+fn stamp_answer(alloc: Global, refuses: bool) -> Result<Vec<u8>, Stop<'static>>
     ensures bytes { IfOk result (λ made. (if refuses then Refused (codes "no") else Done (33 ∷ [])) ≡ Done made.items) }
     ensures stops { IfErr result (StopsWith (if refuses then Refused (codes "no") else Done (33 ∷ []))) }
 {

@@ -18,7 +18,7 @@ struct Count {
 }
 
 /// The answer to a count.
-fn answer_to(alloc: Global, bytes: u8, has_zero: bool) -> Result<Vec<u8>, Stop>
+fn answer_to(alloc: Global, bytes: u8, has_zero: bool) -> Result<Vec<u8>, Stop<'static>>
     ensures bytes { IfOk result (λ made. (if has_zero then Refused (codes "zero") else Done (bytes ∷ [])) ≡ Done made.items) }
     ensures stops { IfErr result (StopsWith (if has_zero then Refused (codes "zero") else Done (bytes ∷ []))) }
 {

@@ -1,0 +1,35 @@
+// How often new lanes ask for memory: `bench/lanes` counts the requests of the one test and of the other.
+
+use std::alloc::Global;
+use vlog_lanes::Lanes;
+use vlog_text::parse;
+
+/// The module of an input pin, a LUT that inverts it, and an output pin.
+const INVERTER: &[u8] = b"module chip (io_0_1_0, io_0_2_0);
+  input io_0_1_0;
+  output io_0_2_0;
+  wire n_0 = io_0_1_0;
+  wire n_1 = n_0;
+  wire n_2 = 16'h5555 >> {1'b0, 1'b0, 1'b0, n_1};
+  wire n_3 = n_2;
+  assign io_0_2_0 = n_3;
+endmodule
+";
+
+/// Whether the module is read, and where lanes are asked for these are made of it.
+fn is_done(alloc: Global, has_lanes: bool) -> bool {
+    match parse(alloc, INVERTER) {
+        Ok(module) => !has_lanes || Lanes::new(alloc, &module).is_ok(),
+        Err(_) => false,
+    }
+}
+
+#[test]
+fn reads_a_module(rt: HostRuntime) {
+    assert!(rt; is_done(rt.alloc(), false));
+}
+
+#[test]
+fn makes_lanes_of_a_module(rt: HostRuntime) {
+    assert!(rt; is_done(rt.alloc(), true));
+}

@@ -1,0 +1,142 @@
+-- `vlogsweep`: the runs of a module over several lists of events.
+use Rattle.std.specs.Prelude.{◌≡◌, ◌≤◌, ℕ, ◌&&◌, List, [], ◌∷◌, ◌++◌, codes, drop, flat_map, get_or, length, map, nat_le, false, if◌then◌else◌, Option, None, Some, Result, Ok, Err}
+use Rattle.std.specs.Option.{option_map}
+use Rattle.std.specs.Borrow.{Bor}
+use Rattle.clap.specs.Words.{App, Row, Text, first_of}
+use Rattle.place_search.specs.Places.{or_else}
+use Rattle.vlog_module.specs.Parts.{Parts}
+use Rattle.vlog_module.specs.declared.modules.Port.{Port}
+use Rattle.vlog_forms.specs.Outcome.{Fault, outcome_of}
+use Rattle.vlog_cycle.specs.Events.{event_fault, events_of}
+use Rattle.vlog_cycle.specs.Text.{run_text}
+use Rattle.tool_run.specs.Lines.{refusal_text}
+use Rattle.tool_run.specs.Needs.{Need}
+use Rattle.tool_run.specs.Tasks.{Answer, Done, Refused, Task, usage_error}
+use Rattle.tool_run.specs.declared.tool.Stop.{Stop}
+use Rattle.tool_run.specs.declared.tool.Stop.TheVariants as stop
+use Rattle.tool_parts.specs.Outcomes.{Manual, outcome}
+use Rattle.tool_parts.specs.Commands.{command, required, several, values_of}
+use Rattle.module_tools.specs.declared.sweep_request.SweepRequest.{SweepRequest}
+use Rattle.module_tools.specs.declared.sweep_request.TheConstants.{VLOGSWEEP_HELP}
+use Rattle.module_tools.specs.Faults.{file_fault_text, vlog_fault_text}
+use Rattle.module_tools.specs.Vlogrun.{module_limit}
+
+-- ---- lists of events
+
+-- the most lists of events, and the most bytes of each
+abbrev pub most_lists : ℕ
+most_lists = 64
+
+abbrev pub list_limit : ℕ
+list_limit = 65536
+
+-- a list of events: the name of its file, and the bytes of that file
+pub record EventFile : Type 0 where
+  pub name : Text
+  pub bytes : List ℕ
+
+-- files by their names and their bytes, both in order
+abbrev pub files_of : List Text → List (List ℕ) → List EventFile
+files_of [] texts = []
+files_of (name ∷ names) [] = []
+files_of (name ∷ names) (text ∷ texts) = record { name = name; bytes = text } ∷ files_of names texts
+
+-- what is said of a file that is refused
+abbrev pub file_refusal : List Port → EventFile → Option (List ℕ)
+file_refusal ports file = option_map (file_fault_text file.name) (event_fault ports file.bytes)
+
+-- what is said of the first file that is refused
+abbrev pub first_refusal : List Port → List EventFile → Option (List ℕ)
+first_refusal ports [] = None
+first_refusal ports (file ∷ files) = or_else (file_refusal ports file) (first_refusal ports files)
+
+-- ---- what is made of the module and the lists
+
+-- the line before the lines of a run: the name of the file
+abbrev pub heading_of : Text → List ℕ
+heading_of name = codes "events " ++ name ++ 10 ∷ []
+
+-- the heading of a file, and the lines of the module's run over its events
+abbrev pub file_text : Parts → EventFile → List ℕ
+file_text m file = heading_of file.name ++ run_text m (events_of m.ports file.bytes) false
+
+-- the texts of all files, where none is refused
+abbrev pub sweep_over : Parts → List EventFile → Option (List ℕ) → Answer
+sweep_over m files None = Done (flat_map (file_text m) files)
+sweep_over m files (Some text) = Refused text
+
+-- the same for the module that a text spells; a fault of that text goes first
+abbrev pub sweep_of : Result Parts Fault → List EventFile → Answer
+sweep_of (Ok m) files = sweep_over m files (first_refusal m.ports files)
+sweep_of (Err fault) files = Refused (vlog_fault_text fault)
+
+-- the first text is the module, and each other the list of the file of that name
+abbrev pub vlogsweep_answer : List Text → List (List ℕ) → Answer
+vlogsweep_answer names texts = sweep_of (outcome_of (get_or texts 0 [])) (files_of names (drop 1 texts))
+
+-- ---- the task
+
+abbrev pub vlogsweep_name : List ℕ
+vlogsweep_name = codes "vlogsweep"
+
+abbrev pub vlogsweep_usage : List ℕ
+vlogsweep_usage = codes "vlogsweep MODULE EVENTS [EVENTS ...]"
+
+abbrev pub vlogsweep_command : App
+vlogsweep_command = command vlogsweep_name (required (codes "module") ∷ several (codes "events") ∷ [])
+
+abbrev pub list_need : Text → Need
+list_need name = record { name = Some name; limit = list_limit }
+
+-- the module, and then the lists in their order
+abbrev pub sweep_needs : Text → List Text → List Need
+sweep_needs text names = record { name = Some text; limit = module_limit } ∷ map list_need names
+
+abbrev pub task_over : List Need → List Text → Task
+task_over needs names = record { tool_name = vlogsweep_name; needs = needs; target = None; answer = vlogsweep_answer names }
+
+abbrev pub sweep_task : Text → List Text → Task
+sweep_task text names = task_over (sweep_needs text names) names
+
+-- there are one list at least and sixty-four at most
+abbrev pub counted_task : Text → List Text → Task
+counted_task text names =
+    if nat_le 1 (length names) && nat_le (length names) most_lists then sweep_task text names else usage_error vlogsweep_name vlogsweep_usage
+
+-- there has to be a module
+abbrev pub vlogsweep_task_of : Option Text → List Text → Task
+vlogsweep_task_of (Some text) names = counted_task text names
+vlogsweep_task_of None names = usage_error vlogsweep_name vlogsweep_usage
+
+abbrev pub vlogsweep_task_by : List Row → Task
+vlogsweep_task_by rows = vlogsweep_task_of (first_of (codes "module") rows) (values_of (codes "events") rows)
+
+-- the tool
+abbrev pub vlogsweep : Manual
+vlogsweep = record { name = vlogsweep_name; usage = vlogsweep_usage; help = VLOGSWEEP_HELP.now; app = vlogsweep_command; task = vlogsweep_task_by }
+
+-- what the arguments of `vlogsweep` ask for, its help among that
+abbrev pub vlogsweep_outcome : List Text → Task
+vlogsweep_outcome args = outcome vlogsweep args
+
+-- ---- what was found
+
+-- names that were found, as texts
+abbrev pub names_of : List (Bor Text) → List Text
+names_of names = map (λ name. name.now) names
+
+-- the task of the request that was found in the arguments
+abbrev pub vlogsweep_task_for : Option SweepRequest → Task
+vlogsweep_task_for None = usage_error vlogsweep_name vlogsweep_usage
+vlogsweep_task_for (Some request) = sweep_task request.«module».now (names_of request.names.items)
+
+-- the lists of a request are sixty-four at most
+abbrev pub IsFew : Option SweepRequest → Type 0
+IsFew None = Unit {0}
+IsFew (Some request) = length request.names.items ≤ most_lists
+
+-- where a file is refused, that is told
+abbrev pub TellsRefusal : Option (List ℕ) → Stop → Type 0
+TellsRefusal refusal (stop.Refused told) = refusal ≡ Some (refusal_text told)
+TellsRefusal refusal (stop.UsageError told) = ⊥
+TellsRefusal refusal stop.Memory = Unit {0}

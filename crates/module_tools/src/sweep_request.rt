@@ -1,0 +1,103 @@
+// What the command line of `vlogsweep` asks for.
+ghost use Rattle.std.specs.Prelude.{◌≡◌, ◌≤◌, [], IfOk, IfSome, length, option_map, unwrap_or};
+ghost use Rattle.clap.specs.Words.{app_of, found_of, rows_of};
+ghost use Rattle.tool_run.specs.Needs.{text_of};
+ghost use Rattle.module_tools.specs.Vlogsweep.{IsFew, counted_task, names_of, vlogsweep_command, vlogsweep_task_by, vlogsweep_task_for, vlogsweep_task_of};
+
+use clap::{ArgMatches, Command};
+use std::alloc::{AllocError, Global};
+use tool_parts::{required, several, value, values, with};
+
+/// The command line of `vlogsweep`.
+pub const VLOGSWEEP_USAGE: &str = "vlogsweep MODULE EVENTS [EVENTS ...]";
+
+/// The help of `vlogsweep`, at most 80 columns wide.
+pub const VLOGSWEEP_HELP: &str = "\
+vlogsweep: runs a module of the Verilog subset over several lists of events.
+
+Usage: vlogsweep MODULE EVENTS [EVENTS ...]
+
+  MODULE    the text of a module, as icebox_vlog writes it
+  EVENTS    a list of events; one to 64 of them
+
+Each list is a run of its own: all of them begin at the start, and none sees the
+events of another. A list is written as for vlogrun: a line for each event, the
+name of an input, one space, and 0 or 1.
+
+For each list, in the order of the command line, vlogsweep writes a line with
+the word events, a space and the name of the file, and then the lines that
+vlogrun writes of it: the bits of the outputs at the start and after each event.
+
+Example: vlogsweep counter.v up.events down.events
+
+Limits: a module has at most 67108864 bytes, a list of events 65536.
+
+Exit status: 0 done; 1 the module is refused, with the offset of its first
+fault, or a list of events, with its name and its first faulty line; 2 the
+command line isn't taken; 3 reading failed; 4 writing failed; 5 out of memory;
+6 a file is longer than its limit.
+";
+
+/// The most lists of events.
+const MOST_LISTS: usize = 64;
+
+/// What the arguments ask for: the module, and the names of one to sixty-four lists of events.
+#[derive(Drop)]
+pub(crate) struct SweepRequest<'a> {
+    pub(crate) module: &'a str,
+    pub(crate) names: Vec<&'a str>,
+}
+
+// The names that were found, if there were any.
+fn names_found<'a>(alloc: Global, names: Option<&[&'a str]>) -> Result<Vec<&'a str>, AllocError>
+    ensures { IfOk result (λ found. names_of found.items ≡ unwrap_or (option_map (λ names. names_of names.now) names.entry) []) }
+{
+    match names {
+        Some(names) => names.to_vec(alloc),
+        None => Ok(Vec::new(alloc)),
+    }
+}
+
+// The request for so many lists, where that is a number of lists.
+fn counted<'a>(module: &'a str, names: Vec<&'a str>) -> Option<SweepRequest<'a>>
+    ensures task { vlogsweep_task_for result ≡ counted_task «module».entry.now (names_of names.entry.items) }
+    ensures few { IfSome result (λ request. length request.names.items ≤ 64) }
+{
+    if 1 <= names.len() && names.len() <= MOST_LISTS {
+        Some(SweepRequest { module, names })
+    } else {
+        None
+    }
+}
+
+// What the arguments ask for by what was found in them: there have to be a module and a list.
+fn wanted<'a>(module: Option<&'a str>, names: Vec<&'a str>) -> Option<SweepRequest<'a>>
+    ensures task { vlogsweep_task_for result ≡ vlogsweep_task_of (text_of «module».entry) (names_of names.entry.items) }
+    ensures few { IfSome result (λ request. length request.names.items ≤ 64) }
+{
+    match module {
+        Some(module) => counted(module, names),
+        None => None,
+    }
+}
+
+/// The command line as `clap` reads it.
+pub(crate) fn command<'a>(alloc: Global) -> Result<Command<'a>, AllocError>
+    ensures { IfOk result (λ command. app_of command ≡ vlogsweep_command) }
+{
+    let command = Command::new(alloc, "vlogsweep");
+    let command = with(command, required(alloc, "module"))?;
+    with(command, several(alloc, "events"))
+}
+
+/// What was found in the arguments asks for.
+pub(crate) fn request_in<'a>(
+    alloc: Global,
+    matches: &ArgMatches<'a>,
+) -> Result<Option<SweepRequest<'a>>, AllocError>
+    ensures task { IfOk result (λ request. vlogsweep_task_for request ≡ vlogsweep_task_by (rows_of (found_of matches.now))) }
+    ensures few { IfOk result IsFew }
+{
+    let names = names_found(alloc, values(matches, "events"))?;
+    Ok(wanted(value(matches, "module"), names))
+}

@@ -1,0 +1,311 @@
+// `vlogsweep`: runs a module over several lists of events.
+ghost use Rattle.std.specs.Prelude.{◌≡◌, ◌≤◌, ◌<◌, ◌+◌, ◌++◌, ◌∷◌, [], All, drop, flat_map, length, map, string_bytes, vec_items, IfOk, IfErr, None, OnOk, Some};
+ghost use Rattle.clap.specs.Words.{found_of, rows_of};
+ghost use Rattle.tool_run.specs.Needs.{IsSound, need_of};
+ghost use Rattle.tool_run.specs.Runs.{Does, outside, scene};
+ghost use Rattle.tool_run.specs.Stops.{StopsWith};
+ghost use Rattle.tool_run.specs.Tasks.{Done};
+ghost use Rattle.vlog_forms.specs.Outcome.{outcome_of};
+ghost use Rattle.vlog_plan.specs.Run.{input_names};
+ghost use Rattle.vlog_sweep.specs.Sweep.{list_text};
+ghost use Rattle.module_tools.specs.Vlogsweep.{TellsRefusal, file_refusal, file_text, files_of, first_refusal, heading_of, names_of, sweep_needs, sweep_of, sweep_over, task_over, vlogsweep_outcome, vlogsweep_task_by, vlogsweep_task_for};
+
+use crate::faults::{file_refusal, vlog_refusal};
+use crate::running::MODULE_LIMIT;
+use crate::sweep_request::{SweepRequest, VLOGSWEEP_HELP, VLOGSWEEP_USAGE, command, request_in};
+use clap::{ArgMatches, Command};
+use ice_io::{Files, Sink, Source};
+use std::alloc::{AllocError, Global};
+use tool_parts::{CommandLine, run_tool};
+use tool_run::{AtOnce, Job, Load, Stop, Tool, answer_at_once, give_up, loaded_at, perform};
+use vlog_cycle::{EventFault, read_events};
+use vlog_sweep::{EventList, sweep};
+use vlog_text::{Module, VlogFault, parse};
+
+/// The most bytes of a list of events.
+const LIST_LIMIT: usize = 65_536;
+
+/// Runs the module that it loads over the lists of events that it loads, from files of these names.
+#[derive(Drop)]
+pub(crate) struct Sweeping<'a> {
+    names: Vec<&'a str>,
+    ghost few: { length names.items ≤ 64 },
+}
+
+impl Tool for Sweeping<'_> {
+    ghost use Rattle.module_tools.specs.Vlogsweep.{names_of, vlogsweep_answer};
+
+    ghost answer_of = { λ tool texts. vlogsweep_answer (names_of tool.names.items) texts };
+
+    fn answer(&self, alloc: Global, loaded: &Vec<Vec<u8>>) -> Result<Vec<u8>, Stop<'_>> {
+        let (text, texts) = (loaded_at(loaded, 0), behind_first(loaded));
+        sweep_texts(alloc, text, &self.names, texts)
+    }
+}
+
+// What was loaded behind the module.
+fn behind_first(loaded: &[Vec<u8>]) -> &[Vec<u8>]
+    ensures { result.now ≡ drop 1 loaded.now }
+{
+    match loaded {
+        [] => loaded,
+        [_, others @ ..] => others,
+    }
+}
+
+// The runs of a module over lists of events, all in bytes.
+#[tactic(auto, using(crate::proofs::Outcomes::outcome_spelled, crate::proofs::Outcomes::outcome_faulty))]
+fn sweep_texts<'a>(
+    alloc: Global,
+    text: &[u8],
+    names: &[&'a str],
+    texts: &[Vec<u8>],
+) -> Result<Vec<u8>, Stop<'a>>
+    requires { length names.now ≤ 64 }
+    ensures bytes { IfOk result (λ bytes. sweep_of (outcome_of text.now) (files_of (names_of names.now) (map vec_items texts.now)) ≡ Done bytes.items) }
+    ensures stops { IfErr result (StopsWith (sweep_of (outcome_of text.now) (files_of (names_of names.now) (map vec_items texts.now)))) }
+{
+    match parse(alloc, text) {
+        Ok(module) => sweep_module(alloc, &module, names, texts),
+        Err(VlogFault::At { offset, cause }) => Err(Stop::Refused(vlog_refusal(offset, cause))),
+        Err(VlogFault::Memory(_)) => Err(Stop::Memory),
+    }
+}
+
+// The runs of a module over lists of events.
+fn sweep_module<'a>(
+    alloc: Global,
+    module: &Module,
+    names: &[&'a str],
+    texts: &[Vec<u8>],
+) -> Result<Vec<u8>, Stop<'a>>
+    requires { length names.now ≤ 64 }
+    ensures bytes { IfOk result (λ bytes. sweep_of (Ok «module».now) (files_of (names_of names.now) (map vec_items texts.now)) ≡ Done bytes.items) }
+    ensures stops { IfErr result (StopsWith (sweep_of (Ok «module».now) (files_of (names_of names.now) (map vec_items texts.now)))) }
+{
+    let mut lists = Vec::new(alloc);
+    read_files(alloc, module, names, texts, &mut lists)?;
+    Ok(sweep(alloc, module, &lists)?)
+}
+
+// Reads the files of these names behind those before, up to the first that is refused.
+fn read_files<'a>(
+    alloc: Global,
+    module: &Module,
+    names: &[&'a str],
+    texts: &[Vec<u8>],
+    lists: &mut Vec<EventList>,
+) -> Result<(), Stop<'a>>
+    ensures texts { OnOk result (flat_map (list_text «module».now) lists.new.items
+        ≡ flat_map (list_text «module».now) lists.old.items ++ flat_map (file_text «module».now) (files_of (names_of names.now) (map vec_items texts.now))) }
+    ensures few { OnOk result (length lists.new.items ≤ length lists.old.items + length names.now) }
+    ensures inputs { OnOk result (All (λ list. All (λ event. event.pin < length (input_names «module».now.ports)) list.events.items) lists.old.items
+        → All (λ list. All (λ event. event.pin < length (input_names «module».now.ports)) list.events.items) lists.new.items) }
+    ensures accepted { OnOk result (first_refusal «module».now.ports (files_of (names_of names.now) (map vec_items texts.now)) ≡ None) }
+    ensures refused { IfErr result (TellsRefusal (first_refusal «module».now.ports (files_of (names_of names.now) (map vec_items texts.now)))) }
+{
+    match names {
+        [] => Ok(()),
+        [name, names @ ..] => match texts {
+            [] => Ok(()),
+            [text, texts @ ..] => {
+                let list = read_file(alloc, module, name, text)?;
+                push_list(lists, list)?;
+                read_files(alloc, module, names, texts, lists)
+            }
+        },
+    }
+}
+
+// Adds a list.
+fn push_list(lists: &mut Vec<EventList>, list: EventList) -> Result<(), AllocError>
+    ensures { OnOk result (lists.new.items ≡ lists.old.items ++ list ∷ []) }
+{
+    lists.push(list)?;
+    Ok(())
+}
+
+// The list of events of a file behind its heading.
+fn read_file<'a>(
+    alloc: Global,
+    module: &Module,
+    name: &'a str,
+    bytes: &[u8],
+) -> Result<EventList, Stop<'a>>
+    ensures text { IfOk result (λ list. list_text «module».now list ≡ file_text «module».now (record { name = name.now; bytes = bytes.now })) }
+    ensures inputs { IfOk result (λ list. All (λ event. event.pin < length (input_names «module».now.ports)) list.events.items) }
+    ensures accepted { OnOk result (file_refusal «module».now.ports (record { name = name.now; bytes = bytes.now }) ≡ None) }
+    ensures refused { IfErr result (TellsRefusal (file_refusal «module».now.ports (record { name = name.now; bytes = bytes.now }))) }
+{
+    match read_events(alloc, module, bytes) {
+        Ok(events) => Ok(EventList {
+            heading: heading_of(alloc, name)?,
+            events,
+        }),
+        Err(EventFault::Memory(_)) => Err(Stop::Memory),
+        Err(fault) => Err(Stop::Refused(file_refusal(name, fault))),
+    }
+}
+
+// The line before the lines of a run: the name of the file.
+fn heading_of(alloc: Global, name: &str) -> Result<Vec<u8>, AllocError>
+    ensures { IfOk result (λ heading. heading.items ≡ heading_of name.now) }
+{
+    let mut heading = b"events ".to_vec(alloc)?;
+    heading.extend_from_slice(name.as_bytes())?;
+    heading.push(b'\n')?;
+    Ok(heading)
+}
+
+// The loads of a request: the module, and then the lists in their order.
+fn loads_of<'a>(
+    alloc: Global,
+    module: &'a str,
+    names: &[&'a str],
+) -> Result<Vec<Load<'a>>, AllocError>
+    ensures needs { IfOk result (λ loads. map need_of loads.items ≡ sweep_needs «module».now (names_of names.now)) }
+    ensures sound { IfOk result (λ loads. IsSound (map need_of loads.items)) }
+{
+    let mut loads = Vec::new(alloc);
+    loads.push(Load {
+        name: Some(module),
+        limit: MODULE_LIMIT,
+    })?;
+    for name in names {
+        loads.push(Load {
+            name: Some(*name),
+            limit: LIST_LIMIT,
+        })?;
+    }
+    Ok(loads)
+}
+
+// Runs over what these loads are, the module and then the lists of the tool's names.
+fn sweep_loads<F: Files, I: Source, O: Sink, E: Sink>(
+    alloc: Global,
+    tool: &Sweeping<'_>,
+    loads: &[Load<'_>],
+    files: &mut F,
+    input: &mut I,
+    output: &mut O,
+    errors: &mut E,
+) -> u8
+    requires { IsSound (map need_of loads.now) }
+    ensures { Does (outside F.contents F.steady F.load_faults F.store_faults I.left I.faults O.held O.faults E.held E.faults)
+        (task_over (map need_of loads.now) (names_of tool.now.names.items)) result
+        (scene files.old input.old output.old errors.old) (scene files.new input.new output.new errors.new) }
+{
+    let job = Job {
+        tool_name: "vlogsweep",
+        loads,
+        target: None,
+    };
+    perform(alloc, tool, &job, files, input, output, errors)
+}
+
+// Runs by the files of a request.
+fn sweep_files<F: Files, I: Source, O: Sink, E: Sink>(
+    alloc: Global,
+    request: SweepRequest<'_>,
+    files: &mut F,
+    input: &mut I,
+    output: &mut O,
+    errors: &mut E,
+) -> u8
+    requires { length request.names.items ≤ 64 }
+    ensures { Does (outside F.contents F.steady F.load_faults F.store_faults I.left I.faults O.held O.faults E.held E.faults)
+        (vlogsweep_task_for (Some request.entry)) result
+        (scene files.old input.old output.old errors.old) (scene files.new input.new output.new errors.new) }
+{
+    let SweepRequest { module, names } = request;
+    match loads_of(alloc, module, &names) {
+        Ok(loads) => {
+            let tool = Sweeping { names };
+            sweep_loads(alloc, &tool, &loads, files, input, output, errors)
+        }
+        Err(AllocError) => give_up("vlogsweep", files, input, output, errors),
+    }
+}
+
+// Does what was found in the arguments asks for.
+fn do_found<F: Files, I: Source, O: Sink, E: Sink>(
+    alloc: Global,
+    matches: &ArgMatches<'_>,
+    files: &mut F,
+    input: &mut I,
+    output: &mut O,
+    errors: &mut E,
+) -> u8
+    ensures { Does (outside F.contents F.steady F.load_faults F.store_faults I.left I.faults O.held O.faults E.held E.faults)
+        (vlogsweep_task_by (rows_of (found_of matches.now))) result
+        (scene files.old input.old output.old errors.old) (scene files.new input.new output.new errors.new) }
+{
+    let tool_name = "vlogsweep";
+    match request_in(alloc, matches) {
+        Ok(Some(request)) => sweep_files(alloc, request, files, input, output, errors),
+        Ok(None) => {
+            let answer = AtOnce::UsageError(VLOGSWEEP_USAGE);
+            answer_at_once(alloc, tool_name, answer, files, input, output, errors)
+        }
+        Err(AllocError) => give_up(tool_name, files, input, output, errors),
+    }
+}
+
+/// `vlogsweep` by its command line.
+#[derive(Clone, Copy, Debug, PartialEq, Eq)]
+pub(crate) struct Vlogsweep;
+
+impl CommandLine for Vlogsweep {
+    ghost use Rattle.module_tools.specs.Vlogsweep.{vlogsweep};
+    ghost use Rattle.module_tools.specs.Laws.{vlogsweep-simple, vlogsweep-speaks};
+
+    ghost manual = { vlogsweep };
+
+    fn name(&self) -> &'static str {
+        "vlogsweep"
+    }
+
+    fn usage(&self) -> &'static str {
+        VLOGSWEEP_USAGE
+    }
+
+    fn help(&self) -> &'static str {
+        VLOGSWEEP_HELP
+    }
+
+    fn command<'a>(&self, alloc: Global) -> Result<Command<'a>, AllocError> {
+        command(alloc)
+    }
+
+    fn perform<F: Files, I: Source, O: Sink, E: Sink>(
+        &self,
+        alloc: Global,
+        matches: &ArgMatches<'_>,
+        files: &mut F,
+        input: &mut I,
+        output: &mut O,
+        errors: &mut E,
+    ) -> u8 {
+        do_found(alloc, matches, files, input, output, errors)
+    }
+
+    ghost simple = { vlogsweep-simple };
+
+    ghost speaks = { vlogsweep-speaks };
+}
+
+/// Runs `vlogsweep` with these arguments, of which the first is its name.
+pub fn run_vlogsweep<F: Files, I: Source, O: Sink, E: Sink>(
+    alloc: Global,
+    args: &[String],
+    files: &mut F,
+    input: &mut I,
+    output: &mut O,
+    errors: &mut E,
+) -> u8
+    ensures { Does (outside F.contents F.steady F.load_faults F.store_faults I.left I.faults O.held O.faults E.held E.faults)
+        (vlogsweep_outcome (map string_bytes args.now)) result
+        (scene files.old input.old output.old errors.old) (scene files.new input.new output.new errors.new) }
+{
+    run_tool(alloc, &Vlogsweep, args, files, input, output, errors)
+}

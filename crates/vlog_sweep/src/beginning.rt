@@ -1,0 +1,83 @@
+// The text before the first event: each list has its heading, and in place of each of its lines that of the start.
+ghost use Rattle.std.specs.Prelude.{◌≡◌, ◌+◌, ◌++◌, [], All, IfOk, OnOk, false, flat_map, length, map};
+ghost use Rattle.vlog_cycle.specs.Text.{entry_line};
+ghost use Rattle.vlog_module.specs.Parts.{Parts};
+ghost use Rattle.vlog_plan.specs.Run.{start};
+ghost use Rattle.vlog_sweep.specs.Strands.{Stands, begun_text};
+
+use crate::list::EventList;
+use crate::strand::Strand;
+use std::alloc::{AllocError, Global};
+use vlog_plan::Event;
+
+/// How many bytes a list has, with lines of so many bytes: none where no memory has so many.
+fn list_size(list: &EventList, width: usize) -> Option<usize> {
+    let lines = list.events.len().checked_add(1)?;
+    lines.checked_mul(width)?.checked_add(list.heading.len())
+}
+
+/// How many bytes all lists have.
+fn whole_size(lists: &[EventList], width: usize) -> Option<usize> {
+    let mut size: usize = 0;
+    for list in lists {
+        size = size.checked_add(list_size(list, width)?)?;
+    }
+    Some(size)
+}
+
+/// No text yet, with room for that of all lists.
+fn room_for(alloc: Global, lists: &[EventList], width: usize) -> Result<Vec<u8>, AllocError>
+    ensures { IfOk result (λ text. text.items ≡ []) }
+{
+    match whole_size(lists, width) {
+        Some(size) => Vec::with_capacity(alloc, size),
+        None => Err(AllocError),
+    }
+}
+
+/// Adds a line for each event.
+fn add_lines(text: &mut Vec<u8>, events: &[Event], line: &[u8]) -> Result<(), AllocError>
+    ensures { OnOk result (text.new.items ≡ text.old.items ++ flat_map (λ event. line.now) events.now) }
+{
+    for _event in events {
+        text.extend_from_slice(line)?;
+    }
+    Ok(())
+}
+
+/// Adds the heading of a list and its lines.
+fn add_list<'a>(
+    text: &mut Vec<u8>,
+    list: &'a EventList,
+    line: &[u8],
+) -> Result<Strand<'a>, AllocError>
+    ensures list { IfOk result (λ strand. strand.list.now ≡ list.entry.now) }
+    ensures taken { IfOk result (λ strand. strand.taken ≡ 0) }
+    ensures at { IfOk result (λ strand. strand.at ≡ length text.old.items + (length list.entry.now.heading.items + length line.now)) }
+    ensures text { OnOk result (text.new.items ≡ text.old.items ++ begun_text line.now list.entry.now) }
+{
+    text.extend_from_slice(&list.heading)?;
+    text.extend_from_slice(line)?;
+    let at = text.len();
+    add_lines(text, &list.events, line)?;
+    Ok(Strand { list, taken: 0, at })
+}
+
+/// The lists in their lanes before the first event, and their text, in which all lines are that of the start.
+pub(crate) fn begin<'a>(
+    alloc: Global,
+    lists: &'a [EventList],
+    line: &[u8],
+) -> Result<(Vec<Strand<'a>>, Vec<u8>), AllocError>
+    ensures stands { (m : Parts) → line.now ≡ entry_line false (start m) → IfOk result (λ given. Stands m line.now given.0.items given.1.items) }
+    ensures lists { IfOk result (λ given. map (λ strand. strand.list.now) given.0.items ≡ lists.entry.now) }
+    ensures taken { IfOk result (λ given. All (λ strand. strand.taken ≡ 0) given.0.items) }
+{
+    let mut strands = Vec::with_capacity(alloc, lists.len())?;
+    let mut text = room_for(alloc, lists, line.len())?;
+    for list in lists {
+        let strand = add_list(&mut text, list, line)?;
+        strands.push(strand)?;
+    }
+    Ok((strands, text))
+}

@@ -1,0 +1,16 @@
+//! Runs a module of the Verilog subset over up to sixty-four lists of events at once, a list in each lane.
+#![tactic(auto)]
+
+mod beginning;
+mod calls;
+mod lines;
+mod list;
+mod strand;
+mod sweeping;
+mod turns;
+
+pub use list::EventList;
+pub use sweeping::sweep;
+
+// The events of a list.
+pub use vlog_plan::Event;

@@ -1,0 +1,10 @@
+// Lists of events.
+
+use vlog_plan::Event;
+
+/// A list of events, and the bytes that stand before the lines of its run.
+#[derive(Drop)]
+pub struct EventList {
+    pub heading: Vec<u8>,
+    pub events: Vec<Event>,
+}

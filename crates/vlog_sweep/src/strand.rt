@@ -1,0 +1,41 @@
+// How far a list has come.
+ghost use Rattle.std.specs.Prelude.{◌≡◌};
+ghost use Rattle.std.specs.Option.{option_map};
+ghost use Rattle.vlog_sweep.specs.Strands.{left_of, next_of};
+
+use crate::list::EventList;
+use vlog_plan::Event;
+
+/// A list in its lane.
+#[derive(Clone, Copy)]
+pub(crate) struct Strand<'a> {
+    pub(crate) list: &'a EventList,
+    /// How many events the lane has had.
+    pub(crate) taken: usize,
+    /// Where its next line stands in the text.
+    pub(crate) at: usize,
+}
+
+/// The event that a list has next, if any is left.
+pub(crate) fn next_event(strand: &Strand<'_>) -> Option<Event>
+    ensures { result ≡ next_of strand.now }
+{
+    strand.list.events.get(strand.taken).copied()
+}
+
+/// The input of that event.
+pub(crate) fn next_input(strand: &Strand<'_>) -> Option<usize>
+    ensures { result ≡ option_map (λ event. event.pin) (next_of strand.now) }
+{
+    match next_event(strand) {
+        Some(event) => Some(event.pin),
+        None => None,
+    }
+}
+
+/// How many events are left.
+pub(crate) fn left(strand: &Strand<'_>) -> usize
+    ensures { result ≡ left_of strand.now }
+{
+    strand.list.events.len().saturating_sub(strand.taken)
+}

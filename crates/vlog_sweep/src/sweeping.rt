@@ -1,0 +1,33 @@
+// The runs of a module over many lists of events.
+ghost use Rattle.std.specs.Prelude.{◌≡◌, ◌<◌, ◌≤◌, All, IfOk, flat_map, length};
+ghost use Rattle.vlog_plan.specs.Run.{input_names};
+ghost use Rattle.vlog_sweep.specs.Sweep.{list_text};
+
+use crate::beginning::begin;
+use crate::calls::{call_on, next_pin};
+use crate::lines::first_line;
+use crate::list::EventList;
+use crate::turns::take_turns;
+use std::alloc::{AllocError, Global};
+use vlog_lanes::Lanes;
+use vlog_module::Module;
+
+/// The text of a module's run over each of up to sixty-four lists of events, one behind the other, each behind its heading. A run has one
+/// line after the start and one after each event; a line has the bits of the outputs in the order of the ports.
+///
+/// The lists run side by side, each in a lane. All memory is taken before the first event.
+pub fn sweep(alloc: Global, module: &Module, lists: &[EventList]) -> Result<Vec<u8>, AllocError>
+    requires few { length lists.now ≤ 64 }
+    requires inputs { All (λ list. All (λ event. event.pin < length (input_names «module».now.ports)) list.events.items) lists.now }
+    ensures { IfOk result (λ text. text.items ≡ flat_map (list_text «module».now) lists.now) }
+{
+    let mut lanes = Lanes::new(alloc, module)?;
+    let line = first_line(alloc, lanes.outputs())?;
+    let (mut strands, mut text) = begin(alloc, lists, &line)?;
+    while let Some(pin) = next_pin(&strands) {
+        let call = call_on(&strands, pin);
+        lanes.event(call.pin, call.active, call.bits);
+        take_turns(&mut text, &mut strands, call.active, lanes.outputs());
+    }
+    Ok(text)
+}

@@ -16,6 +16,8 @@ PROGRAM = os.environ.get("ICESTORM", str(TOP / "crates/icestorm_cli/out/icestorm
 CHIPDB = pathlib.Path("/usr/share/fpga-icestorm/chipdb")
 MOST_SECONDS = 120
 BEFORE = b"what was there before\n"
+TOOLS = ("icepack", "iceunpack", "icemulti", "icesplit", "icebram", "icebox_explain", "icebox_stat", "icebox_vlog", "vlogrun", "vlogsweep",
+         "selfrun")
 
 
 # a chip database with two pins and a cell
@@ -190,27 +192,41 @@ def events_of(module):
     return "".join("%s 1\n%s 0\n" % (name, name) for name in inputs) * 20
 
 
+def own_words():
+    """The arguments that ask for a text of the program itself."""
+    return [["--help"], ["--version"]] + [[tool, "--help"] for tool in TOOLS]
+
+
+def speaker(words):
+    """The name with which a message begins where these are the arguments."""
+    return words[0] if words and words[0] in TOOLS else "icestorm"
+
+
 def places(files):
     """The places where tools read a file: the arguments with the word FILE where its name stands, what goes to standard input, and a file
     that is taken there. TARGET is a file that is written."""
     text, stream, layout, database, module = (files[name] for name in ("lamp.asc", "lamp.bin", "silicon.layout", "chipdb-1k.txt", "lamp.v"))
     known, others, player, events = (files[name] for name in ("random.hex", "steps.hex", "player.asc", "lamp.events"))
-    boot = files["4.boot"]
+    boot, least_text, least_stream = (files[name] for name in ("4.boot", "dimmer.asc", "dimmer.bin"))
     return [
         (["icepack", "FILE", "TARGET"], None, text),
         (["icepack", "-s"], "FILE", text),
         (["icepack", "--layout", "FILE", text, "TARGET"], None, layout),
         (["icepack", "-u", "--layout", layout, "FILE", "TARGET"], None, stream),
+        (["icepack", "-s", "--layout", layout, "FILE", "TARGET"], None, least_text),
         (["iceunpack", "FILE", "TARGET"], None, stream),
         (["iceunpack"], "FILE", stream),
+        (["iceunpack", "--layout", layout, "FILE"], None, least_stream),
         (["iceunpack", "--layout", "FILE", stream, "TARGET"], None, layout),
         (["icemulti", "-o", "TARGET", "FILE", stream, "FILE"], None, stream),
         (["icemulti", "-A", "16", "FILE"], None, stream),
+        (["icemulti", "-c", stream, "FILE"], None, least_stream),
         (["icesplit", "FILE"], None, boot),
         (["icesplit", "-x", "1", "FILE", "TARGET"], None, boot),
         (["icebram", "FILE", others], player, known),
         (["icebram", known, "FILE"], player, others),
         (["icebram", known, others], "FILE", player),
+        (["icebram", "--by-mode", known, others], "FILE", least_text),
         (["icebox_explain", "FILE", text], None, database),
         (["icebox_explain", database, "FILE"], None, text),
         (["icebox_explain", "-t", "1 1", database], "FILE", stream),
@@ -223,4 +239,7 @@ def places(files):
         (["vlogrun", "FILE", events], None, module),
         (["vlogrun", "-s", module, "FILE"], None, events),
         (["vlogrun", "-s", "FILE"], events, module),
+        (["vlogsweep", "FILE", events, events], None, module),
+        (["vlogsweep", module, "FILE"], None, events),
+        (["vlogsweep", module, events, "FILE", "FILE"], None, events),
     ]

@@ -1,5 +1,5 @@
 // Runs over many lists of events at once.
-ghost use Rattle.std.specs.Prelude.{◌<◌, All, IfSome, length};
+ghost use Rattle.std.specs.Prelude.{◌≡◌, ◌<◌, ◌++◌, ◌∷◌, [], All, IfSome, OnSome, length};
 ghost use Rattle.vlog_plan.specs.Run.{input_names};
 
 use super::INVERTER;
@@ -20,9 +20,20 @@ struct List {
 fn list_of(alloc: Global, module: &Module, list: List) -> Option<EventList>
     ensures { IfSome result (λ list. All (λ event. event.pin < length (input_names «module».now.ports)) list.events.items) }
 {
-    let events = read_events(alloc, module, list.events).ok()?;
-    let heading = Vec::from_slice(alloc, list.heading).ok()?;
-    Some(EventList { heading, events })
+    match read_events(alloc, module, list.events) {
+        Ok(events) => {
+            let heading = list.heading.to_vec(alloc).ok()?;
+            Some(EventList { heading, events })
+        }
+        Err(_) => None,
+    }
+}
+
+/// Adds a list.
+fn push_list(lists: &mut Vec<EventList>, list: EventList) -> Option<()>
+    ensures { OnSome result (lists.new.items ≡ lists.old.items ++ list ∷ []) }
+{
+    lists.push(list).ok()
 }
 
 /// The lists of texts.
@@ -31,7 +42,8 @@ fn lists_of(alloc: Global, module: &Module, texts: &[List]) -> Option<Vec<EventL
 {
     let mut lists = Vec::new(alloc);
     for text in texts {
-        lists.push(list_of(alloc, module, *text)?).ok()?;
+        let list = list_of(alloc, module, *text)?;
+        push_list(&mut lists, list)?;
     }
     Some(lists)
 }

@@ -26,11 +26,11 @@ pub const ICEPACK_USAGE: &str = "icepack [-u] [-s] [--layout FILE] [INPUT [OUTPU
 
 /// The help of `icepack`, at most 80 columns wide.
 pub const ICEPACK_HELP: &str = "\
-icepack: packs a text (.asc) into a bitstream (.bin) for an iCE40 HX1K or HX8K.
+icepack: packs a text (.asc) into a bitstream (.bin) for an iCE40.
 
 Usage: icepack [-u] [-s] [--layout FILE] [INPUT [OUTPUT]]
 
-  INPUT     the text; standard input if it is missing
+  INPUT     the text of an LP384, HX1K or HX8K; standard input if it is missing
   OUTPUT    the bitstream; standard output if it is missing
   -s        sets the flag that keeps the flash awake after the configuration
   -u        unpacks instead, as iceunpack does; not together with -s

@@ -22,11 +22,12 @@ pub const ICEUNPACK_USAGE: &str = "iceunpack [--layout FILE] [INPUT [OUTPUT]]";
 
 /// The help of `iceunpack`, at most 80 columns wide.
 pub const ICEUNPACK_HELP: &str = "\
-iceunpack: unpacks a bitstream (.bin) of an iCE40 HX1K or HX8K to a text (.asc).
+iceunpack: unpacks a bitstream (.bin) of an iCE40 to a text (.asc).
 
 Usage: iceunpack [--layout FILE] [INPUT [OUTPUT]]
 
-  INPUT     the bitstream; standard input if it is missing
+  INPUT     the bitstream of an LP384, HX1K or HX8K; standard input if it is
+            missing
   OUTPUT    the text; standard output if it is missing
   --layout FILE
             the layout file; the standard layout if it is missing

@@ -34,7 +34,7 @@ pub const VERSION: &str = "icestorm 0.1.0\n";
 
 /// The help of the program, at most 80 columns wide.
 pub const HELP: &str = "\
-icestorm: the bitstream tools of Project IceStorm for the iCE40 HX1K and HX8K.
+icestorm: the tools of Project IceStorm for the iCE40 HX1K, HX8K and LP384.
 
 Usage: icestorm TOOL ...
        icestorm TOOL --help
@@ -53,7 +53,7 @@ Tools:
   icebox_vlog  writes the design of an image in a subset of Verilog
   vlogrun      runs a module of that subset over a list of events
   vlogsweep    runs a module over up to 64 lists of events, each on its own
-  selfrun      makes a design from a number and takes it through all other tools
+  selfrun      makes a design from a number, and packs, explains and runs it
 
 Example: icestorm icepack blink.asc blink.bin
 

@@ -19,7 +19,7 @@ pub const SELFRUN_USAGE: &str = "selfrun DEVICE SEED EVENTS";
 
 /// The help of `selfrun`, at most 80 columns wide.
 pub const SELFRUN_HELP: &str = "\
-selfrun: makes a design from a number and takes it through all other tools.
+selfrun: makes a design from a number, and packs, explains and runs it.
 
 Usage: selfrun DEVICE SEED EVENTS
 

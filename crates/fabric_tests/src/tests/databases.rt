@@ -104,6 +104,7 @@ fn tells_each_cause(rt: HostRuntime) {
         assert!(rt; found == (line, cause), "of {more:?}");
     }
     assert!(rt; fault_of(rt.alloc(), b"") == (1, DbCause::NoDevice));
+    assert!(rt; fault_of(rt.alloc(), b".device 384 8 10 6\n") == (1, DbCause::Device));
     assert!(rt; fault_of(rt.alloc(), CELL) == (0, DbCause::NoDevice));
     assert!(rt; fault_in_first_buffer(rt.alloc()) == Ok((20, DbCause::NetRange)));
 }

@@ -125,13 +125,22 @@ fn faults_are_told(rt: HostRuntime) {
     assert!(rt; is_refused(rt.alloc(), b"", 0, BinCause::NoPreamble));
 }
 
-/// Appends a row of a logic tile that has that bit in column 0, and no other.
-fn append_row(text: &mut Vec<u8>, bit: u8) -> Result<(), AllocError> {
+/// Appends a row of so many columns that has that bit in column 0, and no other.
+fn append_row(text: &mut Vec<u8>, columns: u8, bit: u8) -> Result<(), AllocError> {
     text.push(bit)?;
-    for _ in 1..54 {
+    for _ in 1..columns {
         text.push(b'0')?;
     }
     text.push(b'\n')?;
+    Ok(())
+}
+
+/// Appends the rows of a tile of so many columns, of which column 0 of row 0 has that bit.
+fn append_rows(text: &mut Vec<u8>, columns: u8, bit: u8) -> Result<(), AllocError> {
+    append_row(text, columns, bit)?;
+    for _ in 1..16 {
+        append_row(text, columns, b'0')?;
+    }
     Ok(())
 }
 
@@ -139,10 +148,7 @@ fn append_row(text: &mut Vec<u8>, bit: u8) -> Result<(), AllocError> {
 fn text_of_a_bit(alloc: Global, head: &[u8]) -> Result<Vec<u8>, AllocError> {
     let mut text = Vec::new(alloc);
     text.extend_from_slice(head)?;
-    append_row(&mut text, b'1')?;
-    for _ in 1..16 {
-        append_row(&mut text, b'0')?;
-    }
+    append_rows(&mut text, 54, b'1')?;
     Ok(text)
 }
 
@@ -161,10 +167,51 @@ fn has_piece(alloc: Global, text: &[u8], length: usize, offset: usize, piece: &[
     }
 }
 
-/// Whether the bit of a text of that head has that byte at an offset.
-fn packs_a_bit(alloc: Global, head: &[u8], offset: usize, byte: u8) -> Result<bool, AllocError> {
-    let text = text_of_a_bit(alloc, head)?;
-    Ok(has_piece(alloc, &text, 7_334, offset, &[byte]))
+/// Appends a tile of the smallest device, where there is one: column 0 of its row 0 has that bit.
+fn append_tile(text: &mut Vec<u8>, x: u8, y: u8, bit: u8) -> Result<(), AllocError> {
+    let (is_beside, is_above) = (x == 0 || x == 7, y == 0 || y == 9);
+    if is_beside && is_above {
+        return Ok(());
+    }
+    let (keyword, columns) = if is_beside || is_above {
+        (b".io_tile " as &[u8], 18)
+    } else {
+        (b".logic_tile ", 54)
+    };
+    text.extend_from_slice(keyword)?;
+    text.extend_from_slice(&[b'0' + x % 10, b' ', b'0' + y % 10, b'\n'])?;
+    append_rows(text, columns, bit)
+}
+
+/// The canonical text of an image of the smallest device that has an empty comment: column 0 of row 0 of one logic tile is set, or of none.
+fn smallest_text(alloc: Global, set: Option<(u8, u8)>) -> Result<Vec<u8>, AllocError> {
+    let mut text = Vec::new(alloc);
+    text.extend_from_slice(b".comment\n.device 384\n")?;
+    for y in 0..10_u8 {
+        for x in 0..8_u8 {
+            let bit = if set == Some((x, y)) { b'1' } else { b'0' };
+            append_tile(&mut text, x, y, bit)?;
+        }
+    }
+    Ok(text)
+}
+
+/// Whether a text's bytes are unpacked to the canonical text of its image.
+fn comes_back_whole(alloc: Global, text: &[u8], set: Option<(u8, u8)>) -> Result<bool, AllocError> {
+    let canonical = smallest_text(alloc, set)?;
+    Ok(match there_and_back(alloc, text, false) {
+        Some((_, back)) => back == canonical,
+        None => false,
+    })
+}
+
+/// Whether a text of the smallest device with a bit of one tile has that byte at an offset, and comes back whole.
+fn packs_a_bit(alloc: Global, tile: (u8, u8), offset: usize, byte: u8) -> Result<bool, AllocError> {
+    let mut text = Vec::new(alloc);
+    text.extend_from_slice(b".comment\n.device 384\n")?;
+    append_tile(&mut text, tile.0, tile.1, b'1')?;
+    let is_packed = has_piece(alloc, &text, 7_334, offset, &[byte]);
+    Ok(is_packed && comes_back_whole(alloc, &text, Some(tile))?)
 }
 
 #[test]
@@ -172,16 +219,10 @@ fn texts_of_the_smallest_device_are_packed(rt: HostRuntime) {
     let sizes = [0x62, 0x00, 0xB5, 0x72, 0x00, 0x50];
     let text = b".comment\n.device 384\n";
     assert!(rt; has_piece(rt.alloc(), text, 7_334, 15, &sizes));
-    for (head, offset, byte) in [
-        (
-            b".comment\n.device 384\n.logic_tile 1 1\n" as &[u8],
-            394,
-            0x20,
-        ),
-        (b".comment\n.device 384\n.logic_tile 6 8\n", 6_220, 0x40),
-    ] {
+    assert!(rt; comes_back_whole(rt.alloc(), text, None) == Ok(true));
+    for (tile, offset, byte) in [((1, 1), 394, 0x20), ((6, 8), 6_220, 0x40)] {
         assert!(rt;
-            packs_a_bit(rt.alloc(), head, offset, byte) == Ok(true),
+            packs_a_bit(rt.alloc(), tile, offset, byte) == Ok(true),
             "at {offset}"
         );
     }

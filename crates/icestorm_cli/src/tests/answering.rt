@@ -9,16 +9,16 @@ type Told = (&'static [&'static str], &'static str);
 static TOLD: [Told; 8] = [
     (
         &["--help"],
-        "icestorm: the bitstream tools of Project IceStorm for the iCE40 HX1K and HX8K.\n",
+        "icestorm: the tools of Project IceStorm for the iCE40 HX1K, HX8K and LP384.\n",
     ),
     (&["--version"], "icestorm 0.1.0\n"),
     (
         &["icepack", "--help"],
-        "icepack: packs a text (.asc) into a bitstream (.bin) for an iCE40 HX1K or HX8K.\n",
+        "icepack: packs a text (.asc) into a bitstream (.bin) for an iCE40.\n",
     ),
     (
         &["iceunpack", "--help"],
-        "iceunpack: unpacks a bitstream (.bin) of an iCE40 HX1K or HX8K to a text (.asc).\n",
+        "iceunpack: unpacks a bitstream (.bin) of an iCE40 to a text (.asc).\n",
     ),
     (
         &["icemulti", "--help"],
@@ -34,7 +34,7 @@ static TOLD: [Told; 8] = [
     ),
     (
         &["selfrun", "--help"],
-        "selfrun: makes a design from a number and takes it through all other tools.\n",
+        "selfrun: makes a design from a number, and packs, explains and runs it.\n",
     ),
 ];
 

@@ -65,6 +65,31 @@ fn splits_a_boot_file(rt: HostRuntime) {
     assert!(rt; stores(rt.alloc()) == Ok(true));
 }
 
+/// What `icesplit` writes of a boot file of two images of the smallest device, and the first of them.
+fn of_the_smallest_device(alloc: Global) -> Result<bool, AllocError> {
+    let image = made(alloc, &["icepack"], b".comment\n.device 384\n")?;
+    let setup = Setup {
+        first_name: "A",
+        first: &image,
+        ..PLAIN
+    };
+    let Ended { output: boot, .. } = outcome(alloc, setup, &["icemulti", "-a", "8", "A", "A"])?;
+    let told = split(alloc, &boot, &["icesplit", "boot"])?;
+    let second = split(alloc, &boot, &["icesplit", "-x", "1", "boot"])?;
+    let lines: &[u8] = b"cold no\npower 0\nimage 0 at 160 device 384\nimage 1 at 7680 device 384\n";
+    Ok(
+        told.says(0, "")
+            && told.output.as_slice() == lines
+            && second.says(0, "")
+            && second.output.as_slice() == image.as_slice(),
+    )
+}
+
+#[test]
+fn splits_a_boot_file_of_the_smallest_device(rt: HostRuntime) {
+    assert!(rt; of_the_smallest_device(rt.alloc()) == Ok(true));
+}
+
 /// Words, the first bytes that a boot file has in place of its own, the status and the line.
 type Refused = (&'static [&'static str], &'static [u8], u8, &'static str);
 

@@ -176,7 +176,7 @@ fn append_tile(text: &mut Vec<u8>, x: u8, y: u8, bit: u8) -> Result<(), AllocErr
     let (keyword, columns) = if is_beside || is_above {
         (b".io_tile " as &[u8], 18)
     } else {
-        (b".logic_tile ", 54)
+        (b".logic_tile " as &[u8], 54)
     };
     text.extend_from_slice(keyword)?;
     text.extend_from_slice(&[b'0' + x % 10, b' ', b'0' + y % 10, b'\n'])?;

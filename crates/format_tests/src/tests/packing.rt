@@ -196,13 +196,18 @@ fn smallest_text(alloc: Global, set: Option<(u8, u8)>) -> Result<Vec<u8>, AllocE
     Ok(text)
 }
 
+/// Whether a text's bytes are unpacked to that text.
+fn is_unpacked_to(alloc: Global, text: &[u8], canonical: &[u8]) -> bool {
+    match there_and_back(alloc, text, false) {
+        Some((bytes, back)) => !bytes.is_empty() && back.as_slice() == canonical,
+        None => false,
+    }
+}
+
 /// Whether a text's bytes are unpacked to the canonical text of its image.
 fn comes_back_whole(alloc: Global, text: &[u8], set: Option<(u8, u8)>) -> Result<bool, AllocError> {
     let canonical = smallest_text(alloc, set)?;
-    Ok(match there_and_back(alloc, text, false) {
-        Some((_, back)) => back == canonical,
-        None => false,
-    })
+    Ok(is_unpacked_to(alloc, text, &canonical))
 }
 
 /// Whether a text of the smallest device with a bit of one tile has that byte at an offset, and comes back whole.

@@ -23,7 +23,7 @@ static HELPS: [Help; 11] = [
         help: ICEPACK_HELP,
         usage: ICEPACK_USAGE,
         heads: &[
-            "  INPUT     the text;",
+            "  INPUT     the text of an LP384, HX1K or HX8K;",
             "  OUTPUT    the bitstream;",
             "  -s        sets the flag that keeps the flash awake",
             "  -u        unpacks instead",
@@ -34,7 +34,7 @@ static HELPS: [Help; 11] = [
         help: ICEUNPACK_HELP,
         usage: ICEUNPACK_USAGE,
         heads: &[
-            "  INPUT     the bitstream;",
+            "  INPUT     the bitstream of an LP384, HX1K or HX8K;",
             "  OUTPUT    the text;",
             "  --layout FILE",
         ],

@@ -10,10 +10,10 @@
 
 share=$(CDPATH='' cd -- "$here/../share/icestorm" && pwd) || exit 3
 
-# stop STATUS LINE: ends with a line on standard error
+# stop LINE: ends with a line on standard error, and the exit status of input that can't be read
 stop() {
-  echo "$tool: $2" >&2
-  exit "$1"
+  printf '%s: %s\n' "$tool" "$1" >&2
+  exit 3
 }
 
 # has WORD: whether the word is one of those of the tool
@@ -72,7 +72,7 @@ find_names() {
 
 # device_words: what stands behind the first .device of a text or a database on standard input: of a database it is more than a name
 device_words() {
-  LC_ALL=C sed -n '/^\.device[[:blank:]]/{s///;p;q;}' | tr -d '\000\015'
+  LC_ALL=C sed -n '/^\.device[[:blank:]]/{s/^[^[:blank:]]*[[:blank:]]*//;p;q;}' | tr -d '\000\015'
 }
 
 is_database() {
@@ -94,16 +94,16 @@ find_database() {
     case $db in -*) db=./$db ;; esac
     [ ! -r "$db" ] || return 0
   done
-  [ -z "${ICEBOX_CHIPDB-}" ] || stop 3 "there is no chipdb-$device.txt in $ICEBOX_CHIPDB, which the variable ICEBOX_CHIPDB names"
-  stop 3 "there is no chipdb-$device.txt in $share/chipdb or $folder; the variable ICEBOX_CHIPDB may name another folder"
+  [ -z "${ICEBOX_CHIPDB-}" ] || stop "there is no chipdb-$device.txt in $ICEBOX_CHIPDB, which the variable ICEBOX_CHIPDB names"
+  stop "there is no chipdb-$device.txt in $share/chipdb or $folder; the variable ICEBOX_CHIPDB may name another folder"
 }
 
 # take_copy: makes standard input a copy of itself, and finds the device of the image there
 take_copy() {
-  copy=$(mktemp) || stop 3 "the input can't be read into a temporary file"
+  copy=$(mktemp) || stop "the input can't be read into a temporary file"
   trap 'rm -f "$copy"' EXIT
   trap 'exit 130' HUP INT TERM
-  head -c 16777217 >"$copy" || stop 3 "the input can't be read into $copy" # a byte more than the program takes
+  head -c 16777217 >"$copy" || stop "the input can't be read into $copy" # a byte more than the program takes
   find_device "$copy"
   exec <"$copy"
   rm -f "$copy"

@@ -1,5 +1,9 @@
 -- lists of events, line by line
 pub mod EventLines
+-- an event changes no more than the plan has items
+pub mod Rooms
+-- what the cells of a runner have
+pub mod Sources
 -- the text of runs that go on
 pub mod Texts
 -- worked values of the definitions

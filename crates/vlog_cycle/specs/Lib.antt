@@ -1,3 +1,4 @@
 pub mod Events
 pub mod Showing
+pub mod Starting
 pub mod Text

@@ -3,8 +3,8 @@
 
 mod event;
 mod event_lines;
-mod gates;
 mod runner;
+mod starting;
 mod steps;
 mod text;
 

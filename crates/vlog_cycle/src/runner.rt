@@ -1,12 +1,16 @@
 // A module that runs.
 ghost use Rattle.std.specs.Prelude.{◌≡◌, ◌<◌, ◌≤◌, ◌+◌, ◌*◌, All, IfOk, drop, is_some, length, get_or, take, vec_len};
 ghost use Rattle.std.specs.Option.{option_map};
+ghost use Rattle.vlog_cells.specs.Circuits.{IsCircuit};
 
-use crate::gates::settle;
-use crate::steps::{change, first_outputs, is_same_bit};
+use crate::starting::{Started, Wires, started_of};
+use crate::steps::is_same_bit;
 use std::alloc::{AllocError, Global};
+use vlog_cells::{Change, Circuit, clock, settle};
 use vlog_module::Module;
-use vlog_plan::{Event, Layout, Memory, Start, Written, bit_at, lay_out, word_at, word_in};
+use vlog_plan::{
+    Event, Layout, Memory, Start, Written, bit_at, lay_out, word_at, word_in, write_outputs,
+};
 
 /// A module that runs: what its names have after the start, and after each event.
 ///
@@ -14,22 +18,30 @@ use vlog_plan::{Event, Layout, Memory, Start, Written, bit_at, lay_out, word_at,
 #[derive(Drop)]
 pub struct Runner {
     layout: Layout,
-    bits: Vec<bool>,
+    circuit: Circuit,
+    /// The bits of names, then those of words, 0 and 1. A wire that copies has no bit of its own.
+    cells: Vec<bool>,
+    /// Wires that may not have their values, and blocks of 64 of them.
+    marks: Vec<bool>,
+    blocks: Vec<bool>,
     words: Vec<u16>,
     memories: Vec<Memory>,
     outputs: Vec<bool>,
-    /// Room for the bits that an event gives.
-    next_bits: Vec<bool>,
-    /// Room for all that wires read.
-    cells: Vec<bool>,
     next_words: Vec<u16>,
     /// Room for what writes put in memories.
     written: Vec<Option<Written>>,
-    ghost bits_room: { vec_len next_bits ≡ vec_len bits },
-    ghost cells_room: { vec_len cells ≡ vec_len bits + 16 * vec_len words + 2 },
+    /// Room for what an event changes.
+    changes: Vec<Change>,
+    ghost circuit_is: { IsCircuit layout.first_wire circuit.bits (vec_len words) layout.plan circuit },
+    ghost rising_room: { vec_len circuit.rising ≡ layout.input_count },
+    ghost falling_room: { vec_len circuit.falling ≡ layout.input_count },
+    ghost cells_room: { vec_len cells ≡ circuit.bits + 16 * vec_len words + 2 },
+    ghost marks_room: { vec_len marks ≡ 64 * vec_len blocks },
     ghost words_room: { vec_len next_words ≡ vec_len words },
     ghost writes_room: { vec_len written ≡ vec_len layout.plan.writes },
     ghost outputs_room: { vec_len outputs ≡ vec_len layout.plan.outputs },
+    ghost flips_room: { vec_len layout.plan.flips ≤ vec_len changes },
+    ghost settles_room: { vec_len layout.plan.settles ≤ vec_len changes },
 }
 
 impl Runner {
@@ -48,27 +60,37 @@ impl Runner {
         let start = lay_out(alloc, module)?;
         let Start {
             layout,
-            mut bits,
-            words,
-            memories,
-            mut cells,
-        } = start;
-        let plan = &layout.plan;
-        settle(&plan.gates, &plan.settles, &words, &mut bits, &mut cells);
-        let outputs = first_outputs(alloc, plan, &bits, &words)?;
-        let next_bits = Vec::from_slice(alloc, &bits)?;
-        let next_words = Vec::from_slice(alloc, &words)?;
-        let written = vec![in alloc; None; layout.plan.writes.len()]?;
-        Ok(Runner {
-            layout,
             bits,
             words,
             memories,
-            outputs,
-            next_bits,
             cells,
+        } = start;
+        let started = started_of(alloc, &layout, &bits, &words, cells)?;
+        let Started {
+            wires,
+            outputs,
             next_words,
             written,
+        } = started;
+        let Wires {
+            circuit,
+            cells,
+            marks,
+            blocks,
+            changes,
+        } = wires;
+        Ok(Runner {
+            layout,
+            circuit,
+            cells,
+            marks,
+            blocks,
+            words,
+            memories,
+            outputs,
+            next_words,
+            written,
+            changes,
         })
     }
 
@@ -79,21 +101,33 @@ impl Runner {
             → Shows self.new m (followed m entry (record { pin = pin; bit = bit })) }
         ensures inputs { input_count self.new ≡ input_count self.old }
     {
-        if is_same_bit(bit, bit_at(&self.bits, pin)) {
+        if is_same_bit(bit, bit_at(&self.cells, pin)) {
             return;
         }
-        change(
-            &self.layout.plan,
-            Event { pin, bit },
-            &mut self.bits,
-            &mut self.next_bits,
+        let circuit = &self.circuit;
+        let event = Event { pin, bit };
+        clock(
+            circuit.group(event),
+            &circuit.readers,
+            circuit.bits,
+            event,
             &mut self.cells,
+            &mut self.marks,
+            &mut self.blocks,
             &mut self.words,
             &mut self.next_words,
             &mut self.memories,
             &mut self.written,
-            &mut self.outputs,
+            &mut self.changes,
         );
+        settle(
+            circuit,
+            &mut self.cells,
+            &mut self.marks,
+            &mut self.blocks,
+            &mut self.changes,
+        );
+        write_outputs(&circuit.outputs, &self.cells, &[], &mut self.outputs);
     }
 
     /// Gives inputs their bits, one event after another.
@@ -129,7 +163,7 @@ impl Runner {
         ensures declared { (m : Parts) (entry : Entry) → Shows self.now m entry → is_some result ≡ has_name (register_names m.items) name.now }
     {
         match self.layout.places.registers.slot(name) {
-            Some(slot) => Some(bit_at(&self.bits, slot)),
+            Some(slot) => Some(bit_at(&self.cells, slot)),
             None => None,
         }
     }
@@ -161,7 +195,7 @@ impl Runner {
     pub(crate) fn registers(&self) -> &[bool]
         ensures { (m : Parts) (entry : Entry) → Shows self.now m entry → result.now ≡ values_of entry.registers }
     {
-        part(&self.bits, self.layout.input_count, self.layout.first_wire)
+        part(&self.cells, self.layout.input_count, self.layout.first_wire)
     }
 
     /// The registers of 16 bits, in the order of their declaration.

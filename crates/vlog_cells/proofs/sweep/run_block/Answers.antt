@@ -1,0 +1,7 @@
+use Rattle.std.proofs.Common.{sym, ◌∙◌}
+use Rattle.vlog_cells.proofs.Marked.{block-passed}
+use Rattle.vlog_cells.proofs.sweep.run_block.Goals as goal
+
+pub returns-else-bit_at-clause-swept : goal.returns-else-bit_at-clause-swept
+returns-else-bit_at-clause-swept c first count rising read room swept =
+    block-passed c.args.gates.now c.args.block c.args.cells.now c.args.marks.now c.args.blocks.now (sym c.bit_at.ensures ∙ c.if-bit_at.false) swept

@@ -1,0 +1,26 @@
+-- What an event runs: the clocked items whose edge it is, over cells.
+use Rattle.std.specs.Prelude.{◌≡◌, ℕ, Bool, ◌&&◌, List, [], ◌∷◌, flat_map, nat_lt, if◌then◌else◌}
+use Rattle.vlog_plan.specs.declared.event.Event.{Event}
+use Rattle.vlog_plan.specs.declared.plan.Flip.{Flip}
+use Rattle.vlog_plan.specs.declared.plan.Read.{Read}
+use Rattle.vlog_plan.specs.declared.plan.Write.{Write}
+use Rattle.vlog_plan.specs.declared.plan.Plan.{Plan}
+use Rattle.vlog_plan.specs.Steps.{is_edge_of}
+use Rattle.vlog_cells.specs.declared.groups.Group.{Group}
+use Rattle.vlog_cells.specs.Resolved.{resolved_flip, resolved_read, resolved_write}
+
+-- a flip-flop, where its register is below the first wire
+abbrev pub flip_at : Event → ℕ → ℕ → ℕ → List ℕ → Flip → List Flip
+flip_at event first bits words roots flip =
+    if is_edge_of event flip.edge && nat_lt flip.target first then resolved_flip bits words roots flip ∷ [] else []
+
+abbrev pub read_at : Event → ℕ → ℕ → List ℕ → Read → List Read
+read_at event bits words roots read = if is_edge_of event read.port.edge then resolved_read bits words roots read ∷ [] else []
+
+abbrev pub write_at : Event → ℕ → ℕ → List ℕ → Write → List Write
+write_at event bits words roots write = if is_edge_of event write.port.edge then resolved_write bits words roots write ∷ [] else []
+
+pub record IsGroup (event : Event) (first bits words : ℕ) (roots : List ℕ) (plan : Plan) (group : Group) : Type 0 where
+  pub flips : group.flips.items ≡ flat_map (flip_at event first bits words roots) plan.flips.items
+  pub reads : group.reads.items ≡ flat_map (read_at event bits words roots) plan.reads.items
+  pub writes : group.writes.items ≡ flat_map (write_at event bits words roots) plan.writes.items

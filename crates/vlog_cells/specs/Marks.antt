@@ -1,0 +1,86 @@
+-- Marks on wires, and when wires have their values.
+use Rattle.std.specs.Prelude.{◌≡◌, ℕ, ◌+◌, ◌*◌, ◌/◌, ◌<◌, ◌≤◌, Bool, true, false, ◌&&◌, ◌||◌, ◌==◌, List, [], ◌∷◌, ◌++◌, Vec, fold, get_or, length, map, slice_set, if◌then◌else◌}
+use Rattle.std.specs.Global.{Global}
+use Rattle.vlog_plan.specs.Cells.{cell_at, gate_value}
+use Rattle.vlog_plan.specs.declared.gates.Gate.{Gate}
+
+-- ---- wires
+
+abbrev pub no_gate : Gate
+no_gate = record { slot = 0; ins = []; table = 0 }
+
+abbrev pub gate_at : List Gate → ℕ → Gate
+gate_at gates place = get_or gates place no_gate
+
+-- whether a number is in a list
+abbrev pub has : List ℕ → ℕ → Bool
+has [] number = false
+has (other ∷ numbers) number = (other == number) || has numbers number
+
+-- whether a cell bears on a wire: it is the wire's, or one that the wire reads
+abbrev pub touches : Gate → ℕ → Bool
+touches gate cell = (gate.slot == cell) || has gate.ins cell
+
+-- the wire's cell has its value
+abbrev pub IsEven : List Bool → Gate → Type 0
+IsEven cells gate = cell_at cells gate.slot ≡ gate_value cells gate
+
+-- ---- lists of wires by cells
+
+abbrev pub lists_of : List (Vec ℕ Global) → List (List ℕ)
+lists_of lists = map (λ list. list.items) lists
+
+-- the list of a cell has each wire on which the cell bears
+abbrev pub IsRead : List Gate → List (Vec ℕ Global) → Type 0
+IsRead gates readers = (place cell : ℕ) → place < length gates → touches (gate_at gates place) cell ≡ true → has (get_or (lists_of readers) cell []) place ≡ true
+
+-- the cells that bear on wires are among the first
+abbrev pub AreWithin : ℕ → List Gate → Type 0
+AreWithin count gates = (place cell : ℕ) → place < length gates → touches (gate_at gates place) cell ≡ true → cell < count
+
+-- a wire is added to the list of a cell
+abbrev pub with_reader : ℕ → List (List ℕ) → ℕ → List (List ℕ)
+with_reader place lists cell = slice_set lists cell (get_or lists cell [] ++ place ∷ [])
+
+-- a wire is added to the lists of the cells that bear on it
+abbrev pub with_gate : ℕ → List (List ℕ) → Gate → List (List ℕ)
+with_gate place lists gate = with_reader place (fold (with_reader place) lists gate.ins) gate.slot
+
+-- ---- marks
+
+abbrev pub mark_gate : List Bool → ℕ → List Bool
+mark_gate marks place = slice_set marks place true
+
+abbrev pub mark_block : List Bool → ℕ → List Bool
+mark_block blocks place = slice_set blocks (place / 64) true
+
+-- a wire is marked where both it and its block are
+abbrev pub is_marked : List Bool → List Bool → ℕ → Bool
+is_marked marks blocks place = get_or marks place false && get_or blocks (place / 64) false
+
+-- each wire that isn't marked has its value
+pub record IsTracked (gates : List Gate) (cells marks blocks : List Bool) : Type 0 where
+  pub room : length gates ≤ 64 * length blocks
+  pub marks_room : length marks ≡ 64 * length blocks
+  pub even : (place : ℕ) → place < length gates → is_marked marks blocks place ≡ false → IsEven cells (gate_at gates place)
+
+-- and so do the first ones, marked or not
+pub record IsSwept (gates : List Gate) (end : ℕ) (cells marks blocks : List Bool) : Type 0 where
+  pub tracked : IsTracked gates cells marks blocks
+  pub done : (place : ℕ) → place < end → place < length gates → IsEven cells (gate_at gates place)
+
+-- ---- the order of wires: there are so many names, and the cells behind theirs aren't wires'
+
+-- cells of names that stand before a wire's
+abbrev pub AreBefore : ℕ → ℕ → List ℕ → Type 0
+AreBefore count slot [] = Unit {0}
+AreBefore count slot (cell ∷ cells) = (cell < count → cell < slot) × AreBefore count slot cells
+
+-- wires rise from a cell on, and read only what comes before
+abbrev pub AreRising : ℕ → ℕ → List Gate → Type 0
+AreRising first count [] = Unit {0}
+AreRising first count (gate ∷ gates) = ((first ≤ gate.slot) × (gate.slot < count)) × (AreBefore count gate.slot gate.ins × AreRising (gate.slot + 1) count gates)
+
+-- cells that aren't wires' stay
+abbrev pub StaySources : ℕ → ℕ → List Bool → List Bool → Type 0
+StaySources first count before after = (cell : ℕ) → (cell < count → cell < first) → cell_at after cell ≡ cell_at before cell
